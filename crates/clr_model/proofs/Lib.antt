@@ -1,0 +1,13 @@
+pub mod Opening
+pub mod Reaching
+pub mod Spelling
+pub mod HandleMaps
+pub mod Naming
+pub mod Apart
+pub mod Carried
+pub mod TypeDefined
+pub mod TailBirth
+pub mod TailBirthLawful
+pub mod TailBirthSeen
+pub mod TailBirthStands
+pub mod BirthLine

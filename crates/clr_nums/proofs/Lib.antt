@@ -1,0 +1,3 @@
+pub mod DecimalText
+pub mod HexText
+pub mod Units

@@ -1,0 +1,55 @@
+-- Words of a line and decimal numbers.
+use Rattle.std.proofs.Common.{◌≡◌, ℕ, ◌+◌, ◌-◌, ◌/◌, ◌%◌, ◌<◌, ◌≤◌, Bool, true, false, cond, not, List, [], ◌∷◌, ◌++◌, length, take, drop, Some, None, position, count_by, nat_eq, nat_lt, refl, ap, arith, decimal}
+use Rattle.std.specs.List.{position_or_len}
+use Rattle.std.proofs.lemmas.Bool.{ltb-true, ltb-false, not-true}
+use Rattle.std.proofs.lemmas.Fmt.{decimal_digit, decimal_step}
+use Rattle.std.proofs.lemmas.List.{take_rest}
+use Rattle.std.proofs.lemmas.List.Sums.{prefix_len_passes}
+use Rattle.std.proofs.lemmas.List.Splits.{slice_split_none, slice_split_first, length-slice_split}
+use Rattle.clr_model.specs.LineGrammar.{words}
+
+cond_none : (b : Bool) (x : ℕ) → cond b (Some x) None ≡ None → b ≡ false
+cond_none true x e = cc
+cond_none false x e = refl
+
+cond_some : (b : Bool) (x y : ℕ) → cond b (Some x) None ≡ Some y → (b ≡ true) × (x ≡ y)
+cond_some true x y e = (refl, cc)
+cond_some false x y e = cc
+
+-- a line with no space is one word
+pub words_none : (line : List ℕ) → position (λ b. nat_eq b 32) line ≡ None → words line ≡ line ∷ []
+words_none line e =
+    let le : length line ≤ position_or_len (λ b. nat_eq b 32) line = ltb-false _ _ (cond_none _ _ e) in
+    slice_split_none (λ b. nat_eq b 32) line
+    (λ k d lt. not-true _ (prefix_len_passes (λ b. not (nat_eq b 32)) line k d (omega arith)))
+
+-- the first word ends at the first space
+pub words_some : (line : List ℕ) (at : ℕ) → position (λ b. nat_eq b 32) line ≡ Some at →
+    words line ≡ take at line ∷ words (take (length line - (at + 1)) (drop (at + 1) line))
+words_some line at e =
+    let h = cond_some (nat_lt (position_or_len (λ b. nat_eq b 32) line) (length line)) (position_or_len (λ b. nat_eq b 32) line) at e in
+    let first : words line ≡ take (position_or_len (λ b. nat_eq b 32) line) line ∷ words (drop (position_or_len (λ b. nat_eq b 32) line + 1) line)
+    = slice_split_first (λ b. nat_eq b 32) line 0 (ltb-true _ _ h.0) in
+    rw (take_rest, ← h.1) first
+
+-- two digits
+pub decimal_two : (k : ℕ) → 10 ≤ k → k < 100 → decimal k ≡ (k / 10 + 48) ∷ (k % 10 + 48) ∷ []
+decimal_two k low high =
+    let tens : k / 10 < 10 = omega arith in
+    let two : decimal k ≡ decimal (k / 10) ++ ((48 + k % 10) ∷ []) = decimal_step k low (omega arith) in
+    let one : decimal (k / 10) ≡ (48 + k / 10) ∷ [] = decimal_digit (k / 10) tens in
+    let a : 48 + k / 10 ≡ k / 10 + 48 = omega arith in
+    let b : 48 + k % 10 ≡ k % 10 + 48 = omega arith in
+    rw (two, one, a, b) refl
+
+pub decimal_one : (k : ℕ) → k < 10 → decimal k ≡ (k % 10 + 48) ∷ []
+decimal_one k lt = let a : 48 + k ≡ k % 10 + 48 = omega arith in rw (decimal_digit k lt, a) refl
+
+-- four words and a rest are more than four words
+pub more_than_four : (line one two three rest a b c d : List ℕ) → words line ≡ a ∷ words one → words one ≡ b ∷ words two →
+    words two ≡ c ∷ words three → words three ≡ d ∷ words rest → (length (words line) ≡ 1 → ⊥) × (length (words line) ≡ 4 → ⊥)
+more_than_four line one two three rest a b c d e f g h =
+    let n : length (words rest) ≡ count_by (λ b. nat_eq b 32) rest + 1 = length-slice_split (λ b. nat_eq b 32) rest in
+    let whole : words line ≡ a ∷ b ∷ c ∷ d ∷ words rest = rw (e, f, g, h) refl in
+    let m : length (words line) ≡ length (a ∷ b ∷ c ∷ d ∷ words rest) = ap length whole in
+    (λ h. omega (arith, n, m), λ h. omega (arith, n, m))

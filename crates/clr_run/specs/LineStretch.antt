@@ -1,0 +1,13 @@
+-- Stretches of a script without a line feed.
+use Rattle.std.specs.Prelude.{◌≡◌, ◌≢◌, ℕ, ◌+◌, ◌<◌, List, [], ◌∷◌, ◌++◌, length, take}
+use Rattle.std.specs.List.{AllByRecursion}
+
+-- no byte is a line feed
+abbrev pub IsUnfed : List ℕ → Type 0
+IsUnfed = AllByRecursion (λ (b : ℕ). b ≢ 10)
+
+-- the first line feed of the bytes stands here
+pub record IsFirstFeed (bytes : List ℕ) (at : ℕ) : Type 0 where
+  pub within : at < length bytes
+  pub before : IsUnfed (take at bytes)
+  pub here : take (at + 1) bytes ≡ take at bytes ++ 10 ∷ []

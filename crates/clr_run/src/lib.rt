@@ -1,0 +1,26 @@
+//! A script from bytes to bytes: sources, sinks, and the run of a script.
+#![tactic(auto)]
+
+mod lines;
+mod runtime;
+mod script;
+mod status;
+mod streams;
+mod words;
+
+pub use script::run::{SCRIPT_LIMIT, run};
+pub use status::Status;
+pub use streams::Failed;
+pub use streams::adapter::{ReadAdapter, WriteAdapter};
+pub use streams::memory::{MemorySink, MemorySource};
+pub use streams::plain::{PlainSink, PlainSource};
+pub use streams::sink::Sink;
+pub use streams::source::Source;
+pub use words::Words;
+
+/// There was no memory.
+#[derive(Clone, Copy, Debug, PartialEq, Eq)]
+pub struct NoMemory;
+
+#[cfg(test)]
+mod tests;

@@ -1,0 +1,4 @@
+//! The run of a whole script.
+
+pub mod run;
+pub mod session;

@@ -1,0 +1,148 @@
+//! The top call: a command from its words and its source to its sink.
+ghost use Rattle.std.specs.Prelude.{◌≡◌, ◌≢◌, ◌+◌, ◌<◌, ◌≤◌, ◌∷◌, ◌++◌, [], List, ℕ, Some, length, IfOk, IfSome, IsSome, ◌⊎◌, option_map, codes, IsTrue, ◌↔◌};
+ghost use Rattle.clr_model.specs.Machine.{Machine, Options};
+ghost use Rattle.clr_model.specs.LineGrammar.{script_lines, ended_lines};
+ghost use Rattle.clr_model.specs.Run.{IsRunOf, defaults};
+ghost use Rattle.clr_run.specs.Commands.{SaysRun, SaysNothing};
+ghost use Rattle.clr_run.specs.Faults.{Rose, Taken, Appended};
+ghost use Rattle.clr_run.specs.Progress.{Answered, CutShort};
+ghost use Rattle.clr_run.specs.Sessions.{IsAt};
+
+use crate::script::session::Session;
+use crate::status::Status;
+use crate::streams::sink::Sink;
+use crate::streams::source::Source;
+use crate::words::Words;
+use std::alloc::{AllocError, Global};
+
+/// A script has at most this many bytes.
+pub const SCRIPT_LIMIT: u64 = 268_435_456;
+
+/// So many bytes are read at once.
+const PIECE: usize = 65_536;
+
+/// Runs a script of at most `limit` bytes.
+fn run_script<S: Source, K: Sink>(
+    session: &mut Session,
+    buffer: &mut [u8],
+    limit: u64,
+    source: &mut S,
+    sink: &mut K,
+) -> Status
+    requires started { IsAt session.old [] [] }
+    requires empty { session.old.pending ≡ [] }
+    requires buffer { 0 < length buffer.old }
+    ensures done { result ≡ Status.Done → (taken : List ℕ)
+        × Answered defaults script_lines (S.held source.old) (S.held source.new) (K.written sink.old) (K.written sink.new) taken
+        × (length taken ≤ limit) × IfSome (S.held source.new) (λ rest. rest ≡ []) }
+    ensures read_before { result ≡ Status.ReadFault → (taken : List ℕ)
+        × Answered defaults ended_lines (S.held source.old) (S.held source.new) (K.written sink.old) (K.written sink.new) taken
+        × (length taken ≤ limit) }
+    ensures read_fault { result ≡ Status.ReadFault → Rose (S.faults source.old) (S.faults source.new) }
+    ensures source_counted { result ≢ Status.ReadFault → S.faults source.new ≡ S.faults source.old }
+    ensures write_before { result ≡ Status.WriteFault →
+        CutShort defaults limit (S.held source.old) (S.held source.new) (K.written sink.old) (K.written sink.new) }
+    ensures write_fault { result ≡ Status.WriteFault → Rose (K.faults sink.old) (K.faults sink.new) }
+    ensures sink_counted { result ≢ Status.WriteFault → K.faults sink.new ≡ K.faults sink.old }
+    ensures too_much { result ≡ Status.TooMuch → (taken : List ℕ) × (byte : ℕ)
+        × Answered defaults ended_lines (S.held source.old) (option_map (λ rest. byte ∷ rest) (S.held source.new)) (K.written sink.old) (K.written sink.new) taken
+        × (length taken ≡ limit) }
+    ensures usage { result ≢ Status.Usage }
+    ensures memory { result ≢ Status.Memory }
+    ensures image { result ≢ Status.BadImage }
+{
+    let mut left = limit;
+    loop {
+        let want = (buffer.len() as u64).min(left).max(1) as usize;
+        let Ok(count) = source.read(&mut buffer[..want]) else {
+            return Status::ReadFault;
+        };
+        if count == 0 {
+            return match session.take_end(sink) {
+                Ok(()) => Status::Done,
+                Err(_) => Status::WriteFault,
+            };
+        }
+        if left == 0 {
+            return Status::TooMuch;
+        }
+        let Ok(()) = session.take_piece(sink, &buffer[..count]) else {
+            return Status::WriteFault;
+        };
+        left -= count as u64;
+    }
+}
+
+// Whether the command is `run`.
+fn is_run(words: &Words) -> bool
+    ensures { IsTrue result ↔ (words.now ≡ codes "run" ∷ []) }
+{
+    words.count() == 1 && words.get(0) == "run"
+}
+
+// A buffer of so many bytes.
+fn make_buffer(alloc: Global, size: usize) -> Result<Vec<u8>, AllocError>
+    requires { 0 < size }
+    ensures { IfOk result (λ buffer. 0 < length buffer.items) }
+{
+    vec![in alloc; 0; size]
+}
+
+/// Runs the script that the source holds, and writes its replies to the sink. The words are those of the command line,
+/// without the program's name.
+pub fn run<S: Source, K: Sink>(alloc: Global, words: &Words, source: &mut S, sink: &mut K) -> Status
+    // What is written is the text of one run of the machine over all lines of the source, which is read to its end.
+    ensures headline { (options : Options) → SaysRun words.now options → result ≡ Status.Done → IfSome (S.held source.old) (λ script. (text : List ℕ) × (last : Machine)
+        × IsRunOf options script text last
+        × Appended (K.written sink.old) (K.written sink.new) text
+        × (S.held source.new ≡ Some [])) }
+
+    // The same where the source doesn't tell its bytes, of some bytes.
+    ensures done { (options : Options) → SaysRun words.now options → result ≡ Status.Done → (taken : List ℕ)
+        × Answered options script_lines (S.held source.old) (S.held source.new) (K.written sink.old) (K.written sink.new) taken
+        × (length taken ≤ SCRIPT_LIMIT) }
+
+    // Each other answer has its cause.
+    ensures usage { (result ≡ Status.Usage) ↔ SaysNothing words.now }
+    ensures read_fault { result ≡ Status.ReadFault → Rose (S.faults source.old) (S.faults source.new) }
+    ensures write_fault { result ≡ Status.WriteFault → Rose (K.faults sink.old) (K.faults sink.new) }
+    ensures too_much { (options : Options) → SaysRun words.now options → result ≡ Status.TooMuch → (taken : List ℕ) × (byte : ℕ)
+        × Answered options ended_lines (S.held source.old) (option_map (λ rest. byte ∷ rest) (S.held source.new)) (K.written sink.old) (K.written sink.new) taken
+        × (length taken ≡ SCRIPT_LIMIT) }
+    ensures image { result ≢ Status.BadImage }
+
+    // A count that rises is answered, and before the first read nothing has changed.
+    ensures source_counted { result ≢ Status.ReadFault → S.faults source.new ≡ S.faults source.old }
+    ensures sink_counted { result ≢ Status.WriteFault → K.faults sink.new ≡ K.faults sink.old }
+    ensures memory { (options : Options) → SaysRun words.now options → result ≡ Status.Memory → (source.new ≡ source.old) × (sink.new ≡ sink.old) }
+    ensures unread { result ≡ Status.Usage → (source.new ≡ source.old) × (sink.new ≡ sink.old) }
+
+    // Where the words are right, the script isn't too long and no fault is counted, only memory can be wanting.
+    ensures complete { (options : Options) → SaysRun words.now options → IfSome (S.held source.old) (λ bytes. length bytes ≤ SCRIPT_LIMIT) →
+        IsSome (S.held source.old) → (Rose (S.faults source.old) (S.faults source.new) → ⊥) → (Rose (K.faults sink.old) (K.faults sink.new) → ⊥) →
+        (result ≡ Status.Done) ⊎ (result ≡ Status.Memory) }
+
+    // What was written before a fault.
+    ensures read_before { (options : Options) → SaysRun words.now options → result ≡ Status.ReadFault → (taken : List ℕ)
+        × Answered options ended_lines (S.held source.old) (S.held source.new) (K.written sink.old) (K.written sink.new) taken
+        × (length taken ≤ SCRIPT_LIMIT) }
+    ensures write_before { (options : Options) → SaysRun words.now options → result ≡ Status.WriteFault →
+        CutShort options SCRIPT_LIMIT (S.held source.old) (S.held source.new) (K.written sink.old) (K.written sink.new) }
+{
+    if !is_run(words) {
+        return Status::Usage;
+    }
+    let Ok(mut session) = Session::new(alloc) else {
+        return Status::Memory;
+    };
+    let Ok(mut buffer) = make_buffer(alloc, PIECE) else {
+        return Status::Memory;
+    };
+    run_script(
+        &mut session,
+        buffer.as_mut_slice(),
+        SCRIPT_LIMIT,
+        source,
+        sink,
+    )
+}

@@ -1,0 +1,149 @@
+ghost use Rattle.std.specs.Prelude.{◌≡◌, ◌+◌, ◌≤◌, ◌∷◌, ◌++◌, ℕ, List, [], MatchOption, take, OnOk, OnErr, IfOk, vec_len, vec_capacity, ◌<◌};
+ghost use Rattle.clr_run.specs.Faults.{Rose};
+ghost use Rattle.clr_run.specs.LineStretch.{IsUnfed, IsFirstFeed};
+
+use crate::NoMemory;
+use crate::runtime::Runtime;
+use crate::runtime::outcome::{Outcome, put_outcome};
+use crate::streams::Failed;
+use crate::streams::memory::push_all;
+use crate::streams::pending::Pending;
+use crate::streams::sink::Sink;
+use memchr::memchr;
+use std::alloc::Global;
+
+/// So many bytes of a begun line are kept, one more than a line that is read can have.
+const KEPT: usize = 4097;
+
+// Where the first line feed stands.
+fn first_feed(bytes: &[u8]) -> Option<usize>
+    ensures { MatchOption result (IsUnfed bytes.now) (IsFirstFeed bytes.now) }
+{
+    memchr(b'\n', bytes)
+}
+
+// Puts bytes behind a begun line, as far as one is kept.
+fn keep(line: &mut Vec<u8>, more: &[u8])
+    requires short { vec_len line.old ≤ 4097 }
+    requires room { 4097 ≤ vec_capacity line.old }
+    ensures items { line.new.items ≡ take 4097 (line.old.items ++ more.now) }
+    ensures short { vec_len line.new ≤ 4097 }
+    ensures room { 4097 ≤ vec_capacity line.new }
+{
+    let count = more.len().min(KEPT - line.len());
+    push_all(line, &more[..count]);
+}
+
+/// A script that runs: its core, the line that is begun, and the replies that wait to be written.
+#[derive(Drop)]
+pub struct Session {
+    runtime: Runtime,
+    line: Vec<u8>,
+    pending: Pending,
+    ghost short: { vec_len line ≤ 4097 },
+    ghost room: { 4097 ≤ vec_capacity line },
+}
+
+impl Session {
+    ghost use Rattle.clr_run.specs.Sessions.{IsAt, Goes, GoesWritten, Ends, EndsWritten, Stops, StopsLast};
+    ghost use Rattle.clr_run.specs.Outcomes.{outcome_of, CanShow};
+    ghost use Rattle.clr_model.specs.Run.{FollowsLine};
+
+    /// A script of which nothing was read yet. Takes the memory of its buffers here.
+    pub fn new(alloc: Global) -> Result<Session, NoMemory>
+        ensures at { IfOk result (λ session. IsAt session [] []) }
+        ensures empty { IfOk result (λ session. session.pending ≡ []) }
+    {
+        let runtime = Runtime::new(alloc)?;
+        let pending = Pending::new(alloc)?;
+        let Ok(line) = Vec::with_capacity(alloc, KEPT) else {
+            return Err(NoMemory);
+        };
+        Ok(Session {
+            runtime,
+            line,
+            pending,
+        })
+    }
+
+    // Does what the begun line and the bytes behind it say.
+    fn execute(&mut self, rest: &[u8]) -> Outcome
+        requires { IsUnfed rest.now }
+        ensures shows { CanShow result }
+        ensures line { self.new.line.items ≡ [] }
+        ensures pending { self.new.pending ≡ self.old.pending }
+        ensures follows { (begun : List ℕ) → self.old.line.items ≡ take 4097 begun → FollowsLine self.old.runtime (begun ++ rest.now) (outcome_of result) self.new.runtime }
+    {
+        if self.line.is_empty() {
+            return self.runtime.execute(rest);
+        }
+        keep(&mut self.line, rest);
+        let outcome = self.runtime.execute(&self.line);
+        self.line.clear();
+        outcome
+    }
+
+    // Answers the line that these bytes and a line feed end.
+    fn end_line<K: Sink>(&mut self, sink: &mut K, rest: &[u8]) -> Result<(), Failed>
+        requires { IsUnfed rest.now }
+        ensures bytes { OnOk result (Goes self.old self.new (rest.now ++ 10 ∷ []) (K.written sink.old) (K.written sink.new)) }
+        ensures stops { OnErr result (Stops self.old (rest.now ++ 10 ∷ []) (K.written sink.old) (K.written sink.new)) }
+        ensures counted { OnOk result (K.faults sink.new ≡ K.faults sink.old) }
+        ensures cause { OnErr result (Rose (K.faults sink.old) (K.faults sink.new)) }
+    {
+        let outcome = self.execute(rest);
+        put_outcome(&mut self.pending, sink, &outcome)
+    }
+
+    // Answers the lines that the next bytes of the script end, and keeps what is behind them.
+    fn answer_piece<K: Sink>(&mut self, sink: &mut K, piece: &[u8]) -> Result<(), Failed>
+        ensures bytes { OnOk result (Goes self.old self.new piece.now (K.written sink.old) (K.written sink.new)) }
+        ensures stops { OnErr result (Stops self.old piece.now (K.written sink.old) (K.written sink.new)) }
+        ensures counted { OnOk result (K.faults sink.new ≡ K.faults sink.old) }
+        ensures cause { OnErr result (Rose (K.faults sink.old) (K.faults sink.new)) }
+    {
+        let mut from = 0;
+        while let Some(at) = first_feed(&piece[from..]) {
+            self.end_line(sink, &piece[from..from + at])?;
+            from += at + 1;
+        }
+        keep(&mut self.line, &piece[from..]);
+        Ok(())
+    }
+
+    // Answers the line that is begun where the script ends, if there is one.
+    fn answer_end<K: Sink>(&mut self, sink: &mut K) -> Result<(), Failed>
+        ensures bytes { OnOk result (Ends self.old self.new (K.written sink.old) (K.written sink.new)) }
+        ensures stops { OnErr result (StopsLast self.old (K.written sink.old) (K.written sink.new)) }
+        ensures counted { OnOk result (K.faults sink.new ≡ K.faults sink.old) }
+        ensures cause { OnErr result (Rose (K.faults sink.old) (K.faults sink.new)) }
+    {
+        if self.line.is_empty() {
+            return Ok(());
+        }
+        let outcome = self.execute(&[]);
+        put_outcome(&mut self.pending, sink, &outcome)
+    }
+
+    /// Takes the next bytes of the script, and writes the replies to the lines that they end.
+    pub fn take_piece<K: Sink>(&mut self, sink: &mut K, piece: &[u8]) -> Result<(), Failed>
+        ensures bytes { OnOk result (GoesWritten self.old self.new piece.now (K.written sink.old) (K.written sink.new)) }
+        ensures stops { OnErr result (Stops self.old piece.now (K.written sink.old) (K.written sink.new)) }
+        ensures counted { OnOk result (K.faults sink.new ≡ K.faults sink.old) }
+        ensures cause { OnErr result (Rose (K.faults sink.old) (K.faults sink.new)) }
+    {
+        self.answer_piece(sink, piece)?;
+        self.pending.flush(sink)
+    }
+
+    /// Takes the end of the script: a line that is begun is answered, and all replies are written.
+    pub fn take_end<K: Sink>(&mut self, sink: &mut K) -> Result<(), Failed>
+        ensures bytes { OnOk result (EndsWritten self.old (K.written sink.old) (K.written sink.new)) }
+        ensures stops { OnErr result (StopsLast self.old (K.written sink.old) (K.written sink.new)) }
+        ensures counted { OnOk result (K.faults sink.new ≡ K.faults sink.old) }
+        ensures cause { OnErr result (Rose (K.faults sink.old) (K.faults sink.new)) }
+    {
+        self.answer_end(sink)?;
+        self.pending.flush(sink)
+    }
+}

@@ -1,0 +1,38 @@
+/// How a command ended.
+#[derive(Clone, Copy, Debug, PartialEq, Eq)]
+pub enum Status {
+    /// The script was read to its end, and each line was answered.
+    Done,
+    /// The words say no command.
+    Usage,
+    /// A read failed.
+    ReadFault,
+    /// A write failed.
+    WriteFault,
+    /// There was no memory to begin with.
+    Memory,
+    /// The script has more bytes than `SCRIPT_LIMIT`.
+    TooMuch,
+    /// The bytes are no image of a heap.
+    BadImage,
+}
+
+impl Status {
+    ghost use Rattle.std.specs.Prelude.{◌≡◌};
+    ghost use Rattle.clr_run.specs.Codes.{code_of};
+
+    /// The exit code of the program.
+    pub fn code(&self) -> u8
+        ensures { result ≡ code_of self.now }
+    {
+        match self {
+            Status::Done => 0,
+            Status::Usage => 2,
+            Status::ReadFault => 3,
+            Status::WriteFault => 4,
+            Status::Memory => 5,
+            Status::TooMuch => 6,
+            Status::BadImage => 7,
+        }
+    }
+}

@@ -1,0 +1,12 @@
+//! Where scripts come from and where replies go.
+
+pub mod adapter;
+pub mod memory;
+pub mod pending;
+pub mod plain;
+pub mod sink;
+pub mod source;
+
+/// A read or a write that failed.
+#[derive(Clone, Copy, Debug, PartialEq, Eq)]
+pub struct Failed;

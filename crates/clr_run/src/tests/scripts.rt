@@ -1,0 +1,112 @@
+//! Scripts and their replies, whatever the pieces in which they are read and written.
+ghost use Rattle.std.specs.Prelude.{◌<◌};
+
+use super::{EMPTY_HEAP, Trial, outcome_of};
+use crate::Status;
+use std::alloc::Global;
+use std::process::Abort;
+use std::test::Fail;
+
+/// Runs a script in pieces of three sizes, and wants these replies each time.
+fn expect_replies(
+    rt: &impl Abort,
+    alloc: Global,
+    script: &[u8],
+    replies: &[u8],
+) -> Result<(), Fail> {
+    for piece in [1, 7, 10] {
+        assert!(rt; piece > 0);
+        let trial = Trial {
+            script,
+            piece,
+            failing_reads: &[],
+            failing_writes: &[],
+            room: 1_000_000,
+        };
+        let (status, text) = outcome_of(alloc, trial)?;
+        assert_eq!(rt; status, Status::Done, "in pieces of {piece}");
+        assert!(rt; text.as_slice() == replies, "in pieces of {piece}");
+    }
+    Ok(())
+}
+
+#[test]
+fn answers_each_line(rt: HostRuntime) -> Result<(), Fail> {
+    let cases = [
+        // an empty script has no line
+        ("", ""),
+        (
+            "type Node class rr\nt1 new l0 Node\ndumpheap\n",
+            "mt 00007ff000000040\n0000000010001000\n0000000010001000 00007ff000000040 32 Node\ntotal 1 bytes 32 free 0\n",
+        ),
+        // the last line needs no line feed
+        ("dumpheap", EMPTY_HEAP),
+        ("dumpheap\n", EMPTY_HEAP),
+        ("\n\n", "refused syntax\nrefused syntax\n"),
+        // no type is defined yet
+        ("t1 new l0 Node", "refused unknown-type\n"),
+        // the least object has three words, and the next one stands behind it
+        (
+            "type A class -\nt1 new l0 A\nt1 new l63 A\ndumpheap\n",
+            "mt 00007ff000000040\n0000000010001000\n0000000010001018\n0000000010001000 00007ff000000040 24 A\n0000000010001018 00007ff000000040 24 A\ntotal 2 bytes 48 free 0\n",
+        ),
+        // a refused line changes nothing
+        (
+            "type A class -\ntype B class -\nt1 new l0 B\nt1 new l64 A\nt1 new l07 A\nt1 new l7 A\n",
+            "mt 00007ff000000040\nrefused syntax\nrefused unknown-type\nrefused syntax\nrefused syntax\n0000000010001000\n",
+        ),
+        // neither a reserved name nor a wrong pattern, and one space between two words
+        (
+            "type Free class -\ntype  A class -\ntype A class rx\n type A class -\ntype A class - \ndumpheap x\nDumpheap\ndumpheap\r\n",
+            "refused syntax\nrefused syntax\nrefused syntax\nrefused syntax\nrefused syntax\nrefused syntax\nrefused syntax\nrefused syntax\n",
+        ),
+    ];
+    for (script, replies) in cases {
+        expect_replies(&rt, rt.alloc(), script.as_bytes(), replies.as_bytes())?;
+    }
+    Ok(())
+}
+
+/// The objects of 2,064 bytes for which the ephemeral segment has room.
+const FILLING: u64 = 8126;
+
+/// A script that makes one object more than there is room for, and shows the heap.
+fn filling_script(alloc: Global) -> Result<Vec<u8>, Fail> {
+    let mut script = Vec::new(alloc);
+    script.extend_from_slice(b"type W class ")?;
+    for _ in 0..256 {
+        script.push(b'n')?;
+    }
+    script.push(b'\n')?;
+    for _ in 0..FILLING + 1 {
+        script.extend_from_slice(b"t1 new l0 W\n")?;
+    }
+    script.extend_from_slice(b"dumpheap\n")?;
+    Ok(script)
+}
+
+/// What it is answered.
+fn filling_replies(alloc: Global) -> Result<Vec<u8>, Fail> {
+    let mut replies = Vec::new(alloc);
+    replies.extend_from_slice(b"mt 00007ff000000040\n")?;
+    for i in 0..FILLING {
+        let line = format!(in alloc; "{:016x}\n", 0x1000_1000 + 2064 * i)?;
+        replies.extend_from_slice(line.as_bytes())?;
+    }
+    replies.extend_from_slice(b"refused oom\n")?;
+    for i in 0..FILLING {
+        let place = 0x1000_1000 + 2064 * i;
+        let line = format!(in alloc; "{place:016x} 00007ff000000040 2064 W\n")?;
+        replies.extend_from_slice(line.as_bytes())?;
+    }
+    replies.extend_from_slice(b"total 8126 bytes 16772064 free 0\n")?;
+    Ok(replies)
+}
+
+#[test]
+fn fills_the_ephemeral_segment(rt: HostRuntime) -> Result<(), Fail> {
+    let alloc = rt.alloc();
+    let script = filling_script(alloc)?;
+    let replies = filling_replies(alloc)?;
+    expect_replies(&rt, alloc, script.as_slice(), replies.as_slice())
+}

@@ -1,0 +1,11 @@
+pub mod RisingLists
+pub mod SortedLists
+pub mod Tilings
+pub mod NameLists
+pub mod Sizes
+pub mod TableRows
+pub mod Refusals
+pub mod GrownTables
+pub mod ChangedLists
+pub mod SegmentFacts
+pub mod TailTaken

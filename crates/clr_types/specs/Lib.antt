@@ -1,0 +1,9 @@
+pub mod Rising
+pub mod Ranges
+pub mod Types
+pub mod Segments
+pub mod LawfulLayout
+pub mod Laws
+pub mod Table
+pub mod Kept
+pub mod MethodTables

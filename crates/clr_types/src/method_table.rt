@@ -1,0 +1,160 @@
+//! What is kept of each type besides its name.
+
+ghost use Rattle.std.specs.Prelude.{◌≡◌, ◌<◌, ◌≤◌, true, false, IfOk, SomeIff};
+ghost use Rattle.std.specs.List.{list_all};
+ghost use Rattle.clr_types.specs.Types.{form_of, is_lawful_form, is_array, is_pattern_byte, bytes_form};
+ghost use Rattle.clr_types.specs.Types as types;
+ghost use Rattle.clr_types.specs.Table as table;
+ghost use Rattle.clr_types.specs.Kept.{form_of_pattern};
+
+use crate::{NoMemory, Shape};
+use std::alloc::Global;
+use std::marker::Model;
+
+/// The bytes that no object exceeds.
+const LARGEST_OBJECT: u64 = 1 << 30;
+
+/// A shape that owns its pattern.
+#[derive(Drop)]
+enum Pattern {
+    Class(Vec<u8>),
+    RefArray,
+    ByteArray,
+    StructArray(Vec<u8>),
+}
+
+/// What is kept of a type: its shape, whether it has a finaliser, and the sizes in bytes of its objects without their elements
+/// and of one element, which is 0 where there are no elements.
+#[derive(Drop)]
+pub(crate) struct MethodTable {
+    pattern: Pattern,
+    finalizer: bool,
+    base_size: u64,
+    element_size: u64,
+}
+
+impl Model for MethodTable {
+    ghost use Rattle.clr_types.specs.Table.{Described};
+
+    ghost Value = { Described };
+
+    ghost use Rattle.clr_types.specs.MethodTables.{described, IsMethodTable};
+
+    ghost view = { described };
+
+    ghost invariant = { IsMethodTable };
+}
+
+impl MethodTable {
+    /// The method table of unused space.
+    pub(crate) fn free() -> MethodTable
+        ensures form { result.form ≡ bytes_form }
+        ensures finalizer { result.finalizer ≡ false }
+    {
+        MethodTable {
+            pattern: Pattern::ByteArray,
+            finalizer: false,
+            base_size: 24,
+            element_size: 1,
+        }
+    }
+
+    /// The method table of a lawful shape.
+    pub(crate) fn new(
+        alloc: Global,
+        shape: Shape<'_>,
+        finalizer: bool,
+    ) -> Result<MethodTable, NoMemory>
+        requires { is_lawful_form (form_of shape) finalizer ≡ true }
+        ensures { IfOk result (λ made. made ≡ record { form = form_of shape.entry; finalizer = finalizer }) }
+    {
+        let base_size = base_size(shape, finalizer);
+        let element_size = element_size(shape, finalizer);
+        let pattern = owned(alloc, shape)?;
+        Ok(MethodTable {
+            pattern,
+            finalizer,
+            base_size,
+            element_size,
+        })
+    }
+
+    pub(crate) fn has_finalizer(&self) -> bool
+        ensures { result ≡ self.now.finalizer }
+    {
+        self.finalizer
+    }
+
+    /// Whether objects have a length word.
+    pub(crate) fn has_length(&self) -> bool
+        ensures { result ≡ is_array self.now.form }
+    {
+        self.element_size > 0
+    }
+
+    /// The bytes of an object of `len` elements, and none where they are more than 2^30.
+    pub(crate) fn size(&self, len: u64) -> Option<u64>
+        ensures { SomeIff result (types.size_of self.now.form len ≤ 1073741824) (types.size_of self.now.form len) }
+    {
+        let counted = len.min(LARGEST_OBJECT);
+        let size = (self.base_size + self.element_size * counted + 7) / 8 * 8;
+        if size <= LARGEST_OBJECT {
+            Some(size)
+        } else {
+            None
+        }
+    }
+}
+
+fn base_size(shape: Shape<'_>, finalizer: bool) -> u64
+    requires { is_lawful_form (form_of shape) finalizer ≡ true }
+    ensures { result ≡ table.base_size (form_of shape.entry) }
+{
+    match shape {
+        Shape::Class(pattern) => 24u64.max(16 + 8 * pattern.len() as u64),
+        Shape::RefArray | Shape::ByteArray | Shape::StructArray(_) => 24,
+    }
+}
+
+fn element_size(shape: Shape<'_>, finalizer: bool) -> u64
+    requires { is_lawful_form (form_of shape) finalizer ≡ true }
+    ensures { result ≡ table.element_size (form_of shape.entry) }
+{
+    match shape {
+        Shape::Class(_) => 0,
+        Shape::RefArray => 8,
+        Shape::ByteArray => 1,
+        Shape::StructArray(pattern) => 8 * pattern.len() as u64,
+    }
+}
+
+fn owned(alloc: Global, shape: Shape<'_>) -> Result<Pattern, NoMemory>
+    ensures { IfOk result (λ pattern. form_of_pattern pattern ≡ form_of shape.entry) }
+{
+    match shape {
+        Shape::Class(pattern) => Ok(Pattern::Class(Vec::from_slice(alloc, pattern)?)),
+        Shape::RefArray => Ok(Pattern::RefArray),
+        Shape::ByteArray => Ok(Pattern::ByteArray),
+        Shape::StructArray(pattern) => Ok(Pattern::StructArray(Vec::from_slice(alloc, pattern)?)),
+    }
+}
+
+/// Whether a type may have this shape, with a finaliser or without.
+pub(crate) fn is_lawful(shape: Shape<'_>, finalizer: bool) -> bool
+    ensures { result ≡ is_lawful_form (form_of shape.entry) finalizer }
+{
+    match shape {
+        Shape::Class(pattern) => is_pattern(pattern) && pattern.len() <= 256,
+        Shape::RefArray | Shape::ByteArray => !finalizer,
+        Shape::StructArray(pattern) => is_pattern(pattern)
+            && !pattern.is_empty()
+            && pattern.len() <= 64
+            && !finalizer,
+    }
+}
+
+fn is_pattern(pattern: &[u8]) -> bool
+    ensures { result ≡ list_all is_pattern_byte pattern.now }
+{
+    pattern.iter().all(|byte| *byte == b'r' || *byte == b'n')
+}

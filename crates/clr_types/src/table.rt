@@ -1,0 +1,169 @@
+//! The table of types.
+
+ghost use Rattle.std.specs.Prelude.{◌≡◌, ◌≢◌, ◌+◌, ◌<◌, ◌≤◌, ◌↔◌, [], ◌∷◌, ◌++◌, length, true, false, Some, None, IsSome, IfOk, OnOk, OnErr, SomeIff, option_map};
+ghost use Rattle.std.specs.List.{AllByRecursion};
+ghost use Rattle.clr_types.specs.Types.{form_of, form_at, is_array, is_lawful_form, mt_of, name_of, number_with_free, type_row};
+ghost use Rattle.clr_types.specs.Types as types;
+ghost use Rattle.clr_types.specs.Table.{first_refusal, IsLawfulRow, HasDistinctNames};
+
+use crate::method_table::{MethodTable, is_lawful};
+use crate::names::Names;
+use crate::{DefineFault, NoMemory, Shape, TypeId};
+use std::alloc::Global;
+use std::marker::Model;
+
+/// The types that a script may define, at most.
+const MOST_TYPES: u32 = 1000;
+
+/// The method table word of number 0.
+const FIRST_WORD: u64 = 0x7ff0_0000_0000;
+
+/// The types that a script defined, numbered from 1 in order of definition. `Free`, the type of unused space, is number 0.
+#[derive(Drop)]
+pub struct Types {
+    alloc: Global,
+    names: Names,
+    tables: Vec<MethodTable>,
+}
+
+impl Model for Types {
+    ghost use Rattle.std.specs.Prelude.{List};
+    ghost use Rattle.clr_types.specs.Types.{TypeRow};
+    ghost use Rattle.clr_types.specs.Table.{rows_of, without_first, IsTable};
+
+    ghost Value = { List TypeRow };
+
+    ghost view = { λ types. without_first (rows_of types.names types.tables.items) };
+
+    ghost invariant = { λ types. IsTable types.names types.tables.items };
+}
+
+impl Types {
+    /// No type but `Free`.
+    pub fn new(alloc: Global) -> Result<Types, NoMemory>
+        ensures { IfOk result (λ types. types ≡ []) }
+    {
+        let mut names = Names::new(alloc);
+        names.add(alloc, b"Free")?;
+        let mut tables = Vec::new(alloc);
+        tables.push(MethodTable::free())?;
+        Ok(Types {
+            alloc,
+            names,
+            tables,
+        })
+    }
+
+    /// How many types there are, `Free` among them.
+    pub fn count(&self) -> u32
+        ensures value { result ≡ length self.now + 1 }
+        ensures few { length self.now ≤ 1000 }
+        ensures lawful { AllByRecursion IsLawfulRow self.now }
+        ensures distinct { HasDistinctNames self.now }
+    {
+        self.tables.len() as u32
+    }
+
+    /// Defines a type, which takes the next number. After an error the table is as it was.
+    ///
+    /// The refusals come in the order of `DefineFault`'s variants.
+    pub fn define(
+        &mut self,
+        name: &[u8],
+        shape: Shape<'_>,
+        finalizer: bool,
+    ) -> Result<TypeId, DefineFault>
+        ensures number { IfOk result (λ t. t.0 ≡ length self.old + 1) }
+        ensures defined { OnOk result (self.new ≡ self.old ++ record { name = name.now; form = form_of shape.entry; finalizer = finalizer } ∷ []) }
+        ensures err { OnErr result (self.new ≡ self.old) }
+
+        // Each refusal comes exactly where it is the first that fits.
+        ensures duplicate { (result ≡ Err DefineFault.Duplicate) ↔ (number_with_free self.old name.now ≢ None) }
+        ensures bad_shape { (result ≡ Err DefineFault.BadShape) ↔ ((number_with_free self.old name.now ≡ None) × (is_lawful_form (form_of shape.entry) finalizer ≡ false)) }
+        ensures too_many { (result ≡ Err DefineFault.TooManyTypes) ↔ ((number_with_free self.old name.now ≡ None) × (is_lawful_form (form_of shape.entry) finalizer ≡ true) × (length self.old ≡ 1000)) }
+    {
+        if let Some(fault) = self.refusal(name, shape, finalizer) {
+            return Err(fault);
+        }
+        let number = self.count();
+        let table = MethodTable::new(self.alloc, shape, finalizer)?;
+        self.tables.reserve(1)?;
+        self.names.add(self.alloc, name)?;
+        self.tables.push_reserved(table);
+        Ok(TypeId(number))
+    }
+
+    // Why a type can't be defined, if not for want of memory.
+    fn refusal(&self, name: &[u8], shape: Shape<'_>, finalizer: bool) -> Option<DefineFault>
+        ensures { result ≡ first_refusal (number_with_free self.now name.now) (is_lawful_form (form_of shape.entry) finalizer) (length self.now) }
+    {
+        if self.by_name(name).is_some() {
+            Some(DefineFault::Duplicate)
+        } else if !is_lawful(shape, finalizer) {
+            Some(DefineFault::BadShape)
+        } else if self.count() > MOST_TYPES {
+            Some(DefineFault::TooManyTypes)
+        } else {
+            None
+        }
+    }
+
+    /// The type with this name.
+    pub fn by_name(&self, name: &[u8]) -> Option<TypeId>
+        ensures { option_map (λ (t : TypeId). t.0) result ≡ number_with_free self.now name.now }
+    {
+        let number = self.names.number(name)?;
+        Some(TypeId(number as u32))
+    }
+
+    /// The method table word of a type.
+    pub fn mt(&self, t: TypeId) -> u64
+        requires { t.0 ≤ length self.now }
+        ensures { result ≡ mt_of t.0 }
+    {
+        let _ = &self.tables;
+        FIRST_WORD + 64 * u64::from(t.0)
+    }
+
+    /// The name of a type.
+    pub fn name(&self, t: TypeId) -> &[u8]
+        requires { t.0 ≤ length self.now }
+        ensures { result.now ≡ name_of self.now t.0 }
+    {
+        self.names.name(t.0 as usize)
+    }
+
+    /// Whether objects of a type have a finaliser.
+    pub fn finalizer(&self, t: TypeId) -> bool
+        requires { t.0 ≤ length self.now }
+        ensures { result ≡ types.has_finalizer (type_row self.now t.0) }
+    {
+        self.table(t).has_finalizer()
+    }
+
+    /// Whether objects of a type have a length word, as unused space has.
+    pub fn has_length(&self, t: TypeId) -> bool
+        requires { t.0 ≤ length self.now }
+        ensures { result ≡ is_array (form_at self.now t.0) }
+    {
+        self.table(t).has_length()
+    }
+
+    /// The bytes of an object of `len` elements, and none where they are more than 2^30.
+    ///
+    /// Unused space has the size of an array of bytes, 24 and its length.
+    pub fn size_of(&self, t: TypeId, len: u64) -> Option<u64>
+        requires { t.0 ≤ length self.now }
+        ensures { SomeIff result (types.size_of (form_at self.now t.0) len ≤ 1073741824) (types.size_of (form_at self.now t.0) len) }
+    {
+        self.table(t).size(len)
+    }
+    // All but the name of a type.
+    fn table(&self, t: TypeId) -> &MethodTable
+        requires { t.0 ≤ length self.now }
+        ensures form { result.now.form ≡ form_at self.now t.0 }
+        ensures finalizer { result.now.finalizer ≡ types.has_finalizer (type_row self.now t.0) }
+    {
+        &self.tables[t.0 as usize]
+    }
+}

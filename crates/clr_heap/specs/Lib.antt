@@ -1,2 +1,5 @@
-pub mod Value
+pub mod Memories
+pub mod Parts
 pub mod View
+pub mod Rewrites
+pub mod Walk

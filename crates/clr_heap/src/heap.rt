@@ -1,90 +1,198 @@
-ghost use Rattle.std.specs.Prelude.{true, ◌≡◌, ◌+◌, ◌≤◌, ◌<◌, ◌%◌, ◌^◌, ◌++◌, ◌∷◌, [], OnOk, OnErr, IfOk};
-ghost use Rattle.clr_types.specs.Segments.{ephemeral, fits_in_tail, opening_layout, with_end};
-ghost use Rattle.clr_heap.specs.Value.{AreCells, Cells};
+// The heap: its segments, their words, the boundaries of the generations and the rests of contexts.
+ghost use Rattle.std.specs.Prelude.{◌≡◌, ℕ, ◌+◌, ◌*◌, ◌%◌, ◌<◌, ◌≤◌, ◌^◌, [], ◌∷◌, length, set, IfOk};
+ghost use Rattle.clr_types.specs.Segments.{ended_at, ephemeral, first_place, generation, reserved_end};
+ghost use Rattle.clr_types.specs.LawfulLayout.{IsLawfulSegment};
+ghost use Rattle.clr_heap.specs.Memories.{first_memory};
+ghost use Rattle.clr_heap.specs.View.{new_segment, no_rests};
 
-use crate::NoMemory;
-use clr_types::{Item, TypeId};
-use std::alloc::Global;
+pub use crate::heap::rest::Rest;
+pub use crate::heap::segments::AcquireFault;
+use clr_mem::{Mem, NoMemory};
+use clr_types::{SegInfo, SegKind};
+use std::alloc::{AllocError, Global};
 use std::marker::Model;
 
+mod contexts;
+mod rest;
+mod segments;
+mod words;
+
 /// The base of the first segment.
-const FIRST_BASE: u64 = 0x1000_0000;
+pub const FIRST_BASE: u64 = 0x1000_0000;
 
-/// The distance from a segment's base to its first place, in bytes.
-const HEAD: u64 = 0x1000;
+/// How far the first place of a segment stands above its base.
+pub const FIRST_OFFSET: u64 = 0x1000;
 
-/// An empty large segment behind an ephemeral one, and the objects of the latter by rising place.
+/// The segments, with the rests of the threads' contexts and the boundaries of the generations.
+///
+/// There is always exactly one ephemeral segment.
 #[derive(Drop)]
 pub struct Heap {
-    reserved: u64,
-    end: u64,
-    items: Vec<Item>,
+    alloc: Global,
+    memories: Vec<Mem>,
+    segments: Vec<SegInfo>,
+    rests: Vec<Option<Rest>>,
+    start1: u64,
+    start0: u64,
+    top: u64,
+    limit: u64,
+    young_low: u64,
+    young_high: u64,
 }
 
 impl Model for Heap {
-    ghost use Rattle.clr_heap.specs.Value.{Cells};
+    ghost use Rattle.clr_heap.specs.View.{HeapView, IsKept};
 
-    ghost Value = { Cells };
+    ghost Value = { HeapView };
 
-    ghost use Rattle.clr_heap.specs.View.{cells_of, IsHeap};
+    ghost view = { λ h. record { memories = h.memories.items; segments = h.segments.items; rests = h.rests.items; start1 = h.start1; start0 = h.start0; top = h.top; limit = h.limit } };
 
-    ghost view = { cells_of };
-
-    ghost invariant = { IsHeap };
+    ghost invariant = { λ h. IsKept (record { memories = h.memories.items; segments = h.segments.items; rests = h.rests.items; start1 = h.start1; start0 = h.start0; top = h.top; limit = h.limit }) h.young_low h.young_high };
 }
 
 impl Heap {
-    /// Two empty segments of `reserved` bytes each. Takes no memory.
-    pub fn new(alloc: Global, reserved: u64) -> Heap
-        requires least { 262144 ≤ reserved }
-        requires greatest { reserved ≤ 67108864 }
-        ensures { result ≡ record { layout = opening_layout reserved; items = [] } }
+    ghost use Rattle.clr_heap.specs.View.{first_of, frame, IsHeap, last_of, opening, segment_at};
+
+    /// One empty ephemeral segment, and above it one empty large one, each of `segment` bytes.
+    /// Later segments are refused where all together would reserve more than `limit` bytes.
+    pub fn new(alloc: Global, segment: u64, limit: u64) -> Result<Heap, NoMemory>
+        requires aligned { segment % 4096 ≡ 0 }
+        requires least { 262144 ≤ segment }
+        requires most { segment ≤ 67108864 }
+        requires room { 2 * segment ≤ limit }
+        requires limit_small { limit ≤ 1073741824 }
+        ensures { IfOk result (λ h. h ≡ opening segment limit) }
     {
-        Heap {
-            reserved,
-            end: FIRST_BASE + HEAD,
-            items: Vec::new(alloc),
+        let memories = first_memories(alloc, segment)?;
+        let segments = first_segments(alloc, segment)?;
+        let rests = no_contexts(alloc)?;
+        let first = FIRST_BASE + FIRST_OFFSET;
+        Ok(Heap {
+            alloc,
+            memories,
+            segments,
+            rests,
+            start1: first,
+            start0: first,
+            top: FIRST_BASE + segment + segment,
+            limit,
+            young_low: first,
+            young_high: FIRST_BASE + segment,
+        })
+    }
+
+    /// The number of segments.
+    pub fn segments(&self) -> usize
+        ensures count { result ≡ length self.now.segments }
+        ensures heap { IsHeap self.now }
+    {
+        self.segments.len()
+    }
+
+    /// Segment `k`, by rising base.
+    pub fn info(&self, k: usize) -> SegInfo
+        requires { k < length self.now.segments }
+        ensures value { result ≡ segment_at self.now k }
+        ensures lawful { IsLawfulSegment (segment_at self.now k) }
+        ensures below_top { reserved_end (segment_at self.now k) ≤ self.now.top }
+        ensures fits { self.now.top ≤ 2 ^ 61 + 2 ^ 30 }
+    {
+        self.segments[k]
+    }
+
+    /// The highest end of a reservation that ever was.
+    pub fn top(&self) -> u64
+        ensures { result ≡ self.now.top }
+    {
+        self.top
+    }
+
+    /// The start of generation 1 and that of generation 0, in the ephemeral segment.
+    pub fn boundaries(&self) -> (u64, u64)
+        ensures { result ≡ (self.now.start1, self.now.start0) }
+    {
+        (self.start1, self.start0)
+    }
+
+    /// Moves the boundaries of the generations.
+    pub fn set_boundaries(&mut self, start1: u64, start0: u64)
+        ensures { self.new ≡ record self.old { start1 = start1; start0 = start0 } }
+    {
+        self.start1 = start1;
+        self.start0 = start0;
+    }
+
+    /// The generation of a place: 2 outside the ephemeral segment.
+    pub fn gen_of(&self, a: u64) -> u8
+        ensures { result ≡ generation (frame self.now) a }
+    {
+        if a < self.young_low || a >= self.young_high || a < self.start1 {
+            2
+        } else if a < self.start0 {
+            1
+        } else {
+            0
         }
     }
 
-    /// Whether an object of `size` bytes fits in the tail of the ephemeral segment.
-    pub fn fits_tail(&self, size: u64) -> bool
-        requires { size < 2 ^ 62 }
-        ensures fits { result ≡ fits_in_tail (ephemeral self.now.layout) size }
-        ensures cells { AreCells self.now }
+    /// The number of the ephemeral segment.
+    pub fn ephemeral(&self) -> usize
+        ensures in_range { result < length self.now.segments }
+        ensures segment { segment_at self.now result ≡ ephemeral (frame self.now) }
+        ensures heap { IsHeap self.now }
     {
-        self.end + size <= FIRST_BASE + self.reserved
+        self.segment_of(self.young_low)
     }
 
-    /// Places an object of `size` bytes at the end of the ephemeral segment, and gives its place. The segment then ends behind it.
-    /// Want of memory leaves the heap as it was.
-    pub fn make_object(&mut self, type_id: TypeId, size: u64, len: u64) -> Result<u64, NoMemory>
-        requires least { 24 ≤ size }
-        requires fits { fits_in_tail (ephemeral self.old.layout) size ≡ true }
-        ensures place { IfOk result (λ place. place ≡ (ephemeral self.old.layout).end) }
-        ensures layout { OnOk result (self.new.layout ≡ with_end self.old.layout (ephemeral self.old.layout).base ((ephemeral self.old.layout).end + size)) }
-        ensures items { OnOk result (self.new.items ≡ self.old.items ++ record { place = (ephemeral self.old.layout).end; size = size; type_id = type_id; len = len } ∷ []) }
-        ensures err { OnErr result (self.new ≡ self.old) }
+    /// Moves the end of segment `k`. No word changes.
+    pub fn set_end(&mut self, k: usize, end: u64)
+        requires in_range { k < length self.old.segments }
+        requires above { first_of self.old k ≤ end }
+        requires below { end ≤ reserved_end (segment_at self.old k) }
+        requires aligned { end % 8 ≡ 0 }
+        ensures { self.new ≡ record self.old { segments = set self.old.segments k (ended_at end (segment_at self.old k)) } }
     {
-        let place = self.end;
-        let item = Item {
-            place,
-            size,
-            type_id,
-            len,
-        };
-        let Ok(()) = self.items.push(item) else {
-            return Err(NoMemory);
-        };
-        self.end += size;
-        Ok(place)
+        self.segments[k].end = end;
     }
+}
 
-    /// The objects by rising place.
-    pub fn items(&self) -> &[Item]
-        ensures value { result.now ≡ self.now.items }
-        ensures cells { AreCells self.now }
-    {
-        self.items.as_slice()
+fn first_memories(alloc: Global, segment: u64) -> Result<Vec<Mem>, NoMemory>
+    requires aligned { segment % 4096 ≡ 0 }
+    requires most { segment ≤ 67108864 }
+    ensures { IfOk result (λ v. v.items ≡ first_memory FIRST_BASE segment ∷ first_memory (FIRST_BASE + segment) segment ∷ []) }
+{
+    let low = Mem::new(alloc, FIRST_BASE, segment)?;
+    let high = Mem::new(alloc, FIRST_BASE + segment, segment)?;
+    let mut memories = Vec::new(alloc);
+    memories.push(low)?;
+    memories.push(high)?;
+    Ok(memories)
+}
+
+fn first_segments(alloc: Global, segment: u64) -> Result<Vec<SegInfo>, NoMemory>
+    requires { segment ≤ 67108864 }
+    ensures { IfOk result (λ v. v.items ≡ new_segment SegKind.Ephemeral FIRST_BASE segment ∷ new_segment SegKind.Large (FIRST_BASE + segment) segment ∷ []) }
+{
+    let low = empty_segment(SegKind::Ephemeral, FIRST_BASE, segment);
+    let high = empty_segment(SegKind::Large, FIRST_BASE + segment, segment);
+    Ok(vec![in alloc; low, high]?)
+}
+
+// A segment with nothing in it.
+fn empty_segment(kind: SegKind, base: u64, size: u64) -> SegInfo
+    requires { base + 4096 < 2 ^ 64 }
+    ensures { result ≡ new_segment kind base size }
+{
+    SegInfo {
+        base,
+        reserved: size,
+        kind,
+        end: base + FIRST_OFFSET,
     }
+}
+
+fn no_contexts(alloc: Global) -> Result<Vec<Option<Rest>>, AllocError>
+    ensures { IfOk result (λ v. v.items ≡ no_rests) }
+{
+    vec![in alloc; None; 16]
 }

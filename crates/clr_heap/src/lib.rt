@@ -1,11 +1,14 @@
-//! The heap: two segments, and the objects that stand in them.
+//! A heap of segments whose words hold objects and free items.
 #![tactic(auto)]
 
-mod heap;
-
+pub use crate::clients::{clear_marks, count_objects};
+pub use crate::heap::{AcquireFault, Heap};
+pub use crate::walk::Walk;
 pub use clr_types::{Item, SegInfo, SegKind};
-pub use heap::Heap;
 
-/// There was no memory.
-#[derive(Clone, Copy, Debug, PartialEq, Eq)]
-pub struct NoMemory;
+mod clients;
+mod heap;
+mod items;
+#[cfg(test)]
+mod tests;
+mod walk;

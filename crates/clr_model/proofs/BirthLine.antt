@@ -124,10 +124,6 @@ module _ (m : Machine) (t k : ℕ) (name : List ℕ) (len : Option ℕ) where
         subst (λ n. does_by n (nat_le m.options.large (born_size m n (unwrap_or len 0))) outcome new) (sym (number_is type h.known))
         (subst (λ b. does_by type b outcome new) (sym (lt-leb m.options.large size h.small)) made)
 
-    -- there may be no memory for it
-    pub birth_lacks_memory : Obeys m (new_object t k name len) (refused NoMemory) m
-    birth_lacks_memory = obeys_if _ _ (does_small _ _ (inr (refl, (refl, refl))))
-
     -- the object is born in the tail, and its place is the answer
     pub birth_obeys : (row : TypeRow) → IsTailBirth m t k type (unwrap_or len 0) row
         → Obeys m (new_object t k name len) (answered (Place (ephemeral m.layout).end)) (tail_born m t k type (unwrap_or len 0))
@@ -235,9 +231,3 @@ module _ (seen : Machine) (t k : ℕ) (name : List ℕ) (len : Option ℕ) where
       (λ s. MayBear s t k name len type × (rest_of s.layout t ≡ None) × (fits_in_tail (ephemeral s.layout) (born_size s type (unwrap_or len 0)) ≡ false) × (s.layout.free ≡ [])) Oom
       (λ m named given. birth_refuses_room m t k name len type named (may_bear_of-picture m t k name len type given.0) given.1 given.2 given.3)
       seen (may, bare, full, empty)
-
-  -- and one for which there is no memory
-  pub birth_carried_lack : (type : ℕ) → MayBear seen t k name len type → IsCarried seen (new_object t k name len) (refused NoMemory) seen
-  birth_carried_lack type may =
-      refusal_carried_by (new_object t k name len) (λ s. MayBear s t k name len type) NoMemory
-      (λ m named given. birth_lacks_memory m t k name len type named (may_bear_of-picture m t k name len type given)) seen may

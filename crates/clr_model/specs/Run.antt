@@ -48,16 +48,16 @@ opening options = record {
 -- ---- lines
 
 -- the bytes are the line of this instruction, which is built
-pub record Reads (m : Machine) (bytes : List ℕ) (i : Instruction) : Type 0 where
+pub record Reads (bytes : List ℕ) (i : Instruction) : Type 0 where
   pub short : length bytes ≤ 4096
   pub line : IsLine bytes i
-  pub built : IsTrue (is_built m.types i)
+  pub built : IsTrue (is_built i)
 
 -- One line of bytes is refused for its length, or for its syntax where it says nothing, or it is obeyed.
 pub data Step (m : Machine) (bytes : List ℕ) (outcome : Outcome) (new : Machine) : Type 0 where
   too_long : IsTrue limits_lines → 4096 < length bytes → outcome ≡ refused refusal.TooLong → new ≡ m → Step m bytes outcome new
-  no_syntax : (IsTrue limits_lines → length bytes ≤ 4096) → ((i : Instruction) → Reads m bytes i → ⊥) → outcome ≡ refused refusal.Syntax → new ≡ m → Step m bytes outcome new
-  obeyed : (i : Instruction) → Reads m bytes i → Obeys m i outcome new → Step m bytes outcome new
+  no_syntax : (IsTrue limits_lines → length bytes ≤ 4096) → ((i : Instruction) → Reads bytes i → ⊥) → outcome ≡ refused refusal.Syntax → new ≡ m → Step m bytes outcome new
+  obeyed : (i : Instruction) → Reads bytes i → Obeys m i outcome new → Step m bytes outcome new
 
 -- each line in its turn, from one state to another
 abbrev pub Run : Machine → List (List ℕ) → List Outcome → Machine → Type 0

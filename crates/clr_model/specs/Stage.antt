@@ -1,18 +1,10 @@
 -- Which lines and which steps of the machine are built: all else speaks of the whole machine.
-use Rattle.std.specs.Prelude.{Bool, true, false, List, length, ◌==◌, nat_lt, nat_le, ◌&&◌, not, is_none, bytes_eq}
-use Rattle.clr_types.specs.Types.{TypeRow, Form, class_form, references_form, bytes_form, structs_form, free_name}
+use Rattle.std.specs.Prelude.{Bool, true, false, ◌==◌, nat_lt, ◌&&◌, not, is_none}
 use Rattle.clr_model.specs.declared.Mode.{Mode}
 use Rattle.clr_model.specs.declared.Mode.TheVariants.{Full}
 use Rattle.clr_model.specs.declared.Life.{Life}
 use Rattle.clr_model.specs.declared.Life.TheVariants.{Any}
 use Rattle.clr_model.specs.Instructions.{Instruction, DumpOptions, define_type, new_object, dump_heap}
-
--- a class of at most 256 slots without finaliser
-abbrev pub is_plain_class : Form → Bool → Bool
-is_plain_class (class_form pattern) finalizer = not finalizer && nat_le (length pattern) 256
-is_plain_class references_form finalizer = false
-is_plain_class bytes_form finalizer = false
-is_plain_class (structs_form pattern) finalizer = false
 
 abbrev pub is_full_mode : Mode → Life → Bool
 is_full_mode Full Any = true
@@ -22,12 +14,12 @@ is_full_mode _ _ = false
 abbrev pub is_plain_dump : DumpOptions → Bool
 is_plain_dump o = is_full_mode o.mode o.life && ((is_none o.mt && is_none o.name) && (is_none o.least && is_none o.greatest))
 
--- one class may be defined, objects of it made by the first thread, and the heap shown
-abbrev pub is_built : List TypeRow → Instruction → Bool
-is_built types (define_type name form finalizer) = (length types == 0) && (is_plain_class form finalizer && not (bytes_eq name free_name))
-is_built types (new_object t k name len) = (t == 1) && (nat_lt k 64 && is_none len)
-is_built types (dump_heap options) = is_plain_dump options
-is_built types _ = false
+-- types without finaliser may be defined, objects of them made by the first thread, and the heap shown
+abbrev pub is_built : Instruction → Bool
+is_built (define_type name form finalizer) = not finalizer
+is_built (new_object t k name len) = (t == 1) && nat_lt k 64
+is_built (dump_heap options) = is_plain_dump options
+is_built _ = false
 
 -- a line of more than 4,096 bytes is refused for its length; without that it is one that says nothing
 abbrev pub limits_lines : Bool
@@ -39,7 +31,7 @@ has_contexts = false
 
 -- a birth takes memory, so it may be refused for that
 abbrev pub births_take_memory : Bool
-births_take_memory = true
+births_take_memory = false
 
 -- an allocation may collect; without that it is refused where the own context and the heap as it is have no room
 abbrev pub allocation_collects : Bool

@@ -121,8 +121,8 @@ whole_line old new line outcome (too_long limits long is stays) =
 whole_line old new line outcome (no_syntax short none is stays) =
     no_syntax
     (λ limits. let s = short limits in let l = length-take 4097 line in omega (arith, l))
-    (λ i r. let l = r.short in none i (subst (λ (bytes : List ℕ). Reads old bytes i) (sym (take_all 4097 line (omega arith))) r)) is stays
+    (λ i r. let l = r.short in none i (subst (λ (bytes : List ℕ). Reads bytes i) (sym (take_all 4097 line (omega arith))) r)) is stays
 whole_line old new line outcome (obeyed i r obeys) =
     let s = r.short in
     let l = length-take 4097 line in
-    obeyed i (subst (λ (bytes : List ℕ). Reads old bytes i) (take_all 4097 line (omega (arith, l))) r) obeys
+    obeyed i (subst (λ (bytes : List ℕ). Reads bytes i) (take_all 4097 line (omega (arith, l))) r) obeys

@@ -1,22 +1,20 @@
 -- What the reader finds in a line is the instruction whose line it is.
-use Rattle.std.proofs.Common.{◌≡◌, ◌≢◌, ◌==◌, ◌&&◌, ◌∙◌, ℕ, ◌+◌, ◌<◌, ◌^◌, ◌%◌, Bool, true, false, List, [], ◌∷◌, ◌++◌, length, refl, sym, ap, subst, arith, Option, Some, None, decimal, codes, not}
-use Rattle.std.specs.Prelude.{IsTrue, nat_le, nat_lt, is_none}
+use Rattle.std.proofs.Common.{◌≡◌, ◌≢◌, ◌==◌, ◌&&◌, ◌∙◌, ℕ, ◌+◌, ◌<◌, ◌^◌, ◌%◌, Bool, true, false, List, [], ◌∷◌, ◌++◌, append-nil, refl, sym, ap, subst, arith, Option, Some, None, IfSome, decimal, codes, not}
+use Rattle.std.specs.Prelude.{IsTrue, is_none}
 use Rattle.std.specs.List.{AllByRecursion, list_all}
-use Rattle.std.specs.Str.{bytes_eq}
-use Rattle.std.proofs.lemmas.Bool.{and_parts, both_ways, eqb-true, eq-eqb, ltb-true, lt-ltb, leb-true, le-leb, not-true}
+use Rattle.std.proofs.lemmas.Bool.{and_parts, both_ways, eqb-true, eq-eqb, ltb-true, lt-ltb, not-true}
 use Rattle.std.proofs.lemmas.Fmt.{decimal_by_steps, decimal_digit}
-use Rattle.std.proofs.lemmas.Slice.Eq.{bytes_eq-Decides}
-use Rattle.clr_types.specs.Types.{TypeRow, class_form, references_form, bytes_form, structs_form, is_pattern_byte, free_name}
+use Rattle.clr_types.specs.Types.{Form, class_form, references_form, bytes_form, structs_form, is_pattern_byte}
 use Rattle.clr_model.specs.declared.Mode.{Mode}
 use Rattle.clr_model.specs.declared.Life.{Life}
 use Rattle.clr_model.specs.declared.Mode.TheVariants.{Full, Stat, Short}
 use Rattle.clr_model.specs.declared.Life.TheVariants.{Any, Live, Dead}
 use Rattle.clr_model.specs.Instructions.{Instruction, DumpOptions, define_type, new_object, dump_heap}
-use Rattle.clr_model.specs.LineGrammar.{IsLine, IsWellFormed, is_name, is_name_start, is_name_byte, pattern_word, local_word, words, words_of}
+use Rattle.clr_model.specs.LineGrammar.{IsLine, IsWellFormed, IsForm, IsFinal, IsWord, is_name, is_name_start, is_name_byte, form_words, pattern_word, local_word, number_words, words, words_of}
 use Rattle.clr_model.specs.ReplyText.{spaced}
 use Rattle.clr_model.specs.Stage.{is_built, is_full_mode, is_plain_dump}
 use Rattle.clr_model.proofs.Spelling.{IsUnspaced, words-spaced, spaced-words}
-use Rattle.clr_run.specs.BuiltLines.{BuiltLine, class_line, birth_line, heap_line, instruction_of, no_options, Spells}
+use Rattle.clr_run.specs.BuiltLines.{BuiltLine, type_line, birth_line, heap_line, instruction_of, no_options, Spells}
 
 -- ---- words have no spaces
 
@@ -63,24 +61,41 @@ decimal_unspaced n lt = decimal_by_steps (λ n ds. IsUnspaced ds)
     (λ n ds large h. unspaced_more ds (48 + n % 10) h (λ e. omega arith))
     n lt
 
--- ---- from words to instructions
+text_unspaced : (bytes : List ℕ) → list_all (λ b. not (b == 32)) bytes ≡ true → IsUnspaced bytes
+text_unspaced [] h = tt
+text_unspaced (b ∷ bytes) h = let p = and_parts _ _ h in (λ e. both_ways (b == 32) (not-true _ p.0) (eq-eqb b 32 e), text_unspaced bytes p.1)
 
-same_bytes : (xs ys : List ℕ) → xs ≢ ys → bytes_eq xs ys ≡ false
-same_bytes xs ys other = go (bytes_eq xs ys) refl
-  where
-    go : (b : Bool) → bytes_eq xs ys ≡ b → b ≡ false
-    go true e = absurd (other ((bytes_eq-Decides xs ys).0 e))
-    go false e = refl
+-- ---- the words of a form and of a length
+
+form_unspaced : (form : Form) → IsForm form → AllByRecursion IsUnspaced (form_words form)
+form_unspaced (class_form pattern) h = (text_unspaced (codes "class") refl, (pattern_unspaced pattern h, tt))
+form_unspaced references_form h = (text_unspaced (codes "refs") refl, tt)
+form_unspaced bytes_form h = (text_unspaced (codes "bytes") refl, tt)
+form_unspaced (structs_form pattern) h = (text_unspaced (codes "structs") refl, (pattern_unspaced pattern h, tt))
+
+number_unspaced : (len : Option ℕ) → IfSome len IsWord → AllByRecursion IsUnspaced (number_words len)
+number_unspaced None h = tt
+number_unspaced (Some n) h = (decimal_unspaced n h, tt)
+
+-- ---- from words to instructions
 
 -- the words of a line that is read are those of its instruction
 pub words_are : (ws : List (List ℕ)) (line : BuiltLine) → Spells ws line → ws ≡ words_of (instruction_of line)
-words_are ws (class_line name pattern) h = h.1 ∙ ap (λ (word : List ℕ). codes "type" ∷ name ∷ codes "class" ∷ word ∷ []) h.4.spelled
-words_are ws (birth_line local name) h = h.0 ∙ ap (λ (d : List ℕ). (116 ∷ d) ∷ codes "new" ∷ local_word local ∷ name ∷ []) (sym (decimal_digit 1 (omega arith)))
+words_are ws (type_line name form) h =
+    h.1 ∙ ap (λ (behind : List (List ℕ)). codes "type" ∷ name ∷ behind) (h.3.spelled_is ∙ sym (append-nil (form_words form)))
+words_are ws (birth_line local name len) h = h.0 ∙ ap (λ (d : List ℕ). (116 ∷ d) ∷ codes "new" ∷ local_word local ∷ name ∷ number_words len) (sym (decimal_digit 1 (omega arith)))
 words_are ws heap_line h = h
 
+-- a type without finaliser may have any form
+unfinal : (form : Form) → IsFinal form false
+unfinal (class_form pattern) = tt
+unfinal references_form = refl
+unfinal bytes_form = refl
+unfinal (structs_form pattern) = refl
+
 pub formed : (ws : List (List ℕ)) (line : BuiltLine) → Spells ws line → IsWellFormed (instruction_of line)
-formed ws (class_line name pattern) h = (h.2, h.4.bytes, tt)
-formed ws (birth_line local name) h = let small = h.1 in (omega arith, omega arith, h.2, tt)
+formed ws (type_line name form) h = (h.2, h.3.bytes, unfinal form)
+formed ws (birth_line local name len) h = let small = h.1 in (omega arith, omega arith, h.2, h.3)
 formed ws heap_line h = record { mt = tt; name = tt; one_type = tt; least = tt; greatest = tt }
 
 -- a line that is read is the line of its instruction
@@ -90,21 +105,11 @@ line_found bytes line h = record {
   spelled = sym (spaced-words bytes) ∙ ap spaced (words_are (words bytes) line h);
 }
 
--- whether the line may stand only before a type is defined
-abbrev pub comes_first : BuiltLine → Bool
-comes_first (class_line name pattern) = true
-comes_first (birth_line local name) = false
-comes_first heap_line = false
-
-pub built_found : (types : List TypeRow) (ws : List (List ℕ)) (line : BuiltLine) → Spells ws line → (comes_first line ≡ true → length types ≡ 0) → is_built types (instruction_of line) ≡ true
-built_found types ws (class_line name pattern) h none =
-    let first : (length types == 0) ≡ true = eq-eqb (length types) 0 (none refl) in
-    let short : nat_le (length pattern) 256 ≡ true = le-leb (length pattern) 256 h.4.short in
-    let other : bytes_eq name free_name ≡ false = same_bytes name free_name h.3 in
-    rw (first, short, other) refl
-built_found types ws (birth_line local name) h none =
-    let low : nat_lt local 64 ≡ true = lt-ltb local 64 h.1 in rw low refl
-built_found types ws heap_line h none = refl
+-- and that instruction is built
+pub built_found : (ws : List (List ℕ)) (line : BuiltLine) → Spells ws line → is_built (instruction_of line) ≡ true
+built_found ws (type_line name form) h = refl
+built_found ws (birth_line local name len) h = lt-ltb local 64 h.1
+built_found ws heap_line h = refl
 
 -- ---- from instructions to words
 
@@ -113,78 +118,56 @@ words_back : (bytes : List ℕ) (i : Instruction) (w : List ℕ) (ws : List (Lis
 words_back bytes i w ws e is free = ap words (e ∙ ap spaced is) ∙ words-spaced w ws free
 
 -- what the reader has to find where a line says something that is built
-pub record Found (types : List TypeRow) (bytes : List ℕ) (i : Instruction) : Type 0 where
+pub record Found (bytes : List ℕ) (i : Instruction) : Type 0 where
   pub line : BuiltLine
   pub spelled : Spells (words bytes) line
   pub is : i ≡ instruction_of line
-  pub none : comes_first line ≡ true → length types ≡ 0
 
-not_free : (name : List ℕ) → not (bytes_eq name free_name) ≡ true → name ≢ free_name
-not_free name h e = absurd (both_ways (bytes_eq name free_name) (not-true _ h) ((bytes_eq-Decides name free_name).1 e))
+found_type : (bytes name : List ℕ) (form : Form) (finalizer : Bool) → IsLine bytes (define_type name form finalizer) → is_built (define_type name form finalizer) ≡ true → Found bytes (define_type name form finalizer)
+found_type bytes name form true h built = absurd (both_ways false refl built)
+found_type bytes name form false h built = record {
+  line = type_line name form;
+  spelled = (
+    form_words form,
+    words_back bytes (define_type name form false) (codes "type") (name ∷ form_words form) h.spelled
+        (ap (λ (behind : List (List ℕ)). codes "type" ∷ name ∷ behind) (append-nil (form_words form)))
+        (text_unspaced (codes "type") refl, (name_unspaced name h.formed.0, form_unspaced form h.formed.1)),
+    h.formed.0,
+    record { spelled_is = refl; bytes = h.formed.1 },
+  );
+  is = refl;
+}
 
-text_unspaced : (bytes : List ℕ) → list_all (λ b. not (b == 32)) bytes ≡ true → IsUnspaced bytes
-text_unspaced [] h = tt
-text_unspaced (b ∷ bytes) h = let p = and_parts _ _ h in (λ e. both_ways (b == 32) (not-true _ p.0) (eq-eqb b 32 e), text_unspaced bytes p.1)
-
-found_class : (types : List TypeRow) (bytes name pattern : List ℕ) (finalizer : Bool) → IsLine bytes (define_type name (class_form pattern) finalizer)
-    → is_built types (define_type name (class_form pattern) finalizer) ≡ true → Found types bytes (define_type name (class_form pattern) finalizer)
-found_class types bytes name pattern true h built =
-    let a = and_parts (length types == 0) false built in
-    absurd (both_ways false refl a.1)
-found_class types bytes name pattern false h built =
-    let a = and_parts (length types == 0) _ built in
-    let b = and_parts (nat_le (length pattern) 256) _ a.1 in
-    record {
-      line = class_line name pattern;
-      spelled = (
-        pattern_word pattern,
-        words_back bytes (define_type name (class_form pattern) false) (codes "type") (name ∷ codes "class" ∷ pattern_word pattern ∷ []) h.spelled refl
-            (text_unspaced (codes "type") refl, (name_unspaced name h.formed.0, (text_unspaced (codes "class") refl, (pattern_unspaced pattern h.formed.1, tt)))),
-        h.formed.0,
-        not_free name b.1,
-        record { spelled = refl; bytes = h.formed.1; short = leb-true _ _ b.0 },
-      );
-      is = refl;
-      none = λ e. eqb-true _ _ a.0;
-    }
-
-found_birth : (types : List TypeRow) (bytes : List ℕ) (t local : ℕ) (name : List ℕ) (len : Option ℕ) → IsLine bytes (new_object t local name len)
-    → is_built types (new_object t local name len) ≡ true → Found types bytes (new_object t local name len)
-found_birth types bytes t local name (Some n) h built =
+found_birth : (bytes : List ℕ) (t local : ℕ) (name : List ℕ) (len : Option ℕ) → IsLine bytes (new_object t local name len) → is_built (new_object t local name len) ≡ true → Found bytes (new_object t local name len)
+found_birth bytes t local name len h built =
     let a = and_parts (t == 1) _ built in
-    let b = and_parts (nat_lt local 64) _ a.1 in
-    absurd (both_ways false refl b.1)
-found_birth types bytes t local name None h built =
-    let a = and_parts (t == 1) _ built in
-    let b = and_parts (nat_lt local 64) _ a.1 in
     let first : t ≡ 1 = eqb-true _ _ a.0 in
-    let low : local < 64 = ltb-true _ _ b.0 in
-    let P : ℕ → Type 0 = λ n. IsLine bytes (new_object n local name None) → Found types bytes (new_object n local name None) in
-    subst P (sym first) (λ (l : IsLine bytes (new_object 1 local name None)). record {
-      line = birth_line local name;
+    let low : local < 64 = ltb-true _ _ a.1 in
+    let P : ℕ → Type 0 = λ n. IsLine bytes (new_object n local name len) → Found bytes (new_object n local name len) in
+    subst P (sym first) (λ (l : IsLine bytes (new_object 1 local name len)). record {
+      line = birth_line local name len;
       spelled = (
-        words_back bytes (new_object 1 local name None) (codes "t1") (codes "new" ∷ local_word local ∷ name ∷ []) l.spelled
-            (ap (λ (d : List ℕ). (116 ∷ d) ∷ codes "new" ∷ local_word local ∷ name ∷ []) (decimal_digit 1 (omega arith)))
-            (text_unspaced (codes "t1") refl, (text_unspaced (codes "new") refl, (((λ e. omega arith), decimal_unspaced local (omega arith)), (name_unspaced name l.formed.2, tt)))),
+        words_back bytes (new_object 1 local name len) (codes "t1") (codes "new" ∷ local_word local ∷ name ∷ number_words len) l.spelled
+            (ap (λ (d : List ℕ). (116 ∷ d) ∷ codes "new" ∷ local_word local ∷ name ∷ number_words len) (decimal_digit 1 (omega arith)))
+            (text_unspaced (codes "t1") refl, (text_unspaced (codes "new") refl, (((λ e. omega arith), decimal_unspaced local (omega arith)), (name_unspaced name l.formed.2, number_unspaced len l.formed.3)))),
         low,
         l.formed.2,
+        l.formed.3,
       );
       is = refl;
-      none = λ e. absurd (both_ways false refl e);
     }) h
 
 no_option : {X : Type 0} (o : Option X) → is_none o ≡ true → o ≡ None
 no_option None h = refl
 no_option (Some x) h = absurd (both_ways false refl h)
 
-found_dump : (types : List TypeRow) (bytes : List ℕ) (o : DumpOptions) → IsLine bytes (dump_heap o) → is_plain_dump o ≡ true → o ≡ no_options → Found types bytes (dump_heap o)
-found_dump types bytes o h built e =
-    let P : DumpOptions → Type 0 = λ p. IsLine bytes (dump_heap p) → Found types bytes (dump_heap p) in
+found_dump : (bytes : List ℕ) (o : DumpOptions) → IsLine bytes (dump_heap o) → is_plain_dump o ≡ true → o ≡ no_options → Found bytes (dump_heap o)
+found_dump bytes o h built e =
+    let P : DumpOptions → Type 0 = λ p. IsLine bytes (dump_heap p) → Found bytes (dump_heap p) in
     subst P (sym e) (λ (l : IsLine bytes (dump_heap no_options)). record {
       line = heap_line;
       spelled = words_back bytes (dump_heap no_options) (codes "dumpheap") [] l.spelled refl (text_unspaced (codes "dumpheap") refl, tt);
       is = refl;
-      none = λ e. absurd (both_ways false refl e);
     }) h
 
 plain_dump : (o : DumpOptions) → is_plain_dump o ≡ true → o ≡ no_options
@@ -210,11 +193,8 @@ plain_dump o h =
     full_mode Short _ h = absurd (both_ways false refl h)
 
 -- the line of an instruction that is built is read
-pub found : (types : List TypeRow) (bytes : List ℕ) (i : Instruction) → IsLine bytes i → is_built types i ≡ true → Found types bytes i
-found types bytes (define_type name (class_form pattern) finalizer) h built = found_class types bytes name pattern finalizer h built
-found types bytes (define_type name references_form finalizer) h built = let a = and_parts (length types == 0) false built in absurd (both_ways false refl a.1)
-found types bytes (define_type name bytes_form finalizer) h built = let a = and_parts (length types == 0) false built in absurd (both_ways false refl a.1)
-found types bytes (define_type name (structs_form pattern) finalizer) h built = let a = and_parts (length types == 0) false built in absurd (both_ways false refl a.1)
-found types bytes (new_object t local name len) h built = found_birth types bytes t local name len h built
-found types bytes (dump_heap o) h built = found_dump types bytes o h built (plain_dump o built)
-found types bytes _ h built = absurd (both_ways false refl built)
+pub found : (bytes : List ℕ) (i : Instruction) → IsLine bytes i → is_built i ≡ true → Found bytes i
+found bytes (define_type name form finalizer) h built = found_type bytes name form finalizer h built
+found bytes (new_object t local name len) h built = found_birth bytes t local name len h built
+found bytes (dump_heap o) h built = found_dump bytes o h built (plain_dump o built)
+found bytes _ h built = absurd (both_ways false refl built)

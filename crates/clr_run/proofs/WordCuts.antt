@@ -1,8 +1,7 @@
 -- Words of a line and decimal numbers.
-use Rattle.std.proofs.Common.{◌≡◌, ℕ, ◌+◌, ◌-◌, ◌/◌, ◌%◌, ◌<◌, ◌≤◌, Bool, true, false, cond, not, List, [], ◌∷◌, ◌++◌, length, take, drop, Some, None, position, count_by, nat_eq, nat_lt, refl, ap, arith, decimal}
+use Rattle.std.proofs.Common.{◌≡◌, ℕ, ◌+◌, ◌-◌, ◌<◌, ◌≤◌, Bool, true, false, cond, not, List, [], ◌∷◌, length, take, drop, Some, None, position, count_by, nat_eq, nat_lt, refl, ap, arith}
 use Rattle.std.specs.List.{position_or_len}
 use Rattle.std.proofs.lemmas.Bool.{ltb-true, ltb-false, not-true}
-use Rattle.std.proofs.lemmas.Fmt.{decimal_digit, decimal_step}
 use Rattle.std.proofs.lemmas.List.{take_rest}
 use Rattle.std.proofs.lemmas.List.Sums.{prefix_len_passes}
 use Rattle.std.proofs.lemmas.List.Splits.{slice_split_none, slice_split_first, length-slice_split}
@@ -32,24 +31,11 @@ words_some line at e =
     = slice_split_first (λ b. nat_eq b 32) line 0 (ltb-true _ _ h.0) in
     rw (take_rest, ← h.1) first
 
--- two digits
-pub decimal_two : (k : ℕ) → 10 ≤ k → k < 100 → decimal k ≡ (k / 10 + 48) ∷ (k % 10 + 48) ∷ []
-decimal_two k low high =
-    let tens : k / 10 < 10 = omega arith in
-    let two : decimal k ≡ decimal (k / 10) ++ ((48 + k % 10) ∷ []) = decimal_step k low (omega arith) in
-    let one : decimal (k / 10) ≡ (48 + k / 10) ∷ [] = decimal_digit (k / 10) tens in
-    let a : 48 + k / 10 ≡ k / 10 + 48 = omega arith in
-    let b : 48 + k % 10 ≡ k % 10 + 48 = omega arith in
-    rw (two, one, a, b) refl
-
-pub decimal_one : (k : ℕ) → k < 10 → decimal k ≡ (k % 10 + 48) ∷ []
-decimal_one k lt = let a : 48 + k ≡ k % 10 + 48 = omega arith in rw (decimal_digit k lt, a) refl
-
--- four words and a rest are more than four words
-pub more_than_four : (line one two three rest a b c d : List ℕ) → words line ≡ a ∷ words one → words one ≡ b ∷ words two →
-    words two ≡ c ∷ words three → words three ≡ d ∷ words rest → (length (words line) ≡ 1 → ⊥) × (length (words line) ≡ 4 → ⊥)
-more_than_four line one two three rest a b c d e f g h =
+-- five words and a rest are more than five words
+pub more_than_five : (line one two three four rest a b c d e : List ℕ) → words line ≡ a ∷ words one → words one ≡ b ∷ words two →
+    words two ≡ c ∷ words three → words three ≡ d ∷ words four → words four ≡ e ∷ words rest → 5 < length (words line)
+more_than_five line one two three four rest a b c d e f g h i j =
     let n : length (words rest) ≡ count_by (λ b. nat_eq b 32) rest + 1 = length-slice_split (λ b. nat_eq b 32) rest in
-    let whole : words line ≡ a ∷ b ∷ c ∷ d ∷ words rest = rw (e, f, g, h) refl in
-    let m : length (words line) ≡ length (a ∷ b ∷ c ∷ d ∷ words rest) = ap length whole in
-    (λ h. omega (arith, n, m), λ h. omega (arith, n, m))
+    let whole : words line ≡ a ∷ b ∷ c ∷ d ∷ e ∷ words rest = rw (f, g, h, i, j) refl in
+    let m : length (words line) ≡ length (a ∷ b ∷ c ∷ d ∷ e ∷ words rest) = ap length whole in
+    omega (arith, n, m)

@@ -3,7 +3,7 @@
 pub mod dump;
 pub mod outcome;
 
-ghost use Rattle.std.specs.Prelude.{◌≡◌, ◌<◌, Bool, List, ℕ, IfOk, false, replicate};
+ghost use Rattle.std.specs.Prelude.{◌≡◌, ◌<◌, Bool, ℕ, IfOk, false, replicate};
 ghost use Rattle.clr_types.specs.Types.{form_of};
 ghost use Rattle.clr_run.specs.Measures.{IsDefined, Measured};
 ghost use Rattle.clr_run.specs.Steps.{refusal_of_fault};
@@ -15,11 +15,15 @@ use crate::runtime::outcome::Outcome;
 use clr_heap::Heap;
 use clr_model::{Refusal, Reply};
 use clr_types::{DefineFault, Shape, TypeId, Types};
+use clr_view::{fits_tail, make_in_tail};
 use std::alloc::{AllocError, Global};
 use std::marker::Model;
 
 /// The bytes that are reserved for each of the two segments.
 const SEGMENT: u64 = 16_777_216;
+
+/// The bytes that all segments may reserve together.
+const LIMIT: u64 = 268_435_456;
 
 /// Objects of this many bytes and more are large.
 const LARGE: u64 = 85_000;
@@ -53,10 +57,9 @@ impl Model for Runtime {
 impl Runtime {
     ghost use Rattle.clr_model.specs.Machine.{Machine};
     ghost use Rattle.clr_model.specs.Instructions.{define_type, new_object};
-    ghost use Rattle.clr_model.specs.LineGrammar.{words};
     ghost use Rattle.clr_model.specs.Run.{StandsFor, opening, defaults};
     ghost use Rattle.clr_model.specs.Sos.{dumpheap_text};
-    ghost use Rattle.clr_run.specs.BuiltLines.{no_options, class_line, Spells};
+    ghost use Rattle.clr_run.specs.BuiltLines.{no_options};
     ghost use Rattle.clr_model.specs.Run.{Follows, FollowsLine};
     ghost use Rattle.clr_run.specs.Steps.{mt_outcome, place_outcome};
     ghost use Rattle.clr_run.specs.Outcomes.{outcome_of, CanShow};
@@ -65,13 +68,17 @@ impl Runtime {
     pub fn new(alloc: Global) -> Result<Runtime, NoMemory>
         ensures { IfOk result (λ runtime. StandsFor runtime (opening defaults)) }
     {
-        let (Ok(types), Ok(locals)) = (Types::new(alloc), null_locals(alloc, 1024)) else {
+        let (Ok(types), Ok(heap), Ok(locals)) = (
+            Types::new(alloc),
+            Heap::new(alloc, SEGMENT, LIMIT),
+            null_locals(alloc, 1024),
+        ) else {
             return Err(NoMemory);
         };
         Ok(Runtime {
             alloc,
             types,
-            heap: Heap::new(alloc, SEGMENT),
+            heap,
             locals,
         })
     }
@@ -86,7 +93,7 @@ impl Runtime {
         }
     }
 
-    // The type that a script defined under this name.
+    /// The type that a script defined under this name.
     fn defined(&self, name: &[u8]) -> Option<TypeId>
         ensures { IsDefined self.now.types name.now result }
     {
@@ -123,12 +130,10 @@ impl Runtime {
             Ok(made) => made,
             Err(refusal) => return Err(refusal),
         };
-        if !self.heap.fits_tail(size) {
+        if !fits_tail(&self.heap, size) {
             return Err(Refusal::Oom);
         }
-        let Ok(place) = self.heap.make_object(t, size, len.unwrap_or(0)) else {
-            return Err(Refusal::NoMemory);
-        };
+        let place = make_in_tail(&mut self.heap, &self.types, t, len.unwrap_or(0));
         self.locals[local as usize] = place;
         Ok(place)
     }
@@ -137,32 +142,22 @@ impl Runtime {
     fn dump(&self) -> Result<Vec<u8>, AllocError>
         ensures { IfOk result (λ text. (live : ℕ → Bool) → text.items ≡ dumpheap_text self.now live no_options) }
     {
-        listing_text(self.alloc, &self.types, self.heap.items())
+        listing_text(self.alloc, &self.types, &self.heap)
     }
 
-    // Defines the first type.
-    fn define_first(&mut self, name: &[u8], pattern: &[u8]) -> Outcome
-        ensures follows { (line : List ℕ) → Spells (words line) (class_line name.now pattern.now) → FollowsLine self.old line (outcome_of result) self.new }
-        ensures shows { CanShow result }
-    {
-        if self.types.count() > 1 {
-            return Outcome::Refused(Refusal::Syntax);
-        }
-        match self.define(name, Shape::Class(pattern)) {
-            Ok(mt) => Outcome::Reply(Reply::Mt(mt)),
-            Err(refusal) => Outcome::Refused(refusal),
-        }
-    }
-
-    /// Does what a line says.
+    /// Does what a line says, and tells its outcome. A line that is refused leaves the state as it was; one of more than 4,096
+    /// bytes is refused as one that says nothing.
     pub fn execute(&mut self, line: &[u8]) -> Outcome
         ensures follows { FollowsLine self.old line.now (outcome_of result) self.new }
         ensures shows { CanShow result }
     {
         match read_line(line) {
             None => Outcome::Refused(Refusal::Syntax),
-            Some(LineForm::Define { name, pattern }) => self.define_first(name, pattern),
-            Some(LineForm::New { local, name }) => match self.new_object(local, name, None) {
+            Some(LineForm::Define { name, shape }) => match self.define(name, shape) {
+                Ok(mt) => Outcome::Reply(Reply::Mt(mt)),
+                Err(refusal) => Outcome::Refused(refusal),
+            },
+            Some(LineForm::New { local, name, len }) => match self.new_object(local, name, len) {
                 Ok(place) => Outcome::Reply(Reply::Place(place)),
                 Err(refusal) => Outcome::Refused(refusal),
             },

@@ -2,6 +2,7 @@ ghost use Rattle.std.specs.Prelude.{◌<◌};
 
 mod adapters;
 mod faults;
+mod lines;
 mod scripts;
 
 use crate::{MemorySink, MemorySource, Status, Words, run};

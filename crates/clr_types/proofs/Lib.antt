@@ -5,6 +5,11 @@ pub mod NameLists
 pub mod Sizes
 pub mod TableRows
 pub mod Refusals
+pub mod Runs
+pub mod Offsets
+pub mod SlotKinds
+pub mod CursorSteps
+pub mod SlotsByForm
 pub mod GrownTables
 pub mod ChangedLists
 pub mod SegmentFacts

@@ -7,3 +7,5 @@ pub mod Laws
 pub mod Table
 pub mod Kept
 pub mod MethodTables
+pub mod Descriptors
+pub mod Cursors

@@ -3,19 +3,24 @@
 
 ghost use Rattle.std.specs.Prelude.{◌≡◌};
 ghost use Rattle.clr_types.specs.Laws.{RisingListsLaw};
+ghost use Rattle.clr_types.specs.Descriptors.{SeriesLaw, RisingOffsetsLaw, InsideLaw, LongestRunsLaw};
 
+pub mod descriptors;
 pub mod fault;
 pub mod item;
 mod method_table;
 mod names;
 pub mod segment;
 pub mod shape;
+pub mod slots;
 pub mod table;
 
+pub use descriptors::Series;
 pub use fault::{DefineFault, NoMemory};
 pub use item::Item;
 pub use segment::{SegInfo, SegKind};
 pub use shape::{Shape, Slot};
+pub use slots::Slots;
 pub use table::Types;
 
 /// The number of a type, by which its method table word is found. `Free`, the type of unused space, is 0.
@@ -36,3 +41,15 @@ pub enum Kind {
 pub fn rising_lists_agree()
     ensures { RisingListsLaw }
 {}
+
+/// The series of a form spell the offsets of the references of its objects, which rise and lie inside the object, and no run
+/// of references could be longer.
+pub fn series_spell_references()
+    ensures spelled { SeriesLaw }
+    ensures rising { RisingOffsetsLaw }
+    ensures inside { InsideLaw }
+    ensures longest { LongestRunsLaw }
+{}
+
+#[cfg(test)]
+mod tests;

@@ -1,13 +1,16 @@
 //! What is kept of each type besides its name.
 
-ghost use Rattle.std.specs.Prelude.{◌≡◌, ◌<◌, ◌≤◌, true, false, IfOk, SomeIff};
+ghost use Rattle.std.specs.Prelude.{◌≡◌, ◌<◌, ◌≤◌, true, false, length, slice_get, Some, IfOk, SomeIff};
 ghost use Rattle.std.specs.List.{list_all};
-ghost use Rattle.clr_types.specs.Types.{form_of, is_lawful_form, is_array, is_pattern_byte, bytes_form};
+ghost use Rattle.clr_types.specs.Types.{form_of, is_lawful_form, is_array, is_pattern_byte, bytes_form, slot_kinds, slot_offset};
 ghost use Rattle.clr_types.specs.Types as types;
 ghost use Rattle.clr_types.specs.Table as table;
+ghost use Rattle.clr_types.specs.Descriptors as descriptors;
 ghost use Rattle.clr_types.specs.Kept.{form_of_pattern};
 
-use crate::{NoMemory, Shape};
+use crate::descriptors::series_of;
+use crate::{NoMemory, Series, Shape, Slot, Slots};
+use smallvec::SmallVec;
 use std::alloc::Global;
 use std::marker::Model;
 
@@ -31,6 +34,7 @@ pub(crate) struct MethodTable {
     finalizer: bool,
     base_size: u64,
     element_size: u64,
+    series: SmallVec<Series, 4>,
 }
 
 impl Model for MethodTable {
@@ -47,7 +51,7 @@ impl Model for MethodTable {
 
 impl MethodTable {
     /// The method table of unused space.
-    pub(crate) fn free() -> MethodTable
+    pub(crate) fn free(alloc: Global) -> MethodTable
         ensures form { result.form ≡ bytes_form }
         ensures finalizer { result.finalizer ≡ false }
     {
@@ -56,6 +60,7 @@ impl MethodTable {
             finalizer: false,
             base_size: 24,
             element_size: 1,
+            series: SmallVec::new(alloc),
         }
     }
 
@@ -70,12 +75,14 @@ impl MethodTable {
     {
         let base_size = base_size(shape, finalizer);
         let element_size = element_size(shape, finalizer);
+        let series = series_of(alloc, shape, finalizer)?;
         let pattern = owned(alloc, shape)?;
         Ok(MethodTable {
             pattern,
             finalizer,
             base_size,
             element_size,
+            series,
         })
     }
 
@@ -86,13 +93,107 @@ impl MethodTable {
     }
 
     /// Whether objects have a length word.
+    #[inline]
     pub(crate) fn has_length(&self) -> bool
         ensures { result ≡ is_array self.now.form }
     {
         self.element_size > 0
     }
 
+    /// The shape that the type was defined with.
+    pub(crate) fn shape(&self) -> Shape<'_>
+        ensures { form_of result ≡ self.now.form }
+    {
+        match &self.pattern {
+            Pattern::Class(pattern) => Shape::Class(pattern.as_slice()),
+            Pattern::RefArray => Shape::RefArray,
+            Pattern::ByteArray => Shape::ByteArray,
+            Pattern::StructArray(pattern) => Shape::StructArray(pattern.as_slice()),
+        }
+    }
+
+    /// The runs of references, by rising offset.
+    pub(crate) fn series(&self) -> &[Series]
+        ensures { result.now ≡ descriptors.series_of self.now.form }
+    {
+        self.series.as_slice()
+    }
+
+    /// How many slots an object of `len` elements has.
+    pub(crate) fn slot_count(&self, len: u64) -> u64
+        requires { types.size_of self.now.form len ≤ 1073741824 }
+        ensures { result ≡ length (slot_kinds self.now.form len) }
+    {
+        match &self.pattern {
+            Pattern::Class(pattern) => pattern.len() as u64,
+            Pattern::RefArray | Pattern::ByteArray => len,
+            Pattern::StructArray(pattern) => pattern.len() as u64 * len,
+        }
+    }
+
+    /// Slot `i` of an object of `len` elements.
+    pub(crate) fn slot(&self, len: u64, i: u64) -> Slot
+        requires size { types.size_of self.now.form len ≤ 1073741824 }
+        requires below { i < length (slot_kinds self.now.form len) }
+        ensures offset { result.offset ≡ slot_offset self.now.form i }
+        ensures reference { slice_get (slot_kinds self.now.form len) i ≡ Some result.reference }
+    {
+        match &self.pattern {
+            Pattern::Class(pattern) => Slot {
+                offset: 8 + 8 * i,
+                reference: pattern[i as usize] == b'r',
+            },
+            Pattern::RefArray => Slot {
+                offset: 16 + 8 * i,
+                reference: true,
+            },
+            Pattern::ByteArray => Slot {
+                offset: 16 + i,
+                reference: false,
+            },
+            Pattern::StructArray(pattern) => Slot {
+                offset: 16 + 8 * i,
+                reference: pattern[i as usize % pattern.len()] == b'r',
+            },
+        }
+    }
+
+    /// The offsets of the references of an object of `len` elements, by rising offset, as the series spell them.
+    pub(crate) fn slots(&self, len: u64) -> Slots<'_>
+        requires { types.size_of self.now.form len ≤ 1073741824 }
+        ensures { result ≡ descriptors.reference_offsets self.now.form len }
+    {
+        let series = self.series.as_slice();
+        match &self.pattern {
+            Pattern::Class(_) => Slots::new(series, self.base_size, 0, 1),
+            Pattern::RefArray if len > 0 => Slots::new(
+                series,
+                self.base_size + self.element_size * len,
+                0,
+                1,
+            ),
+            Pattern::RefArray => Slots::none(),
+            Pattern::ByteArray => Slots::none(),
+            Pattern::StructArray(_) => Slots::new(
+                series,
+                self.base_size + self.element_size,
+                self.element_size,
+                len,
+            ),
+        }
+    }
+
+    /// The bytes of an object of `len` elements, where they are at most 2^30.
+    pub(crate) fn item_size(&self, len: u64) -> u64
+        requires { types.size_of self.now.form len ≤ 1073741824 }
+        ensures { result ≡ types.size_of self.now.form len }
+    {
+        let counted = len.min(LARGEST_OBJECT);
+        (self.base_size + self.element_size * counted + 7) / 8 * 8
+    }
+
     /// The bytes of an object of `len` elements, and none where they are more than 2^30.
+    #[inline]
     pub(crate) fn size(&self, len: u64) -> Option<u64>
         ensures { SomeIff result (types.size_of self.now.form len ≤ 1073741824) (types.size_of self.now.form len) }
     {

@@ -1,14 +1,15 @@
 //! The table of types.
 
-ghost use Rattle.std.specs.Prelude.{◌≡◌, ◌≢◌, ◌+◌, ◌<◌, ◌≤◌, ◌↔◌, [], ◌∷◌, ◌++◌, length, true, false, Some, None, IsSome, IfOk, OnOk, OnErr, SomeIff, option_map};
+ghost use Rattle.std.specs.Prelude.{◌≡◌, ◌≢◌, ℕ, ◌+◌, ◌<◌, ◌≤◌, ◌↔◌, [], ◌∷◌, ◌++◌, length, slice_get, true, false, Some, None, IsSome, IfOk, OnOk, OnErr, SomeIff, MatchOption, option_map, ◌-◌, ◌/◌};
 ghost use Rattle.std.specs.List.{AllByRecursion};
-ghost use Rattle.clr_types.specs.Types.{form_of, form_at, is_array, is_lawful_form, mt_of, name_of, number_with_free, type_row};
+ghost use Rattle.clr_types.specs.Types.{form_of, form_at, is_array, is_lawful_form, mt_of, name_of, number_with_free, slot_kinds, slot_offset, slots_of, type_row};
 ghost use Rattle.clr_types.specs.Types as types;
+ghost use Rattle.clr_types.specs.Descriptors.{reference_offsets, series_of};
 ghost use Rattle.clr_types.specs.Table.{first_refusal, IsLawfulRow, HasDistinctNames};
 
 use crate::method_table::{MethodTable, is_lawful};
 use crate::names::Names;
-use crate::{DefineFault, NoMemory, Shape, TypeId};
+use crate::{DefineFault, NoMemory, Series, Shape, Slot, Slots, TypeId};
 use std::alloc::Global;
 use std::marker::Model;
 
@@ -46,7 +47,7 @@ impl Types {
         let mut names = Names::new(alloc);
         names.add(alloc, b"Free")?;
         let mut tables = Vec::new(alloc);
-        tables.push(MethodTable::free())?;
+        tables.push(MethodTable::free(alloc))?;
         Ok(Types {
             alloc,
             names,
@@ -125,6 +126,31 @@ impl Types {
         FIRST_WORD + 64 * u64::from(t.0)
     }
 
+    /// The type with this method table word.
+    pub fn by_mt(&self, mt: u64) -> Option<TypeId>
+        ensures { MatchOption result ((t : ℕ) → t ≤ length self.now → mt ≢ mt_of t) (λ t. (t.0 ≤ length self.now) × (mt ≡ mt_of t.0)) }
+    {
+        if mt < FIRST_WORD || (mt - FIRST_WORD) % 64 != 0 {
+            return None;
+        }
+        let number = (mt - FIRST_WORD) / 64;
+        if number < u64::from(self.count()) {
+            Some(TypeId(number as u32))
+        } else {
+            None
+        }
+    }
+
+    /// The type that a method table word names. The word is one of the table's.
+    #[inline]
+    pub fn of_mt(&self, mt: u64) -> TypeId
+        requires { (mt - FIRST_WORD) / 64 ≤ length self.now }
+        ensures { result.0 ≡ (mt - FIRST_WORD) / 64 }
+    {
+        let _ = self.count();
+        TypeId((mt.saturating_sub(FIRST_WORD) / 64) as u32)
+    }
+
     /// The name of a type.
     pub fn name(&self, t: TypeId) -> &[u8]
         requires { t.0 ≤ length self.now }
@@ -142,6 +168,7 @@ impl Types {
     }
 
     /// Whether objects of a type have a length word, as unused space has.
+    #[inline]
     pub fn has_length(&self, t: TypeId) -> bool
         requires { t.0 ≤ length self.now }
         ensures { result ≡ is_array (form_at self.now t.0) }
@@ -152,13 +179,72 @@ impl Types {
     /// The bytes of an object of `len` elements, and none where they are more than 2^30.
     ///
     /// Unused space has the size of an array of bytes, 24 and its length.
+    #[inline]
     pub fn size_of(&self, t: TypeId, len: u64) -> Option<u64>
         requires { t.0 ≤ length self.now }
         ensures { SomeIff result (types.size_of (form_at self.now t.0) len ≤ 1073741824) (types.size_of (form_at self.now t.0) len) }
     {
         self.table(t).size(len)
     }
+
+    /// The bytes of an item of `len` elements, where they are at most 2^30. It has no test for that, so a walk can afford it.
+    #[inline]
+    pub fn item_size(&self, t: TypeId, len: u64) -> u64
+        requires known { t.0 ≤ length self.now }
+        requires size { types.size_of (form_at self.now t.0) len ≤ 1073741824 }
+        ensures { result ≡ types.size_of (form_at self.now t.0) len }
+    {
+        self.table(t).item_size(len)
+    }
+
+    /// The shape of a type. That of unused space is an array of bytes.
+    pub fn shape(&self, t: TypeId) -> Shape<'_>
+        requires { t.0 ≤ length self.now }
+        ensures { form_of result ≡ form_at self.now t.0 }
+    {
+        self.table(t).shape()
+    }
+
+    /// How many slots an object of `len` elements has.
+    pub fn slot_count(&self, t: TypeId, len: u64) -> u64
+        requires known { t.0 ≤ length self.now }
+        requires size { types.size_of (form_at self.now t.0) len ≤ 1073741824 }
+        ensures { result ≡ length (slot_kinds (form_at self.now t.0) len) }
+    {
+        self.table(t).slot_count(len)
+    }
+
+    /// Slot `i` of an object of `len` elements.
+    pub fn slot(&self, t: TypeId, len: u64, i: u64) -> Slot
+        requires known { t.0 ≤ length self.now }
+        requires size { types.size_of (form_at self.now t.0) len ≤ 1073741824 }
+        requires below { i < length (slot_kinds (form_at self.now t.0) len) }
+        ensures offset { result.offset ≡ slot_offset (form_at self.now t.0) i }
+        ensures reference { slice_get (slot_kinds (form_at self.now t.0) len) i ≡ Some result.reference }
+        ensures slot { slice_get (slots_of (form_at self.now t.0) len) i ≡ Some result }
+    {
+        self.table(t).slot(len, i)
+    }
+
+    /// The runs of references in objects of a type, by rising offset.
+    pub fn series(&self, t: TypeId) -> &[Series]
+        requires { t.0 ≤ length self.now }
+        ensures { result.now ≡ series_of (form_at self.now t.0) }
+    {
+        self.table(t).series()
+    }
+
+    /// The offsets of the references of an object of `len` elements, by rising offset. It reads them from the runs.
+    pub fn slots(&self, t: TypeId, len: u64) -> Slots<'_>
+        requires known { t.0 ≤ length self.now }
+        requires size { types.size_of (form_at self.now t.0) len ≤ 1073741824 }
+        ensures { result ≡ reference_offsets (form_at self.now t.0) len }
+    {
+        self.table(t).slots(len)
+    }
+
     // All but the name of a type.
+    #[inline]
     fn table(&self, t: TypeId) -> &MethodTable
         requires { t.0 ≤ length self.now }
         ensures form { result.now.form ≡ form_at self.now t.0 }

@@ -1,11 +1,12 @@
 //! The listing of the heap as text.
-ghost use Rattle.std.specs.Prelude.{◌≡◌, ◌+◌, ◌<◌, ◌≤◌, ◌^◌, ◌++◌, ℕ, length, IfOk, OnOk, sum_by, decimal};
-ghost use Rattle.std.specs.List.{AllByRecursion, flat_map};
+ghost use Rattle.std.specs.Prelude.{◌≡◌, ◌+◌, ◌<◌, ◌≤◌, ◌^◌, ◌++◌, ℕ, length, IfOk, OnOk, decimal};
+ghost use Rattle.std.specs.List.{flat_map};
+ghost use Rattle.clr_heap.specs.View.{AreWalkable, IsHeap, heap_items, listing};
 ghost use Rattle.clr_model.specs.Sos.{item_line, total_line};
 ghost use Rattle.clr_nums.specs.Numbers.{hex16};
-ghost use Rattle.clr_run.specs.Dumping.{counted, totals_line};
+ghost use Rattle.clr_run.specs.Dumping.{AreFew, counted, totals_line, with_totals};
 
-use clr_heap::Item;
+use clr_heap::{Heap, Item};
 use clr_nums::{put_dec, put_hex16};
 use clr_types::Types;
 use std::alloc::{AllocError, Global};
@@ -85,21 +86,43 @@ impl Totals {
     }
 }
 
-/// The text of a listing: a line for each item, and the line of the totals.
-pub fn listing_text(alloc: Global, types: &Types, items: &[Item]) -> Result<Vec<u8>, AllocError>
-    requires known { AllByRecursion (λ (item : Item). item.type_id.0 ≤ length types.now) items.now }
-    requires room { sum_by (λ item. item.size) items.now < 2 ^ 62 }
-    ensures { IfOk result (λ text. text.items ≡ flat_map (item_line types.now) items.now ++ total_line items.now) }
+// Puts a line for each item of segment `k` at the end, and counts the items.
+fn put_segment(
+    text: &mut Vec<u8>,
+    totals: &mut Totals,
+    types: &Types,
+    heap: &Heap,
+    k: usize,
+) -> Result<(), AllocError>
+    requires in_range { k < length heap.now.segments }
+    requires held { AreWalkable types.now heap.now }
+    requires lawful { IsHeap heap.now }
+    requires before { AreFew totals.old }
+    ensures text { OnOk result (text.new.items ≡ text.old.items ++ flat_map (item_line types.now) (listing types.now heap.now k)) }
+    ensures totals { OnOk result (totals.new ≡ with_totals totals.old (listing types.now heap.now k)) }
 {
+    for item in heap.walk(types, k) {
+        put_item(text, types, &item)?;
+        totals.count(&item);
+    }
+    Ok(())
+}
+
+/// The text of the listing of a heap: a line for each item by rising place, and the line of the totals.
+pub fn listing_text(alloc: Global, types: &Types, heap: &Heap) -> Result<Vec<u8>, AllocError>
+    requires held { AreWalkable types.now heap.now }
+    ensures text { IfOk result (λ text. text.items ≡ flat_map (item_line types.now) (heap_items types.now heap.now) ++ total_line (heap_items types.now heap.now)) }
+    ensures lawful { IsHeap heap.now }
+{
+    let segments = heap.segments();
     let mut text = Vec::new(alloc);
     let mut totals = Totals {
         objects: 0,
         bytes: 0,
         free: 0,
     };
-    for item in items {
-        put_item(&mut text, types, item)?;
-        totals.count(item);
+    for k in 0..segments {
+        put_segment(&mut text, &mut totals, types, heap, k)?;
     }
     put_totals(&mut text, totals)?;
     Ok(text)

@@ -1,16 +1,11 @@
--- The object stands behind the others, within the reservation.
-use Rattle.std.proofs.Common.{◌+◌, ◌≤◌, refl}
-use Rattle.std.proofs.lemmas.Bool.{leb-true}
-use Rattle.clr_heap.proofs.Filling.{fills-last}
+use Rattle.clr_heap.proofs.Rewrite.{SameShape-refl, SameShape-stored}
 use Rattle.clr_heap.proofs.heap.Heap.make_object.Goals as goal
 
-pub invariant_of-self-2 : goal.invariant_of-self-2
-invariant_of-self-2 c =
-    let fits = rw (← c.self.view_is) at c.requires.fits in
-    let within : c.self.inside.end + c.args.size ≤ 0x10000000 + c.self.inside.reserved = leb-true _ _ fits in
-    record {
-      least = c.self.invariant.least;
-      greatest = c.self.invariant.greatest;
-      filled = rw c.in-Ok.ensures.items (fills-last 0x10001000 c.self.inside.end c.self.inside.items.items _ c.self.invariant.filled refl c.requires.least);
-      within = within;
-    }
+pub returns-then-has_length-clause-shape : goal.returns-then-has_length-clause-shape
+returns-then-has_length-clause-shape c =
+    rw (c.set_word-then-has_length.ensures.value, c.set_word-2.ensures.value, c.set_word.ensures.value)
+    (SameShape-stored _ _ _ _ (SameShape-stored _ _ _ _ (SameShape-stored _ _ _ _ (SameShape-refl c.args.self.now))))
+
+pub returns-else-has_length-clause-shape : goal.returns-else-has_length-clause-shape
+returns-else-has_length-clause-shape c =
+    rw (c.set_word-2.ensures.value, c.set_word.ensures.value) (SameShape-stored _ _ _ _ (SameShape-stored _ _ _ _ (SameShape-refl c.args.self.now)))

@@ -1,8 +1,10 @@
-use Rattle.std.proofs.Common.{refl, sym, subst, ◌∙◌, Err}
+use Rattle.std.proofs.Common.{◌≡◌, ap, sym, subst, ◌∙◌, Err, true}
+use Rattle.clr_types.specs.Segments.{Layout, ephemeral, fits_in_tail}
 use Rattle.clr_types.proofs.ChangedLists.{length-slice_set}
+use Rattle.clr_heap.specs.View.{frame}
 use Rattle.clr_model.specs.Machine.{Machine}
 use Rattle.clr_run.specs.Measures.{IsMeasured, Measured}
-use Rattle.clr_run.proofs.RuntimeSteps.{measured_follows, full_follows, unmade_follows, made_follows, all_typed}
+use Rattle.clr_run.proofs.RuntimeSteps.{measured_follows, full_follows, made_follows, makeable, object}
 use Rattle.clr_run.proofs.runtime.Runtime.new_object.Goals as goal
 
 pub returns-in-Err : goal.returns-in-Err
@@ -17,25 +19,29 @@ returns-then-not-fits_tail c =
     let inside = c.self.inside in
     let made = c.in-Ok.made in
     rw (← c.self.view_is)
-    (full_follows inside.types inside.heap inside.locals.items c.args.local c.args.name.now c.args.len made.0.0 made.1 c.fits_tail.ensures.cells
-    (subst (λ (m : Machine). IsMeasured m.types c.args.name.now c.args.len made.0.0 made.1) (sym c.self.view_is) c.in-Ok.ensures) c.requires (sym c.if-not-fits_tail.ensures.fits))
+    (full_follows inside.types inside.heap inside.locals.items c.args.local c.args.name.now c.args.len made.0.0 made.1 c.self.invariant.bare c.self.invariant.unfree
+    (subst (λ (m : Machine). IsMeasured m.types c.args.name.now c.args.len made.0.0 made.1) (sym c.self.view_is) c.in-Ok.ensures) c.requires (sym c.if-not-fits_tail.ensures))
 
-pub returns-in_default : goal.returns-in_default
-returns-in_default c =
-    let inside = c.self.inside in
-    let made = c.in-Ok.made in
-    rw (← c.self.view_is, c.in_default.ensures.err)
-    (unmade_follows inside.types inside.heap inside.locals.items c.args.local c.args.name.now c.args.len made.0.0 made.1
-    (subst (λ (m : Machine). IsMeasured m.types c.args.name.now c.args.len made.0.0 made.1) (sym c.self.view_is) c.in-Ok.ensures) c.requires)
-
-pub invariant_of-self-2 : goal.invariant_of-self-2
-invariant_of-self-2 c =
+pub make_in_tail-place-requires : goal.make_in_tail-place-requires
+make_in_tail-place-requires c =
     let inside = c.self.inside in
     let made = c.in-Ok.made in
     let measured = subst (λ (m : Machine). IsMeasured m.types c.args.name.now c.args.len made.0.0 made.1) (sym c.self.view_is) c.in-Ok.ensures in
+    rw c.unwrap_or.ensures (record {
+      held = c.self.invariant.held;
+      item = makeable inside.types inside.heap inside.locals.items c.args.local c.args.name.now c.args.len made.0.0 made.1 measured;
+      object = object inside.types inside.heap inside.locals.items c.args.local c.args.name.now c.args.len made.0.0 made.1 measured;
+      room = subst (λ n. fits_in_tail (ephemeral (frame inside.heap)) n ≡ true) measured.is (sym c.if-not-fits_tail.ensures);
+    })
+
+pub invariant_of-self : goal.invariant_of-self
+invariant_of-self c =
+    let born = c.make_in_tail-place.ensures.born in
     record {
-      locals = length-slice_set inside.locals.items c.args.local c.in-Ok-make_object.place ∙ c.self.invariant.locals;
-      typed = rw (c.in-Ok-make_object.ensures.items, c.unwrap_or.ensures) (all_typed inside.types inside.heap inside.locals.items c.args.local c.args.name.now c.args.len made.0 made.1 c.fits_tail.ensures.cells c.self.invariant.typed c.self.invariant.plain measured);
+      locals = length-slice_set c.self.inside.locals.items c.args.local c.make_in_tail-place.result ∙ c.self.invariant.locals;
+      held = born.held;
+      unfree = born.free ∙ c.self.invariant.unfree;
+      bare = ap (λ (layout : Layout). layout.rests) born.layout ∙ c.self.invariant.bare;
       plain = c.self.invariant.plain;
     }
 
@@ -44,7 +50,6 @@ returns c =
     let inside = c.self.inside in
     let made = c.in-Ok.made in
     let measured = subst (λ (m : Machine). IsMeasured m.types c.args.name.now c.args.len made.0.0 made.1) (sym c.self.view_is) c.in-Ok.ensures in
-    let now = c.in-Ok-make_object in
     rw (← c.self.view_is)
-    (made_follows inside.types inside.heap inside.locals.items c.args.local c.args.name.now c.args.len made.0 made.1 c.fits_tail.ensures.cells c.self.invariant.typed c.self.invariant.plain measured c.requires
-    (sym c.if-not-fits_tail.ensures.fits) c.make_object.new.self now.place now.ensures.place now.ensures.layout (rw (now.ensures.items, c.unwrap_or.ensures) refl))
+    (made_follows inside.types inside.heap inside.locals.items c.args.local c.args.name.now c.args.len made.0.0 made.1 measured c.self.invariant.plain c.self.invariant.bare c.requires
+    (sym c.if-not-fits_tail.ensures) c.make_in_tail-place.new.heap c.make_in_tail-place.result c.make_in_tail-place.ensures.place (rw c.unwrap_or.ensures at c.make_in_tail-place.ensures.born))

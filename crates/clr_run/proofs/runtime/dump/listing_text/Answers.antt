@@ -1,32 +1,24 @@
--- The counts stay within the items and their bytes.
-use Rattle.std.proofs.Common.{take, not, refl, ap, arith, length-take}
-use Rattle.std.proofs.lemmas.List.Filters.{sum_by-filter_both, length-filter_both}
-use Rattle.std.proofs.lemmas.List.Sums.{sum_by_more_le}
-use Rattle.clr_types.specs.declared.item.Item.{Item}
-use Rattle.clr_model.specs.Sos.{is_free_item}
-use Rattle.clr_run.specs.declared.runtime.dump.Totals.{Totals}
+-- Each segment has its lines, and its items are counted.
+use Rattle.std.proofs.Common.{arith}
+use Rattle.clr_run.proofs.HeapListings.{all_lines, front-few, lines-on, totals-none, totals-on}
 use Rattle.clr_run.proofs.runtime.dump.listing_text.Goals as goal
 
-pub count-requires-clause-objects : goal.count-requires-clause-objects
-count-requires-clause-objects c =
-    let items = take c.loop-item.item-index c.args.items.now in
-    let few = length-filter_both is_free_item (λ (i : Item). not (is_free_item i)) (λ i. refl) items in
-    let same = ap (λ (t : Totals). t.objects) c.loop-item.invariant.totals in
-    let l = length-take c.loop-item.item-index c.args.items.now in
-    omega (arith, few, same, l)
+pub loop-k-init : goal.loop-k-init
+loop-k-init c = record { text = c.new-text.ensures.items; totals = totals-none (record { objects = 0; bytes = 0; free = 0 }) }
 
-pub count-requires-clause-bytes : goal.count-requires-clause-bytes
-count-requires-clause-bytes c =
-    let items = take c.loop-item.item-index c.args.items.now in
-    let sum = sum_by-filter_both is_free_item (λ (i : Item). not (is_free_item i)) (λ i. refl) (λ (i : Item). i.size) items in
-    let same = ap (λ (t : Totals). t.bytes) c.loop-item.invariant.totals in
-    let part = sum_by_more_le (λ (i : Item). i.size) c.args.items.now c.loop-item.item-index (record { place = 0; size = 0; type_id = record { 0 = 0 }; len = 0 }) c.loop-item-test.true in
-    omega (arith, sum, same, part, c.requires.room)
+pub put_segment-requires-clause-before : goal.put_segment-requires-clause-before
+put_segment-requires-clause-before c =
+    rw c.loop-k.invariant.totals (front-few c.args.types.now c.args.heap.now c.loop-k.k c.segments-segments.ensures.heap c.requires.held (rw c.segments-segments.ensures.count at c.loop-k-test.true))
 
-pub count-requires-clause-free : goal.count-requires-clause-free
-count-requires-clause-free c =
-    let items = take c.loop-item.item-index c.args.items.now in
-    let sum = sum_by-filter_both is_free_item (λ (i : Item). not (is_free_item i)) (λ i. refl) (λ (i : Item). i.size) items in
-    let same = ap (λ (t : Totals). t.free) c.loop-item.invariant.totals in
-    let part = sum_by_more_le (λ (i : Item). i.size) c.args.items.now c.loop-item.item-index (record { place = 0; size = 0; type_id = record { 0 = 0 }; len = 0 }) c.loop-item-test.true in
-    omega (arith, sum, same, part, c.requires.room)
+pub loop-k-preserved : goal.loop-k-preserved
+loop-k-preserved c = record {
+  text = rw (c.in_ok-put_segment.ensures.text, c.loop-k.invariant.text) (lines-on c.args.types.now c.args.heap.now c.loop-k.k);
+  totals = rw (c.in_ok-put_segment.ensures.totals, c.loop-k.invariant.totals) (totals-on c.args.types.now c.args.heap.now c.loop-k.k (record { objects = 0; bytes = 0; free = 0 }));
+}
+
+pub returns-clause-text : goal.returns-clause-text
+returns-clause-text c =
+    let past = c.loop-k-test.false in
+    let within = c.loop-k.auto.k-end in
+    all_lines c.args.types.now c.args.heap.now c.loop-k.k c.put_totals.new.text.items c.loop-k.text.items c.loop-k.totals (omega (arith, past, within, c.segments-segments.ensures.count))
+    c.loop-k.invariant.text c.loop-k.invariant.totals c.in_ok-put_totals.ensures

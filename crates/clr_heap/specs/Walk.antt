@@ -1,0 +1,16 @@
+-- What a walk has left.
+use Rattle.std.specs.Prelude.{◌≡◌, ℕ, ◌<◌, ◌≤◌, List, None, length}
+use Rattle.clr_types.specs.declared.item.Item.{Item}
+use Rattle.clr_heap.specs.declared.walk.Cursor.{Cursor}
+use Rattle.clr_heap.specs.Parts.{hole_from}
+use Rattle.clr_heap.specs.View.{CanWalk, holes_of, items_between, sight}
+
+-- the items that a walk has yet to give
+abbrev pub items_left : Cursor → List Item
+items_left c = items_between (sight c.types.now c.heap.now c.k) c.place c.end
+
+-- the parts ahead can be walked, and no hole starts before the next one that is known
+pub record IsCursor (c : Cursor) : Type 0 where
+  pub in_range : c.k < length c.heap.now.segments
+  pub walk : CanWalk (sight c.types.now c.heap.now c.k) c.heap.now.memories c.place c.end
+  pub clear : (q : ℕ) → c.place ≤ q → q < c.next_hole → q < c.end → hole_from (holes_of c.heap.now c.k) q ≡ None

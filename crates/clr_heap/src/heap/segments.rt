@@ -1,0 +1,142 @@
+// Segments that are acquired and released.
+ghost use Rattle.std.specs.Prelude.{◌≡◌, ◌≢◌, ◌↔◌, ℕ, ◌+◌, ◌%◌, ◌<◌, ◌≤◌, ◌^◌, [], ◌∷◌, ◌++◌, length, map, sum_by, vec_len, vec_capacity, IfOk, OnOk, OnErr, drop, take};
+ghost use Rattle.std.specs.List.{remove};
+ghost use Rattle.clr_types.specs.Segments.{reserved_sum};
+ghost use Rattle.clr_heap.specs.View.{sealed};
+
+use super::{FIRST_OFFSET, Heap, empty_segment};
+use clr_mem::{Mem, NoMemory};
+use clr_types::{SegInfo, SegKind};
+
+/// Why no segment was acquired.
+#[derive(Clone, Copy, Debug, PartialEq, Eq)]
+pub enum AcquireFault {
+    /// With this segment more would be reserved than the limit.
+    OverLimit,
+    /// No memory was to be had.
+    NoMemory,
+}
+
+impl From<NoMemory> for AcquireFault {
+    ghost use Rattle.clr_heap.specs.declared.heap.segments.AcquireFault.TheVariants.{NoMemory};
+
+    ghost from_gives = { λ _ fault. fault ≡ NoMemory };
+
+    fn from(_: NoMemory) -> AcquireFault {
+        AcquireFault::NoMemory
+    }
+}
+
+impl Heap {
+    ghost use Rattle.clr_heap.specs.View.{acquired, frame, segment_at};
+
+    /// Acquires an empty segment of `size` bytes above all others, and answers its number. A new ephemeral segment
+    /// seals the old one, which becomes small, and no place of the new one is old.
+    ///
+    /// `OverLimit` comes exactly where all segments together would reserve more than the limit. On both faults nothing
+    /// has changed.
+    pub fn acquire(&mut self, kind: SegKind, size: u64) -> Result<usize, AcquireFault>
+        requires kind { kind ≢ SegKind.Small }
+        requires aligned { size % 4096 ≡ 0 }
+        requires least { 262144 ≤ size }
+        requires top { self.old.top ≤ 2 ^ 61 }
+        ensures number { IfOk result (λ k. k ≡ length self.old.segments) }
+        ensures acquired { OnOk result (self.new ≡ acquired self.old kind size) }
+        ensures over_limit { (result ≡ Err AcquireFault.OverLimit) ↔ (self.old.limit < reserved_sum (frame self.old) + size) }
+        ensures err { OnErr result (self.new ≡ self.old) }
+    {
+        let left = self.limit - reserved_by(&self.segments);
+        if size > left {
+            return Err(AcquireFault::OverLimit);
+        }
+        let base = self.top;
+        let memory = Mem::new(self.alloc, base, size)?;
+        make_room(&mut self.memories, &mut self.segments)?;
+        let k = self.segments.len();
+        let segment = empty_segment(kind, base, size);
+        if kind == SegKind::Ephemeral {
+            seal(&mut self.segments);
+            push_both(&mut self.memories, &mut self.segments, memory, segment);
+            self.start1 = base + FIRST_OFFSET;
+            self.start0 = base + FIRST_OFFSET;
+            self.young_low = base + FIRST_OFFSET;
+            self.young_high = base + size;
+            self.top = base + size;
+            return Ok(k);
+        }
+        push_both(&mut self.memories, &mut self.segments, memory, segment);
+        self.top = base + size;
+        Ok(k)
+    }
+
+    /// Gives segment `k` back. The segments after it have lower numbers from then on.
+    pub fn release(&mut self, k: usize)
+        requires in_range { k < length self.old.segments }
+        requires not_ephemeral { (segment_at self.old k).kind ≢ SegKind.Ephemeral }
+        ensures { self.new ≡ record self.old { memories = remove self.old.memories k; segments = remove self.old.segments k } }
+    {
+        let _ = self.memories.remove(k);
+        let _ = self.segments.remove(k);
+    }
+}
+
+// How many bytes the segments reserve.
+fn reserved_by(segments: &Vec<SegInfo>) -> u64
+    requires { sum_by (λ s. s.reserved) segments.now.items < 2 ^ 64 }
+    ensures { result ≡ sum_by (λ s. s.reserved) segments.now.items }
+{
+    segments.iter().map(|s| s.reserved).sum()
+}
+
+// Makes room for one more of each.
+fn make_room(memories: &mut Vec<Mem>, segments: &mut Vec<SegInfo>) -> Result<(), NoMemory>
+    ensures memories { memories.new.items ≡ memories.old.items }
+    ensures segments { segments.new.items ≡ segments.old.items }
+    ensures room { OnOk result ((vec_len memories.new < vec_capacity memories.new) × (vec_len segments.new < vec_capacity segments.new)) }
+{
+    memories.reserve(1)?;
+    segments.reserve(1)?;
+    Ok(())
+}
+
+// Adds one of each, where there is room.
+fn push_both(memories: &mut Vec<Mem>, segments: &mut Vec<SegInfo>, memory: Mem, segment: SegInfo)
+    requires memories_room { vec_len memories.old < vec_capacity memories.old }
+    requires segments_room { vec_len segments.old < vec_capacity segments.old }
+    ensures memories { memories.new.items ≡ memories.old.items ++ memory ∷ [] }
+    ensures segments { segments.new.items ≡ segments.old.items ++ segment ∷ [] }
+{
+    push_within(memories, memory);
+    push_within(segments, segment);
+}
+
+fn push_within<T: Drop>(items: &mut Vec<T>, item: T)
+    requires { vec_len items.old < vec_capacity items.old }
+    ensures { items.new.items ≡ items.old.items ++ item ∷ [] }
+{
+    match items.push(item) {
+        Ok(()) => {}
+        Err(_) => unreachable!(),
+    }
+}
+
+// Makes every ephemeral segment small.
+fn seal(segments: &mut Vec<SegInfo>)
+    ensures items { segments.new.items ≡ map sealed segments.old.items }
+    ensures room { vec_len segments.old < vec_capacity segments.old → vec_len segments.new < vec_capacity segments.new }
+{
+    for i in 0..segments.len() {
+        segments[i] = sealed_info(segments[i]);
+    }
+}
+
+fn sealed_info(segment: SegInfo) -> SegInfo
+    ensures { result ≡ sealed segment }
+{
+    let kind = match segment.kind {
+        SegKind::Large => SegKind::Large,
+        SegKind::Small => SegKind::Small,
+        SegKind::Ephemeral => SegKind::Small,
+    };
+    SegInfo { kind, ..segment }
+}

@@ -1,0 +1,215 @@
+// The words and bytes of the heap, by address.
+ghost use Rattle.std.specs.Prelude.{◌≡◌, ℕ, ◌+◌, ◌*◌, ◌/◌, ◌%◌, ◌<◌, ◌≤◌, ◌^◌, length, get_or, set};
+ghost use Rattle.clr_mem.specs.Words.{byte_of, Holds, moved, with_byte};
+ghost use Rattle.clr_heap.specs.Memories.{HasWord, InOne, IsApart, moves, memory_index, shapes, store_in, word_address, word_in};
+
+use super::Heap;
+use clr_mem::Mem;
+
+impl Heap {
+    ghost use Rattle.clr_heap.specs.View.{SameShape, stored, word_of};
+
+    /// The word at an address.
+    pub fn word(&self, a: u64) -> u64
+        requires { HasWord self.now.memories a }
+        ensures value { result ≡ word_of self.now a }
+        ensures room { a + 8 < 2 ^ 64 }
+    {
+        word_of_memories(&self.memories, a)
+    }
+
+    /// The word at an address of segment `k`, faster than `word`.
+    pub fn word_at(&self, k: usize, a: u64) -> u64
+        requires word { HasWord self.now.memories a }
+        requires segment { k ≡ memory_index self.now.memories a }
+        ensures { result ≡ word_of self.now a }
+    {
+        word_in_memory(&self.memories, k, a)
+    }
+
+    /// Writes the word at an address.
+    pub fn set_word(&mut self, a: u64, v: u64)
+        requires { HasWord self.old.memories a }
+        ensures value { self.new ≡ stored self.old a v }
+        ensures room { a + 8 < 2 ^ 64 }
+    {
+        set_word_of_memories(&mut self.memories, a, v);
+    }
+
+    /// Writes the word at an address of segment `k`, faster than `set_word`.
+    pub fn set_word_at(&mut self, k: usize, a: u64, v: u64)
+        requires word { HasWord self.old.memories a }
+        requires segment { k ≡ memory_index self.old.memories a }
+        ensures { self.new ≡ stored self.old a v }
+    {
+        set_word_in_memory(&mut self.memories, k, a, v);
+    }
+
+    /// The byte at an address.
+    pub fn byte(&self, a: u64) -> u8
+        requires { HasWord self.now.memories (word_address a) }
+        ensures { result ≡ byte_of (word_of self.now (word_address a)) (a % 8) }
+    {
+        byte_of_memories(&self.memories, a)
+    }
+
+    /// Writes the byte at an address.
+    pub fn set_byte(&mut self, a: u64, v: u8)
+        requires { HasWord self.old.memories (word_address a) }
+        ensures { self.new ≡ stored self.old (word_address a) (with_byte (word_of self.old (word_address a)) (a % 8) v) }
+    {
+        set_byte_of_memories(&mut self.memories, a, v);
+    }
+
+    /// Moves the words of `[from, from + len)` down to `[to, to + len)`. All other words stay.
+    pub fn move_cells(&mut self, from: u64, to: u64, len: u64)
+        requires from_in { InOne self.old.memories from len }
+        requires to_in { InOne self.old.memories to len }
+        requires down { to ≤ from }
+        ensures shape { SameShape self.old self.new }
+        ensures words { (b : ℕ) → b % 8 ≡ 0 → word_of self.new b ≡ moves from to len (word_of self.old) b }
+    {
+        move_in_memories(&mut self.memories, from, to, len);
+    }
+
+    /// The number of the segment that an address lies in.
+    pub fn segment_of(&self, a: u64) -> usize
+        requires { HasWord self.now.memories a }
+        ensures { result ≡ memory_index self.now.memories a }
+    {
+        find(&self.memories, a)
+    }
+}
+
+// The number of the memory that an address lies in.
+fn find(memories: &Vec<Mem>, a: u64) -> usize
+    requires word { HasWord memories.now.items a }
+    requires apart { IsApart (shapes memories.now.items) }
+    ensures index { result ≡ memory_index memories.now.items a }
+    ensures word { (d : _) → Holds (get_or memories.now.items result d) a 8 }
+    ensures aligned { (d : _) → (get_or memories.now.items result d).base % 8 ≡ 0 }
+    ensures room { a + 8 < 2 ^ 64 }
+{
+    let mut low = 0;
+    let mut high = memories.len();
+    while low + 1 < high {
+        let middle = low + (high - low) / 2;
+        let memory = &memories[middle];
+        if memory.base() <= a {
+            low = middle;
+        } else {
+            high = middle;
+        }
+    }
+    let memory = &memories[low];
+    let _ = memory.len();
+    low
+}
+
+fn word_of_memories(memories: &Vec<Mem>, a: u64) -> u64
+    requires word { HasWord memories.now.items a }
+    requires apart { IsApart (shapes memories.now.items) }
+    ensures value { result ≡ word_in memories.now.items a }
+    ensures room { a + 8 < 2 ^ 64 }
+{
+    let k = find(memories, a);
+    let memory = &memories[k];
+    memory.word(a)
+}
+
+fn word_in_memory(memories: &Vec<Mem>, k: usize, a: u64) -> u64
+    requires word { HasWord memories.now.items a }
+    requires segment { k ≡ memory_index memories.now.items a }
+    ensures { result ≡ word_in memories.now.items a }
+{
+    let memory = &memories[k];
+    let _ = memory.len();
+    memory.word(a)
+}
+
+fn set_word_in_memory(memories: &mut Vec<Mem>, k: usize, a: u64, v: u64)
+    requires word { HasWord memories.old.items a }
+    requires segment { k ≡ memory_index memories.old.items a }
+    ensures items { memories.new.items ≡ store_in memories.old.items a v }
+    ensures len { length memories.new.items ≡ length memories.old.items }
+    ensures shapes { shapes memories.new.items ≡ shapes memories.old.items }
+{
+    let memory = &mut memories[k];
+    let _ = memory.len();
+    memory.set_word(a, v);
+}
+
+fn set_word_of_memories(memories: &mut Vec<Mem>, a: u64, v: u64)
+    requires word { HasWord memories.old.items a }
+    requires apart { IsApart (shapes memories.old.items) }
+    ensures items { memories.new.items ≡ store_in memories.old.items a v }
+    ensures len { length memories.new.items ≡ length memories.old.items }
+    ensures shapes { shapes memories.new.items ≡ shapes memories.old.items }
+    ensures room { a + 8 < 2 ^ 64 }
+{
+    let k = find(memories, a);
+    let memory = &mut memories[k];
+    memory.set_word(a, v);
+}
+
+fn byte_of_memories(memories: &Vec<Mem>, a: u64) -> u8
+    requires word { HasWord memories.now.items (word_address a) }
+    requires apart { IsApart (shapes memories.now.items) }
+    ensures { result ≡ byte_of (word_in memories.now.items (word_address a)) (a % 8) }
+{
+    let k = find(memories, a / 8 * 8);
+    let memory = &memories[k];
+    memory.byte(a)
+}
+
+fn set_byte_of_memories(memories: &mut Vec<Mem>, a: u64, v: u8)
+    requires word { HasWord memories.old.items (word_address a) }
+    requires apart { IsApart (shapes memories.old.items) }
+    ensures items { memories.new.items ≡ store_in memories.old.items (word_address a) (with_byte (word_in memories.old.items (word_address a)) (a % 8) v) }
+    ensures shapes { shapes memories.new.items ≡ shapes memories.old.items }
+{
+    let k = find(memories, a / 8 * 8);
+    let memory = &mut memories[k];
+    memory.set_byte(a, v);
+}
+
+fn move_in_memories(memories: &mut Vec<Mem>, from: u64, to: u64, len: u64)
+    requires from_in { InOne memories.old.items from len }
+    requires to_in { InOne memories.old.items to len }
+    requires down { to ≤ from }
+    requires apart { IsApart (shapes memories.old.items) }
+    ensures words { (b : ℕ) → b % 8 ≡ 0 → word_in memories.new.items b ≡ moves from to len (word_in memories.old.items) b }
+    ensures shapes { shapes memories.new.items ≡ shapes memories.old.items }
+    ensures len { length memories.new.items ≡ length memories.old.items }
+{
+    let low = find(memories, to);
+    let high = find(memories, from);
+    if low == high {
+        slide_in(memories, low, from, to, len);
+    } else {
+        carry_between(memories, low, high, from, to, len);
+    }
+}
+
+fn slide_in(memories: &mut Vec<Mem>, k: usize, from: u64, to: u64, len: u64)
+    requires in_range { k < length memories.old.items }
+    requires to_in { (d : _) → Holds (get_or memories.old.items k d) to len }
+    requires from_in { (d : _) → Holds (get_or memories.old.items k d) from len }
+    requires down { to ≤ from }
+    ensures { (d : _) → memories.new.items ≡ set memories.old.items k (moved (get_or memories.old.items k d) (get_or memories.old.items k d) to from len) }
+{
+    let memory = &mut memories[k];
+    memory.slide(from, to, len);
+}
+
+fn carry_between(memories: &mut Vec<Mem>, low: usize, high: usize, from: u64, to: u64, len: u64)
+    requires order { low < high }
+    requires in_range { high < length memories.old.items }
+    requires to_in { (d : _) → Holds (get_or memories.old.items low d) to len }
+    requires from_in { (d : _) → Holds (get_or memories.old.items high d) from len }
+    ensures { (d : _) → memories.new.items ≡ set memories.old.items low (moved (get_or memories.old.items low d) (get_or memories.old.items high d) to from len) }
+{
+    let (front, back) = memories.split_at_mut(high);
+    let target = &mut front[low];
+    target.carry(to, &back[0], from, len);
+}

@@ -1,0 +1,244 @@
+// Heaps that are built part by part, and what is read back from them.
+ghost use Rattle.std.specs.Prelude.{◌≡◌, ◌≢◌, ◌^◌, ℕ, ◌+◌, ◌-◌, ◌%◌, ◌<◌, ◌≤◌, [], ◌∷◌, ◌++◌, codes, false, length, get_or, set, IfOk, None};
+ghost use Rattle.clr_types.specs.Types.{class_form, references_form, bytes_form};
+ghost use Rattle.clr_heap.specs.Parts.{IsMakeable, item_part, made_item, rest_part};
+ghost use Rattle.clr_heap.specs.View.{IsWalkable, last_of, no_rests, parts_of, PartsAre, segment_at};
+
+use crate::{AcquireFault, Heap, SegKind, clear_marks, count_objects};
+use clr_types::{Shape, TypeId, Types};
+use std::alloc::Global;
+use std::process::Abort;
+use std::test::Fail;
+
+const FREE: TypeId = TypeId(0);
+
+const PAIR: TypeId = TypeId(1);
+
+const REFERENCES: TypeId = TypeId(2);
+
+const BYTES: TypeId = TypeId(3);
+
+// A class of a reference and a number, arrays of references, and arrays of bytes.
+fn sample_types(alloc: Global) -> Result<Types, Fail>
+    ensures { IfOk result (λ types. types ≡ record { name = codes "Pair"; form = class_form (codes "rn"); finalizer = false } ∷ record { name = codes "Refs"; form = references_form; finalizer = false } ∷ record { name = codes "Bytes"; form = bytes_form; finalizer = false } ∷ []) }
+{
+    let mut types = Types::new(alloc)?;
+    let _ = types.define(b"Pair", Shape::Class(b"rn"), false)?;
+    let _ = types.define(b"Refs", Shape::RefArray, false)?;
+    let _ = types.define(b"Bytes", Shape::ByteArray, false)?;
+    Ok(types)
+}
+
+// Makes an item at the end of segment `k`, and answers its place.
+fn append(rt: &impl Abort, heap: &mut Heap, types: &Types, k: usize, t: TypeId, len: u64) -> u64
+    requires in_range { k < length heap.old.segments }
+    requires walkable { IsWalkable types.now heap.old k }
+    requires item { IsMakeable types.now t.0 len }
+    ensures place { result ≡ last_of heap.old k }
+    ensures parts { PartsAre types.now heap.new k (parts_of types.now heap.old k ++ item_part (made_item types.now (last_of heap.old k) t.0 len) ∷ []) }
+    ensures count { length heap.new.segments ≡ length heap.old.segments }
+    ensures kind { (segment_at heap.new k).kind ≡ (segment_at heap.old k).kind }
+    ensures rests { heap.new.rests ≡ heap.old.rests }
+    ensures others { (j : ℕ) → j ≢ k → segment_at heap.new j ≡ segment_at heap.old j }
+{
+    let segment = heap.info(k);
+    let size = types.item_size(t, len);
+    let _ = heap.segments();
+    assert!(rt; segment.end + size <= segment.base + segment.reserved);
+    assert!(rt; heap.hole_end(k, segment.end).is_none());
+    heap.make_object(types, segment.end, t, len);
+    heap.set_end(k, segment.end + size);
+    segment.end
+}
+
+// Makes a hole of `size` bytes at the end of the ephemeral segment `k`, as what is left of a thread's context.
+fn open_context(rt: &impl Abort, heap: &mut Heap, types: &Types, k: usize, thread: usize, size: u64)
+    requires in_range { k < length heap.old.segments }
+    requires walkable { IsWalkable types.now heap.old k }
+    requires young { (segment_at heap.old k).kind ≡ SegKind.Ephemeral }
+    requires none { heap.old.rests ≡ no_rests }
+    requires positive { 0 < thread }
+    requires few { thread ≤ 16 }
+    requires least { 24 ≤ size }
+    requires whole { size % 8 ≡ 0 }
+    requires small { size < 1000 }
+    ensures parts { PartsAre types.now heap.new k (parts_of types.now heap.old k ++ rest_part (last_of heap.old k) (last_of heap.old k + size) ∷ []) }
+    ensures count { length heap.new.segments ≡ length heap.old.segments }
+{
+    let segment = heap.info(k);
+    let _ = heap.segments();
+    assert!(rt; segment.end + size <= segment.base + segment.reserved);
+    heap.set_end(k, segment.end + size);
+    heap.set_hole(thread, segment.end, segment.end + size);
+}
+
+// Writes a byte of segment `k`, and answers the word that it belongs to.
+fn poke(rt: &impl Abort, heap: &mut Heap, k: usize, a: u64, v: u8) -> u64
+    requires in_range { k < length heap.old.segments }
+    ensures count { length heap.new.segments ≡ length heap.old.segments }
+{
+    let _ = heap.segments();
+    let segment = heap.info(k);
+    assert!(rt; segment.base <= a);
+    assert!(rt; a < segment.base + segment.reserved);
+    heap.set_byte(a, v);
+    assert_eq!(rt; heap.byte(a), v);
+    heap.word(a / 8 * 8)
+}
+
+// Writes a word of segment `k`, moves it down, and answers what stands at its new place.
+fn shift(rt: &impl Abort, heap: &mut Heap, k: usize, from: u64, to: u64, v: u64) -> u64
+    requires in_range { k < length heap.old.segments }
+    requires from_aligned { from % 8 ≡ 0 }
+    requires to_aligned { to % 8 ≡ 0 }
+    requires down { to ≤ from }
+    requires low { from < 2 ^ 60 }
+    ensures count { length heap.new.segments ≡ length heap.old.segments }
+{
+    let _ = heap.segments();
+    let segment = heap.info(k);
+    assert!(rt; segment.base <= to);
+    assert!(rt; from + 8 <= segment.base + segment.reserved);
+    assert_eq!(rt; heap.segment_of(from), k);
+    heap.set_word(from, v);
+    heap.move_cells(from, to, 8);
+    heap.word(to)
+}
+
+#[test]
+fn a_heap_is_read_back(rt: HostRuntime) -> Result<(), Fail> {
+    let types = sample_types(rt.alloc())?;
+    let mut heap = Heap::new(rt.alloc(), 262_144, 1_048_576)?;
+    assert_eq!(rt; append(&rt, &mut heap, &types, 0, PAIR, 0), 0x1000_1000);
+    assert_eq!(rt; append(&rt, &mut heap, &types, 0, BYTES, 5), 0x1000_1020);
+    assert_eq!(rt; append(&rt, &mut heap, &types, 0, FREE, 40), 0x1000_1040);
+    assert_eq!(rt;
+        append(&rt, &mut heap, &types, 0, REFERENCES, 3),
+        0x1000_1080
+    );
+    open_context(&rt, &mut heap, &types, 0, 3, 96);
+    let want = [
+        (0x1000_1000, 32, 1, 0),
+        (0x1000_1020, 32, 3, 5),
+        (0x1000_1040, 64, 0, 40),
+        (0x1000_1080, 48, 2, 3),
+    ];
+    let mut number = 0;
+    for found in heap.walk(&types, 0) {
+        assert!(rt; number < 4);
+        assert_eq!(rt;
+            (found.place, found.size, found.type_id.0, found.len),
+            want[number]
+        );
+        number += 1;
+    }
+    assert_eq!(rt; number, 4);
+    assert_eq!(rt; count_objects(&heap, &types, 0), 3);
+    assert_eq!(rt; heap.hole(3), Some((0x1000_10b0, 0x1000_1110)));
+    assert_eq!(rt; heap.hole(4), None);
+    clear_marks(&mut heap, &types, 0);
+    Ok(())
+}
+
+#[test]
+fn objects_are_found(rt: HostRuntime) -> Result<(), Fail> {
+    let types = sample_types(rt.alloc())?;
+    let mut heap = Heap::new(rt.alloc(), 262_144, 1_048_576)?;
+    let pair = append(&rt, &mut heap, &types, 0, PAIR, 0);
+    let free = append(&rt, &mut heap, &types, 0, FREE, 40);
+    let item = heap.item_in(&types, 0, free);
+    assert_eq!(rt; item.map(|i| (i.place, i.size)), Some((0x1000_1020, 64)));
+    for (a, want) in [
+        (pair, Some(0x1000_1000)),
+        (free, None),
+        (pair + 8, None),
+        (0x0fff_0000, None),
+        (0x1004_1000, None),
+        (0x7000_0000, None),
+    ] {
+        assert_eq!(rt; heap.object_at(&types, a).map(|i| i.place), want, "at {a}");
+    }
+    Ok(())
+}
+
+#[test]
+fn places_have_generations(rt: HostRuntime) -> Result<(), Fail> {
+    let mut heap = Heap::new(rt.alloc(), 262_144, 1_048_576)?;
+    assert_eq!(rt; heap.boundaries(), (0x1000_1000, 0x1000_1000));
+    heap.set_boundaries(0x1000_2000, 0x1000_3000);
+    for (place, want) in [
+        (0x1000_0fff, 2),
+        (0x1000_1000, 2),
+        (0x1000_2000, 1),
+        (0x1000_2ff8, 1),
+        (0x1000_3000, 0),
+        (0x1003_fff8, 0),
+        (0x1004_0000, 2),
+        (0x1004_1000, 2),
+    ] {
+        assert_eq!(rt; heap.gen_of(place), want, "at {place}");
+    }
+    Ok(())
+}
+
+#[test]
+fn words_and_bytes_are_one(rt: HostRuntime) -> Result<(), Fail> {
+    let mut heap = Heap::new(rt.alloc(), 262_144, 1_048_576)?;
+    assert!(rt; heap.segments() == 2);
+    assert_eq!(rt; poke(&rt, &mut heap, 1, 0x1004_1003, 0xab), 0xab00_0000);
+    assert_eq!(rt;
+        shift(&rt, &mut heap, 1, 0x1004_1100, 0x1004_1008, 0x4d00),
+        0x4d00
+    );
+    assert_eq!(rt; poke(&rt, &mut heap, 1, 0x1004_1008, 1), 0x4d01);
+    Ok(())
+}
+
+// Acquires a segment of 262,144 bytes, and answers its number and base.
+fn acquire_more(
+    rt: &impl Abort,
+    heap: &mut Heap,
+    kind: SegKind,
+) -> Result<(usize, u64), AcquireFault>
+    requires { kind ≢ SegKind.Small }
+{
+    assert!(rt; heap.top() < 0x2000_0000_0000_0000);
+    let k = heap.acquire(kind, 262_144)?;
+    assert!(rt; k < heap.segments());
+    Ok((k, heap.info(k).base))
+}
+
+#[test]
+fn segments_come_and_go(rt: HostRuntime) -> Result<(), Fail> {
+    let mut heap = Heap::new(rt.alloc(), 262_144, 1_048_576)?;
+    assert_eq!(rt; (heap.segments(), heap.top()), (2, 0x1008_0000));
+    assert_eq!(rt;
+        acquire_more(&rt, &mut heap, SegKind::Large),
+        Ok((2, 0x1008_0000))
+    );
+    assert_eq!(rt;
+        acquire_more(&rt, &mut heap, SegKind::Ephemeral),
+        Ok((3, 0x100c_0000))
+    );
+    assert_eq!(rt;
+        acquire_more(&rt, &mut heap, SegKind::Large),
+        Err(AcquireFault::OverLimit)
+    );
+    assert_eq!(rt; heap.boundaries(), (0x100c_1000, 0x100c_1000));
+    assert_eq!(rt;
+        (heap.gen_of(0x1000_3000), heap.gen_of(0x100c_1000)),
+        (2, 0)
+    );
+    assert!(rt; heap.segments() == 4);
+    assert!(rt; heap.info(0).kind == SegKind::Small);
+    assert!(rt; heap.info(2).kind != SegKind::Ephemeral);
+    heap.release(2);
+    assert!(rt; heap.segments() == 3);
+    assert_eq!(rt; heap.info(2).base, 0x100c_0000);
+    assert_eq!(rt;
+        acquire_more(&rt, &mut heap, SegKind::Large),
+        Ok((3, 0x1010_0000))
+    );
+    assert_eq!(rt; heap.top(), 0x1014_0000);
+    Ok(())
+}

@@ -1,0 +1,164 @@
+//! Memory at fixed addresses, read and written by words of eight bytes, lowest byte first.
+//!
+//! A [`Mem`] holds the bytes `[base, base + len)`. Its contracts see it as a list of words, so
+//! that nothing above this crate reasons about bytes. Every call requires that its range lies in
+//! the memory, so none of them can fail; only [`Mem::new`] can, where no memory is left.
+#![tactic(auto)]
+
+ghost use Rattle.std.specs.Prelude.{◌≡◌, ◌+◌, ◌*◌, ◌%◌, ◌<◌, ◌≤◌, ◌^◌, ◌↔◌, length, IfOk, IsTrue};
+ghost use Rattle.clr_mem.specs.Words.{byte_at, cleared, end_of, Holds, HoldsBytes, moved, with_byte_at, with_word, word_at, zeroed};
+
+use crate::bytes::{
+    clear_bytes, copy_bytes, load_byte, load_word, move_bytes, store_byte, store_word, zero_bytes,
+};
+use std::alloc::Global;
+use std::marker::Model;
+
+mod bytes;
+mod no_memory;
+#[cfg(test)]
+mod tests;
+
+pub use crate::no_memory::NoMemory;
+
+/// The bytes `[base, base + len)`: `base` and `len` are multiples of 8, and `base + len` is below
+/// 2^64. Clauses see its words.
+#[derive(Drop)]
+pub struct Mem {
+    base: u64,
+    bytes: Vec<u8>,
+}
+
+impl Model for Mem {
+    ghost use Rattle.std.specs.Prelude.{◌/◌, length};
+    ghost use Rattle.clr_mem.specs.Words.{IsPlaced, Memory, memory_code, words_of};
+
+    ghost Value = { Memory };
+
+    ghost coded = { memory_code };
+
+    ghost view = { λ m. record {
+      base = m.base;
+      words = words_of (length m.bytes.items / 8) m.bytes.items;
+    } };
+
+    ghost invariant = { λ m. IsPlaced m.base (length m.bytes.items) };
+}
+
+impl Mem {
+    /// `len` zero bytes from the address `base` on; `len` is in bytes. `NoMemory` comes only where
+    /// the allocator has no room for them.
+    pub fn new(alloc: Global, base: u64, len: u64) -> Result<Mem, NoMemory>
+        requires base_aligned { base % 8 ≡ 0 }
+        requires len_aligned { len % 8 ≡ 0 }
+        requires fits { base + len < 2 ^ 64 }
+        ensures value { IfOk result (λ m. m ≡ zeroed base len) }
+        ensures end { IfOk result (λ m. end_of m ≡ base + len) }
+    {
+        let bytes = zero_bytes(alloc, len as usize)?;
+        Ok(Mem { base, bytes })
+    }
+
+    /// The first address.
+    pub fn base(&self) -> u64
+        ensures value { result ≡ self.now.base }
+        ensures aligned { self.now.base % 8 ≡ 0 }
+        ensures fits { end_of self.now < 2 ^ 64 }
+    {
+        self.base
+    }
+
+    /// How many bytes it holds.
+    pub fn len(&self) -> u64
+        ensures value { result ≡ 8 * length self.now.words }
+        ensures aligned { self.now.base % 8 ≡ 0 }
+        ensures fits { end_of self.now < 2 ^ 64 }
+    {
+        self.bytes.len() as u64
+    }
+
+    /// Whether it holds no byte at all.
+    pub fn is_empty(&self) -> bool
+        ensures { IsTrue result ↔ (length self.now.words ≡ 0) }
+    {
+        self.len() == 0
+    }
+
+    /// The word whose eight bytes begin at `a`, a multiple of 8.
+    pub fn word(&self, a: u64) -> u64
+        requires { Holds self.now a 8 }
+        ensures value { result ≡ word_at self.now a }
+        ensures fits { a + 8 < 2 ^ 64 }
+    {
+        load_word(&self.bytes, (a - self.base) as usize)
+    }
+
+    /// Writes the word at `a`, a multiple of 8; every other word stays.
+    pub fn set_word(&mut self, a: u64, v: u64)
+        requires { Holds self.old a 8 }
+        ensures value { self.new ≡ with_word self.old a v }
+        ensures size { length self.new.words ≡ length self.old.words }
+        ensures fits { a + 8 < 2 ^ 64 }
+    {
+        store_word(&mut self.bytes, (a - self.base) as usize, v);
+    }
+
+    /// The byte at `a`: of its word, the lowest eight bits where `a` is a multiple of 8.
+    pub fn byte(&self, a: u64) -> u8
+        requires { HoldsBytes self.now a 1 }
+        ensures value { result ≡ byte_at self.now a }
+        ensures fits { a + 1 < 2 ^ 64 }
+    {
+        load_byte(&self.bytes, (a - self.base) as usize)
+    }
+
+    /// Writes the byte at `a`; every other byte stays.
+    pub fn set_byte(&mut self, a: u64, v: u8)
+        requires { HoldsBytes self.old a 1 }
+        ensures value { self.new ≡ with_byte_at self.old a v }
+        ensures size { length self.new.words ≡ length self.old.words }
+        ensures fits { a + 1 < 2 ^ 64 }
+    {
+        store_byte(&mut self.bytes, (a - self.base) as usize, v);
+    }
+
+    /// Moves the `len` bytes from `from` on down to `to`, in whole words. The ranges may overlap;
+    /// what `[to, to + len)` does not cover stays.
+    pub fn slide(&mut self, from: u64, to: u64, len: u64)
+        requires from_in { Holds self.old from len }
+        requires to_in { Holds self.old to len }
+        requires down { to ≤ from }
+        ensures value { self.new ≡ moved self.old self.old to from len }
+        ensures size { length self.new.words ≡ length self.old.words }
+        ensures fits { from + len < 2 ^ 64 }
+    {
+        let start = (from - self.base) as usize;
+        let at = (to - self.base) as usize;
+        move_bytes(&mut self.bytes, start, at, len as usize);
+    }
+
+    /// Copies the `len` bytes from `from` on of another memory to `to`, in whole words; what
+    /// `[to, to + len)` does not cover stays.
+    pub fn carry(&mut self, to: u64, other: &Mem, from: u64, len: u64)
+        requires to_in { Holds self.old to len }
+        requires from_in { Holds other.now from len }
+        ensures value { self.new ≡ moved self.old other.now to from len }
+        ensures size { length self.new.words ≡ length self.old.words }
+        ensures to_fits { to + len < 2 ^ 64 }
+        ensures from_fits { from + len < 2 ^ 64 }
+    {
+        let start = (from - other.base) as usize;
+        let at = (to - self.base) as usize;
+        copy_bytes(&mut self.bytes, at, &other.bytes, start, len as usize);
+    }
+
+    /// Clears the `len` bytes from `a` on, in whole words; every other word stays.
+    pub fn zero(&mut self, a: u64, len: u64)
+        requires { Holds self.old a len }
+        ensures value { self.new ≡ cleared self.old a len }
+        ensures size { length self.new.words ≡ length self.old.words }
+        ensures fits { a + len < 2 ^ 64 }
+    {
+        clear_bytes(&mut self.bytes, (a - self.base) as usize, len as usize);
+    }
+}

@@ -1,0 +1,14 @@
+pub mod Slots
+pub mod Items
+pub mod Listings
+pub mod Tails
+pub mod TypeMore
+pub mod Opening
+pub mod Rises
+pub mod Newborn
+pub mod Births
+pub mod Walked
+pub mod StoredSlots
+pub mod Stores
+pub mod Machines
+pub mod Lines

@@ -1,0 +1,131 @@
+-- The objects, the free items and the layout of a machine, read off the words of a heap.
+use Rattle.std.specs.Prelude.{◌≡◌, ℕ, ◌+◌, ◌-◌, ◌/◌, ◌%◌, ◌<◌, ◌≤◌, Bool, true, false, not, nat_eq, List, [], ◌∷◌, ◌++◌, filter, map, None, Some, slice_get, sum_by}
+use Rattle.clr_mem.specs.Words.{byte_of}
+use Rattle.clr_types.specs.Types.{TypeRow, Form, class_form, references_form, bytes_form, structs_form, form_at, is_bytes, size_of, slot_kinds, slot_offset, slots_of}
+use Rattle.clr_types.specs.Rising.{changed_by, IsIn, sorted_by}
+use Rattle.clr_types.specs.Ranges.{Piece}
+use Rattle.clr_types.specs.Segments.{Layout, ephemeral, reserved_end, stands_in, with_end}
+use Rattle.clr_types.specs.declared.item.Item.{Item}
+use Rattle.clr_types.specs.declared.shape.Slot.{Slot}
+use Rattle.clr_heap.specs.Memories.{word_address}
+use Rattle.clr_heap.specs.Parts.{hole_from, item_piece}
+use Rattle.clr_heap.specs.View.{AreWalkable, frame, heap_items, HeapView, word_of}
+use Rattle.clr_model.specs.Machine.{Value, ref, num, Object}
+use Rattle.clr_model.specs.Updates.{empty_slots, with_slot_of}
+
+-- ---- one object
+
+-- a word as the value of a slot: a reference or a number
+abbrev pub word_value : Bool → ℕ → Value
+word_value true w = ref w
+word_value false w = num w
+
+-- the value of the slot at an address: a word, but in an array of bytes a byte, the lowest of its word first
+abbrev pub value_at : Form → (ℕ → ℕ) → Bool → ℕ → Value
+value_at (class_form pattern) word reference a = word_value reference (word a)
+value_at references_form word reference a = word_value reference (word a)
+value_at bytes_form word reference a = num (byte_of (word (word_address a)) (a % 8))
+value_at (structs_form pattern) word reference a = word_value reference (word a)
+
+-- the value of a slot of the object at a place
+abbrev pub slot_value : Form → (ℕ → ℕ) → ℕ → Slot → Value
+slot_value form word place slot = value_at form word slot.reference (place + slot.offset)
+
+-- the bit of an object's header that says that its finaliser is suppressed
+abbrev pub is_suppressed : ℕ → Bool
+is_suppressed header = nat_eq (header / 0x40000000 % 2) 1
+
+-- the object that an item is, named by its place, with what the words hold
+abbrev pub object_in : List TypeRow → (ℕ → ℕ) → Item → Object
+object_in rows word i = record {
+  name = i.place;
+  place = i.place;
+  type = i.type_id.0;
+  len = i.len;
+  slots = map (slot_value (form_at rows i.type_id.0) word i.place) (slots_of (form_at rows i.type_id.0) i.len);
+  suppressed = is_suppressed (word (i.place - 8));
+}
+
+-- ---- the heap
+
+-- an item of type 0 is free
+abbrev pub is_free : Item → Bool
+is_free i = nat_eq i.type_id.0 0
+
+abbrev pub is_object : Item → Bool
+is_object i = not (is_free i)
+
+-- the objects among items
+abbrev pub objects_among : List TypeRow → (ℕ → ℕ) → List Item → List Object
+objects_among rows word items = map (object_in rows word) (filter is_object items)
+
+-- the ranges of the free items among items
+abbrev pub free_among : List Item → List Piece
+free_among items = map item_piece (filter is_free items)
+
+-- the objects of the heap, by rising place
+abbrev pub objects_in : List TypeRow → HeapView → List Object
+objects_in rows h = objects_among rows (word_of h) (heap_items rows h)
+
+-- the ranges of the heap's free items, by rising place
+abbrev pub free_in : List TypeRow → HeapView → List Piece
+free_in rows h = free_among (heap_items rows h)
+
+-- the layout of the heap, its free items told
+abbrev pub layout_in : List TypeRow → HeapView → Layout
+layout_in rows h = record (frame h) { free = free_in rows h }
+
+-- the end of the ephemeral segment, where the next object is to be born
+abbrev pub tail_of : HeapView → ℕ
+tail_of h = (ephemeral (frame h)).end
+
+-- the bytes of the items of the ephemeral segment
+abbrev pub young_bytes : List TypeRow → HeapView → ℕ
+young_bytes rows h = sum_by (λ i. i.size) (filter (λ i. stands_in (ephemeral (frame h)) i.place) (heap_items rows h))
+
+-- The words of a heap hold a machine's objects. Above them the ephemeral segment is clear, from the header of the next object
+-- on, and no context has its rest there.
+pub record IsHeld (rows : List TypeRow) (h : HeapView) : Type 0 where
+  pub walkable : AreWalkable rows h
+  pub clear_tail : (b : ℕ) → b % 8 ≡ 0 → tail_of h ≤ b + 8 → b < reserved_end (ephemeral (frame h)) → word_of h b ≡ 0
+  pub rests_below : (q : ℕ) → tail_of h ≤ q → hole_from h.rests q ≡ None
+
+-- ---- births
+
+-- the object that is new at a place: its references are null, and its numbers 0
+abbrev pub newborn_at : List TypeRow → ℕ → ℕ → ℕ → Object
+newborn_at rows place t n = record { name = place; place = place; type = t; len = n; slots = empty_slots (form_at rows t) n; suppressed = false }
+
+-- The old heap with one object more at the end of its ephemeral segment, which then ends past it. Objects by rising place.
+pub record HasNewborn (rows : List TypeRow) (old new : HeapView) (t n : ℕ) : Type 0 where
+  pub objects : objects_in rows new ≡ sorted_by (λ o. o.name) (objects_in rows old ++ newborn_at rows (tail_of old) t n ∷ [])
+  pub free : free_in rows new ≡ free_in rows old
+  pub layout : layout_in rows new ≡ with_end (layout_in rows old) (ephemeral (frame old)).base (tail_of old + size_of (form_at rows t) n)
+  pub young : young_bytes rows new ≡ young_bytes rows old + size_of (form_at rows t) n
+  pub held : IsHeld rows new
+
+-- ---- stores
+
+-- slot j of the object that an item of the heap is, where it is a whole word, a reference or a number
+pub record IsWordSlot (rows : List TypeRow) (h : HeapView) (i : Item) (j : ℕ) (reference : Bool) : Type 0 where
+  pub listed : IsIn i (heap_items rows h)
+  pub words : is_bytes (form_at rows i.type_id.0) ≡ false
+  pub kind : slice_get (slot_kinds (form_at rows i.type_id.0) i.len) j ≡ Some reference
+
+-- slot j of an array of bytes that an item of the heap is
+pub record IsByteSlot (rows : List TypeRow) (h : HeapView) (i : Item) (j : ℕ) : Type 0 where
+  pub listed : IsIn i (heap_items rows h)
+  pub bytes : is_bytes (form_at rows i.type_id.0) ≡ true
+  pub inside : j < i.len
+
+-- where it stands
+abbrev pub slot_address : List TypeRow → Item → ℕ → ℕ
+slot_address rows i j = i.place + slot_offset (form_at rows i.type_id.0) j
+
+-- The old heap, where slot j of the object at a place has another value.
+pub record HasStored (rows : List TypeRow) (old new : HeapView) (place j : ℕ) (value : Value) : Type 0 where
+  pub objects : objects_in rows new ≡ changed_by (λ o. o.name) place (with_slot_of j value) (objects_in rows old)
+  pub items : heap_items rows new ≡ heap_items rows old
+  pub layout : layout_in rows new ≡ layout_in rows old
+  pub young : young_bytes rows new ≡ young_bytes rows old
+  pub held : IsHeld rows new

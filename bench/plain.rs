@@ -1,5 +1,5 @@
 //! The same work as clr_speed and clr_walk_speed, in plain Rust: a base address and a vector of words, and over it
-//! objects that are made one after the other.
+//! objects that are made one after the other in an allocation context.
 use std::hint::black_box;
 use std::time::Instant;
 
@@ -8,6 +8,9 @@ const FIRST_WORD: u64 = 0x7ff0_0000_0000;
 
 /// How far the first object stands above the base.
 const FIRST_OFFSET: u64 = 0x1000;
+
+/// How many bytes an allocation context has where they are there.
+const CONTEXT_SIZE: u64 = 8192;
 
 struct Mem {
     base: u64,
@@ -130,31 +133,97 @@ struct Heap {
     types: Vec<Type>,
     end: u64,
     limit: u64,
+    /// What is left of the one allocation context.
+    front: u64,
+    back: u64,
+    /// The places and sizes of the free items, by rising place.
+    free: Vec<(u64, u64)>,
+}
+
+/// Whether a size fills so many bytes, or leaves at least 24 of them.
+fn fits(size: u64, bytes: u64) -> bool {
+    size == bytes || size + 24 <= bytes
 }
 
 impl Heap {
     fn new(base: u64, size: u64, types: Vec<Type>) -> Heap {
         let mem = Mem::new(base, size);
-        Heap { mem, types, end: base + FIRST_OFFSET, limit: base + size }
+        let end = base + FIRST_OFFSET;
+        Heap { mem, types, end, limit: base + size, front: 0, back: 0, free: Vec::new() }
     }
 
-    /// The place of a new object at the end, or 0 where there is no room.
+    fn write_free(&mut self, place: u64, size: u64) {
+        self.mem.set_word(place - 8, 0);
+        self.mem.set_word(place, FIRST_WORD);
+        self.mem.set_word(place + 8, size - 24);
+    }
+
+    /// What is left of the context becomes a free item.
+    fn give_up(&mut self) {
+        if self.front < self.back {
+            let (place, size) = (self.front, self.back - self.front);
+            self.write_free(place, size);
+            let at = self.free.partition_point(|item| item.0 < place);
+            self.free.insert(at, (place, size));
+        }
+    }
+
+    /// The context is the front of a free item, of which the rest stays free.
+    fn open_in(&mut self, place: u64, size: u64, taken: u64) {
+        let at = self.free.partition_point(|item| item.0 < place);
+        if taken == size {
+            self.free.remove(at);
+        } else {
+            self.write_free(place + taken, size - taken);
+            self.free[at] = (place + taken, size - taken);
+        }
+        self.open(place, taken);
+    }
+
+    fn open(&mut self, place: u64, taken: u64) {
+        self.mem.zero(place - 8, taken);
+        self.front = place;
+        self.back = place + taken;
+    }
+
+    /// A new context, from the first free item in which the size fits, else from behind the end.
+    fn refill(&mut self, size: u64) -> bool {
+        let found = self.free.iter().find(|item| fits(size, item.1)).copied();
+        if found.is_none() && self.end + size > self.limit {
+            return false;
+        }
+        let wanted = if size + 24 <= CONTEXT_SIZE { CONTEXT_SIZE } else { size };
+        self.give_up();
+        match found {
+            Some((place, bytes)) => {
+                self.open_in(place, bytes, if fits(wanted, bytes) { wanted } else { bytes });
+            }
+            None => {
+                let taken = if self.end + wanted > self.limit { size } else { wanted };
+                self.open(self.end, taken);
+                self.end += taken;
+            }
+        }
+        true
+    }
+
+    /// The place of a new object at the front of the context, or 0 where there is no room.
     fn make(&mut self, t: usize, len: u64) -> u64 {
-        let place = self.end;
         let size = self.types[t].size(len);
-        if place + size > self.limit {
+        if !fits(size, self.back - self.front) && !self.refill(size) {
             return 0;
         }
+        let place = self.front;
         self.mem.set_word(place - 8, 0);
         self.mem.set_word(place, FIRST_WORD + 64 * t as u64);
         if self.types[t].has_length() {
             self.mem.set_word(place + 8, len);
         }
-        self.end = place + size;
+        self.front = place + size;
         place
     }
 
-    /// The size of the object at a place, marked or not.
+    /// The size of the object or free item at a place, marked or not.
     fn size_at(&self, place: u64) -> u64 {
         let word = self.mem.word(place) / 2 * 2;
         let found = &self.types[((word - FIRST_WORD) / 64) as usize];
@@ -176,6 +245,10 @@ fn walk_often(heap: &Heap, rounds: u64) -> u64 {
     for _ in 0..rounds {
         let mut place = heap.mem.base + FIRST_OFFSET;
         while place < heap.end {
+            if place == heap.front && heap.front < heap.back {
+                place = heap.back;
+                continue;
+            }
             let size = heap.size_at(place);
             sum = sum.wrapping_add(size);
             place += size;

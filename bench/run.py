@@ -28,8 +28,9 @@ clr_mem: byteorder
 clr_model: clr_nums clr_types
 clr_heap: clr_types clr_mem
 clr_view: clr_types clr_mem clr_model clr_heap
+clr_ctx: clr_types clr_mem clr_model clr_heap clr_view
 clr_speed: clr_mem anyhow
-clr_walk_speed: clr_types clr_heap clr_view anyhow
+clr_walk_speed: clr_types clr_model clr_heap clr_view clr_ctx anyhow
 """
 PROGRAMS = ["clr_speed", "clr_walk_speed"]
 # How many words or objects each time is for, and what one of them is.

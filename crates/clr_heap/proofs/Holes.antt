@@ -181,7 +181,8 @@ module _ (rows : List TypeRow) (h : HeapView) (k i : ℕ) (walk : IsWalkable row
     old_start q ne s = let P : Option Piece → Type 0 = λ o. StartsAt o q in ne (sym (subst P had s))
 
     -- THE RULE OF DRAWING: an item stands at the front of the hole, and the rest of it is still a hole
-    pub drawn_run : IsMakeable rows t n → (low + size_of (form_at rows t) n ≡ high) ⊎ (low + size_of (form_at rows t) n + 24 ≤ high) → hole_from (set h.rests i None) (low + size_of (form_at rows t) n) ≡ None
+    pub drawn_run : IsMakeable rows t n → (low + size_of (form_at rows t) n ≡ high) ⊎ (low + size_of (form_at rows t) n + 24 ≤ high)
+        → (low + size_of (form_at rows t) n ≢ high → hole_from (set h.rests i None) (low + size_of (form_at rows t) n) ≡ None)
         → PartsAre rows (record p { rests = set p.rests i (rest_between (low + size_of (form_at rows t) n) high) }) k (replace_run (parts_of rows h k) low high (item_part (made_item rows low t n) ∷ rest_parts (low + size_of (form_at rows t) n) high))
     drawn_run item fits clear =
         let last = low + size_of (form_at rows t) n in
@@ -200,7 +201,7 @@ module _ (rows : List TypeRow) (h : HeapView) (k i : ℕ) (walk : IsWalkable row
         let back : Spells (sight rows new k) last (rest_parts last high) high =
         rest_spelled (sight rows new k) last high (λ ne.
         let lower : last + 24 ≤ high = elim fits [ inl l ↦ absurd (ne l) | inr l ↦ l ] in
-        (lower, hole.whole, hole_here p.memories last high (omega arith) clear)) in
+        (lower, hole.whole, hole_here p.memories last high (omega arith) (clear ne))) in
         let whole = Spells-append (sight rows new k) (item_part (made_item rows low t n) ∷ []) (rest_parts last high) low last high front back in
         let P : HeapView → Type 0 = λ g. PartsAre rows g k (replace_run (parts_of rows h k) low high (item_part (made_item rows low t n) ∷ rest_parts last high)) in
         subst P (sym (same_view o)) (run_changed rows h new k low high (item_part (made_item rows low t n) ∷ rest_parts last high) walk bounds.0 bounds.1 (omega arith)

@@ -22,3 +22,5 @@ pub mod Acquiring
 pub mod Clearing
 pub mod Addresses
 pub mod Young
+pub mod Zeroing
+pub mod Swaps

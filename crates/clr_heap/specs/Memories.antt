@@ -51,6 +51,10 @@ pub record InOne (ms : List Memory) (a n : ℕ) : Type 0 where
 abbrev pub moves : ℕ → ℕ → ℕ → (ℕ → ℕ) → ℕ → ℕ
 moves from to n old b = if (nat_le to b && nat_lt b (to + n)) then old (from + (b - to)) else old b
 
+-- what clearing n bytes from a on makes of the words
+abbrev pub clears : ℕ → ℕ → (ℕ → ℕ) → ℕ → ℕ
+clears a n old b = if (nat_le a b && nat_lt b (a + n)) then 0 else old b
+
 -- a memory with no word written
 abbrev pub first_memory : ℕ → ℕ → Memory
 first_memory base len = record { base = base; words = zeros (len / 8) }

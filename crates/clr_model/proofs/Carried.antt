@@ -1,12 +1,13 @@
 -- Lines carried from a picture to every machine that it stands for.
-use Rattle.std.proofs.Common.{refl, subst}
+use Rattle.std.proofs.Common.{◌≡◌, refl, sym, subst, Option, Some, None, MatchOption}
 use Rattle.clr_model.specs.declared.Refusal.{Refusal}
 use Rattle.clr_model.specs.Machine.{Machine}
 use Rattle.clr_model.specs.Lawful.{IsBirthNamed}
 use Rattle.clr_model.specs.Picture.{picture}
 use Rattle.clr_model.specs.Instructions.{Instruction}
 use Rattle.clr_model.specs.Outcomes.{Outcome, refused}
-use Rattle.clr_model.specs.Step.{Obeys}
+use Rattle.clr_model.specs.Checks.{refusal as first_refusal}
+use Rattle.clr_model.specs.Step.{Obeys, Does}
 use Rattle.clr_model.specs.Run.{StandsFor, Follows}
 
 -- each machine that is seen so obeys the line with this outcome, and is then seen as the new picture shows
@@ -29,3 +30,30 @@ refusal_carried_by i premise r core = carried i premise (λ s. refused r) (λ s.
 pub follows : (seen : Machine) (i : Instruction) (outcome : Outcome) (new : Machine) → IsCarried seen i outcome new → Follows seen i outcome new
 unfolding Follows
 follows seen i outcome new carried = carried
+
+-- What holds while a machine stands for what is seen may be used.
+pub follows_if_stands : (seen : Machine) (i : Instruction) (outcome : Outcome) (new : Machine) → ((m : Machine) → StandsFor seen m → Follows seen i outcome new) → Follows seen i outcome new
+unfolding Follows
+follows_if_stands seen i outcome new f = λ m stands. f m stands m stands
+
+-- A line whose checks see in the picture what they see in the machine, and that does to the machine what it does to the picture.
+pub record IsAlike (i : Instruction) : Type 0 where
+  pub checks : (m : Machine) → IsBirthNamed m → first_refusal (picture m) i ≡ first_refusal m i
+  pub does : (m : Machine) → IsBirthNamed m → first_refusal m i ≡ None → (outcome : Outcome) (after : Machine) → Does (picture m) i outcome after
+      → (next : Machine) × Does m i outcome next × IsBirthNamed next × (picture next ≡ after)
+
+-- Such a line is obeyed by each machine that is seen so.
+pub follows_alike : (i : Instruction) → IsAlike i → (seen : Machine) (outcome : Outcome) (after : Machine) → Obeys seen i outcome after → Follows seen i outcome after
+unfolding Follows
+follows_alike i alike seen outcome after h m stands = go (first_refusal m i) refl (subst (λ (r : Option Refusal). MatchOption r (Does (picture m) i outcome after) (λ r. (outcome ≡ refused r) × (after ≡ picture m))) (alike.checks m stands.lawful) here)
+  where
+    here : Obeys (picture m) i outcome after
+    here = subst (λ (s : Machine). Obeys s i outcome after) (sym stands.seen_is) h
+
+    go : (r : Option Refusal) → first_refusal m i ≡ r → MatchOption r (Does (picture m) i outcome after) (λ r. (outcome ≡ refused r) × (after ≡ picture m))
+        → (next : Machine) × Obeys m i outcome next × StandsFor after next
+    go None e does =
+        let (next, done, lawful, shown) = alike.does m stands.lawful e outcome after does in
+        (next, subst (λ (r : Option Refusal). MatchOption r (Does m i outcome next) (λ r. (outcome ≡ refused r) × (next ≡ m))) (sym e) done, record { lawful = lawful; seen_is = shown })
+    go (Some r) e (is, same) =
+        (m, subst (λ (r : Option Refusal). MatchOption r (Does m i outcome m) (λ r. (outcome ≡ refused r) × (m ≡ m))) (sym e) (is, refl), record { lawful = stands.lawful; seen_is = sym same })

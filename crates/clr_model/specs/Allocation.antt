@@ -9,7 +9,7 @@ use Rattle.clr_model.specs.Machine.{Machine}
 use Rattle.clr_model.specs.Lookups.{lowest_in_step}
 use Rattle.clr_model.specs.Updates.{given_up, all_given_up, with_rest}
 use Rattle.clr_model.specs.Collection.{Collects, which}
-use Rattle.clr_model.specs.Stage.{has_contexts, allocation_collects, seals, collections_take_memory}
+use Rattle.clr_model.specs.Stage.{allocation_collects, seals, collections_take_memory}
 use Rattle.clr_types.specs.declared.segment.SegKind.{SegKind}
 use Rattle.clr_types.specs.declared.segment.SegKind.TheVariants.{Small, Ephemeral, Large}
 use Rattle.clr_types.specs.declared.segment.SegInfo.{SegInfo}
@@ -54,7 +54,7 @@ own_fits layout t size = rest_fits (rest_of layout t) size
 
 -- how many bytes a new context is to have
 abbrev pub want : ℕ → ℕ
-want size = if has_contexts && nat_le (size + 24) 8192 then 8192 else size
+want size = if nat_le (size + 24) 8192 then 8192 else size
 
 -- the free item at the place gives the size from its front, and what is left of it stays
 abbrev pub taken_from : ℕ → ℕ → List Piece → List Piece

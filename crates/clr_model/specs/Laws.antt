@@ -1,10 +1,23 @@
 -- Laws on the definitions. Each is the contract of a function that does nothing.
-use Rattle.std.specs.Prelude.{◌≡◌, ℕ, Bool}
-use Rattle.clr_types.specs.Rising.{Tests}
-use Rattle.clr_model.specs.Machine.{Machine, Options}
+use Rattle.std.specs.Prelude.{◌≡◌, ℕ, ◌+◌, ◌<◌, ◌≤◌, Bool, true, false, min, Some, List}
+use Rattle.std.specs.List.{AllByRecursion}
+use Rattle.clr_types.specs.Rising.{IsIn, Tests}
+use Rattle.clr_types.specs.Ranges.{Piece, piece_end}
+use Rattle.clr_types.specs.Segments.{Layout, generation, is_small_or_ephemeral}
+use Rattle.clr_types.specs.LawfulLayout.{IsLawfulLayout, IsTiled}
+use Rattle.clr_model.specs.declared.How.{How}
+use Rattle.clr_model.specs.declared.Collected.{Collected}
+use Rattle.clr_model.specs.Machine.{Machine, Object, Options}
+use Rattle.clr_model.specs.Lookups.{object_named, is_pinned, pieces}
+use Rattle.clr_model.specs.Picture.{picture}
 use Rattle.clr_model.specs.Reach.{First, Kept, StartOf}
-use Rattle.clr_model.specs.Lawful.{IsBirthNamed, AreLawfulOptions}
+use Rattle.clr_model.specs.Sweep.{survivors, swept_small, is_in_part}
+use Rattle.clr_model.specs.Compaction.{Move, IsCompacted}
+use Rattle.clr_model.specs.Collection.{Collects}
+use Rattle.clr_model.specs.Lawful.{IsLaid, IsLawful, IsBirthNamed, AreLawfulOptions}
 use Rattle.clr_model.specs.Run.{opening}
+use Rattle.clr_model.specs.Instructions.{Instruction}
+use Rattle.clr_model.specs.LineGrammar.{IsLine}
 
 -- what is alive before finalisation is kept
 abbrev pub FirstIsKeptLaw : Type 0
@@ -17,3 +30,81 @@ OneTestLaw = (m : Machine) (g : ℕ) (one other : ℕ → Bool) → Tests one (F
 -- a script opens in a lawful state
 abbrev pub OpeningLaw : Type 0
 OpeningLaw = (options : Options) → AreLawfulOptions options → IsBirthNamed (opening options)
+
+-- ---- the layout that a collection leaves
+
+-- a compaction of the small heap leaves a lawful layout, whatever stays
+abbrev pub CompactionLayoutLaw : Type 0
+CompactionLayoutLaw =
+    (m : Machine) (g : ℕ) (kept : ℕ → Bool) (moves : List Move) (new : Layout) → IsLaid m → g ≤ 2
+    → IsCompacted m.layout g (survivors m g kept) moves new → IsLawfulLayout new
+
+-- and so does a sweep
+abbrev pub SweepLayoutLaw : Type 0
+SweepLayoutLaw = (m : Machine) (g : ℕ) (kept : ℕ → Bool) → IsLaid m → g ≤ 2 → IsLawfulLayout (swept_small m.layout g (survivors m g kept))
+
+-- and so does a whole collection, which also sweeps the large heap and releases segments
+abbrev pub CollectionLayoutLaw : Type 0
+CollectionLayoutLaw = (m : Machine) (g : ℕ) (how : How) (answer : Collected) (new : Machine) → IsLawful m → g ≤ 2 → Collects m g how answer new → IsLawfulLayout new.layout
+
+-- after a collection of a younger generation, objects and free items fill every segment from its first place to its end
+abbrev pub YoungTilesLaw : Type 0
+YoungTilesLaw = (m : Machine) (g : ℕ) (how : How) (answer : Collected) (new : Machine) → IsLawful m → g ≤ 1 → Collects m g how answer new → AllByRecursion (IsTiled (pieces new)) new.layout.segments
+
+-- ---- the objects that a collection leaves
+
+-- the object of this name has this generation
+abbrev pub HasGeneration : Machine → ℕ → ℕ → Type 0
+HasGeneration m name g = (o : Object) × (object_named m.objects name ≡ Some o) × (generation m.layout o.place ≡ g)
+
+-- the generation after a collection of generation g, by the one before, and by whether the object is pinned and the small heap was compacted
+pub record IsPromoted (g : ℕ) (pinned compacted : Bool) (before after : ℕ) : Type 0 where
+  pub old_stays : g < before → after ≡ before
+  pub free_rises : before ≤ g → pinned ≡ false → after ≡ min 2 (before + 1)
+  pub swept_rises : before ≤ g → compacted ≡ false → after ≡ min 2 (before + 1)
+  pub none_skips : before ≤ g → after ≤ min 2 (before + 1)
+
+-- A condemned object gets the next older generation, but a compaction may leave a pinned one in that or a younger one. An older object keeps its generation.
+abbrev pub PromotionLaw : Type 0
+PromotionLaw =
+    (m : Machine) (g : ℕ) (how : How) (answer : Collected) (new : Machine) → IsLawful m → g ≤ 2 → Collects m g how answer new
+    → (name before after : ℕ) → HasGeneration m name before → HasGeneration new name after → IsPromoted g (is_pinned m name) answer.compacted before after
+
+-- the object of this name stands at the place
+abbrev pub HasPlace : Machine → ℕ → ℕ → Type 0
+HasPlace m name place = (o : Object) × (object_named m.objects name ≡ Some o) × (o.place ≡ place)
+
+-- pinned objects stay where they are
+abbrev pub PinnedStayLaw : Type 0
+PinnedStayLaw =
+    (m : Machine) (g : ℕ) (how : How) (answer : Collected) (new : Machine) → IsLawful m → g ≤ 2 → Collects m g how answer new
+    → (name before after : ℕ) → is_pinned m name ≡ true → HasPlace m name before → HasPlace new name after → after ≡ before
+
+-- no object goes to a higher place
+abbrev pub NoneRisesLaw : Type 0
+NoneRisesLaw =
+    (m : Machine) (g : ℕ) (how : How) (answer : Collected) (new : Machine) → IsLawful m → g ≤ 2 → Collects m g how answer new
+    → (name before after : ℕ) → HasPlace m name before → HasPlace new name after → after ≤ before
+
+-- ---- free items
+
+-- each free item that a compaction leaves in a condemned part of the small heap lies right before a pinned object
+abbrev pub FreeBeforePinsLaw : Type 0
+FreeBeforePinsLaw =
+    (m : Machine) (g : ℕ) (how : How) (answer : Collected) (new : Machine) → IsLawful m → g ≤ 2 → Collects m g how answer new → answer.compacted ≡ true
+    → (p : Piece) → IsIn p new.layout.free → is_in_part is_small_or_ephemeral m.layout g p ≡ true
+    → (o : Object) × IsIn o new.objects × (o.place ≡ piece_end p) × (is_pinned m o.name ≡ true)
+
+-- ---- names
+
+-- What a collection does to the picture of a machine, it does to the machine, whatever its objects are called.
+abbrev pub CollectionNamesLaw : Type 0
+CollectionNamesLaw =
+    (m : Machine) (g : ℕ) (how : How) (answer : Collected) (after : Machine) → IsLawful m → g ≤ 2 → Collects (picture m) g how answer after
+    → (next : Machine) × Collects m g how answer next × (picture next ≡ picture after)
+
+-- ---- lines
+
+-- a line is the line of one instruction at most
+abbrev pub OneReadingLaw : Type 0
+OneReadingLaw = (bytes : List ℕ) (i j : Instruction) → IsLine bytes i → IsLine bytes j → i ≡ j

@@ -15,6 +15,7 @@ pub mod Stage
 pub mod Allocation
 pub mod ReplyText
 pub mod LineGrammar
+pub mod Parsing
 pub mod Checks
 pub mod Sos
 pub mod Outcomes

@@ -7,7 +7,7 @@ use Rattle.clr_model.specs.Machine.{no_step, Options, Machine}
 use Rattle.clr_model.specs.Lawful.{IsBirthNamed}
 use Rattle.clr_model.specs.Picture.{picture}
 use Rattle.clr_model.specs.Instructions.{Instruction}
-use Rattle.clr_model.specs.Stage.{is_built, limits_lines}
+use Rattle.clr_model.specs.Stage.{is_built}
 use Rattle.clr_model.specs.LineGrammar.{IsLine, script_lines}
 use Rattle.clr_model.specs.Outcomes.{Outcome, refused, outcome_text}
 use Rattle.clr_model.specs.Step.{Obeys}
@@ -55,8 +55,8 @@ pub record Reads (bytes : List ℕ) (i : Instruction) : Type 0 where
 
 -- One line of bytes is refused for its length, or for its syntax where it says nothing, or it is obeyed.
 pub data Step (m : Machine) (bytes : List ℕ) (outcome : Outcome) (new : Machine) : Type 0 where
-  too_long : IsTrue limits_lines → 4096 < length bytes → outcome ≡ refused refusal.TooLong → new ≡ m → Step m bytes outcome new
-  no_syntax : (IsTrue limits_lines → length bytes ≤ 4096) → ((i : Instruction) → Reads bytes i → ⊥) → outcome ≡ refused refusal.Syntax → new ≡ m → Step m bytes outcome new
+  too_long : 4096 < length bytes → outcome ≡ refused refusal.TooLong → new ≡ m → Step m bytes outcome new
+  no_syntax : length bytes ≤ 4096 → ((i : Instruction) → Reads bytes i → ⊥) → outcome ≡ refused refusal.Syntax → new ≡ m → Step m bytes outcome new
   obeyed : (i : Instruction) → Reads bytes i → Obeys m i outcome new → Step m bytes outcome new
 
 -- each line in its turn, from one state to another

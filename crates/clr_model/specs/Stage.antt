@@ -1,10 +1,10 @@
 -- Which lines and which steps of the machine are built: all else speaks of the whole machine.
-use Rattle.std.specs.Prelude.{Bool, true, false, ◌==◌, nat_lt, ◌&&◌, not, is_none}
+use Rattle.std.specs.Prelude.{Bool, true, false, ◌&&◌, not, is_none}
 use Rattle.clr_model.specs.declared.Mode.{Mode}
 use Rattle.clr_model.specs.declared.Mode.TheVariants.{Full}
 use Rattle.clr_model.specs.declared.Life.{Life}
 use Rattle.clr_model.specs.declared.Life.TheVariants.{Any}
-use Rattle.clr_model.specs.Instructions.{Instruction, DumpOptions, define_type, new_object, dump_heap}
+use Rattle.clr_model.specs.Instructions.{Instruction, DumpOptions, define_type, new_object, get_slot, set_slot, put_number, read_number, copy_local, clear_local, dump_heap}
 
 abbrev pub is_full_mode : Mode → Life → Bool
 is_full_mode Full Any = true
@@ -14,24 +14,18 @@ is_full_mode _ _ = false
 abbrev pub is_plain_dump : DumpOptions → Bool
 is_plain_dump o = is_full_mode o.mode o.life && ((is_none o.mt && is_none o.name) && (is_none o.least && is_none o.greatest))
 
--- types without finaliser may be defined, objects of them made by the first thread, and the heap shown
+-- types without finaliser may be defined, objects of them made, slots and locals read and written, and the heap shown
 abbrev pub is_built : Instruction → Bool
 is_built (define_type name form finalizer) = not finalizer
-is_built (new_object t k name len) = (t == 1) && nat_lt k 64
+is_built (new_object t k name len) = true
+is_built (get_slot t to from index) = true
+is_built (set_slot t into index from) = true
+is_built (put_number t into index value) = true
+is_built (read_number t from index) = true
+is_built (copy_local t to from) = true
+is_built (clear_local t local) = true
 is_built (dump_heap options) = is_plain_dump options
 is_built _ = false
-
--- a line of more than 4,096 bytes is refused for its length; without that it is one that says nothing
-abbrev pub limits_lines : Bool
-limits_lines = false
-
--- threads have contexts; without them an object takes just its own bytes from the tail
-abbrev pub has_contexts : Bool
-has_contexts = false
-
--- a birth takes memory, so it may be refused for that
-abbrev pub births_take_memory : Bool
-births_take_memory = false
 
 -- an allocation may collect; without that it is refused where the own context and the heap as it is have no room
 abbrev pub allocation_collects : Bool

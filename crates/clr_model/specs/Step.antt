@@ -1,5 +1,5 @@
 -- What each line does: the state and the outcome that the machine may go on to.
-use Rattle.std.specs.Prelude.{◌≡◌, ℕ, ◌+◌, ◌%◌, ◌<◌, List, [], ◌∷◌, ◌++◌, length, if◌then◌else◌, nat_le, Bool, true, false, ◌||◌, ◌⊎◌, IsTrue, Option, Some, None, MatchOption, MatchBool, slice_get, unwrap_or, codes}
+use Rattle.std.specs.Prelude.{◌≡◌, ℕ, ◌+◌, ◌%◌, ◌<◌, List, [], ◌∷◌, ◌++◌, length, if◌then◌else◌, nat_le, Bool, true, false, ◌⊎◌, IsTrue, Option, Some, None, MatchOption, MatchBool, slice_get, unwrap_or, codes}
 use Rattle.std.specs.FinMap as finmap
 use Rattle.clr_types.specs.Rising.{Tests}
 use Rattle.clr_types.specs.Types.{TypeRow, Form, mt_of, is_bytes, number_of, size_of, type_row, form_at, has_finalizer}
@@ -21,7 +21,6 @@ use Rattle.clr_model.specs.Allocation.{Attempt, roomed, waits, out_of_room, out_
 use Rattle.clr_model.specs.Instructions.{Instruction, define_type, new_object, get_slot, set_slot, put_number, read_number, copy_local, clear_local, suppress_object, reregister_object, collect_heap, suspend_others, resume_others, begin_set, begin_new, finish_step, create_handle, fetch_target, fetch_second, free_handle, take_ready, dump_heap, dump_object, show_root, show_segments, verify_heap, show_handles, show_queues, where_is}
 use Rattle.clr_model.specs.Checks.{refusal as first_refusal, made_size}
 use Rattle.clr_model.specs.Sos.{dumpheap_text, dumpobj_text, IsRootText, eeheap_text, gchandles_text, finalizequeue_text, where_of, line}
-use Rattle.clr_model.specs.Stage.{births_take_memory}
 use Rattle.clr_model.specs.Outcomes.{Outcome, answered, shown, refused}
 
 -- ---- outcomes
@@ -131,9 +130,9 @@ BeginsNew m t local type len outcome new =
     (attempt : Attempt) × (ready : Machine) × MakesRoom m t (size_of (form_at m.types type) len) attempt ready
     × ((attempt ≡ roomed × Replies outcome reply.Done new (with_step ready t (begun_new type len local))) ⊎ (Fails attempt outcome × (new ≡ ready)))
 
--- Before any change memory may be wanting: for the finalisation entry of the object, and for any birth while births take memory.
+-- Before any change memory may be wanting for the finalisation entry of the object.
 abbrev pub WantsEntry : Machine → ℕ → Outcome → Machine → Type 0
-WantsEntry m type outcome new = IsTrue (births_take_memory || has_finalizer (type_row m.types type)) × WantsMemory m outcome new
+WantsEntry m type outcome new = IsTrue (has_finalizer (type_row m.types type)) × WantsMemory m outcome new
 
 -- the other half of a step
 abbrev pub FinishesStep : Machine → ℕ → ThreadStep → Outcome → Machine → Type 0

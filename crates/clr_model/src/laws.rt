@@ -1,5 +1,5 @@
 //! Laws on the definitions, each the contract of a function that does nothing.
-ghost use Rattle.clr_model.specs.Laws.{FirstIsKeptLaw, OneTestLaw, OpeningLaw};
+ghost use Rattle.clr_model.specs.Laws.{FirstIsKeptLaw, OneTestLaw, OpeningLaw, CompactionLayoutLaw, SweepLayoutLaw, CollectionLayoutLaw, YoungTilesLaw, PromotionLaw, PinnedStayLaw, NoneRisesLaw, FreeBeforePinsLaw, CollectionNamesLaw, OneReadingLaw};
 
 /// What is alive before finalisation is kept.
 pub fn first_is_kept()
@@ -14,4 +14,54 @@ pub fn one_test()
 /// A script opens in a lawful state.
 pub fn opening_is_lawful()
     ensures { OpeningLaw }
+{}
+
+/// A compaction of the small heap leaves a lawful layout.
+pub fn a_compaction_leaves_a_lawful_layout()
+    ensures { CompactionLayoutLaw }
+{}
+
+/// A sweep of the small heap leaves a lawful layout.
+pub fn a_sweep_leaves_a_lawful_layout()
+    ensures { SweepLayoutLaw }
+{}
+
+/// A whole collection leaves a lawful layout.
+pub fn a_collection_leaves_a_lawful_layout()
+    ensures { CollectionLayoutLaw }
+{}
+
+/// After a collection of generation 0 or 1, objects and free items fill every segment.
+pub fn a_young_collection_fills_the_segments()
+    ensures { YoungTilesLaw }
+{}
+
+/// A condemned object that stays gets the next older generation, and a pinned one at most that; an older object keeps its generation.
+pub fn objects_are_promoted()
+    ensures { PromotionLaw }
+{}
+
+/// A collection leaves pinned objects where they are.
+pub fn pinned_objects_stay()
+    ensures { PinnedStayLaw }
+{}
+
+/// A collection moves no object to a higher place.
+pub fn no_object_rises()
+    ensures { NoneRisesLaw }
+{}
+
+/// Each free item that a compaction leaves lies right before a pinned object.
+pub fn free_items_lie_before_pins()
+    ensures { FreeBeforePinsLaw }
+{}
+
+/// What a collection does to a machine's picture, it does to the machine, whatever its objects are called.
+pub fn names_do_not_matter()
+    ensures { CollectionNamesLaw }
+{}
+
+/// A line has one reading: two instructions whose line it is are one.
+pub fn a_line_has_one_reading()
+    ensures { OneReadingLaw }
 {}

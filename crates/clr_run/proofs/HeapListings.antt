@@ -1,28 +1,28 @@
 -- The listing of a heap: its items in their order, and what they come to.
-use Rattle.std.proofs.Common.{◌≡◌, ◌∙◌, ◌&&◌, ℕ, ◌+◌, ◌-◌, ◌≤◌, ◌<◌, ◌^◌, Bool, true, List, [], ◌∷◌, ◌++◌, filter, length, not, refl, sym, ap, ap₂, arith, append-nil, cond, length-append, append_assoc, if◌then◌else◌, false, subst}
+use Rattle.std.proofs.Common.{◌≡◌, ◌∙◌, ◌&&◌, ℕ, ◌+◌, ◌-◌, ◌≤◌, ◌<◌, ◌^◌, Bool, true, List, [], ◌∷◌, ◌++◌, filter, length, map, not, refl, sym, ap, ap₂, arith, append-nil, cond, length-append, append_assoc, if◌then◌else◌, false, subst}
 use Rattle.std.specs.List.{AllByRecursion, flat_map}
 use Rattle.std.proofs.lemmas.Bool.{le-leb}
 use Rattle.std.proofs.lemmas.List.Filters.{sum_by-filter_both, length-filter_both}
 use Rattle.std.proofs.lemmas.List.Sums.{sum_by-cons}
 use Rattle.std.proofs.lemmas.List.Elements.{filter-append}
 use Rattle.std.proofs.lemmas.Grind.{flat_map-append}
+use Rattle.clr_types.specs.Rising.{sorted_by}
+use Rattle.clr_types.specs.Segments.{Layout}
 use Rattle.clr_types.specs.Types.{TypeRow}
 use Rattle.clr_types.specs.declared.item.Item.{Item}
 use Rattle.clr_types.proofs.ChangedLists.{all_imply}
 use Rattle.clr_heap.specs.View.{AreWalkable, HeapView, IsHeap, first_of, heap_items, last_of, listing, listings}
 use Rattle.clr_heap.proofs.Framing.{lawful_at, below_top_at}
-use Rattle.clr_view.specs.View.{IsHeld}
+use Rattle.clr_view.specs.View.{IsHeld, layout_in, objects_in}
 use Rattle.clr_view.proofs.Items.{AreStacked, IsItem}
 use Rattle.clr_view.proofs.Listings.{heap-cut, heap-stacked, listing-are, listings-all}
 use Rattle.clr_view.proofs.Walked.{listing_shown, walked-on}
 use Rattle.clr_model.specs.declared.Mode.TheVariants.{Full}
-use Rattle.clr_model.specs.Machine.{Machine}
+use Rattle.clr_model.specs.Listing.{free_item, object_item}
+use Rattle.clr_model.specs.Machine.{Machine, Object}
 use Rattle.clr_model.specs.Sos.{bytes_in, is_free_item, item_line, total_line, dump_by_mode, dumpheap_text, passes}
-use Rattle.clr_run.specs.BuiltLines.{no_options}
-use Rattle.clr_run.specs.Dumping.{AreFew, counted, no_free, totals_line, with_totals}
-use Rattle.clr_run.specs.RuntimeView.{shown, seen, IsRuntime}
-use Rattle.clr_run.specs.declared.runtime.Runtime.TheInside.{Inside}
-use Rattle.clr_run.specs.declared.runtime.dump.Totals.{Totals}
+use Rattle.clr_run.specs.Dumping.{AreFew, counted, no_free, no_options, totals_line, with_totals}
+use Rattle.clr_run.specs.declared.dump.Totals.{Totals}
 
 -- ---- how many bytes
 
@@ -105,20 +105,26 @@ filter-all : {X : Type 0} (test : X → Bool) (xs : List X) → AllByRecursion (
 filter-all test [] h = refl
 filter-all test (x ∷ xs) h = ap₂ (λ b rest. cond b (x ∷ rest) rest) h.0 (filter-all test xs h.1)
 
+-- what `dumpheap` shows of these types, objects and layout
+abbrev listed : List TypeRow → List Object → Layout → (ℕ → Bool) → List ℕ
+listed rows objects layout live = dump_by_mode Full rows (filter (passes rows live no_options) (sorted_by (λ i. i.place) (map (object_item rows) objects ++ map free_item layout.free)))
+
 -- a line for each item, and the line of the totals, are what `dumpheap` shows
-pub text-shown : (rows : List TypeRow) (h : HeapView) (locals : List ℕ) (live : ℕ → Bool) → IsHeap h → IsHeld rows h
-    → flat_map (item_line rows) (heap_items rows h) ++ total_line (heap_items rows h) ≡ dumpheap_text (shown rows h locals) live no_options
-text-shown rows h locals live heap held =
+text-shown : (rows : List TypeRow) (h : HeapView) (live : ℕ → Bool) → IsHeap h → IsHeld rows h
+    → flat_map (item_line rows) (heap_items rows h) ++ total_line (heap_items rows h) ≡ listed rows (objects_in rows h) (layout_in rows h) live
+text-shown rows h live heap held =
     let few = heap-bytes rows h heap held.walkable in
     let room : bytes_in (heap_items rows h) ≤ 2 ^ 64 - 1 = omega (arith, few) in
     let pass = all_imply (λ (i : Item). i.size ≤ 2 ^ 64 - 1) (λ (i : Item). passes rows live no_options i ≡ true) (heap_items rows h) (passes_plain rows live) (each_within (2 ^ 64 - 1) (heap_items rows h) room) in
     let all = ap (filter (passes rows live no_options)) (listing_shown rows h heap held) ∙ filter-all (passes rows live no_options) (heap_items rows h) pass in
     ap (dump_by_mode Full rows) (sym all)
 
--- what a runtime's text of its items shows
-pub dump_shows : (r : Inside) (now : Machine) (text : List ℕ) → IsRuntime r → IsHeap r.heap → seen r ≡ now
-    → text ≡ flat_map (item_line r.types) (heap_items r.types r.heap) ++ total_line (heap_items r.types r.heap) → (live : ℕ → Bool) → text ≡ dumpheap_text now live no_options
-dump_shows r now text is heap view e live = e ∙ text-shown r.types r.heap r.locals.items live heap is.held ∙ ap (λ (m : Machine). dumpheap_text m live no_options) view
+-- what the text of a heap's items shows of a machine with its objects and layout
+pub dump_shows : (m : Machine) (rows : List TypeRow) (h : HeapView) (text : List ℕ) → rows ≡ m.types → m.objects ≡ objects_in m.types h → m.layout ≡ layout_in m.types h → IsHeap h → IsHeld m.types h
+    → text ≡ flat_map (item_line rows) (heap_items rows h) ++ total_line (heap_items rows h) → (live : ℕ → Bool) → text ≡ dumpheap_text m live no_options
+dump_shows m rows h text types objects layout heap held e live =
+    e ∙ ap (λ (rs : List TypeRow). flat_map (item_line rs) (heap_items rs h) ++ total_line (heap_items rs h)) types ∙ text-shown m.types h live heap held
+    ∙ λ i. listed m.types (sym objects i) (sym layout i) live
 
 -- ---- the totals
 

@@ -1,13 +1,9 @@
 pub mod ByteStreams
 pub mod Outputs
-pub mod WordCuts
-pub mod Readings
 pub mod LineLists
 pub mod Listings
 pub mod Feeds
-pub mod TypeNumbers
 pub mod SessionSteps
 pub mod ScriptLoop
-pub mod RuntimeSteps
 pub mod HeapListings
 pub mod LineSteps

@@ -116,11 +116,11 @@ begun-line bytes more = ap begun (sym (append_assoc bytes more (10 ∷ []))) ∙
 
 -- what is kept of a line does for the whole line
 pub whole_line : (old new : Machine) (line : List ℕ) (outcome : Outcome) → Step old (take 4097 line) outcome new → Step old line outcome new
-whole_line old new line outcome (too_long limits long is stays) =
-    let l = length-take 4097 line in too_long limits (omega (arith, l)) is stays
+whole_line old new line outcome (too_long long is stays) =
+    let l = length-take 4097 line in too_long (omega (arith, l)) is stays
 whole_line old new line outcome (no_syntax short none is stays) =
     no_syntax
-    (λ limits. let s = short limits in let l = length-take 4097 line in omega (arith, l))
+    (let l = length-take 4097 line in omega (arith, l))
     (λ i r. let l = r.short in none i (subst (λ (bytes : List ℕ). Reads bytes i) (sym (take_all 4097 line (omega arith))) r)) is stays
 whole_line old new line outcome (obeyed i r obeys) =
     let s = r.short in

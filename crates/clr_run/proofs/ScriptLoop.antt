@@ -4,7 +4,7 @@ use Rattle.std.proofs.Math.Seq.{take-append-add}
 use Rattle.clr_model.specs.Machine.{Machine, Options}
 use Rattle.clr_model.specs.LineGrammar.{script_lines, ended_lines}
 use Rattle.clr_model.specs.Outcomes.{Outcome}
-use Rattle.clr_model.specs.Run.{IsRunOf, defaults, run_text}
+use Rattle.clr_model.specs.Run.{IsRunOf, StandsFor, defaults, run_text}
 use Rattle.clr_run.specs.Faults.{Appended, Taken}
 use Rattle.clr_run.specs.Output.{Wrote, WroteSome}
 use Rattle.clr_run.specs.Progress.{RunOver, Answered, CutShort, begun}
@@ -65,10 +65,10 @@ went_on one two held held1 held2 written written1 written2 limit left n bytes ru
     }
 
 -- the end of the input came
-pub finished : (session : Session) (held held1 held2 written written1 written2 : Option (List ℕ)) (limit left : ℕ) →
-    Running session held held1 written written1 limit left → Taken held1 held2 [] → EndsWritten session written1 written2 →
-    (taken : List ℕ) × Answered defaults script_lines held held2 written written2 taken × (length taken ≤ limit)
-finished session held held1 held2 written written1 written2 limit left running read ends =
+pub finished : (session new : Session) (held held1 held2 written written1 written2 : Option (List ℕ)) (limit left : ℕ) →
+    Running session held held1 written written1 limit left → Taken held1 held2 [] → EndsWritten session new written1 written2 →
+    (taken : List ℕ) × (answered : Answered defaults script_lines held held2 written written2 taken) × StandsFor new.runtime answered.last × (length taken ≤ limit)
+finished session new held held1 held2 written written1 written2 limit left running read ends =
     let more = ends running.taken running.outcomes running.at in (
       running.taken,
       record {
@@ -77,8 +77,9 @@ finished session held held1 held2 written written1 written2 limit left running r
         run = more.2;
         read = taken_more held held1 held2 running.taken [] running.taken running.read read (append-nil running.taken);
         wrote = appended_more written written1 written2 (run_text running.outcomes) (run_text more.0) _ running.wrote
-            (all_written written1 written2 session.pending (run_text more.0) running.none_waits more.3) (sym (run_text-append running.outcomes more.0));
+            (all_written written1 written2 session.pending (run_text more.0) running.none_waits more.4) (sym (run_text-append running.outcomes more.0));
       },
+      more.3,
       let c = running.counted in omega (arith, c),
     )
 
@@ -195,12 +196,13 @@ some_of A None h = tt
 some_of A (Some script) h = h script refl
 
 -- a source that tells its bytes was read to its end, and all its lines were answered
-pub headline : (options : Options) (held held_after written written_after : Option (List ℕ)) (taken : List ℕ) → Answered options script_lines held held_after written written_after taken → IfSome held_after (λ rest. rest ≡ [])
-    → IfSome held (λ script. (text : List ℕ) × (last : Machine) × IsRunOf options script text last × Appended written written_after text × (held_after ≡ Some []))
-headline options held held_after written written_after taken answered ended = some_of _ held (λ script e. go script held_after (sym e ∙ answered.read) ended)
+pub headline : (options : Options) (held held_after written written_after : Option (List ℕ)) (taken : List ℕ) (answered : Answered options script_lines held held_after written written_after taken) → IfSome held_after (λ rest. rest ≡ [])
+    → (Q : Machine → Type 0) → Q answered.last
+    → IfSome held (λ script. (text : List ℕ) × (last : Machine) × IsRunOf options script text last × Appended written written_after text × (held_after ≡ Some []) × Q last)
+headline options held held_after written written_after taken answered ended Q stands = some_of _ held (λ script e. go script held_after (sym e ∙ answered.read) ended)
   where
     go : (script : List ℕ) (after : Option (List ℕ)) → Some script ≡ option_map (λ rest. taken ++ rest) after → IfSome after (λ rest. rest ≡ [])
-        → (text : List ℕ) × (last : Machine) × IsRunOf options script text last × Appended written written_after text × (after ≡ Some [])
+        → (text : List ℕ) × (last : Machine) × IsRunOf options script text last × Appended written written_after text × (after ≡ Some []) × Q last
     go script None read end = cc
     go script (Some rest) read end =
         let same : script ≡ taken = some_same script (taken ++ rest) read ∙ (ap (λ more. taken ++ more) end ∙ append-nil taken) in (
@@ -209,4 +211,5 @@ headline options held held_after written written_after taken answered ended = so
           record { outcomes = answered.outcomes; run = subst (λ (bytes : List ℕ). RunOver options (script_lines bytes) answered.outcomes answered.last) (sym same) answered.run; text_is = refl },
           answered.wrote,
           ap Some end,
+          stands,
         )

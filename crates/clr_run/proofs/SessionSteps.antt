@@ -7,7 +7,7 @@ use Rattle.std.proofs.Math.Seq.{take-append-add}
 use Rattle.clr_model.specs.Machine.{Machine}
 use Rattle.clr_model.specs.LineGrammar.{script_lines, ended_lines}
 use Rattle.clr_model.specs.Outcomes.{Outcome, outcome_text}
-use Rattle.clr_model.specs.Run.{Step, FollowsLine, run_text, opening, defaults}
+use Rattle.clr_model.specs.Run.{Step, FollowsLine, StandsFor, run_text, opening, defaults}
 use Rattle.clr_run.specs.Output.{Wrote, WroteSome}
 use Rattle.clr_run.specs.LineStretch.{IsUnfed}
 use Rattle.clr_run.specs.Progress.{RunOver, Progress, begun}
@@ -57,19 +57,19 @@ kept_none line (b ∷ bytes) e none = let h = ap length e in absurd (omega (arit
 
 -- the last line, that no line feed ends, was answered
 pub answered_last : (seen new : Machine) (line taken : List ℕ) (outcomes : List Outcome) (outcome : Outcome) → Progress seen line taken outcomes → 0 < length line
-    → FollowsLine seen (begun taken ++ []) outcome new → (last : Machine) × RunOver defaults (script_lines taken) (outcomes ++ outcome ∷ []) last
+    → FollowsLine seen (begun taken ++ []) outcome new → (last : Machine) × RunOver defaults (script_lines taken) (outcomes ++ outcome ∷ []) last × StandsFor new last
 unfolding FollowsLine
 answered_last seen new line taken outcomes outcome at some follows =
     let next = follows at.state at.shown in
     let step : Step at.state (begun taken) outcome next.0 = rw append-nil at next.1 in
     let whole : script_lines taken ≡ ended_lines taken ++ begun taken ∷ [] = script_lines-split taken ∙ ap (λ rest. ended_lines taken ++ rest) (kept_some line (begun taken) at.kept some) in
-    (next.0, rw whole (run-more (opening defaults) at.state next.0 (ended_lines taken) outcomes (begun taken) outcome at.run step))
+    (next.0, rw whole (run-more (opening defaults) at.state next.0 (ended_lines taken) outcomes (begun taken) outcome at.run step), next.2)
 
 -- no line is begun
-pub all_ended : (seen : Machine) (line taken : List ℕ) (outcomes : List Outcome) → Progress seen line taken outcomes → length line ≡ 0 → (last : Machine) × RunOver defaults (script_lines taken) outcomes last
+pub all_ended : (seen : Machine) (line taken : List ℕ) (outcomes : List Outcome) → Progress seen line taken outcomes → length line ≡ 0 → (last : Machine) × RunOver defaults (script_lines taken) outcomes last × StandsFor seen last
 all_ended seen line taken outcomes at none =
     let whole : script_lines taken ≡ ended_lines taken = script_lines-split taken ∙ rw (kept_none line (begun taken) at.kept none) (append-nil (ended_lines taken)) in
-    (at.state, rw whole at.run)
+    (at.state, rw whole at.run, at.shown)
 
 pub run_text-one : (outcome : Outcome) → run_text (outcome ∷ []) ≡ outcome_text outcome
 run_text-one outcome = append-nil (outcome_text outcome)
@@ -145,16 +145,16 @@ stops_line old new rest outcome before after unfed follows wrote = λ taken outc
 pub ends_line : (old : Session) (new : Machine) (left : List ℕ) (outcome : Outcome) (before after : Option (List ℕ)) → 0 < length old.line.items
     → ((begun : List ℕ) → old.line.items ≡ take 4097 begun → FollowsLine old.runtime (begun ++ []) outcome new)
     → Wrote before after old.pending left (outcome_text outcome) → (taken : List ℕ) (outcomes : List Outcome) → IsAt old taken outcomes
-    → (more : List Outcome) × (last : Machine) × RunOver defaults (script_lines taken) (outcomes ++ more) last × Wrote before after old.pending left (run_text more)
+    → (more : List Outcome) × (last : Machine) × RunOver defaults (script_lines taken) (outcomes ++ more) last × StandsFor new last × Wrote before after old.pending left (run_text more)
 ends_line old new left outcome before after some follows wrote taken outcomes at =
     let last = answered_last old.runtime new old.line.items taken outcomes outcome at some (follows (begun taken) at.kept) in
-    (outcome ∷ [], last.0, last.1, rw (run_text-one outcome) wrote)
+    (outcome ∷ [], last.0, last.1, last.2, rw (run_text-one outcome) wrote)
 
 -- and with none
 pub ends_none : (session : Session) (written : Option (List ℕ)) → length session.line.items ≡ 0 → Ends session session written written
 ends_none session written none = λ taken outcomes at.
     let last = all_ended session.runtime session.line.items taken outcomes at none in
-    ([], last.0, rw append-nil last.1, wrote_none written session.pending)
+    ([], last.0, rw append-nil last.1, last.2, wrote_none written session.pending)
 
 -- the reply to the last line was written in part
 pub stops_last : (old : Session) (new : Machine) (outcome : Outcome) (before after : Option (List ℕ)) → 0 < length old.line.items
@@ -234,12 +234,16 @@ stops_flushed one two bytes before mid after goes some = λ taken outcomes at.
       wrote = some_flushed before mid after one.pending two.pending (run_text a.0) a.2 some;
     }
 
-pub ends_flushed : (one two : Session) (before mid after : Option (List ℕ)) → Ends one two before mid → Appended mid after two.pending → EndsWritten one before after
+pub ends_flushed : (one two : Session) (before mid after : Option (List ℕ)) → Ends one two before mid → Appended mid after two.pending → EndsWritten one two before after
 ends_flushed one two before mid after ends flushed = λ taken outcomes at.
     let a = ends taken outcomes at in
-    (a.0, a.1, a.2, wrote_flushed before mid after one.pending two.pending (run_text a.0) a.3 flushed)
+    (a.0, a.1, a.2, a.3, wrote_flushed before mid after one.pending two.pending (run_text a.0) a.4 flushed)
 
 pub stops_last_flushed : (one two : Session) (before mid after : Option (List ℕ)) → Ends one two before mid → WroteSome mid after two.pending → StopsLast one before after
 stops_last_flushed one two before mid after ends some = λ taken outcomes at.
     let a = ends taken outcomes at in
-    record { more = a.0; last = a.1; run = a.2; wrote = some_flushed before mid after one.pending two.pending (run_text a.0) a.3 some }
+    record { more = a.0; last = a.1; run = a.2; wrote = some_flushed before mid after one.pending two.pending (run_text a.0) a.4 some }
+
+-- nothing was read yet
+pub started : (seen : Machine) (line : List ℕ) → StandsFor seen (opening defaults) → line ≡ [] → Progress seen line [] []
+started seen line stands none = record { state = opening defaults; run = refl; shown = stands; kept = none }

@@ -1,8 +1,15 @@
--- The totals of a listing.
-use Rattle.std.specs.Prelude.{ℕ, ◌+◌, ◌<◌, ◌^◌, List, [], ◌∷◌, filter, length, not, if◌then◌else◌, codes, decimal}
+-- The plain listing, and its totals.
+use Rattle.std.specs.Prelude.{ℕ, ◌+◌, ◌<◌, ◌^◌, List, [], ◌∷◌, filter, length, not, None, if◌then◌else◌, codes, decimal}
+use Rattle.clr_model.specs.declared.Mode.TheVariants.{Full}
+use Rattle.clr_model.specs.declared.Life.TheVariants.{Any}
+use Rattle.clr_model.specs.Instructions.{DumpOptions}
 use Rattle.clr_types.specs.declared.item.Item.{Item}
 use Rattle.clr_model.specs.Sos.{bytes_in, line, is_free_item}
-use Rattle.clr_run.specs.declared.runtime.dump.Totals.{Totals}
+use Rattle.clr_run.specs.declared.dump.Totals.{Totals}
+
+-- `dumpheap` with no option
+abbrev pub no_options : DumpOptions
+no_options = record { mode = Full; life = Any; mt = None; name = None; least = None; greatest = None }
 
 abbrev pub totals_line : ℕ → ℕ → ℕ → List ℕ
 totals_line objects bytes free = line (codes "total" ∷ decimal objects ∷ codes "bytes" ∷ decimal bytes ∷ codes "free" ∷ decimal free ∷ [])

@@ -3,15 +3,9 @@ pub mod Output
 pub mod Memory
 pub mod MemoryViews
 pub mod Codes
-pub mod BuiltLines
-pub mod Reading
-pub mod ReplyLines
 pub mod LineStretch
 pub mod Outcomes
 pub mod Dumping
-pub mod Steps
-pub mod Measures
-pub mod RuntimeView
 pub mod Progress
 pub mod Sessions
 pub mod Commands

@@ -1,8 +1,8 @@
 -- What the outcome of a line says.
 use Rattle.clr_model.specs.Outcomes as model
-use Rattle.clr_run.specs.ReplyLines.{IsShowable}
-use Rattle.clr_run.specs.declared.runtime.outcome.Outcome.{Outcome}
-use Rattle.clr_run.specs.declared.runtime.outcome.Outcome.TheVariants as code
+use Rattle.clr_script.specs.ReplyLines.{IsShowable}
+use Rattle.clr_run.specs.declared.outcome.Outcome.{Outcome}
+use Rattle.clr_run.specs.declared.outcome.Outcome.TheVariants as code
 
 abbrev pub outcome_of : Outcome → model.Outcome
 outcome_of (code.Reply reply) = model.answered reply

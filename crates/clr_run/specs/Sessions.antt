@@ -3,7 +3,7 @@ use Rattle.std.specs.Prelude.{◌≡◌, ℕ, List, [], ◌++◌, Option}
 use Rattle.clr_model.specs.Machine.{Machine}
 use Rattle.clr_model.specs.LineGrammar.{script_lines, ended_lines}
 use Rattle.clr_model.specs.Outcomes.{Outcome}
-use Rattle.clr_model.specs.Run.{run_text, defaults}
+use Rattle.clr_model.specs.Run.{run_text, defaults, StandsFor}
 use Rattle.clr_run.specs.Output.{Wrote, WroteSome}
 use Rattle.clr_run.specs.Progress.{RunOver, Progress}
 use Rattle.clr_run.specs.declared.script.session.Session.{Session}
@@ -16,10 +16,11 @@ abbrev pub Goes : Session → Session → List ℕ → Option (List ℕ) → Opt
 Goes old new bytes before after = (taken : List ℕ) (outcomes : List Outcome) → IsAt old taken outcomes →
     (more : List Outcome) × IsAt new (taken ++ bytes) (outcomes ++ more) × Wrote before after old.pending new.pending (run_text more)
 
--- what was left of the input was answered, and the answers were written or wait
+-- What was left of the input was answered, and the answers were written or wait. The runtime stands for the last state.
 abbrev pub Ends : Session → Session → Option (List ℕ) → Option (List ℕ) → Type 0
 Ends old new before after = (taken : List ℕ) (outcomes : List Outcome) → IsAt old taken outcomes →
-    (more : List Outcome) × (last : Machine) × RunOver defaults (script_lines taken) (outcomes ++ more) last × Wrote before after old.pending new.pending (run_text more)
+    (more : List Outcome) × (last : Machine) × RunOver defaults (script_lines taken) (outcomes ++ more) last × StandsFor new.runtime last
+    × Wrote before after old.pending new.pending (run_text more)
 
 -- Writing stopped at a line that these bytes ended: the lines up to there were answered, and a part of what waited and of their text was written.
 pub record Stopped (waiting taken bytes : List ℕ) (outcomes : List Outcome) (before after : Option (List ℕ)) : Type 0 where
@@ -49,7 +50,8 @@ abbrev pub GoesWritten : Session → Session → List ℕ → Option (List ℕ) 
 GoesWritten old new bytes before after = (taken : List ℕ) (outcomes : List Outcome) → IsAt old taken outcomes →
     (more : List Outcome) × IsAt new (taken ++ bytes) (outcomes ++ more) × Wrote before after old.pending [] (run_text more) × (new.pending ≡ [])
 
--- what was left of the input was answered, and all that waited and the answers were written
-abbrev pub EndsWritten : Session → Option (List ℕ) → Option (List ℕ) → Type 0
-EndsWritten old before after = (taken : List ℕ) (outcomes : List Outcome) → IsAt old taken outcomes →
-    (more : List Outcome) × (last : Machine) × RunOver defaults (script_lines taken) (outcomes ++ more) last × Wrote before after old.pending [] (run_text more)
+-- What was left of the input was answered, and all that waited and the answers were written. The runtime stands for the last state.
+abbrev pub EndsWritten : Session → Session → Option (List ℕ) → Option (List ℕ) → Type 0
+EndsWritten old new before after = (taken : List ℕ) (outcomes : List Outcome) → IsAt old taken outcomes →
+    (more : List Outcome) × (last : Machine) × RunOver defaults (script_lines taken) (outcomes ++ more) last × StandsFor new.runtime last
+    × Wrote before after old.pending [] (run_text more)

@@ -1,13 +1,15 @@
 //! A script from bytes to bytes: sources, sinks, and the run of a script.
 #![tactic(auto)]
 
-mod lines;
-mod runtime;
+mod dump;
+mod execute;
+mod outcome;
 mod script;
 mod status;
 mod streams;
 mod words;
 
+pub use clr_runtime::Runtime;
 pub use script::run::{SCRIPT_LIMIT, run};
 pub use status::Status;
 pub use streams::Failed;

@@ -46,7 +46,7 @@ fn outcome_of(alloc: Global, trial: Trial<'_>) -> Result<(Status, Vec<u8>), Fail
     let writes = Vec::from_slice(alloc, trial.failing_writes)?;
     let mut source = MemorySource::new(script, trial.piece, reads);
     let mut sink = MemorySink::new(alloc, trial.room, trial.piece, writes)?;
-    let status = run(alloc, &words, &mut source, &mut sink);
+    let status = run(alloc, &words, &mut source, &mut sink, &mut None);
     let text = bytes_of(alloc, sink.bytes())?;
     Ok((status, text))
 }

@@ -14,3 +14,9 @@ pub mod GrownTables
 pub mod ChangedLists
 pub mod SegmentFacts
 pub mod TailTaken
+pub mod ListMembers
+pub mod Shuffles
+pub mod PieceGaps
+pub mod TilePieces
+pub mod HighestSegment
+pub mod Retiled

@@ -75,7 +75,7 @@ module _ (rows : List TypeRow) (h : HeapView) (walkable : AreWalkable rows h) wh
   pub listing-are : (j : ℕ) → j < length h.segments → AllByRecursion (IsItem rows (first_of h j) (last_of h j)) (listing rows h j)
   listing-are j l = let w = walkable j l in items-are (sight rows h j) (parts_of rows h j) (first_of h j) (last_of h j) w.start w.spelled
 
-  listing-stacked : (j : ℕ) → j < length h.segments → AreStacked (listing rows h j)
+  pub listing-stacked : (j : ℕ) → j < length h.segments → AreStacked (listing rows h j)
   listing-stacked j l = let w = walkable j l in items-stacked (sight rows h j) (parts_of rows h j) (first_of h j) (last_of h j) w.start w.spelled
 
   all-append : (P : Item → Type 0) (xs ys : List Item) → AllByRecursion P xs → AllByRecursion P ys → AllByRecursion P (xs ++ ys)

@@ -1,10 +1,11 @@
 -- The slots of an object: where their words stand, and what they hold where words are zero or stay as they are.
-use Rattle.std.proofs.Common.{◌≡◌, ℕ, zero, suc, ◌+◌, ◌*◌, ◌%◌, ◌^◌, ◌<◌, ◌≤◌, Bool, true, false, List, [], ◌∷◌, length, map, replicate, refl, ap, ◌∙◌, arith, length-append}
+use Rattle.std.proofs.Common.{◌≡◌, ℕ, zero, suc, ◌+◌, ◌*◌, ◌%◌, ◌^◌, ◌<◌, ◌≤◌, Bool, true, false, List, [], ◌∷◌, length, map, replicate, refl, ap, sym, ◌∙◌, arith, length-append}
 use Rattle.std.specs.List.{repeat}
+use Rattle.std.proofs.lemmas.Bool.{true≢false}
 use Rattle.std.proofs.lemmas.List.{length-map, length-replicate}
 use Rattle.std.proofs.Math.Nat.{mul_comm, suc-mul, zero-div, zero-mod}
 use Rattle.clr_mem.specs.Words.{byte_of}
-use Rattle.clr_types.specs.Types.{Form, class_form, references_form, bytes_form, structs_form, is_reference, size_of, slot_kinds, slot_offset, slots_from, slots_of}
+use Rattle.clr_types.specs.Types.{Form, class_form, references_form, bytes_form, structs_form, is_array, is_reference, size_of, slot_kinds, slot_offset, slots_from, slots_of}
 use Rattle.clr_heap.specs.Memories.{word_address}
 use Rattle.clr_model.specs.Machine.{Value, ref, num}
 use Rattle.clr_model.specs.Updates.{empty_slots, empty_value}
@@ -48,6 +49,13 @@ slot-inside (structs_form pattern) len place j z l =
     let m = length-map pattern is_reference in
     let same : len * length (map is_reference pattern) ≡ length pattern * len = ap (λ (n : ℕ). len * n) m ∙ mul_comm len (length pattern) in
     record { aligned = omega arith; above = omega arith; below = omega arith }
+
+-- the slots of an array stand above its length word
+pub above-length : (form : Form) (place j : ℕ) → place % 8 ≡ 0 → is_array form ≡ true → place + 16 ≤ slot_word form (place + slot_offset form j)
+above-length (class_form pattern) place j z array = absurd (true≢false (sym array))
+above-length references_form place j z array = omega arith
+above-length bytes_form place j z array = omega arith
+above-length (structs_form pattern) place j z array = omega arith
 
 -- ---- slots whose words are zero
 

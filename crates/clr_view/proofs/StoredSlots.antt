@@ -16,7 +16,8 @@ slot-word-is references_form a words = refl
 slot-word-is bytes_form a words = absurd (true≢false words)
 slot-word-is (structs_form pattern) a words = refl
 
-value-is : (form : Form) (word : ℕ → ℕ) (kind : Bool) (a : ℕ) → is_bytes form ≡ false → value_at form word kind a ≡ word_value kind (word a)
+-- and its value is that word's
+pub value-is : (form : Form) (word : ℕ → ℕ) (kind : Bool) (a : ℕ) → is_bytes form ≡ false → value_at form word kind a ≡ word_value kind (word a)
 value-is (class_form pattern) word kind a words = refl
 value-is references_form word kind a words = refl
 value-is bytes_form word kind a words = absurd (true≢false words)

@@ -1,68 +1,36 @@
 -- A word that is written into a slot of an object: that slot changes, and all else that the heap holds stays.
-use Rattle.std.proofs.Common.{if◌then◌else◌, ◌==◌, ◌≡◌, ◌≢◌, ◌⊎◌, ℕ, zero, suc, ◌+◌, ◌-◌, ◌%◌, ◌<◌, ◌≤◌, Bool, true, false, List, [], ◌∷◌, ◌++◌, filter, length, map, refl, ap, sym, ◌∙◌, subst, arith, inl, inr, slice_set, sum_by}
+use Rattle.std.proofs.Common.{if◌then◌else◌, ◌==◌, ◌≡◌, ◌≢◌, ◌⊎◌, ℕ, ◌+◌, ◌-◌, ◌%◌, ◌<◌, ◌≤◌, Bool, true, false, List, [], ◌∷◌, filter, length, map, refl, ap, sym, ◌∙◌, subst, arith, inl, inr, slice_set}
 use Rattle.std.proofs.lemmas.Bool.{cases_eq, eq-eqb, ne_eqb}
 use Rattle.clr_types.specs.Rising.{changed_by, first, IsIn, later}
 use Rattle.clr_types.specs.Types.{bytes_form, TypeRow, Form, form_at, is_array, slot_kinds, slot_offset, slots_of}
-use Rattle.clr_types.specs.Segments.{ephemeral, reserved_end, stands_in}
+use Rattle.clr_types.specs.Ranges.{Piece, piece_end}
+use Rattle.clr_types.specs.Segments.{reserved_end}
 use Rattle.clr_types.specs.declared.item.Item.{Item}
-use Rattle.clr_types.specs.declared.segment.SegInfo.{SegInfo}
-use Rattle.clr_types.proofs.RisingLists.{all_at, in_cons}
+use Rattle.clr_types.proofs.RisingLists.{all_at}
 use Rattle.clr_types.proofs.ChangedLists.{all_imply, rising-distinct}
 use Rattle.clr_types.proofs.SortedLists.{same_by_key}
 use Rattle.clr_heap.specs.Memories.{HasWord, word_address}
-use Rattle.clr_heap.specs.Parts.{Among, item_at, item_part, items_in, Part, rest_part, Sight, Spells, type_number}
-use Rattle.clr_heap.specs.View.{first_of, frame, heap_items, HeapView, IsHeap, last_of, listing, listings, parts_of, PartsAre, segment_at, sight, stored, word_of}
+use Rattle.clr_heap.specs.Parts.{Among, item_part, items_in, rest_part, type_number}
+use Rattle.clr_heap.specs.View.{first_of, frame, heap_items, HeapView, IsHeap, last_of, listing, parts_of, PartsAre, segment_at, sight, stored, word_of}
 use Rattle.clr_heap.proofs.Addresses.{has_word}
 use Rattle.clr_heap.proofs.Framing.{lawful_at}
 use Rattle.clr_heap.proofs.Staying.{outside_other}
 use Rattle.clr_heap.proofs.Storing.{word_in-store_in_other, word_in-store_in_same}
 use Rattle.clr_heap.proofs.Writing.{stored_elsewhere, stored_in_item}
-use Rattle.clr_heap.proofs.Young.{young_number}
+use Rattle.clr_heap.proofs.Spelling.{Among-bounds}
 use Rattle.clr_model.specs.Machine.{num, Object, Value}
 use Rattle.clr_mem.specs.Words.{byte_of, with_byte}
 use Rattle.clr_mem.proofs.Digits.{byte_of-with_byte_other, byte_of-with_byte_same}
 use Rattle.std.proofs.lemmas.List.{length-replicate}
 use Rattle.clr_model.specs.Updates.{with_slot_of}
-use Rattle.clr_view.specs.View.{free_among, HasStored, IsHeld, is_object, is_suppressed, IsByteSlot, IsWordSlot, object_in, objects_among, slot_address, slot_value, tail_of, word_value}
+use Rattle.clr_view.specs.View.{free_among, HasStored, IsContext, IsHeld, is_object, is_suppressed, IsByteSlot, IsWordSlot, object_in, objects_among, slot_address, slot_value, word_value}
 use Rattle.clr_view.proofs.Items.{CellsStay, IsItem, object-stays, stacked-apart}
+use Rattle.clr_view.proofs.Listed.{listed-in, part-among, type-named}
 use Rattle.clr_view.proofs.Listings.{heap-rise, heap-stacked, listing-are, listings-agree, listings-all}
-use Rattle.clr_view.proofs.Newborn.{above-length}
-use Rattle.clr_view.proofs.Slots.{IsSlotWord, slot-inside, slot_word}
+use Rattle.clr_view.proofs.Cuts.{parts-apart}
+use Rattle.clr_view.proofs.Slots.{above-length, IsSlotWord, slot-inside, slot_word}
+use Rattle.clr_view.proofs.Tails.{found-young, kind-young}
 use Rattle.clr_view.proofs.StoredSlots.{byte-stored, byte_slot, bytes-form, kind-there, offset-apart, slot-there, slot-word-is, slots-stored}
-
--- ---- where a listed item stands
-
-in_append : {X : Type 0} (x : X) (xs ys : List X) → IsIn x (xs ++ ys) → IsIn x xs ⊎ IsIn x ys
-in_append x [] ys m = inr m
-in_append x (y ∷ xs) ys m = elim (in_cons m) [
-  | inl here ↦ inl (subst (λ z. IsIn x (z ∷ xs)) here first)
-  | inr more ↦ elim (in_append x xs ys more) [ inl l ↦ inl (later l) | inr r ↦ inr r ]
-]
-
--- an item of the heap is one of a segment
-listed-in : (rows : List TypeRow) (h : HeapView) (i : Item) (s m : ℕ) → IsIn i (listings rows h s m) → (k : ℕ) × (k < s + m) × IsIn i (listing rows h k)
-listed-in rows h i s zero l = elim l [ ]
-listed-in rows h i s (suc m) l = elim (in_append i (listing rows h s) (listings rows h (s + 1) m) l) [
-  | inl here ↦ (s, omega arith, here)
-  | inr more ↦ let found = listed-in rows h i (s + 1) m more in let low = found.1 in (found.0, omega arith, found.2)
-]
-
-part-among : (ps : List Part) (i : Item) → IsIn i (items_in ps) → Among ps (item_part i)
-part-among [] i l = elim l [ ]
-part-among (item_part j ∷ ps) i l = elim (in_cons l) [ inl here ↦ inl (ap item_part here) | inr more ↦ inr (part-among ps i more) ]
-part-among (rest_part low high ∷ ps) i l = inr (part-among ps i l)
-
--- its words name its type
-type-named : (s : Sight) (ps : List Part) (i : Item) (p e : ℕ) → Spells s p ps e → IsIn i (items_in ps) → type_number (s.word i.place) ≡ i.type_id.0
-unfolding item_at
-type-named s [] i p e h l = elim l [ ]
-type-named s (item_part j ∷ ps) i p e h l = elim (in_cons l) [
-  | inl here ↦
-      let is : i ≡ item_at s.rows s.word p = here ∙ h.1 in
-      ap (λ (x : Item). type_number (s.word x.place)) is ∙ sym (ap (λ (x : Item). x.type_id.0) is)
-  | inr more ↦ type-named s ps i (p + j.size) e h.3 more
-]
-type-named s (rest_part low high ∷ ps) i p e h l = type-named s ps i high e h.4 l
 
 -- ---- objects, of which one changes
 
@@ -171,6 +139,34 @@ module _ (rows : List TypeRow) (h : HeapView) (i : Item) (a v : ℕ) (heap : IsH
         record { walkable = has.walkable; parts = has.parts }
   ]
 
+  -- it is no word of a context
+  outside-rest : (r : Piece) → IsContext rows h r → (a + 8 < r.place) ⊎ (piece_end r ≤ a + 8)
+  outside-rest r context =
+      let found = found-young h heap in
+      let e = found.0 in
+      let l = found.1.in_range in
+      let w = held.walkable e l in
+      let rest = context.among e l (kind-young h e heap found.1) in
+      let b = below in
+      let up = slot.cell.above in
+      elim (cases_eq k e) [
+        | inl same ↦
+            let item = part-among (parts_of rows h k) i home.2 in
+            let P : ℕ → Type 0 = λ m. Among (parts_of rows h m) (item_part i) in
+            elim (parts-apart (sight rows h e) (parts_of rows h e) (item_part i) (rest_part r.place (piece_end r)) (first_of h e) (last_of h e) w.spelled (subst P same item) rest) [
+              | inl clash ↦ absurd cc
+              | inr apart ↦ elim apart [ inl under ↦ inl (omega arith) | inr over ↦ inr (omega arith) ]
+            ]
+        | inr other ↦
+            let own = reserved in
+            let low = own.0 in
+            let high = own.1 in
+            let lawful = lawful_at h e heap l in
+            let end = lawful.high in
+            let bounds = Among-bounds (sight rows h e) (parts_of rows h e) (rest_part r.place (piece_end r)) (first_of h e) (last_of h e) w.spelled rest in
+            elim (outside_other h k e a heap in_range l other low (omega arith)) [ inl under ↦ inl (omega arith) | inr over ↦ inr (omega arith) ]
+      ]
+
   items-stay : heap_items rows after ≡ heap_items rows h
   items-stay = listings-agree rows rows h after 0 (length h.segments) (λ m low high. ap items_in (parts-after m (omega arith)).parts)
 
@@ -216,28 +212,16 @@ module _ (rows : List TypeRow) (h : HeapView) (i : Item) (a v : ℕ) (heap : IsH
       objects = ap (objects_among rows (word_of after)) items-stay ∙ objects-changed rows (word_of h) (word_of after) i.place (with_slot_of j value) (heap_items rows h) changes;
       items = items-stay;
       layout = ap (λ (is : List Item). record (frame h) { free = free_among is }) items-stay;
-      young = ap (λ (is : List Item). sum_by (λ (x : Item). x.size) (filter (λ x. stands_in (ephemeral (frame h)) x.place) is)) items-stay;
       held = record {
         walkable = λ m l. (parts-after m l).walkable;
-        clear_tail = λ b z low high.
-            let one = heap.one_ephemeral in
-            let found = young_number h.segments (omega arith) in
-            let is : segment_at h found.0 ≡ ephemeral (frame h) = found.2 in
-            let base = ap (λ (s : SegInfo). s.base) is in
-            let end = ap (λ (s : SegInfo). s.end) is in
-            let limit = ap reserved_end is in
-            let lawful = lawful_at h found.0 heap found.1 in
-            let start = lawful.low in
-            let r = reserved in
-            let r0 = r.0 in
-            let r1 = r.1 in
-            let w = within in
-            let w1 = w.1 in
-            elsewhere b z (λ same. elim (cases_eq k found.0) [
-              | inl here ↦ let last : last_of h k ≡ tail_of h = ap (last_of h) here ∙ end in omega arith
-              | inr other ↦ elim (outside_other h k found.0 a heap in_range found.1 other r0 (omega arith)) [ inl under ↦ omega arith | inr over ↦ omega arith ]
-            ]) ∙ held.clear_tail b z low high;
-        rests_below = held.rests_below;
+        contexts = λ c r e.
+            let context = held.contexts c r e in
+            record {
+              among = λ m l young. subst (λ ps. Among ps (rest_part r.place (piece_end r))) (sym (parts-after m l).parts) (context.among m l young);
+              young = context.young;
+              clear = λ b z low high. elsewhere b z (λ same. elim (outside-rest r context) [ inl l ↦ omega arith | inr l ↦ omega arith ]) ∙ context.clear b z low high;
+            };
+        apart = held.apart;
       };
     }
 

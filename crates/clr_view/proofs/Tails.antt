@@ -10,6 +10,7 @@ use Rattle.clr_types.specs.declared.segment.SegKind.{SegKind}
 use Rattle.clr_types.specs.declared.segment.SegKind.TheVariants.{Small, Ephemeral, Large}
 use Rattle.clr_heap.specs.View.{frame, HeapView, holes_of, IsHeap, segment_at}
 use Rattle.clr_heap.proofs.Framing.{all_at, ephemerals}
+use Rattle.clr_heap.proofs.Young.{young_number}
 
 -- segment k is the ephemeral one
 pub record IsEphemeral (h : HeapView) (k : ℕ) : Type 0 where
@@ -25,7 +26,7 @@ one-more s ss e = rw e refl
 none-more : (s : SegInfo) (ss : List SegInfo) → same_kind Ephemeral s.kind ≡ false → ephemerals (s ∷ ss) ≡ ephemerals ss
 none-more s ss e = rw e refl
 
-first-young : (ss : List SegInfo) → IsYoung (segment_or_empty (ephemerals ss))
+pub first-young : (ss : List SegInfo) → IsYoung (segment_or_empty (ephemerals ss))
 first-young [] = refl
 first-young (s ∷ ss) = elim (cases_Bool (same_kind Ephemeral s.kind)) [
   | inl here ↦ rw here here
@@ -55,10 +56,37 @@ young-set (s ∷ ss) (suc k) t l e f one = elim (cases_Bool (same_kind Ephemeral
   | inr other ↦ let count : length (ephemerals ss) ≡ 1 = sym (ap length (none-more s ss other)) ∙ one in rw other (young-set ss k t (omega arith) e f count)
 ]
 
+-- only one place of the list has one
+young-alone : (ss : List SegInfo) (j k : ℕ) → j < length ss → k < length ss → IsYoung (get_or ss j empty_segment) → IsYoung (get_or ss k empty_segment) → length (ephemerals ss) ≡ 1 → j ≡ k
+young-alone [] j k l m e f one = absurd (omega arith)
+young-alone (s ∷ ss) zero zero l m e f one = refl
+young-alone (s ∷ ss) zero (suc k) l m e f one =
+    let n = one-more s ss e in
+    let some = some-young ss k (omega arith) f in
+    absurd (omega arith)
+young-alone (s ∷ ss) (suc j) zero l m e f one =
+    let n = one-more s ss f in
+    let some = some-young ss j (omega arith) e in
+    absurd (omega arith)
+young-alone (s ∷ ss) (suc j) (suc k) l m e f one = elim (cases_Bool (same_kind Ephemeral s.kind)) [
+  | inl here ↦
+      let n = one-more s ss here in
+      let some = some-young ss k (omega arith) f in
+      absurd (omega arith)
+  | inr other ↦
+      let count : length (ephemerals ss) ≡ 1 = sym (ap length (none-more s ss other)) ∙ one in
+      ap suc (young-alone ss j k (omega arith) (omega arith) e f count)
+]
+
 kind-is : (kind : SegKind) → same_kind Ephemeral kind ≡ true → kind ≡ Ephemeral
 kind-is Small e = absurd cc
 kind-is Ephemeral e = refl
 kind-is Large e = absurd cc
+
+pub same-kind-is : (kind : SegKind) → same_kind kind Ephemeral ≡ true → kind ≡ Ephemeral
+same-kind-is Small e = absurd cc
+same-kind-is Ephemeral e = refl
+same-kind-is Large e = absurd cc
 
 -- ---- segments with one changed, by base
 
@@ -91,9 +119,24 @@ changed-set change (s ∷ ss) (suc k) d lawful l =
 
 -- ---- in a heap
 
+-- there is an ephemeral segment
+pub found-young : (h : HeapView) → IsHeap h → (k : ℕ) × IsEphemeral h k
+found-young h heap =
+    let one = heap.one_ephemeral in
+    let found = young_number h.segments (omega arith) in
+    (found.0, record { in_range = found.1; is = found.2 })
+
 module _ (h : HeapView) (k : ℕ) (heap : IsHeap h) (e : IsEphemeral h k) where
   young : IsYoung (segment_at h k)
   young = subst IsYoung (sym e.is) (first-young h.segments)
+
+  -- by its kind
+  pub kind-young : (segment_at h k).kind ≡ Ephemeral
+  kind-young = kind-is (segment_at h k).kind young
+
+  -- no other segment has it
+  pub only-young : (j : ℕ) → j < length h.segments → (segment_at h j).kind ≡ Ephemeral → j ≡ k
+  only-young j l kind = young-alone h.segments j k l e.in_range (ap (same_kind Ephemeral) kind) young heap.one_ephemeral
 
   -- its holes are the rests of contexts
   pub holes-are : holes_of h k ≡ h.rests

@@ -1,15 +1,14 @@
 -- A type more leaves what the words of a heap hold.
-use Rattle.std.proofs.Common.{if◌then◌else◌, ◌≡◌, ℕ, zero, suc, ◌+◌, ◌-◌, ◌<◌, ◌≤◌, Bool, true, false, List, [], ◌∷◌, ◌++◌, filter, length, map, refl, ap, sym, ◌∙◌, subst, arith, length-append, sum_by}
+use Rattle.std.proofs.Common.{if◌then◌else◌, ◌≡◌, ℕ, zero, suc, ◌+◌, ◌-◌, ◌<◌, ◌≤◌, Bool, true, false, List, [], ◌∷◌, ◌++◌, filter, length, map, refl, ap, sym, ◌∙◌, subst, arith, length-append}
 use Rattle.std.specs.Prelude.{slice_get}
 use Rattle.std.specs.List.{AllByRecursion}
 use Rattle.clr_types.specs.Types.{TypeRow, Form, form_at, form_of_row, is_array, size_of, slots_of}
 use Rattle.clr_types.specs.declared.item.Item.{Item}
-use Rattle.clr_heap.specs.Parts.{item_at, item_part, items_in, length_at, NamesItem, Part, rest_part, Sight, Spells, type_number}
-use Rattle.clr_types.specs.Ranges.{Piece}
-use Rattle.clr_types.specs.Segments.{ephemeral, stands_in}
+use Rattle.clr_heap.specs.Parts.{Among, item_at, item_part, items_in, length_at, NamesItem, Part, rest_part, Sight, Spells, type_number}
+use Rattle.clr_types.specs.Ranges.{Piece, piece_end}
 use Rattle.clr_heap.specs.View.{AreWalkable, first_of, frame, heap_items, HeapView, holes_of, IsWalkable, last_of, listing, parts_of, PartsAre, sight, word_of}
 use Rattle.clr_heap.proofs.Staying.{parts_from}
-use Rattle.clr_view.specs.View.{free_among, free_in, IsHeld, is_object, is_suppressed, layout_in, object_in, objects_among, objects_in, slot_value, young_bytes}
+use Rattle.clr_view.specs.View.{free_among, free_in, IsHeld, is_object, is_suppressed, layout_in, object_in, objects_among, objects_in, slot_value}
 use Rattle.clr_view.proofs.Items.{IsItem}
 use Rattle.clr_view.proofs.Listings.{listing-are, listings-agree, objects-agree}
 
@@ -99,10 +98,6 @@ module _ (rows : List TypeRow) (row : TypeRow) where
     pub free_with_type : free_in grown h ≡ free_in rows h
     free_with_type = ap free_among items-stay
 
-    -- as many bytes in the ephemeral segment
-    pub young_with_type : young_bytes grown h ≡ young_bytes rows h
-    young_with_type = ap (λ (is : List Item). sum_by (λ (i : Item). i.size) (filter (λ i. stands_in (ephemeral (frame h)) i.place) is)) items-stay
-
     -- and the same layout
     pub layout_with_type : layout_in grown h ≡ layout_in rows h
     layout_with_type = ap (λ (free : List Piece). record (frame h) { free = free }) free_with_type
@@ -111,6 +106,12 @@ module _ (rows : List TypeRow) (row : TypeRow) where
   pub held_with_type : (h : HeapView) → IsHeld rows h → IsHeld grown h
   held_with_type h held = record {
     walkable = λ j l. (parts-stay h j (held.walkable j l)).walkable;
-    clear_tail = held.clear_tail;
-    rests_below = held.rests_below;
+    contexts = λ i r e.
+        let context = held.contexts i r e in
+        record {
+          among = λ k l young. subst (λ ps. Among ps (rest_part r.place (piece_end r))) (sym (parts-stay h k (held.walkable k l)).parts) (context.among k l young);
+          young = context.young;
+          clear = context.clear;
+        };
+    apart = held.apart;
   }

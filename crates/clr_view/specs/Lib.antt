@@ -1,2 +1,3 @@
 pub mod View
-pub mod Machines
+pub mod Births
+pub mod SlotValues

@@ -1,17 +1,19 @@
 -- The objects, the free items and the layout of a machine, read off the words of a heap.
-use Rattle.std.specs.Prelude.{◌≡◌, ℕ, ◌+◌, ◌-◌, ◌/◌, ◌%◌, ◌<◌, ◌≤◌, Bool, true, false, not, nat_eq, List, [], ◌∷◌, ◌++◌, filter, map, None, Some, slice_get, sum_by}
+use Rattle.std.specs.Prelude.{◌≡◌, ℕ, ◌+◌, ◌-◌, ◌/◌, ◌%◌, ◌<◌, ◌≤◌, Bool, true, false, not, nat_eq, List, [], ◌∷◌, ◌++◌, filter, map, None, Some, slice_get, length, get_or}
 use Rattle.clr_mem.specs.Words.{byte_of}
 use Rattle.clr_types.specs.Types.{TypeRow, Form, class_form, references_form, bytes_form, structs_form, form_at, is_bytes, size_of, slot_kinds, slot_offset, slots_of}
 use Rattle.clr_types.specs.Rising.{changed_by, IsIn, sorted_by}
-use Rattle.clr_types.specs.Ranges.{Piece}
-use Rattle.clr_types.specs.Segments.{Layout, ephemeral, reserved_end, stands_in, with_end}
+use Rattle.clr_types.specs.Ranges.{Piece, piece_end}
+use Rattle.clr_types.specs.Segments.{Layout, ephemeral}
 use Rattle.clr_types.specs.declared.item.Item.{Item}
 use Rattle.clr_types.specs.declared.shape.Slot.{Slot}
 use Rattle.clr_heap.specs.Memories.{word_address}
-use Rattle.clr_heap.specs.Parts.{hole_from, item_piece}
-use Rattle.clr_heap.specs.View.{AreWalkable, frame, heap_items, HeapView, word_of}
+use Rattle.clr_types.specs.declared.segment.SegKind.TheVariants.{Ephemeral}
+use Rattle.clr_heap.specs.Parts.{Among, item_piece, rest_part}
+use Rattle.clr_heap.specs.View.{AreWalkable, frame, heap_items, HeapView, parts_of, segment_at, word_of}
 use Rattle.clr_model.specs.Machine.{Value, ref, num, Object}
-use Rattle.clr_model.specs.Updates.{empty_slots, with_slot_of}
+use Rattle.clr_model.specs.Allocation.{context_front, front_taken, IsRefilled}
+use Rattle.clr_model.specs.Updates.{all_given_up, empty_slots, with_slot_of}
 
 -- ---- one object
 
@@ -79,16 +81,23 @@ layout_in rows h = record (frame h) { free = free_in rows h }
 abbrev pub tail_of : HeapView → ℕ
 tail_of h = (ephemeral (frame h)).end
 
--- the bytes of the items of the ephemeral segment
-abbrev pub young_bytes : List TypeRow → HeapView → ℕ
-young_bytes rows h = sum_by (λ i. i.size) (filter (λ i. stands_in (ephemeral (frame h)) i.place) (heap_items rows h))
+-- A range is what is left of a context: a part of the ephemeral segment, of generation 0, whose words are clear.
+pub record IsContext (rows : List TypeRow) (h : HeapView) (r : Piece) : Type 0 where
+  pub among : (k : ℕ) → k < length h.segments → (segment_at h k).kind ≡ Ephemeral → Among (parts_of rows h k) (rest_part r.place (piece_end r))
+  pub young : h.start0 ≤ r.place
+  pub clear : (b : ℕ) → b % 8 ≡ 0 → r.place ≤ b + 8 → b + 8 < piece_end r → word_of h b ≡ 0
 
--- The words of a heap hold a machine's objects. Above them the ephemeral segment is clear, from the header of the next object
--- on, and no context has its rest there.
+-- The words of a heap hold a machine's objects: the parts of each segment fill it, and what is left of each thread's context is one
+-- of them, another for each thread.
 pub record IsHeld (rows : List TypeRow) (h : HeapView) : Type 0 where
   pub walkable : AreWalkable rows h
-  pub clear_tail : (b : ℕ) → b % 8 ≡ 0 → tail_of h ≤ b + 8 → b < reserved_end (ephemeral (frame h)) → word_of h b ≡ 0
-  pub rests_below : (q : ℕ) → tail_of h ≤ q → hole_from h.rests q ≡ None
+  pub contexts : (i : ℕ) (r : Piece) → get_or h.rests i None ≡ Some r → IsContext rows h r
+  pub apart : (i j : ℕ) (r q : Piece) → get_or h.rests i None ≡ Some r → get_or h.rests j None ≡ Some q → r.place ≡ q.place → i ≡ j
+
+-- every word of the cells of the objects that there were is as before: headers, slots and padding, and no mark comes or goes
+abbrev pub KeepsObjects : List TypeRow → HeapView → HeapView → Type 0
+KeepsObjects rows old new =
+    (i : Item) (b : ℕ) → IsIn i (heap_items rows old) → is_object i ≡ true → b % 8 ≡ 0 → i.place ≤ b + 8 → b + 8 < i.place + i.size → word_of new b ≡ word_of old b
 
 -- ---- births
 
@@ -96,12 +105,28 @@ pub record IsHeld (rows : List TypeRow) (h : HeapView) : Type 0 where
 abbrev pub newborn_at : List TypeRow → ℕ → ℕ → ℕ → Object
 newborn_at rows place t n = record { name = place; place = place; type = t; len = n; slots = empty_slots (form_at rows t) n; suppressed = false }
 
--- The old heap with one object more at the end of its ephemeral segment, which then ends past it. Objects by rising place.
-pub record HasNewborn (rows : List TypeRow) (old new : HeapView) (t n : ℕ) : Type 0 where
-  pub objects : objects_in rows new ≡ sorted_by (λ o. o.name) (objects_in rows old ++ newborn_at rows (tail_of old) t n ∷ [])
-  pub free : free_in rows new ≡ free_in rows old
-  pub layout : layout_in rows new ≡ with_end (layout_in rows old) (ephemeral (frame old)).base (tail_of old + size_of (form_at rows t) n)
-  pub young : young_bytes rows new ≡ young_bytes rows old + size_of (form_at rows t) n
+-- The old heap with one object more at the front of a thread's context, of which the rest is left. Objects by rising place.
+pub record HasNewborn (rows : List TypeRow) (old new : HeapView) (thread t n : ℕ) : Type 0 where
+  pub objects : objects_in rows new ≡ sorted_by (λ o. o.name) (objects_in rows old ++ newborn_at rows (context_front (frame old) thread) t n ∷ [])
+  pub layout : layout_in rows new ≡ front_taken (layout_in rows old) thread (size_of (form_at rows t) n)
+  pub held : IsHeld rows new
+
+-- ---- contexts
+
+-- The old heap where the thread has a new context, from a free item of generation 0 or from the tail, for which the size is asked.
+pub record HasRefilled (rows : List TypeRow) (old new : HeapView) (thread size : ℕ) : Type 0 where
+  pub objects : objects_in rows new ≡ objects_in rows old
+  pub layout : IsRefilled (layout_in rows old) thread size (layout_in rows new)
+  pub cells : KeepsObjects rows old new
+  pub limit : new.limit ≡ old.limit
+  pub held : IsHeld rows new
+
+-- the old heap where every context is given up
+pub record HasGivenUp (rows : List TypeRow) (old new : HeapView) : Type 0 where
+  pub objects : objects_in rows new ≡ objects_in rows old
+  pub layout : layout_in rows new ≡ all_given_up (layout_in rows old)
+  pub cells : KeepsObjects rows old new
+  pub limit : new.limit ≡ old.limit
   pub held : IsHeld rows new
 
 -- ---- stores
@@ -127,5 +152,4 @@ pub record HasStored (rows : List TypeRow) (old new : HeapView) (place j : ℕ) 
   pub objects : objects_in rows new ≡ changed_by (λ o. o.name) place (with_slot_of j value) (objects_in rows old)
   pub items : heap_items rows new ≡ heap_items rows old
   pub layout : layout_in rows new ≡ layout_in rows old
-  pub young : young_bytes rows new ≡ young_bytes rows old
   pub held : IsHeld rows new

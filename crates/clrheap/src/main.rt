@@ -25,7 +25,7 @@ fn command(rt: &HostRuntime) -> Status {
     }
     let mut source = ReadAdapter::new(rt.reader());
     let mut sink = WriteAdapter::new(io::writer(rt));
-    run(rt.alloc(), &words, &mut source, &mut sink)
+    run(rt.alloc(), &words, &mut source, &mut sink, &mut None)
 }
 
 /// Ends with the code of the command's status.

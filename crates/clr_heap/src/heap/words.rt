@@ -1,7 +1,7 @@
 // The words and bytes of the heap, by address.
 ghost use Rattle.std.specs.Prelude.{◌≡◌, ℕ, ◌+◌, ◌*◌, ◌/◌, ◌%◌, ◌<◌, ◌≤◌, ◌^◌, length, get_or, set};
-ghost use Rattle.clr_mem.specs.Words.{byte_of, Holds, moved, with_byte};
-ghost use Rattle.clr_heap.specs.Memories.{HasWord, InOne, IsApart, moves, memory_index, shapes, store_in, word_address, word_in};
+ghost use Rattle.clr_mem.specs.Words.{byte_of, cleared, Holds, moved, with_byte};
+ghost use Rattle.clr_heap.specs.Memories.{clears, HasWord, InOne, IsApart, moves, memory_index, shapes, store_in, word_address, word_in};
 
 use super::Heap;
 use clr_mem::Mem;
@@ -70,6 +70,15 @@ impl Heap {
         ensures words { (b : ℕ) → b % 8 ≡ 0 → word_of self.new b ≡ moves from to len (word_of self.old) b }
     {
         move_in_memories(&mut self.memories, from, to, len);
+    }
+
+    /// Clears the words of `[a, a + len)`. All other words stay.
+    pub fn clear_cells(&mut self, a: u64, len: u64)
+        requires { InOne self.old.memories a len }
+        ensures shape { SameShape self.old self.new }
+        ensures words { (b : ℕ) → b % 8 ≡ 0 → word_of self.new b ≡ clears a len (word_of self.old) b }
+    {
+        clear_in_memories(&mut self.memories, a, len);
     }
 
     /// The number of the segment that an address lies in.
@@ -212,4 +221,24 @@ fn carry_between(memories: &mut Vec<Mem>, low: usize, high: usize, from: u64, to
     let (front, back) = memories.split_at_mut(high);
     let target = &mut front[low];
     target.carry(to, &back[0], from, len);
+}
+
+fn clear_in_memories(memories: &mut Vec<Mem>, a: u64, len: u64)
+    requires held { InOne memories.old.items a len }
+    requires apart { IsApart (shapes memories.old.items) }
+    ensures words { (b : ℕ) → b % 8 ≡ 0 → word_in memories.new.items b ≡ clears a len (word_in memories.old.items) b }
+    ensures shapes { shapes memories.new.items ≡ shapes memories.old.items }
+    ensures len { length memories.new.items ≡ length memories.old.items }
+{
+    let k = find(memories, a);
+    clear_in(memories, k, a, len);
+}
+
+fn clear_in(memories: &mut Vec<Mem>, k: usize, a: u64, len: u64)
+    requires in_range { k < length memories.old.items }
+    requires held { (d : _) → Holds (get_or memories.old.items k d) a len }
+    ensures { (d : _) → memories.new.items ≡ set memories.old.items k (cleared (get_or memories.old.items k d) a len) }
+{
+    let memory = &mut memories[k];
+    memory.zero(a, len);
 }

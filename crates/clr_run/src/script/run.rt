@@ -1,8 +1,8 @@
 //! The top call: a command from its words and its source to its sink.
-ghost use Rattle.std.specs.Prelude.{◌≡◌, ◌≢◌, ◌+◌, ◌<◌, ◌≤◌, ◌∷◌, ◌++◌, [], List, ℕ, Some, length, IfOk, IfSome, IsSome, ◌⊎◌, option_map, codes, IsTrue, ◌↔◌};
+ghost use Rattle.std.specs.Prelude.{◌≡◌, ◌≢◌, ◌+◌, ◌<◌, ◌≤◌, ◌∷◌, ◌++◌, [], List, ℕ, Some, None, length, IfOk, IfSome, IsSome, IsSomeAnd, ◌⊎◌, option_map, codes, IsTrue, ◌↔◌};
 ghost use Rattle.clr_model.specs.Machine.{Machine, Options};
 ghost use Rattle.clr_model.specs.LineGrammar.{script_lines, ended_lines};
-ghost use Rattle.clr_model.specs.Run.{IsRunOf, defaults};
+ghost use Rattle.clr_model.specs.Run.{IsRunOf, StandsFor, defaults};
 ghost use Rattle.clr_run.specs.Commands.{SaysRun, SaysNothing};
 ghost use Rattle.clr_run.specs.Faults.{Rose, Taken, Appended};
 ghost use Rattle.clr_run.specs.Progress.{Answered, CutShort};
@@ -13,6 +13,7 @@ use crate::status::Status;
 use crate::streams::sink::Sink;
 use crate::streams::source::Source;
 use crate::words::Words;
+use clr_runtime::Runtime;
 use std::alloc::{AllocError, Global};
 
 /// A script has at most this many bytes.
@@ -33,7 +34,8 @@ fn run_script<S: Source, K: Sink>(
     requires empty { session.old.pending ≡ [] }
     requires buffer { 0 < length buffer.old }
     ensures done { result ≡ Status.Done → (taken : List ℕ)
-        × Answered defaults script_lines (S.held source.old) (S.held source.new) (K.written sink.old) (K.written sink.new) taken
+        × (answered : Answered defaults script_lines (S.held source.old) (S.held source.new) (K.written sink.old) (K.written sink.new) taken)
+        × StandsFor session.new.runtime answered.last
         × (length taken ≤ limit) × IfSome (S.held source.new) (λ rest. rest ≡ []) }
     ensures read_before { result ≡ Status.ReadFault → (taken : List ℕ)
         × Answered defaults ended_lines (S.held source.old) (S.held source.new) (K.written sink.old) (K.written sink.new) taken
@@ -89,18 +91,27 @@ fn make_buffer(alloc: Global, size: usize) -> Result<Vec<u8>, AllocError>
 }
 
 /// Runs the script that the source holds, and writes its replies to the sink. The words are those of the command line,
-/// without the program's name.
-pub fn run<S: Source, K: Sink>(alloc: Global, words: &Words, source: &mut S, sink: &mut K) -> Status
-    // What is written is the text of one run of the machine over all lines of the source, which is read to its end.
+/// without the program's name. After `Done` the end state is the runtime that ran the lines, and else there is none.
+pub fn run<S: Source, K: Sink>(
+    alloc: Global,
+    words: &Words,
+    source: &mut S,
+    sink: &mut K,
+    end_state: &mut Option<Runtime>,
+) -> Status
+    // What is written is the text of one run of the machine over all lines of the source, which is read to its end, and the
+    // runtime that ran them stands for the last state of this run.
     ensures headline { (options : Options) → SaysRun words.now options → result ≡ Status.Done → IfSome (S.held source.old) (λ script. (text : List ℕ) × (last : Machine)
         × IsRunOf options script text last
         × Appended (K.written sink.old) (K.written sink.new) text
-        × (S.held source.new ≡ Some [])) }
+        × (S.held source.new ≡ Some [])
+        × IsSomeAnd end_state.new (λ runtime. StandsFor runtime last)) }
 
     // The same where the source doesn't tell its bytes, of some bytes.
     ensures done { (options : Options) → SaysRun words.now options → result ≡ Status.Done → (taken : List ℕ)
-        × Answered options script_lines (S.held source.old) (S.held source.new) (K.written sink.old) (K.written sink.new) taken
-        × (length taken ≤ SCRIPT_LIMIT) }
+        × (answered : Answered options script_lines (S.held source.old) (S.held source.new) (K.written sink.old) (K.written sink.new) taken)
+        × (length taken ≤ SCRIPT_LIMIT) × IsSomeAnd end_state.new (λ runtime. StandsFor runtime answered.last) }
+    ensures no_state { result ≢ Status.Done → end_state.new ≡ None }
 
     // Each other answer has its cause.
     ensures usage { (result ≡ Status.Usage) ↔ SaysNothing words.now }
@@ -129,6 +140,7 @@ pub fn run<S: Source, K: Sink>(alloc: Global, words: &Words, source: &mut S, sin
     ensures write_before { (options : Options) → SaysRun words.now options → result ≡ Status.WriteFault →
         CutShort options SCRIPT_LIMIT (S.held source.old) (S.held source.new) (K.written sink.old) (K.written sink.new) }
 {
+    *end_state = None;
     if !is_run(words) {
         return Status::Usage;
     }
@@ -138,11 +150,17 @@ pub fn run<S: Source, K: Sink>(alloc: Global, words: &Words, source: &mut S, sin
     let Ok(mut buffer) = make_buffer(alloc, PIECE) else {
         return Status::Memory;
     };
-    run_script(
+    match run_script(
         &mut session,
         buffer.as_mut_slice(),
         SCRIPT_LIMIT,
         source,
         sink,
-    )
+    ) {
+        Status::Done => {
+            *end_state = Some(session.into_runtime());
+            Status::Done
+        }
+        fault => fault,
+    }
 }

@@ -3,12 +3,13 @@ ghost use Rattle.clr_run.specs.Faults.{Rose};
 ghost use Rattle.clr_run.specs.LineStretch.{IsUnfed, IsFirstFeed};
 
 use crate::NoMemory;
-use crate::runtime::Runtime;
-use crate::runtime::outcome::{Outcome, put_outcome};
+use crate::execute::execute;
+use crate::outcome::{Outcome, put_outcome};
 use crate::streams::Failed;
 use crate::streams::memory::push_all;
 use crate::streams::pending::Pending;
 use crate::streams::sink::Sink;
+use clr_runtime::{Options, Runtime};
 use memchr::memchr;
 use std::alloc::Global;
 
@@ -37,6 +38,7 @@ fn keep(line: &mut Vec<u8>, more: &[u8])
 /// A script that runs: its core, the line that is begun, and the replies that wait to be written.
 #[derive(Drop)]
 pub struct Session {
+    alloc: Global,
     runtime: Runtime,
     line: Vec<u8>,
     pending: Pending,
@@ -54,12 +56,15 @@ impl Session {
         ensures at { IfOk result (λ session. IsAt session [] []) }
         ensures empty { IfOk result (λ session. session.pending ≡ []) }
     {
-        let runtime = Runtime::new(alloc)?;
+        let Ok(runtime) = Runtime::new(alloc, Options::defaults()) else {
+            return Err(NoMemory);
+        };
         let pending = Pending::new(alloc)?;
         let Ok(line) = Vec::with_capacity(alloc, KEPT) else {
             return Err(NoMemory);
         };
         Ok(Session {
+            alloc,
             runtime,
             line,
             pending,
@@ -75,10 +80,10 @@ impl Session {
         ensures follows { (begun : List ℕ) → self.old.line.items ≡ take 4097 begun → FollowsLine self.old.runtime (begun ++ rest.now) (outcome_of result) self.new.runtime }
     {
         if self.line.is_empty() {
-            return self.runtime.execute(rest);
+            return execute(&mut self.runtime, self.alloc, rest);
         }
         keep(&mut self.line, rest);
-        let outcome = self.runtime.execute(&self.line);
+        let outcome = execute(&mut self.runtime, self.alloc, &self.line);
         self.line.clear();
         outcome
     }
@@ -138,12 +143,25 @@ impl Session {
 
     /// Takes the end of the script: a line that is begun is answered, and all replies are written.
     pub fn take_end<K: Sink>(&mut self, sink: &mut K) -> Result<(), Failed>
-        ensures bytes { OnOk result (EndsWritten self.old (K.written sink.old) (K.written sink.new)) }
+        ensures bytes { OnOk result (EndsWritten self.old self.new (K.written sink.old) (K.written sink.new)) }
         ensures stops { OnErr result (StopsLast self.old (K.written sink.old) (K.written sink.new)) }
         ensures counted { OnOk result (K.faults sink.new ≡ K.faults sink.old) }
         ensures cause { OnErr result (Rose (K.faults sink.old) (K.faults sink.new)) }
     {
         self.answer_end(sink)?;
         self.pending.flush(sink)
+    }
+
+    /// The runtime that ran the lines.
+    pub fn into_runtime(self) -> Runtime
+        ensures { result ≡ self.runtime }
+    {
+        let Session {
+            alloc: _,
+            runtime,
+            line: _,
+            pending: _,
+        } = self;
+        runtime
     }
 }

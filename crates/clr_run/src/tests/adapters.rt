@@ -40,7 +40,13 @@ fn adapts_a_reader(rt: HostRuntime) -> Result<(), Fail> {
     let words = words_of(rt.alloc(), &["run"])?;
     let mut source = ReadAdapter::new(Broken);
     assert_eq!(rt;
-        run(rt.alloc(), &words, &mut source, &mut PlainSink::new()),
+        run(
+            rt.alloc(),
+            &words,
+            &mut source,
+            &mut PlainSink::new(),
+            &mut None
+        ),
         Status::ReadFault
     );
     Ok(())
@@ -62,7 +68,7 @@ fn adapts_a_writer(rt: HostRuntime) -> Result<(), Fail> {
     let mut source = PlainSource::new(bytes_of(alloc, b"dumpheap\n")?);
     let mut sink = WriteAdapter::new(Broken);
     assert_eq!(rt;
-        run(alloc, &words, &mut source, &mut sink),
+        run(alloc, &words, &mut source, &mut sink, &mut None),
         Status::WriteFault
     );
     Ok(())
@@ -75,7 +81,10 @@ fn runs_from_a_reader_to_a_writer(rt: HostRuntime) -> Result<(), Fail> {
     let mut text = Vec::new(alloc);
     let mut source = ReadAdapter::new(b"dumpheap\n".as_slice());
     let mut sink = WriteAdapter::new(&mut text);
-    assert_eq!(rt; run(alloc, &words, &mut source, &mut sink), Status::Done);
+    assert_eq!(rt;
+        run(alloc, &words, &mut source, &mut sink, &mut None),
+        Status::Done
+    );
     assert_eq!(rt; text.as_slice(), EMPTY_HEAP.as_bytes());
     Ok(())
 }

@@ -48,18 +48,24 @@ fn wants_the_word_run_alone(rt: HostRuntime) -> Result<(), Fail> {
     let mut sink = MemorySink::new(alloc, 100, 7, Vec::new(alloc))?;
     for texts in wrong {
         let words = words_of(alloc, texts)?;
-        assert_eq!(rt; run(alloc, &words, &mut source, &mut sink), Status::Usage);
+        assert_eq!(rt;
+            run(alloc, &words, &mut source, &mut sink, &mut None),
+            Status::Usage
+        );
     }
     assert!(rt; sink.bytes().is_empty());
 
     // nothing was read
     let words = words_of(alloc, &["run"])?;
-    assert_eq!(rt; run(alloc, &words, &mut source, &mut sink), Status::Done);
+    assert_eq!(rt;
+        run(alloc, &words, &mut source, &mut sink, &mut None),
+        Status::Done
+    );
     assert_eq!(rt; sink.bytes(), EMPTY_HEAP.as_bytes());
 
     let mut source = PlainSource::new(bytes_of(alloc, b"dumpheap\n")?);
     assert_eq!(rt;
-        run(alloc, &words, &mut source, &mut PlainSink::new()),
+        run(alloc, &words, &mut source, &mut PlainSink::new(), &mut None),
         Status::Done
     );
     Ok(())
@@ -156,7 +162,7 @@ fn stops_one_byte_past_the_limit(rt: HostRuntime) -> Result<(), Fail> {
         (
             SCRIPT_LIMIT,
             Status::Done,
-            "total 0 bytes 0 free 0\nrefused syntax\n",
+            "total 0 bytes 0 free 0\nrefused too-long\n",
         ),
         // the line that is begun at the limit is not run
         (SCRIPT_LIMIT + 1, Status::TooMuch, EMPTY_HEAP),
@@ -166,7 +172,7 @@ fn stops_one_byte_past_the_limit(rt: HostRuntime) -> Result<(), Fail> {
             blanks: bytes - 9,
         };
         let mut sink = MemorySink::new(alloc, 100, 7, Vec::new(alloc))?;
-        assert_eq!(rt; run(alloc, &words, &mut source, &mut sink), want);
+        assert_eq!(rt; run(alloc, &words, &mut source, &mut sink, &mut None), want);
         assert_eq!(rt; sink.bytes(), replies.as_bytes());
         assert_eq!(rt; source.blanks, 0);
     }

@@ -53,7 +53,7 @@ fn answers_each_line(rt: HostRuntime) -> Result<(), Fail> {
         // a refused line changes nothing, and a second type has the next method table word
         (
             "type A class -\ntype B class -\nt1 new l0 B\nt1 new l64 A\nt1 new l07 A\nt1 new l7 A\n",
-            "mt 00007ff000000040\nmt 00007ff000000080\n0000000010001000\nrefused syntax\nrefused syntax\n0000000010001018\n",
+            "mt 00007ff000000040\nmt 00007ff000000080\n0000000010001000\nrefused no-slot\nrefused syntax\n0000000010001018\n",
         ),
         // a name that is taken, then lines of no form: a wrong pattern, and other than one space between two words
         (
@@ -67,8 +67,11 @@ fn answers_each_line(rt: HostRuntime) -> Result<(), Fail> {
     Ok(())
 }
 
-/// The objects of 2,064 bytes for which the ephemeral segment has room.
-const FILLING: u64 = 8126;
+/// The contexts of 8,192 bytes for which the ephemeral segment has room: 4,096 bytes are left.
+const CONTEXTS: u64 = 2047;
+
+/// The objects of 2,064 bytes that it holds: three in each context, and one behind them.
+const FILLING: u64 = 3 * CONTEXTS + 1;
 
 /// A script that makes one object more than there is room for, and shows the heap.
 fn filling_script(alloc: Global) -> Result<Vec<u8>, Fail> {
@@ -85,21 +88,33 @@ fn filling_script(alloc: Global) -> Result<Vec<u8>, Fail> {
     Ok(script)
 }
 
+/// Where object `i` stands.
+fn filling_place(i: u64) -> u64
+    requires { i < 10000 }
+{
+    0x1000_1000 + i / 3 * 8192 + i % 3 * 2064
+}
+
 /// What it is answered.
 fn filling_replies(alloc: Global) -> Result<Vec<u8>, Fail> {
     let mut replies = Vec::new(alloc);
     replies.extend_from_slice(b"mt 00007ff000000040\n")?;
     for i in 0..FILLING {
-        let line = format!(in alloc; "{:016x}\n", 0x1000_1000 + 2064 * i)?;
+        let line = format!(in alloc; "{:016x}\n", filling_place(i))?;
         replies.extend_from_slice(line.as_bytes())?;
     }
     replies.extend_from_slice(b"refused oom\n")?;
     for i in 0..FILLING {
-        let place = 0x1000_1000 + 2064 * i;
+        let place = filling_place(i);
         let line = format!(in alloc; "{place:016x} 00007ff000000040 2064 W\n")?;
         replies.extend_from_slice(line.as_bytes())?;
+        if i % 3 == 2 {
+            let free = place.wrapping_add(2064);
+            let line = format!(in alloc; "{free:016x} 00007ff000000000 2000 Free\n")?;
+            replies.extend_from_slice(line.as_bytes())?;
+        }
     }
-    replies.extend_from_slice(b"total 8126 bytes 16772064 free 0\n")?;
+    replies.extend_from_slice(b"total 6142 bytes 12677088 free 4094000\n")?;
     Ok(replies)
 }
 

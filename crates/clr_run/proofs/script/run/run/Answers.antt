@@ -1,24 +1,41 @@
 -- What a run answers, from what its loop does; and the answers that are left where nothing else is wrong.
+use Rattle.std.proofs.Common.{inl, refl}
+use Rattle.clr_model.specs.Run.{StandsFor}
 use Rattle.clr_run.proofs.ScriptLoop.{status_left, too_long, headline}
 use Rattle.clr_run.proofs.script.run.run.Goals as goal
 
-pub returns-clause-headline : goal.returns-clause-headline
-returns-clause-headline g c = λ options says e. rw says.1 (let done = c.run_script.ensures.done e in headline _ _ _ _ _ done.0 done.1 done.3)
+pub returns-in-Done-clause-headline : goal.returns-in-Done-clause-headline
+returns-in-Done-clause-headline g c = λ options says e.
+    rw says.1
+    (let (taken, answered, stands, short, ended) = c.run_script.ensures.done c.in-Done.is in
+    headline _ _ _ _ _ taken answered ended (StandsFor c.into_runtime.result) (rw c.into_runtime.ensures stands))
 
-pub returns-clause-done : goal.returns-clause-done
-returns-clause-done g c = λ options says e. rw says.1 (let done = c.run_script.ensures.done e in (done.0, done.1, done.2))
+pub returns-in-Done-clause-done : goal.returns-in-Done-clause-done
+returns-in-Done-clause-done g c = λ options says e.
+    rw says.1
+    (let (taken, answered, stands, short, ended) = c.run_script.ensures.done c.in-Done.is in
+    (taken, answered, short, rw c.into_runtime.ensures stands))
 
-pub returns-clause-too_much : goal.returns-clause-too_much
-returns-clause-too_much g c = λ options says e. rw says.1 (c.run_script.ensures.too_much e)
+pub returns-in-Done-clause-complete : goal.returns-in-Done-clause-complete
+returns-in-Done-clause-complete g c = λ options says short some unread unwritten. inl refl
 
-pub returns-clause-read_before : goal.returns-clause-read_before
-returns-clause-read_before g c = λ options says e. rw says.1 (c.run_script.ensures.read_before e)
+pub returns-in_default-run_script-clause-headline : goal.returns-in_default-run_script-clause-headline
+returns-in_default-run_script-clause-headline g c = λ options says e. absurd (c.in_default-run_script.not-Done e)
 
-pub returns-clause-write_before : goal.returns-clause-write_before
-returns-clause-write_before g c = λ options says e. rw says.1 (c.run_script.ensures.write_before e)
+pub returns-in_default-run_script-clause-done : goal.returns-in_default-run_script-clause-done
+returns-in_default-run_script-clause-done g c = λ options says e. absurd (c.in_default-run_script.not-Done e)
 
-pub returns-clause-complete : goal.returns-clause-complete
-returns-clause-complete g c = λ options says short some unread unwritten.
+pub returns-in_default-run_script-clause-too_much : goal.returns-in_default-run_script-clause-too_much
+returns-in_default-run_script-clause-too_much g c = λ options says e. rw says.1 (c.run_script.ensures.too_much e)
+
+pub returns-in_default-run_script-clause-read_before : goal.returns-in_default-run_script-clause-read_before
+returns-in_default-run_script-clause-read_before g c = λ options says e. rw says.1 (c.run_script.ensures.read_before e)
+
+pub returns-in_default-run_script-clause-write_before : goal.returns-in_default-run_script-clause-write_before
+returns-in_default-run_script-clause-write_before g c = λ options says e. rw says.1 (c.run_script.ensures.write_before e)
+
+pub returns-in_default-run_script-clause-complete : goal.returns-in_default-run_script-clause-complete
+returns-in_default-run_script-clause-complete g c = λ options says short some unread unwritten.
     status_left c.run_script.result c.run_script.ensures.usage
     (λ e. unread (c.run_script.ensures.read_fault e))
     (λ e. unwritten (c.run_script.ensures.write_fault e))

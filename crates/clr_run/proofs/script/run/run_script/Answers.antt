@@ -10,9 +10,9 @@ returns-in-Ok-take_end-clause-done g c = λ e.
     let into = simp length-take at c.read.auto.into in
     let some : 0 < length c.read.new.into = omega (arith, into) in
     let read = rw c.if-count-eq0.true at c.in-Ok.ensures.bytes in
-    let f = finished c.loop-count.session _ (g.S.Source.held c.loop-count.source) (g.S.Source.held c.read.new.self) _ (g.K.Sink.written c.loop-count.sink) _ c.args.limit c.loop-count.left
+    let f = finished c.loop-count.session c.take_end.new.self _ (g.S.Source.held c.loop-count.source) (g.S.Source.held c.read.new.self) _ (g.K.Sink.written c.loop-count.sink) _ c.args.limit c.loop-count.left
     c.loop-count.invariant.running read c.in-Ok-take_end.ensures.bytes in
-    (f.0, f.1, f.2, at_end (g.S.Source.held c.loop-count.source) _ read (c.in-Ok.ensures.end c.if-count-eq0.true some))
+    (f.0, f.1, f.2, f.3, at_end (g.S.Source.held c.loop-count.source) _ read (c.in-Ok.ensures.end c.if-count-eq0.true some))
 
 pub returns-then-left-eq0-clause-too_much : goal.returns-then-left-eq0-clause-too_much
 returns-then-left-eq0-clause-too_much g c = λ e.

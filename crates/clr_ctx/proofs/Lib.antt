@@ -1,0 +1,11 @@
+pub mod Lists
+pub mod Swapping
+pub mod Resting
+pub mod Closing
+pub mod Drawing
+pub mod Extending
+pub mod Steps
+pub mod Walks
+pub mod Choices
+pub mod GivingAll
+pub mod Opening

@@ -1,0 +1,11 @@
+//! Allocation contexts: ranges of generation 0 that one thread fills with objects from the front.
+#![tactic(auto)]
+
+pub use crate::contexts::Contexts;
+
+mod contexts;
+mod items;
+mod ranges;
+mod rooms;
+#[cfg(test)]
+mod tests;

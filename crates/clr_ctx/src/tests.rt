@@ -1,0 +1,107 @@
+// Contexts that are opened one after the other, filled and given up.
+ghost use Rattle.std.specs.Prelude.{◌≡◌, IfOk};
+ghost use Rattle.clr_view.specs.View.{IsHeld};
+ghost use Rattle.clr_ctx.specs.Contexts.{IsIndex};
+
+use crate::Contexts;
+use crate::items::{FreeItem, first_in, insert_item};
+use clr_heap::Heap;
+use clr_types::Types;
+use std::alloc::Global;
+use std::process::Abort;
+use std::test::Fail;
+
+// A new heap, and what its contexts need.
+fn started(alloc: Global) -> Result<(Types, Heap, Contexts), Fail>
+    ensures held { IfOk result (λ p. IsHeld p.0 p.1) }
+    ensures index { IfOk result (λ p. IsIndex p.0 p.1 p.2) }
+{
+    let types = Types::new(alloc)?;
+    let heap = Heap::new(alloc, 262_144, 1_048_576)?;
+    let contexts = Contexts::new(alloc);
+    Ok((types, heap, contexts))
+}
+
+// A refill, and the context that the thread has then: `None` where there is no room.
+fn refilled(
+    rt: &impl Abort,
+    contexts: &mut Contexts,
+    heap: &mut Heap,
+    types: &Types,
+    t: usize,
+    size: u64,
+) -> Option<(u64, u64)>
+    requires held { IsHeld types.now heap.old }
+    requires index { IsIndex types.now heap.old contexts.old }
+    ensures held { IsHeld types.now heap.new }
+    ensures index { IsIndex types.now heap.new contexts.new }
+{
+    assert!(rt; 0 < t && t <= 16);
+    assert!(rt; 24 <= size && size % 8 == 0 && size <= 0x4000_0000);
+    let (_, start0) = heap.boundaries();
+    let tail = heap.info(heap.ephemeral()).end;
+    assert!(rt; start0 <= tail);
+    contexts.refill(heap, types, t, size)?;
+    heap.hole(t)
+}
+
+// Refills, each of a thread for a size, that are to give these contexts.
+fn refill_each(
+    rt: &impl Abort,
+    contexts: &mut Contexts,
+    heap: &mut Heap,
+    types: &Types,
+    cases: &[(usize, u64, Option<(u64, u64)>)],
+)
+    requires held { IsHeld types.now heap.old }
+    requires index { IsIndex types.now heap.old contexts.old }
+{
+    for &(t, size, want) in cases {
+        let context = refilled(rt, contexts, heap, types, t, size);
+        assert_eq!(rt; context, want, "of thread {t}");
+    }
+}
+
+#[test]
+fn a_context_is_filled_from_its_front(rt: HostRuntime) -> Result<(), Fail> {
+    let (types, mut heap, mut contexts) = started(rt.alloc())?;
+    assert!(rt; !contexts.fits(&heap, 1, 24));
+    let context = refilled(&rt, &mut contexts, &mut heap, &types, 1, 24);
+    assert_eq!(rt; context, Some((0x1000_1000, 0x1000_3000)));
+    assert!(rt; contexts.fits(&heap, 1, 24));
+    assert_eq!(rt; contexts.take(&mut heap, 1, 24), Some(0x1000_1000));
+    assert_eq!(rt; contexts.take(&mut heap, 1, 8152), None);
+    assert_eq!(rt; contexts.take(&mut heap, 1, 8168), Some(0x1000_1018));
+    assert_eq!(rt; heap.hole(1), None);
+    Ok(())
+}
+
+#[test]
+fn contexts_come_from_free_items(rt: HostRuntime) -> Result<(), Fail> {
+    let (types, mut heap, mut contexts) = started(rt.alloc())?;
+    let first = refilled(&rt, &mut contexts, &mut heap, &types, 1, 20_000);
+    assert_eq!(rt; first, Some((0x1000_1000, 0x1000_5e20)));
+    contexts.give_up_all(&mut heap, &types);
+    assert_eq!(rt; heap.hole(1), None);
+    let cases = [
+        (2, 104, Some((0x1000_1000, 0x1000_3000))),
+        (3, 12_000, Some((0x1000_5e20, 0x1000_8d00))),
+        (4, 104, Some((0x1000_3000, 0x1000_5000))),
+        (5, 104, Some((0x1000_5000, 0x1000_5e20))),
+        (5, 104, Some((0x1000_8d00, 0x1000_ad00))),
+        (6, 104, Some((0x1000_5000, 0x1000_5e20))),
+        (7, 217_864, None),
+        (7, 217_856, Some((0x1000_ad00, 0x1004_0000))),
+    ];
+    refill_each(&rt, &mut contexts, &mut heap, &types, &cases);
+    Ok(())
+}
+
+#[test]
+fn an_item_is_put_in(rt: HostRuntime) {
+    let mut items = Vec::new(rt.alloc());
+    assert!(rt; insert_item(&mut items, FreeItem::between(0x1000, 0x1020)));
+    let found = first_in(&items, 32);
+    assert_eq!(rt; found.map(|item| item.place()), Some(0x1000));
+    assert!(rt; first_in(&items, 24).is_none());
+}

@@ -1,0 +1,14 @@
+pub mod Standing
+pub mod Remarking
+pub mod Held
+pub mod References
+pub mod Counting
+pub mod Graying
+pub mod Laws
+pub mod Following
+pub mod Visiting
+pub mod Rescanning
+pub mod Unmarking
+pub mod Rooting
+pub mod Young
+pub mod FoundObjects

@@ -1,0 +1,4 @@
+pub mod Marks
+pub mod Waiting
+pub mod Markings
+pub mod Roots

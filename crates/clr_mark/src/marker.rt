@@ -1,0 +1,195 @@
+// The marker: a stack of objects to follow, and the range of those that had no room on it.
+ghost use Rattle.std.specs.Prelude.{◌≡◌, ◌≢◌, ℕ, ◌+◌, ◌/◌, ◌%◌, ◌≤◌, ◌^◌, ◌↔◌, ◌⊎◌, Bool, true, false, [], ◌∷◌, ◌++◌, length, nat_le, IfOk, None};
+ghost use Rattle.clr_types.specs.Rising.{IsIn};
+ghost use Rattle.clr_heap.specs.Memories.{HasWord};
+ghost use Rattle.clr_heap.specs.View.{word_of};
+ghost use Rattle.clr_model.specs.Reach.{Reach};
+ghost use Rattle.clr_view.specs.SlotValues.{StandsAt};
+ghost use Rattle.clr_mark.specs.Marks.{has_mark, IsClosed, IsRemarked, LeadsTo, Marked, with_mark};
+ghost use Rattle.clr_mark.specs.Marks as marks;
+ghost use Rattle.clr_mark.specs.Markings.{HasGrayed};
+ghost use Rattle.clr_mark.specs.Waiting.{IsGray, widened, with_next, with_waiting};
+
+use crate::NoMemory;
+use clr_heap::Heap;
+use clr_types::Types;
+use std::alloc::Global;
+use std::marker::Model;
+
+mod rescan;
+mod scan;
+mod unmark;
+
+/// What marking needs: the objects whose slots are still to be followed, on a stack, and the lowest and the highest place of
+/// those that had no room on it.
+///
+/// The mark is the low bit of an object's method table word. Marking takes no memory.
+#[derive(Drop)]
+pub struct Marker {
+    stack: Vec<u64>,
+    range: Option<(u64, u64)>,
+    oldest: u8,
+}
+
+impl Model for Marker {
+    ghost use Rattle.std.specs.Prelude.{vec_capacity};
+    ghost use Rattle.clr_mark.specs.Waiting.{MarkerView};
+
+    ghost Value = { MarkerView };
+
+    ghost view = { λ m. record { stack = m.stack.items; capacity = vec_capacity m.stack; range = m.range; oldest = m.oldest } };
+}
+
+impl Marker {
+    /// A marker with room for `capacity` objects on its stack, for collections of all generations. This is the only call that
+    /// takes memory: `NoMemory` where there is none for the stack.
+    pub fn new(alloc: Global, capacity: usize) -> Result<Marker, NoMemory>
+        requires { 1 ≤ capacity }
+        ensures { IfOk result (λ m. m ≡ record { stack = []; capacity = capacity; range = None; oldest = 2 }) }
+    {
+        let stack = Vec::with_capacity(alloc, capacity)?;
+        Ok(Marker {
+            stack,
+            range: None,
+            oldest: 2,
+        })
+    }
+
+    /// Begins a marking for a collection of the generations up to `g`, whose objects are condemned. Nothing waits.
+    pub fn begin(&mut self, g: u8)
+        requires { g ≤ 2 }
+        ensures { self.new ≡ record self.old { stack = []; range = None; oldest = g } }
+    {
+        self.forget();
+        self.oldest = g;
+    }
+
+    /// The objects that wait on the stack.
+    pub fn stack(&self) -> &[u64]
+        ensures { result.now ≡ self.now.stack }
+    {
+        &self.stack
+    }
+
+    /// Whether the object at `obj` is marked.
+    pub fn is_marked(&self, heap: &Heap, obj: u64) -> bool
+        requires { HasWord heap.now.memories obj }
+        ensures { result ≡ has_mark (word_of heap.now obj) }
+    {
+        heap.word(obj) % 2 == 1
+    }
+
+    /// Marks the object at `obj`, where it is condemned. It waits then, where it wasn't marked before.
+    ///
+    /// All else stays.
+    pub fn root(&mut self, heap: &mut Heap, types: &Types, obj: u64)
+        requires gray { IsGray types.now heap.old self.old }
+        requires object { StandsAt types.now heap.old obj }
+        ensures heap { heap.new ≡ with_mark heap.old self.old.oldest obj }
+        ensures marker { self.new ≡ with_waiting heap.old self.old obj }
+        ensures gray { IsGray types.now heap.new self.new }
+        ensures words { IsRemarked types.now heap.old heap.new }
+        ensures marked { (x : ℕ) → Marked types.now heap.new x ↔ (((x ≡ obj) × (marks.is_condemned heap.old self.old.oldest obj ≡ true)) ⊎ Marked types.now heap.old x) }
+    {
+        let _ = types.count();
+        self.mark(heap, obj);
+    }
+
+    /// Marks what the marked objects reach over condemned ones. Nothing waits then.
+    ///
+    /// All else stays.
+    pub fn drain(&mut self, heap: &mut Heap, types: &Types)
+        requires { IsGray types.now heap.old self.old }
+        ensures marker { self.new ≡ record self.old { stack = []; range = None } }
+        ensures gray { IsGray types.now heap.new self.new }
+        ensures words { IsRemarked types.now heap.old heap.new }
+        ensures marked { (x : ℕ) → Marked types.now heap.new x ↔ Reach (LeadsTo types.now heap.old self.old.oldest) (Marked types.now heap.old) x }
+    {
+        self.empty_stack(heap, types);
+        while let Some((low, high)) = self.take_range() {
+            self.rescan(heap, types, low, high);
+        }
+    }
+
+    // Follows what is on the stack, until nothing is.
+    fn empty_stack(&mut self, heap: &mut Heap, types: &Types)
+        requires closed { IsClosed types.now heap.old }
+        requires stacked { (x : ℕ) → IsIn x self.old.stack → Marked types.now heap.old x }
+        ensures grayed { HasGrayed types.now heap.old heap.new self.old self.new }
+        ensures empty { self.new.stack ≡ [] }
+    {
+        while let Some(obj) = self.stack.pop() {
+            self.scan(heap, types, obj);
+        }
+    }
+
+    // Marks the object at `obj`, where it is condemned, and lets it wait where it wasn't marked.
+    #[inline]
+    fn mark(&mut self, heap: &mut Heap, obj: u64)
+        requires { HasWord heap.old.memories obj }
+        ensures heap { heap.new ≡ with_mark heap.old self.old.oldest obj }
+        ensures marker { self.new ≡ with_waiting heap.old self.old obj }
+    {
+        if !self.is_condemned(heap, obj) {
+            return;
+        }
+        let k = heap.segment_of(obj);
+        let word = heap.word_at(k, obj);
+        if word % 2 != 1 {
+            heap.set_word_at(k, obj, word + 1);
+            self.push(obj);
+        }
+    }
+
+    // Whether the object at `obj` is condemned.
+    #[inline]
+    fn is_condemned(&self, heap: &Heap, obj: u64) -> bool
+        ensures { result ≡ marks.is_condemned heap.now self.now.oldest obj }
+    {
+        self.oldest >= 2 || heap.gen_of(obj) <= self.oldest
+    }
+
+    // Puts `obj` on the stack, or into the range where the stack is full.
+    fn push(&mut self, obj: u64)
+        ensures { self.new ≡ with_next self.old obj }
+    {
+        if self.stack.len() < self.stack.capacity() {
+            self.stack.push_reserved(obj);
+        } else {
+            self.widen(obj);
+        }
+    }
+
+    // Widens the range to `obj`.
+    fn widen(&mut self, obj: u64)
+        ensures { self.new ≡ record self.old { range = widened self.old.range obj } }
+    {
+        self.range = match self.range {
+            Some((low, high)) => Some((low.min(obj), high.max(obj))),
+            None => Some((obj, obj)),
+        };
+    }
+
+    // Empties the range, and answers what it was.
+    fn take_range(&mut self) -> Option<(u64, u64)>
+        ensures range { result ≡ self.old.range }
+        ensures marker { self.new ≡ record self.old { range = None } }
+    {
+        self.range.take()
+    }
+
+    // Whether half of the stack or more is in use.
+    pub(crate) fn is_half_full(&self) -> bool
+        ensures { result ≡ nat_le (self.now.capacity / 2) (length self.now.stack) }
+    {
+        self.stack.len() >= self.stack.capacity() / 2
+    }
+
+    // Forgets what waits.
+    fn forget(&mut self)
+        ensures { self.new ≡ record self.old { stack = []; range = None } }
+    {
+        self.stack.clear();
+        self.range = None;
+    }
+}

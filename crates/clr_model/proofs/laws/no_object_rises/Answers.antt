@@ -1,0 +1,5 @@
+use Rattle.clr_model.proofs.CollectedLaws.{none_rises}
+use Rattle.clr_model.proofs.laws.no_object_rises.Goals as goal
+
+pub returns : goal.returns
+returns c = none_rises

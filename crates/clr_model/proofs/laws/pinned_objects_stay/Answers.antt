@@ -1,0 +1,5 @@
+use Rattle.clr_model.proofs.CollectedLaws.{pinned_stay}
+use Rattle.clr_model.proofs.laws.pinned_objects_stay.Goals as goal
+
+pub returns : goal.returns
+returns c = pinned_stay

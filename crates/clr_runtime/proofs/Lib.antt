@@ -1,0 +1,13 @@
+pub mod NamesChecked
+pub mod SlotsChecked
+pub mod LocalsSeen
+pub mod LocalLines
+pub mod SlotLines
+pub mod RuntimeKept
+pub mod TypeLines
+pub mod Opened
+pub mod IndexKept
+pub mod LimitKept
+pub mod TypeNumbers
+pub mod BirthLines
+pub mod BirthDone

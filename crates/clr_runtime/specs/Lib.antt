@@ -1,0 +1,6 @@
+pub mod Options
+pub mod RuntimeView
+pub mod Outcomes
+pub mod Checks
+pub mod Births
+pub mod Slots

@@ -1,0 +1,35 @@
+-- What the results of a runtime's calls say.
+use Rattle.std.specs.Prelude.{ℕ, Result, Ok, Err}
+use Rattle.clr_model.specs.declared.Reply.TheVariants.{Done, Mt, Number, Place}
+use Rattle.clr_model.specs.declared.Refusal.{Refusal}
+use Rattle.clr_model.specs.declared.Refusal.TheVariants as refusal
+use Rattle.clr_types.specs.declared.fault.DefineFault.{DefineFault}
+use Rattle.clr_types.specs.declared.fault.DefineFault.TheVariants as fault
+use Rattle.clr_model.specs.Outcomes as model
+
+-- what a call tells that gives a method table word
+abbrev pub mt_outcome : Result ℕ Refusal → model.Outcome
+mt_outcome (Ok mt) = model.answered (Mt mt)
+mt_outcome (Err refusal) = model.refused refusal
+
+-- what a call tells that gives a place, 0 for null
+abbrev pub place_outcome : Result ℕ Refusal → model.Outcome
+place_outcome (Ok place) = model.answered (Place place)
+place_outcome (Err refusal) = model.refused refusal
+
+-- what a call tells that gives a number
+abbrev pub number_outcome : Result ℕ Refusal → model.Outcome
+number_outcome (Ok number) = model.answered (Number number)
+number_outcome (Err refusal) = model.refused refusal
+
+-- what a call tells that gives nothing
+abbrev pub done_outcome : Result (Unit {0}) Refusal → model.Outcome
+done_outcome (Ok nothing) = model.answered Done
+done_outcome (Err refusal) = model.refused refusal
+
+-- how a refusal of the table of types is told
+abbrev pub refusal_of_fault : DefineFault → Refusal
+refusal_of_fault fault.Duplicate = refusal.DuplicateType
+refusal_of_fault fault.BadShape = refusal.BadShape
+refusal_of_fault fault.TooManyTypes = refusal.TooManyTypes
+refusal_of_fault fault.NoMemory = refusal.NoMemory

@@ -1,0 +1,126 @@
+//! The line that makes an object.
+ghost use Rattle.std.specs.Prelude.{◌≡◌, ◌<◌, ◌≤◌, ◌%◌, ℕ, length, true};
+ghost use Rattle.clr_model.specs.Lookups.{is_thread};
+ghost use Rattle.clr_view.specs.View.{IsHeld, tail_of};
+ghost use Rattle.clr_ctx.specs.Contexts.{IsIndex};
+ghost use Rattle.clr_runtime.specs.Births.{HasRoomMade, IsDefined, Measured};
+
+use crate::checks::{index_of, is_known};
+use crate::runtime::{LOCALS_OF_A_THREAD, Runtime};
+use clr_ctx::Contexts;
+use clr_heap::Heap;
+use clr_model::Refusal;
+use clr_types::{TypeId, Types};
+use clr_view::bear;
+
+/// Objects of this many bytes and more are large.
+const LARGE: u64 = 85_000;
+
+impl Runtime {
+    ghost use Rattle.clr_model.specs.Instructions.{new_object};
+    ghost use Rattle.clr_model.specs.Run.{Follows};
+    ghost use Rattle.clr_runtime.specs.Outcomes.{place_outcome};
+
+    /// Makes an object of the type of this name, with `len` elements where it is an array, at the front of the context of
+    /// thread `t`, and gives its place, which the local takes.
+    ///
+    /// It is refused for an unknown thread or type, a length that doesn't suit the type, a local from 64 on, and 85,000 bytes
+    /// and more, in this order; and with `Oom` exactly where neither the context nor the rest of generation 0 has room.
+    pub fn new_object(
+        &mut self,
+        t: u64,
+        local: u64,
+        name: &[u8],
+        len: Option<u64>,
+    ) -> Result<u64, Refusal>
+        ensures { Follows self.old (new_object t local name.now len) (place_outcome result) self.new }
+    {
+        let (type_id, size) = match measure(&self.types, t, local, name, len) {
+            Ok(measured) => measured,
+            Err(refusal) => return Err(refusal),
+        };
+        let _ = self.heap.segments();
+        let thread = t as usize;
+        if !make_room(
+            &mut self.contexts,
+            &mut self.heap,
+            &self.types,
+            thread,
+            size,
+        ) {
+            return Err(Refusal::Oom);
+        }
+        let place = bear(
+            &mut self.heap,
+            &self.types,
+            thread,
+            type_id,
+            len.unwrap_or(0),
+        );
+        self.locals[index_of(t, local)] = place;
+        self.sums.spent0 += size;
+        Ok(place)
+    }
+}
+
+// The type that a script defined under this name.
+fn defined(types: &Types, name: &[u8]) -> Option<TypeId>
+    ensures { IsDefined types.now name.now result }
+{
+    let _ = types.count();
+    match types.by_name(name) {
+        Some(t) if t.0 != 0 => Some(t),
+        _ => None,
+    }
+}
+
+// The type and the size in bytes of an object that a line would make, or the first of the checks that fails.
+fn measure(
+    types: &Types,
+    t: u64,
+    local: u64,
+    name: &[u8],
+    len: Option<u64>,
+) -> Result<(TypeId, u64), Refusal>
+    ensures { Measured types.now t local name.now len result }
+{
+    if !is_known(t) {
+        return Err(Refusal::UnknownThread);
+    }
+    let Some(type_id) = defined(types, name) else {
+        return Err(Refusal::UnknownType);
+    };
+    if types.has_length(type_id) != len.is_some() {
+        return Err(Refusal::BadShape);
+    }
+    if local >= LOCALS_OF_A_THREAD {
+        return Err(Refusal::NoSlot);
+    }
+    match types.size_of(type_id, len.unwrap_or(0)) {
+        Some(size) if size < LARGE => Ok((type_id, size)),
+        _ => Err(Refusal::TooBig),
+    }
+}
+
+// Makes room of this size at the front of the thread's context, by a refill where the rest has none, and tells whether there is.
+fn make_room(
+    contexts: &mut Contexts,
+    heap: &mut Heap,
+    types: &Types,
+    thread: usize,
+    size: u64,
+) -> bool
+    requires held { IsHeld types.now heap.old }
+    requires index { IsIndex types.now heap.old contexts.old }
+    requires young { heap.old.start0 ≤ tail_of heap.old }
+    requires positive { 0 < thread }
+    requires few { thread ≤ 16 }
+    requires least { 24 ≤ size }
+    requires whole { size % 8 ≡ 0 }
+    requires small { size < 85000 }
+    ensures room { HasRoomMade types.now heap.old heap.new thread size result }
+    ensures held { IsHeld types.now heap.new }
+    ensures index { IsIndex types.now heap.new contexts.new }
+{
+    contexts.fits(heap, thread, size) || contexts.refill(heap, types, thread, size).is_some()
+}

@@ -1,0 +1,18 @@
+//! The core that a script drives: one call for each line, each of them a step of the machine.
+#![tactic(auto)]
+
+pub use crate::options::Options;
+pub use crate::runtime::Runtime;
+
+mod births;
+mod checks;
+mod options;
+mod runtime;
+mod slots;
+mod sums;
+#[cfg(test)]
+mod tests;
+
+/// There was no memory.
+#[derive(Clone, Copy, Debug, PartialEq, Eq)]
+pub struct NoMemory;

@@ -1,0 +1,40 @@
+//! What a runtime is made with.
+ghost use Rattle.std.specs.Prelude.{◌≡◌};
+ghost use Rattle.clr_model.specs.Run.{defaults};
+ghost use Rattle.clr_runtime.specs.Options.{options_of};
+
+/// What a runtime is made with: sizes and budgets in bytes, and a percentage.
+#[derive(Clone, Copy, Debug, PartialEq, Eq)]
+pub struct Options {
+    /// The bytes that all segments may reserve together.
+    pub limit: u64,
+    /// The bytes that a segment reserves.
+    pub segment: u64,
+    /// The bytes of small objects after which an allocation collects.
+    pub b0: u64,
+    /// The promoted bytes after which such a collection condemns generation 1, too.
+    pub b1: u64,
+    /// The bytes promoted to generation 2 after which it is a full one.
+    pub b2: u64,
+    /// The bytes of large objects after which an allocation of one collects.
+    pub bl: u64,
+    /// The percentage of free space from which a collection that decides compacts.
+    pub compact: u64,
+}
+
+impl Options {
+    /// What a script runs with where the command line says nothing.
+    pub fn defaults() -> Options
+        ensures { options_of result ≡ defaults }
+    {
+        Options {
+            limit: 268_435_456,
+            segment: 16_777_216,
+            b0: 262_144,
+            b1: 1_048_576,
+            b2: 4_194_304,
+            bl: 4_194_304,
+            compact: 50,
+        }
+    }
+}

@@ -1,0 +1,139 @@
+//! The types, the heap and the locals that the lines of a script work on.
+ghost use Rattle.std.specs.Prelude.{◌≡◌, IfOk, length, replicate, false};
+ghost use Rattle.clr_types.specs.Types.{form_of};
+ghost use Rattle.clr_runtime.specs.Options.{options_of};
+ghost use Rattle.clr_runtime.specs.Outcomes.{refusal_of_fault};
+
+use crate::NoMemory;
+use crate::options::Options;
+use crate::sums::Sums;
+use clr_ctx::Contexts;
+use clr_heap::Heap;
+use clr_model::Refusal;
+use clr_types::{DefineFault, Shape, Types};
+use std::alloc::{AllocError, Global};
+use std::marker::Model;
+
+/// So many locals has each of the 16 threads.
+pub(crate) const LOCALS_OF_A_THREAD: u64 = 64;
+
+/// The types, the heap, the contexts and the locals of a script that runs. Each call is one line.
+///
+/// Contracts see the machine whose objects are named by their places. After each call the runtime stands for the next state of
+/// each graph machine that it stood for before, and the answer is that step's reply. A refused call leaves the state as it was.
+#[derive(Drop)]
+pub struct Runtime {
+    pub(crate) types: Types,
+    pub(crate) heap: Heap,
+    pub(crate) contexts: Contexts,
+    pub(crate) locals: Vec<u64>,
+    pub(crate) sums: Sums,
+    pub(crate) options: Options,
+}
+
+impl Model for Runtime {
+    ghost use Rattle.clr_model.specs.Machine.{Machine};
+
+    ghost Value = { Machine };
+
+    ghost use Rattle.std.specs.Coded.{codes};
+    ghost use Rattle.clr_model.specs.MachineCode.{handles_code};
+
+    ghost coded = { Prim.hlevel (codes, handles_code) };
+
+    ghost use Rattle.clr_runtime.specs.RuntimeView.{seen, IsRuntime};
+
+    ghost view = { seen };
+
+    ghost invariant = { IsRuntime };
+}
+
+impl Runtime {
+    ghost use Rattle.clr_model.specs.Instructions.{define_type};
+    ghost use Rattle.clr_model.specs.Lawful.{AreLawfulOptions};
+    ghost use Rattle.clr_model.specs.Run.{Follows, opening, StandsFor};
+    ghost use Rattle.clr_heap.specs.View.{IsHeap};
+    ghost use Rattle.clr_view.specs.View.{IsHeld, layout_in, objects_in};
+    ghost use Rattle.clr_runtime.specs.Outcomes.{mt_outcome};
+    ghost use Rattle.clr_runtime.specs.RuntimeView.{IsStood};
+
+    /// No types, no objects, and every local is null.
+    pub fn new(alloc: Global, options: Options) -> Result<Runtime, NoMemory>
+        requires { AreLawfulOptions (options_of options) }
+        ensures { IfOk result (λ runtime. StandsFor runtime (opening (options_of options))) }
+    {
+        let (Ok(types), Ok(heap), Ok(locals)) = (
+            Types::new(alloc),
+            Heap::new(alloc, options.segment, options.limit),
+            null_locals(alloc, 1024),
+        ) else {
+            return Err(NoMemory);
+        };
+        Ok(Runtime {
+            types,
+            heap,
+            contexts: Contexts::new(alloc),
+            locals,
+            sums: Sums::NONE,
+            options,
+        })
+    }
+
+    /// Defines a type, and gives its method table word. No type has a finaliser yet.
+    ///
+    /// The refusals are those of `Types::define`, in their order.
+    pub fn define(&mut self, name: &[u8], shape: Shape<'_>, finalizer: bool) -> Result<u64, Refusal>
+        requires { finalizer ≡ false }
+        ensures { Follows self.old (define_type name.now (form_of shape.entry) finalizer) (mt_outcome result) self.new }
+    {
+        match self.types.define(name, shape, finalizer) {
+            Ok(t) => Ok(self.types.mt(t)),
+            Err(fault) => Err(refusal_of(fault)),
+        }
+    }
+
+    /// The table of types.
+    pub fn types(&self) -> &Types
+        ensures { result.now ≡ self.now.types }
+    {
+        &self.types
+    }
+
+    /// The heap, of which the options limit the segments. The runtime stands for some state of the graph machine.
+    pub fn heap(&self) -> &Heap
+        ensures objects { self.now.objects ≡ objects_in self.now.types result.now }
+        ensures layout { self.now.layout ≡ layout_in self.now.types result.now }
+        ensures held { IsHeld self.now.types result.now }
+        ensures limit { result.now.limit ≡ self.now.options.limit }
+        ensures stood { IsStood self.now }
+    {
+        &self.heap
+    }
+
+    /// The locals, 64 for each of 16 threads, by thread. Null is 0.
+    pub fn locals(&self) -> &[u64]
+        ensures value { result.now ≡ self.now.locals }
+        ensures count { length result.now ≡ 1024 }
+    {
+        &self.locals
+    }
+}
+
+// How a refusal of the table of types is told.
+fn refusal_of(fault: DefineFault) -> Refusal
+    ensures { result ≡ refusal_of_fault fault }
+{
+    match fault {
+        DefineFault::Duplicate => Refusal::DuplicateType,
+        DefineFault::BadShape => Refusal::BadShape,
+        DefineFault::TooManyTypes => Refusal::TooManyTypes,
+        DefineFault::NoMemory => Refusal::NoMemory,
+    }
+}
+
+// So many locals, each null.
+fn null_locals(alloc: Global, count: usize) -> Result<Vec<u64>, AllocError>
+    ensures { IfOk result (λ locals. locals.items ≡ replicate count 0) }
+{
+    vec![in alloc; 0u64; count]
+}

@@ -1,0 +1,179 @@
+//! The lines that read and write slots and locals.
+ghost use Rattle.std.specs.Prelude.{◌≡◌, ◌≢◌, ◌≤◌, ◌∷◌, [], length};
+ghost use Rattle.clr_types.specs.Types.{form_at};
+ghost use Rattle.clr_model.specs.Step.{stored_number};
+ghost use Rattle.clr_view.specs.View.{IsHeld};
+ghost use Rattle.clr_view.specs.SlotValues.{StandsAt};
+ghost use Rattle.clr_runtime.specs.Slots.{IsFound};
+
+use crate::checks::{index_of, refuse_names};
+use crate::runtime::Runtime;
+use clr_heap::{Heap, Item};
+use clr_model::Refusal;
+use clr_types::{Shape, Slot, TypeId, Types};
+use clr_view::{object_item, set_slot_value, slot_value};
+
+/// A slot of an object, and what its type says of it.
+#[derive(Clone, Copy)]
+pub struct Found {
+    item: Item,
+    slot: Slot,
+}
+
+impl Runtime {
+    ghost use Rattle.clr_model.specs.Instructions.{clear_local, copy_local, get_slot, put_number, read_number, set_slot};
+    ghost use Rattle.clr_model.specs.Run.{Follows};
+    ghost use Rattle.clr_runtime.specs.Checks.{IsIdle, lacks_names};
+    ghost use Rattle.clr_runtime.specs.Outcomes.{done_outcome, number_outcome, place_outcome};
+
+    // Why a line of a thread that names these two locals is refused before it looks at anything.
+    fn lacks_names(&self, t: u64, first: u64, second: u64) -> Option<Refusal>
+        ensures value { result ≡ lacks_names t (first ∷ second ∷ []) }
+        ensures idle { IsIdle self.now }
+    {
+        let _ = &self.locals;
+        refuse_names(t, first, second)
+    }
+
+    /// Local `to` of thread `t` takes what slot `index` of the object of local `from` names, and the call gives its place, 0 for null.
+    ///
+    /// It is refused for an unknown thread, a local from 64 on, a null local, an index that no slot of the object has, and a
+    /// slot that holds a number, in this order.
+    pub fn get(&mut self, t: u64, to: u64, from: u64, index: u64) -> Result<u64, Refusal>
+        ensures { Follows self.old (get_slot t to from index) (place_outcome result) self.new }
+    {
+        if let Some(refusal) = self.lacks_names(t, to, from) {
+            return Err(refusal);
+        }
+        let place = self.locals[index_of(t, from)];
+        let found = match find_slot(&self.heap, &self.types, place, index, true) {
+            Ok(found) => found,
+            Err(refusal) => return Err(refusal),
+        };
+        let name = slot_value(&self.heap, &self.types, &found.item, found.slot);
+        self.locals[index_of(t, to)] = name;
+        Ok(name)
+    }
+
+    /// Slot `index` of the object of local `into` of thread `t` takes what local `from` holds.
+    ///
+    /// It is refused as `get` is.
+    pub fn set(&mut self, t: u64, into: u64, index: u64, from: u64) -> Result<(), Refusal>
+        ensures { Follows self.old (set_slot t into index from) (done_outcome result) self.new }
+    {
+        if let Some(refusal) = self.lacks_names(t, into, from) {
+            return Err(refusal);
+        }
+        let place = self.locals[index_of(t, into)];
+        let found = match find_slot(&self.heap, &self.types, place, index, true) {
+            Ok(found) => found,
+            Err(refusal) => return Err(refusal),
+        };
+        let name = self.locals[index_of(t, from)];
+        set_slot_value(&mut self.heap, &self.types, &found.item, found.slot, name);
+        Ok(())
+    }
+
+    /// Number slot `index` of the object of local `into` of thread `t` takes a number, a byte the number modulo 256.
+    ///
+    /// It is refused as `get` is, but for a slot that holds a reference.
+    pub fn put(&mut self, t: u64, into: u64, index: u64, value: u64) -> Result<(), Refusal>
+        ensures { Follows self.old (put_number t into index value) (done_outcome result) self.new }
+    {
+        if let Some(refusal) = self.lacks_names(t, into, into) {
+            return Err(refusal);
+        }
+        let place = self.locals[index_of(t, into)];
+        let found = match find_slot(&self.heap, &self.types, place, index, false) {
+            Ok(found) => found,
+            Err(refusal) => return Err(refusal),
+        };
+        let number = narrowed(&self.types, found.item.type_id, value);
+        set_slot_value(&mut self.heap, &self.types, &found.item, found.slot, number);
+        Ok(())
+    }
+
+    /// The number in slot `index` of the object of local `from` of thread `t`. Nothing changes.
+    ///
+    /// It is refused as `put` is.
+    pub fn read(&self, t: u64, from: u64, index: u64) -> Result<u64, Refusal>
+        ensures { Follows self.now (read_number t from index) (number_outcome result) self.now }
+    {
+        if let Some(refusal) = self.lacks_names(t, from, from) {
+            return Err(refusal);
+        }
+        let place = self.locals[index_of(t, from)];
+        match find_slot(&self.heap, &self.types, place, index, false) {
+            Ok(found) => Ok(slot_value(&self.heap, &self.types, &found.item, found.slot)),
+            Err(refusal) => Err(refusal),
+        }
+    }
+
+    /// Local `to` of thread `t` takes what local `from` holds, and the call gives its place, 0 for null.
+    ///
+    /// It is refused for an unknown thread and a local from 64 on, in this order.
+    pub fn copy(&mut self, t: u64, to: u64, from: u64) -> Result<u64, Refusal>
+        ensures { Follows self.old (copy_local t to from) (place_outcome result) self.new }
+    {
+        if let Some(refusal) = self.lacks_names(t, to, from) {
+            return Err(refusal);
+        }
+        let held = self.locals[index_of(t, from)];
+        self.locals[index_of(t, to)] = held;
+        Ok(held)
+    }
+
+    /// The local of thread `t` becomes null. This is the line `null`.
+    ///
+    /// It is refused as `copy` is.
+    pub fn clear(&mut self, t: u64, local: u64) -> Result<(), Refusal>
+        ensures { Follows self.old (clear_local t local) (done_outcome result) self.new }
+    {
+        if let Some(refusal) = self.lacks_names(t, local, local) {
+            return Err(refusal);
+        }
+        self.locals[index_of(t, local)] = 0;
+        Ok(())
+    }
+}
+
+// Slot `index` of the object at a place, where it holds a reference or a number, as is wanted; else the first of the checks
+// that fails.
+fn find_slot(
+    heap: &Heap,
+    types: &Types,
+    place: u64,
+    index: u64,
+    reference: bool,
+) -> Result<Found, Refusal>
+    requires held { IsHeld types.now heap.now }
+    requires object { place ≢ 0 → StandsAt types.now heap.now place }
+    ensures { IsFound types.now heap.now place index reference result }
+{
+    if place == 0 {
+        return Err(Refusal::Null);
+    }
+    let item = object_item(heap, types, place);
+    if index >= types.slot_count(item.type_id, item.len) {
+        return Err(Refusal::Index);
+    }
+    let slot = types.slot(item.type_id, item.len, index);
+    if slot.reference == reference {
+        Ok(Found { item, slot })
+    } else if reference {
+        Err(Refusal::NotReference)
+    } else {
+        Err(Refusal::IsReference)
+    }
+}
+
+// What a number slot of an object of this type keeps of a number: all of it, but a byte its lowest eight bits.
+fn narrowed(types: &Types, t: TypeId, value: u64) -> u64
+    requires { t.0 ≤ length types.now }
+    ensures { result ≡ stored_number (form_at types.now t.0) value }
+{
+    match types.shape(t) {
+        Shape::ByteArray => value % 256,
+        Shape::Class(_) | Shape::RefArray | Shape::StructArray(_) => value,
+    }
+}

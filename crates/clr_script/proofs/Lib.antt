@@ -1,0 +1,4 @@
+pub mod WordCuts
+pub mod Numerals
+pub mod WholeLines
+pub mod Digits

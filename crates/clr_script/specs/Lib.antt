@@ -1,0 +1,5 @@
+pub mod Cuts
+pub mod Readings
+pub mod Choices
+pub mod ReplyLines
+pub mod NameBytes

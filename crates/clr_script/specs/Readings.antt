@@ -1,0 +1,18 @@
+-- What a reader answers, told by the instruction that the words spell.
+use Rattle.std.specs.Prelude.{◌≡◌, ℕ, List, Option}
+use Rattle.std.specs.Option.{option_map}
+use Rattle.clr_model.specs.declared.command.Command.{Command}
+use Rattle.clr_model.specs.Instructions.{Instruction, instruction_of, plain}
+use Rattle.clr_model.specs.LineGrammar.{IsLine}
+
+-- the command stands for the instruction, and there is none where there is none
+abbrev pub Reads : Option Command → Option Instruction → Type 0
+Reads result spelled = option_map instruction_of result ≡ option_map plain spelled
+
+-- the bytes are the line of an instruction for which the command stands
+abbrev pub IsReadAs : List ℕ → Command → Type 0
+IsReadAs bytes command = (i : Instruction) × IsLine bytes i × (instruction_of command ≡ plain i)
+
+-- the bytes are the line of no instruction
+abbrev pub IsNoLine : List ℕ → Type 0
+IsNoLine bytes = (i : Instruction) → IsLine bytes i → ⊥

@@ -1,0 +1,16 @@
+//! The lines of a script: read into commands, and answered in text.
+#![tactic(auto)]
+
+mod arguments;
+mod cut;
+mod fields;
+mod options;
+mod reader;
+mod reply;
+mod shapes;
+#[cfg(test)]
+mod tests;
+mod threads;
+
+pub use reader::{LONGEST, read_line};
+pub use reply::{Line, put_refusal, put_reply};

@@ -1,0 +1,33 @@
+use Rattle.std.proofs.Common.{sym, ◌∙◌, arith}
+use Rattle.clr_view.proofs.Listed.{listed-known}
+use Rattle.clr_view.proofs.SlotReads.{byte-stored-there, byte-there, slot-low, word-stored, word-there}
+use Rattle.clr_view.proofs.slot_values.set_slot_value.Goals as goal
+
+pub overflow_add-address : goal.overflow_add-address
+overflow_add-address c =
+    let low = slot-low c.args.types.now c.args.heap.now c.args.item.now c.args.slot c.segments.ensures.heap c.requires.held c.requires.listed c.requires.slot in
+    omega (arith, low)
+
+pub is_byte-requires-clause-known : goal.is_byte-requires-clause-known
+is_byte-requires-clause-known c = listed-known c.args.types.now c.args.heap.now c.args.item.now c.segments.ensures.heap c.requires.held c.requires.listed
+
+pub set_byte-requires : goal.set_byte-requires
+set_byte-requires c =
+    byte-there c.args.types.now c.args.heap.now c.args.item.now c.args.slot c.segments.ensures.heap c.requires.held c.requires.listed c.requires.slot
+    (sym c.is_byte.ensures ∙ c.if-is_byte.true)
+
+pub set_word-requires : goal.set_word-requires
+set_word-requires c =
+    word-there c.args.types.now c.args.heap.now c.args.item.now c.args.slot c.segments.ensures.heap c.requires.held c.requires.listed c.requires.slot
+    (sym c.is_byte.ensures ∙ c.if-is_byte.false)
+
+pub returns-then-is_byte-clause-stored : goal.returns-then-is_byte-clause-stored
+returns-then-is_byte-clause-stored c =
+    let bytes = sym c.is_byte.ensures ∙ c.if-is_byte.true in
+    byte-stored-there c.args.types.now c.args.heap.now c.args.item.now c.args.slot c.segments.ensures.heap c.requires.held c.requires.listed c.set_byte.new.self c.args.value
+    bytes (c.requires.byte bytes) c.set_byte.ensures
+
+pub returns-else-is_byte-clause-stored : goal.returns-else-is_byte-clause-stored
+returns-else-is_byte-clause-stored c =
+    word-stored c.args.types.now c.args.heap.now c.args.item.now c.args.slot c.segments.ensures.heap c.requires.held c.requires.listed c.set_word.new.self c.args.value
+    (sym c.is_byte.ensures ∙ c.if-is_byte.false) c.set_word.ensures.value

@@ -1,0 +1,75 @@
+// Objects by their places, and the values of their slots.
+ghost use Rattle.std.specs.Prelude.{◌≡◌, ℕ, ◌+◌, ◌<◌, ◌≤◌, ◌^◌, true, length, slice_get};
+ghost use Rattle.clr_types.specs.Rising.{IsIn};
+ghost use Rattle.clr_types.specs.Types.{form_at, is_bytes};
+ghost use Rattle.clr_heap.specs.View.{heap_items, word_of};
+ghost use Rattle.clr_view.specs.View.{HasStored, IsHeld, object_in, word_value};
+ghost use Rattle.clr_view.specs.SlotValues.{HasSlot, IsObjectAt, IsSlot, StandsAt, with_value};
+
+use clr_heap::{Heap, Item};
+use clr_types::{Shape, Slot, Types};
+
+/// The object that stands at a place. Its type is one of the table's, and it has at most 2^30 bytes.
+pub fn object_item(heap: &Heap, types: &Types, place: u64) -> Item
+    requires held { IsHeld types.now heap.now }
+    requires stands { StandsAt types.now heap.now place }
+    ensures { IsObjectAt types.now heap.now place result }
+{
+    let _ = heap.segments();
+    heap.item(types, place)
+}
+
+/// The value of a slot of an object: the place that it refers to, 0 for null, or a number, in an array of bytes a byte.
+///
+/// `slot` is what the table of types says of the slot.
+pub fn slot_value(heap: &Heap, types: &Types, item: &Item, slot: Slot) -> u64
+    requires held { IsHeld types.now heap.now }
+    requires listed { IsIn item.now (heap_items types.now heap.now) }
+    requires slot { HasSlot types.now item.now slot }
+    ensures { (i : ℕ) → IsSlot types.now item.now i slot → slice_get (object_in types.now (word_of heap.now) item.now).slots i ≡ Some (word_value slot.reference result) }
+{
+    let _ = heap.segments();
+    let address = item.place + slot.offset;
+    if is_byte(types, item, slot) {
+        u64::from(heap.byte(address))
+    } else {
+        heap.word(address)
+    }
+}
+
+/// Gives a slot of an object another value: the place that it is to refer to, 0 for null, or a number, which in an array of
+/// bytes is below 256.
+///
+/// `slot` is what the table of types says of the slot. All other slots and objects stay, and so do the free items and the
+/// layout.
+pub fn set_slot_value(heap: &mut Heap, types: &Types, item: &Item, slot: Slot, value: u64)
+    requires held { IsHeld types.now heap.old }
+    requires listed { IsIn item.now (heap_items types.now heap.old) }
+    requires slot { HasSlot types.now item.now slot }
+    requires byte { is_bytes (form_at types.now item.now.type_id.0) ≡ true → value < 256 }
+    ensures stored { (i : ℕ) → IsSlot types.now item.now i slot → HasStored types.now heap.old heap.new item.now.place i (word_value slot.reference value) }
+    ensures words { heap.new ≡ with_value types.now heap.old item.now slot value }
+{
+    let _ = heap.segments();
+    let address = item.place + slot.offset;
+    if is_byte(types, item, slot) {
+        heap.set_byte(address, value as u8);
+    } else {
+        heap.set_word(address, value);
+    }
+}
+
+// Whether a slot of an item is a byte.
+fn is_byte(types: &Types, item: &Item, slot: Slot) -> bool
+    requires known { item.now.type_id.0 ≤ length types.now }
+    requires slot { HasSlot types.now item.now slot }
+    ensures { result ≡ is_bytes (form_at types.now item.now.type_id.0) }
+{
+    if slot.reference {
+        return false;
+    }
+    match types.shape(item.type_id) {
+        Shape::ByteArray => true,
+        Shape::Class(_) | Shape::RefArray | Shape::StructArray(_) => false,
+    }
+}

@@ -11,15 +11,13 @@ With `perf` on the machine it also prints in which functions the time of each sc
 Usage: lines.py PROGRAM [CORE]     (the built program, and the processor to run on, 2 if left out)
 """
 import pathlib
-import re
 import shutil
-import subprocess
 import sys
 import tempfile
-import time
 
-PROGRAM = str(pathlib.Path(sys.argv[1]).resolve())
-CORE = sys.argv[2] if len(sys.argv) > 2 else "2"
+from programs import Program
+
+PROGRAM = Program(str(pathlib.Path(sys.argv[1]).resolve()), sys.argv[2] if len(sys.argv) > 2 else "2")
 TURNS = 7
 # Lines a second that are wanted.
 WANTED = {"parse": 10_000_000, "alloc": 6_000_000}
@@ -58,64 +56,31 @@ def alloc(lines=300_000):
     return script
 
 
-def least_time(path):
-    least = None
-    for _ in range(TURNS):
-        with open(path) as script:
-            begun = time.perf_counter()
-            subprocess.run(
-                ["taskset", "-c", CORE, PROGRAM, "run"], stdin=script, stdout=subprocess.DEVNULL, check=True
-            )
-            spent = time.perf_counter() - begun
-        least = spent if least is None else min(least, spent)
-    return least
-
-
-def refusals(path):
-    with open(path) as script:
-        replies = subprocess.run([PROGRAM, "run"], stdin=script, capture_output=True, text=True, check=True)
-    return replies.stdout.count("refused")
-
-
-def shares(path, folder):
-    """The functions that take most of the time, by perf."""
-    data = folder / "perf.data"
-    with open(path) as script:
-        subprocess.run(
-            ["perf", "record", "-q", "-o", str(data), "taskset", "-c", CORE, PROGRAM, "run"],
-            stdin=script, stdout=subprocess.DEVNULL, stderr=subprocess.DEVNULL,
-        )
-    report = subprocess.run(
-        ["perf", "report", "-q", "-i", str(data), "--stdio", "--percent-limit", "1", "-F", "overhead,symbol"],
-        capture_output=True, text=True,
-    )
-    return [line.strip() for line in report.stdout.splitlines() if re.match(r"\s*\d", line)]
-
-
 def main():
     slow = False
     with tempfile.TemporaryDirectory() as name:
         folder = pathlib.Path(name)
         empty = folder / "empty"
         empty.write_text("")
-        start = least_time(empty)
+        start = PROGRAM.least_time(empty, TURNS)
         print(f"an empty script: {start * 1000:.1f} ms")
         for script in [parse, alloc]:
             path = folder / script.__name__
             lines = script()
             path.write_text("\n".join(lines) + "\n")
-            spent = least_time(path) - start
+            spent = PROGRAM.least_time(path, TURNS) - start
             rate = len(lines) / spent
+            refused = sum(reply.startswith("refused") for reply in PROGRAM.replies(path))
             wanted = WANTED[script.__name__]
             slow = slow or rate < wanted
             print(
-                f"{script.__name__}: {len(lines)} lines, {refusals(path)} refused, {spent * 1000:.0f} ms, "
+                f"{script.__name__}: {len(lines)} lines, {refused} refused, {spent * 1000:.0f} ms, "
                 f"{rate / 1e6:.1f} million lines a second (wanted {wanted / 1e6:.0f}), "
                 f"{spent / len(lines) * 1e9:.0f} ns a line"
             )
             if shutil.which("perf"):
-                for share in shares(path, folder)[:24]:
-                    print("    " + share)
+                for percent, function in PROGRAM.shares(path, folder)[:24]:
+                    print(f"    {percent:5.1f} % {function}")
     sys.exit(1 if slow else 0)
 
 

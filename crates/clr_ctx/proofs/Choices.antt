@@ -84,6 +84,7 @@ refilled_by rows h mid new t size laid a b refilled = record {
   objects = b.objects ∙ a.objects;
   layout = subst (IsRefilled (layout_in rows h) t size) (sym b.layout) refilled;
   cells = keeps_both rows h mid new a.kept a.cells b.cells;
+  free_heads = λ heads. b.free_heads (a.free_heads heads);
   limit = b.limit ∙ a.limit;
   held = b.held;
 }

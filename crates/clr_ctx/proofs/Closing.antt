@@ -20,17 +20,19 @@ use Rattle.clr_heap.proofs.Swaps.{cut_at, CutAt, given_swap, hole_from-none}
 use Rattle.clr_model.specs.Allocation.{is_young_item}
 use Rattle.clr_model.specs.Updates.{given_up, pieces_of_option}
 use Rattle.clr_view.specs.View.{free_among, free_in, IsHeld, layout_in}
+use Rattle.clr_view.proofs.FreeHeads.{heads_one}
 use Rattle.clr_view.proofs.Rises.{sorted-between}
 use Rattle.clr_view.proofs.Tails.{IsEphemeral}
 use Rattle.clr_ctx.specs.Contexts.{IsRelaid, young_items}
 use Rattle.clr_ctx.proofs.Lists.{filter-put, place, put_between}
 use Rattle.clr_ctx.proofs.Resting.{free_rises, heap_rested, others_rested, reserved_at, young_place}
-use Rattle.clr_ctx.proofs.Swapping.{back, cells_now, free_is, free_was, front, held_now, kept_now, objects_now, Rests, Swaps, walkable_now}
+use Rattle.clr_ctx.proofs.Swapping.{back, cells_now, free_is, free_was, front, heads_now, held_now, kept_now, objects_now, Rests, Swaps, walkable_now}
 
 -- what the words hold after the head of a free item was written where the rest was
 pub record ClosesRest (h : HeapView) (i : ℕ) (r : Piece) (ms : List Memory) : Type 0 where
   pub had : get_or h.rests i None ≡ Some r
   pub shape : shapes ms ≡ shapes h.memories
+  pub header : word_in ms (r.place - 8) ≡ 0
   pub mt : word_in ms r.place ≡ mt_of 0
   pub len : word_in ms (r.place + 8) ≡ r.size - 24
   pub words : (b : ℕ) → b % 8 ≡ 0 → (b + 8 < r.place) ⊎ (piece_end r ≤ b + 8) → word_in ms b ≡ word_of h b
@@ -194,6 +196,7 @@ module _ (rows : List TypeRow) (h : HeapView) (k i : ℕ) (r : Piece) (ms : List
       top = h.top;
     };
     cells = cells_now rows h closed k low high (m ∷ []) (n ∷ []) swaps refl refl;
+    free_heads = heads_now rows h closed k low high (m ∷ []) (n ∷ []) swaps (heads_one (word_of closed) (free_item low (high - low)) (f.header, f.mt));
     limit = refl;
     held = held_closed;
   }

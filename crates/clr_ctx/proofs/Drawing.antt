@@ -20,17 +20,19 @@ use Rattle.clr_heap.proofs.Spelling.{Among-bounds, item_size}
 use Rattle.clr_heap.proofs.Swaps.{cut_at, CutAt, drawn_swap, free_parts, hole_from-none, hole_from-some}
 use Rattle.clr_model.specs.Allocation.{from_item, is_young_item, taken_from}
 use Rattle.clr_model.specs.Updates.{option_piece}
-use Rattle.clr_view.specs.View.{free_among, free_in, IsHeld, is_object, layout_in}
+use Rattle.clr_view.specs.View.{free_among, free_in, HaveFreeHeads, IsHeld, is_object, layout_in}
+use Rattle.clr_view.proofs.FreeHeads.{heads_none, heads_one}
 use Rattle.clr_view.proofs.Tails.{IsEphemeral}
 use Rattle.clr_ctx.specs.Contexts.{IsRelaid, young_items}
 use Rattle.clr_ctx.proofs.Lists.{apart_around, place, taken-between}
 use Rattle.clr_ctx.proofs.Resting.{free_rises, heap_rested, others_rested, young_item, YoungItem, young_place, young_rises}
-use Rattle.clr_ctx.proofs.Swapping.{among_append, back, cells_now, free_is, free_was, front, held_now, kept_now, objects_now, Rests, Swaps}
+use Rattle.clr_ctx.proofs.Swapping.{among_append, back, cells_now, free_is, free_was, front, heads_now, held_now, kept_now, objects_now, Rests, Swaps}
 
 -- what the words hold after the head of what is left was written, and the words of the context were cleared
 pub record DrawsItem (h : HeapView) (p : Piece) (n : ℕ) (ms : List Memory) : Type 0 where
   pub shape : shapes ms ≡ shapes h.memories
   pub clear : (b : ℕ) → b % 8 ≡ 0 → p.place ≤ b + 8 → b + 8 < p.place + n → word_in ms b ≡ 0
+  pub header : n + 24 ≤ p.size → word_in ms (p.place + n - 8) ≡ 0
   pub head : n + 24 ≤ p.size → (word_in ms (p.place + n) ≡ mt_of 0) × (word_in ms (p.place + n + 8) ≡ p.size - n - 24)
   pub words : (b : ℕ) → b % 8 ≡ 0 → (b + 8 < p.place) ⊎ (piece_end p ≤ b + 8) → word_in ms b ≡ word_of h b
 
@@ -292,6 +294,16 @@ module _ (rows : List TypeRow) (h : HeapView) (k i : ℕ) (p : Piece) (n : ℕ) 
   none_was : filter is_object (items_in (m ∷ [])) ≡ []
   none_was = let free = at.item.free in rw free refl
 
+  -- the head of what is left was written
+  left_heads : HaveFreeHeads (word_of drawn) (items_in ns)
+  left_heads = elim cuts [
+    | inl same ↦ let hit = eq-eqb mid high same in rw hit (heads_none (word_of drawn))
+    | inr more ↦
+        let miss = ne_eqb mid high (λ same. omega arith) in
+        let room : n + 24 ≤ p.size = omega arith in
+        rw miss (heads_one (word_of drawn) (free_item mid (high - mid)) (f.header room, (f.head room).0))
+  ]
+
   option_is : option_piece (range_piece low mid) ≡ Some r
   option_is =
       let some = lt-ltb low mid (omega arith) in
@@ -313,6 +325,7 @@ module _ (rows : List TypeRow) (h : HeapView) (k i : ℕ) (p : Piece) (n : ℕ) 
       top = h.top;
     };
     cells = cells_now rows h drawn k low high (m ∷ []) ns swaps none_was (left_objects mid high);
+    free_heads = heads_now rows h drawn k low high (m ∷ []) ns swaps left_heads;
     limit = refl;
     held = held_drawn;
   }

@@ -23,11 +23,12 @@ use Rattle.clr_heap.proofs.Swaps.{hole_from-none}
 use Rattle.clr_model.specs.Allocation.{from_tail, is_young_item}
 use Rattle.clr_model.specs.Updates.{option_piece}
 use Rattle.clr_view.specs.View.{free_in, IsHeld, layout_in}
+use Rattle.clr_view.proofs.FreeHeads.{heads_none}
 use Rattle.clr_view.proofs.Tails.{ephemeral-ended, IsEphemeral, segments-ended}
 use Rattle.clr_ctx.specs.Contexts.{IsRelaid, young_items}
 use Rattle.clr_ctx.proofs.Closing.{rest_at}
 use Rattle.clr_ctx.proofs.Resting.{between_some, heap_rested, other_kind}
-use Rattle.clr_ctx.proofs.Swapping.{cells_now, free_is, free_was, held_now, kept_now, objects_now, Rests, same_young, Swaps}
+use Rattle.clr_ctx.proofs.Swapping.{cells_now, free_is, free_was, heads_now, held_now, kept_now, objects_now, Rests, same_young, Swaps}
 
 -- what the words hold after those of the context were cleared
 pub record ExtendsTail (h : HeapView) (low n : ℕ) (ms : List Memory) : Type 0 where
@@ -212,6 +213,7 @@ module _ (rows : List TypeRow) (h : HeapView) (k i n : ℕ) (ms : List Memory) (
     objects = objects_now rows h extended k low mid [] (rest_part low mid ∷ []) swaps refl refl;
     layout = λ e. record { segments = segments_are e; start1 = h.start1; start0 = h.start0; free = free_extended e; rests = set h.rests (sym number e) (rest_is_option e); top = h.top };
     cells = cells_now rows h extended k low mid [] (rest_part low mid ∷ []) swaps refl refl;
+    free_heads = heads_now rows h extended k low mid [] (rest_part low mid ∷ []) swaps (heads_none (word_of extended));
     limit = refl;
     held = held_extended;
   }

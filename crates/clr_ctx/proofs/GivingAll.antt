@@ -8,7 +8,7 @@ use Rattle.clr_types.proofs.ChangedLists.{rising-distinct, rising-sorted, sorted
 use Rattle.clr_types.proofs.Shuffles.{IsShuffled, followed, shuffled-left, shuffled-same, shuffled-sorted, shuffled-sorts, shuffled-sym}
 use Rattle.clr_heap.specs.View.{heap_items, HeapView, IsHeap}
 use Rattle.clr_model.specs.Updates.{given_up, pieces_of_option}
-use Rattle.clr_view.specs.View.{free_in, HasGivenUp, IsHeld, is_object, KeepsObjects, layout_in}
+use Rattle.clr_view.specs.View.{AreFreeHeads, free_in, HasGivenUp, IsHeld, is_object, KeepsObjects, layout_in}
 use Rattle.clr_ctx.specs.Contexts.{IsRelaid}
 use Rattle.clr_ctx.proofs.Choices.{keeps_both}
 use Rattle.clr_ctx.proofs.Lists.{place}
@@ -58,6 +58,7 @@ pub record IsGivingUp (rows : List TypeRow) (h now : HeapView) (n : ℕ) : Type 
   pub heap : IsHeap now
   pub kept : filter is_object (heap_items rows now) ≡ filter is_object (heap_items rows h)
   pub cells : KeepsObjects rows h now
+  pub free_heads : AreFreeHeads rows h → AreFreeHeads rows now
   pub limit : now.limit ≡ h.limit
   pub held : IsHeld rows now
   pub layout : layout_in rows now ≡ record (layout_in rows h) { free = free_in rows now; rests = rests_after n h.rests }
@@ -68,6 +69,7 @@ giving_starts rows h heap held = record {
   heap = heap;
   kept = refl;
   cells = λ i b listed object z low high. refl;
+  free_heads = λ heads. heads;
   limit = refl;
   held = held;
   layout = refl;
@@ -90,6 +92,7 @@ giving_step rows h now new n t number f r =
       heap = r.heap;
       kept = r.kept ∙ f.kept;
       cells = keeps_both rows h now new f.kept f.cells r.cells;
+      free_heads = λ heads. r.free_heads (f.free_heads heads);
       limit = r.limit ∙ f.limit;
       held = r.held;
       layout = λ e. record {
@@ -119,6 +122,7 @@ giving_ends rows h now n held all f =
       objects = objects_kept rows h now held.walkable f.kept f.cells;
       layout = f.layout ∙ (λ e. record (layout_in rows h) { free = free e; rests = rests e });
       cells = f.cells;
+      free_heads = f.free_heads;
       limit = f.limit;
       held = f.held;
     }

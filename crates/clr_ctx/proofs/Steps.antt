@@ -106,6 +106,7 @@ none_step rows h t heap held none =
       objects = refl;
       layout = λ e. record { segments = h.segments; start1 = h.start1; start0 = h.start0; free = free e; rests = sym rests e; top = h.top };
       cells = λ i b listed object z low high. refl;
+      free_heads = λ heads. heads;
       limit = refl;
       held = held;
     }
@@ -146,6 +147,7 @@ module _ (rows : List TypeRow) (h : HeapView) (t : ℕ) (heap : IsHeap h) (held 
         let f : ClosesRest h (t - 1) r mid.memories = record {
           had = had;
           shape = p.shape.memories;
+          header = p.header;
           mt = p.mt;
           len = p.len refl;
           words = λ b z out. p.others b z (λ same. elim out [ inl l ↦ omega arith | inr l ↦ omega arith ]) (λ same. elim out [ inl l ↦ omega arith | inr l ↦ omega arith ]) (λ same. elim out [ inl l ↦ omega arith | inr l ↦ omega arith ]);
@@ -186,12 +188,14 @@ module _ (rows : List TypeRow) (h : HeapView) (t : ℕ) (heap : IsHeap h) (held 
 
     record CarvedWords (mid : HeapView) : Type 0 where
       shape : SameShape h mid
+      header : n + 24 ≤ p.size → word_of mid (p.place + n - 8) ≡ 0
       head : n + 24 ≤ p.size → (word_of mid (p.place + n) ≡ mt_of 0) × (word_of mid (p.place + n + 8) ≡ p.size - n - 24)
       words : (b : ℕ) → b % 8 ≡ 0 → (b + 8 < p.place) ⊎ (piece_end p ≤ b + 8) → word_of mid b ≡ word_of h b
 
     carved : (mid : HeapView) → Carves h p n mid → CarvedWords mid
     carved mid (inl (all, same)) = record {
       shape = record { memories = ap (λ (g : HeapView). shapes g.memories) same; others = same ∙ ap (λ (g : HeapView). record h { memories = g.memories }) (sym same) };
+      header = λ more. absurd (omega arith);
       head = λ more. absurd (omega arith);
       words = λ b z out. ap (λ (g : HeapView). word_of g b) same;
     }
@@ -200,6 +204,7 @@ module _ (rows : List TypeRow) (h : HeapView) (t : ℕ) (heap : IsHeap h) (held 
         let left = drawn_least l in
         record {
           shape = q.shape;
+          header = λ more. q.header;
           head = λ more. (q.mt, q.len refl);
           words = λ b z out. q.others b z (λ same. elim out [ inl l ↦ omega arith | inr l ↦ omega arith ]) (λ same. elim out [ inl l ↦ omega arith | inr l ↦ omega arith ]) (λ same. elim out [ inl l ↦ omega arith | inr l ↦ omega arith ]);
         }
@@ -228,6 +233,7 @@ module _ (rows : List TypeRow) (h : HeapView) (t : ℕ) (heap : IsHeap h) (held 
         let f : DrawsItem h p n wiped.memories = record {
           shape = shape.memories ∙ c.shape.memories;
           clear = λ b z from to. words b z ∙ wiped_in (p.place - 8) n (word_of mid) b (omega arith) (omega arith);
+          header = λ more. words (p.place + n - 8) (omega arith) ∙ wiped_out (p.place - 8) n (word_of mid) (p.place + n - 8) (inr (omega arith)) ∙ c.header more;
           head = λ more. let w = c.head more in (words (p.place + n) (omega arith) ∙ wiped_out (p.place - 8) n (word_of mid) (p.place + n) (inr (omega arith)) ∙ w.0, words (p.place + n + 8) (omega arith) ∙ wiped_out (p.place - 8) n (word_of mid) (p.place + n + 8) (inr (omega arith)) ∙ w.1);
           words = λ b z out. words b z ∙ wiped_out (p.place - 8) n (word_of mid) b (elim out [ inl l ↦ inl (omega arith) | inr l ↦ inr (omega arith) ]) ∙ c.words b z out;
         } in

@@ -12,14 +12,15 @@ use Rattle.clr_types.specs.declared.item.Item.{Item}
 use Rattle.clr_types.specs.declared.segment.SegInfo.{SegInfo}
 use Rattle.clr_types.specs.declared.segment.SegKind.{SegKind}
 use Rattle.clr_types.specs.declared.segment.SegKind.TheVariants.{Ephemeral}
-use Rattle.clr_types.proofs.ChangedLists.{all_imply, all_members, into_filter, map-agree, out_of_filter}
-use Rattle.clr_types.proofs.ListMembers.{both_all, in_append}
+use Rattle.clr_types.proofs.ChangedLists.{all_imply, all_members, append_left, into_filter, map-agree, out_of_filter}
+use Rattle.clr_types.proofs.ListMembers.{append_right, both_all, in_append}
 use Rattle.clr_types.proofs.RisingLists.{all_at}
 use Rattle.clr_heap.specs.Parts.{Among, item_part, items_in, Part, part_end, rest_part, start_of}
 use Rattle.clr_heap.specs.View.{AreWalkable, first_of, heap_items, HeapView, IsHeap, IsWalkable, last_of, listing, listings, parts_of, PartsAre, segment_at, word_of}
 use Rattle.clr_heap.proofs.Framing.{ephemerals, lawful_at}
 use Rattle.clr_heap.proofs.Staying.{segment_order}
-use Rattle.clr_view.specs.View.{free_among, free_in, IsContext, IsHeld, is_object, KeepsObjects, object_in, objects_in}
+use Rattle.clr_view.specs.View.{AreFreeHeads, free_among, free_in, HaveFreeHeads, IsContext, IsHeld, is_object, KeepsObjects, object_in, objects_in}
+use Rattle.clr_view.proofs.FreeHeads.{head_stays, listed_room}
 use Rattle.clr_view.proofs.Items.{IsItem, object-stays}
 use Rattle.clr_view.proofs.Listings.{free-append, heap-cut, items-append, listing-are, listings-agree, listings-all}
 
@@ -228,6 +229,26 @@ module _ (rows : List TypeRow) (h new : HeapView) (k a c : ℕ) (ms ns : List Pa
 
     pub objects_now : objects_in rows new ≡ objects_in rows h
     objects_now = objects_kept rows h new f.held.walkable kept_now cells_now
+
+  -- ---- the heads of free items
+
+  -- those of the parts that are new are fresh, and all others stay
+  pub heads_now : HaveFreeHeads (word_of new) (items_in ns) → AreFreeHeads rows h → AreFreeHeads rows new
+  heads_now fresh heads i listed free = elim (in_append front (subst (IsIn i) items_are listed)) [
+    | inl there ↦
+        let was = subst (IsIn i) (sym items_were) (append_left (items_in ms ++ back) there) in
+        let room = listed_room rows h f.heap f.held i was in
+        let end : i.place + i.size ≤ a = all_at (λ (i : Item). i.place + i.size ≤ a) there front_low in
+        head_stays (word_of h) (word_of new) i.place (f.words (i.place - 8) (omega (arith, room)) (inl (omega (arith, room, end)))) (f.words i.place room.0 (inl (omega (arith, room, end)))) (heads i was free)
+    | inr there ↦ elim (in_append (items_in ns) there) [
+      | inl here ↦ fresh i here free
+      | inr past ↦
+          let was = subst (IsIn i) (sym items_were) (append_right front (append_right (items_in ms) past)) in
+          let room = listed_room rows h f.heap f.held i was in
+          let start : c ≤ i.place = all_at (λ (i : Item). c ≤ i.place) past back_high in
+          head_stays (word_of h) (word_of new) i.place (f.words (i.place - 8) (omega (arith, room)) (inr (omega arith))) (f.words i.place room.0 (inr (omega arith))) (heads i was free)
+    ]
+  ]
 
   -- ---- the free items
 

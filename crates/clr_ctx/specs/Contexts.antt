@@ -6,7 +6,7 @@ use Rattle.clr_types.specs.Segments.{ephemeral, fits_in_tail, Layout, rest_of}
 use Rattle.clr_heap.specs.View.{frame, heap_items, HeapView, IsHeap, rest_between}
 use Rattle.clr_model.specs.Allocation.{context_front, from_item, from_tail, is_young_item, rest_end, want}
 use Rattle.clr_model.specs.Updates.{given_up}
-use Rattle.clr_view.specs.View.{is_object, IsHeld, KeepsObjects, layout_in, objects_in}
+use Rattle.clr_view.specs.View.{AreFreeHeads, is_object, IsHeld, KeepsObjects, layout_in, objects_in}
 
 -- the free items of generation 0, by rising place
 abbrev pub young_items : Layout → List Piece
@@ -49,5 +49,6 @@ pub record IsRelaid (rows : List TypeRow) (old new : HeapView) (laid : Layout) :
   pub objects : objects_in rows new ≡ objects_in rows old
   pub layout : layout_in rows new ≡ laid
   pub cells : KeepsObjects rows old new
+  pub free_heads : AreFreeHeads rows old → AreFreeHeads rows new
   pub limit : new.limit ≡ old.limit
   pub held : IsHeld rows new

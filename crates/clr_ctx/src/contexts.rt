@@ -120,7 +120,8 @@ impl Contexts {
     /// Gives up a thread's context, and gives it a new one in which an object of this size fits: from the first free item of
     /// generation 0 in which the size fits, and from the tail of the ephemeral segment where there is none.
     ///
-    /// `None`, and nothing changes, exactly where there is no room.
+    /// What is left of the old context is a free item with a new head, and so is what is left of an item. No mark comes into a free
+    /// item's head. `None`, and nothing changes, exactly where there is no room.
     pub fn refill(&mut self, heap: &mut Heap, types: &Types, t: usize, size: u64) -> Option<()>
         requires held { IsHeld types.now heap.old }
         requires index { IsIndex types.now heap.old self.old }
@@ -148,7 +149,7 @@ impl Contexts {
         Some(())
     }
 
-    /// Gives up the contexts of all threads.
+    /// Gives up the contexts of all threads. What is left of each is a free item with a new head.
     pub fn give_up_all(&mut self, heap: &mut Heap, types: &Types)
         requires held { IsHeld types.now heap.old }
         requires index { IsIndex types.now heap.old self.old }

@@ -1,6 +1,6 @@
 // Objects and free items in the words of the heap.
 ghost use Rattle.std.specs.Prelude.{◌≡◌, ℕ, ◌+◌, ◌-◌, ◌<◌, ◌≤◌, ◌^◌, length};
-ghost use Rattle.clr_heap.specs.Memories.{HasWord};
+ghost use Rattle.clr_heap.specs.Memories.{HasWord, memory_index};
 ghost use Rattle.clr_heap.specs.Parts.{item_at, length_at, type_number};
 ghost use Rattle.clr_heap.specs.View.{freed, HasHead, HasItem, placed, SameShape, word_of};
 
@@ -20,6 +20,27 @@ impl Heap {
     {
         let type_id = types.of_mt(self.word(a) / 2 * 2);
         let len = length_of(self, types, a, type_id);
+        let size = types.item_size(type_id, len);
+        Item {
+            place: a,
+            size,
+            type_id,
+            len,
+        }
+    }
+
+    /// The item that starts at `a` in segment `k`, where `mt` is its method table word: the same as `item`, faster.
+    #[inline]
+    #[tactic(auto, unfolding(crate::specs::Parts::item_at))]
+    pub fn item_of_word(&self, types: &Types, k: usize, a: u64, mt: u64) -> Item
+        requires item { HasItem types.now self.now a }
+        requires mt { mt ≡ word_of self.now a }
+        requires segment { k ≡ memory_index self.now.memories (a + 8) }
+        requires room { a + 8 < 2 ^ 64 }
+        ensures { result ≡ item_at types.now (word_of self.now) a }
+    {
+        let type_id = types.of_mt(mt / 2 * 2);
+        let len = length_in_segment(self, types, k, a, type_id);
         let size = types.item_size(type_id, len);
         Item {
             place: a,
@@ -71,6 +92,24 @@ fn length_of(heap: &Heap, types: &Types, a: u64, type_id: TypeId) -> u64
 {
     if types.has_length(type_id) {
         heap.word(a + 8)
+    } else {
+        0
+    }
+}
+
+// The same, where the item stands in segment `k`.
+#[inline]
+#[tactic(auto, unfolding(crate::specs::Parts::length_at))]
+fn length_in_segment(heap: &Heap, types: &Types, k: usize, a: u64, type_id: TypeId) -> u64
+    requires room { a + 8 < 2 ^ 64 }
+    requires known { type_id.0 ≤ length types.now }
+    requires number { type_id.0 ≡ type_number (word_of heap.now a) }
+    requires len_word { HasWord heap.now.memories (a + 8) }
+    requires segment { k ≡ memory_index heap.now.memories (a + 8) }
+    ensures { result ≡ length_at types.now (word_of heap.now) a }
+{
+    if types.has_length(type_id) {
+        heap.word_at(k, a + 8)
     } else {
         0
     }

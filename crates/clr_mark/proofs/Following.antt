@@ -1,7 +1,6 @@
 -- The references of one object, followed one after the other.
-use Rattle.std.proofs.Common.{◌≡◌, ◌≢◌, inl, inr, ℕ, ◌+◌, ◌<◌, ◌≤◌, ◌^◌, true, List, [], ◌∷◌, ◌++◌, length, refl, ap, ap₂, sym, ◌∙◌, subst, arith, eqb}
+use Rattle.std.proofs.Common.{◌≡◌, ◌≢◌, inl, inr, ℕ, ◌+◌, ◌<◌, ◌≤◌, ◌^◌, true, List, [], ◌∷◌, ◌++◌, length, refl, ap, sym, ◌∙◌, subst, arith, eqb}
 use Rattle.std.proofs.lemmas.Bool.{cases_Bool, eqb-false, eqb-true}
-use Rattle.clr_types.specs.Descriptors.{reference_offsets, series_of}
 use Rattle.clr_types.specs.Rising.{first, IsIn}
 use Rattle.clr_types.specs.Types.{TypeRow, form_at, size_of}
 use Rattle.clr_types.specs.declared.item.Item.{Item}
@@ -16,15 +15,16 @@ use Rattle.clr_view.specs.View.{IsHeld, objects_in}
 use Rattle.clr_view.specs.SlotValues.{IsObjectAt, StandsAt}
 use Rattle.clr_view.proofs.Listed.{listed-low}
 use Rattle.clr_view.proofs.ObjectItems.{stands-head, stands-item}
-use Rattle.clr_mark.specs.Marks.{is_condemned, IsClosed, LeadsTo, Marked, with_mark}
+use Rattle.clr_view.specs.Marks.{Marked}
+use Rattle.clr_mark.specs.Marks.{is_condemned, IsClosed, LeadsTo, with_mark}
 use Rattle.clr_mark.specs.Waiting.{MarkerView, with_waiting}
-use Rattle.clr_mark.specs.Markings.{HasGrayed, with_followed, with_following}
+use Rattle.clr_mark.specs.Markings.{HasGrayed, item_references, references_at, with_followed, with_following}
 use Rattle.clr_mark.proofs.Standing.{cell_index, len_in, mt_in, standing}
 use Rattle.clr_mark.proofs.Remarking.{cell_word, keeps_heap, keeps_stands}
 use Rattle.clr_mark.proofs.Held.{keeps_held}
-use Rattle.clr_mark.proofs.References.{item_references, no_references, reference_apart, reference_has, reference_in, reference_index, reference_low, refers_from, refers_to}
+use Rattle.clr_mark.proofs.References.{reference_apart, reference_has, reference_in, reference_index, reference_low, refers_from, refers_to}
 use Rattle.clr_mark.proofs.Graying.{object_word, same_condemned}
-use Rattle.clr_mark.proofs.Laws.{after_gray, grayed-more, grayed-refl}
+use Rattle.clr_mark.proofs.Laws.{after_gray, grayed-more, grayed-refl, grayed-trans}
 
 -- the references at these offsets of the object at x are followed
 pub record IsFollowing (rows : List TypeRow) (before now : HeapView) (m n : MarkerView) (x : ℕ) (done : List ℕ) : Type 0 where
@@ -116,7 +116,7 @@ module _ (rows : List TypeRow) (before : HeapView) (x : ℕ) (g : IsClosed rows 
     ]
 
     -- the next reference is followed
-    pub follow_more : IsFollowing rows before (with_followed now n.oldest y) m (with_following now n y) x (done ++ offset ∷ [])
+    follow_more : IsFollowing rows before (with_followed now n.oldest y) m (with_following now n y) x (done ++ offset ∷ [])
     follow_more = elim (cases_Bool (eqb y 0)) [
       | inl null ↦
           let z = eqb-true y 0 null in
@@ -135,6 +135,10 @@ module _ (rows : List TypeRow) (before : HeapView) (x : ℕ) (g : IsClosed rows 
           })
     ]
 
+    -- the same, whatever the heap and the marker are called then
+    pub follow_next : (new : HeapView) (after : MarkerView) → new ≡ with_followed now n.oldest y → after ≡ with_following now n y → IsFollowing rows before new m after x (done ++ offset ∷ [])
+    follow_next new after e f = rw (e, f) follow_more
+
   -- all references are followed
   pub scan_ends : (now : HeapView) (m n : MarkerView) (done : List ℕ) → done ≡ item_references rows i → IsFollowing rows before now m n x done → (y : ℕ) → LeadsTo rows before m.oldest x y → Marked rows now y
   scan_ends now m n done e s y leads =
@@ -144,16 +148,22 @@ module _ (rows : List TypeRow) (before : HeapView) (x : ℕ) (g : IsClosed rows 
       let P : ℕ → Type 0 = λ z. Marked rows now z in
       subst P holds (s.slots f.offset (subst (λ (os : List ℕ). IsIn f.offset os) (sym e) f.listed) (λ z. omega (arith, z, holds, not_null)) (ap (is_condemned before m.oldest) holds ∙ leads.condemned))
 
-  -- an object without runs of references leads nowhere
-  pub scan_none : (b : ℕ) → series_of (form_at rows i.type_id.0) ≡ [] → (y : ℕ) → LeadsTo rows before b x y → Marked rows before y
+  -- an object without references leads nowhere
+  pub scan_none : (b : ℕ) → references_at rows before x ≡ [] → (y : ℕ) → LeadsTo rows before b x y → Marked rows before y
   scan_none b none y leads =
       let f = refers_from rows before g.heap g.held x i at y leads.named in
-      elim (subst (λ (os : List ℕ). IsIn f.offset os) (no_references (form_at rows i.type_id.0) i.len none) f.listed) [ ]
+      elim (subst (λ (os : List ℕ). IsIn f.offset os) none f.listed) [ ]
+
+  -- what was followed stays so through a part of a marking
+  pub following_on : (now new : HeapView) (m n after : MarkerView) (done : List ℕ) → IsFollowing rows before now m n x done → HasGrayed rows now new n after → IsFollowing rows before new m after x done
+  following_on now new m n after done s p = record {
+    grayed = grayed-trans rows before now new m n after g.heap g.held s.grayed p;
+    slots = λ offset l ne near. p.marked.kept (word_of before (x + offset)) (s.slots offset l ne near);
+  }
 
 -- the next offset is one of a reference
-pub next_listed : (rows : List TypeRow) (i : Item) (t n offset : ℕ) (yielded rest : List ℕ) → yielded ++ offset ∷ rest ≡ reference_offsets (form_at rows t) n → t ≡ i.type_id.0 → n ≡ i.len → IsIn offset (item_references rows i)
-next_listed rows i t n offset yielded rest e same_type same_len =
-    subst (λ (os : List ℕ). IsIn offset os) (e ∙ ap₂ (λ (u m : ℕ). reference_offsets (form_at rows u) m) same_type same_len) (append_right yielded first)
+pub next_listed : (offset : ℕ) (yielded rest all : List ℕ) → yielded ++ offset ∷ rest ≡ all → IsIn offset all
+next_listed offset yielded rest all e = subst (λ (os : List ℕ). IsIn offset os) e (append_right yielded first)
 
 pub none_left : {X : Type 0} (xs : List X) → length xs ≡ 0 → xs ≡ []
 none_left [] e = refl

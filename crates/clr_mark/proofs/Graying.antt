@@ -13,7 +13,8 @@ use Rattle.clr_model.specs.Reach.{Reach, SlotNames, starts, follows}
 use Rattle.clr_view.specs.View.{IsHeld}
 use Rattle.clr_view.specs.SlotValues.{StandsAt}
 use Rattle.clr_view.proofs.ObjectItems.{stands-head}
-use Rattle.clr_mark.specs.Marks.{has_mark, is_condemned, IsRemarked, LeadsTo, Marked}
+use Rattle.clr_view.specs.Marks.{has_mark, Marked}
+use Rattle.clr_mark.specs.Marks.{is_condemned, IsRemarked, LeadsTo}
 use Rattle.clr_mark.specs.Markings.{HasMarked}
 use Rattle.clr_mark.specs.Waiting.{IsFollowed}
 use Rattle.clr_mark.proofs.Remarking.{keeps_objects, keeps_stands, same_frame, stands_before}

@@ -10,7 +10,8 @@ use Rattle.clr_heap.specs.View.{HeapView, IsHeap, stored, word_of}
 use Rattle.clr_model.specs.Reach.{Reach}
 use Rattle.clr_view.specs.View.{IsHeld}
 use Rattle.clr_view.specs.SlotValues.{StandsAt}
-use Rattle.clr_mark.specs.Marks.{has_mark, is_condemned, is_new, IsClosed, IsRemarked, LeadsTo, Marked, with_mark}
+use Rattle.clr_view.specs.Marks.{has_mark, Marked}
+use Rattle.clr_mark.specs.Marks.{is_condemned, is_new, IsClosed, IsRemarked, LeadsTo, with_mark}
 use Rattle.clr_mark.specs.Waiting.{IsFollowed, IsGray, IsSettled, IsWithin, MarkerView, Waits, widened, with_next, with_waiting}
 use Rattle.clr_mark.specs.Markings.{HasGrayed, HasMarked, IsRescanned, range_weight, unmarked_count, weight}
 use Rattle.clr_mark.proofs.Held.{keeps_closed}
@@ -225,7 +226,7 @@ grayed-more rows h now new m n o y heap held heap' held' p a reached =
     }
 
 -- the part of a marking in which an object was popped and followed
-pub grayed_popped : (rows : List TypeRow) (h new : HeapView) (m rest now : MarkerView) (x : ℕ) → IsHeap h → IsHeld rows h → m ≡ record rest { stack = rest.stack ++ x ∷ [] } → HasGrayed rows h new rest now
+grayed_popped : (rows : List TypeRow) (h new : HeapView) (m rest now : MarkerView) (x : ℕ) → IsHeap h → IsHeld rows h → m ≡ record rest { stack = rest.stack ++ x ∷ [] } → HasGrayed rows h new rest now
     → ((y : ℕ) → LeadsTo rows h rest.oldest x y → Marked rows new y) → HasGrayed rows h new m now
 grayed_popped rows h new m rest now x heap held e p all =
     let long = length-append rest.stack (x ∷ []) in
@@ -261,6 +262,13 @@ grayed_popped rows h new m rest now x heap held e p all =
 -- what stays on the stack is marked
 pub stacked_on : (rows : List TypeRow) (h now : HeapView) (m n : MarkerView) → HasGrayed rows h now m n → ((x : ℕ) → IsIn x m.stack → Marked rows h x) → (x : ℕ) → IsIn x n.stack → Marked rows now x
 stacked_on rows h now m n p s x i = elim (p.stacked x i) [ inl before ↦ p.marked.kept x (s x before) | inr there ↦ there ]
+
+-- an object more was popped and followed
+pub grayed_next : (rows : List TypeRow) (h now new : HeapView) (m n rest after : MarkerView) (x : ℕ) → IsClosed rows h → HasGrayed rows h now m n → n ≡ record rest { stack = rest.stack ++ x ∷ [] } → HasGrayed rows now new rest after
+    → ((y : ℕ) → LeadsTo rows now rest.oldest x y → Marked rows new y) → HasGrayed rows h new m after
+grayed_next rows h now new m n rest after x w p e q all =
+    let closed = keeps_closed rows h now w.heap w.held p.marked.remarked w.named in
+    grayed-trans rows h now new m n after w.heap w.held p (grayed_popped rows now new n rest after x closed.heap closed.held e q all)
 
 -- the law after a part of a marking
 pub gray_on : (rows : List TypeRow) (h new : HeapView) (m now : MarkerView) → IsGray rows h m → HasGrayed rows h new m now → IsGray rows new now

@@ -6,6 +6,7 @@ pub mod Counting
 pub mod Graying
 pub mod Laws
 pub mod Following
+pub mod Gathering
 pub mod Visiting
 pub mod Rescanning
 pub mod Unmarking

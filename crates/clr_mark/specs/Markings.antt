@@ -1,14 +1,16 @@
 -- What a part of a marking leaves, and what it spends.
 use Rattle.std.specs.Prelude.{◌≡◌, ℕ, ◌+◌, ◌*◌, ◌%◌, ◌≤◌, ◌⊎◌, not, ◌&&◌, Bool, true, false, List, length, nat_eq, nat_le, count_by, Option, Some, None, if◌then◌else◌}
-use Rattle.clr_types.specs.Types.{TypeRow}
+use Rattle.clr_types.specs.Descriptors.{reference_offsets}
+use Rattle.clr_types.specs.Types.{TypeRow, form_at}
 use Rattle.clr_types.specs.Rising.{IsIn}
 use Rattle.clr_types.specs.declared.item.Item.{Item}
-use Rattle.clr_heap.specs.Parts.{unmarked}
+use Rattle.clr_heap.specs.Parts.{item_at, unmarked}
 use Rattle.clr_heap.specs.View.{HeapView, stored, word_of}
 use Rattle.clr_model.specs.Machine.{Object}
-use Rattle.clr_model.specs.Reach.{Reach}
+use Rattle.clr_model.specs.Reach.{Reach, SlotNames}
 use Rattle.clr_view.specs.View.{is_object, objects_in}
-use Rattle.clr_mark.specs.Marks.{has_mark, IsRemarked, LeadsTo, Marked, with_mark}
+use Rattle.clr_view.specs.Marks.{has_mark, Marked}
+use Rattle.clr_mark.specs.Marks.{IsRemarked, LeadsTo, with_mark}
 use Rattle.clr_mark.specs.Waiting.{IsSettled, MarkerView, with_waiting}
 
 -- marks were added, on objects that marked ones reach
@@ -41,6 +43,23 @@ pub record HasGrayed (rows : List TypeRow) (old new : HeapView) (m now : MarkerV
   pub capacity : now.capacity ≡ m.capacity
   pub oldest : now.oldest ≡ m.oldest
 
+-- a slot of a marked object names y
+pub record IsMet (rows : List TypeRow) (h : HeapView) (y : ℕ) : Type 0 where
+  pub by : ℕ
+  pub marked : Marked rows h by
+  pub named : SlotNames (objects_in rows h) by y
+
+-- Objects were taken from the stack, and what they name was gathered, but for one whose references had no room left.
+pub record HasGathered (rows : List TypeRow) (h : HeapView) (m now : MarkerView) (targets : List ℕ) (left : Option ℕ) : Type 0 where
+  pub settled : (x : ℕ) → IsSettled rows h m x → IsSettled rows h now x ⊎ (((y : ℕ) → SlotNames (objects_in rows h) x y → IsIn y targets) ⊎ (left ≡ Some x))
+  pub stacked : (x : ℕ) → IsIn x now.stack → IsIn x m.stack
+  pub left_marked : (x : ℕ) → left ≡ Some x → Marked rows h x
+  pub met : (y : ℕ) → IsIn y targets → IsMet rows h y
+  pub shorter : length now.stack ≤ length m.stack
+  pub range : now.range ≡ m.range
+  pub capacity : now.capacity ≡ m.capacity
+  pub oldest : now.oldest ≡ m.oldest
+
 -- what a marked object of a range led to is marked now
 abbrev pub IsRescanned : List TypeRow → HeapView → HeapView → ℕ → ℕ → ℕ → ℕ → Type 0
 IsRescanned rows old new g low high x = Marked rows old x → low ≤ x → x ≤ high → (y : ℕ) → LeadsTo rows old g x y → Marked rows new y
@@ -48,6 +67,14 @@ IsRescanned rows old new g low high x = Marked rows old x → low ≤ x → x �
 -- whether an item is a marked object of a range
 abbrev pub is_due : (ℕ → ℕ) → Item → ℕ → ℕ → Bool
 is_due word i low high = nat_le low i.place && (nat_le i.place high && (not (nat_eq i.type_id.0 0) && has_mark (word i.place)))
+
+-- the offsets of an item's references
+abbrev pub item_references : List TypeRow → Item → List ℕ
+item_references rows i = reference_offsets (form_at rows i.type_id.0) i.len
+
+-- the offsets of the references of the object at x
+abbrev pub references_at : List TypeRow → HeapView → ℕ → List ℕ
+references_at rows h x = item_references rows (item_at rows (word_of h) x)
 
 -- the heap and the marker after a slot with the word y was followed, null or not
 abbrev pub with_followed : HeapView → ℕ → ℕ → HeapView

@@ -5,7 +5,8 @@ ghost use Rattle.clr_heap.specs.Memories.{HasWord};
 ghost use Rattle.clr_heap.specs.View.{word_of};
 ghost use Rattle.clr_model.specs.Reach.{Reach};
 ghost use Rattle.clr_view.specs.SlotValues.{StandsAt};
-ghost use Rattle.clr_mark.specs.Marks.{has_mark, IsClosed, IsRemarked, LeadsTo, Marked, with_mark};
+ghost use Rattle.clr_view.specs.Marks.{has_mark, Marked};
+ghost use Rattle.clr_mark.specs.Marks.{IsClosed, IsRemarked, LeadsTo, with_mark};
 ghost use Rattle.clr_mark.specs.Marks as marks;
 ghost use Rattle.clr_mark.specs.Markings.{HasGrayed};
 ghost use Rattle.clr_mark.specs.Waiting.{IsGray, widened, with_next, with_waiting};
@@ -16,9 +17,11 @@ use clr_types::Types;
 use std::alloc::Global;
 use std::marker::Model;
 
+mod batch;
 mod rescan;
 mod scan;
 mod unmark;
+mod wide;
 
 /// What marking needs: the objects whose slots are still to be followed, on a stack, and the lowest and the highest place of
 /// those that had no room on it.
@@ -119,7 +122,7 @@ impl Marker {
         ensures empty { self.new.stack ≡ [] }
     {
         while let Some(obj) = self.stack.pop() {
-            self.scan(heap, types, obj);
+            self.scan_any(heap, types, obj);
         }
     }
 

@@ -2,7 +2,8 @@
 ghost use Rattle.std.specs.Prelude.{◌≡◌, ℕ, ◌≤◌, ◌↔◌, ◌⊎◌, [], None};
 ghost use Rattle.clr_model.specs.Reach.{Reach, SlotNames};
 ghost use Rattle.clr_view.specs.View.{objects_in};
-ghost use Rattle.clr_mark.specs.Marks.{IsClosed, IsRemarked, LeadsTo, Marked};
+ghost use Rattle.clr_view.specs.Marks.{Marked};
+ghost use Rattle.clr_mark.specs.Marks.{IsClosed, IsRemarked, LeadsTo};
 ghost use Rattle.clr_mark.specs.Markings.{HasMarked};
 ghost use Rattle.clr_mark.specs.Waiting.{IsGray};
 ghost use Rattle.clr_mark.specs.Roots.{AreObjects, IsCondemnedRoot, IsRoot};

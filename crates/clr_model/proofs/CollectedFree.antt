@@ -9,8 +9,8 @@ use Rattle.clr_types.specs.declared.segment.SegKind.{SegKind}
 use Rattle.clr_types.specs.declared.segment.SegKind.TheVariants.{Large}
 use Rattle.clr_types.specs.Segments.{Layout, stands_in, is_small_or_ephemeral, same_kind}
 use Rattle.clr_types.proofs.SortedLists.{out_of_sorted_by}
-use Rattle.clr_types.proofs.ChangedLists.{IsIn-map, into_filter, out_of_filter}
-use Rattle.clr_types.proofs.ListMembers.{in_append, any-in}
+use Rattle.clr_types.proofs.ChangedLists.{append_left, IsIn-map, into_filter, out_of_filter}
+use Rattle.clr_types.proofs.ListMembers.{in_append, append_right, any-in}
 use Rattle.clr_types.proofs.SegmentFacts.{one_home}
 use Rattle.clr_model.specs.Machine.{Machine, Object}
 use Rattle.clr_model.specs.Lookups.{is_pinned}
@@ -41,6 +41,12 @@ from_part f (x ∷ xs) y i = go (in_append (f x) i) (from_part f xs y)
     go : IsIn y (f x) ⊎ IsIn y (flat_map f xs) → (IsIn y (flat_map f xs) → (z : _) × IsIn z xs × IsIn y (f z)) → (z : _) × IsIn z (x ∷ xs) × IsIn y (f z)
     go (inl j) more = (x, first, j)
     go (inr j) more = let (z, k, n) = more j in (z, later k, n)
+
+-- and a part's member is one of the flat list
+pub into_parts : {X Y : Type 0} (f : X → List Y) (x : X) (y : Y) (xs : List X) → IsIn x xs → IsIn y (f x) → IsIn y (flat_map f xs)
+into_parts f x y [] i j = elim i [ ]
+into_parts f x y (z ∷ xs) first j = append_left (flat_map f xs) j
+into_parts f x y (z ∷ xs) (later i) j = append_right (f z) (into_parts f x y xs i j)
 
 module _ (m : Machine) (h : IsLaid m) (g : ℕ) (least : g ≤ 2) (keeps : ℕ → Bool) (moves : List Move) (small : Layout) (c : IsCompacted m.layout g (survivors m g keeps) moves small) where
   abbrev in_small_part : Piece → Bool

@@ -106,10 +106,10 @@ module _ (m : Machine) (h : IsLaid m) (keeps : ℕ → Bool) (moves : List Move)
   same-sections : (s : SegInfo) → IsIn s large → sections m.layout 2 s ≡ sections small 2 s
   same-sections s i = let e = large-not_ephemeral s.kind (large-is s i).0 in large-sections m.layout s e ∙ sym (large-sections small s e)
 
-  same-end : (s : SegInfo) → IsIn s large → swept_end m.layout 2 stay s ≡ swept_end small 2 stay s
+  pub same-end : (s : SegInfo) → IsIn s large → swept_end m.layout 2 stay s ≡ swept_end small 2 stay s
   same-end s i = ap (λ n. end_of_last n (survivor_pieces s stay)) (same-start s i)
 
-  same-free : (s : SegInfo) → IsIn s large → swept_free m.layout 2 stay s ≡ swept_free small 2 stay s
+  pub same-free : (s : SegInfo) → IsIn s large → swept_free m.layout 2 stay s ≡ swept_free small 2 stay s
   same-free s i =
       let end = same-end s i in let parts = same-sections s i in
       λ k. flat_map (λ section. gaps section.low (min section.high (end k)) (pieces_between section.low section.high (survivor_pieces s stay))) (parts k)

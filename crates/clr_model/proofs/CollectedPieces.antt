@@ -22,17 +22,19 @@ use Rattle.clr_model.proofs.LawfulPieces.{pieces-distinct, segment-tiled, object
 use Rattle.clr_model.proofs.LawfulSurvivors.{IsSurvivor, survivor-is}
 use Rattle.clr_model.proofs.MovedPlaces.{moved-is, IsCovered, covered}
 use Rattle.clr_model.proofs.Relaid.{piece-is, free-in-pieces, IsPieceOf, IsRefilled}
+use Rattle.clr_model.proofs.CollectedBounds.{HasBounds, swept_bounds, compacted_bounds}
 use Rattle.clr_model.proofs.Refill.{IsRefill, range_after, swept_refill, compacted_refill, lands_at}
 
 -- ---- the small heap, compacted or swept
 
--- what both have in common: new ends and new free items, and where an object that moves comes from and goes to
+-- what both have in common: new ends, new free items and new boundaries, and where an object that moves comes from and goes to
 pub record IsSmallPhase (m : Machine) (g : ℕ) (keeps : ℕ → Bool) (moves : List Move) (small : Layout) : Type 0 where
   pub fresh : SegInfo → List Piece
   pub end : SegInfo → ℕ
   pub segments : small.segments ≡ segments_after is_small_or_ephemeral g end m.layout.segments
   pub free : small.free ≡ free_after is_small_or_ephemeral m.layout g (flat_map fresh (taking_part is_small_or_ephemeral g m.layout))
   pub refill : (s : SegInfo) → IsIn s (taking_part is_small_or_ephemeral g m.layout) → IsRefill m keeps moves s (part_start m.layout g s) (end s) (fresh s)
+  pub bounds : HasBounds m g keeps moves small fresh
   pub lands : (o : Object) → IsIn o m.objects → (moved_by moves o.place ≡ o.place)
       ⊎ ((generation m.layout o.place ≤ g)
       × ((s : SegInfo) × IsIn s (taking_part is_small_or_ephemeral g m.layout) × (stands_in s o.place ≡ true))
@@ -46,6 +48,7 @@ module _ (m : Machine) (h : IsLaid m) (g : ℕ) (least : g ≤ 2) (keeps : ℕ �
     segments = c.ends;
     free = c.free ∙ ap (λ ss. free_after is_small_or_ephemeral m.layout g (flat_map (compacted_free m.layout g small.start0 c.plugs moves) ss)) c.segments_are;
     refill = λ s i. compacted_refill m h g least keeps moves small c s (subst (IsIn s) (sym c.segments_are) i);
+    bounds = compacted_bounds m h g least keeps moves small c;
     lands = λ o i. elim (moved-is moves o.place) [
       | inr (none, e) ↦ inl e
       | inl (v, j, cover, e) ↦ inr (from o i v j cover, came o i v j cover, goes o i v j cover)
@@ -74,6 +77,7 @@ module _ (m : Machine) (h : IsLaid m) (g : ℕ) (least : g ≤ 2) (keeps : ℕ �
     segments = ap (λ (l : Layout). l.segments) c.1;
     free = ap (λ (l : Layout). l.free) c.1;
     refill = λ s i. let (kind, part, known) = taking-is m.layout h.layout g least s i in swept_refill m h g least keeps moves s known part (λ o j stays stands. still o) (λ o j stays stands. still o);
+    bounds = subst (λ (l : Layout). HasBounds m g keeps moves l (swept_free m.layout g (survivors m g keeps))) (sym c.1) (swept_bounds m h g least keeps moves still);
     lands = λ o i. inl (still o);
   }
     where
@@ -96,7 +100,7 @@ module _ (m : Machine) (h : IsLaid m) (bare : rest_pieces m.layout.rests ≡ [])
       let (stays, k) = out_of_filter (λ (o : Object). keeps o.name) p m.objects j in
       (p, k, stays, e)
 
-  object-now : (o : Object) → IsIn o m.objects → keeps o.name ≡ true → IsIn (object_after m alive moves o) objects
+  pub object-now : (o : Object) → IsIn o m.objects → keeps o.name ≡ true → IsIn (object_after m alive moves o) objects
   object-now o i stays = IsIn-map (object_after m alive moves) (into_filter (λ (o : Object). keeps o.name) m.objects stays i)
 
   old-apart : (o : Object) (f : Piece) → IsIn o m.objects → IsIn f m.layout.free → o.place ≢ f.place

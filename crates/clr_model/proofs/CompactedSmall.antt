@@ -500,6 +500,13 @@ module _ (layout : Layout) (g : ℕ) (kept : List Survivor) (moves : List Move) 
       go (inl e) = omega arith
       go (inr e) = omega arith
 
+  -- the boundaries rise to the start of the ephemeral segment's part at least
+  pub part_raised : part_start layout g (ephemeral layout) ≤ raised
+  part_raised = let d = pointer-up in let r = raised-up in eph-started raised (omega arith) raised-in
+
+  pub part_start0 : part_start layout g (ephemeral layout) ≤ new.start0
+  part_start0 = let a = part_raised in let y = young-up in let z = start0_after in omega arith
+
   -- no free item stands across a boundary
   pub free_whole0 : (s : SegInfo) → IsIn s c.segments → (f : Piece) → IsIn f (compacted_free layout g new.start0 all moves s) → (new.start0 ≤ f.place) ⊎ (piece_end f ≤ new.start0)
   free_whole0 =

@@ -108,6 +108,7 @@ relaid_lawful m layout h laid young suited limit rooms = record {
   suited = suited;
   limit = limit;
   names = record { slots = h.names.slots; locals = h.names.locals; handles = h.names.handles; entries = h.names.entries; ready = h.names.ready; steps = h.names.steps };
+  seconds = h.seconds;
   locals = h.locals;
   steps = h.steps;
   rooms = rooms;

@@ -304,6 +304,7 @@ module _ (m : Machine) (t local type len : ℕ) (named : IsBirthNamed m) (idle :
           suited = AllByRecursion-push (SuitsItsSegment next) m.objects born (all_imply (SuitsItsSegment m) (SuitsItsSegment next) m.objects suited_next is.suited) born_suited;
           limit = is.limit;
           names = names-next;
+          seconds = is.seconds;
           locals = length-slice_set m.locals (local_index t local) (m.born + 1) ∙ is.locals;
           steps = is.steps;
           rooms = rooms_kept m next.layout t h.thread idle (rest_of-other m.layout t h.thread layout_is.threads (option_piece (range_piece (context_front m.layout t + size) (rest_end (rest_of m.layout t))))) is.rooms;

@@ -36,9 +36,14 @@ pub mod CompactedPieces
 pub mod CompactedPart
 pub mod Relaid
 pub mod Refill
+pub mod CollectedBounds
 pub mod CollectedPieces
 pub mod YoungMachine
 pub mod YoungTiles
+pub mod FullSegments
+pub mod CollectedLaid
+pub mod CollectedPresent
+pub mod CollectedLawful
 pub mod RestLists
 pub mod SplitPieces
 pub mod ContextChange
@@ -55,6 +60,7 @@ pub mod SlotLines
 pub mod SeenSound
 pub mod SeenStands
 pub mod LineFollows
+pub mod CollectFollows
 pub mod BirthLine
 pub mod BirthFollows
 pub mod Readers

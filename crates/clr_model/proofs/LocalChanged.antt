@@ -49,6 +49,7 @@ with_local_lawful m t k name named there =
           ready = h.names.ready;
           steps = h.names.steps;
         };
+        seconds = h.seconds;
         locals = length-slice_set m.locals (local_index t k) name ∙ h.locals;
         steps = h.steps;
         rooms = h.rooms;
@@ -255,6 +256,7 @@ module _ (m : Machine) (name i : ℕ) (v : Value) (named : IsBirthNamed m) (take
           suited = all-changed_same key name change (SuitsItsSegment next) (λ o is. is) m.objects h.suited;
           limit = h.limit;
           names = names-next;
+          seconds = h.seconds;
           locals = h.locals;
           steps = h.steps;
           rooms = h.rooms;

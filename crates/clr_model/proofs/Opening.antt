@@ -4,7 +4,7 @@ use Rattle.std.specs.List.{AllByRecursion}
 use Rattle.std.specs.FinMap as finmap
 use Rattle.std.specs.Ordering.{nat_cmp}
 use Rattle.clr_model.specs.Machine.{Options, HandleRow, Machine, no_step}
-use Rattle.clr_model.specs.Lawful.{IsBirthNamed, AreLawfulOptions, NamesArePresent, IsNullOrPresent, StepIsPresent, HasItsRoom, AllFrom}
+use Rattle.clr_model.specs.Lawful.{IsBirthNamed, AreLawfulOptions, NamesArePresent, HasItsSecond, IsNullOrPresent, StepIsPresent, HasItsRoom, AllFrom}
 use Rattle.clr_model.specs.Picture.{picture, map_values, renamed_row}
 use Rattle.clr_model.specs.Lookups.{place_of}
 use Rattle.clr_model.proofs.HandleMaps.{map_values-empty}
@@ -109,6 +109,7 @@ opening_lawful options h = record {
     suited = tt;
     limit = let least = h.limit_least in omega arith;
     names = names_lawful options;
+    seconds = subst (AllByRecursion HasItsSecond) (sym no_rows) tt;
     locals = length_copies {X = ℕ} 1024 0;
     steps = refl;
     rooms = all_idle (opening options) 16 1;

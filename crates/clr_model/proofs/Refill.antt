@@ -64,7 +64,7 @@ module _ (m : Machine) (h : IsLaid m) (g : ℕ) (least : g ≤ 2) (keeps : ℕ �
       tiles = sweep_tiles m h g least keeps s known
 
       -- an object that stays in the part is among what fills it
-      object_stays : (o : Object) → IsIn o m.objects → keeps o.name ≡ true → stands_in s o.place ≡ true → start ≤ o.place → IsIn (object_piece m.types o) qs
+      pub object_stays : (o : Object) → IsIn o m.objects → keeps o.name ≡ true → stands_in s o.place ≡ true → start ≤ o.place → IsIn (object_piece m.types o) qs
       object_stays o i stays stands above =
           let (low, high) = stands-between s o.place stands in
           let n : HasHome m.layout o.place = piece-home m h (object_piece m.types o) (object-in-pieces m h o i) in

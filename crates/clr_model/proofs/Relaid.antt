@@ -56,12 +56,38 @@ pub record IsRefilled (m : Machine) (s : SegInfo) (end : ℕ) (objects : List Ob
   pub free_out : (f : Piece) → IsIn f free → stands_in s f.place ≡ true → (IsIn f (pieces m) × (f.place < cut)) ⊎ IsIn f more
   pub cross : (o : Object) (f : Piece) → IsIn o objects → IsIn f free → stands_in s o.place ≡ true → o.place ≢ f.place
 
+-- the same with other free items that agree in this segment
+pub refilled_with : (m : Machine) (s : SegInfo) (end : ℕ) (objects : List Object) (free other : List Piece) → IsRefilled m s end objects free
+    → ((f : Piece) → stands_in s f.place ≡ true → IsIn f free → IsIn f other) → ((f : Piece) → stands_in s f.place ≡ true → IsIn f other → IsIn f free) → IsRefilled m s end objects other
+refilled_with m s end objects free other r to from = record {
+  cut = r.cut;
+  more = r.more;
+  low = r.low;
+  high = r.high;
+  whole = r.whole;
+  tiled = r.tiled;
+  ended = r.ended;
+  old_in = λ x i stands l. elim (r.old_in x i stands l) [ inl o ↦ inl o | inr j ↦ inr (to x stands j) ];
+  more_in = λ x i. elim (r.more_in x i) [ inl o ↦ inl o | inr j ↦ inr (to x (inside x i) j) ];
+  object_out = r.object_out;
+  free_out = λ f i stands. r.free_out f (from f stands i) stands;
+  cross = λ o f i j stands same. r.cross o f i (from f (subst (λ n. stands_in s n ≡ true) same stands) j) stands same;
+}
+  where
+    inside : (x : Piece) → IsIn x r.more → stands_in s x.place ≡ true
+    inside x i =
+        let is : IsTile r.cut end x = tile r.cut end r.more x r.tiled i in
+        let size : IsLawfulSize x.size = is.size in
+        let gap = is.low_gap in let high = is.high_end in let top = r.ended in let low = r.low in
+        between-stands s x.place (omega arith) (omega arith)
+
 -- a segment of the new layout, and the old one with its place in memory
 pub record WasSegment (m : Machine) (t : SegInfo) (objects : List Object) (free : List Piece) : Type 0 where
   pub old : SegInfo
   pub among : IsIn old m.layout.segments
   pub base : t.base ≡ old.base
   pub reserved : t.reserved ≡ old.reserved
+  pub kind : t.kind ≡ old.kind
   pub refilled : IsRefilled m old t.end objects free
 
 module _ (m : Machine) (h : IsLaid m) (objects : List Object) (new : Layout) (lawful : IsLawfulLayout new) (bare : rest_pieces new.rests ≡ [])
@@ -151,7 +177,7 @@ module _ (m : Machine) (h : IsLaid m) (objects : List Object) (new : Layout) (la
                 (subst (λ (y : Piece). (IsIn y (pieces m) × (y.place < r.cut)) ⊎ IsIn y r.more) (sym is) (r.object_out o k (subst (λ (y : Piece). stands_in w.old y.place ≡ true) is e)))
             by e (inr k) = filtered e (r.free_out x k e)
 
-    homes : (x : Piece) → IsIn x (pieces next) → (t : SegInfo) × IsIn t new.segments × (stands_in t x.place ≡ true)
+    pub homes : (x : Piece) → IsIn x (pieces next) → (t : SegInfo) × IsIn t new.segments × (stands_in t x.place ≡ true)
     homes x i = by (piece-is next bare x i)
       where
         by : IsPieceOf m objects new.free x → (t : SegInfo) × IsIn t new.segments × (stands_in t x.place ≡ true)

@@ -10,13 +10,13 @@ use Rattle.clr_types.specs.Types.{Form, form_at, slot_kinds}
 use Rattle.clr_types.proofs.RisingLists.{all_at}
 use Rattle.clr_types.proofs.SortedLists.{sorted_by-rises, out_of_sorted_by, find_by-member}
 use Rattle.clr_types.proofs.ChangedLists.{all_members, all_imply, all-map, rising-distinct}
-use Rattle.clr_types.proofs.ListMembers.{from-map, map-map, distinct_of_sorted}
+use Rattle.clr_types.proofs.ListMembers.{from-map, distinct_of_sorted}
 use Rattle.clr_model.specs.Machine.{Value, ref, num, Object, HandleRow, ThreadStep, no_step, begun_store, begun_new, Machine}
 use Rattle.clr_model.specs.Lookups.{place_of, place_or_null, object_named, local_of, local_index, slots_of_named}
 use Rattle.clr_model.specs.Picture.{picture, renamed_value, renamed_object, renamed_row, renamed_step}
-use Rattle.clr_model.specs.Lawful.{IsBirthNamed, IsPlaceNamed, IsShaped, NumberFits, SuitsItsSegment, HasItsRoom, AllFrom, IsPresent, IsNullOrPresent, SlotIsPresent, StepIsPresent, NamesArePresent, is_reference_value}
+use Rattle.clr_model.specs.Lawful.{IsBirthNamed, IsPlaceNamed, IsShaped, NumberFits, SuitsItsSegment, HasItsRoom, AllFrom, IsPresent, IsNullOrPresent, SlotIsPresent, StepIsPresent, NamesArePresent, HasItsSecond, is_reference_value}
 use Rattle.clr_model.specs.Run.{StandsFor}
-use Rattle.clr_model.proofs.HandleMaps.{entries-map_values, changed}
+use Rattle.clr_model.proofs.HandleMaps.{entries-map_values, values-map_values, changed}
 use Rattle.clr_model.proofs.Apart.{place_of-member}
 use Rattle.clr_model.proofs.Naming.{object_named-picture, slots_of_named-picture}
 use Rattle.clr_model.proofs.NamedWell.{AreNamed, lawful-named, keeps_apart, place-above, found_named, HasObject}
@@ -92,10 +92,7 @@ module _ (m : Machine) (born : IsBirthNamed m) where
   RowIsPresent w r = IsNullOrPresent w r.target × IsNullOrPresent w r.second
 
   rows-seen : map (renamed_row to) (finmap.values m.handles) ≡ finmap.values seen.handles
-  rows-seen =
-      map-map (λ e. e.1) (renamed_row to) (finmap.entries m.handles)
-      ∙ sym (map-map (changed (renamed_row to)) (λ e. e.1) (finmap.entries m.handles))
-      ∙ sym (ap (map (λ e. e.1)) (entries-map_values (renamed_row to) m.handles))
+  rows-seen = sym (values-map_values (renamed_row to) m.handles)
 
   names-seen : NamesArePresent seen
   names-seen =
@@ -145,6 +142,10 @@ module _ (m : Machine) (born : IsBirthNamed m) where
           suited = all_seen (SuitsItsSegment seen) (λ p i. all_at (SuitsItsSegment m) i h.suited);
           limit = h.limit;
           names = names-seen;
+          seconds =
+              subst (AllByRecursion HasItsSecond) rows-seen
+              (all-map (renamed_row to) HasItsSecond (finmap.values m.handles)
+              (all_imply HasItsSecond (λ r. HasItsSecond (renamed_row to r)) (finmap.values m.handles) (λ r is other. ap to (is other)) h.seconds));
           locals = length-map m.locals to ∙ h.locals;
           steps = length-map m.steps (renamed_step to) ∙ h.steps;
           rooms = rooms-seen 1 m.steps h.rooms;

@@ -52,6 +52,7 @@ module _ (s : Machine) (h : IsPlaceNamed s) where
         suited = is.suited;
         limit = is.limit;
         names = record { slots = is.names.slots; locals = is.names.locals; handles = is.names.handles; entries = is.names.entries; ready = is.names.ready; steps = is.names.steps };
+        seconds = is.seconds;
         locals = is.locals;
         steps = is.steps;
         rooms = is.rooms;
@@ -122,7 +123,11 @@ module _ (s : Machine) (h : IsPlaceNamed s) where
       let none = sym h.uncounted in
       λ k. record s { born = none k; objects = objects k; locals = locals k; handles = handles k; entries = entries k; ready = ready k; steps = steps k }
 
-  -- such a machine stands for one whose objects are named by births
+  -- such a machine is its own picture
+  pub picture_still : picture s ≡ s
+  picture_still = picture-counted
+
+  -- and stands for one whose objects are named by births
   pub sound_stands : (m : Machine) × StandsFor s m
   sound_stands = (counted, record { lawful = record { lawful = counted-lawful; born = all_members (λ (o : Object). o.name ≤ s.layout.top) s.objects below-top }; seen_is = picture-counted })
 

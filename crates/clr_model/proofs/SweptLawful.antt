@@ -24,6 +24,15 @@ use Rattle.clr_types.proofs.TilePieces.{IsTile, tile}
 use Rattle.clr_model.proofs.LawfulSurvivors.{above-start1, above-start0}
 use Rattle.clr_model.proofs.SweptTiles.{AreKept, IsCut, AreCuts, chain, last_of, sections-tile, end-up, end-all, end-under}
 
+-- a list whose images rise is mapped to a rising one
+pub map-rises : {X Y : Type 0} (f : X → Y) (key : Y → ℕ) (xs : List X) → IsRisingBy (λ x. key (f x)) xs → IsRisingBy key (map f xs)
+map-rises f key [] r = tt
+map-rises f key (x ∷ xs) r = (all xs r.0, map-rises f key xs r.1)
+  where
+    all : (ys : List _) → AllByRecursion (λ y. key (f x) < key (f y)) ys → AllByRecursion (λ y. key (f x) < key y) (map f ys)
+    all [] h = tt
+    all (y ∷ ys) h = (h.0, all ys h.1)
+
 module _ (m : Machine) (h : IsLaid m) (g : ℕ) (least : g ≤ 2) (keeps : ℕ → Bool) (s : SegInfo) (known : IsIn s m.layout.segments) where
   abbrev kept : List Survivor
   kept = survivors m g keeps
@@ -51,12 +60,12 @@ module _ (m : Machine) (h : IsLaid m) (g : ℕ) (least : g ≤ 2) (keeps : ℕ �
 
   -- ---- the places that cut the segment
 
-  first-cuts : isCut (first_place s)
+  pub first-cuts : isCut (first_place s)
   first-cuts =
       let b : s.base % 4096 ≡ 0 = segment.base in
       record { whole = all_members (DoesNotCross (first_place s)) ps (λ p i. let t : IsTile (first_place s) s.end p = tile (first_place s) s.end ps p tiled i in let l : IsGapped (first_place s) p.place = t.low_gap in inl (omega arith)); low_end = omega arith; high_end = segment.low; aligned = omega arith }
 
-  end-cuts : isCut s.end
+  pub end-cuts : isCut s.end
   end-cuts = record { whole = all_members (DoesNotCross s.end) ps (λ p i. inr (tile (first_place s) s.end ps p tiled i).high_end); low_end = segment.low; high_end = omega arith; aligned = segment.aligned }
 
   part-of : (x : ℕ) → AllByRecursion (DoesNotCross x) (pieces m) → AllByRecursion (DoesNotCross x) ps
@@ -65,10 +74,10 @@ module _ (m : Machine) (h : IsLaid m) (g : ℕ) (least : g ≤ 2) (keeps : ℕ �
   bounds : s ≡ ephemeral m.layout → (first_place s ≤ m.layout.start1) × (m.layout.start0 ≤ s.end)
   bounds e = (subst (λ (u : SegInfo). first_place u ≤ m.layout.start1) (sym e) h.layout.start1_low, subst (λ (u : SegInfo). m.layout.start0 ≤ u.end) (sym e) h.layout.start0_high)
 
-  start1-cuts : s ≡ ephemeral m.layout → isCut m.layout.start1
+  pub start1-cuts : s ≡ ephemeral m.layout → isCut m.layout.start1
   start1-cuts e = let (a, b) = bounds e in let o = h.layout.start1_high in let (x, y) = h.layout.aligned in record { whole = part-of m.layout.start1 h.whole1; low_end = a; high_end = omega arith; aligned = x }
 
-  start0-cuts : s ≡ ephemeral m.layout → isCut m.layout.start0
+  pub start0-cuts : s ≡ ephemeral m.layout → isCut m.layout.start0
   start0-cuts e = let (a, b) = bounds e in let o = h.layout.start1_high in let (x, y) = h.layout.aligned in record { whole = part-of m.layout.start0 h.whole0; low_end = omega arith; high_end = b; aligned = y }
 
   -- ---- the sections
@@ -120,14 +129,6 @@ module _ (m : Machine) (h : IsLaid m) (g : ℕ) (least : g ≤ 2) (keeps : ℕ �
       sorted_by-rises (λ (k : Survivor). k.place) (map (survivor m) (filter (λ (o : Object). is_condemned m g o && keeps o.name) m.objects))
       (distinct_map (survivor m) (λ (k : Survivor). k.place) (filter (λ (o : Object). is_condemned m g o && keeps o.name) m.objects)
       (distinct_filter (λ (o : Object). o.place) (λ (o : Object). is_condemned m g o && keeps o.name) m.objects (places-distinct m h)))
-
-  map-rises : {X Y : Type 0} (f : X → Y) (key : Y → ℕ) (xs : List X) → IsRisingBy (λ x. key (f x)) xs → IsRisingBy key (map f xs)
-  map-rises f key [] r = tt
-  map-rises f key (x ∷ xs) r = (all xs r.0, map-rises f key xs r.1)
-    where
-      all : (ys : List _) → AllByRecursion (λ y. key (f x) < key (f y)) ys → AllByRecursion (λ y. key (f x) < key y) (map f ys)
-      all [] h = tt
-      all (y ∷ ys) h = (h.0, all ys h.1)
 
   pub record IsSwept (q : Piece) : Type 0 where
     pub object : Object

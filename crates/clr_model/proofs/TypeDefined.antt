@@ -126,6 +126,7 @@ module _ (m : Machine) (name : List ℕ) (form : Form) (finalizer : Bool) where
             ready = h.names.ready;
             steps = all_imply (StepIsPresent m) (StepIsPresent defined) m.steps step_present h.names.steps;
           };
+          seconds = h.seconds;
           locals = h.locals;
           steps = h.steps;
           rooms = have_room 1 m.steps h.names.steps h.rooms;

@@ -1,8 +1,8 @@
 -- A collection of a younger generation leaves the whole memory as lawful: its pieces fill the segments and cross no boundary.
-use Rattle.std.proofs.Common.{◌≡◌, ◌≢◌, ℕ, ◌<◌, ◌≤◌, ◌⊎◌, inl, inr, List, [], ◌∷◌, ◌++◌, refl, sym, ap, subst, ◌∙◌, arith, Bool, true, false, filter, if◌then◌else◌, ◌&&◌, ◌==◌, not, nat_le, nat_lt}
+use Rattle.std.proofs.Common.{◌≡◌, ◌≢◌, ℕ, ◌<◌, ◌≤◌, ◌⊎◌, inl, inr, List, [], ◌++◌, refl, sym, ap, subst, ◌∙◌, arith, Bool, true, false, filter, if◌then◌else◌, ◌&&◌, ◌==◌, not, nat_le, nat_lt}
 use Rattle.std.proofs.lemmas.Bool.{cases_lt, cases_Bool, and_from, and_parts, le-leb, leb-true, lt-ltb, eq-eqb, eqb-true, both_ways}
 use Rattle.std.specs.List.{flat_map}
-use Rattle.clr_types.specs.Rising.{IsIn, first, later}
+use Rattle.clr_types.specs.Rising.{IsIn}
 use Rattle.clr_types.specs.Ranges.{Piece, IsLawfulSize}
 use Rattle.clr_types.specs.declared.segment.SegInfo.{SegInfo}
 use Rattle.clr_types.specs.declared.segment.SegKind.{SegKind}
@@ -21,13 +21,13 @@ use Rattle.clr_model.specs.Collection.{objects_after}
 use Rattle.clr_model.proofs.CondemnedParts.{taking-is, takes-part, start-facts, start-ephemeral}
 use Rattle.clr_model.proofs.SweptTiles.{IsCut}
 use Rattle.clr_model.proofs.SweptLawful.{start-cuts}
-use Rattle.clr_model.proofs.CollectedFree.{after-is, from_part}
+use Rattle.clr_model.proofs.CollectedFree.{after-is, from_part, into_parts}
 use Rattle.clr_model.proofs.Relaid.{IsRefilled}
 use Rattle.clr_model.proofs.Refill.{IsRefill}
 use Rattle.clr_model.proofs.CollectedPieces.{IsSmallPhase, part_refilled, untouched}
 
 -- what stood outside of the parts, or is new, stands among the free items afterwards
-after-in : (kinds : SegKind → Bool) (layout : Layout) (g : ℕ) (fresh : List Piece) (p : Piece) → ((is_in_part kinds layout g p ≡ false) × IsIn p layout.free) ⊎ IsIn p fresh → IsIn p (free_after kinds layout g fresh)
+pub after-in : (kinds : SegKind → Bool) (layout : Layout) (g : ℕ) (fresh : List Piece) (p : Piece) → ((is_in_part kinds layout g p ≡ false) × IsIn p layout.free) ⊎ IsIn p fresh → IsIn p (free_after kinds layout g fresh)
 after-in kinds layout g fresh p (inl (away, i)) =
     into_sorted_by (λ (p : Piece). p.place) p (filter (λ p. not (is_in_part kinds layout g p)) layout.free ++ fresh) (append_left fresh (into_filter (λ p. not (is_in_part kinds layout g p)) layout.free (ap not away) i))
 after-in kinds layout g fresh p (inr i) = into_sorted_by (λ (p : Piece). p.place) p (filter (λ p. not (is_in_part kinds layout g p)) layout.free ++ fresh) (append_right (filter (λ p. not (is_in_part kinds layout g p)) layout.free) i)
@@ -82,7 +82,7 @@ module _ (m : Machine) (h : IsLaid m) (bare : rest_pieces m.layout.rests ≡ [])
         go (inr (e, u)) = by e (g == 0) (g == 1) refl refl u (subst (λ n. place < n) (ap (part_start m.layout g) e ∙ start-ephemeral m.layout h.layout g least) l)
 
     -- the segment of a piece that stands in a condemned part
-    in-part : (f : Piece) → is_in_part is_small_or_ephemeral m.layout g f ≡ true → (s : SegInfo) → IsIn s m.layout.segments → stands_in s f.place ≡ true → IsIn s parts × (part_start m.layout g s ≤ f.place)
+    pub in-part : (f : Piece) → is_in_part is_small_or_ephemeral m.layout g f ≡ true → (s : SegInfo) → IsIn s m.layout.segments → stands_in s f.place ≡ true → IsIn s parts × (part_start m.layout g s ≤ f.place)
     in-part f e s known stands =
         let (t, i, a) = any-in (λ (s : SegInfo). is_small_or_ephemeral s.kind && (has_condemned_part g s && (stands_in s f.place && nat_le (part_start m.layout g s) f.place))) m.layout.segments e in
         let (kind, b) = and_parts (is_small_or_ephemeral t.kind) (has_condemned_part g t && (stands_in t f.place && nat_le (part_start m.layout g t) f.place)) a in
@@ -91,7 +91,7 @@ module _ (m : Machine) (h : IsLaid m) (bare : rest_pieces m.layout.rests ≡ [])
         let same : t ≡ s = one_home m.layout h.layout t s f.place i known stands_t stands in
         (subst (λ (u : SegInfo). IsIn u parts) same (takes-part m.layout h.layout g least t i kind part), subst (λ (u : SegInfo). part_start m.layout g u ≤ f.place) same (leb-true (part_start m.layout g t) f.place above))
 
-    into-part : (f : Piece) (s : SegInfo) → IsIn s parts → stands_in s f.place ≡ true → part_start m.layout g s ≤ f.place → is_in_part is_small_or_ephemeral m.layout g f ≡ true
+    pub into-part : (f : Piece) (s : SegInfo) → IsIn s parts → stands_in s f.place ≡ true → part_start m.layout g s ≤ f.place → is_in_part is_small_or_ephemeral m.layout g f ≡ true
     into-part f s i stands above =
         let (kind, part, known) = part-is s i in
         any-from (λ (s : SegInfo). is_small_or_ephemeral s.kind && (has_condemned_part g s && (stands_in s f.place && nat_le (part_start m.layout g s) f.place))) m.layout.segments s known
@@ -107,11 +107,6 @@ module _ (m : Machine) (h : IsLaid m) (bare : rest_pieces m.layout.rests ≡ [])
         let gap = is.low_gap in let end = is.high_end in let size : IsLawfulSize f.size = is.size in let high = r.high in
         let low : first_place s ≤ part_start m.layout g s = (start-facts m.layout h.layout g least s i).low in
         (between-stands s f.place (omega arith) (omega arith), omega arith)
-
-    flat-in : (s : SegInfo) (f : Piece) → (ss : List SegInfo) → IsIn s ss → IsIn f (p.fresh s) → IsIn f (flat_map p.fresh ss)
-    flat-in s f [] i j = elim i [ ]
-    flat-in s f (t ∷ ss) first j = append_left (flat_map p.fresh ss) j
-    flat-in s f (t ∷ ss) (later i) j = append_right (p.fresh t) (flat-in s f ss i j)
 
     -- the free items of the small heap afterwards, segment by segment
     pub free_was : (s : SegInfo) → IsIn s m.layout.segments → (f : Piece) → IsIn f small.free → stands_in s f.place ≡ true → ((is_in_part is_small_or_ephemeral m.layout g f ≡ false) × IsIn f m.layout.free) ⊎ (IsIn s parts × IsIn f (p.fresh s))
@@ -131,7 +126,7 @@ module _ (m : Machine) (h : IsLaid m) (bare : rest_pieces m.layout.rests ≡ [])
     free_old f i away = subst (IsIn f) (sym p.free) (after-in is_small_or_ephemeral m.layout g (flat_map p.fresh parts) f (inl (away, i)))
 
     free_new : (s : SegInfo) → IsIn s parts → (f : Piece) → IsIn f (p.fresh s) → IsIn f small.free
-    free_new s i f j = subst (IsIn f) (sym p.free) (after-in is_small_or_ephemeral m.layout g (flat_map p.fresh parts) f (inr (flat-in s f parts i j)))
+    free_new s i f j = subst (IsIn f) (sym p.free) (after-in is_small_or_ephemeral m.layout g (flat_map p.fresh parts) f (inr (into_parts p.fresh s f parts i j)))
 
     away-from : (f : Piece) → (is_in_part is_small_or_ephemeral m.layout g f ≡ true → ⊥) → is_in_part is_small_or_ephemeral m.layout g f ≡ false
     away-from f none = elim (cases_Bool (is_in_part is_small_or_ephemeral m.layout g f)) [ inl e ↦ absurd (none e) | inr e ↦ e ]

@@ -54,7 +54,7 @@ module _ (m : Machine) (h : IsLaid m) (bare : rest_pieces m.layout.rests ≡ [])
     abbrev change : SegInfo → SegInfo
     change s = if takes s then record s { end = p.end s } else s
 
-    was : (t : SegInfo) → IsIn t small.segments → WasSegment m t objects small.free
+    pub was : (t : SegInfo) → IsIn t small.segments → WasSegment m t objects small.free
     was t i = let (s, e, j) = from-map change t m.layout.segments (subst (IsIn t) p.segments i) in by s j (takes s) refl e
       where
         by : (s : SegInfo) → IsIn s m.layout.segments → (b : Bool) → takes s ≡ b → t ≡ (if b then record s { end = p.end s } else s) → WasSegment m t objects small.free
@@ -63,6 +63,7 @@ module _ (m : Machine) (h : IsLaid m) (bare : rest_pieces m.layout.rests ≡ [])
           among = j;
           base = ap (λ (u : SegInfo). u.base) e;
           reserved = ap (λ (u : SegInfo). u.reserved) e;
+          kind = ap (λ (u : SegInfo). u.kind) e;
           refilled = subst (λ n. IsRefilled m s n objects small.free) (sym (ap (λ (u : SegInfo). u.end) e)) (part_filled m h bare g least keeps alive moves small p old_kept s (into_filter takes m.layout.segments f j));
         }
         by s j false f e = record {
@@ -70,6 +71,7 @@ module _ (m : Machine) (h : IsLaid m) (bare : rest_pieces m.layout.rests ≡ [])
           among = j;
           base = ap (λ (u : SegInfo). u.base) e;
           reserved = ap (λ (u : SegInfo). u.reserved) e;
+          kind = ap (λ (u : SegInfo). u.kind) e;
           refilled = subst (λ n. IsRefilled m s n objects small.free) (sym (ap (λ (u : SegInfo). u.end) e)) (other_stays m h bare g least keeps alive moves small p old_kept young s j other not_ephemeral);
         }
           where
@@ -87,7 +89,7 @@ module _ (m : Machine) (h : IsLaid m) (bare : rest_pieces m.layout.rests ≡ [])
         go true = stands
         go false = stands
 
-    object_home : (o : Object) → IsIn o objects → (t : SegInfo) × IsIn t small.segments × (stands_in t o.place ≡ true)
+    pub object_home : (o : Object) → IsIn o objects → (t : SegInfo) × IsIn t small.segments × (stands_in t o.place ≡ true)
     object_home o i =
         let (q, j, stays, e) = object-was m h bare keeps alive moves small.free o i in
         let (t, k, stands) = landed q j in
@@ -104,7 +106,7 @@ module _ (m : Machine) (h : IsLaid m) (bare : rest_pieces m.layout.rests ≡ [])
                   home_after s (part-is m h bare g least keeps alive moves small p old_kept s k).2 (moved_by moves q.place) stands
             ]
 
-    free_home : (f : Piece) → IsIn f small.free → (t : SegInfo) × IsIn t small.segments × (stands_in t f.place ≡ true)
+    pub free_home : (f : Piece) → IsIn f small.free → (t : SegInfo) × IsIn t small.segments × (stands_in t f.place ≡ true)
     free_home f i =
         elim (after-is is_small_or_ephemeral m.layout g (flat_map p.fresh parts) f (subst (IsIn f) p.free i)) [
           | inl old ↦ let n : HasHome m.layout f.place = piece-home m h f (free-in-pieces m f old.1) in home_after n.home n.among f.place n.stands

@@ -3,13 +3,14 @@ use Rattle.std.specs.Prelude.{◌≡◌, ◌==◌, ℕ, ◌+◌, max, List, [], 
 use Rattle.std.specs.List.{flat_map, list_any}
 use Rattle.clr_types.specs.Rising.{IsIn}
 use Rattle.clr_types.specs.Ranges.{Piece, piece_end, fits, range_piece, rounded_up}
+use Rattle.clr_model.specs.declared.How.{How}
 use Rattle.clr_model.specs.declared.How.TheVariants.{Decide, Compact}
 use Rattle.clr_model.specs.declared.Collected.{Collected}
 use Rattle.clr_model.specs.Machine.{Machine}
 use Rattle.clr_model.specs.Lookups.{lowest_in_step}
 use Rattle.clr_model.specs.Updates.{given_up, all_given_up, with_rest}
 use Rattle.clr_model.specs.Collection.{Collects, which}
-use Rattle.clr_model.specs.Stage.{allocation_collects, seals, collections_take_memory}
+use Rattle.clr_model.specs.Stage.{allocation_collects, seals, takes_memory}
 use Rattle.clr_types.specs.declared.segment.SegKind.{SegKind}
 use Rattle.clr_types.specs.declared.segment.SegKind.TheVariants.{Small, Ephemeral, Large}
 use Rattle.clr_types.specs.declared.segment.SegInfo.{SegInfo}
@@ -144,8 +145,8 @@ SmallAfterFull m t size attempt new =
     ((attempt ≡ out_of_room) × (new ≡ m)))
 
 -- want of memory at the start of a collection, which has given up the contexts
-abbrev pub NoMemoryToCollect : Machine → Machine → Type 0
-NoMemoryToCollect m new = IsTrue collections_take_memory × (new ≡ with_layout m (all_given_up m.layout))
+abbrev pub NoMemoryToCollect : How → Machine → Machine → Type 0
+NoMemoryToCollect how m new = IsTrue (takes_memory how) × (new ≡ with_layout m (all_given_up m.layout))
 
 -- after the first collection
 abbrev pub SmallAfterFirst : Machine → ℕ → ℕ → Attempt → Machine → Type 0
@@ -153,12 +154,12 @@ SmallAfterFirst m t size attempt new =
     MatchBool (has_room m.layout size)
     (RoomedByRefill m t size attempt new)
     (((answer : Collected) × (full : Machine) × Collects m 2 Compact answer full × SmallAfterFull full t size attempt new)
-    ⊎ ((attempt ≡ out_of_memory) × NoMemoryToCollect m new))
+    ⊎ ((attempt ≡ out_of_memory) × NoMemoryToCollect Compact m new))
 
 abbrev pub SmallByCollection : Machine → ℕ → ℕ → Attempt → Machine → Type 0
 SmallByCollection m t size attempt new =
     ((answer : Collected) × (young : Machine) × Collects m (which m) Decide answer young × SmallAfterFirst young t size attempt new)
-    ⊎ ((attempt ≡ out_of_memory) × NoMemoryToCollect m new)
+    ⊎ ((attempt ≡ out_of_memory) × NoMemoryToCollect Decide m new)
 
 -- Room for a small object at the front of the thread's context, by the first of these steps that serves: the context as it
 -- is, a refill within the budget, a wait, a collection, a full compacting collection, a new segment.
@@ -201,7 +202,7 @@ LargeAfterFirst m size place attempt new =
     (RoomedIn Large m size place attempt new)
     (((answer : Collected) × (full : Machine) × Collects m 2 Compact answer full
     × RoomedOrAcquired Large full size place attempt new ((attempt ≡ out_of_room) × (new ≡ full)))
-    ⊎ ((attempt ≡ out_of_memory) × NoMemoryToCollect m new))
+    ⊎ ((attempt ≡ out_of_memory) × NoMemoryToCollect Compact m new))
 
 -- A large object gets its place by the first of these steps that serves: a place within the budget, a wait, a full
 -- collection, a full compacting one, a new segment.
@@ -211,5 +212,5 @@ PlacesLarge m size place attempt new =
     (RoomedIn Large m size place attempt new)
     (MatchOption (lowest_in_step m)
     (((answer : Collected) × (first : Machine) × Collects m 2 Decide answer first × LargeAfterFirst first size place attempt new)
-    ⊎ ((attempt ≡ out_of_memory) × NoMemoryToCollect m new))
+    ⊎ ((attempt ≡ out_of_memory) × NoMemoryToCollect Decide m new))
     (λ k. (attempt ≡ waits k) × (new ≡ m)))

@@ -6,7 +6,7 @@ use Rattle.clr_types.specs.Rising.{IsRisingBy}
 use Rattle.clr_types.specs.Ranges.{Piece, fits}
 use Rattle.clr_types.specs.Types.{Form, type_row, size_of, slot_kinds, is_bytes, is_array, form_at, has_finalizer}
 use Rattle.clr_model.specs.Machine.{Value, ref, num, Object, HandleRow, ThreadStep, no_step, begun_store, begun_new, Options, Machine}
-use Rattle.clr_model.specs.Lookups.{object_size, object_named, slots_of_named, is_thread, pieces}
+use Rattle.clr_model.specs.Lookups.{object_size, object_named, slots_of_named, is_thread, is_dependent, pieces}
 use Rattle.clr_types.specs.Table.{IsLawfulRow, HasDistinctNames}
 use Rattle.clr_types.specs.LawfulLayout.{IsLawfulLayout, IsTiled, DoesNotCross}
 use Rattle.clr_types.specs.declared.segment.SegKind.{SegKind}
@@ -34,6 +34,10 @@ abbrev pub StepIsPresent : Machine → ThreadStep → Type 0
 StepIsPresent m no_step = Unit {0}
 StepIsPresent m (begun_store object slot) = IsPresent m object × (name : ℕ) × (slice_get (slots_of_named m object) slot ≡ Some (ref name))
 StepIsPresent m (begun_new type len local) = (local < 64) × IsTrue (is_some (type_row m.types type)) × (is_array (form_at m.types type) ≡ false → len ≡ 0)
+
+-- only a dependent handle names a second object
+abbrev pub HasItsSecond : HandleRow → Type 0
+HasItsSecond row = is_dependent row.kind ≡ false → row.second ≡ 0
 
 -- every name in the state is null or an object's; queues and begun stores have no null
 pub record NamesArePresent (m : Machine) : Type 0 where
@@ -116,6 +120,7 @@ pub record IsLawful (m : Machine) : Type 0 where
   pub suited : AllByRecursion (SuitsItsSegment m) m.objects
   pub limit : reserved_sum m.layout ≤ m.options.limit
   pub names : NamesArePresent m
+  pub seconds : AllByRecursion HasItsSecond (finmap.values m.handles)
   pub locals : length m.locals ≡ 1024
   pub steps : length m.steps ≡ 16
   pub rooms : AllFrom (HasItsRoom m) 1 m.steps

@@ -1,20 +1,21 @@
 -- Laws on the definitions. Each is the contract of a function that does nothing.
-use Rattle.std.specs.Prelude.{◌≡◌, ℕ, ◌+◌, ◌<◌, ◌≤◌, Bool, true, false, min, Some, List}
+use Rattle.std.specs.Prelude.{◌≡◌, ℕ, ◌+◌, ◌<◌, ◌≤◌, Bool, true, false, min, Some, None, List}
 use Rattle.std.specs.List.{AllByRecursion}
 use Rattle.clr_types.specs.Rising.{IsIn, Tests}
 use Rattle.clr_types.specs.Ranges.{Piece, piece_end}
 use Rattle.clr_types.specs.Segments.{Layout, generation, is_small_or_ephemeral}
 use Rattle.clr_types.specs.LawfulLayout.{IsLawfulLayout, IsTiled}
 use Rattle.clr_model.specs.declared.How.{How}
+use Rattle.clr_model.specs.declared.How.TheVariants.{Sweep}
 use Rattle.clr_model.specs.declared.Collected.{Collected}
 use Rattle.clr_model.specs.Machine.{Machine, Object, Options}
-use Rattle.clr_model.specs.Lookups.{object_named, is_pinned, pieces}
+use Rattle.clr_model.specs.Lookups.{object_named, is_pinned, pieces, lowest_in_step}
 use Rattle.clr_model.specs.Picture.{picture}
 use Rattle.clr_model.specs.Reach.{First, Kept, StartOf}
 use Rattle.clr_model.specs.Sweep.{survivors, swept_small, is_in_part}
 use Rattle.clr_model.specs.Compaction.{Move, IsCompacted}
 use Rattle.clr_model.specs.Collection.{Collects}
-use Rattle.clr_model.specs.Lawful.{IsLaid, IsLawful, IsBirthNamed, AreLawfulOptions}
+use Rattle.clr_model.specs.Lawful.{IsLaid, IsLawful, IsBirthNamed, IsPlaceNamed, AreLawfulOptions}
 use Rattle.clr_model.specs.Run.{opening}
 use Rattle.clr_model.specs.Instructions.{Instruction}
 use Rattle.clr_model.specs.LineGrammar.{IsLine}
@@ -50,6 +51,14 @@ CollectionLayoutLaw = (m : Machine) (g : ℕ) (how : How) (answer : Collected) (
 -- after a collection of a younger generation, objects and free items fill every segment from its first place to its end
 abbrev pub YoungTilesLaw : Type 0
 YoungTilesLaw = (m : Machine) (g : ℕ) (how : How) (answer : Collected) (new : Machine) → IsLawful m → g ≤ 1 → Collects m g how answer new → AllByRecursion (IsTiled (pieces new)) new.layout.segments
+
+-- a lawful state in which no thread is between the halves of a step stays lawful
+abbrev pub CollectionStaysLawfulLaw : Type 0
+CollectionStaysLawfulLaw = (m : Machine) (g : ℕ) (how : How) (answer : Collected) (new : Machine) → IsLawful m → lowest_in_step m ≡ None → g ≤ 2 → Collects m g how answer new → IsLawful new
+
+-- where objects are named by their places, a sweep of the whole heap leaves them so
+abbrev pub SweepNamesLaw : Type 0
+SweepNamesLaw = (m : Machine) (answer : Collected) (new : Machine) → IsPlaceNamed m → lowest_in_step m ≡ None → Collects m 2 Sweep answer new → IsPlaceNamed new
 
 -- ---- the objects that a collection leaves
 
@@ -102,6 +111,13 @@ abbrev pub CollectionNamesLaw : Type 0
 CollectionNamesLaw =
     (m : Machine) (g : ℕ) (how : How) (answer : Collected) (after : Machine) → IsLawful m → g ≤ 2 → Collects (picture m) g how answer after
     → (next : Machine) × Collects m g how answer next × (picture next ≡ picture after)
+
+-- The same of two collections, where the second goes on from the picture of what the first left.
+abbrev pub TwoCollectionsNamesLaw : Type 0
+TwoCollectionsNamesLaw =
+    (m : Machine) (g1 g2 : ℕ) (how1 how2 : How) (one two : Collected) (after last : Machine) → IsLawful m → lowest_in_step m ≡ None → g1 ≤ 2 → g2 ≤ 2
+    → Collects (picture m) g1 how1 one after → Collects (picture after) g2 how2 two last
+    → (mid : Machine) × (next : Machine) × Collects m g1 how1 one mid × Collects mid g2 how2 two next × (picture mid ≡ picture after) × (picture next ≡ picture last)
 
 -- ---- lines
 

@@ -1,10 +1,12 @@
 -- Which lines and which steps of the machine are built: all else speaks of the whole machine.
-use Rattle.std.specs.Prelude.{Bool, true, false, ◌&&◌, not, is_none}
+use Rattle.std.specs.Prelude.{ℕ, ◌==◌, Bool, true, false, ◌&&◌, not, is_none}
+use Rattle.clr_model.specs.declared.How.{How}
+use Rattle.clr_model.specs.declared.How.TheVariants.{Decide, Compact, Sweep}
 use Rattle.clr_model.specs.declared.Mode.{Mode}
 use Rattle.clr_model.specs.declared.Mode.TheVariants.{Full}
 use Rattle.clr_model.specs.declared.Life.{Life}
 use Rattle.clr_model.specs.declared.Life.TheVariants.{Any}
-use Rattle.clr_model.specs.Instructions.{Instruction, DumpOptions, define_type, new_object, get_slot, set_slot, put_number, read_number, copy_local, clear_local, dump_heap}
+use Rattle.clr_model.specs.Instructions.{Instruction, DumpOptions, define_type, new_object, get_slot, set_slot, put_number, read_number, copy_local, clear_local, collect_heap, dump_heap}
 
 abbrev pub is_full_mode : Mode → Life → Bool
 is_full_mode Full Any = true
@@ -14,7 +16,13 @@ is_full_mode _ _ = false
 abbrev pub is_plain_dump : DumpOptions → Bool
 is_plain_dump o = is_full_mode o.mode o.life && ((is_none o.mt && is_none o.name) && (is_none o.least && is_none o.greatest))
 
--- types without finaliser may be defined, objects of them made, slots and locals read and written, and the heap shown
+-- a sweep of the whole heap
+abbrev pub is_full_sweep : ℕ → How → Bool
+is_full_sweep g Decide = false
+is_full_sweep g Compact = false
+is_full_sweep g Sweep = g == 2
+
+-- types without finaliser may be defined, objects of them made, slots and locals read and written, the whole heap swept, and the heap shown
 abbrev pub is_built : Instruction → Bool
 is_built (define_type name form finalizer) = not finalizer
 is_built (new_object t k name len) = true
@@ -24,6 +32,7 @@ is_built (put_number t into index value) = true
 is_built (read_number t from index) = true
 is_built (copy_local t to from) = true
 is_built (clear_local t local) = true
+is_built (collect_heap t g how) = is_full_sweep g how
 is_built (dump_heap options) = is_plain_dump options
 is_built _ = false
 
@@ -39,6 +48,8 @@ seals = false
 abbrev pub has_large_heap : Bool
 has_large_heap = false
 
--- a collection takes memory, so it may be refused for that
-abbrev pub collections_take_memory : Bool
-collections_take_memory = true
+-- whether a collection that leaves the small heap so may be refused for want of memory; a sweep takes none, as the stack of its marking has a fixed capacity
+abbrev pub takes_memory : How → Bool
+takes_memory Decide = true
+takes_memory Compact = true
+takes_memory Sweep = false

@@ -165,7 +165,7 @@ abbrev pub CollectsByLine : Machine → ℕ → How → Outcome → Machine → 
 CollectsByLine m g how outcome new =
     MatchOption (lowest_in_step m)
     (((answer : Collected) × Collects m g how answer new × (outcome ≡ answered (reply.Collected answer)))
-    ⊎ ((outcome ≡ refused refusal.NoMemory) × NoMemoryToCollect m new))
+    ⊎ ((outcome ≡ refused refusal.NoMemory) × NoMemoryToCollect how m new))
     (λ k. (outcome ≡ refused (refusal.Wait k)) × (new ≡ m))
 
 abbrev pub CreatesHandle : Machine → HandleRow → Outcome → Machine → Type 0

@@ -1,5 +1,5 @@
 //! Laws on the definitions, each the contract of a function that does nothing.
-ghost use Rattle.clr_model.specs.Laws.{FirstIsKeptLaw, OneTestLaw, OpeningLaw, CompactionLayoutLaw, SweepLayoutLaw, CollectionLayoutLaw, YoungTilesLaw, PromotionLaw, PinnedStayLaw, NoneRisesLaw, FreeBeforePinsLaw, CollectionNamesLaw, OneReadingLaw};
+ghost use Rattle.clr_model.specs.Laws.{FirstIsKeptLaw, OneTestLaw, OpeningLaw, CompactionLayoutLaw, SweepLayoutLaw, CollectionLayoutLaw, YoungTilesLaw, CollectionStaysLawfulLaw, SweepNamesLaw, PromotionLaw, PinnedStayLaw, NoneRisesLaw, FreeBeforePinsLaw, CollectionNamesLaw, TwoCollectionsNamesLaw, OneReadingLaw};
 
 /// What is alive before finalisation is kept.
 pub fn first_is_kept()
@@ -36,6 +36,16 @@ pub fn a_young_collection_fills_the_segments()
     ensures { YoungTilesLaw }
 {}
 
+/// A collection leaves a lawful state, where no thread is between the halves of a step.
+pub fn a_collection_stays_lawful()
+    ensures { CollectionStaysLawfulLaw }
+{}
+
+/// A sweep of the whole heap moves nothing: objects that are named by their places still are.
+pub fn a_sweep_keeps_names_of_places()
+    ensures { SweepNamesLaw }
+{}
+
 /// A condemned object that stays gets the next older generation, and a pinned one at most that; an older object keeps its generation.
 pub fn objects_are_promoted()
     ensures { PromotionLaw }
@@ -59,6 +69,11 @@ pub fn free_items_lie_before_pins()
 /// What a collection does to a machine's picture, it does to the machine, whatever its objects are called.
 pub fn names_do_not_matter()
     ensures { CollectionNamesLaw }
+{}
+
+/// What two collections do to pictures, one after the other, they do to the machine.
+pub fn names_do_not_matter_in_two_collections()
+    ensures { TwoCollectionsNamesLaw }
 {}
 
 /// A line has one reading: two instructions whose line it is are one.

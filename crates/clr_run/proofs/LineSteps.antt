@@ -1,12 +1,14 @@
 -- What a line does, from what its command does.
 use Rattle.std.proofs.Common.{◌≡◌, ◌≢◌, ◌≤◌, ◌<◌, ◌∙◌, ◌&&◌, ℕ, Bool, true, false, List, length, Option, Some, None, IsTrue, refl, sym, ap, subst, inl, inr, codes, arith}
 use Rattle.std.specs.Prelude.{is_none}
-use Rattle.std.proofs.lemmas.Bool.{and_parts, both_ways}
+use Rattle.std.proofs.lemmas.Bool.{and_parts, both_ways, eqb-true}
 use denote.Ref.{Bor}
 use Rattle.clr_types.specs.declared.shape.Shape.{Shape}
 use Rattle.clr_model.specs.declared.command.Command.{Command}
-use Rattle.clr_model.specs.declared.command.Command.TheVariants.{Define, New, Get, Set, Put, Read, Copy, Clear, DumpHeap}
+use Rattle.clr_model.specs.declared.command.Command.TheVariants.{Define, New, Get, Set, Put, Read, Copy, Clear, Collect, DumpHeap}
 use Rattle.clr_model.specs.declared.command.Filter.{Filter}
+use Rattle.clr_model.specs.declared.How.{How}
+use Rattle.clr_model.specs.declared.How.TheVariants.{Decide, Compact, Sweep}
 use Rattle.clr_model.specs.declared.Life.{Life}
 use Rattle.clr_model.specs.declared.Life.TheVariants.{Any, Live, Dead}
 use Rattle.clr_model.specs.declared.Mode.{Mode}
@@ -17,7 +19,7 @@ use Rattle.clr_model.specs.Instructions.{Instruction, DumpOptions, dump_heap, in
 use Rattle.clr_model.specs.LineGrammar.{IsLine}
 use Rattle.clr_model.specs.Outcomes.{Outcome, shown, refused}
 use Rattle.clr_model.specs.Sos.{dumpheap_text}
-use Rattle.clr_model.specs.Stage.{is_built, is_full_mode, is_plain_dump}
+use Rattle.clr_model.specs.Stage.{is_built, is_full_mode, is_full_sweep, is_plain_dump}
 use Rattle.clr_model.specs.Run.{no_syntax, obeyed, too_long, Follows, FollowsLine}
 use Rattle.clr_model.proofs.Carried.{follows}
 use Rattle.clr_model.proofs.UnspacedWords.{one_reading}
@@ -70,21 +72,28 @@ module _ (bytes : List ℕ) (command : Command) (short : length bytes ≤ 4096) 
   unbuilt_follows old other unbuilt =
       nothing_follows old bytes short (λ i line. ap is_built (one_reading bytes i (instruction_of command) line (read_line other)) ∙ unbuilt)
 
+-- the collection that is built
+pub full_sweep_is : (g : ℕ) (how : How) → is_full_sweep g how ≡ true → (g ≡ 2) × (how ≡ Sweep)
+full_sweep_is g Decide e = absurd (both_ways false refl e)
+full_sweep_is g Compact e = absurd (both_ways false refl e)
+full_sweep_is g Sweep e = (eqb-true g 2 e, refl)
+
 -- every other command than these is neither the listing nor built
 pub other_unbuilt : (command : Command) → ((name : Bor (List ℕ)) (shape : Shape) (finalizer : Bool) → command ≡ Define name shape finalizer → ⊥) → ((t local : ℕ) (name : Bor (List ℕ)) (len : Option ℕ) → command ≡ New t local name len → ⊥)
     → ((t to from index : ℕ) → command ≡ Get t to from index → ⊥) → ((t into index from : ℕ) → command ≡ Set t into index from → ⊥) → ((t into index value : ℕ) → command ≡ Put t into index value → ⊥)
-    → ((t from index : ℕ) → command ≡ Read t from index → ⊥) → ((t to from : ℕ) → command ≡ Copy t to from → ⊥) → ((t local : ℕ) → command ≡ Clear t local → ⊥) → ((filter : Filter) → command ≡ DumpHeap filter → ⊥)
+    → ((t from index : ℕ) → command ≡ Read t from index → ⊥) → ((t to from : ℕ) → command ≡ Copy t to from → ⊥) → ((t local : ℕ) → command ≡ Clear t local → ⊥) → ((t g : ℕ) (how : How) → command ≡ Collect t g how → ⊥) → ((filter : Filter) → command ≡ DumpHeap filter → ⊥)
     → (is_listing (instruction_of command) ≡ false) × (is_built (instruction_of command) ≡ false)
-other_unbuilt (Define name shape finalizer) define new get set put read copy clear dump = absurd (define name shape finalizer refl)
-other_unbuilt (New t local name len) define new get set put read copy clear dump = absurd (new t local name len refl)
-other_unbuilt (Get t to from index) define new get set put read copy clear dump = absurd (get t to from index refl)
-other_unbuilt (Set t into index from) define new get set put read copy clear dump = absurd (set t into index from refl)
-other_unbuilt (Put t into index value) define new get set put read copy clear dump = absurd (put t into index value refl)
-other_unbuilt (Read t from index) define new get set put read copy clear dump = absurd (read t from index refl)
-other_unbuilt (Copy t to from) define new get set put read copy clear dump = absurd (copy t to from refl)
-other_unbuilt (Clear t local) define new get set put read copy clear dump = absurd (clear t local refl)
-other_unbuilt (DumpHeap filter) define new get set put read copy clear dump = absurd (dump filter refl)
-other_unbuilt command define new get set put read copy clear dump = (refl, refl)
+other_unbuilt (Define name shape finalizer) define new get set put read copy clear collect dump = absurd (define name shape finalizer refl)
+other_unbuilt (New t local name len) define new get set put read copy clear collect dump = absurd (new t local name len refl)
+other_unbuilt (Get t to from index) define new get set put read copy clear collect dump = absurd (get t to from index refl)
+other_unbuilt (Set t into index from) define new get set put read copy clear collect dump = absurd (set t into index from refl)
+other_unbuilt (Put t into index value) define new get set put read copy clear collect dump = absurd (put t into index value refl)
+other_unbuilt (Read t from index) define new get set put read copy clear collect dump = absurd (read t from index refl)
+other_unbuilt (Copy t to from) define new get set put read copy clear collect dump = absurd (copy t to from refl)
+other_unbuilt (Clear t local) define new get set put read copy clear collect dump = absurd (clear t local refl)
+other_unbuilt (DumpHeap filter) define new get set put read copy clear collect dump = absurd (dump filter refl)
+other_unbuilt (Collect t g how) define new get set put read copy clear collect dump = absurd (collect t g how refl)
+other_unbuilt command define new get set put read copy clear collect dump = (refl, refl)
 
 -- ---- the listing
 

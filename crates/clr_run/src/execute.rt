@@ -3,15 +3,17 @@ ghost use Rattle.std.specs.Prelude.{Bool, ◌≡◌, ◌≤◌, ℕ, IfOk, lengt
 ghost use Rattle.clr_model.specs.Instructions.{dump_heap};
 ghost use Rattle.clr_model.specs.Run.{Follows, FollowsLine};
 ghost use Rattle.clr_model.specs.Sos.{dumpheap_text};
+ghost use Rattle.clr_model.specs.Stage as stage;
 ghost use Rattle.clr_script.specs.Readings.{IsReadAs};
 ghost use Rattle.clr_run.specs.Dumping.{no_options};
 ghost use Rattle.clr_run.specs.Outcomes.{outcome_of, CanShow};
 
+use crate::access::obey_access;
 use crate::dump::listing_text;
-use crate::outcome::{Outcome, told_done, told_mt, told_number, told_place};
-use clr_model::{Command, Refusal};
+use crate::outcome::{Outcome, told_collected, told_done, told_mt, told_number, told_place};
+use clr_model::{Command, How, Refusal};
 use clr_runtime::Runtime;
-use clr_script::read_line;
+use clr_script::{read_access, read_line};
 use std::alloc::{AllocError, Global};
 
 /// Does what a line says, and tells its outcome. A line that is refused leaves the state as it was.
@@ -19,6 +21,9 @@ pub fn execute(runtime: &mut Runtime, alloc: Global, line: &[u8]) -> Outcome
     ensures follows { FollowsLine runtime.old line.now (outcome_of result) runtime.new }
     ensures shows { CanShow result }
 {
+    if let Some(access) = read_access(line) {
+        return obey_access(runtime, line, access);
+    }
     match read_line(line) {
         Ok(command) => obey(runtime, alloc, line, command),
         Err(refusal) => Outcome::Refused(refusal),
@@ -61,8 +66,21 @@ fn obey(runtime: &mut Runtime, alloc: Global, line: &[u8], command: Command<'_>)
         Command::Read { t, from, index } => told_number(runtime.read(t, from, index)),
         Command::Copy { t, to, from } => told_place(runtime.copy(t, to, from)),
         Command::Clear { t, local } => told_done(runtime.clear(t, local)),
+        Command::Collect { t, g, how } if is_full_sweep(g, how) => {
+            told_collected(runtime.collect(t, g, how))
+        }
         Command::DumpHeap { filter: _ } if line == b"dumpheap".as_slice() => dump(alloc, runtime),
         _ => Outcome::Refused(Refusal::Syntax),
+    }
+}
+
+// Whether a collection is the one that is built.
+fn is_full_sweep(g: u8, how: How) -> bool
+    ensures { result ≡ stage.is_full_sweep g how }
+{
+    match how {
+        How::Sweep => g == 2,
+        How::Decide | How::Compact => false,
     }
 }
 

@@ -1,6 +1,7 @@
 //! A script from bytes to bytes: sources, sinks, and the run of a script.
 #![tactic(auto)]
 
+mod access;
 mod dump;
 mod execute;
 mod outcome;

@@ -1,7 +1,7 @@
 //! What a line is answered, and its text.
 ghost use Rattle.std.specs.Prelude.{◌≡◌, ◌++◌, OnOk, OnErr};
 ghost use Rattle.clr_model.specs.Outcomes.{outcome_text};
-ghost use Rattle.clr_runtime.specs.Outcomes.{done_outcome, mt_outcome, number_outcome, place_outcome};
+ghost use Rattle.clr_runtime.specs.Outcomes.{collected_outcome, done_outcome, mt_outcome, number_outcome, place_outcome};
 ghost use Rattle.clr_run.specs.Faults.{Rose};
 ghost use Rattle.clr_run.specs.Output.{Wrote, WroteSome};
 ghost use Rattle.clr_run.specs.Outcomes.{outcome_of, CanShow};
@@ -9,7 +9,7 @@ ghost use Rattle.clr_run.specs.Outcomes.{outcome_of, CanShow};
 use crate::streams::Failed;
 use crate::streams::pending::Pending;
 use crate::streams::sink::Sink;
-use clr_model::{Refusal, Reply};
+use clr_model::{Collected, Refusal, Reply};
 use clr_script::{Line, put_refusal, put_reply};
 
 /// What a line is answered.
@@ -53,6 +53,17 @@ pub fn told_number(told: Result<u64, Refusal>) -> Outcome
     }
 }
 
+/// The outcome of a call that collects.
+pub fn told_collected(told: Result<Collected, Refusal>) -> Outcome
+    ensures is { outcome_of result ≡ collected_outcome told }
+    ensures shows { CanShow result }
+{
+    match told {
+        Ok(collected) => Outcome::Reply(Reply::Collected(collected)),
+        Err(refusal) => Outcome::Refused(refusal),
+    }
+}
+
 /// The outcome of a call that gives nothing.
 pub fn told_done(told: Result<(), Refusal>) -> Outcome
     ensures is { outcome_of result ≡ done_outcome told }
@@ -64,11 +75,13 @@ pub fn told_done(told: Result<(), Refusal>) -> Outcome
     }
 }
 
-/// Puts the text of what a line was answered behind what waits to be written.
+/// Puts the text of what a line was answered behind what waits to be written. `line` is where a reply is written first; what stood
+/// there is lost.
 pub fn put_outcome<K: Sink>(
     pending: &mut Pending,
     sink: &mut K,
     outcome: &Outcome,
+    line: &mut Line,
 ) -> Result<(), Failed>
     requires { CanShow outcome.now }
     ensures wrote { OnOk result (Wrote (K.written sink.old) (K.written sink.new) pending.old pending.new (outcome_text (outcome_of outcome.now))) }
@@ -76,10 +89,9 @@ pub fn put_outcome<K: Sink>(
     ensures counted { OnOk result (K.faults sink.new ≡ K.faults sink.old) }
     ensures cause { OnErr result (Rose (K.faults sink.old) (K.faults sink.new)) }
 {
-    let mut line = Line::new();
     match outcome {
-        Outcome::Reply(reply) => put_reply(reply, &mut line),
-        Outcome::Refused(refusal) => put_refusal(refusal, &mut line),
+        Outcome::Reply(reply) => put_reply(reply, line),
+        Outcome::Refused(refusal) => put_refusal(refusal, line),
         Outcome::Text(text) => return pending.put(sink, text),
     }
     line.end();

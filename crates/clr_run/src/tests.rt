@@ -5,7 +5,7 @@ mod faults;
 mod lines;
 mod scripts;
 
-use crate::{MemorySink, MemorySource, Status, Words, run};
+use crate::{MemorySink, MemorySource, Sink, Source, Status, Words, run};
 use std::alloc::Global;
 use std::test::Fail;
 
@@ -26,6 +26,17 @@ fn words_of(alloc: Global, texts: &[&str]) -> Result<Words, Fail> {
     Ok(words)
 }
 
+/// How the command of these words ends. It promises nothing, so that what `run` ensures doesn't stand in each test's goals.
+fn status_of<S: Source, K: Sink>(
+    alloc: Global,
+    texts: &[&str],
+    source: &mut S,
+    sink: &mut K,
+) -> Result<Status, Fail> {
+    let words = words_of(alloc, texts)?;
+    Ok(run(alloc, &words, source, sink, &mut None))
+}
+
 /// A script, the bytes that a call moves at most, and the calls that fail.
 #[derive(Clone, Copy)]
 struct Trial<'a> {
@@ -40,13 +51,12 @@ struct Trial<'a> {
 fn outcome_of(alloc: Global, trial: Trial<'_>) -> Result<(Status, Vec<u8>), Fail>
     requires { 0 < trial.piece }
 {
-    let words = words_of(alloc, &["run"])?;
     let script = bytes_of(alloc, trial.script)?;
     let reads = Vec::from_slice(alloc, trial.failing_reads)?;
     let writes = Vec::from_slice(alloc, trial.failing_writes)?;
     let mut source = MemorySource::new(script, trial.piece, reads);
     let mut sink = MemorySink::new(alloc, trial.room, trial.piece, writes)?;
-    let status = run(alloc, &words, &mut source, &mut sink, &mut None);
+    let status = status_of(alloc, &["run"], &mut source, &mut sink)?;
     let text = bytes_of(alloc, sink.bytes())?;
     Ok((status, text))
 }

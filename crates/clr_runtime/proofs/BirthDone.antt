@@ -1,9 +1,6 @@
 -- What a line that makes an object leaves, on what a runtime shows.
-use denote.Struct.Props.{props}
 use Rattle.std.proofs.Common.{◌≡◌, ◌∙◌, ℕ, ◌+◌, ◌<◌, ◌≤◌, ◌^◌, inl, inr, true, false, List, [], ◌∷◌, ◌++◌, refl, sym, ap, subst, arith, Option, Some, None, unwrap_or, slice_set, sum_by}
 use Rattle.std.specs.List.{AllByRecursion}
-use Rattle.std.proofs.Math.Bool.{Bool-set}
-use Rattle.std.proofs.Math.Logic.{∥∥₁_elim}
 use Rattle.std.proofs.lemmas.List.Sums.{sum_by-append, sum_by-cons}
 use Rattle.clr_types.specs.Ranges.{Piece}
 use Rattle.clr_types.specs.Rising.{sorted_by}
@@ -13,8 +10,10 @@ use Rattle.clr_types.proofs.ChangedLists.{length-slice_set}
 use Rattle.clr_types.proofs.Shuffles.{shuffled-sorted, shuffled-sum}
 use Rattle.clr_types.proofs.TailTaken.{size-lawful}
 use Rattle.clr_heap.specs.View.{frame, HeapView, IsHeap}
-use Rattle.clr_view.specs.View.{HasNewborn, HasRefilled, layout_in, newborn_at, objects_in, tail_of}
+use Rattle.clr_view.specs.Marks.{IsUnmarked}
+use Rattle.clr_view.specs.View.{AreFreeHeads, HasNewborn, HasRefilled, layout_in, newborn_at, objects_in, tail_of}
 use Rattle.clr_view.proofs.HeldBytes.{objects_bytes_bounded}
+use Rattle.clr_view.proofs.Unmarked.{unmarked_kept}
 use Rattle.clr_ctx.specs.Contexts.{IsIndex, young_items}
 use Rattle.clr_model.specs.declared.Reply.TheVariants.{Place}
 use Rattle.clr_model.specs.Allocation.{context_front, own_fits, with_layout}
@@ -22,16 +21,17 @@ use Rattle.clr_model.specs.Instructions.{new_object}
 use Rattle.clr_model.specs.Lookups.{local_index, object_size}
 use Rattle.clr_model.specs.Machine.{Machine, Object, Options, Sums}
 use Rattle.clr_model.specs.Outcomes.{answered}
-use Rattle.clr_model.specs.Run.{Follows, StandsFor}
+use Rattle.clr_model.specs.Lawful.{IsPlaceNamed}
+use Rattle.clr_model.specs.Run.{Follows}
 use Rattle.clr_model.proofs.BirthFollows.{new_follows_own, new_follows_refill}
 use Rattle.clr_model.proofs.ContextRefilled.{refill_lawful}
 use Rattle.clr_model.proofs.FrontBirth.{seen_at_front}
-use Rattle.clr_model.proofs.SeenSound.{seen_sound}
+use Rattle.clr_model.proofs.SeenStands.{follows_sound}
 use Rattle.clr_runtime.specs.Births.{HasRoomMade, IsMeasured}
-use Rattle.clr_runtime.specs.RuntimeView.{IsShown, object_bytes, shown}
+use Rattle.clr_view.specs.Shown.{shown}
+use Rattle.clr_runtime.specs.RuntimeView.{IsShown, object_bytes}
 use Rattle.clr_runtime.proofs.BirthLines.{may_bear, spent_more}
 use Rattle.clr_runtime.proofs.LocalsSeen.{idle-shown}
-use Rattle.clr_runtime.proofs.RuntimeKept.{stood_on}
 
 -- a birth leaves the free items, and with them their index
 pub born_index : (rows : List TypeRow) (mid new : HeapView) (t type n : ℕ) (index : Option (List Piece)) → HasNewborn rows mid new t type n → IsIndex rows mid index → IsIndex rows new index
@@ -51,8 +51,8 @@ module _ (rows : List TypeRow) (h : HeapView) (named : List ℕ) (sums : Sums) (
   s = shown rows h named sums options
 
   -- where the heap's tail is, and how many bytes its objects may have
-  pub tail_young : ∥ ((m : Machine) × StandsFor s m) ∥₁ → h.start0 ≤ tail_of h
-  tail_young stood = ∥∥₁_elim stood (hlevel props) (λ (m, stands). (seen_sound s m stands).lawful.laid.layout.start0_high)
+  pub tail_young : IsPlaceNamed s → h.start0 ≤ tail_of h
+  tail_young sound = sound.lawful.laid.layout.start0_high
 
   -- the sum of what was given out stays a word
   pub spent_fits : IsHeap h → IsShown rows h named sums options → (size : ℕ) → size < 85000 → sums.spent0 + size < 2 ^ 64
@@ -68,12 +68,11 @@ module _ (rows : List TypeRow) (h : HeapView) (named : List ℕ) (sums : Sums) (
     n = unwrap_or len 0
 
     -- the object fits at the front of the context once room was made
-    pub room_fits : ∥ ((m : Machine) × StandsFor s m) ∥₁ → (mid : HeapView) → HasRoomMade rows h mid t size true → own_fits (frame mid) t (size_of (form_at rows type) n) ≡ true
-    room_fits stood mid (inl (own, same)) = subst (λ b. own_fits (frame mid) t b ≡ true) measured.is (subst (λ (g : HeapView). own_fits (frame g) t size ≡ true) (sym same) own)
-    room_fits stood mid (inr (own, refilled)) =
-        ∥∥₁_elim stood (hlevel Bool-set) (λ (m, stands).
-        (refill_lawful s (seen_sound s m stands).lawful t measured.named.thread ((idle-shown s refl refl).steps t) (size_of (form_at rows type) n) (size-lawful (form_at rows type) n) (layout_in rows mid)
-        (subst (λ b. HasRefilled rows h mid t b) measured.is refilled).layout).1)
+    pub room_fits : IsPlaceNamed s → (mid : HeapView) → HasRoomMade rows h mid t size true → own_fits (frame mid) t (size_of (form_at rows type) n) ≡ true
+    room_fits sound mid (inl (own, same)) = subst (λ b. own_fits (frame mid) t b ≡ true) measured.is (subst (λ (g : HeapView). own_fits (frame g) t size ≡ true) (sym same) own)
+    room_fits sound mid (inr (own, refilled)) =
+        (refill_lawful s sound.lawful t measured.named.thread ((idle-shown s refl refl).steps t) (size_of (form_at rows type) n) (size-lawful (form_at rows type) n) (layout_in rows mid)
+        (subst (λ b. HasRefilled rows h mid t b) measured.is refilled).layout).1
 
     module _ (mid new : HeapView) (place j : ℕ) (newborn : HasNewborn rows mid new t type n) (at : place ≡ context_front (frame mid) t) (index : j ≡ local_index t local) where
       -- what is seen with the object, from the heap in which room was made
@@ -108,9 +107,19 @@ module _ (rows : List TypeRow) (h : HeapView) (named : List ℕ) (sums : Sums) (
       same-objects (inl (own, same)) = ap (objects_in rows) same
       same-objects (inr (own, refilled)) = refilled.objects
 
+      -- room is made without a mark
+      roomed : IsHeap h → HasRoomMade rows h mid t size true → IsShown rows h named sums options → IsUnmarked rows mid
+      roomed heap (inl (own, same)) is = subst (IsUnmarked rows) (sym same) is.unmarked
+      roomed heap (inr (own, refilled)) is = unmarked_kept rows h heap is.held mid refilled.objects refilled.cells is.unmarked
+
+      -- and no free item's head changes, but where a new one is written
+      roomed_heads : HasRoomMade rows h mid t size true → IsShown rows h named sums options → AreFreeHeads rows mid
+      roomed_heads (inl (own, same)) is = subst (AreFreeHeads rows) (sym same) is.free_heads
+      roomed_heads (inr (own, refilled)) is = refilled.free_heads is.free_heads
+
       -- and what holds of the parts of a runtime still holds
-      pub birth_kept : IsShown rows h named sums options → HasRoomMade rows h mid t size true → IsShown rows new (slice_set named j place) (spent_more sums size) options
-      birth_kept is made =
+      pub birth_kept : IsHeap h → (IsUnmarked rows mid → IsUnmarked rows new) → (AreFreeHeads rows mid → AreFreeHeads rows new) → IsShown rows h named sums options → HasRoomMade rows h mid t size true → IsShown rows new (slice_set named j place) (spent_more sums size) options
+      birth_kept heap unmarked heads is made =
           let bytes = born_bytes rows mid new t type n newborn ∙ (λ k. sum_by (object_size rows) (same-objects made k) + sym measured.is k) in
           let spent = is.spent in
           record {
@@ -118,5 +127,7 @@ module _ (rows : List TypeRow) (h : HeapView) (named : List ℕ) (sums : Sums) (
             held = newborn.held;
             plain = is.plain;
             spent = omega (arith, bytes, spent);
-            stood = stood_on s (new_object t local name len) (answered (Place place)) (shown rows new (slice_set named j place) (spent_more sums size) options) (made_follows made) is.stood;
+            unmarked = unmarked (roomed heap made is);
+            free_heads = heads (roomed_heads made is);
+            sound = follows_sound s (new_object t local name len) (answered (Place place)) (shown rows new (slice_set named j place) (spent_more sums size) options) is.sound (made_follows made);
           }

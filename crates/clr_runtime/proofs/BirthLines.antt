@@ -18,7 +18,7 @@ use Rattle.clr_model.specs.Run.{Follows}
 use Rattle.clr_model.proofs.BirthFollows.{all-plain, new_follows_local, new_follows_room, new_follows_shape, new_follows_size, new_follows_thread, new_follows_type}
 use Rattle.clr_model.proofs.BirthLine.{MayBear}
 use Rattle.clr_runtime.specs.Births.{HasRoomMade, IsMeasured, Measured}
-use Rattle.clr_runtime.specs.RuntimeView.{shown}
+use Rattle.clr_view.specs.Shown.{shown}
 use Rattle.clr_runtime.proofs.LocalsSeen.{idle-shown}
 use Rattle.clr_runtime.proofs.NamesChecked.{may_run}
 use Rattle.clr_runtime.proofs.TypeNumbers.{number_from-bounds}

@@ -7,6 +7,7 @@ pub mod RuntimeKept
 pub mod TypeLines
 pub mod Opened
 pub mod IndexKept
+pub mod CollectLines
 pub mod LimitKept
 pub mod TypeNumbers
 pub mod BirthLines

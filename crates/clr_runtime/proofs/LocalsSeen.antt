@@ -1,8 +1,6 @@
 -- What a runtime shows of its locals and slots: each is null or the place of an object.
 use Rattle.std.proofs.Common.{◌≡◌, ◌≢◌, ℕ, ◌-◌, ◌<◌, List, [], ◌∷◌, length, filter, map, get_or, replicate, refl, sym, ap, subst, ◌∙◌, arith, true, inl, inr, None, is_some}
 use Rattle.std.specs.Prelude.{slice_get, slice_index}
-use Rattle.std.proofs.Math.Bool.{Bool-set}
-use Rattle.std.proofs.Math.Logic.{∥∥₁_elim}
 use Rattle.std.proofs.lemmas.Grind.{get_or_default_zero}
 use Rattle.clr_types.specs.Rising.{IsIn, first, later}
 use Rattle.clr_types.specs.Types.{TypeRow}
@@ -10,12 +8,11 @@ use Rattle.clr_types.specs.declared.item.Item.{Item}
 use Rattle.clr_heap.specs.View.{heap_items, HeapView, word_of}
 use Rattle.clr_view.specs.View.{is_object, object_in, objects_in}
 use Rattle.clr_view.specs.SlotValues.{StandsAt}
-use Rattle.clr_model.specs.Lawful.{IsNullOrPresent}
+use Rattle.clr_model.specs.Lawful.{IsNullOrPresent, IsPlaceNamed}
 use Rattle.clr_model.specs.Lookups.{is_step, local_index, local_of, object_named, step_or_none}
 use Rattle.clr_model.specs.Machine.{Machine, Object, ThreadStep, no_step}
-use Rattle.clr_model.specs.Run.{StandsFor}
 use Rattle.clr_model.proofs.NamedWell.{found_named}
-use Rattle.clr_model.proofs.SeenSound.{local-seen, seen_sound}
+use Rattle.clr_model.proofs.SeenSound.{local-seen}
 use Rattle.clr_runtime.specs.Checks.{IsIdle}
 use Rattle.clr_runtime.proofs.NamesChecked.{no-step}
 
@@ -41,9 +38,8 @@ module _ (rows : List TypeRow) (h : HeapView) (s : Machine) (objects : s.objects
   present-of place some (inr there) = there
 
   -- the object of a local that isn't null
-  pub local-stands : ∥ ((m : Machine) × StandsFor s m) ∥₁ → (t k place : ℕ) → place ≡ local_of s t k → place ≢ 0 → StandsAt rows h place
-  local-stands stood t k place is some =
-      present-stands place (∥∥₁_elim stood (hlevel Bool-set) (λ (m, stands). present-of place some (subst (IsNullOrPresent s) (sym is) (local-seen s (seen_sound s m stands) t k))))
+  pub local-stands : IsPlaceNamed s → (t k place : ℕ) → place ≡ local_of s t k → place ≢ 0 → StandsAt rows h place
+  local-stands sound t k place is some = present-stands place (present-of place some (subst (IsNullOrPresent s) (sym is) (local-seen s sound t k)))
 
 -- where no step was begun, none is shown
 pub idle-shown : (s : Machine) → s.steps ≡ replicate 16 no_step → s.holder ≡ None → IsIdle s

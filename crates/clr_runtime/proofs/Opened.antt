@@ -5,13 +5,18 @@ use Rattle.std.proofs.lemmas.List.{length-replicate}
 use Rattle.clr_types.specs.Types.{TypeRow}
 use Rattle.clr_heap.specs.View as heap
 use Rattle.clr_heap.specs.View.{HeapView}
-use Rattle.clr_view.specs.View.{IsHeld}
+use Rattle.clr_view.specs.Marks.{IsUnmarked}
+use Rattle.clr_view.specs.View.{AreFreeHeads, IsHeld}
+use Rattle.clr_view.proofs.FreeHeads.{heads_at_start}
+use Rattle.clr_view.proofs.Unmarked.{unmarked_at_start}
 use Rattle.clr_view.proofs.Opening.{held_at_start, layout_at_start, no_objects}
 use Rattle.clr_model.specs.Lawful.{AreLawfulOptions}
 use Rattle.clr_model.specs.Machine.{Machine, Options, Sums}
 use Rattle.clr_model.specs.Run.{opening, StandsFor}
 use Rattle.clr_model.proofs.Opening.{opening_stands}
-use Rattle.clr_runtime.specs.RuntimeView.{IsShown, shown}
+use Rattle.clr_model.proofs.SeenSound.{seen_sound}
+use Rattle.clr_view.specs.Shown.{shown}
+use Rattle.clr_runtime.specs.RuntimeView.{IsShown}
 
 abbrev pub no_sums : Sums
 no_sums = record { spent0 = 0; spent_large = 0; promoted1 = 0; promoted2 = 0 }
@@ -37,5 +42,7 @@ module _ (rows : List TypeRow) (h : HeapView) (named : List ℕ) (options : Opti
     held = subst (λ (rs : List TypeRow). IsHeld rs h) (sym none) (subst (λ (o : HeapView). IsHeld [] o) (sym empty) (held_at_start [] options.segment limit lawful.segment_aligned));
     plain = subst (λ (rs : List TypeRow). AllByRecursion (λ (row : TypeRow). row.finalizer ≡ false) rs) (sym none) tt;
     spent = omega arith;
-    stood = ∣ (opening options, new_stands) ∣₁;
+    unmarked = subst (λ (rs : List TypeRow). IsUnmarked rs h) (sym none) (subst (λ (o : HeapView). IsUnmarked [] o) (sym empty) (unmarked_at_start [] options.segment limit lawful.segment_aligned));
+    free_heads = subst (λ (rs : List TypeRow). AreFreeHeads rs h) (sym none) (subst (λ (o : HeapView). AreFreeHeads [] o) (sym empty) (heads_at_start [] options.segment limit lawful.segment_aligned));
+    sound = seen_sound (shown rows h named no_sums options) (opening options) new_stands;
   }

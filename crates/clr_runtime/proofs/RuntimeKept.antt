@@ -1,24 +1,21 @@
 -- What holds of the parts of a runtime after a line.
 use Rattle.std.proofs.Common.{◌≡◌, ℕ, ◌+◌, ◌≤◌, List, [], ◌∷◌, refl, sym, ap, subst, ◌∙◌, slice_set, sum_by, Bool, true, false, if◌then◌else◌, ◌==◌}
 use Rattle.std.proofs.lemmas.List.Sums.{sum_by-cons}
-use Rattle.std.proofs.Math.Logic.{∥∥₁_map}
 use Rattle.clr_types.specs.Rising.{changed_by}
 use Rattle.clr_types.specs.Types.{TypeRow}
 use Rattle.clr_types.proofs.ChangedLists.{length-slice_set}
 use Rattle.clr_heap.specs.View.{HeapView}
-use Rattle.clr_view.specs.View.{HasStored, objects_in}
+use Rattle.clr_view.specs.Marks.{IsUnmarked}
+use Rattle.clr_view.specs.View.{AreFreeHeads, HasStored, objects_in}
 use Rattle.clr_model.specs.Instructions.{Instruction}
-use Rattle.clr_model.specs.Machine.{Machine, Options, Sums, Value}
+use Rattle.clr_model.specs.Machine.{Options, Sums, Value}
 use Rattle.clr_model.specs.Lookups.{object_size}
 use Rattle.clr_model.specs.Updates.{with_slot_of}
 use Rattle.clr_model.specs.Outcomes.{Outcome}
-use Rattle.clr_model.specs.Run.{Follows, StandsFor}
-use Rattle.clr_runtime.specs.RuntimeView.{IsShown, shown}
-
--- some state is still stood for
-pub stood_on : (old : Machine) (i : Instruction) (outcome : Outcome) (new : Machine) → Follows old i outcome new → ∥ ((m : Machine) × StandsFor old m) ∥₁ → ∥ ((m : Machine) × StandsFor new m) ∥₁
-unfolding Follows
-stood_on old i outcome new follows stood = ∥∥₁_map stood (λ (m, stands). let next = follows m stands in (next.0, next.2))
+use Rattle.clr_model.specs.Run.{Follows}
+use Rattle.clr_view.specs.Shown.{shown}
+use Rattle.clr_model.proofs.SeenStands.{follows_sound}
+use Rattle.clr_runtime.specs.RuntimeView.{IsShown}
 
 -- a sum that doesn't see a change
 sum-changed : {X : Type 0} (size key : X → ℕ) (k : ℕ) (change : X → X) → ((x : X) → size (change x) ≡ size x) → (xs : List X) → sum_by size (changed_by key k change xs) ≡ sum_by size xs
@@ -38,17 +35,21 @@ module _ (rows : List TypeRow) (heap : HeapView) (named : List ℕ) (sums : Sums
     held = is.held;
     plain = is.plain;
     spent = is.spent;
-    stood = stood_on (shown rows heap named sums options) i outcome (shown rows heap (slice_set named j v) sums options) follows is.stood;
+    unmarked = is.unmarked;
+    free_heads = is.free_heads;
+    sound = follows_sound (shown rows heap named sums options) i outcome (shown rows heap (slice_set named j v) sums options) is.sound follows;
   }
 
   -- a slot was written
-  pub store_kept : (i : Instruction) (outcome : Outcome) (new : HeapView) (place j : ℕ) (v : Value) → HasStored rows heap new place j v → Follows (shown rows heap named sums options) i outcome (shown rows new named sums options) → IsShown rows new named sums options
-  store_kept i outcome new place j v stored follows =
+  pub store_kept : (i : Instruction) (outcome : Outcome) (new : HeapView) (place j : ℕ) (v : Value) → HasStored rows heap new place j v → (IsUnmarked rows heap → IsUnmarked rows new) → (AreFreeHeads rows heap → AreFreeHeads rows new) → Follows (shown rows heap named sums options) i outcome (shown rows new named sums options) → IsShown rows new named sums options
+  store_kept i outcome new place j v stored unmarked heads follows =
       let bytes = ap (sum_by (object_size rows)) stored.objects ∙ sum-changed (object_size rows) (λ o. o.name) place (with_slot_of j v) (λ o. refl) (objects_in rows heap) in
       record {
         locals = is.locals;
         held = stored.held;
         plain = is.plain;
         spent = subst (λ n. sums.spent0 ≤ n) (sym bytes) is.spent;
-        stood = stood_on (shown rows heap named sums options) i outcome (shown rows new named sums options) follows is.stood;
+        unmarked = unmarked is.unmarked;
+        free_heads = heads is.free_heads;
+        sound = follows_sound (shown rows heap named sums options) i outcome (shown rows new named sums options) is.sound follows;
       }

@@ -19,7 +19,7 @@ use Rattle.clr_model.specs.Updates.{with_slot}
 use Rattle.clr_model.proofs.LineFollows.{get_done, get_of, put_done, put_of, read_done, read_of, set_done, set_of, SlotLine, WorksOn}
 use Rattle.clr_runtime.specs.Checks.{IsIdle, lacks_names}
 use Rattle.clr_runtime.specs.Slots.{HasItsSlot, IsFound}
-use Rattle.clr_runtime.specs.RuntimeView.{shown}
+use Rattle.clr_view.specs.Shown.{shown}
 use Rattle.clr_runtime.proofs.LocalLines.{local_written}
 use Rattle.clr_runtime.proofs.LocalsSeen.{idle-shown}
 use Rattle.clr_runtime.proofs.NamesChecked.{may_run, named-once, names_passed}

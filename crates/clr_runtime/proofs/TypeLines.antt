@@ -14,6 +14,8 @@ use Rattle.clr_heap.specs.View.{AreWalkable, first_of, heap_items, HeapView, las
 use Rattle.clr_view.specs.View.{IsHeld, is_object, object_in, objects_among}
 use Rattle.clr_view.proofs.Items.{IsItem}
 use Rattle.clr_view.proofs.Listings.{listing-are, listings-all}
+use Rattle.clr_view.proofs.FreeHeads.{heads_with_type}
+use Rattle.clr_view.proofs.Unmarked.{unmarked_with_type}
 use Rattle.clr_view.proofs.TypeMore.{form-stays, held_with_type, layout_with_type, objects_with_type}
 use Rattle.clr_model.specs.declared.Refusal.TheVariants as refusal
 use Rattle.clr_model.specs.declared.Reply.TheVariants.{Mt}
@@ -26,8 +28,9 @@ use Rattle.clr_model.specs.Run.{Follows, StandsFor}
 use Rattle.clr_model.proofs.Carried.{follows}
 use Rattle.clr_model.proofs.TypeDefined.{define_carried, define_carried_lack, define_carried_name, define_carried_form, define_carried_count}
 use Rattle.clr_runtime.specs.Outcomes.{refusal_of_fault}
-use Rattle.clr_runtime.specs.RuntimeView.{IsShown, object_bytes, shown}
-use Rattle.clr_runtime.proofs.RuntimeKept.{stood_on}
+use Rattle.clr_view.specs.Shown.{shown}
+use Rattle.clr_runtime.specs.RuntimeView.{IsShown, object_bytes}
+use Rattle.clr_model.proofs.SeenStands.{follows_sound}
 
 -- ---- a type more
 
@@ -177,6 +180,8 @@ defined_kept rows after heap named sums options name form finalizer (Ok t) is un
       held = held_with_type rows row heap is.held;
       plain = AllByRecursion-push (λ (r : TypeRow). r.finalizer ≡ false) rows row is.plain unfinal;
       spent = subst (λ n. sums.spent0 ≤ n) (sym bytes) is.spent;
-      stood = stood_on _ _ _ _ (told-ok rows name form finalizer (Ok t) told heap named sums options t refl is.held) is.stood;
+      unmarked = unmarked_with_type rows row heap is.held is.unmarked;
+      free_heads = heads_with_type rows row heap is.held is.free_heads;
+      sound = follows_sound _ _ _ _ is.sound (told-ok rows name form finalizer (Ok t) told heap named sums options t refl is.held);
     })
 defined_kept rows after heap named sums options name form finalizer (Err f) is unfinal grown kept told = subst (λ (rs : List TypeRow). IsShown rs heap named sums options) (sym kept) is

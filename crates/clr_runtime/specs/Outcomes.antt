@@ -1,6 +1,7 @@
 -- What the results of a runtime's calls say.
 use Rattle.std.specs.Prelude.{ℕ, Result, Ok, Err}
-use Rattle.clr_model.specs.declared.Reply.TheVariants.{Done, Mt, Number, Place}
+use Rattle.clr_model.specs.declared.Collected as code
+use Rattle.clr_model.specs.declared.Reply.TheVariants.{Collected, Done, Mt, Number, Place}
 use Rattle.clr_model.specs.declared.Refusal.{Refusal}
 use Rattle.clr_model.specs.declared.Refusal.TheVariants as refusal
 use Rattle.clr_types.specs.declared.fault.DefineFault.{DefineFault}
@@ -21,6 +22,11 @@ place_outcome (Err refusal) = model.refused refusal
 abbrev pub number_outcome : Result ℕ Refusal → model.Outcome
 number_outcome (Ok number) = model.answered (Number number)
 number_outcome (Err refusal) = model.refused refusal
+
+-- what a call tells that collects
+abbrev pub collected_outcome : Result code.Collected Refusal → model.Outcome
+collected_outcome (Ok collected) = model.answered (Collected collected)
+collected_outcome (Err refusal) = model.refused refusal
 
 -- what a call tells that gives nothing
 abbrev pub done_outcome : Result (Unit {0}) Refusal → model.Outcome

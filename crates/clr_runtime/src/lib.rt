@@ -6,6 +6,7 @@ pub use crate::runtime::Runtime;
 
 mod births;
 mod checks;
+mod collections;
 mod options;
 mod runtime;
 mod slots;

@@ -1,5 +1,5 @@
 //! The types, the heap and the locals that the lines of a script work on.
-ghost use Rattle.std.specs.Prelude.{◌≡◌, IfOk, length, replicate, false};
+ghost use Rattle.std.specs.Prelude.{◌≡◌, ◌≤◌, IfOk, length, replicate, false};
 ghost use Rattle.clr_types.specs.Types.{form_of};
 ghost use Rattle.clr_runtime.specs.Options.{options_of};
 ghost use Rattle.clr_runtime.specs.Outcomes.{refusal_of_fault};
@@ -9,15 +9,19 @@ use crate::options::Options;
 use crate::sums::Sums;
 use clr_ctx::Contexts;
 use clr_heap::Heap;
+use clr_mark::Marker;
 use clr_model::Refusal;
 use clr_types::{DefineFault, Shape, Types};
 use std::alloc::{AllocError, Global};
 use std::marker::Model;
 
+/// So many objects may wait on the stack of a marking. What has no room on it is found again by a walk.
+const MARK_STACK: usize = 1024;
+
 /// So many locals has each of the 16 threads.
 pub(crate) const LOCALS_OF_A_THREAD: u64 = 64;
 
-/// The types, the heap, the contexts and the locals of a script that runs. Each call is one line.
+/// The types, the heap, the contexts, the marker and the locals of a script that runs. Each call is one line.
 ///
 /// Contracts see the machine whose objects are named by their places. After each call the runtime stands for the next state of
 /// each graph machine that it stood for before, and the answer is that step's reply. A refused call leaves the state as it was.
@@ -26,6 +30,7 @@ pub struct Runtime {
     pub(crate) types: Types,
     pub(crate) heap: Heap,
     pub(crate) contexts: Contexts,
+    pub(crate) marker: Marker,
     pub(crate) locals: Vec<u64>,
     pub(crate) sums: Sums,
     pub(crate) options: Options,
@@ -50,21 +55,36 @@ impl Model for Runtime {
 
 impl Runtime {
     ghost use Rattle.clr_model.specs.Instructions.{define_type};
-    ghost use Rattle.clr_model.specs.Lawful.{AreLawfulOptions};
+    ghost use Rattle.clr_model.specs.Lawful.{AreLawfulOptions, IsPlaceNamed};
     ghost use Rattle.clr_model.specs.Run.{Follows, opening, StandsFor};
     ghost use Rattle.clr_heap.specs.View.{IsHeap};
-    ghost use Rattle.clr_view.specs.View.{IsHeld, layout_in, objects_in};
+    ghost use Rattle.clr_view.specs.Marks.{IsUnmarked};
+    ghost use Rattle.clr_view.specs.View.{AreFreeHeads, IsHeld, layout_in, objects_in};
     ghost use Rattle.clr_runtime.specs.Outcomes.{mt_outcome};
-    ghost use Rattle.clr_runtime.specs.RuntimeView.{IsStood};
 
     /// No types, no objects, and every local is null.
     pub fn new(alloc: Global, options: Options) -> Result<Runtime, NoMemory>
         requires { AreLawfulOptions (options_of options) }
         ensures { IfOk result (λ runtime. StandsFor runtime (opening (options_of options))) }
     {
-        let (Ok(types), Ok(heap), Ok(locals)) = (
+        Runtime::with_mark_stack(alloc, options, MARK_STACK)
+    }
+
+    /// The same, where `capacity` objects, at least one, have room on the stack of a marking. The others are found again by walks,
+    /// so a small stack makes collections slower, and changes no answer.
+    pub fn with_mark_stack(
+        alloc: Global,
+        options: Options,
+        capacity: usize,
+    ) -> Result<Runtime, NoMemory>
+        requires lawful { AreLawfulOptions (options_of options) }
+        requires some { 1 ≤ capacity }
+        ensures { IfOk result (λ runtime. StandsFor runtime (opening (options_of options))) }
+    {
+        let (Ok(types), Ok(heap), Ok(marker), Ok(locals)) = (
             Types::new(alloc),
             Heap::new(alloc, options.segment, options.limit),
+            Marker::new(alloc, capacity),
             null_locals(alloc, 1024),
         ) else {
             return Err(NoMemory);
@@ -73,6 +93,7 @@ impl Runtime {
             types,
             heap,
             contexts: Contexts::new(alloc),
+            marker,
             locals,
             sums: Sums::NONE,
             options,
@@ -99,13 +120,16 @@ impl Runtime {
         &self.types
     }
 
-    /// The heap, of which the options limit the segments. The runtime stands for some state of the graph machine.
+    /// The heap, of which the options limit the segments. No object is marked, and each free item has the head of free space
+    /// without a mark. What is seen is a lawful state whose objects are named by their places.
     pub fn heap(&self) -> &Heap
         ensures objects { self.now.objects ≡ objects_in self.now.types result.now }
         ensures layout { self.now.layout ≡ layout_in self.now.types result.now }
         ensures held { IsHeld self.now.types result.now }
+        ensures unmarked { IsUnmarked self.now.types result.now }
+        ensures free_heads { AreFreeHeads self.now.types result.now }
         ensures limit { result.now.limit ≡ self.now.options.limit }
-        ensures stood { IsStood self.now }
+        ensures sound { IsPlaceNamed self.now }
     {
         &self.heap
     }

@@ -1,5 +1,7 @@
 // Lines of a script as calls: refusals in their order, slots, contexts that are used up, and want of room.
 
+mod collections;
+
 use crate::{Options, Runtime};
 use clr_model::{Refusal, Reply};
 use clr_types::Shape;

@@ -3,3 +3,4 @@ pub mod Readings
 pub mod Choices
 pub mod ReplyLines
 pub mod NameBytes
+pub mod Accesses

@@ -1,6 +1,7 @@
 //! The lines of a script: read into commands, and answered in text.
 #![tactic(auto)]
 
+mod access;
 mod arguments;
 mod cut;
 mod fields;
@@ -12,5 +13,6 @@ mod shapes;
 mod tests;
 mod threads;
 
+pub use access::{Access, Verb, read_access};
 pub use reader::{LONGEST, read_line};
 pub use reply::{Line, put_refusal, put_reply};

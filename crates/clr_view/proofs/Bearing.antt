@@ -15,7 +15,7 @@ use Rattle.clr_model.specs.Machine.{Object}
 use Rattle.clr_view.specs.View.{HasNewborn, IsHeld, newborn_at, objects_in}
 use Rattle.clr_view.specs.SlotValues.{StandsAt}
 use Rattle.clr_view.specs.Births.{with_newborn}
-use Rattle.clr_view.proofs.Born.{born_at_front, front-is, grown, grown-is}
+use Rattle.clr_view.proofs.Born.{born_at_front, front-is, grown, grown-is, heap-grown}
 use Rattle.clr_view.proofs.Fronts.{FitsFront, head, leaves, up-to}
 
 -- a size that fits fills the range or leaves 24 bytes
@@ -109,6 +109,10 @@ module _ (rows : List TypeRow) (h : HeapView) (thread t n : ℕ) (asked : IsAske
           let others = (leaves rows h thread r t n f).shape.others in
           new_is ∙ (λ i. record (head_is i) { rests = set (head_is i).rests (thread - 1) (rest_between (at i + size_is i) (high i)) })
           ∙ ap (λ (g : HeapView). record (placed rows h r.place t n) { rests = set g.rests (thread - 1) (rest_between (r.place + size_of (form_at rows t) n) (piece_end r)) }) others
+
+      -- what it leaves is a heap
+      pub front-heap : IsHeap new
+      front-heap = subst IsHeap (sym new-grown) (heap-grown rows h thread r t n f)
 
       pub front-words : new ≡ with_newborn rows h thread t n
       front-words = new-grown ∙ sym (grown-is rows h thread r t n f)

@@ -17,3 +17,5 @@ pub mod ObjectItems
 pub mod SlotReads
 pub mod HeldBytes
 pub mod FirstContext
+pub mod Unmarked
+pub mod FreeHeads

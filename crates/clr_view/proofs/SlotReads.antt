@@ -13,12 +13,15 @@ use Rattle.clr_types.specs.declared.shape.Slot.{Slot}
 use Rattle.clr_heap.specs.Memories.{HasWord, word_address}
 use Rattle.clr_heap.specs.View.{heap_items, HeapView, IsHeap, stored, word_of}
 use Rattle.clr_model.specs.Machine.{num, Value}
-use Rattle.clr_view.specs.View.{HasStored, IsByteSlot, IsHeld, IsWordSlot, object_in, slot_address, slot_value, word_value}
+use Rattle.clr_view.specs.View.{AreFreeHeads, HasStored, IsByteSlot, IsHeld, IsWordSlot, object_in, slot_address, slot_value, word_value}
+use Rattle.clr_view.specs.Marks.{IsUnmarked}
 use Rattle.clr_view.specs.SlotValues.{HasSlot, IsSlot, with_value, with_value_at}
+use Rattle.clr_view.proofs.FreeHeads.{heads_stored}
 use Rattle.clr_view.proofs.Listed.{listed-head, listed-low, listed-sized}
 use Rattle.clr_view.proofs.Slots.{slot_word, slot-inside}
 use Rattle.clr_view.proofs.StoredSlots.{bytes-form, kind-there, value-is}
 use Rattle.clr_view.proofs.Stores.{byte_slot_stored, byte_slot_word, cell_has_word, slot_stored, word_slot}
+use Rattle.clr_view.proofs.Unmarked.{unmarked_stored}
 
 -- ---- slots by number
 
@@ -170,6 +173,24 @@ module _ (rows : List TypeRow) (h : HeapView) (i : Item) (slot : Slot) (heap : I
       subst (λ g. HasStored rows h g i.place j (word_value slot.reference v)) (ap (λ b. stored h b v) at ∙ sym new_is) (slot_stored rows h i j v heap held slot.reference (word-slot-is j is words))
 
   -- and so with the byte there
+  -- and it marks nothing
+  pub word-unmarked : (new : HeapView) (v : ℕ) → is_bytes form ≡ false → new ≡ stored h a v → HasSlot rows i slot → IsUnmarked rows h → IsUnmarked rows new
+  word-unmarked new v words new_is has clear =
+      let j = has.number in
+      let is = word-slot-is j has.is words in
+      let same = ap (λ b. stored h b v) (address-is j has.is) ∙ sym new_is in
+      subst (IsUnmarked rows) same
+      (unmarked_stored rows h i (slot_address rows i j) v heap held (word_slot rows h i j v heap held slot.reference is) i.place j (word_value slot.reference v) (slot_stored rows h i j v heap held slot.reference is) clear)
+
+  -- nor does it change a free item's head
+  pub word-heads : (new : HeapView) (v : ℕ) → is_bytes form ≡ false → new ≡ stored h a v → HasSlot rows i slot → AreFreeHeads rows h → AreFreeHeads rows new
+  word-heads new v words new_is has heads =
+      let j = has.number in
+      let is = word-slot-is j has.is words in
+      let same = ap (λ b. stored h b v) (address-is j has.is) ∙ sym new_is in
+      subst (AreFreeHeads rows) same
+      (heads_stored rows h i (slot_address rows i j) v heap held (word_slot rows h i j v heap held slot.reference is) i.place j (word_value slot.reference v) (slot_stored rows h i j v heap held slot.reference is) heads)
+
   pub byte-stored-there : (new : HeapView) (v : ℕ) → is_bytes form ≡ true → v < 256 → new ≡ stored h (word_address a) (with_byte (word_of h (word_address a)) (a % 8) v) → (j : ℕ) → IsSlot rows i j slot → HasStored rows h new i.place j (word_value slot.reference v)
   byte-stored-there new v bytes small new_is j is =
       let at = address-is j is in
@@ -177,6 +198,26 @@ module _ (rows : List TypeRow) (h : HeapView) (i : Item) (slot : Slot) (heap : I
       let there = byte_slot_stored rows h i j v heap held (byte-slot-is j is bytes) small in
       let same = ap (λ b. stored h (word_address b) (with_byte (word_of h (word_address b)) (b % 8) v)) at ∙ sym new_is in
       subst (λ kind. HasStored rows h new i.place j (word_value kind v)) (sym number) (subst (λ g. HasStored rows h g i.place j (num v)) same there)
+
+  pub byte-unmarked : (new : HeapView) (v : ℕ) → is_bytes form ≡ true → v < 256 → new ≡ stored h (word_address a) (with_byte (word_of h (word_address a)) (a % 8) v) → HasSlot rows i slot → IsUnmarked rows h → IsUnmarked rows new
+  byte-unmarked new v bytes small new_is has clear =
+      let j = has.number in
+      let is = byte-slot-is j has.is bytes in
+      let at = slot_address rows i j in
+      let w = with_byte (word_of h (word_address at)) (at % 8) v in
+      let same = ap (λ b. stored h (word_address b) (with_byte (word_of h (word_address b)) (b % 8) v)) (address-is j has.is) ∙ sym new_is in
+      subst (IsUnmarked rows) same
+      (unmarked_stored rows h i (word_address at) w heap held (byte_slot_word rows h i j v heap held is small) i.place j (num v) (byte_slot_stored rows h i j v heap held is small) clear)
+
+  pub byte-heads : (new : HeapView) (v : ℕ) → is_bytes form ≡ true → v < 256 → new ≡ stored h (word_address a) (with_byte (word_of h (word_address a)) (a % 8) v) → HasSlot rows i slot → AreFreeHeads rows h → AreFreeHeads rows new
+  byte-heads new v bytes small new_is has heads =
+      let j = has.number in
+      let is = byte-slot-is j has.is bytes in
+      let at = slot_address rows i j in
+      let w = with_byte (word_of h (word_address at)) (at % 8) v in
+      let same = ap (λ b. stored h (word_address b) (with_byte (word_of h (word_address b)) (b % 8) v)) (address-is j has.is) ∙ sym new_is in
+      subst (AreFreeHeads rows) same
+      (heads_stored rows h i (word_address at) w heap held (byte_slot_word rows h i j v heap held is small) i.place j (num v) (byte_slot_stored rows h i j v heap held is small) heads)
 
   -- which heap that is
   pub word-written : (new : HeapView) (v : ℕ) → is_bytes form ≡ false → new ≡ stored h a v → new ≡ with_value rows h i slot v

@@ -85,7 +85,7 @@ module _ (rows : List TypeRow) (h : HeapView) (i : Item) (a v : ℕ) (heap : IsH
   item-is = all_at (IsItem rows (first_of h k) (last_of h k)) home.2 (listing-are rows h held.walkable k in_range)
 
   -- the word stands in the item's cell, which ends within its segment
-  below : a + 16 ≤ i.place + i.size
+  pub below : a + 16 ≤ i.place + i.size
   below = let b = slot.cell.below in let s = item-is.sized in omega arith
 
   within : (first_of h k ≤ i.place) × (a + 16 ≤ last_of h k)

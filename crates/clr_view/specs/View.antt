@@ -1,7 +1,7 @@
 -- The objects, the free items and the layout of a machine, read off the words of a heap.
 use Rattle.std.specs.Prelude.{◌≡◌, ℕ, ◌+◌, ◌-◌, ◌/◌, ◌%◌, ◌<◌, ◌≤◌, Bool, true, false, not, nat_eq, List, [], ◌∷◌, ◌++◌, filter, map, None, Some, slice_get, length, get_or}
 use Rattle.clr_mem.specs.Words.{byte_of}
-use Rattle.clr_types.specs.Types.{TypeRow, Form, class_form, references_form, bytes_form, structs_form, form_at, is_bytes, size_of, slot_kinds, slot_offset, slots_of}
+use Rattle.clr_types.specs.Types.{TypeRow, Form, class_form, references_form, bytes_form, structs_form, form_at, is_bytes, mt_of, size_of, slot_kinds, slot_offset, slots_of}
 use Rattle.clr_types.specs.Rising.{changed_by, IsIn, sorted_by}
 use Rattle.clr_types.specs.Ranges.{Piece, piece_end}
 use Rattle.clr_types.specs.Segments.{Layout, ephemeral}
@@ -81,6 +81,18 @@ layout_in rows h = record (frame h) { free = free_in rows h }
 abbrev pub tail_of : HeapView → ℕ
 tail_of h = (ephemeral (frame h)).end
 
+-- the head of free space stands at a place: a clear header, and the method table word of free space, without a mark
+abbrev pub IsFreeHead : (ℕ → ℕ) → ℕ → Type 0
+IsFreeHead word place = (word (place - 8) ≡ 0) × (word place ≡ mt_of 0)
+
+-- each free item among items has such a head
+abbrev pub HaveFreeHeads : (ℕ → ℕ) → List Item → Type 0
+HaveFreeHeads word items = (i : Item) → IsIn i items → is_free i ≡ true → IsFreeHead word i.place
+
+-- and so has each free item of the heap
+abbrev pub AreFreeHeads : List TypeRow → HeapView → Type 0
+AreFreeHeads rows h = HaveFreeHeads (word_of h) (heap_items rows h)
+
 -- A range is what is left of a context: a part of the ephemeral segment, of generation 0, whose words are clear.
 pub record IsContext (rows : List TypeRow) (h : HeapView) (r : Piece) : Type 0 where
   pub among : (k : ℕ) → k < length h.segments → (segment_at h k).kind ≡ Ephemeral → Among (parts_of rows h k) (rest_part r.place (piece_end r))
@@ -118,6 +130,7 @@ pub record HasRefilled (rows : List TypeRow) (old new : HeapView) (thread size :
   pub objects : objects_in rows new ≡ objects_in rows old
   pub layout : IsRefilled (layout_in rows old) thread size (layout_in rows new)
   pub cells : KeepsObjects rows old new
+  pub free_heads : AreFreeHeads rows old → AreFreeHeads rows new
   pub limit : new.limit ≡ old.limit
   pub held : IsHeld rows new
 
@@ -126,6 +139,7 @@ pub record HasGivenUp (rows : List TypeRow) (old new : HeapView) : Type 0 where
   pub objects : objects_in rows new ≡ objects_in rows old
   pub layout : layout_in rows new ≡ all_given_up (layout_in rows old)
   pub cells : KeepsObjects rows old new
+  pub free_heads : AreFreeHeads rows old → AreFreeHeads rows new
   pub limit : new.limit ≡ old.limit
   pub held : IsHeld rows new
 

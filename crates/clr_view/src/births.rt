@@ -4,8 +4,9 @@ ghost use Rattle.clr_types.specs.Types.{form_at, size_of};
 ghost use Rattle.clr_heap.specs.Parts.{IsMakeable};
 ghost use Rattle.clr_heap.specs.View.{frame};
 ghost use Rattle.clr_model.specs.Allocation.{context_front, own_fits};
-ghost use Rattle.clr_view.specs.View.{HasNewborn, IsHeld};
+ghost use Rattle.clr_view.specs.View.{AreFreeHeads, HasNewborn, IsHeld};
 ghost use Rattle.clr_view.specs.Births.{with_newborn};
+ghost use Rattle.clr_view.specs.Marks.{IsUnmarked};
 
 use clr_heap::Heap;
 use clr_types::{TypeId, Types};
@@ -14,7 +15,7 @@ use clr_types::{TypeId, Types};
 /// thread, 1 to 16, and answers its place.
 ///
 /// Its references are null and its numbers 0. Of the context the bytes behind the object are left. All other objects, the
-/// free items and the rest of the layout stay.
+/// free items and the rest of the layout stay. It marks nothing, and changes no head of a free item.
 pub fn bear(heap: &mut Heap, types: &Types, thread: usize, t: TypeId, len: u64) -> u64
     requires held { IsHeld types.now heap.old }
     requires positive { 0 < thread }
@@ -25,6 +26,8 @@ pub fn bear(heap: &mut Heap, types: &Types, thread: usize, t: TypeId, len: u64) 
     ensures place { result ≡ context_front (frame heap.old) thread }
     ensures born { HasNewborn types.now heap.old heap.new thread t.0 len }
     ensures words { heap.new ≡ with_newborn types.now heap.old thread t.0 len }
+    ensures unmarked { IsUnmarked types.now heap.old → IsUnmarked types.now heap.new }
+    ensures free_heads { AreFreeHeads types.now heap.old → AreFreeHeads types.now heap.new }
 {
     let _ = heap.segments();
     let size = types.item_size(t, len);

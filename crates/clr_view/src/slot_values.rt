@@ -3,7 +3,8 @@ ghost use Rattle.std.specs.Prelude.{◌≡◌, ℕ, ◌+◌, ◌<◌, ◌≤◌,
 ghost use Rattle.clr_types.specs.Rising.{IsIn};
 ghost use Rattle.clr_types.specs.Types.{form_at, is_bytes};
 ghost use Rattle.clr_heap.specs.View.{heap_items, word_of};
-ghost use Rattle.clr_view.specs.View.{HasStored, IsHeld, object_in, word_value};
+ghost use Rattle.clr_view.specs.View.{AreFreeHeads, HasStored, IsHeld, object_in, word_value};
+ghost use Rattle.clr_view.specs.Marks.{IsUnmarked};
 ghost use Rattle.clr_view.specs.SlotValues.{HasSlot, IsObjectAt, IsSlot, StandsAt, with_value};
 
 use clr_heap::{Heap, Item};
@@ -41,7 +42,7 @@ pub fn slot_value(heap: &Heap, types: &Types, item: &Item, slot: Slot) -> u64
 /// bytes is below 256.
 ///
 /// `slot` is what the table of types says of the slot. All other slots and objects stay, and so do the free items and the
-/// layout.
+/// layout. It marks nothing, and changes no head of a free item.
 pub fn set_slot_value(heap: &mut Heap, types: &Types, item: &Item, slot: Slot, value: u64)
     requires held { IsHeld types.now heap.old }
     requires listed { IsIn item.now (heap_items types.now heap.old) }
@@ -49,6 +50,8 @@ pub fn set_slot_value(heap: &mut Heap, types: &Types, item: &Item, slot: Slot, v
     requires byte { is_bytes (form_at types.now item.now.type_id.0) ≡ true → value < 256 }
     ensures stored { (i : ℕ) → IsSlot types.now item.now i slot → HasStored types.now heap.old heap.new item.now.place i (word_value slot.reference value) }
     ensures words { heap.new ≡ with_value types.now heap.old item.now slot value }
+    ensures unmarked { IsUnmarked types.now heap.old → IsUnmarked types.now heap.new }
+    ensures free_heads { AreFreeHeads types.now heap.old → AreFreeHeads types.now heap.new }
 {
     let _ = heap.segments();
     let address = item.place + slot.offset;

@@ -1,14 +1,15 @@
 // Following the references of one object.
-ghost use Rattle.std.specs.Prelude.{◌≡◌, ◌≢◌, ℕ, ◌+◌, ◌<◌, ◌^◌};
+ghost use Rattle.std.specs.Prelude.{◌≡◌, ◌≢◌, ℕ, ◌+◌, ◌<◌, ◌^◌, [], IfSome, IfNone};
 ghost use Rattle.clr_heap.specs.Memories.{HasWord, memory_index};
 ghost use Rattle.clr_heap.specs.Parts.{item_at};
 ghost use Rattle.clr_heap.specs.View.{HasItem, word_of};
-ghost use Rattle.clr_mark.specs.Marks.{IsClosed, LeadsTo, Marked};
-ghost use Rattle.clr_mark.specs.Markings.{HasGrayed, with_followed, with_following};
+ghost use Rattle.clr_view.specs.Marks.{Marked};
+ghost use Rattle.clr_mark.specs.Marks.{IsClosed, LeadsTo};
+ghost use Rattle.clr_mark.specs.Markings.{HasGrayed, references_at, with_followed, with_following};
 
 use super::Marker;
 use clr_heap::Heap;
-use clr_types::{TypeId, Types};
+use clr_types::{Slots, TypeId, Types};
 
 impl Marker {
     // Marks what the slots of the object at `obj` name.
@@ -19,19 +20,30 @@ impl Marker {
         ensures followed { (y : ℕ) → LeadsTo types.now heap.old self.old.oldest obj y → Marked types.now heap.new y }
     {
         let k = heap.segment_of(obj);
-        let type_id = type_at(heap, types, k, obj);
-        if types.series(type_id).is_empty() {
-            return;
-        }
-        let len = len_at(heap, types, k, obj, type_id);
-        for offset in types.slots(type_id, len) {
+        self.scan_at(heap, types, k, obj);
+    }
+
+    // The same, where the object stands in segment `k`.
+    #[inline]
+    pub(super) fn scan_at(&mut self, heap: &mut Heap, types: &Types, k: usize, obj: u64)
+        requires closed { IsClosed types.now heap.old }
+        requires marked { Marked types.now heap.old obj }
+        requires segment { k ≡ memory_index heap.old.memories obj }
+        ensures grayed { HasGrayed types.now heap.old heap.new self.old self.new }
+        ensures followed { (y : ℕ) → LeadsTo types.now heap.old self.old.oldest obj y → Marked types.now heap.new y }
+    {
+        let offsets = match references(heap, types, k, obj) {
+            Some(offsets) => offsets,
+            None => return,
+        };
+        for offset in offsets {
             self.follow(heap, k, obj + offset);
         }
     }
 
     // Marks the object that the word at `a`, in segment `k`, names.
     #[inline]
-    fn follow(&mut self, heap: &mut Heap, k: usize, a: u64)
+    pub(super) fn follow(&mut self, heap: &mut Heap, k: usize, a: u64)
         requires slot { HasWord heap.old.memories a }
         requires segment { k ≡ memory_index heap.old.memories a }
         requires target { word_of heap.old a ≢ 0 → HasWord heap.old.memories (word_of heap.old a) }
@@ -45,10 +57,27 @@ impl Marker {
     }
 }
 
+// The offsets of the references of the object at `obj`, in segment `k`: `None` where its type has no references.
+#[inline]
+pub(super) fn references<'a>(heap: &Heap, types: &'a Types, k: usize, obj: u64) -> Option<Slots<'a>>
+    requires closed { IsClosed types.now heap.now }
+    requires marked { Marked types.now heap.now obj }
+    requires segment { k ≡ memory_index heap.now.memories obj }
+    ensures none { IfNone result (references_at types.now heap.now obj ≡ []) }
+    ensures some { IfSome result (λ offsets. offsets ≡ references_at types.now heap.now obj) }
+{
+    let type_id = type_at(heap, types, k, obj);
+    if types.series(type_id).is_empty() {
+        return None;
+    }
+    let len = len_at(heap, types, k, obj, type_id);
+    Some(types.slots(type_id, len))
+}
+
 // The type of the item at `a`, in segment `k`.
 #[inline]
 #[tactic(auto, unfolding(clr_heap::specs::Parts::item_at))]
-fn type_at(heap: &Heap, types: &Types, k: usize, a: u64) -> TypeId
+pub(super) fn type_at(heap: &Heap, types: &Types, k: usize, a: u64) -> TypeId
     requires item { HasItem types.now heap.now a }
     requires segment { k ≡ memory_index heap.now.memories a }
     ensures { result ≡ (item_at types.now (word_of heap.now) a).type_id }

@@ -10,6 +10,7 @@ use crate::streams::memory::push_all;
 use crate::streams::pending::Pending;
 use crate::streams::sink::Sink;
 use clr_runtime::{Options, Runtime};
+use clr_script::Line;
 use memchr::memchr;
 use std::alloc::Global;
 
@@ -35,13 +36,14 @@ fn keep(line: &mut Vec<u8>, more: &[u8])
     push_all(line, &more[..count]);
 }
 
-/// A script that runs: its core, the line that is begun, and the replies that wait to be written.
+/// A script that runs: its core, the line that is begun, the replies that wait to be written, and where each is written first.
 #[derive(Drop)]
 pub struct Session {
     alloc: Global,
     runtime: Runtime,
     line: Vec<u8>,
     pending: Pending,
+    reply: Line,
     ghost short: { vec_len line ≤ 4097 },
     ghost room: { 4097 ≤ vec_capacity line },
 }
@@ -68,6 +70,7 @@ impl Session {
             runtime,
             line,
             pending,
+            reply: Line::new(),
         })
     }
 
@@ -97,7 +100,7 @@ impl Session {
         ensures cause { OnErr result (Rose (K.faults sink.old) (K.faults sink.new)) }
     {
         let outcome = self.execute(rest);
-        put_outcome(&mut self.pending, sink, &outcome)
+        put_outcome(&mut self.pending, sink, &outcome, &mut self.reply)
     }
 
     // Answers the lines that the next bytes of the script end, and keeps what is behind them.
@@ -127,7 +130,7 @@ impl Session {
             return Ok(());
         }
         let outcome = self.execute(&[]);
-        put_outcome(&mut self.pending, sink, &outcome)
+        put_outcome(&mut self.pending, sink, &outcome, &mut self.reply)
     }
 
     /// Takes the next bytes of the script, and writes the replies to the lines that they end.
@@ -161,6 +164,7 @@ impl Session {
             runtime,
             line: _,
             pending: _,
+            reply: _,
         } = self;
         runtime
     }

@@ -1,8 +1,8 @@
 //! The edge to std's readers and writers.
 ghost use Rattle.std.specs.Prelude.{◌<◌};
 
-use super::{EMPTY_HEAP, bytes_of, words_of};
-use crate::{Failed, PlainSink, PlainSource, ReadAdapter, Sink, Source, Status, WriteAdapter, run};
+use super::{EMPTY_HEAP, bytes_of, status_of};
+use crate::{Failed, PlainSink, PlainSource, ReadAdapter, Sink, Source, Status, WriteAdapter};
 use std::io::{self, ErrorKind, Read, Write};
 use std::test::Fail;
 
@@ -37,18 +37,9 @@ fn adapts_a_reader(rt: HostRuntime) -> Result<(), Fail> {
     assert_eq!(rt; source.read(&mut into), Ok(0));
     assert_eq!(rt; ReadAdapter::new(Broken).read(&mut into), Err(Failed));
 
-    let words = words_of(rt.alloc(), &["run"])?;
     let mut source = ReadAdapter::new(Broken);
-    assert_eq!(rt;
-        run(
-            rt.alloc(),
-            &words,
-            &mut source,
-            &mut PlainSink::new(),
-            &mut None
-        ),
-        Status::ReadFault
-    );
+    let status = status_of(rt.alloc(), &["run"], &mut source, &mut PlainSink::new())?;
+    assert_eq!(rt; status, Status::ReadFault);
     Ok(())
 }
 
@@ -64,27 +55,21 @@ fn adapts_a_writer(rt: HostRuntime) -> Result<(), Fail> {
     assert_eq!(rt; sink.write(b""), Ok(0));
     assert_eq!(rt; WriteAdapter::new(Broken).write(b"a"), Err(Failed));
 
-    let words = words_of(alloc, &["run"])?;
     let mut source = PlainSource::new(bytes_of(alloc, b"dumpheap\n")?);
     let mut sink = WriteAdapter::new(Broken);
-    assert_eq!(rt;
-        run(alloc, &words, &mut source, &mut sink, &mut None),
-        Status::WriteFault
-    );
+    let status = status_of(alloc, &["run"], &mut source, &mut sink)?;
+    assert_eq!(rt; status, Status::WriteFault);
     Ok(())
 }
 
 #[test]
 fn runs_from_a_reader_to_a_writer(rt: HostRuntime) -> Result<(), Fail> {
     let alloc = rt.alloc();
-    let words = words_of(alloc, &["run"])?;
     let mut text = Vec::new(alloc);
     let mut source = ReadAdapter::new(b"dumpheap\n".as_slice());
     let mut sink = WriteAdapter::new(&mut text);
-    assert_eq!(rt;
-        run(alloc, &words, &mut source, &mut sink, &mut None),
-        Status::Done
-    );
+    let status = status_of(alloc, &["run"], &mut source, &mut sink)?;
+    assert_eq!(rt; status, Status::Done);
     assert_eq!(rt; text.as_slice(), EMPTY_HEAP.as_bytes());
     Ok(())
 }

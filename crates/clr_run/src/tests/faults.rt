@@ -1,11 +1,13 @@
 //! How a command ends otherwise, and what stands written then.
 ghost use Rattle.std.specs.Prelude.{None, ◌<◌};
 
-use super::{EMPTY_HEAP, Trial, bytes_of, outcome_of, words_of};
+use super::{EMPTY_HEAP, Trial, bytes_of, outcome_of, status_of};
 use crate::streams::memory::copy_front;
 use crate::{
-    Failed, MemorySink, MemorySource, PlainSink, PlainSource, SCRIPT_LIMIT, Source, Status, run,
+    Failed, MemorySink, MemorySource, PlainSink, PlainSource, SCRIPT_LIMIT, Source, Status,
 };
+use std::alloc::Global;
+use std::process::Abort;
 use std::test::Fail;
 
 /// Two lines. The second one has no line feed.
@@ -29,9 +31,21 @@ fn gives_each_status_its_code(rt: HostRuntime) {
     }
 }
 
+/// Wants these words to say no command, so that nothing is read or written: the same source and sink then serve a run.
+fn expect_usage(rt: &impl Abort, alloc: Global, texts: &[&str]) -> Result<(), Fail> {
+    let mut source = MemorySource::new(bytes_of(alloc, b"dumpheap\n")?, 7, Vec::new(alloc));
+    let mut sink = MemorySink::new(alloc, 100, 7, Vec::new(alloc))?;
+    let status = status_of(alloc, texts, &mut source, &mut sink)?;
+    assert_eq!(rt; status, Status::Usage);
+    assert!(rt; sink.bytes().is_empty());
+    let status = status_of(alloc, &["run"], &mut source, &mut sink)?;
+    assert_eq!(rt; status, Status::Done);
+    assert_eq!(rt; sink.bytes(), EMPTY_HEAP.as_bytes());
+    Ok(())
+}
+
 #[test]
 fn wants_the_word_run_alone(rt: HostRuntime) -> Result<(), Fail> {
-    let alloc = rt.alloc();
     let wrong: [&[&str]; 10] = [
         &[],
         &[""],
@@ -44,30 +58,18 @@ fn wants_the_word_run_alone(rt: HostRuntime) -> Result<(), Fail> {
         &["run", "7"],
         &["7", "run"],
     ];
-    let mut source = MemorySource::new(bytes_of(alloc, b"dumpheap\n")?, 7, Vec::new(alloc));
-    let mut sink = MemorySink::new(alloc, 100, 7, Vec::new(alloc))?;
     for texts in wrong {
-        let words = words_of(alloc, texts)?;
-        assert_eq!(rt;
-            run(alloc, &words, &mut source, &mut sink, &mut None),
-            Status::Usage
-        );
+        expect_usage(&rt, rt.alloc(), texts)?;
     }
-    assert!(rt; sink.bytes().is_empty());
+    Ok(())
+}
 
-    // nothing was read
-    let words = words_of(alloc, &["run"])?;
-    assert_eq!(rt;
-        run(alloc, &words, &mut source, &mut sink, &mut None),
-        Status::Done
-    );
-    assert_eq!(rt; sink.bytes(), EMPTY_HEAP.as_bytes());
-
+#[test]
+fn runs_without_faults(rt: HostRuntime) -> Result<(), Fail> {
+    let alloc = rt.alloc();
     let mut source = PlainSource::new(bytes_of(alloc, b"dumpheap\n")?);
-    assert_eq!(rt;
-        run(alloc, &words, &mut source, &mut PlainSink::new(), &mut None),
-        Status::Done
-    );
+    let status = status_of(alloc, &["run"], &mut source, &mut PlainSink::new())?;
+    assert_eq!(rt; status, Status::Done);
     Ok(())
 }
 
@@ -157,7 +159,6 @@ impl Source for LineThenBlanks<'_> {
 #[test]
 fn stops_one_byte_past_the_limit(rt: HostRuntime) -> Result<(), Fail> {
     let alloc = rt.alloc();
-    let words = words_of(alloc, &["run"])?;
     for (bytes, want, replies) in [
         (
             SCRIPT_LIMIT,
@@ -172,7 +173,8 @@ fn stops_one_byte_past_the_limit(rt: HostRuntime) -> Result<(), Fail> {
             blanks: bytes - 9,
         };
         let mut sink = MemorySink::new(alloc, 100, 7, Vec::new(alloc))?;
-        assert_eq!(rt; run(alloc, &words, &mut source, &mut sink, &mut None), want);
+        let status = status_of(alloc, &["run"], &mut source, &mut sink)?;
+        assert_eq!(rt; status, want);
         assert_eq!(rt; sink.bytes(), replies.as_bytes());
         assert_eq!(rt; source.blanks, 0);
     }

@@ -88,6 +88,36 @@ fn keeps_contexts_apart(rt: HostRuntime) -> Result<(), Fail> {
 }
 
 #[test]
+fn collects(rt: HostRuntime) -> Result<(), Fail> {
+    let cases = [
+        // two objects that name each other go, and one that names itself stays; the next is born behind it
+        (
+            "type P class rr\nt1 new l0 P\nt1 new l1 P\nt1 new l2 P\nt1 set l0 0 l1\nt1 set l1 0 l0\nt1 set l2 0 l2\nt1 null l0\nt1 null l1\nt1 collect 2 sweeping\ndumpheap\nt1 new l3 P\n",
+            "mt 00007ff000000040\n0000000010001000\n0000000010001020\n0000000010001040\nok\nok\nok\nok\nok\ncollected 2 sweep kept 1 freed 2\n0000000010001000 00007ff000000000 64 Free\n0000000010001040 00007ff000000040 32 P\ntotal 1 bytes 32 free 64\n0000000010001060\n",
+        ),
+        // a free item ends where a generation does: two that lie side by side, and one where both are in generation 1
+        (
+            "type P class rn\nt1 new l0 P\nt1 new l1 P\nt1 collect 2 sweeping\nt1 new l2 P\nt1 new l3 P\nt1 new l4 P\nt1 null l1\nt1 null l2\nt1 collect 2 sweeping\ndumpheap\nt1 null l3\nt1 collect 2 sweeping\ndumpheap\n",
+            "mt 00007ff000000040\n0000000010001000\n0000000010001020\ncollected 2 sweep kept 2 freed 0\n0000000010001040\n0000000010001060\n0000000010001080\nok\nok\ncollected 2 sweep kept 3 freed 2\n0000000010001000 00007ff000000040 32 P\n0000000010001020 00007ff000000000 32 Free\n0000000010001040 00007ff000000000 32 Free\n0000000010001060 00007ff000000040 32 P\n0000000010001080 00007ff000000040 32 P\ntotal 3 bytes 96 free 64\nok\ncollected 2 sweep kept 2 freed 1\n0000000010001000 00007ff000000040 32 P\n0000000010001020 00007ff000000000 32 Free\n0000000010001040 00007ff000000000 64 Free\n0000000010001080 00007ff000000040 32 P\ntotal 2 bytes 64 free 96\n",
+        ),
+        // contexts of two threads are given up, an object is reached from the last local alone, and nothing is left at the end
+        (
+            "type B bytes\nt1 new l0 B 8\nt16 new l63 B 8\nt1 null l0\nt2 collect 2 sweeping\ndumpheap\nt16 null l63\nt2 collect 2 sweeping\ndumpheap\nt1 new l0 B 8\n",
+            "mt 00007ff000000040\n0000000010001000\n0000000010003000\nok\ncollected 2 sweep kept 1 freed 1\n0000000010001000 00007ff000000000 8192 Free\n0000000010003000 00007ff000000040 32 B\ntotal 1 bytes 32 free 8192\nok\ncollected 2 sweep kept 0 freed 1\ntotal 0 bytes 0 free 0\n0000000010001000\n",
+        ),
+        // no other collection is built
+        (
+            "t1 collect 1 sweeping\nt1 collect 2\nt1 collect 2 compacting\nt1 collect 2 sweeping now\nt0 collect 2 sweeping\nt17 collect 2 sweeping\nt1 collect 2 sweeping\n",
+            "refused syntax\nrefused syntax\nrefused syntax\nrefused syntax\nrefused unknown-thread\nrefused unknown-thread\ncollected 2 sweep kept 0 freed 0\n",
+        ),
+    ];
+    for (script, replies) in cases {
+        expect_replies(&rt, rt.alloc(), script.as_bytes(), replies.as_bytes())?;
+    }
+    Ok(())
+}
+
+#[test]
 fn answers_slots_and_locals(rt: HostRuntime) -> Result<(), Fail> {
     let cases = [
         // the first refusal in the order of the checks
@@ -112,7 +142,7 @@ fn answers_slots_and_locals(rt: HostRuntime) -> Result<(), Fail> {
         ),
         // lines that aren't built
         (
-            "t1 collect 2 sweeping\nt1 collect 0\nt1 suspend\nt1 step\nt1 begin set l0 0 l1\nt1 handle weak l0\nt1 suppress l0\nt1 finalizer l0\ngchandles\neeheap -gc\nverifyheap\ndumpheap -stat\ndumpheap -min 0\ndumpheap -max 18446744073709551615\ndumpobj 0000000010001000\ntype F class r final\n",
+            "t1 collect 2 compacting\nt1 collect 0\nt1 suspend\nt1 step\nt1 begin set l0 0 l1\nt1 handle weak l0\nt1 suppress l0\nt1 finalizer l0\ngchandles\neeheap -gc\nverifyheap\ndumpheap -stat\ndumpheap -min 0\ndumpheap -max 18446744073709551615\ndumpobj 0000000010001000\ntype F class r final\n",
             "refused syntax\nrefused syntax\nrefused syntax\nrefused syntax\nrefused syntax\nrefused syntax\nrefused syntax\nrefused syntax\nrefused syntax\nrefused syntax\nrefused syntax\nrefused syntax\nrefused syntax\nrefused syntax\nrefused syntax\nrefused syntax\n",
         ),
     ];

@@ -3,10 +3,10 @@ use Rattle.std.proofs.Common.{◌∙◌, ap, sym, subst, refl, true, false, true
 use Rattle.std.proofs.lemmas.Slice.Eq.{bytes_eq-Decides}
 use Rattle.clr_model.specs.Instructions.{instruction_of}
 use Rattle.clr_model.specs.declared.command.Command.{Command}
-use Rattle.clr_model.specs.declared.command.Command.TheVariants.{Define, New, Get, Set, Put, Read, Copy, Clear}
+use Rattle.clr_model.specs.declared.command.Command.TheVariants.{Define, New, Get, Set, Put, Read, Copy, Clear, Collect}
 use Rattle.clr_script.specs.Readings.{IsReadAs}
-use Rattle.clr_run.proofs.LineSteps.{command_follows, is_listing, listing_follows, options_refused, other_unbuilt, unbuilt_follows}
-use Rattle.clr_run.proofs.execute.obey.Goals.{in_default-via-in-Define+else-not-finalizer, in_default-via-in-DumpHeap+else-eq, in_default-via-in_default}
+use Rattle.clr_run.proofs.LineSteps.{command_follows, full_sweep_is, is_listing, listing_follows, options_refused, other_unbuilt, unbuilt_follows}
+use Rattle.clr_run.proofs.execute.obey.Goals.{in_default-via-in-Collect+else-is_full_sweep, in_default-via-in-Define+else-not-finalizer, in_default-via-in-DumpHeap+else-eq, in_default-via-in_default}
 use Rattle.clr_run.proofs.execute.obey.Goals as goal
 
 pub returns-in-Define-clause-follows : goal.returns-in-Define-clause-follows
@@ -51,6 +51,18 @@ returns-in-Clear-clause-follows c =
     rw c.told_done-in-Clear.ensures.is
     (command_follows c.args.line.now (Clear c.in-Clear.t c.in-Clear.local) c.requires.short (rw c.in-Clear.is at c.requires.read) c.args.runtime.now c.clear.new.self _ refl refl c.clear.ensures)
 
+pub collect-requires-clause-full : goal.collect-requires-clause-full
+collect-requires-clause-full c = (full_sweep_is c.in-Collect.g c.in-Collect.how (sym c.is_full_sweep.ensures ∙ c.if-is_full_sweep.true)).0
+
+pub collect-requires-clause-sweeping : goal.collect-requires-clause-sweeping
+collect-requires-clause-sweeping c = (full_sweep_is c.in-Collect.g c.in-Collect.how (sym c.is_full_sweep.ensures ∙ c.if-is_full_sweep.true)).1
+
+pub returns-in-Collect-clause-follows : goal.returns-in-Collect-clause-follows
+returns-in-Collect-clause-follows c =
+    let d = c.in-Collect in
+    rw c.told_collected.ensures.is
+    (command_follows c.args.line.now (Collect d.t d.g d.how) c.requires.short (rw d.is at c.requires.read) c.args.runtime.now c.collect.new.self _ refl (sym c.is_full_sweep.ensures ∙ c.if-is_full_sweep.true) c.collect.ensures)
+
 pub returns-in-DumpHeap-clause-follows : goal.returns-in-DumpHeap-clause-follows
 returns-in-DumpHeap-clause-follows c = listing_follows c.args.runtime.now c.args.line.now _ ((bytes_eq-Decides c.args.line.now c.as_slice.result.now).0 (sym c.eq.ensures ∙ c.if-eq.true) ∙ c.as_slice.ensures) c.dump.ensures.follows
 
@@ -60,9 +72,12 @@ returns-in_default-clause-follows c =
       | in_default-via-in-Define+else-not-finalizer w ↦
           let d = w.in-Define in
           unbuilt_follows c.args.line.now (Define d.name d.shape true) c.requires.short (subst (λ b. IsReadAs c.args.line.now (Define d.name d.shape b)) w.if-not-finalizer.false (rw d.is at c.requires.read)) c.args.runtime.now refl refl
+      | in_default-via-in-Collect+else-is_full_sweep w ↦
+          let d = w.in-Collect in
+          unbuilt_follows c.args.line.now (Collect d.t d.g d.how) c.requires.short (rw d.is at c.requires.read) c.args.runtime.now refl (sym w.is_full_sweep.ensures ∙ w.if-is_full_sweep.false)
       | in_default-via-in-DumpHeap+else-eq w ↦ options_refused c.args.runtime.now c.args.line.now c.args.command c.requires.short c.requires.read (ap (λ (k : Command). is_listing (instruction_of k)) w.in-DumpHeap.is) (λ e. true≢false (sym ((bytes_eq-Decides c.args.line.now w.as_slice.result.now).1 (e ∙ sym w.as_slice.ensures)) ∙ sym w.eq.ensures ∙ w.if-eq.false))
       | in_default-via-in_default w ↦
           let d = w.in_default in
-          let (other, unbuilt) = other_unbuilt c.args.command d.not-Define d.not-New d.not-Get d.not-Set d.not-Put d.not-Read d.not-Copy d.not-Clear d.not-DumpHeap in
+          let (other, unbuilt) = other_unbuilt c.args.command d.not-Define d.not-New d.not-Get d.not-Set d.not-Put d.not-Read d.not-Copy d.not-Clear d.not-Collect d.not-DumpHeap in
           unbuilt_follows c.args.line.now c.args.command c.requires.short c.requires.read c.args.runtime.now other unbuilt
     ]

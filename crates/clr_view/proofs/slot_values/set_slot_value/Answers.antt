@@ -1,6 +1,6 @@
 use Rattle.std.proofs.Common.{sym, ◌∙◌, arith}
 use Rattle.clr_view.proofs.Listed.{listed-known}
-use Rattle.clr_view.proofs.SlotReads.{byte-stored-there, byte-there, slot-low, word-stored, word-there}
+use Rattle.clr_view.proofs.SlotReads.{byte-heads, byte-stored-there, byte-there, byte-unmarked, slot-low, word-heads, word-stored, word-there, word-unmarked}
 use Rattle.clr_view.proofs.slot_values.set_slot_value.Goals as goal
 
 pub overflow_add-address : goal.overflow_add-address
@@ -31,3 +31,25 @@ pub returns-else-is_byte-clause-stored : goal.returns-else-is_byte-clause-stored
 returns-else-is_byte-clause-stored c =
     word-stored c.args.types.now c.args.heap.now c.args.item.now c.args.slot c.segments.ensures.heap c.requires.held c.requires.listed c.set_word.new.self c.args.value
     (sym c.is_byte.ensures ∙ c.if-is_byte.false) c.set_word.ensures.value
+
+pub returns-then-is_byte-clause-unmarked : goal.returns-then-is_byte-clause-unmarked
+returns-then-is_byte-clause-unmarked c =
+    let bytes = sym c.is_byte.ensures ∙ c.if-is_byte.true in
+    byte-unmarked c.args.types.now c.args.heap.now c.args.item.now c.args.slot c.segments.ensures.heap c.requires.held c.requires.listed c.set_byte.new.self c.args.value
+    bytes (c.requires.byte bytes) c.set_byte.ensures c.requires.slot
+
+pub returns-else-is_byte-clause-unmarked : goal.returns-else-is_byte-clause-unmarked
+returns-else-is_byte-clause-unmarked c =
+    word-unmarked c.args.types.now c.args.heap.now c.args.item.now c.args.slot c.segments.ensures.heap c.requires.held c.requires.listed c.set_word.new.self c.args.value
+    (sym c.is_byte.ensures ∙ c.if-is_byte.false) c.set_word.ensures.value c.requires.slot
+
+pub returns-then-is_byte-clause-free_heads : goal.returns-then-is_byte-clause-free_heads
+returns-then-is_byte-clause-free_heads c =
+    let bytes = sym c.is_byte.ensures ∙ c.if-is_byte.true in
+    byte-heads c.args.types.now c.args.heap.now c.args.item.now c.args.slot c.segments.ensures.heap c.requires.held c.requires.listed c.set_byte.new.self c.args.value
+    bytes (c.requires.byte bytes) c.set_byte.ensures c.requires.slot
+
+pub returns-else-is_byte-clause-free_heads : goal.returns-else-is_byte-clause-free_heads
+returns-else-is_byte-clause-free_heads c =
+    word-heads c.args.types.now c.args.heap.now c.args.item.now c.args.slot c.segments.ensures.heap c.requires.held c.requires.listed c.set_word.new.self c.args.value
+    (sym c.is_byte.ensures ∙ c.if-is_byte.false) c.set_word.ensures.value c.requires.slot

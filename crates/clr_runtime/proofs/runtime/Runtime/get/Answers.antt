@@ -19,7 +19,7 @@ returns-in-Some c =
 pub find_slot-requires-clause-object : goal.find_slot-requires-clause-object
 find_slot-requires-clause-object c =
     let r = c.self.inside in
-    local-stands r.types r.heap (seen r) refl c.self.invariant.shown.stood c.args.t c.args.from c.index-place.result.now
+    local-stands r.types r.heap (seen r) refl c.self.invariant.shown.sound c.args.t c.args.from c.index-place.result.now
     (local-read (seen r) c.args.t c.args.from c.index_of.result c.index-place.result.now c.self.invariant.shown.locals c.index_of.ensures.within c.index_of.ensures.index c.index-place.ensures)
 
 pub returns-in-Err : goal.returns-in-Err

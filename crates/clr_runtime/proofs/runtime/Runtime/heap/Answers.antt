@@ -1,5 +1,5 @@
--- Some state is stood for.
+-- What is seen is sound.
 use Rattle.clr_runtime.proofs.runtime.Runtime.heap.Goals as goal
 
-pub returns-clause-stood : goal.returns-clause-stood
-returns-clause-stood c = rw (← c.self.view_is) c.self.invariant.shown.stood
+pub returns-clause-sound : goal.returns-clause-sound
+returns-clause-sound c = rw (← c.self.view_is) c.self.invariant.shown.sound

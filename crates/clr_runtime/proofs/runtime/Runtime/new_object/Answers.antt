@@ -13,7 +13,7 @@ returns-in-Err c =
     rw (← c.self.view_is) (measured_follows r.types r.heap r.locals.items (sums_of r.sums) (options_of r.options) refl c.args.t c.args.local c.args.name.now c.args.len c.in-Err.refusal c.in-Err.ensures)
 
 pub make_room-requires-clause-young : goal.make_room-requires-clause-young
-make_room-requires-clause-young c = let r = c.self.inside in tail_young r.types r.heap r.locals.items (sums_of r.sums) (options_of r.options) c.self.invariant.shown.stood
+make_room-requires-clause-young c = let r = c.self.inside in tail_young r.types r.heap r.locals.items (sums_of r.sums) (options_of r.options) c.self.invariant.shown.sound
 
 pub returns-then-not-make_room : goal.returns-then-not-make_room
 returns-then-not-make_room c =
@@ -41,7 +41,7 @@ bear-place-requires-clause-room c =
     let r = c.self.inside in
     let made = c.in-Ok.measured in
     rw c.unwrap_or.ensures
-    (room_fits r.types r.heap r.locals.items (sums_of r.sums) (options_of r.options) c.args.t c.args.local c.args.name.now c.args.len made.0.0 made.1 refl c.in-Ok.ensures c.self.invariant.shown.plain c.self.invariant.shown.stood c.make_room.new.heap
+    (room_fits r.types r.heap r.locals.items (sums_of r.sums) (options_of r.options) c.args.t c.args.local c.args.name.now c.args.len made.0.0 made.1 refl c.in-Ok.ensures c.self.invariant.shown.plain c.self.invariant.shown.sound c.make_room.new.heap
     c.if-not-make_room.ensures.room)
 
 pub overflow_add-self : goal.overflow_add-self
@@ -58,7 +58,7 @@ invariant_of-self-2 c =
     record {
       shown =
           birth_kept r.types r.heap r.locals.items (sums_of r.sums) (options_of r.options) c.args.t c.args.local c.args.name.now c.args.len made.0.0 made.1 refl c.in-Ok.ensures c.self.invariant.shown.plain c.make_room.new.heap c.bear-place.new.heap c.bear-place.result c.index_of.result newborn
-          c.bear-place.ensures.place c.index_of.ensures.index c.self.invariant.shown c.if-not-make_room.ensures.room;
+          c.bear-place.ensures.place c.index_of.ensures.index c.segments.ensures.heap c.bear-place.ensures.unmarked c.bear-place.ensures.free_heads c.self.invariant.shown c.if-not-make_room.ensures.room;
       index = born_index r.types c.make_room.new.heap c.bear-place.new.heap c.args.t made.0.0 (unwrap_or c.args.len 0) c.make_room.new.contexts newborn c.make_room.ensures.index;
       limit = birth_limit r.types r.heap c.make_room.new.heap c.bear-place.new.heap c.args.t made.0.0 (unwrap_or c.args.len 0) made.1 c.if-not-make_room.ensures.room (rw c.unwrap_or.ensures at c.bear-place.ensures.words) ∙ c.self.invariant.limit;
     }

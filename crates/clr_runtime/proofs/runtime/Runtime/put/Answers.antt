@@ -22,7 +22,7 @@ returns-in-Some c =
 pub find_slot-requires-clause-object : goal.find_slot-requires-clause-object
 find_slot-requires-clause-object c =
     let r = c.self.inside in
-    local-stands r.types r.heap (seen r) refl c.self.invariant.shown.stood c.args.t c.args.into c.index-place.result.now
+    local-stands r.types r.heap (seen r) refl c.self.invariant.shown.sound c.args.t c.args.into c.index-place.result.now
     (local-read (seen r) c.args.t c.args.into c.index_of.result c.index-place.result.now c.self.invariant.shown.locals c.index_of.ensures.within c.index_of.ensures.index c.index-place.ensures)
 
 pub returns-in-Err : goal.returns-in-Err
@@ -39,7 +39,7 @@ invariant_of-self c =
     let stored = c.set_slot_value.ensures.stored c.args.index has.slot in
     record {
       shown =
-          store_kept r.types r.heap r.locals.items (sums_of r.sums) (options_of r.options) c.self.invariant.shown _ (answered Done) c.set_slot_value.new.heap c.in-Ok.found.item.place c.args.index (word_value c.in-Ok.found.slot.reference c.narrowed-number.result) stored
+          store_kept r.types r.heap r.locals.items (sums_of r.sums) (options_of r.options) c.self.invariant.shown _ (answered Done) c.set_slot_value.new.heap c.in-Ok.found.item.place c.args.index (word_value c.in-Ok.found.slot.reference c.narrowed-number.result) stored c.set_slot_value.ensures.unmarked c.set_slot_value.ensures.free_heads
           (was_put r.types r.heap c.set_slot_value.new.heap r.locals.items (sums_of r.sums) (options_of r.options) c.args.t c.index-place.result.now c.args.index c.in-Ok.found.item c.in-Ok.found.slot has c.args.into c.args.value c.narrowed-number.result c.ranges.value.fits (sym c.lacks_names.ensures.value ∙ c.in_default.is)
           (local-read (seen r) c.args.t c.args.into c.index_of.result c.index-place.result.now c.self.invariant.shown.locals c.index_of.ensures.within c.index_of.ensures.index c.index-place.ensures) c.narrowed-number.ensures kind stored);
       index = same_index r.types r.types r.heap c.set_slot_value.new.heap r.contexts stored.layout c.self.invariant.index;

@@ -24,7 +24,7 @@ returns-in-Some c =
 pub find_slot-requires-clause-object : goal.find_slot-requires-clause-object
 find_slot-requires-clause-object c =
     let r = c.self.inside in
-    local-stands r.types r.heap (seen r) refl c.self.invariant.shown.stood c.args.t c.args.into c.index-place.result.now
+    local-stands r.types r.heap (seen r) refl c.self.invariant.shown.sound c.args.t c.args.into c.index-place.result.now
     (local-read (seen r) c.args.t c.args.into c.index_of.result c.index-place.result.now c.self.invariant.shown.locals c.index_of.ensures.within c.index_of.ensures.index c.index-place.ensures)
 
 pub returns-in-Err : goal.returns-in-Err
@@ -46,7 +46,7 @@ invariant_of-self c =
     let stored = c.set_slot_value.ensures.stored c.args.index has.slot in
     record {
       shown =
-          store_kept r.types r.heap r.locals.items (sums_of r.sums) (options_of r.options) c.self.invariant.shown _ (answered Done) c.set_slot_value.new.heap c.in-Ok.found.item.place c.args.index (word_value c.in-Ok.found.slot.reference c.index-name.result.now) stored
+          store_kept r.types r.heap r.locals.items (sums_of r.sums) (options_of r.options) c.self.invariant.shown _ (answered Done) c.set_slot_value.new.heap c.in-Ok.found.item.place c.args.index (word_value c.in-Ok.found.slot.reference c.index-name.result.now) stored c.set_slot_value.ensures.unmarked c.set_slot_value.ensures.free_heads
           (was_set r.types r.heap c.set_slot_value.new.heap r.locals.items (sums_of r.sums) (options_of r.options) c.args.t c.index-place.result.now c.args.index c.in-Ok.found.item c.in-Ok.found.slot has c.args.into c.args.from c.index-name.result.now (sym c.lacks_names.ensures.value ∙ c.in_default.is)
           (local-read (seen r) c.args.t c.args.into c.index_of.result c.index-place.result.now c.self.invariant.shown.locals c.index_of.ensures.within c.index_of.ensures.index c.index-place.ensures)
           (local-read (seen r) c.args.t c.args.from c.index_of-2.result c.index-name.result.now c.self.invariant.shown.locals c.index_of-2.ensures.within c.index_of-2.ensures.index c.index-name.ensures) kind stored);

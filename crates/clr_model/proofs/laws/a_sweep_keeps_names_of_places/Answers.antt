@@ -1,0 +1,6 @@
+-- No object moves.
+use Rattle.clr_model.proofs.CollectFollows.{after_sweep_is_sound}
+use Rattle.clr_model.proofs.laws.a_sweep_keeps_names_of_places.Goals as goal
+
+pub returns : goal.returns
+returns c = λ m answer new named idle collected. after_sweep_is_sound m named idle answer new collected

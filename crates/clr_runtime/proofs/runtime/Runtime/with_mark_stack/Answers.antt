@@ -1,0 +1,19 @@
+-- A new runtime shows the opening state.
+use Rattle.std.proofs.Common.{List, Option, ap, subst, sym}
+use Rattle.clr_types.specs.Ranges.{Piece}
+use Rattle.clr_heap.specs.View.{HeapView}
+use Rattle.clr_ctx.specs.Contexts.{IsIndex}
+use Rattle.clr_runtime.specs.Options.{options_of}
+use Rattle.clr_runtime.proofs.IndexKept.{first_index}
+use Rattle.clr_runtime.proofs.Opened.{new_shown, new_stands}
+use Rattle.clr_runtime.proofs.runtime.Runtime.with_mark_stack.Goals as goal
+
+pub returns : goal.returns
+returns c = new_stands c.in-Ok-Ok-Ok-Ok.types c.in-Ok-Ok-Ok-Ok.heap c.in-Ok-Ok-Ok-Ok.locals.items (options_of c.args.options) _ c.requires.lawful c.in-Ok-Ok-Ok-Ok.ensures c.in-Ok-Ok-Ok-Ok.ensures' c.in-Ok-Ok-Ok-Ok.ensures'''
+
+pub invariant_of-result : goal.invariant_of-result
+invariant_of-result c = record {
+  shown = new_shown c.in-Ok-Ok-Ok-Ok.types c.in-Ok-Ok-Ok-Ok.heap c.in-Ok-Ok-Ok-Ok.locals.items (options_of c.args.options) _ c.requires.lawful c.in-Ok-Ok-Ok-Ok.ensures c.in-Ok-Ok-Ok-Ok.ensures' c.in-Ok-Ok-Ok-Ok.ensures''';
+  index = subst (λ (i : Option (List Piece)). IsIndex c.in-Ok-Ok-Ok-Ok.types c.in-Ok-Ok-Ok-Ok.heap i) (sym c.new-4.ensures) (first_index c.in-Ok-Ok-Ok-Ok.types c.in-Ok-Ok-Ok-Ok.heap c.args.options.segment _ c.requires.lawful.segment_aligned c.in-Ok-Ok-Ok-Ok.ensures c.in-Ok-Ok-Ok-Ok.ensures');
+  limit = ap (λ (h : HeapView). h.limit) c.in-Ok-Ok-Ok-Ok.ensures';
+}

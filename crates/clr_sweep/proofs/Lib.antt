@@ -1,0 +1,14 @@
+pub mod Rules
+pub mod FreeHeads
+pub mod Filling
+pub mod Tallies
+pub mod Passing
+pub mod PassEnds
+pub mod Agreeing
+pub mod AllSegments
+pub mod SectionsSwept
+pub mod ObjectsSwept
+pub mod SurvivorsSwept
+pub mod LayoutSwept
+pub mod TallySwept
+pub mod WholeSwept

@@ -2,7 +2,7 @@
 use Rattle.std.proofs.Common.{◌≡◌, ◌≢◌, inl, inr, ℕ, zero, suc, ◌+◌, ◌*◌, ◌%◌, ◌<◌, ◌≤◌, true, false, cond, ◌&&◌, List, [], ◌∷◌, length, get_or, set, refl, ap, sym, ◌∙◌, arith, length-set, get_or-set_same, get_or-set_other, ltb, leb}
 use Rattle.std.proofs.lemmas.Bool.{leb-true, ltb-true, and_parts, and_from, le-leb, lt-ltb, cases_Bool}
 use Rattle.std.proofs.Common.{drop}
-use Rattle.std.proofs.lemmas.List.{drop_more, length-map}
+use Rattle.std.proofs.lemmas.List.{drop_more, length-map, set-get_or}
 use Rattle.clr_mem.specs.Words.{Memory, place_of, word_at, end_of}
 use Rattle.clr_heap.specs.Memories.{contains, with_word, memory_index, word_in, store_in, HasWord, shape_of, shapes}
 
@@ -29,6 +29,14 @@ word_in-store_in_same (m ∷ ms) a v h = elim (cases_Bool (contains m a)) [
   | inr other ↦
       let rest : memory_index ms a < length ms = let k = rw other at h in omega (arith, k) in
       rw other (rw other (word_in-store_in_same ms a v rest))
+]
+
+-- writing the word that stands there changes nothing
+pub store_in-same : (ms : List Memory) (a : ℕ) → store_in ms a (word_in ms a) ≡ ms
+store_in-same [] a = refl
+store_in-same (m ∷ ms) a = elim (cases_Bool (contains m a)) [
+  | inl here ↦ rw here (ap (λ (ws : List ℕ). (let n : Memory = record { base = m.base; words = ws } in n) ∷ ms) (set-get_or m.words (place_of m a) 0))
+  | inr other ↦ rw other (ap (λ (ns : List Memory). m ∷ ns) (store_in-same ms a))
 ]
 
 -- every other word

@@ -1,13 +1,12 @@
 -- Parts that give way to others: a rest that becomes a free item, and a free item of which a context takes the front.
-use Rattle.std.proofs.Common.{◌≡◌, ◌≢◌, ◌⊎◌, inl, inr, ℕ, zero, suc, ◌+◌, ◌-◌, ◌%◌, ◌<◌, ◌≤◌, List, [], ◌∷◌, ◌++◌, length, get_or, set, refl, ap, sym, ◌∙◌, subst, subst₂, arith, Option, None, Some, if◌then◌else◌, ◌==◌}
+use Rattle.std.proofs.Common.{◌≡◌, ◌≢◌, ◌⊎◌, inl, inr, ℕ, zero, suc, ◌+◌, ◌-◌, ◌%◌, ◌<◌, ◌≤◌, List, [], ◌∷◌, ◌++◌, length, get_or, set, refl, ap, sym, ◌∙◌, subst, arith, Option, None, Some, if◌then◌else◌, ◌==◌}
 use Rattle.std.proofs.lemmas.Bool.{cases_eq, eq-eqb, ne_eqb}
 use Rattle.clr_mem.specs.Words.{Memory}
 use Rattle.clr_types.specs.Types.{TypeRow, form_at, mt_of, size_of}
 use Rattle.clr_types.specs.Ranges.{Piece, piece_end}
-use Rattle.clr_types.specs.declared.item.Item.{Item}
 use Rattle.clr_types.specs.declared.segment.SegKind.TheVariants.{Ephemeral}
 use Rattle.clr_heap.specs.Memories.{shapes, word_in}
-use Rattle.clr_heap.specs.Parts.{Among, free_item, hole_from, item_part, made_item, Part, part_end, rest_part, Sight, Spells, start_of}
+use Rattle.clr_heap.specs.Parts.{Among, free_item, hole_from, item_part, Part, part_end, rest_part, Sight, Spells, start_of}
 use Rattle.clr_heap.specs.View.{first_of, HeapView, holes_of, IsWalkable, last_of, PartsAre, segment_at, sight, word_of}
 use Rattle.clr_heap.proofs.Holes.{hole_from-set_here, hole_from-set_none, hole_from-set_other, holes_young, StartsAt}
 use Rattle.clr_heap.proofs.Placing.{free_makeable}

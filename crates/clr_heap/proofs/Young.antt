@@ -1,7 +1,7 @@
 -- The number of the ephemeral segment, by its first place.
-use Rattle.std.proofs.Common.{◌≡◌, ℕ, suc, ◌+◌, ◌%◌, ◌<◌, ◌≤◌, List, [], ◌∷◌, length, get_or, refl, ap, sym, ◌∙◌, subst, arith, inl, inr}
+use Rattle.std.proofs.Common.{◌≡◌, ℕ, suc, ◌+◌, ◌<◌, List, [], ◌∷◌, length, get_or, refl, ap, sym, ◌∙◌, arith, inl, inr}
 use Rattle.std.proofs.lemmas.Bool.{cases_Bool}
-use Rattle.clr_types.specs.Segments.{empty_segment, ephemeral, first_place, reserved_end, same_kind, segment_or_empty}
+use Rattle.clr_types.specs.Segments.{empty_segment, ephemeral, first_place, same_kind, segment_or_empty}
 use Rattle.clr_types.specs.declared.segment.SegInfo.{SegInfo}
 use Rattle.clr_types.specs.declared.segment.SegKind.TheVariants.{Ephemeral}
 use Rattle.clr_heap.specs.Memories.{HasWord, memory_index}

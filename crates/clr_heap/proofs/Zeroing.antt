@@ -1,7 +1,7 @@
 -- Words that are cleared within a memory.
 use Rattle.std.proofs.Common.{◌≡◌, ◌⊎◌, inl, inr, ℕ, ◌+◌, ◌*◌, ◌%◌, ◌<◌, ◌≤◌, true, false, leb, ltb, List, length, get_or, set, ap, sym, ◌∙◌, arith, length-set}
 use Rattle.std.proofs.lemmas.Bool.{cases_eq, cases_lt, le-leb, lt-leb, lt-ltb, le-ltb}
-use Rattle.clr_mem.specs.Words.{cleared, Holds, Memory, end_of, word_at}
+use Rattle.clr_mem.specs.Words.{cleared, Holds, Memory, word_at}
 use Rattle.clr_mem.proofs.Callers.{length-cleared, word_at-cleared_inside, word_at-cleared_outside}
 use Rattle.clr_heap.specs.Memories.{clears, contains, IsApart, memory_index, shape_of, shapes, word_in}
 use Rattle.clr_heap.proofs.Storing.{contains_bounds, contains_from, contains_at_index, get_memory}

@@ -6,6 +6,8 @@ pub mod Counting
 pub mod Graying
 pub mod Laws
 pub mod Following
+pub mod RunReferences
+pub mod Meeting
 pub mod Gathering
 pub mod Visiting
 pub mod Rescanning

@@ -1,7 +1,7 @@
 // The marker: a stack of objects to follow, and the range of those that had no room on it.
-ghost use Rattle.std.specs.Prelude.{◌≡◌, ◌≢◌, ℕ, ◌+◌, ◌/◌, ◌%◌, ◌≤◌, ◌^◌, ◌↔◌, ◌⊎◌, Bool, true, false, [], ◌∷◌, ◌++◌, length, nat_le, IfOk, None};
+ghost use Rattle.std.specs.Prelude.{◌≡◌, ◌≢◌, ℕ, ◌+◌, ◌/◌, ◌%◌, ◌<◌, ◌≤◌, ◌^◌, ◌↔◌, ◌⊎◌, Bool, true, false, [], ◌∷◌, ◌++◌, length, nat_le, IfOk, None};
 ghost use Rattle.clr_types.specs.Rising.{IsIn};
-ghost use Rattle.clr_heap.specs.Memories.{HasWord};
+ghost use Rattle.clr_heap.specs.Memories.{HasWord, memory_index};
 ghost use Rattle.clr_heap.specs.View.{word_of};
 ghost use Rattle.clr_model.specs.Reach.{Reach};
 ghost use Rattle.clr_view.specs.SlotValues.{StandsAt};
@@ -18,8 +18,10 @@ use std::alloc::Global;
 use std::marker::Model;
 
 mod batch;
+mod gather;
 mod rescan;
 mod scan;
+mod targets;
 mod unmark;
 mod wide;
 
@@ -95,7 +97,8 @@ impl Marker {
         ensures marked { (x : ℕ) → Marked types.now heap.new x ↔ (((x ≡ obj) × (marks.is_condemned heap.old self.old.oldest obj ≡ true)) ⊎ Marked types.now heap.old x) }
     {
         let _ = types.count();
-        self.mark(heap, obj);
+        let k = heap.segment_of(obj);
+        self.mark(heap, k, obj);
     }
 
     /// Marks what the marked objects reach over condemned ones. Nothing waits then.
@@ -126,21 +129,56 @@ impl Marker {
         }
     }
 
-    // Marks the object at `obj`, where it is condemned, and lets it wait where it wasn't marked.
+    // Marks the object at `obj`, in segment `k`, where it is condemned, and lets it wait where it wasn't marked.
     #[inline]
-    fn mark(&mut self, heap: &mut Heap, obj: u64)
-        requires { HasWord heap.old.memories obj }
+    fn mark(&mut self, heap: &mut Heap, k: usize, obj: u64)
+        requires word { HasWord heap.old.memories obj }
+        requires segment { k ≡ memory_index heap.old.memories obj }
         ensures heap { heap.new ≡ with_mark heap.old self.old.oldest obj }
         ensures marker { self.new ≡ with_waiting heap.old self.old obj }
     {
         if !self.is_condemned(heap, obj) {
             return;
         }
-        let k = heap.segment_of(obj);
+        if self.stack.len() < self.stack.capacity() {
+            self.mark_with_room(heap, k, obj);
+        } else {
+            self.mark_without_room(heap, k, obj);
+        }
+    }
+
+    // The same for a condemned object, where the stack has room. It decides nothing: often whether an object is marked already
+    // can't be foreseen.
+    #[inline]
+    fn mark_with_room(&mut self, heap: &mut Heap, k: usize, obj: u64)
+        requires word { HasWord heap.old.memories obj }
+        requires segment { k ≡ memory_index heap.old.memories obj }
+        requires condemned { marks.is_condemned heap.old self.old.oldest obj ≡ true }
+        requires room { length self.old.stack < self.old.capacity }
+        ensures heap { heap.new ≡ with_mark heap.old self.old.oldest obj }
+        ensures marker { self.new ≡ with_waiting heap.old self.old obj }
+    {
+        let word = heap.word_at(k, obj);
+        let new = 1 - word % 2;
+        heap.set_word_at(k, obj, word + new);
+        let height = self.stack.len() + new as usize;
+        self.stack.push_reserved(obj);
+        self.stack.truncate(height);
+    }
+
+    // The same, where it has none.
+    fn mark_without_room(&mut self, heap: &mut Heap, k: usize, obj: u64)
+        requires word { HasWord heap.old.memories obj }
+        requires segment { k ≡ memory_index heap.old.memories obj }
+        requires condemned { marks.is_condemned heap.old self.old.oldest obj ≡ true }
+        requires full { self.old.capacity ≤ length self.old.stack }
+        ensures heap { heap.new ≡ with_mark heap.old self.old.oldest obj }
+        ensures marker { self.new ≡ with_waiting heap.old self.old obj }
+    {
         let word = heap.word_at(k, obj);
         if word % 2 != 1 {
             heap.set_word_at(k, obj, word + 1);
-            self.push(obj);
+            self.widen(obj);
         }
     }
 

@@ -10,6 +10,7 @@ pub mod Offsets
 pub mod SlotKinds
 pub mod CursorSteps
 pub mod SlotsByForm
+pub mod ReferenceRuns
 pub mod GrownTables
 pub mod ChangedLists
 pub mod SegmentFacts

@@ -1,11 +1,10 @@
 -- Tilings that are cut, shifted, refined and put together again.
-use Rattle.std.proofs.Common.{◌≡◌, ℕ, ◌+◌, ◌-◌, ◌<◌, ◌≤◌, ◌⊎◌, inl, inr, List, [], ◌∷◌, ◌++◌, map, refl, sym, ap, subst, ◌∙◌, arith, Bool, true, false, if◌then◌else◌, filter, nat_le, nat_lt}
-use Rattle.std.proofs.lemmas.Bool.{ltb-true, ltb-false, leb-true, leb-false, lt-ltb, le-ltb, le-leb, lt-leb, cases_lt}
+use Rattle.std.proofs.Common.{◌≡◌, ℕ, ◌+◌, ◌-◌, ◌<◌, ◌≤◌, ◌⊎◌, inl, inr, List, [], ◌∷◌, ◌++◌, map, refl, sym, ap, subst, ◌∙◌, arith, if◌then◌else◌, filter, nat_lt}
+use Rattle.std.proofs.lemmas.Bool.{ltb-true, lt-ltb, le-ltb, cases_lt}
 use Rattle.std.specs.List.{AllByRecursion}
 use Rattle.clr_types.specs.Rising.{IsIn, first, later, IsRisingBy}
-use Rattle.clr_types.specs.Ranges.{Piece, piece_end, IsLawfulSize, Tiles}
+use Rattle.clr_types.specs.Ranges.{Piece, piece_end, Tiles}
 use Rattle.clr_types.specs.LawfulLayout.{DoesNotCross}
-use Rattle.clr_types.proofs.RisingLists.{in_cons, all_at}
 use Rattle.clr_types.proofs.SortedLists.{rising_agree_by}
 use Rattle.clr_types.proofs.ChangedLists.{all_imply, append_left, into_filter, out_of_filter}
 use Rattle.clr_types.proofs.ListMembers.{in_append, append_right}

@@ -8,4 +8,5 @@ pub mod Table
 pub mod Kept
 pub mod MethodTables
 pub mod Descriptors
+pub mod ReferenceRuns
 pub mod Cursors

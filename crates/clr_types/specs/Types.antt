@@ -1,6 +1,6 @@
 -- Types: a name, a form and whether there is a finaliser; sizes, slots and method table words.
 use Rattle.std.specs.Prelude.{ℕ, ◌+◌, ◌*◌, max, List, [], ◌∷◌, map, length, replicate, if◌then◌else◌, ◌==◌, nat_le, Bool, true, false, ◌&&◌, ◌||◌, Option, Some, None, slice_get, codes, suc, zero, bytes_eq}
-use Rattle.std.specs.List.{repeat, list_all, list_any}
+use Rattle.std.specs.List.{repeat, list_all}
 use Rattle.clr_types.specs.Ranges.{rounded_up}
 use Rattle.clr_types.specs.declared.shape.Shape.{Shape}
 use Rattle.clr_types.specs.declared.shape.Shape.TheVariants.{Class, RefArray, ByteArray, StructArray}

@@ -1,10 +1,13 @@
 //! The references of a type as runs of slots.
 
-ghost use Rattle.std.specs.Prelude.{◌≡◌, ◌+◌, ◌*◌, ◌≤◌, ◌++◌, map, length, true, IfOk};
+ghost use Rattle.std.specs.Prelude.{◌≡◌, ◌+◌, ◌*◌, ◌≤◌, ◌++◌, map, length, Bool, true, IfOk};
 ghost use Rattle.clr_types.specs.Types.{form_of, is_lawful_form, is_reference};
+ghost use Rattle.clr_types.specs.Table.{base_size};
+ghost use Rattle.clr_types.specs.ReferenceRuns as runs;
 ghost use Rattle.clr_types.specs.Descriptors.{runs_of, series_of_run};
 ghost use Rattle.clr_types.specs.Descriptors as spec;
 
+use crate::slots::run_slots;
 use crate::{NoMemory, Shape};
 use smallvec::SmallVec;
 use std::alloc::Global;
@@ -17,6 +20,32 @@ use std::alloc::Global;
 pub struct Series {
     pub start: u64,
     pub run_less_size: i64,
+}
+
+/// References one behind the other in an object: the offset of the first from the place, in bytes, and how many there are.
+#[derive(Clone, Copy, Debug, PartialEq, Eq)]
+pub struct ReferenceRun {
+    pub offset: u64,
+    pub count: u64,
+}
+
+/// The run of a class whose references are one run. Other classes and arrays have none.
+pub(crate) fn class_run(shape: Shape<'_>, series: &[Series], size: u64) -> Option<ReferenceRun>
+    requires lawful { (finalizer : Bool) × (is_lawful_form (form_of shape) finalizer ≡ true) }
+    requires series { series.now ≡ spec.series_of (form_of shape) }
+    requires size { size ≡ base_size (form_of shape) }
+    ensures { result ≡ runs.class_run (form_of shape.entry) }
+{
+    match shape {
+        Shape::Class(_) => match series {
+            [run] => Some(ReferenceRun {
+                offset: run.start,
+                count: run_slots(*run, size),
+            }),
+            _ => None,
+        },
+        Shape::RefArray | Shape::ByteArray | Shape::StructArray(_) => None,
+    }
 }
 
 /// The series of a shape, by rising offset.

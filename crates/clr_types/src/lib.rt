@@ -15,7 +15,7 @@ pub mod shape;
 pub mod slots;
 pub mod table;
 
-pub use descriptors::Series;
+pub use descriptors::{ReferenceRun, Series};
 pub use fault::{DefineFault, NoMemory};
 pub use item::Item;
 pub use segment::{SegInfo, SegKind};

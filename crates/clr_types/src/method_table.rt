@@ -7,9 +7,10 @@ ghost use Rattle.clr_types.specs.Types as types;
 ghost use Rattle.clr_types.specs.Table as table;
 ghost use Rattle.clr_types.specs.Descriptors as descriptors;
 ghost use Rattle.clr_types.specs.Kept.{form_of_pattern};
+ghost use Rattle.clr_types.specs.ReferenceRuns as runs;
 
-use crate::descriptors::series_of;
-use crate::{NoMemory, Series, Shape, Slot, Slots};
+use crate::descriptors::{class_run, series_of};
+use crate::{NoMemory, ReferenceRun, Series, Shape, Slot, Slots};
 use smallvec::SmallVec;
 use std::alloc::Global;
 use std::marker::Model;
@@ -26,8 +27,8 @@ enum Pattern {
     StructArray(Vec<u8>),
 }
 
-/// What is kept of a type: its shape, whether it has a finaliser, and the sizes in bytes of its objects without their elements
-/// and of one element, which is 0 where there are no elements.
+/// What is kept of a type: its shape, whether it has a finaliser, the sizes in bytes of its objects without their elements
+/// and of one element, which is 0 where there are no elements, its series, and the run of a class whose references are one run.
 #[derive(Drop)]
 pub(crate) struct MethodTable {
     pattern: Pattern,
@@ -35,6 +36,7 @@ pub(crate) struct MethodTable {
     base_size: u64,
     element_size: u64,
     series: SmallVec<Series, 4>,
+    run: Option<ReferenceRun>,
 }
 
 impl Model for MethodTable {
@@ -61,6 +63,7 @@ impl MethodTable {
             base_size: 24,
             element_size: 1,
             series: SmallVec::new(alloc),
+            run: None,
         }
     }
 
@@ -76,6 +79,7 @@ impl MethodTable {
         let base_size = base_size(shape, finalizer);
         let element_size = element_size(shape, finalizer);
         let series = series_of(alloc, shape, finalizer)?;
+        let run = class_run(shape, series.as_slice(), base_size);
         let pattern = owned(alloc, shape)?;
         Ok(MethodTable {
             pattern,
@@ -83,6 +87,7 @@ impl MethodTable {
             base_size,
             element_size,
             series,
+            run,
         })
     }
 
@@ -117,6 +122,25 @@ impl MethodTable {
         ensures { result.now ≡ descriptors.series_of self.now.form }
     {
         self.series.as_slice()
+    }
+
+    /// The run of the references of an object of `len` elements, where they are one run: those of many classes, and of an array of
+    /// references.
+    #[inline]
+    pub(crate) fn reference_run(&self, len: u64) -> Option<ReferenceRun>
+        ensures { result ≡ runs.single_run self.now.form len }
+    {
+        if !self.has_length() {
+            return self.run;
+        }
+        if let Pattern::RefArray = &self.pattern {
+            Some(ReferenceRun {
+                offset: 16,
+                count: len,
+            })
+        } else {
+            None
+        }
     }
 
     /// How many slots an object of `len` elements has.

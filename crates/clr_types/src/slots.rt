@@ -162,8 +162,9 @@ fn at_next_element(cursor: Cursor<'_>) -> Option<Cursor<'_>>
     })
 }
 
-// The slots of a run.
-fn run_slots(run: Series, size: u64) -> u64
+/// The slots of a run, in objects of `size` bytes.
+#[inline]
+pub(crate) fn run_slots(run: Series, size: u64) -> u64
     requires { IsInRange size run }
     ensures { result ≡ run_bytes run.run_less_size size / 8 }
 {

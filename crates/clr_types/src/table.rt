@@ -1,15 +1,16 @@
 //! The table of types.
 
-ghost use Rattle.std.specs.Prelude.{◌≡◌, ◌≢◌, ℕ, ◌+◌, ◌<◌, ◌≤◌, ◌↔◌, [], ◌∷◌, ◌++◌, length, slice_get, true, false, Some, None, IsSome, IfOk, OnOk, OnErr, SomeIff, MatchOption, option_map, ◌-◌, ◌/◌};
+ghost use Rattle.std.specs.Prelude.{◌≡◌, ◌≢◌, ℕ, ◌+◌, ◌<◌, ◌≤◌, ◌↔◌, [], ◌∷◌, ◌++◌, length, slice_get, true, false, Some, None, IsSome, IfSome, IfOk, OnOk, OnErr, SomeIff, MatchOption, option_map, ◌-◌, ◌/◌};
 ghost use Rattle.std.specs.List.{AllByRecursion};
 ghost use Rattle.clr_types.specs.Types.{form_of, form_at, is_array, is_lawful_form, mt_of, name_of, number_with_free, slot_kinds, slot_offset, slots_of, type_row};
 ghost use Rattle.clr_types.specs.Types as types;
 ghost use Rattle.clr_types.specs.Descriptors.{reference_offsets, series_of};
+ghost use Rattle.clr_types.specs.ReferenceRuns.{single_run, SpellsReferences};
 ghost use Rattle.clr_types.specs.Table.{first_refusal, IsLawfulRow, HasDistinctNames};
 
 use crate::method_table::{MethodTable, is_lawful};
 use crate::names::Names;
-use crate::{DefineFault, NoMemory, Series, Shape, Slot, Slots, TypeId};
+use crate::{DefineFault, NoMemory, ReferenceRun, Series, Shape, Slot, Slots, TypeId};
 use std::alloc::Global;
 use std::marker::Model;
 
@@ -232,6 +233,17 @@ impl Types {
         ensures { result.now ≡ series_of (form_at self.now t.0) }
     {
         self.table(t).series()
+    }
+
+    /// The references of an object of `len` elements, where they stand one behind the other: those of a class in which they are
+    /// one run, as in most, and of an array of references. `None` comes of classes with none or with several runs, and of other arrays.
+    #[inline]
+    pub fn reference_run(&self, t: TypeId, len: u64) -> Option<ReferenceRun>
+        requires { t.0 ≤ length self.now }
+        ensures run { result ≡ single_run (form_at self.now t.0) len }
+        ensures spelled { IfSome result (SpellsReferences (form_at self.now t.0) len) }
+    {
+        self.table(t).reference_run(len)
     }
 
     /// The offsets of the references of an object of `len` elements, by rising offset. It reads them from the runs.

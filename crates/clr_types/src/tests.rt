@@ -202,6 +202,36 @@ fn runs(rt: HostRuntime) -> Result<(), Fail> {
     Ok(())
 }
 
+// The run of the references of an object, by its offset and its count.
+fn reference_run(types: &Types, t: TypeId, len: u64) -> Option<(u64, u64)> {
+    if t.0 < types.count() {
+        let run = types.reference_run(t, len)?;
+        Some((run.offset, run.count))
+    } else {
+        None
+    }
+}
+
+#[test]
+fn references_in_one_run(rt: HostRuntime) -> Result<(), Fail> {
+    let mut types = some_types(rt.alloc())?;
+    types.define(b"Pair", Shape::Class(b"nrr"), false)?;
+    types.define(b"Plain", Shape::Class(b"n"), false)?;
+    let cases = [
+        (TypeId(5), 0, Some((16, 2))),
+        (TypeId(6), 0, None),
+        (CLASS, 0, None),
+        (REFERENCES, 3, Some((16, 3))),
+        (REFERENCES, 0, Some((16, 0))),
+        (BYTES, 8, None),
+        (STRUCTS, 3, None),
+    ];
+    for (t, len, wanted) in cases {
+        assert_eq!(rt; reference_run(&types, t, len), wanted);
+    }
+    Ok(())
+}
+
 #[test]
 fn names_and_words(rt: HostRuntime) -> Result<(), Fail> {
     let types = some_types(rt.alloc())?;

@@ -1,7 +1,7 @@
 // The words and bytes of the heap, by address.
-ghost use Rattle.std.specs.Prelude.{◌≡◌, ℕ, ◌+◌, ◌*◌, ◌/◌, ◌%◌, ◌<◌, ◌≤◌, ◌^◌, length, get_or, set};
+ghost use Rattle.std.specs.Prelude.{◌≡◌, ℕ, ◌+◌, ◌*◌, ◌/◌, ◌%◌, ◌<◌, ◌≤◌, ◌^◌, true, length, get_or, set};
 ghost use Rattle.clr_mem.specs.Words.{byte_of, cleared, Holds, moved, with_byte};
-ghost use Rattle.clr_heap.specs.Memories.{clears, HasWord, InOne, IsApart, moves, memory_index, shapes, store_in, word_address, word_in};
+ghost use Rattle.clr_heap.specs.Memories.{clears, contains, HasWord, InOne, IsApart, moves, memory_index, shapes, store_in, word_address, word_in};
 
 use super::Heap;
 use clr_mem::Mem;
@@ -87,6 +87,31 @@ impl Heap {
         ensures { result ≡ memory_index self.now.memories a }
     {
         find(&self.memories, a)
+    }
+
+    /// The number of the segment that an address lies in, at once where that is `near`, a guess: most references of an object
+    /// lead into its own segment.
+    #[inline]
+    pub fn segment_near(&self, near: usize, a: u64) -> usize
+        requires { HasWord self.now.memories a }
+        ensures { result ≡ memory_index self.now.memories a }
+    {
+        if is_in(&self.memories, near, a) {
+            near
+        } else {
+            find(&self.memories, a)
+        }
+    }
+}
+
+// Whether memory `k` is there, and an address lies in it.
+#[inline]
+fn is_in(memories: &Vec<Mem>, k: usize, a: u64) -> bool
+    ensures { result ≡ true → (d : _) → (k < length memories.now.items) × (contains (get_or memories.now.items k d) a ≡ true) }
+{
+    match memories.get(k) {
+        Some(memory) => memory.base() <= a && a - memory.base() < memory.len(),
+        None => false,
     }
 }
 

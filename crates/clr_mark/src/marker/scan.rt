@@ -1,5 +1,6 @@
 // Following the references of one object.
 ghost use Rattle.std.specs.Prelude.{◌≡◌, ◌≢◌, ℕ, ◌+◌, ◌<◌, ◌^◌, [], IfSome, IfNone};
+ghost use Rattle.clr_types.specs.Descriptors.{offsets_from};
 ghost use Rattle.clr_heap.specs.Memories.{HasWord, memory_index};
 ghost use Rattle.clr_heap.specs.Parts.{item_at};
 ghost use Rattle.clr_heap.specs.View.{HasItem, word_of};
@@ -9,7 +10,7 @@ ghost use Rattle.clr_mark.specs.Markings.{HasGrayed, references_at, with_followe
 
 use super::Marker;
 use clr_heap::Heap;
-use clr_types::{Slots, TypeId, Types};
+use clr_types::{ReferenceRun, Slots, TypeId, Types};
 
 impl Marker {
     // Marks what the slots of the object at `obj` name.
@@ -20,12 +21,40 @@ impl Marker {
         ensures followed { (y : ℕ) → LeadsTo types.now heap.old self.old.oldest obj y → Marked types.now heap.new y }
     {
         let k = heap.segment_of(obj);
-        self.scan_at(heap, types, k, obj);
+        let type_id = type_at(heap, types, k, obj);
+        let len = len_at(heap, types, k, obj, type_id);
+        match types.reference_run(type_id, len) {
+            Some(run) => self.scan_run(heap, types, k, obj, run),
+            None => self.scan_each(heap, types, k, obj),
+        }
     }
 
-    // The same, where the object stands in segment `k`.
-    #[inline]
-    pub(super) fn scan_at(&mut self, heap: &mut Heap, types: &Types, k: usize, obj: u64)
+    // The same, where the references are one run.
+    #[inline(always)]
+    pub(super) fn scan_run(
+        &mut self,
+        heap: &mut Heap,
+        types: &Types,
+        k: usize,
+        obj: u64,
+        run: ReferenceRun,
+    )
+        requires closed { IsClosed types.now heap.old }
+        requires marked { Marked types.now heap.old obj }
+        requires segment { k ≡ memory_index heap.old.memories obj }
+        requires run { references_at types.now heap.old obj ≡ offsets_from run.offset run.count }
+        ensures grayed { HasGrayed types.now heap.old heap.new self.old self.new }
+        ensures followed { (y : ℕ) → LeadsTo types.now heap.old self.old.oldest obj y → Marked types.now heap.new y }
+    {
+        let _ = types.count();
+        for i in 0..run.count {
+            self.follow(heap, k, obj + run.offset + 8 * i);
+        }
+    }
+
+    // The same, slot by slot.
+    #[inline(never)]
+    pub(super) fn scan_each(&mut self, heap: &mut Heap, types: &Types, k: usize, obj: u64)
         requires closed { IsClosed types.now heap.old }
         requires marked { Marked types.now heap.old obj }
         requires segment { k ≡ memory_index heap.old.memories obj }
@@ -42,8 +71,8 @@ impl Marker {
     }
 
     // Marks the object that the word at `a`, in segment `k`, names.
-    #[inline]
-    pub(super) fn follow(&mut self, heap: &mut Heap, k: usize, a: u64)
+    #[inline(always)]
+    fn follow(&mut self, heap: &mut Heap, k: usize, a: u64)
         requires slot { HasWord heap.old.memories a }
         requires segment { k ≡ memory_index heap.old.memories a }
         requires target { word_of heap.old a ≢ 0 → HasWord heap.old.memories (word_of heap.old a) }
@@ -52,7 +81,8 @@ impl Marker {
     {
         let target = heap.word_at(k, a);
         if target != 0 {
-            self.mark(heap, target);
+            let near = heap.segment_near(k, target);
+            self.mark(heap, near, target);
         }
     }
 }
@@ -88,7 +118,7 @@ pub(super) fn type_at(heap: &Heap, types: &Types, k: usize, a: u64) -> TypeId
 // The length of the item at `a`, in segment `k`, of type `t`.
 #[inline]
 #[tactic(auto, unfolding(clr_heap::specs::Parts::item_at, clr_heap::specs::Parts::length_at))]
-fn len_at(heap: &Heap, types: &Types, k: usize, a: u64, t: TypeId) -> u64
+pub(super) fn len_at(heap: &Heap, types: &Types, k: usize, a: u64, t: TypeId) -> u64
     requires item { HasItem types.now heap.now a }
     requires segment { k ≡ memory_index heap.now.memories a }
     requires near { memory_index heap.now.memories a ≡ memory_index heap.now.memories (a + 8) }

@@ -1,5 +1,4 @@
 use Rattle.std.proofs.Common.{◌<◌, length}
-use Rattle.clr_heap.specs.Memories.{memory_index}
 use Rattle.clr_heap.proofs.Moving.{holds_in_one, no_memory}
 use Rattle.clr_heap.proofs.Zeroing.{cleared_all}
 use Rattle.clr_heap.proofs.heap.words.clear_in_memories.Goals as goal

@@ -1,4 +1,4 @@
-use Rattle.std.proofs.Common.{◌≡◌, ◌<◌, ◌≤◌, ◌+◌, ◌*◌, ◌/◌, refl, inl, inr}
+use Rattle.std.proofs.Common.{◌≤◌, ◌+◌, ◌*◌, ◌/◌, refl, inl, inr}
 use Rattle.std.proofs.lemmas.Bool.{cases_lt}
 use Rattle.clr_types.proofs.Sizes.{sized, largest}
 use Rattle.clr_types.specs.Kept.{form_of_pattern}

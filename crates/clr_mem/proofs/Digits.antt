@@ -1,12 +1,14 @@
 -- The bytes of a number, before and after one of them is replaced.
-use Rattle.std.proofs.Common.{◌≡◌, ◌≢◌, ℕ, zero, suc, ◌+◌, ◌-◌, ◌*◌, ◌/◌, ◌%◌, ◌^◌, ◌<◌, ◌≤◌, ap, sym, ◌∙◌, arith, div-one, mul_assoc, pow-suc}
+use Rattle.std.proofs.Common.{◌≡◌, ◌≢◌, ℕ, zero, suc, ◌+◌, ◌-◌, ◌*◌, ◌/◌, ◌%◌, ◌^◌, ◌<◌, ◌≤◌, ap, sym, ◌∙◌, arith}
+use Rattle.std.proofs.Common.{div-one, mul_assoc, pow-suc}
 use Rattle.std.proofs.Math.Nat.{div-div-eq-div-mul, mul_comm}
 use Rattle.clr_mem.specs.Words.{byte_of, with_byte}
 
 -- byte k + 1 is byte k of what is left without the lowest byte
 pub byte_of-suc : (w k : ℕ) → byte_of w (suc k) ≡ byte_of (w / 256) k
 byte_of-suc w k =
-    ap (λ (q : ℕ). q % 256) (ap (λ (p : ℕ). w / p) (pow-suc 256 k ∙ mul_comm (256 ^ k) 256) ∙ sym (div-div-eq-div-mul w 256 (256 ^ k)))
+    ap (λ (q : ℕ). q % 256)
+    (ap (λ (p : ℕ). w / p) (pow-suc 256 k ∙ mul_comm (256 ^ k) 256) ∙ sym (div-div-eq-div-mul w 256 (256 ^ k)))
 
 pub byte_of-zero : (w : ℕ) → byte_of w 0 ≡ w % 256
 byte_of-zero w = ap (λ (q : ℕ). q % 256) (div-one w)

@@ -2,3 +2,4 @@ pub mod Digits
 pub mod Spelling
 pub mod Callers
 pub mod Inside
+pub mod Padding

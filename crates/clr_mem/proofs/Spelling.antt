@@ -1,8 +1,13 @@
 -- The words of joined, cut and overwritten bytes.
-use Rattle.std.proofs.Common.{◌≡◌, ℕ, zero, suc, ◌+◌, ◌-◌, ◌*◌, ◌/◌, ◌^◌, ◌<◌, ◌≤◌, List, [], ◌∷◌, ◌++◌, length, get_or, take, drop, set, replicate, refl, ◌≢◌, ◌⊎◌, inl, inr, mul_assoc, ap, ap₂, sym, ◌∙◌, arith, length-drop, append-nil, zero-add, suc-add, add-zero, pow-suc, drop-set-lt, length-take-le, take-append-drop, get_or-drop}
-use Rattle.std.proofs.lemmas.List.{drop-append-le, drop-drop, nil_from_length, set_split, drop-set-add, get_or-set_same, get_or-set_other, drop-replicate, get_or-replicate}
+use Rattle.std.proofs.Common.{◌≡◌, ℕ, zero, suc, ◌+◌, ◌-◌, ◌*◌, ◌/◌, ◌^◌, ◌<◌, ◌≤◌, List, [], ◌∷◌, ◌++◌, length, get_or}
+use Rattle.std.proofs.Common.{take, drop, set, replicate, refl, ◌≢◌, ◌⊎◌, inl, inr, mul_assoc, ap, ap₂, sym, ◌∙◌, arith}
+use Rattle.std.proofs.Common.{length-drop, append-nil, zero-add, suc-add, add-zero, pow-suc, drop-set-lt}
+use Rattle.std.proofs.Common.{length-take-le, take-append-drop, get_or-drop}
+use Rattle.std.proofs.lemmas.List.{drop-append-le, drop-drop, nil_from_length, set_split, drop-set-add, get_or-set_same}
+use Rattle.std.proofs.lemmas.List.{get_or-set_other, drop-replicate, get_or-replicate}
 use Rattle.byteorder.specs.Endian.{little_from}
-use Rattle.byteorder.specs.Numbers.{little_from-append, little_from-take, little_number-reads_back, length-bytes_low_first}
+use Rattle.byteorder.specs.Numbers.{little_from-append, little_from-take, little_number-reads_back}
+use Rattle.byteorder.specs.Numbers.{length-bytes_low_first}
 use Rattle.std.specs.Int.{bytes_low_first}
 use Rattle.clr_mem.proofs.Digits.{byte_of-suc, byte_of-zero}
 use Rattle.clr_mem.specs.Words.{spelled, words_of, overwrite, part, byte_of, with_byte}
@@ -31,7 +36,8 @@ get_or-words_of (suc n) (suc i) xs h =
     ih ∙ ap spelled (drop-drop (8 * i) 8 xs ∙ ap (λ (j : ℕ). drop j xs) (omega arith))
 
 -- bytes that are joined spell words that are joined
-pub words_of-append : (m k : ℕ) (xs ys : List ℕ) → length xs ≡ 8 * m → words_of (m + k) (xs ++ ys) ≡ words_of m xs ++ words_of k ys
+pub words_of-append : (m k : ℕ) (xs ys : List ℕ) → length xs ≡ 8 * m
+    → words_of (m + k) (xs ++ ys) ≡ words_of m xs ++ words_of k ys
 unfolding words_of
 words_of-append zero k xs ys e = let nil : xs ≡ [] = nil_from_length xs (omega arith) in rw (nil, zero-add k) refl
 words_of-append (suc m) k xs ys e =
@@ -52,17 +58,20 @@ drop-words_of zero n xs h = let e : n ≡ n - 0 = omega arith in ap (λ (m : ℕ
 drop-words_of (suc j) zero xs h = absurd (omega arith)
 drop-words_of (suc j) (suc n) xs h =
     drop-words_of j n (drop 8 xs) (omega arith)
-    ∙ ap₂ (λ (m : ℕ) (ys : List ℕ). words_of m ys) (omega arith) (drop-drop (8 * j) 8 xs ∙ ap (λ (i : ℕ). drop i xs) (omega arith))
+    ∙ ap₂ (λ (m : ℕ) (ys : List ℕ). words_of m ys) (omega arith)
+    (drop-drop (8 * j) 8 xs ∙ ap (λ (i : ℕ). drop i xs) (omega arith))
 
 -- the words of the first bytes
 pub words_of-take : (k : ℕ) (xs : List ℕ) → 8 * k ≤ length xs → words_of k (take (8 * k) xs) ≡ words_of k xs
 unfolding words_of
 words_of-take k xs h =
     let joined = words_of-append k 0 (take (8 * k) xs) (drop (8 * k) xs) (length-take-le (8 * k) xs h) in
-    sym (append-nil (words_of k (take (8 * k) xs))) ∙ sym joined ∙ ap₂ (λ (m : ℕ) (ys : List ℕ). words_of m ys) (add-zero k) (take-append-drop (8 * k) xs)
+    sym (append-nil (words_of k (take (8 * k) xs))) ∙ sym joined
+    ∙ ap₂ (λ (m : ℕ) (ys : List ℕ). words_of m ys) (add-zero k) (take-append-drop (8 * k) xs)
 
 -- the words of a part of the bytes
-pub words_of-part : (k j n : ℕ) (xs : List ℕ) → j + k ≤ n → length xs ≡ 8 * n → words_of k (take (8 * k) (drop (8 * j) xs)) ≡ part (words_of n xs) j k
+pub words_of-part : (k j n : ℕ) (xs : List ℕ) → j + k ≤ n → length xs ≡ 8 * n
+    → words_of k (take (8 * k) (drop (8 * j) xs)) ≡ part (words_of n xs) j k
 words_of-part k j n xs h e =
     words_of-take k (drop (8 * j) xs) (omega (arith, length-drop (8 * j) xs))
     ∙ sym (take-words_of k (n - j) (drop (8 * j) xs) (omega arith))
@@ -86,18 +95,27 @@ words_of-overwrite n i k xs ys ex ey h =
     ∙ ap₂ (λ (us vs : List ℕ). us ++ vs)
     (words_of-take i xs (omega arith) ∙ sym (take-words_of i n xs (omega arith)))
     (ap (λ (m : ℕ). words_of m (ys ++ drop (8 * i + 8 * k) xs)) (sym inner_size) ∙ inner
-    ∙ ap (λ (vs : List ℕ). words_of k ys ++ vs) (sym tail ∙ ap (λ (m : ℕ). drop (i + m) (words_of n xs)) (sym (length-words_of k ys))))
+    ∙ ap (λ (vs : List ℕ). words_of k ys ++ vs)
+    (sym tail ∙ ap (λ (m : ℕ). drop (i + m) (words_of n xs)) (sym (length-words_of k ys))))
 
 -- one word written
 pub overwrite-one : (ws : List ℕ) (i v : ℕ) → i < length ws → overwrite ws i (v ∷ []) ≡ set ws i v
-overwrite-one ws i v h = let at : i + 1 ≡ suc i = omega arith in ap (λ (j : ℕ). take i ws ++ v ∷ drop j ws) at ∙ sym (set_split ws i v h)
+overwrite-one ws i v h =
+    let at : i + 1 ≡ suc i = omega arith in ap (λ (j : ℕ). take i ws ++ v ∷ drop j ws) at ∙ sym (set_split ws i v h)
+
+-- a word is told by what stands at each place
+pub spelled-same : (xs ys : List ℕ) → ((i : ℕ) → get_or xs i 0 ≡ get_or ys i 0) → spelled xs ≡ spelled ys
+unfolding spelled
+spelled-same xs ys e = rw (e 0, e 1, e 2, e 3, e 4, e 5, e 6, e 7) refl
 
 -- zeros spell zeros
 spelled-zeros : (n : ℕ) → 8 ≤ n → spelled (replicate n 0) ≡ 0
 unfolding spelled
 spelled-zeros n h =
-    let z : (i : ℕ) → i < 8 → get_or (replicate n 0) i 0 ≡ 0 = λ i l. get_or-replicate {A = ℕ} n i 0 0 (omega arith) in
-    rw (z 0 (omega arith), z 1 (omega arith), z 2 (omega arith), z 3 (omega arith), z 4 (omega arith), z 5 (omega arith), z 6 (omega arith), z 7 (omega arith)) refl
+    let z : (i : ℕ) → i < 8 → get_or (replicate n 0) i 0 ≡ 0 =
+    λ i l. get_or-replicate {A = ℕ} n i 0 0 (omega arith) in
+    rw (z 0 (omega arith), z 1 (omega arith), z 2 (omega arith), z 3 (omega arith))
+    (rw (z 4 (omega arith), z 5 (omega arith), z 6 (omega arith), z 7 (omega arith)) refl)
 
 pub words_of-zeros : (n : ℕ) → words_of n (replicate (8 * n) 0) ≡ replicate n 0
 unfolding words_of
@@ -116,12 +134,14 @@ spelled-bytes v rest h = little_number-reads_back 8 v rest h
 
 pub words_of-bytes : (v : ℕ) (bytes : List ℕ) → v < 2 ^ 64 → bytes ≡ bytes_low_first 0 8 v → words_of 1 bytes ≡ v ∷ []
 unfolding words_of
-words_of-bytes v bytes h e = ap (λ (w : ℕ). w ∷ []) (ap spelled (e ∙ sym (append-nil (bytes_low_first 0 8 v))) ∙ spelled-bytes v [] h)
+words_of-bytes v bytes h e =
+    ap (λ (w : ℕ). w ∷ []) (ap spelled (e ∙ sym (append-nil (bytes_low_first 0 8 v))) ∙ spelled-bytes v [] h)
 
 -- ---- single bytes
 
 -- byte k of what m bytes spell
-digit : (k m j : ℕ) (xs : List ℕ) → ((i : ℕ) → get_or xs i 0 < 256) → k < m → byte_of (little_from j m xs) k ≡ get_or xs (j + k) 0
+digit : (k m j : ℕ) (xs : List ℕ) → ((i : ℕ) → get_or xs i 0 < 256) → k < m
+    → byte_of (little_from j m xs) k ≡ get_or xs (j + k) 0
 digit k zero j xs fits h = absurd (omega arith)
 digit zero (suc m) j xs fits h =
     let small = fits j in
@@ -135,12 +155,14 @@ digit (suc k) (suc m) j xs fits h =
     ∙ digit k m (suc j) xs fits (omega arith)
     ∙ ap (λ (i : ℕ). get_or xs i 0) (omega arith)
 
-pub byte_of-spelled : (k : ℕ) (xs : List ℕ) → ((i : ℕ) → get_or xs i 0 < 256) → k < 8 → byte_of (spelled xs) k ≡ get_or xs k 0
+pub byte_of-spelled : (k : ℕ) (xs : List ℕ) → ((i : ℕ) → get_or xs i 0 < 256) → k < 8
+    → byte_of (spelled xs) k ≡ get_or xs k 0
 unfolding spelled
 byte_of-spelled k xs fits h = digit k 8 0 xs fits h ∙ ap (λ (i : ℕ). get_or xs i 0) (zero-add k)
 
 -- a byte below or above the ones that are read doesn't matter
-little_from-set_outside : (m j i v : ℕ) (xs : List ℕ) → (i < j) ⊎ (j + m ≤ i) → little_from j m (set xs i v) ≡ little_from j m xs
+little_from-set_outside : (m j i v : ℕ) (xs : List ℕ) → (i < j) ⊎ (j + m ≤ i)
+    → little_from j m (set xs i v) ≡ little_from j m xs
 little_from-set_outside zero j i v xs h = refl
 little_from-set_outside (suc m) j i v xs h =
     let apart : j ≢ i = λ e. elim h [ inl l ↦ omega arith | inr l ↦ omega arith ] in
@@ -162,9 +184,11 @@ little_from-set (suc k) (suc m) j v xs h l =
     let apart : j ≢ suc j + k = λ e. omega arith in
     let here = get_or-set_other xs (suc j + k) j v 0 apart in
     let power = pow-suc 256 k in
-    rw (at, here, power) (omega (arith, ih, mul_assoc (get_or xs (suc j + k) 0) (256 ^ k) 256, mul_assoc v (256 ^ k) 256))
+    rw (at, here, power)
+    (omega (arith, ih, mul_assoc (get_or xs (suc j + k) 0) (256 ^ k) 256, mul_assoc v (256 ^ k) 256))
 
-spelled-set_sum : (k v : ℕ) (xs : List ℕ) → k < 8 → 8 ≤ length xs → spelled (set xs k v) + get_or xs k 0 * 256 ^ k ≡ spelled xs + v * 256 ^ k
+spelled-set_sum : (k v : ℕ) (xs : List ℕ) → k < 8 → 8 ≤ length xs
+    → spelled (set xs k v) + get_or xs k 0 * 256 ^ k ≡ spelled xs + v * 256 ^ k
 unfolding spelled
 spelled-set_sum k v xs h l =
     let e = little_from-set k 8 0 v xs h (omega arith) in
@@ -180,7 +204,8 @@ moved_over : (a b c d : ℕ) → a + b ≡ c + d → a ≡ c + d - b
 moved_over a b c d e = omega arith
 
 -- a byte written into a word
-pub spelled-set : (k v : ℕ) (xs : List ℕ) → ((i : ℕ) → get_or xs i 0 < 256) → k < 8 → 8 ≤ length xs → spelled (set xs k v) ≡ with_byte (spelled xs) k v
+pub spelled-set : (k v : ℕ) (xs : List ℕ) → ((i : ℕ) → get_or xs i 0 < 256) → k < 8 → 8 ≤ length xs
+    → spelled (set xs k v) ≡ with_byte (spelled xs) k v
 spelled-set k v xs fits h l =
     let e = spelled-set_sum k v xs h l in
     let d = byte_of-spelled k xs fits h in

@@ -1,5 +1,6 @@
 -- The words of a memory: what its bytes spell, eight by eight, lowest byte first.
-use Rattle.std.specs.Prelude.{replicate, ◌≡◌, ℕ, zero, suc, ◌+◌, ◌-◌, ◌*◌, ◌/◌, ◌%◌, ◌^◌, ◌<◌, ◌≤◌, List, [], ◌∷◌, ◌++◌, length, take, drop, set, get_or, refl}
+use Rattle.std.specs.Prelude.{replicate, ◌≡◌, ℕ, zero, suc, ◌+◌, ◌-◌, ◌*◌, ◌/◌, ◌%◌, ◌^◌, ◌<◌, ◌≤◌, List, [], ◌∷◌, ◌++◌}
+use Rattle.std.specs.Prelude.{length, take, drop, set, get_or, refl}
 use Rattle.std.specs.Coded.{Coded, code_by, coded×, coded_ℕ, coded_list}
 use Rattle.byteorder.specs.Endian.{little_from}
 
@@ -11,7 +12,8 @@ pub record Memory : Type 0 where
 -- a memory is stored as the pair of its parts
 abbrev pub memory_code : Coded Memory
 memory_code =
-    code_by (ℕ × List ℕ) (coded× coded_ℕ (coded_list coded_ℕ)) (λ m. (m.base, m.words)) (λ p. record { base = p.0; words = p.1 }) (λ _. refl)
+    code_by (ℕ × List ℕ) (coded× coded_ℕ (coded_list coded_ℕ)) (λ m. (m.base, m.words))
+    (λ p. record { base = p.0; words = p.1 }) (λ _. refl)
 
 -- where the bytes of a memory may lie: whole words, all of whose addresses fit 64 bits
 pub record IsPlaced (base size : ℕ) : Type 0 where

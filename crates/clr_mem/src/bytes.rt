@@ -1,25 +1,61 @@
-// The steps over the bytes themselves. Each has one clause on the list of bytes, in the form
-// "the front, what is written, the rest", and needs its range to lie in the list.
-ghost use Rattle.std.specs.Prelude.{◌≡◌, ℕ, ◌+◌, ◌<◌, ◌≤◌, ◌++◌, length, set, take, drop, replicate, slice_index, IfOk};
+// The steps over the bytes that are stored, each with one clause on their list. Words and bytes
+// behind them read as 0. A write is "the front, what is written, the rest", and its range must lie
+// in the list. No step gives room back.
+ghost use Rattle.std.specs.Prelude.{◌≡◌, ℕ, ◌+◌, ◌-◌, ◌%◌, ◌<◌, ◌≤◌, ◌++◌, length, set, take, drop, replicate};
+ghost use Rattle.std.specs.Prelude.{slice_index};
 ghost use Rattle.std.specs.Int.{bytes_low_first};
+ghost use Rattle.std.specs.Vec.{vec_capacity};
+ghost use Rattle.clr_mem.specs.Stored.{IsReserved};
 ghost use Rattle.clr_mem.specs.Words.{spelled};
 
 use byteorder::{ByteOrder, LittleEndian};
-use std::alloc::{AllocError, Global};
+use std::mem::replace;
 
-// `n` bytes, all zero.
-pub fn zero_bytes(alloc: Global, n: usize) -> Result<Vec<u8>, AllocError>
-    ensures { IfOk result (λ v. v.items ≡ replicate n 0) }
+// The stored bytes grow up to a multiple of this, in bytes, so that they seldom do.
+const STEP: usize = 1 << 16;
+
+// Sees to it that the byte at `at` is stored. The room of all `size` bytes is reserved.
+pub fn reach(bytes: &mut Vec<u8>, size: usize, at: usize)
+    requires reserved { IsReserved size (length bytes.old.items) (vec_capacity bytes.old) }
+    requires inside { at < size }
+    ensures items { bytes.new.items ≡ bytes.old.items
+        ++ replicate (length bytes.new.items - length bytes.old.items) 0 }
+    ensures more { length bytes.old.items ≤ length bytes.new.items }
+    ensures reserved { IsReserved size (length bytes.new.items) (vec_capacity bytes.new) }
+    ensures stored { at < length bytes.new.items }
 {
-    vec![in alloc; 0u8; n]
+    if bytes.len() <= at {
+        let len = ((at / STEP + 1) * STEP).min(size);
+        let stored = replace(bytes, Vec::new(*bytes.allocator()));
+        *bytes = store_zeros(stored, len);
+    }
+}
+
+// Stores zeros behind the bytes, so that they are `len`. It stands apart, so that what writes
+// inline stays small, and has the bytes by value, so that no address of theirs leaves a loop.
+#[cold]
+#[inline(never)]
+fn store_zeros(mut bytes: Vec<u8>, len: usize) -> Vec<u8>
+    requires room { len ≤ vec_capacity bytes }
+    requires more { length bytes.items ≤ len }
+    ensures items { result.items ≡ bytes.items ++ replicate (len - length bytes.items) 0 }
+    ensures room { vec_capacity bytes ≤ vec_capacity result }
+{
+    bytes.resize(len, 0).unwrap();
+    bytes
 }
 
 // The number that the eight bytes from `at` on spell.
 pub fn load_word(bytes: &Vec<u8>, at: usize) -> u64
-    requires { at + 8 ≤ length bytes.now.items }
+    requires whole { length bytes.now.items % 8 ≡ 0 }
+    requires aligned { at % 8 ≡ 0 }
     ensures { result ≡ spelled (drop at bytes.now.items) }
 {
-    LittleEndian::read_u64(&bytes[at..at + 8])
+    if at < bytes.len() {
+        LittleEndian::read_u64(&bytes[at..at + 8])
+    } else {
+        0
+    }
 }
 
 // Writes a number over the eight bytes from `at` on.
@@ -28,23 +64,24 @@ pub fn store_word(bytes: &mut Vec<u8>, at: usize, v: u64)
     ensures items { bytes.new.items ≡ take at bytes.old.items
         ++ (bytes_low_first 0 8 v ++ drop (at + 8) bytes.old.items) }
     ensures len { length bytes.new.items ≡ length bytes.old.items }
+    ensures room { vec_capacity bytes.new ≡ vec_capacity bytes.old }
 {
     LittleEndian::write_u64(&mut bytes[at..at + 8], v);
 }
 
 // The byte at `at`.
 pub fn load_byte(bytes: &Vec<u8>, at: usize) -> u8
-    requires { at < length bytes.now.items }
     ensures value { result ≡ slice_index bytes.now.items at }
     ensures fits { (j : ℕ) → slice_index bytes.now.items j < 256 }
 {
-    bytes[at]
+    if at < bytes.len() { bytes[at] } else { 0 }
 }
 
 // Writes the byte at `at`.
 pub fn store_byte(bytes: &mut Vec<u8>, at: usize, v: u8)
     requires { at < length bytes.old.items }
     ensures items { bytes.new.items ≡ set bytes.old.items at v }
+    ensures room { vec_capacity bytes.new ≡ vec_capacity bytes.old }
     ensures fits { (j : ℕ) → slice_index bytes.old.items j < 256 }
 {
     bytes[at] = v;
@@ -57,6 +94,7 @@ pub fn move_bytes(bytes: &mut Vec<u8>, start: usize, at: usize, n: usize)
     ensures items { bytes.new.items ≡ take at bytes.old.items
         ++ (take n (drop start bytes.old.items) ++ drop (at + n) bytes.old.items) }
     ensures len { length bytes.new.items ≡ length bytes.old.items }
+    ensures room { vec_capacity bytes.new ≡ vec_capacity bytes.old }
 {
     bytes.copy_within(start..start + n, at);
 }
@@ -68,6 +106,7 @@ pub fn copy_bytes(bytes: &mut Vec<u8>, at: usize, source: &Vec<u8>, start: usize
     ensures items { bytes.new.items ≡ take at bytes.old.items
         ++ (take n (drop start source.now.items) ++ drop (at + n) bytes.old.items) }
     ensures len { length bytes.new.items ≡ length bytes.old.items }
+    ensures room { vec_capacity bytes.new ≡ vec_capacity bytes.old }
 {
     bytes[at..at + n].copy_from_slice(&source[start..start + n]);
 }
@@ -78,6 +117,7 @@ pub fn clear_bytes(bytes: &mut Vec<u8>, at: usize, n: usize)
     ensures items { bytes.new.items ≡ take at bytes.old.items
         ++ (replicate n 0 ++ drop (at + n) bytes.old.items) }
     ensures len { length bytes.new.items ≡ length bytes.old.items }
+    ensures room { vec_capacity bytes.new ≡ vec_capacity bytes.old }
 {
     bytes[at..at + n].fill(0);
 }

@@ -3,18 +3,22 @@
 //! A [`Mem`] holds the bytes `[base, base + len)`. Its contracts see it as a list of words, so
 //! that nothing above this crate reasons about bytes. Every call requires that its range lies in
 //! the memory, so none of them can fail; only [`Mem::new`] can, where no memory is left.
+//!
+//! Memory is taken as it is used. [`Mem::new`] reserves the room for all bytes and touches none of
+//! it. Bytes are stored from the first on, up to the last that was written, in steps of 64 KiB, and
+//! what was never written reads as 0.
 #![tactic(auto)]
 
 ghost use Rattle.std.specs.Prelude.{◌≡◌, ◌+◌, ◌*◌, ◌%◌, ◌<◌, ◌≤◌, ◌^◌, ◌↔◌, length, IfOk, IsTrue};
-ghost use Rattle.clr_mem.specs.Words.{byte_at, cleared, end_of, Holds, HoldsBytes, moved, with_byte_at, with_word, word_at, zeroed};
+ghost use Rattle.clr_mem.specs.Words.{byte_at, cleared, end_of, Holds, HoldsBytes, moved, with_byte_at, with_word};
+ghost use Rattle.clr_mem.specs.Words.{word_at, zeroed};
 
-use crate::bytes::{
-    clear_bytes, copy_bytes, load_byte, load_word, move_bytes, store_byte, store_word, zero_bytes,
-};
+use crate::lazy::LazyBytes;
 use std::alloc::Global;
 use std::marker::Model;
 
 mod bytes;
+mod lazy;
 mod no_memory;
 #[cfg(test)]
 mod tests;
@@ -26,7 +30,7 @@ pub use crate::no_memory::NoMemory;
 #[derive(Drop)]
 pub struct Mem {
     base: u64,
-    bytes: Vec<u8>,
+    bytes: LazyBytes,
 }
 
 impl Model for Mem {
@@ -39,15 +43,15 @@ impl Model for Mem {
 
     ghost view = { λ m. record {
       base = m.base;
-      words = words_of (length m.bytes.items / 8) m.bytes.items;
+      words = words_of (length m.bytes / 8) m.bytes;
     } };
 
-    ghost invariant = { λ m. IsPlaced m.base (length m.bytes.items) };
+    ghost invariant = { λ m. IsPlaced m.base (length m.bytes) };
 }
 
 impl Mem {
     /// `len` zero bytes from the address `base` on; `len` is in bytes. `NoMemory` comes only where
-    /// the allocator has no room for them.
+    /// the allocator has no room for them. None of them is touched before something is written.
     pub fn new(alloc: Global, base: u64, len: u64) -> Result<Mem, NoMemory>
         requires base_aligned { base % 8 ≡ 0 }
         requires len_aligned { len % 8 ≡ 0 }
@@ -55,7 +59,7 @@ impl Mem {
         ensures value { IfOk result (λ m. m ≡ zeroed base len) }
         ensures end { IfOk result (λ m. end_of m ≡ base + len) }
     {
-        let bytes = zero_bytes(alloc, len as usize)?;
+        let bytes = LazyBytes::new(alloc, len as usize)?;
         Ok(Mem { base, bytes })
     }
 
@@ -90,7 +94,7 @@ impl Mem {
         ensures value { result ≡ word_at self.now a }
         ensures fits { a + 8 < 2 ^ 64 }
     {
-        load_word(&self.bytes, (a - self.base) as usize)
+        self.bytes.word((a - self.base) as usize)
     }
 
     /// Writes the word at `a`, a multiple of 8; every other word stays.
@@ -100,7 +104,7 @@ impl Mem {
         ensures size { length self.new.words ≡ length self.old.words }
         ensures fits { a + 8 < 2 ^ 64 }
     {
-        store_word(&mut self.bytes, (a - self.base) as usize, v);
+        self.bytes.set_word((a - self.base) as usize, v);
     }
 
     /// The byte at `a`: of its word, the lowest eight bits where `a` is a multiple of 8.
@@ -109,7 +113,7 @@ impl Mem {
         ensures value { result ≡ byte_at self.now a }
         ensures fits { a + 1 < 2 ^ 64 }
     {
-        load_byte(&self.bytes, (a - self.base) as usize)
+        self.bytes.byte((a - self.base) as usize)
     }
 
     /// Writes the byte at `a`; every other byte stays.
@@ -119,7 +123,7 @@ impl Mem {
         ensures size { length self.new.words ≡ length self.old.words }
         ensures fits { a + 1 < 2 ^ 64 }
     {
-        store_byte(&mut self.bytes, (a - self.base) as usize, v);
+        self.bytes.set_byte((a - self.base) as usize, v);
     }
 
     /// Moves the `len` bytes from `from` on down to `to`, in whole words. The ranges may overlap;
@@ -134,7 +138,7 @@ impl Mem {
     {
         let start = (from - self.base) as usize;
         let at = (to - self.base) as usize;
-        move_bytes(&mut self.bytes, start, at, len as usize);
+        self.bytes.slide(start, at, len as usize);
     }
 
     /// Copies the `len` bytes from `from` on of another memory to `to`, in whole words; what
@@ -149,16 +153,17 @@ impl Mem {
     {
         let start = (from - other.base) as usize;
         let at = (to - self.base) as usize;
-        copy_bytes(&mut self.bytes, at, &other.bytes, start, len as usize);
+        self.bytes.carry(at, &other.bytes, start, len as usize);
     }
 
-    /// Clears the `len` bytes from `a` on, in whole words; every other word stays.
+    /// Clears the `len` bytes from `a` on, in whole words; every other word stays. Bytes that aren't
+    /// stored stay so.
     pub fn zero(&mut self, a: u64, len: u64)
         requires { Holds self.old a len }
         ensures value { self.new ≡ cleared self.old a len }
         ensures size { length self.new.words ≡ length self.old.words }
         ensures fits { a + len < 2 ^ 64 }
     {
-        clear_bytes(&mut self.bytes, (a - self.base) as usize, len as usize);
+        self.bytes.clear((a - self.base) as usize, len as usize);
     }
 }

@@ -48,16 +48,26 @@ fn apply(rt: &impl Abort, mem: &mut Mem, other: &Mem, write: Write) {
     }
 }
 
-// The words that a memory of four holds.
-fn four_words(rt: &impl Abort, mem: &Mem) -> [u64; 4] {
-    let base = mem.base();
-    assert!(rt; mem.len() == 32 && is_inside(mem, base, 32));
-    [
-        mem.word(base),
-        mem.word(base + 8),
-        mem.word(base + 16),
-        mem.word(base + 24),
-    ]
+// The words at these four addresses.
+fn words_at(rt: &impl Abort, mem: &Mem, places: [u64; 4]) -> [u64; 4] {
+    places.map(|a| {
+        assert!(rt; is_inside(mem, a, 8));
+        mem.word(a)
+    })
+}
+
+// Makes each write of the table, and looks at four words after it.
+fn check_writes(
+    rt: &impl Abort,
+    mem: &mut Mem,
+    other: &Mem,
+    places: [u64; 4],
+    rows: &[(Write, [u64; 4])],
+) {
+    for (i, (write, words)) in rows.iter().enumerate() {
+        apply(rt, mem, other, *write);
+        assert_eq!(rt; words_at(rt, mem, places), *words, "after row {i}");
+    }
 }
 
 #[test]
@@ -68,7 +78,8 @@ fn each_write_leaves_these_words(rt: HostRuntime) -> Result<(), Fail> {
         apply(&rt, &mut other, &mem, Write::Word(0x2000 + 8 * i as u64, v));
     }
     assert!(rt; !mem.is_empty());
-    assert_eq!(rt; four_words(&rt, &mem), [0, 0, 0, 0], "a new memory");
+    let places = [0x1000, 0x1008, 0x1010, 0x1018];
+    assert_eq!(rt; words_at(&rt, &mem, places), [0, 0, 0, 0], "a new memory");
     let rows = [
         (
             Write::Word(0x1008, 0x1122_3344_5566_7788),
@@ -89,18 +100,63 @@ fn each_write_leaves_these_words(rt: HostRuntime) -> Result<(), Fail> {
         ),
         (Write::Zero(0x1020, 0), [0xaa22_3344_5566_7788, 0, 8, 9]),
     ];
-    for (i, (write, words)) in rows.into_iter().enumerate() {
-        apply(&rt, &mut mem, &other, write);
-        assert_eq!(rt; four_words(&rt, &mem), words, "after row {i}");
-    }
-    assert!(rt; is_inside(&mem, 0x1000, 8));
-    for (i, v) in [0x88u8, 0x77, 0x66, 0x55, 0x44, 0x33, 0x22, 0xaa]
-        .into_iter()
-        .enumerate()
-    {
-        assert!(rt; i < 8);
-        assert_eq!(rt; mem.byte(0x1000 + i as u64), v, "byte {i}");
-    }
+    check_writes(&rt, &mut mem, &other, places, &rows);
+    Ok(())
+}
+
+// Memories of several steps in which bytes are stored, so that their backs are never written.
+#[test]
+fn what_was_never_written_reads_as_zero(rt: HostRuntime) -> Result<(), Fail> {
+    let mut mem = Mem::new(rt.alloc(), 0x1000, 0x30000)?;
+    let mut other = Mem::new(rt.alloc(), 0x40000, 0x20000)?;
+    apply(&rt, &mut other, &mem, Write::Word(0x4fff8, 8));
+    let places = [0x1008, 0x10ff8, 0x11000, 0x30ff8];
+    assert_eq!(rt; words_at(&rt, &mem, places), [0, 0, 0, 0], "a new memory");
+    let rows = [
+        (Write::Zero(0x1000, 0x30000), [0, 0, 0, 0]),
+        (Write::Slide(0x20ff8, 0x10ff8, 0x10000), [0, 0, 0, 0]),
+        (Write::Word(0x1008, 5), [5, 0, 0, 0]),
+        (Write::Byte(0x11001, 1), [5, 0, 256, 0]),
+        (Write::Slide(0x21000, 0x1008, 8), [0, 0, 256, 0]),
+        (Write::Word(0x20ff8, 4), [0, 0, 256, 0]),
+        (Write::Slide(0x20ff8, 0x10ff8, 16), [0, 4, 0, 0]),
+        (Write::Word(0x11000, 3), [0, 4, 3, 0]),
+        (Write::Carry(0x10ff8, 0x4fff8, 16), [0, 8, 0, 0]),
+        (Write::Carry(0x30ff8, 0x50000, 8), [0, 8, 0, 0]),
+        (Write::Carry(0x30ff8, 0x4fff8, 8), [0, 8, 0, 8]),
+        (Write::Zero(0x10ff8, 0x20008), [0, 0, 0, 0]),
+    ];
+    check_writes(&rt, &mut mem, &other, places, &rows);
+    Ok(())
+}
+
+fn byte_at(rt: &impl Abort, mem: &Mem, a: u64) -> u8 {
+    assert!(rt; is_inside(mem, a - a % 8, 8));
+    mem.byte(a)
+}
+
+#[test]
+fn bytes_are_lowest_first(rt: HostRuntime) -> Result<(), Fail> {
+    let mut mem = Mem::new(rt.alloc(), 0x1000, 0x20000)?;
+    let other = Mem::new(rt.alloc(), 8, 0)?;
+    apply(
+        &rt,
+        &mut mem,
+        &other,
+        Write::Word(0x1000, 0xaa22_3344_5566_7788),
+    );
+    let places = [
+        0x1000u64, 0x1001, 0x1002, 0x1003, 0x1006, 0x1007, 0x1008, 0x20fff,
+    ];
+    assert_eq!(rt;
+        places.map(|a| byte_at(&rt, &mem, a)),
+        [0x88, 0x77, 0x66, 0x55, 0x22, 0xaa, 0, 0]
+    );
+    Ok(())
+}
+
+#[test]
+fn a_memory_is_refused_or_empty(rt: HostRuntime) -> Result<(), Fail> {
     assert_eq!(rt; Mem::new(rt.alloc(), 0, 1 << 62).err(), Some(NoMemory));
     assert!(rt; Mem::new(rt.alloc(), 8, 0)?.is_empty());
     Ok(())

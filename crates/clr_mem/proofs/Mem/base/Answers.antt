@@ -4,5 +4,5 @@ use Rattle.clr_mem.proofs.Mem.base.Goals as goal
 
 pub returns : goal.returns
 returns c =
-    let v = bounds _ c.self.inside.bytes.items _ c.self.view_is c.self.invariant in
+    let v = bounds _ c.self.inside.bytes _ c.self.view_is c.self.invariant in
     record { value = omega arith; aligned = omega arith; fits = omega arith }

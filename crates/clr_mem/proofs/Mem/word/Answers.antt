@@ -2,14 +2,18 @@ use Rattle.std.proofs.Common.{◌∙◌, arith}
 use Rattle.clr_mem.proofs.Inside.{bounds, read_word}
 use Rattle.clr_mem.proofs.Mem.word.Goals as goal
 
-pub load_word-requires : goal.load_word-requires
-load_word-requires c = let v = bounds _ c.self.inside.bytes.items _ c.self.view_is c.self.invariant in omega arith
+pub word-requires : goal.word-requires
+word-requires c = let v = bounds _ c.self.inside.bytes _ c.self.view_is c.self.invariant in omega arith
 
 pub returns : goal.returns
 returns c =
-    let v = bounds _ c.self.inside.bytes.items _ c.self.view_is c.self.invariant in
+    let v = bounds _ c.self.inside.bytes _ c.self.view_is c.self.invariant in
     let m = c.self.inside in
     record {
-      value = rw (← c.self.view_is) (c.load_word.ensures ∙ read_word m.base c.args.a m.bytes.items c.self.invariant (omega arith) c.requires.start (omega arith));
+      value =
+          rw (← c.self.view_is)
+          (c.word.ensures
+          ∙ read_word m.base c.args.a m.bytes c.self.invariant (omega arith) _ (omega arith) c.requires.start
+          (omega arith));
       fits = omega arith;
     }

@@ -9,10 +9,13 @@ pub repeated_none : (shift stride n : ℕ) → repeated shift stride n [] ≡ []
 repeated_none shift stride zero = refl
 repeated_none shift stride (suc n) = repeated_none (shift + stride) stride n
 
-pub none_left : (place left size here shift stride n : ℕ) (series : List Series) → left ≡ 0 → series ≡ [] → offsets_from place left ++ flat_map (run_offsets size) (map (moved here) series ++ repeated shift stride n series) ≡ []
+pub none_left : (place left size here shift stride n : ℕ) (series : List Series) → left ≡ 0 → series ≡ []
+    → offsets_from place left ++ flat_map (run_offsets size) (map (moved here) series ++ repeated shift stride n series)
+    ≡ []
 none_left place left size here shift stride n series closed none = rw (closed, none, repeated_none shift stride n) refl
 
-pub first_offset : (place left : ℕ) (rest : List ℕ) → 0 < left → offsets_from place left ++ rest ≡ place ∷ (offsets_from (place + 8) (left - 1) ++ rest)
+pub first_offset : (place left : ℕ) (rest : List ℕ) → 0 < left
+    → offsets_from place left ++ rest ≡ place ∷ (offsets_from (place + 8) (left - 1) ++ rest)
 first_offset place zero rest some = absurd (omega arith)
 first_offset place (suc left) rest some =
     let one : left ≡ suc left - 1 = omega arith in

@@ -21,3 +21,5 @@ pub mod PieceGaps
 pub mod TilePieces
 pub mod HighestSegment
 pub mod Retiled
+pub mod MapValues
+pub mod ListSums

@@ -1,8 +1,10 @@
 -- Segments of a lawful layout: any two lie apart, and one of them is the ephemeral one.
-use Rattle.std.proofs.Common.{◌≡◌, ◌≢◌, ℕ, ◌<◌, ◌≤◌, ◌⊎◌, inl, inr, List, [], ◌∷◌, length, find, refl, sym, ap, subst, arith, Bool, true, false, nat_le, nat_lt, if◌then◌else◌, Some}
+use Rattle.std.proofs.Common.{◌≡◌, ◌≢◌, ℕ, ◌<◌, ◌≤◌, ◌⊎◌, inl, inr, List, [], ◌∷◌, length, find, refl, sym, ap, subst}
+use Rattle.std.proofs.Common.{arith, Bool, true, false, nat_le, nat_lt, if◌then◌else◌, Some}
 use Rattle.std.proofs.lemmas.Bool.{and_parts, and_from, leb-true, ltb-true, le-leb, lt-ltb, cases_Bool}
 use Rattle.clr_types.specs.Rising.{IsIn, first, later}
-use Rattle.clr_types.specs.Segments.{Layout, first_place, reserved_end, same_kind, stands_in, segment_or_empty, segments_of, segment_of, ephemeral}
+use Rattle.clr_types.specs.Segments.{Layout, first_place, reserved_end, same_kind, stands_in, segment_or_empty}
+use Rattle.clr_types.specs.Segments.{segments_of, segment_of, ephemeral}
 use Rattle.clr_types.specs.LawfulLayout.{AreDisjoint, IsLawfulSegment, IsLawfulLayout}
 use Rattle.clr_types.specs.declared.segment.SegInfo.{SegInfo}
 use Rattle.clr_types.specs.declared.segment.SegKind.TheVariants.{Ephemeral}
@@ -27,20 +29,27 @@ one_alone (s ∷ []) e = refl
 one_alone (s ∷ r ∷ ss) e = absurd (omega (arith, e))
 
 -- what a place in a segment lies between
-pub stands-between : (s : SegInfo) (place : ℕ) → stands_in s place ≡ true → (first_place s ≤ place) × (place < reserved_end s)
+pub stands-between : (s : SegInfo) (place : ℕ) → stands_in s place ≡ true
+    → (first_place s ≤ place) × (place < reserved_end s)
 stands-between s place e =
     let (low, high) = and_parts (nat_le (first_place s) place) (nat_lt place (reserved_end s)) e in
     (leb-true (first_place s) place low, ltb-true place (reserved_end s) high)
 
-pub between-stands : (s : SegInfo) (place : ℕ) → first_place s ≤ place → place < reserved_end s → stands_in s place ≡ true
-between-stands s place low high = and_from (nat_le (first_place s) place) (nat_lt place (reserved_end s)) (le-leb (first_place s) place low) (lt-ltb place (reserved_end s) high)
+pub between-stands : (s : SegInfo) (place : ℕ) → first_place s ≤ place → place < reserved_end s
+    → stands_in s place ≡ true
+between-stands s place low high =
+    and_from (nat_le (first_place s) place) (nat_lt place (reserved_end s)) (le-leb (first_place s) place low)
+    (lt-ltb place (reserved_end s) high)
 
 -- where one member alone passes the test, the search finds it
-pub found_one : (test : SegInfo → Bool) (ss : List SegInfo) (s : SegInfo) → IsIn s ss → test s ≡ true → ((r : SegInfo) → IsIn r ss → test r ≡ true → r ≡ s) → find test ss ≡ Some s
+pub found_one : (test : SegInfo → Bool) (ss : List SegInfo) (s : SegInfo) → IsIn s ss → test s ≡ true
+    → ((r : SegInfo) → IsIn r ss → test r ≡ true → r ≡ s) → find test ss ≡ Some s
 found_one test [] s i passes one = elim i [ ]
-found_one test (r ∷ ss) s i passes one = go (test r) refl (in_cons i) (λ j. found_one test ss s j passes (λ u k. one u (later k)))
+found_one test (r ∷ ss) s i passes one =
+    go (test r) refl (in_cons i) (λ j. found_one test ss s j passes (λ u k. one u (later k)))
   where
-    go : (b : Bool) → test r ≡ b → (s ≡ r) ⊎ IsIn s ss → (IsIn s ss → find test ss ≡ Some s) → (if b then Some r else find test ss) ≡ Some s
+    go : (b : Bool) → test r ≡ b → (s ≡ r) ⊎ IsIn s ss → (IsIn s ss → find test ss ≡ Some s)
+        → (if b then Some r else find test ss) ≡ Some s
     go true e j more = ap (λ u. Some u) (one r first e)
     go false e (inl same) more = let passes_r : test r ≡ true = subst (λ u. test u ≡ true) same passes in absurd cc
     go false e (inr j) more = more j
@@ -57,7 +66,8 @@ module _ (layout : Layout) (h : IsLawfulLayout layout) where
   ephemerals-are = one_alone (segments_of Ephemeral layout) h.one_ephemeral
 
   ephemeral-found : (same_kind Ephemeral (ephemeral layout).kind ≡ true) × IsIn (ephemeral layout) layout.segments
-  ephemeral-found = out_of_filter (λ (s : SegInfo). same_kind Ephemeral s.kind) (ephemeral layout) layout.segments (subst (IsIn (ephemeral layout)) (sym ephemerals-are) first)
+  ephemeral-found = out_of_filter (λ (s : SegInfo). same_kind Ephemeral s.kind) (ephemeral layout) layout.segments
+      (subst (IsIn (ephemeral layout)) (sym ephemerals-are) first)
 
   pub ephemeral-in : IsIn (ephemeral layout) layout.segments
   ephemeral-in = ephemeral-found.1
@@ -75,7 +85,8 @@ module _ (layout : Layout) (h : IsLawfulLayout layout) where
       go (inr (inr l)) = let big : 262144 ≤ t.reserved = (lawful_segment t j).least in absurd (omega arith)
 
   -- a place stands in one segment at most
-  pub one_home : (s t : SegInfo) (place : ℕ) → IsIn s layout.segments → IsIn t layout.segments → stands_in s place ≡ true → stands_in t place ≡ true → s ≡ t
+  pub one_home : (s t : SegInfo) (place : ℕ) → IsIn s layout.segments → IsIn t layout.segments
+      → stands_in s place ≡ true → stands_in t place ≡ true → s ≡ t
   one_home s t place i j in_s in_t = go (separate s t i j)
     where
       go : AreSeparate s t → s ≡ t
@@ -87,7 +98,8 @@ module _ (layout : Layout) (h : IsLawfulLayout layout) where
           let (low, high) = stands-between t place in_t in
           let (low_s, high_s) = stands-between s place in_s in absurd (omega arith)
 
-  pub elsewhere : (s t : SegInfo) (place : ℕ) → IsIn s layout.segments → IsIn t layout.segments → s.base ≢ t.base → stands_in t place ≡ true → stands_in s place ≡ false
+  pub elsewhere : (s t : SegInfo) (place : ℕ) → IsIn s layout.segments → IsIn t layout.segments → s.base ≢ t.base
+      → stands_in t place ≡ true → stands_in s place ≡ false
   elsewhere s t place i j apart in_t =
       elim (cases_Bool (stands_in s place)) [
         | inl in_s ↦ absurd (apart (ap (λ (u : SegInfo). u.base) (one_home s t place i j in_s in_t)))
@@ -95,5 +107,7 @@ module _ (layout : Layout) (h : IsLawfulLayout layout) where
       ]
 
   -- the segment of a place in which it stands
-  pub segment_of-home : (s : SegInfo) (place : ℕ) → IsIn s layout.segments → stands_in s place ≡ true → segment_of layout place ≡ Some s
-  segment_of-home s place i e = found_one (λ (u : SegInfo). stands_in u place) layout.segments s i e (λ r j f. one_home r s place j i f e)
+  pub segment_of-home : (s : SegInfo) (place : ℕ) → IsIn s layout.segments → stands_in s place ≡ true
+      → segment_of layout place ≡ Some s
+  segment_of-home s place i e = found_one (λ (u : SegInfo). stands_in u place) layout.segments s i e
+      (λ r j f. one_home r s place j i f e)

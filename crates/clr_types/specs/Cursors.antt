@@ -13,7 +13,10 @@ pub record IsInRange (size : ℕ) (series : Series) : Type 0 where
 
 -- the offsets that are still to come
 abbrev pub offsets_left : Cursor → List ℕ
-offsets_left cursor = offsets_from cursor.place cursor.left ++ flat_map (run_offsets cursor.size) (map (moved cursor.shift) cursor.runs.now ++ repeated (cursor.shift + cursor.stride) cursor.stride cursor.elements cursor.series.now)
+offsets_left cursor = offsets_from cursor.place cursor.left
+    ++ flat_map (run_offsets cursor.size)
+    (map (moved cursor.shift) cursor.runs.now
+    ++ repeated (cursor.shift + cursor.stride) cursor.stride cursor.elements cursor.series.now)
 
 -- the runs are in range, and all offsets are small
 pub record IsCursor (cursor : Cursor) : Type 0 where

@@ -1,8 +1,10 @@
 -- The references of a type as runs of slots, and the offsets that runs spell.
-use Rattle.std.specs.Prelude.{◌≡◌, ℕ, zero, suc, ◌+◌, ◌-◌, ◌*◌, ◌/◌, ◌<◌, ◌≤◌, ◌%◌, List, [], ◌∷◌, ◌++◌, map, filter, length, Bool, true, false, pos, negsuc, ◌-ℤ◌, ℤ}
+use Rattle.std.specs.Prelude.{◌≡◌, ℕ, zero, suc, ◌+◌, ◌-◌, ◌*◌, ◌/◌, ◌<◌, ◌≤◌, ◌%◌, List, [], ◌∷◌, ◌++◌, map, filter}
+use Rattle.std.specs.Prelude.{length, Bool, true, false, pos, negsuc, ◌-ℤ◌, ℤ}
 use Rattle.std.specs.List.{flat_map, AllByRecursion}
 use Rattle.clr_types.specs.Rising.{IsRisingBy}
-use Rattle.clr_types.specs.Types.{Form, class_form, references_form, bytes_form, structs_form, size_of, slot_kinds, slot_offset, slots_of}
+use Rattle.clr_types.specs.Types.{Form, class_form, references_form, bytes_form, structs_form, size_of, slot_kinds}
+use Rattle.clr_types.specs.Types.{slot_offset, slots_of}
 use Rattle.clr_types.specs.declared.shape.Slot.{Slot}
 use Rattle.clr_types.specs.declared.descriptors.Series.{Series}
 
@@ -17,7 +19,8 @@ leading [] = 0
 leading (true ∷ kinds) = leading kinds + 1
 leading (false ∷ kinds) = 0
 
--- The longest runs of references by rising number, for the slots from slot i on. A run begins at each reference that doesn't
+-- The longest runs of references by rising number, for the slots from slot i on. A run begins at each reference that
+-- doesn't
 -- follow a reference, and goes on as long as references follow.
 abbrev pub runs_from : Bool → ℕ → List Bool → List Run
 runs_from follows i [] = []
@@ -30,7 +33,8 @@ runs_of kinds = runs_from false 0 kinds
 
 -- a run as a series, where slot 0 has this offset and objects have this size
 abbrev pub series_of_run : ℕ → ℕ → Run → Series
-series_of_run offset size run = record { start = offset + 8 * run.first; run_less_size = pos (8 * run.count) -ℤ pos size }
+series_of_run offset size run =
+    record { start = offset + 8 * run.first; run_less_size = pos (8 * run.count) -ℤ pos size }
 
 -- the series of a form, an array's by what holds for one element
 abbrev pub series_of : Form → List Series
@@ -64,11 +68,13 @@ abbrev pub spelled : Form → ℕ → List Series → List ℕ
 spelled (class_form pattern) len series = flat_map (run_offsets (size_of (class_form pattern) len)) series
 spelled references_form len series = flat_map (run_offsets (size_of references_form len)) series
 spelled bytes_form len series = flat_map (run_offsets (size_of bytes_form len)) series
-spelled (structs_form pattern) len series = flat_map (run_offsets (size_of (structs_form pattern) 1)) (repeated 0 (8 * length pattern) len series)
+spelled (structs_form pattern) len series =
+    flat_map (run_offsets (size_of (structs_form pattern) 1)) (repeated 0 (8 * length pattern) len series)
 
 -- the offsets of the slots that hold references
 abbrev pub reference_offsets : Form → ℕ → List ℕ
-reference_offsets form len = map (λ (slot : Slot). slot.offset) (filter (λ (slot : Slot). slot.reference) (slots_of form len))
+reference_offsets form len = map (λ (slot : Slot). slot.offset)
+    (filter (λ (slot : Slot). slot.reference) (slots_of form len))
 
 -- the series of a form spell the offsets of the references
 abbrev pub SeriesLaw : Type 0
@@ -78,10 +84,13 @@ SeriesLaw = (form : Form) (len : ℕ) → spelled form len (series_of form) ≡ 
 abbrev pub RisingOffsetsLaw : Type 0
 RisingOffsetsLaw = (form : Form) (len : ℕ) → IsRisingBy (λ n. n) (reference_offsets form len)
 
--- a reference stands behind the method table word, ends a word before the object's last byte (the header word of the object
+-- a reference stands behind the method table word, ends a word before the object's last byte (the header word of the
+-- object
 -- that may follow lies in its place), and is aligned
 abbrev pub InsideLaw : Type 0
-InsideLaw = (form : Form) (len : ℕ) → AllByRecursion (λ offset. (8 ≤ offset) × (offset + 16 ≤ size_of form len) × (offset % 8 ≡ 0)) (reference_offsets form len)
+InsideLaw = (form : Form) (len : ℕ)
+    → AllByRecursion (λ offset. (8 ≤ offset) × (offset + 16 ≤ size_of form len) × (offset % 8 ≡ 0))
+    (reference_offsets form len)
 
 -- each run has a slot, and between a run and the next there is a slot that is none of theirs
 abbrev pub StandApart : List Run → Type 0

@@ -1,9 +1,10 @@
 -- What holds of the segments, the boundaries and the pieces of every layout.
-use Rattle.std.specs.Prelude.{◌≡◌, ℕ, ◌%◌, ◌<◌, ◌≤◌, List, [], ◌∷◌, length, ◌⊎◌}
+use Rattle.std.specs.Prelude.{◌≡◌, ℕ, ◌%◌, ◌<◌, ◌≤◌, List, [], ◌∷◌, length, ◌⊎◌, true}
 use Rattle.std.specs.List.{AllByRecursion}
 use Rattle.clr_types.specs.Rising.{IsRisingBy}
 use Rattle.clr_types.specs.Ranges.{Piece, piece_end, Tiles}
-use Rattle.clr_types.specs.Segments.{Layout, first_place, reserved_end, segments_of, ephemeral, pieces_in}
+use Rattle.clr_types.specs.Segments.{Layout, first_place, is_small_or_ephemeral, reserved_end, segments_of, ephemeral}
+use Rattle.clr_types.specs.Segments.{pieces_in}
 use Rattle.clr_types.specs.declared.segment.SegInfo.{SegInfo}
 use Rattle.clr_types.specs.declared.segment.SegKind.TheVariants.{Small, Ephemeral, Large}
 
@@ -12,10 +13,13 @@ abbrev pub AreDisjoint : List SegInfo → Type 0
 AreDisjoint [] = Unit {0}
 AreDisjoint (s ∷ ss) = AllByRecursion (λ r. reserved_end s ≤ r.base) ss × AreDisjoint ss
 
+-- bases begin at 0x10000000, and no segment of the small heap reserves more than 64 MiB
 pub record IsLawfulSegment (s : SegInfo) : Type 0 where
   pub base : s.base % 4096 ≡ 0
+  pub lowest : 0x10000000 ≤ s.base
   pub reserved : s.reserved % 4096 ≡ 0
   pub least : 262144 ≤ s.reserved
+  pub most : is_small_or_ephemeral s.kind ≡ true → s.reserved ≤ 67108864
   pub low : first_place s ≤ s.end
   pub high : s.end ≤ reserved_end s
   pub aligned : s.end % 8 ≡ 0
@@ -28,6 +32,7 @@ pub record IsLawfulLayout (layout : Layout) : Type 0 where
   pub segments : AllByRecursion IsLawfulSegment layout.segments
   pub disjoint : AreDisjoint layout.segments
   pub below_top : AllByRecursion (λ (s : SegInfo). reserved_end s ≤ layout.top) layout.segments
+  pub top_aligned : layout.top % 4096 ≡ 0
   pub one_ephemeral : length (segments_of Ephemeral layout) ≡ 1
   pub ephemeral_last : AllByRecursion (λ (s : SegInfo). s.base ≤ (ephemeral layout).base) (segments_of Small layout)
   pub some_large : 0 < length (segments_of Large layout)

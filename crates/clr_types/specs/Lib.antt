@@ -10,3 +10,5 @@ pub mod MethodTables
 pub mod Descriptors
 pub mod ReferenceRuns
 pub mod Cursors
+pub mod Maps
+pub mod HandleCode

@@ -1,5 +1,6 @@
 -- Segments, the layout of a heap, and what a place in it tells.
-use Rattle.std.specs.Prelude.{ℕ, ◌+◌, ◌-◌, ◌*◌, replicate, List, [], ◌∷◌, Option, Some, None, if◌then◌else◌, nat_lt, nat_le, Bool, true, false, ◌&&◌, slice_get, find, sum_by, filter}
+use Rattle.std.specs.Prelude.{ℕ, ◌+◌, ◌-◌, ◌*◌, replicate, List, [], ◌∷◌, Option, Some, None, if◌then◌else◌, nat_lt}
+use Rattle.std.specs.Prelude.{nat_le, Bool, true, false, ◌&&◌, slice_get, find, sum_by, filter}
 use Rattle.clr_types.specs.Rising.{changed_by}
 use Rattle.clr_types.specs.Ranges.{Piece}
 use Rattle.clr_types.specs.declared.segment.SegInfo.{SegInfo}
@@ -50,6 +51,19 @@ ended_at end s = record s { end = end }
 abbrev pub empty_segment : SegInfo
 empty_segment = record { base = 0; reserved = 0; kind = Ephemeral; end = 0 }
 
+-- a segment with nothing in it
+abbrev pub opening_segment : ℕ → SegKind → ℕ → SegInfo
+opening_segment base kind size = record { base = base; reserved = size; kind = kind; end = base + 0x1000 }
+
+abbrev pub sealed_kind : SegKind → SegKind
+sealed_kind Small = Small
+sealed_kind Ephemeral = Small
+sealed_kind Large = Large
+
+-- an ephemeral segment becomes small
+abbrev pub sealed_segment : SegInfo → SegInfo
+sealed_segment s = record s { kind = sealed_kind s.kind }
+
 abbrev pub segment_or_empty : List SegInfo → SegInfo
 segment_or_empty [] = empty_segment
 segment_or_empty (s ∷ ss) = s
@@ -69,20 +83,18 @@ ephemeral layout = segment_or_empty (segments_of Ephemeral layout)
 abbrev pub reserved_sum : Layout → ℕ
 reserved_sum layout = sum_by (λ s. s.reserved) layout.segments
 
--- A place of the ephemeral segment has generation 2 below the first boundary, 1 below the second and 0 from there on. Every other place has generation 2.
+-- A place of the ephemeral segment has generation 2 below the first boundary, 1 below the second and 0 from there on.
+-- Every other place has generation 2.
 abbrev pub generation : Layout → ℕ → ℕ
 generation layout place =
-    if stands_in (ephemeral layout) place then (if nat_lt place layout.start1 then 2 else (if nat_lt place layout.start0 then 1 else 0)) else 2
+    if stands_in (ephemeral layout) place then
+    (if nat_lt place layout.start1 then 2 else (if nat_lt place layout.start0 then 1 else 0)) else 2
 
 -- the segment with this base ends here
 abbrev pub with_end : Layout → ℕ → ℕ → Layout
 with_end layout base end = record layout { segments = changed_by (λ s. s.base) base (ended_at end) layout.segments }
 
 -- ---- the start
-
--- a segment with nothing in it
-abbrev pub opening_segment : ℕ → SegKind → ℕ → SegInfo
-opening_segment base kind size = record { base = base; reserved = size; kind = kind; end = base + 0x1000 }
 
 -- an empty ephemeral segment, and an empty large one after it
 abbrev pub opening_layout : ℕ → Layout

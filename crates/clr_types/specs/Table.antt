@@ -1,10 +1,12 @@
 -- The table of types as it is kept: the names and the method tables in order, with unused space as number 0.
-use Rattle.std.specs.Prelude.{◌≡◌, ◌≢◌, ℕ, ◌+◌, ◌*◌, ◌≤◌, nat_le, max, List, [], ◌∷◌, length, if◌then◌else◌, Bool, true, false, Option, Some, None}
+use Rattle.std.specs.Prelude.{◌≡◌, ◌≢◌, ℕ, ◌+◌, ◌*◌, ◌≤◌, nat_le, max, List, [], ◌∷◌, length, if◌then◌else◌, Bool, true}
+use Rattle.std.specs.Prelude.{false, Option, Some, None}
 use Rattle.std.specs.Str.{bytes_eq}
 use Rattle.std.specs.List.{AllByRecursion}
 use Rattle.clr_types.specs.declared.fault.DefineFault.{DefineFault}
 use Rattle.clr_types.specs.declared.fault.DefineFault.TheVariants.{Duplicate, BadShape, TooManyTypes}
-use Rattle.clr_types.specs.Types.{Form, class_form, references_form, bytes_form, structs_form, TypeRow, is_lawful_form, free_name}
+use Rattle.clr_types.specs.Types.{Form, class_form, references_form, bytes_form, structs_form, TypeRow, is_lawful_form}
+use Rattle.clr_types.specs.Types.{free_name}
 
 -- what a method table says of a type: all but its name
 pub record Described : Type 0 where
@@ -49,7 +51,8 @@ abbrev pub name_number : ℕ → List (List ℕ) → List ℕ → Option ℕ
 name_number n [] name = None
 name_number n (known ∷ names) name = if bytes_eq known name then Some n else name_number (n + 1) names name
 
--- the first refusal that fits, by the number that has the name, whether the shape is lawful, and how many types there are
+-- the first refusal that fits, by the number that has the name, whether the shape is lawful, and how many types there
+-- are
 abbrev pub first_refusal : Option ℕ → Bool → ℕ → Option DefineFault
 first_refusal (Some n) lawful count = Some Duplicate
 first_refusal None false count = Some BadShape

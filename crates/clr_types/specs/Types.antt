@@ -1,5 +1,6 @@
 -- Types: a name, a form and whether there is a finaliser; sizes, slots and method table words.
-use Rattle.std.specs.Prelude.{ℕ, ◌+◌, ◌*◌, max, List, [], ◌∷◌, map, length, replicate, if◌then◌else◌, ◌==◌, nat_le, Bool, true, false, ◌&&◌, ◌||◌, Option, Some, None, slice_get, codes, suc, zero, bytes_eq}
+use Rattle.std.specs.Prelude.{ℕ, ◌+◌, ◌*◌, max, List, [], ◌∷◌, map, length, replicate, if◌then◌else◌, ◌==◌, nat_le}
+use Rattle.std.specs.Prelude.{Bool, true, false, ◌&&◌, ◌||◌, Option, Some, None, slice_get, codes, suc, zero, bytes_eq}
 use Rattle.std.specs.List.{repeat, list_all}
 use Rattle.clr_types.specs.Ranges.{rounded_up}
 use Rattle.clr_types.specs.declared.shape.Shape.{Shape}
@@ -47,7 +48,8 @@ slot_kinds references_form len = replicate len true
 slot_kinds bytes_form len = replicate len false
 slot_kinds (structs_form pattern) len = repeat len (map is_reference pattern)
 
--- how far slot i stands from the object's place: a class's slots follow the method table word, an array's the length word
+-- how far slot i stands from the object's place: a class's slots follow the method table word, an array's the length
+-- word
 abbrev pub slot_offset : Form → ℕ → ℕ
 slot_offset (class_form pattern) i = 8 + 8 * i
 slot_offset references_form i = 16 + 8 * i
@@ -57,7 +59,8 @@ slot_offset (structs_form pattern) i = 16 + 8 * i
 -- the slots from slot i on, with their offsets
 abbrev pub slots_from : Form → ℕ → List Bool → List Slot
 slots_from form i [] = []
-slots_from form i (kind ∷ kinds) = record { offset = slot_offset form i; reference = kind } ∷ slots_from form (i + 1) kinds
+slots_from form i (kind ∷ kinds) = record { offset = slot_offset form i; reference = kind }
+    ∷ slots_from form (i + 1) kinds
 
 abbrev pub slots_of : Form → ℕ → List Slot
 slots_of form len = slots_from form 0 (slot_kinds form len)
@@ -79,7 +82,9 @@ abbrev pub is_lawful_form : Form → Bool → Bool
 is_lawful_form (class_form pattern) finalizer = list_all is_pattern_byte pattern && nat_le (length pattern) 256
 is_lawful_form references_form finalizer = if finalizer then false else true
 is_lawful_form bytes_form finalizer = if finalizer then false else true
-is_lawful_form (structs_form pattern) finalizer = (list_all is_pattern_byte pattern && (nat_le 1 (length pattern) && nat_le (length pattern) 64)) && (if finalizer then false else true)
+is_lawful_form (structs_form pattern) finalizer =
+    (list_all is_pattern_byte pattern && (nat_le 1 (length pattern) && nat_le (length pattern) 64)) &&
+    (if finalizer then false else true)
 
 -- the method table word of a type
 abbrev pub mt_of : ℕ → ℕ

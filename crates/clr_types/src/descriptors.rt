@@ -14,7 +14,8 @@ use std::alloc::Global;
 
 /// A run of references: the offset of its first slot from the place, and its length in bytes less the object's size.
 ///
-/// Of an array of structs the runs are those of one element, and the size is that of an array of one element. There the runs
+/// Of an array of structs the runs are those of one element, and the size is that of an array of one element. There the
+/// runs
 /// come again in each element, so many bytes later as an element has.
 #[derive(Clone, Copy, Debug, Default, PartialEq, Eq)]
 pub struct Series {
@@ -22,7 +23,8 @@ pub struct Series {
     pub run_less_size: i64,
 }
 
-/// References one behind the other in an object: the offset of the first from the place, in bytes, and how many there are.
+/// References one behind the other in an object: the offset of the first from the place, in bytes, and how many there
+/// are.
 #[derive(Clone, Copy, Debug, PartialEq, Eq)]
 pub struct ReferenceRun {
     pub offset: u64,
@@ -85,7 +87,8 @@ fn pattern_series(
     requires few { length pattern.now ≤ 256 }
     requires low { offset ≤ 16 }
     requires small { size ≤ 4096 }
-    ensures { IfOk result (λ series. series.items ≡ map (series_of_run offset size) (runs_of (map is_reference pattern.now))) }
+    ensures { IfOk result (λ series. series.items
+        ≡ map (series_of_run offset size) (runs_of (map is_reference pattern.now))) }
 {
     let mut series = SmallVec::new(alloc);
     let mut references = 0;

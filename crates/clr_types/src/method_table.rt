@@ -2,7 +2,8 @@
 
 ghost use Rattle.std.specs.Prelude.{◌≡◌, ◌<◌, ◌≤◌, true, false, length, slice_get, Some, IfOk, SomeIff};
 ghost use Rattle.std.specs.List.{list_all};
-ghost use Rattle.clr_types.specs.Types.{form_of, is_lawful_form, is_array, is_pattern_byte, bytes_form, slot_kinds, slot_offset};
+ghost use Rattle.clr_types.specs.Types.{form_of, is_lawful_form, is_array, is_pattern_byte, bytes_form, slot_kinds};
+ghost use Rattle.clr_types.specs.Types.{slot_offset};
 ghost use Rattle.clr_types.specs.Types as types;
 ghost use Rattle.clr_types.specs.Table as table;
 ghost use Rattle.clr_types.specs.Descriptors as descriptors;
@@ -27,8 +28,10 @@ enum Pattern {
     StructArray(Vec<u8>),
 }
 
-/// What is kept of a type: its shape, whether it has a finaliser, the sizes in bytes of its objects without their elements
-/// and of one element, which is 0 where there are no elements, its series, and the run of a class whose references are one run.
+/// What is kept of a type: its shape, whether it has a finaliser, the sizes in bytes of its objects without their
+/// elements
+/// and of one element, which is 0 where there are no elements, its series, and the run of a class whose references are
+/// one run.
 #[derive(Drop)]
 pub(crate) struct MethodTable {
     pattern: Pattern,
@@ -124,7 +127,8 @@ impl MethodTable {
         self.series.as_slice()
     }
 
-    /// The run of the references of an object of `len` elements, where they are one run: those of many classes, and of an array of
+    /// The run of the references of an object of `len` elements, where they are one run: those of many classes, and of
+    /// an array of
     /// references.
     #[inline]
     pub(crate) fn reference_run(&self, len: u64) -> Option<ReferenceRun>

@@ -1,4 +1,9 @@
 //! Segments of the heap.
+ghost use Rattle.std.specs.Prelude.{◌≡◌, ◌+◌, ◌<◌, ◌^◌};
+ghost use Rattle.clr_types.specs.Segments as segments;
+
+/// How far the first place of a segment stands above its base, in bytes.
+pub const FIRST_OFFSET: u64 = 0x1000;
 
 /// What a segment is for.
 #[derive(Clone, Copy, Debug, PartialEq, Eq)]
@@ -20,4 +25,39 @@ pub struct SegInfo {
     pub reserved: u64,
     pub kind: SegKind,
     pub end: u64,
+}
+
+impl SegInfo {
+    /// A segment with nothing in it, which reserves `size` bytes.
+    pub fn empty(kind: SegKind, base: u64, size: u64) -> SegInfo
+        requires { base + 4096 < 2 ^ 64 }
+        ensures { result ≡ segments.opening_segment base kind size }
+    {
+        SegInfo {
+            base,
+            reserved: size,
+            kind,
+            end: base + FIRST_OFFSET,
+        }
+    }
+
+    /// The place of an object that stands at the segment's front.
+    #[inline]
+    pub fn first_place(&self) -> u64
+        requires { self.now.base + 4096 < 2 ^ 64 }
+        ensures { result ≡ segments.first_place self.now }
+    {
+        self.base + FIRST_OFFSET
+    }
+
+    /// The same segment, which is a small one now where it was ephemeral.
+    pub fn sealed(self) -> SegInfo
+        ensures { result ≡ segments.sealed_segment self }
+    {
+        let kind = match self.kind {
+            SegKind::Small | SegKind::Ephemeral => SegKind::Small,
+            SegKind::Large => SegKind::Large,
+        };
+        SegInfo { kind, ..self }
+    }
 }

@@ -8,8 +8,10 @@ ghost use Rattle.clr_types.specs.Cursors.{IsCursor, IsInRange, offsets_left};
 use crate::Series;
 use std::marker::Model;
 
-// Where an iterator stands: `left` slots from the offset `place` on in the run that is open, then the `runs` of the element
-// that is open, which begins `shift` bytes after the first, then the whole `series` in each of so many further `elements`,
+// Where an iterator stands: `left` slots from the offset `place` on in the run that is open, then the `runs` of the
+// element
+// that is open, which begins `shift` bytes after the first, then the whole `series` in each of so many further
+// `elements`,
 // `stride` bytes apart. Runs are less by objects of `size` bytes.
 #[derive(Clone, Copy)]
 struct Cursor<'a> {

@@ -1,8 +1,11 @@
 //! The table of types.
 
-ghost use Rattle.std.specs.Prelude.{◌≡◌, ◌≢◌, ℕ, ◌+◌, ◌<◌, ◌≤◌, ◌↔◌, [], ◌∷◌, ◌++◌, length, slice_get, true, false, Some, None, IsSome, IfSome, IfOk, OnOk, OnErr, SomeIff, MatchOption, option_map, ◌-◌, ◌/◌};
+ghost use Rattle.std.specs.Prelude.{◌≡◌, ◌≢◌, ℕ, ◌+◌, ◌-◌, ◌/◌, ◌<◌, ◌≤◌, ◌↔◌, [], ◌∷◌, ◌++◌};
+ghost use Rattle.std.specs.Prelude.{IfOk, IfSome, IsSome, MatchOption, None, OnErr, OnOk, Some, SomeIff};
+ghost use Rattle.std.specs.Prelude.{false, length, option_map, slice_get, true};
 ghost use Rattle.std.specs.List.{AllByRecursion};
-ghost use Rattle.clr_types.specs.Types.{form_of, form_at, is_array, is_lawful_form, mt_of, name_of, number_with_free, slot_kinds, slot_offset, slots_of, type_row};
+ghost use Rattle.clr_types.specs.Types.{form_of, form_at, is_array, is_lawful_form, mt_of, name_of};
+ghost use Rattle.clr_types.specs.Types.{number_with_free, slot_kinds, slot_offset, slots_of, type_row};
 ghost use Rattle.clr_types.specs.Types as types;
 ghost use Rattle.clr_types.specs.Descriptors.{reference_offsets, series_of};
 ghost use Rattle.clr_types.specs.ReferenceRuns.{single_run, SpellsReferences};
@@ -10,7 +13,7 @@ ghost use Rattle.clr_types.specs.Table.{first_refusal, IsLawfulRow, HasDistinctN
 
 use crate::method_table::{MethodTable, is_lawful};
 use crate::names::Names;
-use crate::{DefineFault, NoMemory, ReferenceRun, Series, Shape, Slot, Slots, TypeId};
+use crate::{DefineFault, FREE_MT, NoMemory, ReferenceRun, Series, Shape, Slot, Slots, TypeId};
 use std::alloc::Global;
 use std::marker::Model;
 
@@ -18,9 +21,10 @@ use std::marker::Model;
 const MOST_TYPES: u32 = 1000;
 
 /// The method table word of number 0.
-const FIRST_WORD: u64 = 0x7ff0_0000_0000;
+const FIRST_WORD: u64 = FREE_MT;
 
-/// The types that a script defined, numbered from 1 in order of definition. `Free`, the type of unused space, is number 0.
+/// The types that a script defined, numbered from 1 in order of definition. `Free`, the type of unused space, is
+/// number 0.
 #[derive(Drop)]
 pub struct Types {
     alloc: Global,
@@ -76,13 +80,19 @@ impl Types {
         finalizer: bool,
     ) -> Result<TypeId, DefineFault>
         ensures number { IfOk result (λ t. t.0 ≡ length self.old + 1) }
-        ensures defined { OnOk result (self.new ≡ self.old ++ record { name = name.now; form = form_of shape.entry; finalizer = finalizer } ∷ []) }
+        ensures defined { OnOk result (self.new ≡ self.old
+            ++ record { name = name.now; form = form_of shape.entry; finalizer = finalizer } ∷ []) }
         ensures err { OnErr result (self.new ≡ self.old) }
 
         // Each refusal comes exactly where it is the first that fits.
         ensures duplicate { (result ≡ Err DefineFault.Duplicate) ↔ (number_with_free self.old name.now ≢ None) }
-        ensures bad_shape { (result ≡ Err DefineFault.BadShape) ↔ ((number_with_free self.old name.now ≡ None) × (is_lawful_form (form_of shape.entry) finalizer ≡ false)) }
-        ensures too_many { (result ≡ Err DefineFault.TooManyTypes) ↔ ((number_with_free self.old name.now ≡ None) × (is_lawful_form (form_of shape.entry) finalizer ≡ true) × (length self.old ≡ 1000)) }
+        ensures bad_shape { (result ≡ Err DefineFault.BadShape)
+            ↔ ((number_with_free self.old name.now ≡ None)
+            × (is_lawful_form (form_of shape.entry) finalizer ≡ false)) }
+        ensures too_many { (result ≡ Err DefineFault.TooManyTypes)
+            ↔ ((number_with_free self.old name.now ≡ None)
+            × (is_lawful_form (form_of shape.entry) finalizer ≡ true)
+            × (length self.old ≡ 1000)) }
     {
         if let Some(fault) = self.refusal(name, shape, finalizer) {
             return Err(fault);
@@ -97,7 +107,9 @@ impl Types {
 
     // Why a type can't be defined, if not for want of memory.
     fn refusal(&self, name: &[u8], shape: Shape<'_>, finalizer: bool) -> Option<DefineFault>
-        ensures { result ≡ first_refusal (number_with_free self.now name.now) (is_lawful_form (form_of shape.entry) finalizer) (length self.now) }
+        ensures { let named = number_with_free self.now name.now in
+            let lawful = is_lawful_form (form_of shape.entry) finalizer in
+            result ≡ first_refusal named lawful (length self.now) }
     {
         if self.by_name(name).is_some() {
             Some(DefineFault::Duplicate)
@@ -129,7 +141,9 @@ impl Types {
 
     /// The type with this method table word.
     pub fn by_mt(&self, mt: u64) -> Option<TypeId>
-        ensures { MatchOption result ((t : ℕ) → t ≤ length self.now → mt ≢ mt_of t) (λ t. (t.0 ≤ length self.now) × (mt ≡ mt_of t.0)) }
+        ensures { MatchOption result
+            ((t : ℕ) → t ≤ length self.now → mt ≢ mt_of t)
+            (λ t. (t.0 ≤ length self.now) × (mt ≡ mt_of t.0)) }
     {
         if mt < FIRST_WORD || (mt - FIRST_WORD) % 64 != 0 {
             return None;
@@ -145,11 +159,12 @@ impl Types {
     /// The type that a method table word names. The word is one of the table's.
     #[inline]
     pub fn of_mt(&self, mt: u64) -> TypeId
-        requires { (mt - FIRST_WORD) / 64 ≤ length self.now }
+        requires known { (mt - FIRST_WORD) / 64 ≤ length self.now }
+        requires word { mt ≡ mt_of ((mt - FIRST_WORD) / 64) }
         ensures { result.0 ≡ (mt - FIRST_WORD) / 64 }
     {
         let _ = self.count();
-        TypeId((mt.saturating_sub(FIRST_WORD) / 64) as u32)
+        TypeId(((mt - FIRST_WORD) / 64) as u32)
     }
 
     /// The name of a type.
@@ -183,12 +198,14 @@ impl Types {
     #[inline]
     pub fn size_of(&self, t: TypeId, len: u64) -> Option<u64>
         requires { t.0 ≤ length self.now }
-        ensures { SomeIff result (types.size_of (form_at self.now t.0) len ≤ 1073741824) (types.size_of (form_at self.now t.0) len) }
+        ensures { let size = types.size_of (form_at self.now t.0) len in
+            SomeIff result (size ≤ 1073741824) size }
     {
         self.table(t).size(len)
     }
 
-    /// The bytes of an item of `len` elements, where they are at most 2^30. It has no test for that, so a walk can afford it.
+    /// The bytes of an item of `len` elements, where they are at most 2^30. It has no test for that, so a walk can
+    /// afford it.
     #[inline]
     pub fn item_size(&self, t: TypeId, len: u64) -> u64
         requires known { t.0 ≤ length self.now }
@@ -235,8 +252,9 @@ impl Types {
         self.table(t).series()
     }
 
-    /// The references of an object of `len` elements, where they stand one behind the other: those of a class in which they are
-    /// one run, as in most, and of an array of references. `None` comes of classes with none or with several runs, and of other arrays.
+    /// The references of an object of `len` elements, where they stand one behind the other: those of a class in which
+    /// they are one run, as in most, and of an array of references. `None` comes of classes with none or with several
+    /// runs, and of other arrays.
     #[inline]
     pub fn reference_run(&self, t: TypeId, len: u64) -> Option<ReferenceRun>
         requires { t.0 ≤ length self.now }

@@ -11,7 +11,8 @@ returns c =
     let form = form_of_pattern table.pattern in
     let size = (table.base_size + table.element_size * c.min-counted.result + 7) / 8 * 8 in
     let fits : size_of form c.args.len ≤ largest = rw (← c.self.view_is) at c.requires in
-    let both = sized form table.finalizer c.args.len table.base_size table.element_size c.min-counted.result size c.self.invariant.lawful c.self.invariant.base c.self.invariant.element c.min-counted.ensures refl in
+    let both = sized form table.finalizer c.args.len table.base_size table.element_size c.min-counted.result size
+    c.self.invariant.lawful c.self.invariant.base c.self.invariant.element c.min-counted.ensures refl in
     rw (← c.self.view_is) (elim (cases_lt largest size) [
       | inl above ↦ absurd (both.1 above fits)
       | inr within ↦ (both.0 within).1

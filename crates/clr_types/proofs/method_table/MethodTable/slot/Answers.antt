@@ -5,13 +5,15 @@ use Rattle.clr_types.proofs.method_table.MethodTable.slot.Goals as goal
 
 pub overflow_mul-result-in-StructArray : goal.overflow_mul-result-in-StructArray
 overflow_mul-result-in-StructArray c =
-    let form : c.args.self.now.form ≡ structs_form c.in-StructArray.pattern.items = rw (← c.self.view_is, c.in-StructArray.is) refl in
+    let form : c.args.self.now.form
+    ≡ structs_form c.in-StructArray.pattern.items = rw (← c.self.view_is, c.in-StructArray.is) refl in
     let low = struct_slot_low _ _ c.args.len c.args.i form c.requires.size c.requires.below in
     grind (arith, low)
 
 pub overflow_add-result-in-StructArray : goal.overflow_add-result-in-StructArray
 overflow_add-result-in-StructArray c =
-    let form : c.args.self.now.form ≡ structs_form c.in-StructArray.pattern.items = rw (← c.self.view_is, c.in-StructArray.is) refl in
+    let form : c.args.self.now.form
+    ≡ structs_form c.in-StructArray.pattern.items = rw (← c.self.view_is, c.in-StructArray.is) refl in
     let low = struct_slot_low _ _ c.args.len c.args.i form c.requires.size c.requires.below in
     grind (arith, low)
 
@@ -32,7 +34,10 @@ returns-in-ByteArray-clause-reference c =
 
 pub returns-in-StructArray-clause-reference : goal.returns-in-StructArray-clause-reference
 returns-in-StructArray-clause-reference c =
-    let form : c.args.self.now.form ≡ structs_form c.in-StructArray.pattern.items = rw (← c.self.view_is, c.in-StructArray.is) refl in
+    let form : c.args.self.now.form
+    ≡ structs_form c.in-StructArray.pattern.items = rw (← c.self.view_is, c.in-StructArray.is) refl in
     let lawful = rw c.in-StructArray.is at c.self.invariant.lawful in
-    let whole : c.len.result ≡ length c.in-StructArray.pattern.items = omega (arith, c.len.ensures, c.in-StructArray.pattern.ok) in
-    struct_kind _ _ c.args.len c.args.i c.index-in-StructArray.result.now form (some_slots _ _ lawful) c.requires.below (rw whole at c.index-in-StructArray.ensures)
+    let whole : c.len.result ≡ length c.in-StructArray.pattern.items =
+    omega (arith, c.len.ensures, c.in-StructArray.pattern.ok) in
+    struct_kind _ _ c.args.len c.args.i c.index-in-StructArray.result.now form (some_slots _ _ lawful) c.requires.below
+    (rw whole at c.index-in-StructArray.ensures)

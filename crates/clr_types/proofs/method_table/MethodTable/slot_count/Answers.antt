@@ -6,4 +6,5 @@ pub returns-in-StructArray : goal.returns-in-StructArray
 returns-in-StructArray c =
     let pattern = c.in-StructArray.pattern.items in
     let whole : vec_len c.in-StructArray.pattern ≡ length pattern = omega (arith, c.in-StructArray.pattern.ok) in
-    rw (← c.self.view_is, c.in-StructArray.is, c.len-in-StructArray.ensures) (ap (λ (n : ℕ). n * c.args.len) whole ∙ sym (struct_slots pattern c.args.len))
+    rw (← c.self.view_is, c.in-StructArray.is, c.len-in-StructArray.ensures)
+    (ap (λ (n : ℕ). n * c.args.len) whole ∙ sym (struct_slots pattern c.args.len))

@@ -12,6 +12,8 @@ returns-clause-ok c =
     let name = c.args.name.now in
     let same : owned.items ≡ name = c.in_ok-owned.ensures.items in
     let first : list_any (is_key name) keys ≡ false = no_key 0 name keys (rw c.self.view_is c.requires) in
-    let none : list_any (is_key owned.items) keys ≡ false = ap (λ (n : List ℕ). list_any (is_key n) keys) same ∙ first in
+    let none : list_any (is_key owned.items) keys ≡ false = ap (λ (n : List ℕ). list_any (is_key n) keys) same ∙ first
+    in
     let added : c.insert.new.self.keys ≡ keys ++ owned ∷ [] = rw none at c.in_ok-insert.ensures.keys in
-    ap (map bytes_of) added ∙ map-append bytes_of keys (owned ∷ []) ∙ ap₂ (λ (xs : List (List ℕ)) (n : List ℕ). xs ++ n ∷ []) c.self.view_is same
+    ap (map bytes_of) added ∙ map-append bytes_of keys (owned ∷ [])
+    ∙ ap₂ (λ (xs : List (List ℕ)) (n : List ℕ). xs ++ n ∷ []) c.self.view_is same

@@ -8,7 +8,8 @@ pub returns-in_err-number : goal.returns-in_err-number
 returns-in_err-number c =
     let found = number_by_name c.self.invariant c.args.name.now in
     let number : TypeId → ℕ = λ t. t.0 in
-    rw (← c.self.view_is) (ap (option_map number) c.from_residual.ensures ∙ (sym c.in_err-number.was ∙ (c.number.ensures.value ∙ sym found)))
+    rw (← c.self.view_is) (ap (option_map number) c.from_residual.ensures
+    ∙ (sym c.in_err-number.was ∙ (c.number.ensures.value ∙ sym found)))
 
 pub returns : goal.returns
 returns c =

@@ -9,7 +9,8 @@ pub returns-in-Some-clause-too_many : goal.returns-in-Some-clause-too_many
 returns-in-Some-clause-too_many c =
     let count = rows_count c.self.invariant in
     let view = ap length c.self.view_is in
-    too_many_cause _ _ _ c.in-Some.fault (sym c.in-Some.is ∙ c.refusal.ensures) (omega (arith, count, view, c.self.invariant.few))
+    too_many_cause _ _ _ c.in-Some.fault (sym c.in-Some.is ∙ c.refusal.ensures)
+    (omega (arith, count, view, c.self.invariant.few))
 
 pub add-requires : goal.add-requires
 add-requires c =
@@ -27,11 +28,15 @@ invariant_of-self-2 c =
     let lawful : is_lawful_form made.form made.finalizer ≡ true = rw c.in_ok-table.ensures free.1 in
     let view = ap length c.self.view_is in
     let room = free.2 in
-    rw (c.in_ok-add.ensures.ok, c.push_reserved.ensures.items, c.in_ok-reserve.ensures.items) (table_defined c.self.invariant name made absent lawful (omega (arith, view, room)))
+    rw (c.in_ok-add.ensures.ok, c.push_reserved.ensures.items, c.in_ok-reserve.ensures.items)
+    (table_defined c.self.invariant name made absent lawful (omega (arith, view, room)))
 
 pub returns-clause-defined : goal.returns-clause-defined
 returns-clause-defined c =
     let made = c.in_ok-table.table in
     let rows = rows_defined c.self.invariant c.args.name.now made in
-    let same : row_of c.args.name.now made ≡ record { name = c.args.name.now; form = form_of c.args.shape; finalizer = c.args.finalizer } = rw c.in_ok-table.ensures refl in
-    rw (c.in_ok-add.ensures.ok, c.push_reserved.ensures.items, c.in_ok-reserve.ensures.items, ← c.self.view_is, ← same) rows
+    let same : row_of c.args.name.now made
+    ≡ record { name = c.args.name.now; form = form_of c.args.shape; finalizer = c.args.finalizer } =
+    rw c.in_ok-table.ensures refl in
+    rw (c.in_ok-add.ensures.ok, c.push_reserved.ensures.items, c.in_ok-reserve.ensures.items, ← c.self.view_is, ← same)
+    rows

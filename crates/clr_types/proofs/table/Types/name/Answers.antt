@@ -9,4 +9,5 @@ name-requires c =
     omega (arith, count, view, c.self.invariant.together)
 
 pub returns : goal.returns
-returns c = rw (← c.self.view_is) (c.name.ensures ∙ sym (name_of_number c.self.invariant c.args.t.0 (rw c.self.view_is c.requires)))
+returns c = rw (← c.self.view_is)
+    (c.name.ensures ∙ sym (name_of_number c.self.invariant c.args.t.0 (rw c.self.view_is c.requires)))

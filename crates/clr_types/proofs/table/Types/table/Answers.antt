@@ -11,8 +11,10 @@ index-requires c =
 
 pub returns-clause-form : goal.returns-clause-form
 returns-clause-form c =
-    rw (← c.self.view_is) (ap (λ (table : Described). table.form) c.index.ensures ∙ sym (form_of_number c.self.invariant c.args.t.0 c.index.result.now (rw c.self.view_is c.requires)))
+    rw (← c.self.view_is) (ap (λ (table : Described). table.form) c.index.ensures
+    ∙ sym (form_of_number c.self.invariant c.args.t.0 c.index.result.now (rw c.self.view_is c.requires)))
 
 pub returns-clause-finalizer : goal.returns-clause-finalizer
 returns-clause-finalizer c =
-    rw (← c.self.view_is) (ap (λ (table : Described). table.finalizer) c.index.ensures ∙ sym (finalizer_of_number c.self.invariant c.args.t.0 c.index.result.now (rw c.self.view_is c.requires)))
+    rw (← c.self.view_is) (ap (λ (table : Described). table.finalizer) c.index.ensures
+    ∙ sym (finalizer_of_number c.self.invariant c.args.t.0 c.index.result.now (rw c.self.view_is c.requires)))

@@ -1,11 +1,14 @@
 -- Numbers as decimal digits.
-use Rattle.std.proofs.Common.{◌≡◌, ℕ, zero, suc, ◌+◌, ◌-◌, ◌*◌, ◌/◌, ◌%◌, ◌<◌, ◌≤◌, ◌^◌, true, false, List, [], ◌∷◌, ◌++◌, length, take, get_or, decimal, refl, sym, ◌∙◌, ap, inl, inr, arith, rules, eqb, not, Option, Some, None, Ok, SomeIff, IfOk, ◌↔◌}
+use Rattle.std.proofs.Common.{◌≡◌, ℕ, zero, suc, ◌+◌, ◌-◌, ◌*◌, ◌/◌, ◌%◌, ◌<◌, ◌≤◌, ◌^◌, true, false, List, [], ◌∷◌}
+use Rattle.std.proofs.Common.{◌++◌, length, take, get_or, decimal, refl, sym, ◌∙◌, ap, inl, inr, arith, rules, eqb, not}
+use Rattle.std.proofs.Common.{Option, Some, None, Ok, SomeIff, IfOk, ◌↔◌}
 use Rattle.std.specs.Prelude.{ok_or}
 use Rattle.std.proofs.lemmas.Bool.{cases_lt, cases_eq, and_parts, and_from, ne_eqb, eqb-false, not-true}
 use Rattle.std.proofs.lemmas.List.{append_assoc, length-append, take_more}
 use Rattle.std.proofs.lemmas.Str.Parse.{IsNumeralModel, numerals_by_value, digit_at, digits_value-take-le}
 use Rattle.std.proofs.lemmas.Str.{digit_value_digit}
-use Rattle.std.proofs.lemmas.Fmt.{decimal_digit, decimal_step, decimal_nonempty, first_decimal, digits_decimal, digits_value-decimal, decimal-digits_value, length-decimal-le}
+use Rattle.std.proofs.lemmas.Fmt.{decimal_digit, decimal_step, decimal_nonempty, first_decimal, digits_decimal}
+use Rattle.std.proofs.lemmas.Fmt.{digits_value-decimal, decimal-digits_value, length-decimal-le}
 use Rattle.std.specs.List.{list_all}
 use Rattle.std.specs.Str.Parse.{digits_value, digits_value_after}
 use Rattle.std.specs.Char.{digit_value, is_ascii_digit}
@@ -29,7 +32,8 @@ pub length-decimal-digit : (n : ℕ) → n < 10 → length (decimal n) ≡ 1
 length-decimal-digit n low = rw (decimal_digit n low) refl
 
 -- as many digits as the number has are its text
-pub decimal_onto-all : (count n : ℕ) (more : List ℕ) → n < 2 ^ 64 → length (decimal n) ≡ count → decimal_onto count n more ≡ decimal n ++ more
+pub decimal_onto-all : (count n : ℕ) (more : List ℕ) → n < 2 ^ 64 → length (decimal n) ≡ count
+    → decimal_onto count n more ≡ decimal n ++ more
 decimal_onto-all zero n more small count_is = absurd (omega (arith, decimal_nonempty n small))
 decimal_onto-all (suc count) n more small count_is =
     elim (cases_lt n 10) [
@@ -39,11 +43,13 @@ decimal_onto-all (suc count) n more small count_is =
           rw (one, itself, decimal_digit n low) refl
       | inr high ↦
           let front : length (decimal (n / 10)) ≡ count = omega (arith, length-decimal-step n high small) in
-          rw (decimal_step n high small, append_assoc) (decimal_onto-all count (n / 10) ((48 + n % 10) ∷ more) (omega arith) front)
+          rw (decimal_step n high small, append_assoc)
+          (decimal_onto-all count (n / 10) ((48 + n % 10) ∷ more) (omega arith) front)
     ]
 
 -- the form, from its three facts
-form_from : (ds : List ℕ) → list_all is_ascii_digit ds ≡ true → 0 < length ds → (get_or ds 0 0 ≡ 48 → length ds ≡ 1) → is_decimal_form ds ≡ true
+form_from : (ds : List ℕ) → list_all is_ascii_digit ds ≡ true → 0 < length ds → (get_or ds 0 0 ≡ 48 → length ds ≡ 1)
+    → is_decimal_form ds ≡ true
 form_from [] all some zero_alone = absurd (omega arith)
 form_from (d ∷ []) all some zero_alone = (and_parts _ _ all).0
 form_from (d ∷ e ∷ more) all some zero_alone =
@@ -51,7 +57,8 @@ form_from (d ∷ e ∷ more) all some zero_alone =
     rw (ne_eqb d 48 first) all
 
 -- and the three facts from the form
-form_parts : (ds : List ℕ) → is_decimal_form ds ≡ true → (list_all is_ascii_digit ds ≡ true) × (0 < length ds) × (get_or ds 0 0 ≡ 48 → length ds ≡ 1)
+form_parts : (ds : List ℕ) → is_decimal_form ds ≡ true
+    → (list_all is_ascii_digit ds ≡ true) × (0 < length ds) × (get_or ds 0 0 ≡ 48 → length ds ≡ 1)
 form_parts [] form = absurd cc
 form_parts (d ∷ []) form = (and_from _ _ form refl, omega arith, λ same. refl)
 form_parts (d ∷ e ∷ more) form =
@@ -77,22 +84,27 @@ pub value-decimal : (n : ℕ) → n < 2 ^ 64 → digits_value 10 (decimal n) ≡
 value-decimal n small = digits_value-decimal own n small
 
 -- a text of the form is the text of its value, if that is below 2 ^ 64
-pub decimal-value : (ds : List ℕ) → is_decimal_form ds ≡ true → digits_value 10 ds < 2 ^ 64 → decimal (digits_value 10 ds) ≡ ds
-decimal-value ds form small = let parts = form_parts ds form in decimal-digits_value own ds parts.0 parts.1 parts.2 small
+pub decimal-value : (ds : List ℕ) → is_decimal_form ds ≡ true → digits_value 10 ds < 2 ^ 64
+    → decimal (digits_value 10 ds) ≡ ds
+decimal-value ds form small = let parts = form_parts ds form in
+    decimal-digits_value own ds parts.0 parts.1 parts.2 small
 
 -- so a text is that of a number below 2 ^ 64 just where it has the form and that value
-pub decimal-both : (text : List ℕ) (n : ℕ) → n < 2 ^ 64 → (text ≡ decimal n) ↔ ((is_decimal_form text ≡ true) × (digits_value 10 text ≡ n))
+pub decimal-both : (text : List ℕ) (n : ℕ) → n < 2 ^ 64
+    → (text ≡ decimal n) ↔ ((is_decimal_form text ≡ true) × (digits_value 10 text ≡ n))
 decimal-both text n small = (
   λ same. (rw same (is_decimal_form-decimal n small), rw same (value-decimal n small)),
   λ (form, value). sym (decimal-value text form (omega arith)) ∙ ap decimal value,
 )
 
 -- a byte of digits is one
-pub digit-at : (ds : List ℕ) (i : ℕ) → list_all is_ascii_digit ds ≡ true → i < length ds → (48 ≤ get_or ds i 0) × (get_or ds i 0 ≤ 57)
+pub digit-at : (ds : List ℕ) (i : ℕ) → list_all is_ascii_digit ds ≡ true → i < length ds
+    → (48 ≤ get_or ds i 0) × (get_or ds i 0 ≤ 57)
 digit-at ds i all within = digit_at ds i (own.to ds all) within
 
 -- one digit more
-digits_value_after-append : (n : ℕ) (ds : List ℕ) (d : ℕ) → digits_value_after 10 n (ds ++ d ∷ []) ≡ digits_value_after 10 n ds * 10 + digit_value d
+digits_value_after-append : (n : ℕ) (ds : List ℕ) (d : ℕ)
+    → digits_value_after 10 n (ds ++ d ∷ []) ≡ digits_value_after 10 n ds * 10 + digit_value d
 digits_value_after-append n [] d = refl
 digits_value_after-append n (c ∷ cs) d = digits_value_after-append (n * 10 + digit_value c) cs d
 
@@ -110,7 +122,8 @@ pub digits_value-so_far : (ds : List ℕ) (i : ℕ) → digits_value 10 (take i 
 digits_value-so_far ds i = digits_value-take-le 10 ds i (omega arith)
 
 -- so once it is too large with one digit more, the number of all is
-pub too_large : (ds : List ℕ) (i n : ℕ) → list_all is_ascii_digit ds ≡ true → i < length ds → n ≡ digits_value 10 (take i ds) →
+pub too_large : (ds : List ℕ) (i n : ℕ) → list_all is_ascii_digit ds ≡ true → i < length ds
+    → n ≡ digits_value 10 (take i ds) →
     (n * 10 + (get_or ds i 0 - 48) < 2 ^ 64 → ⊥) → digits_value 10 ds < 2 ^ 64 → ⊥
 too_large ds i n all within so_far large small =
     let more = digits_value-take_more ds i all within in
@@ -118,7 +131,8 @@ too_large ds i n all within so_far large small =
     large (omega arith)
 
 -- one digit of the number is counted at its end
-pub digits_counted : (count rest v : ℕ) → rest < 2 ^ 64 → v < 2 ^ 64 → count + length (decimal rest) ≡ length (decimal v) + 1 → count ≤ 20
+pub digits_counted : (count rest v : ℕ) → rest < 2 ^ 64 → v < 2 ^ 64
+    → count + length (decimal rest) ≡ length (decimal v) + 1 → count ≤ 20
 digits_counted count rest v small_rest small counted =
     let some = decimal_nonempty rest small_rest in
     let few : length (decimal v) ≤ 20 = length-decimal-le 20 v (omega arith) (omega arith) small in
@@ -131,7 +145,8 @@ ok_value ds None e form none = tt
 ok_value ds (Some n) e form (small, value) = rw value (sym (decimal-value ds form small))
 
 -- and the other way round
-pub ok_reads : {E : Type 0} (ds : List ℕ) (read : Option ℕ) (e : E) → SomeIff read (digits_value 10 ds < 2 ^ 64) (digits_value 10 ds) →
+pub ok_reads : {E : Type 0} (ds : List ℕ) (read : Option ℕ) (e : E)
+    → SomeIff read (digits_value 10 ds < 2 ^ 64) (digits_value 10 ds) →
     (n : ℕ) → n < 2 ^ 64 → ds ≡ decimal n → ok_or read e ≡ Ok n
 ok_reads ds None e none n small same = absurd (none (rw (same, value-decimal n small) small))
 ok_reads ds (Some m) e (bound, value) n small same = rw (value, same, value-decimal n small) refl

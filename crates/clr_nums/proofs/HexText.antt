@@ -1,5 +1,7 @@
 -- Numbers as 16 hexadecimal digits.
-use Rattle.std.proofs.Common.{◌≡◌, ℕ, zero, suc, ◌+◌, ◌*◌, ◌/◌, ◌%◌, ◌<◌, ◌≤◌, ◌^◌, true, false, List, [], ◌∷◌, ◌++◌, length, drop, take, get_or, refl, sym, ◌∙◌, ap, inl, inr, arith, add-one, Option, Some, None, MatchOption, IsSome, ◌↔◌}
+use Rattle.std.proofs.Common.{◌≡◌, ℕ, zero, suc, ◌+◌, ◌*◌, ◌/◌, ◌%◌, ◌<◌, ◌≤◌, ◌^◌, true, false, List, [], ◌∷◌, ◌++◌}
+use Rattle.std.proofs.Common.{length, drop, take, get_or, refl, sym, ◌∙◌, ap, inl, inr, arith, add-one, Option, Some}
+use Rattle.std.proofs.Common.{None, MatchOption, IsSome, ◌↔◌}
 use Rattle.std.proofs.lemmas.Bool.{cases_lt, agree_below_at, lt-ltb, le-ltb, both_ways}
 use Rattle.std.proofs.Math.Nat.{pow-suc, pow-le-pow_right}
 use Rattle.std.proofs.lemmas.List.{drop_all, take_more, take_all}
@@ -22,7 +24,8 @@ unfolding hex16
 length-hex16 n = length-hex_onto 16 n []
 
 -- one digit more, read behind those that were
-pub hex_onto-read : (count n d : ℕ) → d < 16 → hex_onto (suc count) (n * 16 + d) [] ≡ hex_onto count n [] ++ hex_digit d ∷ []
+pub hex_onto-read : (count n d : ℕ) → d < 16
+    → hex_onto (suc count) (n * 16 + d) [] ≡ hex_onto count n [] ++ hex_digit d ∷ []
 hex_onto-read count n d small =
     let front : (n * 16 + d) / 16 ≡ n = omega arith in
     let back : (n * 16 + d) % 16 ≡ d = omega arith in
@@ -43,12 +46,14 @@ hex_digit_injective d e below_d below_e same =
     ]
 
 -- digits tell the number that they write
-pub hex_onto_injective : (count m n : ℕ) (xs ys : List ℕ) → m < 16 ^ count → n < 16 ^ count → hex_onto count m xs ≡ hex_onto count n ys → (m ≡ n) × (xs ≡ ys)
+pub hex_onto_injective : (count m n : ℕ) (xs ys : List ℕ) → m < 16 ^ count → n < 16 ^ count
+    → hex_onto count m xs ≡ hex_onto count n ys → (m ≡ n) × (xs ≡ ys)
 hex_onto_injective zero m n xs ys below_m below_n same = (omega arith, same)
 hex_onto_injective (suc count) m n xs ys below_m below_n same =
     let high_m : m / 16 < 16 ^ count = omega (arith, pow-suc 16 count) in
     let high_n : n / 16 < 16 ^ count = omega (arith, pow-suc 16 count) in
-    let parts = hex_onto_injective count (m / 16) (n / 16) (hex_digit (m % 16) ∷ xs) (hex_digit (n % 16) ∷ ys) high_m high_n same in
+    let parts = hex_onto_injective count (m / 16) (n / 16) (hex_digit (m % 16) ∷ xs)
+    (hex_digit (n % 16) ∷ ys) high_m high_n same in
     let digit : hex_digit (m % 16) ≡ hex_digit (n % 16) = cc (parts.1) in
     let low : m % 16 ≡ n % 16 = hex_digit_injective (m % 16) (n % 16) (omega arith) (omega arith) digit in
     (omega (arith, parts.0), cc (parts.1))
@@ -63,10 +68,12 @@ is_hex_digit-hex_digit : (d : ℕ) → d < 16 → is_hex_digit (hex_digit d) ≡
 is_hex_digit-hex_digit d small = agree_below_at (λ x. is_hex_digit (hex_digit x)) (λ _. true) 16 d refl small
 
 -- digits are put in front of digits
-list_all-hex_onto : (count n : ℕ) (more : List ℕ) → list_all is_hex_digit more ≡ true → list_all is_hex_digit (hex_onto count n more) ≡ true
+list_all-hex_onto : (count n : ℕ) (more : List ℕ) → list_all is_hex_digit more ≡ true
+    → list_all is_hex_digit (hex_onto count n more) ≡ true
 list_all-hex_onto zero n more all = all
 list_all-hex_onto (suc count) n more all =
-    list_all-hex_onto count (n / 16) (hex_digit (n % 16) ∷ more) (rw (is_hex_digit-hex_digit (n % 16) (omega arith)) all)
+    list_all-hex_onto count (n / 16) (hex_digit (n % 16) ∷ more)
+    (rw (is_hex_digit-hex_digit (n % 16) (omega arith)) all)
 
 -- 16 digits are digits alone
 pub list_all-hex16 : (n : ℕ) → list_all is_hex_digit (hex16 n) ≡ true
@@ -94,13 +101,15 @@ hex_fits i n d within small bound =
     omega arith
 
 -- one digit more, at its place in a text
-pub take_more-hex_onto : (text : List ℕ) (i n d : ℕ) → i < length text → d < 16 → get_or text i 0 ≡ hex_digit d → take i text ≡ hex_onto i n [] →
+pub take_more-hex_onto : (text : List ℕ) (i n d : ℕ) → i < length text → d < 16 → get_or text i 0 ≡ hex_digit d
+    → take i text ≡ hex_onto i n [] →
     take (i + 1) text ≡ hex_onto (i + 1) (n * 16 + d) []
 take_more-hex_onto text i n d within small here so_far =
     rw (take_more text i 0 within, here, so_far, add-one) (sym (hex_onto-read i n d small))
 
 -- a whole text of 16
-pub hex16-read : (text : List ℕ) (i n : ℕ) → length text ≡ 16 → i ≡ 16 → n < 16 ^ i → take i text ≡ hex_onto i n [] → (n < 2 ^ 64) × (text ≡ hex16 n)
+pub hex16-read : (text : List ℕ) (i n : ℕ) → length text ≡ 16 → i ≡ 16 → n < 16 ^ i → take i text ≡ hex_onto i n []
+    → (n < 2 ^ 64) × (text ≡ hex16 n)
 unfolding hex16
 hex16-read text i n whole all bound digits =
     let small : n < 16 ^ 16 = rw all at bound in
@@ -113,13 +122,15 @@ pub hex16-length : (text : List ℕ) (n : ℕ) → (length text ≡ 16 → ⊥) 
 hex16-length text n short same = short (ap length same ∙ length-hex16 n)
 
 -- what a reader says that tells each text of the form and its number
-pub hex_reads : (text : List ℕ) (read : Option ℕ) → MatchOption read (is_hex_form text ≡ false) (λ n. (n < 2 ^ 64) × (text ≡ hex16 n)) →
+pub hex_reads : (text : List ℕ) (read : Option ℕ)
+    → MatchOption read (is_hex_form text ≡ false) (λ n. (n < 2 ^ 64) × (text ≡ hex16 n)) →
     (n : ℕ) → n < 2 ^ 64 → text ≡ hex16 n → read ≡ Some n
 hex_reads text None other n small same = absurd (both_ways (is_hex_form text) other (rw same (is_hex_form-hex16 n)))
 hex_reads text (Some m) (bound, is) n small same = ap Some (hex16_injective m n bound small (sym is ∙ same))
 
 -- and it says a number just where the text has the form
-pub hex_some : (text : List ℕ) (read : Option ℕ) → MatchOption read (is_hex_form text ≡ false) (λ n. (n < 2 ^ 64) × (text ≡ hex16 n)) →
+pub hex_some : (text : List ℕ) (read : Option ℕ)
+    → MatchOption read (is_hex_form text ≡ false) (λ n. (n < 2 ^ 64) × (text ≡ hex16 n)) →
     IsSome read ↔ (is_hex_form text ≡ true)
 hex_some text None other = (λ some. absurd (cc some), λ form. absurd (both_ways (is_hex_form text) other form))
 hex_some text (Some m) (bound, is) = (λ some. rw is (is_hex_form-hex16 m), λ form. refl)

@@ -1,5 +1,6 @@
 //! Numbers from their text.
-ghost use Rattle.std.specs.Prelude.{◌≡◌, ℕ, ◌+◌, ◌-◌, ◌*◌, ◌<◌, ◌≤◌, ◌^◌, ◌↔◌, decimal, IsTrue, IsFalse, IfOk, IfSome, IsSome, SomeIff, MatchOption, length};
+ghost use Rattle.std.specs.Prelude.{◌≡◌, ℕ, ◌+◌, ◌-◌, ◌*◌, ◌<◌, ◌≤◌, ◌^◌, ◌↔◌, decimal, IsTrue, IsFalse, IfOk, IfSome};
+ghost use Rattle.std.specs.Prelude.{IsSome, SomeIff, MatchOption, length};
 ghost use Rattle.std.specs.Char.{is_ascii_digit};
 ghost use Rattle.std.specs.List.{list_all};
 ghost use Rattle.std.specs.Str.Parse.{digits_value};
@@ -23,7 +24,8 @@ pub fn read_dec(text: &[u8]) -> Result<u64, NumFault>
     ensures reads { (n : ℕ) → n < 2 ^ 64 → text.now ≡ decimal n → result ≡ Ok n }
     ensures bound { IfOk result (λ n. n < 2 ^ 64) }
     ensures not_number { (result ≡ Err NumFault.NotNumber) ↔ IsFalse (is_decimal_form text.now) }
-    ensures too_large { (result ≡ Err NumFault.TooLarge) ↔ (IsTrue (is_decimal_form text.now) × (2 ^ 64 ≤ digits_value 10 text.now)) }
+    ensures too_large { (result ≡ Err NumFault.TooLarge) ↔
+        (IsTrue (is_decimal_form text.now) × (2 ^ 64 ≤ digits_value 10 text.now)) }
 {
     if !is_decimal(text) {
         return Err(NumFault::NotNumber);

@@ -8,4 +8,5 @@ pub returns-then-text-eq16-clause-some : goal.returns-then-text-eq16-clause-some
 returns-then-text-eq16-clause-some c = hex_some c.args.text.now c.hex_number.result c.hex_number.ensures
 
 pub returns-else-text-eq16-clause-reads : goal.returns-else-text-eq16-clause-reads
-returns-else-text-eq16-clause-reads c = λ n small same. absurd (hex16-length c.args.text.now n c.if-text-eq16.false same)
+returns-else-text-eq16-clause-reads c =
+    λ n small same. absurd (hex16-length c.args.text.now n c.if-text-eq16.false same)

@@ -5,7 +5,8 @@ use Rattle.clr_nums.proofs.write.digit_count.Goals as goal
 
 pub overflow_add-count : goal.overflow_add-count
 overflow_add-count c =
-    let few : c.loop-rest.count ≤ 20 = digits_counted _ _ c.args.v c.loop-rest.invariant.small c.ranges.v.fits c.loop-rest.invariant.counted in
+    let few : c.loop-rest.count ≤ 20 =
+    digits_counted _ _ c.args.v c.loop-rest.invariant.small c.ranges.v.fits c.loop-rest.invariant.counted in
     omega arith
 
 pub loop-rest-preserved : goal.loop-rest-preserved
@@ -19,4 +20,5 @@ pub returns-clause-count : goal.returns-clause-count
 returns-clause-count c = omega (arith, length-decimal-digit c.loop-rest.rest c.loop-rest-test.false)
 
 pub returns-clause-fits : goal.returns-clause-fits
-returns-clause-fits c = digits_counted _ _ c.args.v c.loop-rest.invariant.small c.ranges.v.fits c.loop-rest.invariant.counted
+returns-clause-fits c = digits_counted _ _ c.args.v c.loop-rest.invariant.small c.ranges.v.fits
+    c.loop-rest.invariant.counted

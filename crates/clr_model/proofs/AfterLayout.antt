@@ -1,5 +1,7 @@
 -- A layout whose condemned parts are tiled anew is lawful.
-use Rattle.std.proofs.Common.{◌≡◌, ℕ, ◌+◌, ◌%◌, ◌<◌, ◌≤◌, ◌⊎◌, inl, inr, List, [], ◌∷◌, ◌++◌, map, length, refl, sym, ap, subst, ◌∙◌, arith, Bool, true, false, if◌then◌else◌, filter, ◌&&◌, not, nat_le, nat_lt, suc, true≢false}
+use Rattle.std.proofs.Common.{◌≡◌, ℕ, ◌+◌, ◌%◌, ◌<◌, ◌≤◌, ◌⊎◌, inl, inr, List, [], ◌∷◌, ◌++◌, map, length, refl, sym}
+use Rattle.std.proofs.Common.{ap, subst, ◌∙◌, arith, Bool, true, false, if◌then◌else◌, filter, ◌&&◌, not, nat_le}
+use Rattle.std.proofs.Common.{nat_lt, suc, true≢false}
 use Rattle.std.proofs.lemmas.Bool.{and_parts, and_from, le-leb, lt-ltb}
 use Rattle.std.specs.List.{AllByRecursion, flat_map}
 use Rattle.clr_types.specs.Rising.{IsIn, first, later, IsRisingBy}
@@ -11,19 +13,24 @@ use Rattle.clr_model.specs.Sweep.{has_condemned_part, part_start, taking_part, i
 use Rattle.clr_types.specs.declared.segment.SegKind.{SegKind}
 use Rattle.clr_types.specs.declared.segment.SegKind.TheVariants.{Ephemeral, Small, Large}
 use Rattle.clr_types.specs.declared.segment.SegInfo.{SegInfo}
-use Rattle.clr_types.specs.Segments.{Layout, first_place, reserved_end, stands_in, segments_of, segment_or_empty, ephemeral, same_kind, generation}
+use Rattle.clr_types.specs.Segments.{Layout, first_place, reserved_end, stands_in, segments_of, segment_or_empty}
+use Rattle.clr_types.specs.Segments.{ephemeral, same_kind, generation}
 use Rattle.clr_types.specs.LawfulLayout.{IsLawfulLayout, IsLawfulSegment, AreDisjoint}
-use Rattle.clr_types.proofs.ListMembers.{from-map, distinct_append, in_append, append_right, distinct_of_sorted, distinct_filter, filter-map, filter-on, any-from, distinct_right}
+use Rattle.clr_types.proofs.ListMembers.{from-map, distinct_append, in_append, append_right, distinct_of_sorted}
+use Rattle.clr_types.proofs.ListMembers.{distinct_filter, filter-map, filter-on, any-from, distinct_right}
 use Rattle.clr_types.proofs.PieceGaps.{IsGapped}
 use Rattle.clr_types.proofs.ChangedLists.{all_members, rising-distinct, into_filter, out_of_filter}
 use Rattle.clr_types.proofs.SegmentFacts.{lawful_segment}
 use Rattle.clr_types.proofs.TilePieces.{IsTile, tile, tiles-whole, tiles-aligned}
 use Rattle.clr_types.proofs.HighestSegment.{filter-disjoint}
 
-module _ (layout : Layout) (h : IsLawfulLayout layout) (kinds : SegKind → Bool) (g : ℕ) (end_after : SegInfo → ℕ) (held fresh : SegInfo → List Piece)
-    (tiles : (s : SegInfo) → IsIn s (taking_part kinds g layout) → Tiles (part_start layout g s) (end_after s) (by_place (held s ++ fresh s)))
+module _ (layout : Layout) (h : IsLawfulLayout layout) (kinds : SegKind → Bool) (g : ℕ) (end_after : SegInfo → ℕ)
+    (held fresh : SegInfo → List Piece)
+    (tiles : (s : SegInfo) → IsIn s (taking_part kinds g layout)
+    → Tiles (part_start layout g s) (end_after s) (by_place (held s ++ fresh s)))
     (high : (s : SegInfo) → IsIn s (taking_part kinds g layout) → end_after s ≤ reserved_end s)
-    (low : (s : SegInfo) → IsIn s (taking_part kinds g layout) → (first_place s ≤ part_start layout g s) × (part_start layout g s % 8 ≡ 0))
+    (low : (s : SegInfo) → IsIn s (taking_part kinds g layout)
+    → (first_place s ≤ part_start layout g s) × (part_start layout g s % 8 ≡ 0))
   where
     abbrev parts : List SegInfo
     parts = taking_part kinds g layout
@@ -59,16 +66,32 @@ module _ (layout : Layout) (h : IsLawfulLayout layout) (kinds : SegKind → Bool
         go : (b : Bool) → takes s ≡ b → IsLawfulSegment (if b then record s { end = end_after s } else s)
         go false e = is
         go true e =
-            let j : IsIn s parts = into_filter (λ (s : SegInfo). kinds s.kind && has_condemned_part g s) layout.segments e i in
+            let j : IsIn s parts =
+            into_filter (λ (s : SegInfo). kinds s.kind && has_condemned_part g s) layout.segments e i in
             let (a, b) = low s j in
             let t : Tiles (part_start layout g s) (end_after s) (by_place (held s ++ fresh s)) = tiles s j in
-            let w : IsGapped (part_start layout g s) (end_after s) = tiles-whole (part_start layout g s) (end_after s) (by_place (held s ++ fresh s)) t in
-            let al : end_after s % 8 ≡ part_start layout g s % 8 = tiles-aligned (part_start layout g s) (end_after s) (by_place (held s ++ fresh s)) t in
-            record { base = is.base; reserved = is.reserved; least = is.least; low = omega arith; high = high s j; aligned = omega arith }
+            let w : IsGapped (part_start layout g s) (end_after s) =
+            tiles-whole (part_start layout g s) (end_after s) (by_place (held s ++ fresh s)) t in
+            let al : end_after s % 8 ≡ part_start layout g s % 8 =
+            tiles-aligned (part_start layout g s) (end_after s) (by_place (held s ++ fresh s)) t in
+            record {
+              base = is.base;
+              lowest = is.lowest;
+              reserved = is.reserved;
+              least = is.least;
+              most = is.most;
+              low = omega arith;
+              high = high s j;
+              aligned = omega arith;
+            }
 
     changed-disjoint : (ss : List SegInfo) → AreDisjoint ss → AreDisjoint (map changed_segment ss)
     changed-disjoint [] d = tt
-    changed-disjoint (s ∷ ss) d = (all_members (λ (r : SegInfo). reserved_end (changed_segment s) ≤ r.base) (map changed_segment ss) (λ r i. below r i), changed-disjoint ss d.1)
+    changed-disjoint (s ∷ ss) d = (
+      all_members (λ (r : SegInfo). reserved_end (changed_segment s) ≤ r.base) (map changed_segment ss)
+          (λ r i. below r i),
+      changed-disjoint ss d.1,
+    )
       where
         below : (r : SegInfo) → IsIn r (map changed_segment ss) → reserved_end (changed_segment s) ≤ r.base
         below r i =
@@ -76,42 +99,53 @@ module _ (layout : Layout) (h : IsLawfulLayout layout) (kinds : SegKind → Bool
             let a : reserved_end s ≤ t.base = all_at (λ (r : SegInfo). reserved_end s ≤ r.base) j d.0 in
             let k : KeepsSegment s (changed_segment s) = keeps s in
             let n : KeepsSegment t (changed_segment t) = keeps t in
-            let kb : (changed_segment s).base ≡ s.base = k.base in let kr : (changed_segment s).reserved ≡ s.reserved = k.reserved in
+            let kb : (changed_segment s).base ≡ s.base = k.base in
+            let kr : (changed_segment s).reserved ≡ s.reserved = k.reserved in
             let nb : (changed_segment t).base ≡ t.base = n.base in
             let f : r.base ≡ (changed_segment t).base = ap (λ (u : SegInfo). u.base) e in
             omega arith
 
     -- the segments of a kind are those of before, changed
-    of_kind : (kind : SegKind) (new : Layout) → new.segments ≡ segments_after kinds g end_after layout.segments → segments_of kind new ≡ map changed_segment (segments_of kind layout)
+    of_kind : (kind : SegKind) (new : Layout) → new.segments ≡ segments_after kinds g end_after layout.segments
+        → segments_of kind new ≡ map changed_segment (segments_of kind layout)
     of_kind kind new e =
         ap (filter (λ (s : SegInfo). same_kind kind s.kind)) e
         ∙ filter-map changed_segment (λ (s : SegInfo). same_kind kind s.kind) layout.segments
-        ∙ ap (map changed_segment) (filter-on (λ (s : SegInfo). same_kind kind (changed_segment s).kind) (λ (s : SegInfo). same_kind kind s.kind) layout.segments (λ s i. ap (same_kind kind) (keeps s).kind))
+        ∙ ap (map changed_segment) (filter-on (λ (s : SegInfo). same_kind kind (changed_segment s).kind)
+        (λ (s : SegInfo). same_kind kind s.kind) layout.segments (λ s i. ap (same_kind kind) (keeps s).kind))
 
     same_length : (ss : List SegInfo) → length (map changed_segment ss) ≡ length ss
     same_length [] = refl
     same_length (s ∷ ss) = ap suc (same_length ss)
 
-    head_changed : (ss : List SegInfo) → length ss ≡ 1 → segment_or_empty (map changed_segment ss) ≡ changed_segment (segment_or_empty ss)
+    head_changed : (ss : List SegInfo) → length ss ≡ 1
+        → segment_or_empty (map changed_segment ss) ≡ changed_segment (segment_or_empty ss)
     head_changed [] e = absurd (omega arith)
     head_changed (s ∷ ss) e = refl
 
     -- ---- free items
 
-    fresh-tile : (s : SegInfo) → IsIn s parts → (p : Piece) → IsIn p (fresh s) → IsTile (part_start layout g s) (end_after s) p
-    fresh-tile s i p j = tile (part_start layout g s) (end_after s) (by_place (held s ++ fresh s)) p (tiles s i) (into_sorted_by (λ (p : Piece). p.place) p (held s ++ fresh s) (append_right (held s) j))
+    fresh-tile : (s : SegInfo) → IsIn s parts → (p : Piece) → IsIn p (fresh s)
+        → IsTile (part_start layout g s) (end_after s) p
+    fresh-tile s i p j =
+        tile (part_start layout g s) (end_after s) (by_place (held s ++ fresh s)) p (tiles s i)
+        (into_sorted_by (λ (p : Piece). p.place) p (held s ++ fresh s) (append_right (held s) j))
 
     fresh-distinct : (s : SegInfo) → IsIn s parts → IsDistinctBy (λ (p : Piece). p.place) (fresh s)
     fresh-distinct s i =
         distinct_right (λ (p : Piece). p.place) (held s) (fresh s)
         (distinct_of_sorted (λ (p : Piece). p.place) (held s ++ fresh s)
-        (rising-distinct (λ (p : Piece). p.place) (by_place (held s ++ fresh s)) (tiles-rise (part_start layout g s) (end_after s) (by_place (held s ++ fresh s)) (tiles s i))))
+        (rising-distinct (λ (p : Piece). p.place) (by_place (held s ++ fresh s))
+        (tiles-rise (part_start layout g s) (end_after s) (by_place (held s ++ fresh s)) (tiles s i))))
 
-    pub in-flat : (ss : List SegInfo) (p : Piece) → IsIn p (flat_map fresh ss) → (s : SegInfo) × IsIn s ss × IsIn p (fresh s)
+    pub in-flat : (ss : List SegInfo) (p : Piece) → IsIn p (flat_map fresh ss)
+        → (s : SegInfo) × IsIn s ss × IsIn p (fresh s)
     in-flat [] p i = elim i [ ]
     in-flat (s ∷ ss) p i = go (in_append (fresh s) i) (in-flat ss p)
       where
-        go : IsIn p (fresh s) ⊎ IsIn p (flat_map fresh ss) → (IsIn p (flat_map fresh ss) → (t : SegInfo) × IsIn t ss × IsIn p (fresh t)) → (t : SegInfo) × IsIn t (s ∷ ss) × IsIn p (fresh t)
+        go : IsIn p (fresh s) ⊎ IsIn p (flat_map fresh ss)
+            → (IsIn p (flat_map fresh ss) → (t : SegInfo) × IsIn t ss × IsIn p (fresh t))
+            → (t : SegInfo) × IsIn t (s ∷ ss) × IsIn p (fresh t)
         go (inl j) more = (s, first, j)
         go (inr j) more = let (t, k, n) = more j in (t, later k, n)
 
@@ -131,10 +165,12 @@ module _ (layout : Layout) (h : IsLawfulLayout layout) (kinds : SegKind → Bool
         let f : IsGapped (part_start layout g s) p.place = t.low_gap in
         record { low_place = omega arith; from = omega arith; high_place = omega arith }
 
-    flat-distinct : (ss : List SegInfo) → AreDisjoint ss → ((s : SegInfo) → IsIn s ss → IsIn s parts) → IsDistinctBy (λ (p : Piece). p.place) (flat_map fresh ss)
+    flat-distinct : (ss : List SegInfo) → AreDisjoint ss → ((s : SegInfo) → IsIn s ss → IsIn s parts)
+        → IsDistinctBy (λ (p : Piece). p.place) (flat_map fresh ss)
     flat-distinct [] d sub = tt
     flat-distinct (s ∷ ss) d sub =
-        distinct_append (λ (p : Piece). p.place) (fresh s) (flat_map fresh ss) (fresh-distinct s (sub s first)) (flat-distinct ss d.1 (λ t i. sub t (later i)))
+        distinct_append (λ (p : Piece). p.place) (fresh s) (flat_map fresh ss) (fresh-distinct s (sub s first))
+        (flat-distinct ss d.1 (λ t i. sub t (later i)))
         (λ p q i j e.
         let (t, k, n) = in-flat ss q j in
         let a : StandsIn s p.place = fresh-stands s (sub s first) p i in
@@ -146,19 +182,27 @@ module _ (layout : Layout) (h : IsLawfulLayout layout) (kinds : SegKind → Bool
     in_part p s i t =
         let (e, j) = out_of_filter (λ (s : SegInfo). kinds s.kind && has_condemned_part g s) s layout.segments i in
         let (a, b) = and_parts (kinds s.kind) (has_condemned_part g s) e in
-        any-from (λ (s : SegInfo). kinds s.kind && (has_condemned_part g s && (stands_in s p.place && nat_le (part_start layout g s) p.place))) layout.segments s j
-        (and_from (kinds s.kind) (has_condemned_part g s && (stands_in s p.place && nat_le (part_start layout g s) p.place)) a
+        any-from (λ (s : SegInfo). kinds
+        s.kind && (has_condemned_part g s && (stands_in s p.place && nat_le (part_start layout g s) p.place)))
+        layout.segments s j
+        (and_from (kinds s.kind) (has_condemned_part g
+        s && (stands_in s p.place && nat_le (part_start layout g s) p.place)) a
         (and_from (has_condemned_part g s) (stands_in s p.place && nat_le (part_start layout g s) p.place) b
         (and_from (stands_in s p.place) (nat_le (part_start layout g s) p.place)
-        (and_from (nat_le (first_place s) p.place) (nat_lt p.place (reserved_end s)) (le-leb (first_place s) p.place t.low_place) (lt-ltb p.place (reserved_end s) t.high_place))
+        (and_from (nat_le (first_place s) p.place) (nat_lt p.place (reserved_end s))
+        (le-leb (first_place s) p.place t.low_place) (lt-ltb p.place (reserved_end s) t.high_place))
         (le-leb (part_start layout g s) p.place t.from))))
 
     pub free_rises : IsRisingBy (λ (p : Piece). p.place) (free_after kinds layout g (flat_map fresh parts))
     free_rises =
-        sorted_by-rises (λ (p : Piece). p.place) (filter (λ p. not (is_in_part kinds layout g p)) layout.free ++ flat_map fresh parts)
-        (distinct_append (λ (p : Piece). p.place) (filter (λ p. not (is_in_part kinds layout g p)) layout.free) (flat_map fresh parts)
-        (distinct_filter (λ (p : Piece). p.place) (λ p. not (is_in_part kinds layout g p)) layout.free (rising-distinct (λ (p : Piece). p.place) layout.free h.free_rise))
-        (flat-distinct parts (filter-disjoint (λ (s : SegInfo). kinds s.kind && has_condemned_part g s) layout.segments h.disjoint) (λ s i. i))
+        sorted_by-rises (λ (p : Piece). p.place)
+        (filter (λ p. not (is_in_part kinds layout g p)) layout.free ++ flat_map fresh parts)
+        (distinct_append (λ (p : Piece). p.place) (filter (λ p. not (is_in_part kinds layout g p)) layout.free)
+        (flat_map fresh parts)
+        (distinct_filter (λ (p : Piece). p.place) (λ p. not (is_in_part kinds layout g p)) layout.free
+        (rising-distinct (λ (p : Piece). p.place) layout.free h.free_rise))
+        (flat-distinct parts (filter-disjoint (λ (s : SegInfo). kinds s.kind && has_condemned_part g s)
+        layout.segments h.disjoint) (λ s i. i))
         (λ p q i j e.
         let (t, k, n) = in-flat parts q j in
         let (f, o) = out_of_filter (λ p. not (is_in_part kinds layout g p)) p layout.free i in
@@ -170,29 +214,49 @@ module _ (layout : Layout) (h : IsLawfulLayout layout) (kinds : SegKind → Bool
         apart false e f = true≢false (sym e)
 
     -- the ephemeral segment afterwards
-    pub ephemeral_after : (new : Layout) → new.segments ≡ segments_after kinds g end_after layout.segments → ephemeral new ≡ changed_segment (ephemeral layout)
-    ephemeral_after new segments = ap segment_or_empty (of_kind Ephemeral new segments) ∙ head_changed (segments_of Ephemeral layout) h.one_ephemeral
+    pub ephemeral_after : (new : Layout) → new.segments ≡ segments_after kinds g end_after layout.segments
+        → ephemeral new ≡ changed_segment (ephemeral layout)
+    ephemeral_after new segments =
+        ap segment_or_empty (of_kind Ephemeral new segments)
+        ∙ head_changed (segments_of Ephemeral layout) h.one_ephemeral
 
     -- a place's generation afterwards, by the new boundaries
-    pub generation_after : (new : Layout) → new.segments ≡ segments_after kinds g end_after layout.segments → (place : ℕ)
-        → generation new place ≡ (if stands_in (ephemeral layout) place then (if nat_lt place new.start1 then 2 else (if nat_lt place new.start0 then 1 else 0)) else 2)
+    pub generation_after : (new : Layout) → new.segments ≡ segments_after kinds g end_after layout.segments
+        → (place : ℕ)
+        → generation new place ≡ (if stands_in (ephemeral layout) place
+        then (if nat_lt place new.start1 then 2 else (if nat_lt place new.start0 then 1 else 0)) else 2)
     generation_after new segments place =
         ap (λ b. if b then (if nat_lt place new.start1 then 2 else (if nat_lt place new.start0 then 1 else 0)) else 2)
         (ap (λ (s : SegInfo). stands_in s place) (ephemeral_after new segments)
-        ∙ (let b = (keeps (ephemeral layout)).base in let r = (keeps (ephemeral layout)).reserved in λ i. nat_le (b i + 0x1000) place && nat_lt place (b i + r i)))
+        ∙ (let b = (keeps (ephemeral layout)).base in let r = (keeps (ephemeral layout)).reserved in
+        λ i. nat_le (b i + 0x1000) place && nat_lt place (b i + r i)))
 
     -- with its boundaries in order, the new layout is lawful
-    pub layout_after : (new : Layout) → new.segments ≡ segments_after kinds g end_after layout.segments → new.free ≡ free_after kinds layout g (flat_map fresh parts) → new.rests ≡ layout.rests → new.top ≡ layout.top
-        → first_place (ephemeral layout) ≤ new.start1 → new.start1 ≤ new.start0 → new.start0 ≤ (changed_segment (ephemeral layout)).end → (new.start1 % 8 ≡ 0) × (new.start0 % 8 ≡ 0) → IsLawfulLayout new
+    pub layout_after : (new : Layout) → new.segments ≡ segments_after kinds g end_after layout.segments
+        → new.free ≡ free_after kinds layout g (flat_map fresh parts) → new.rests ≡ layout.rests → new.top ≡ layout.top
+        → first_place (ephemeral layout) ≤ new.start1 → new.start1 ≤ new.start0
+        → new.start0 ≤ (changed_segment (ephemeral layout)).end → (new.start1 % 8 ≡ 0) × (new.start0 % 8 ≡ 0)
+        → IsLawfulLayout new
     layout_after new segments free rests top l1 l2 l3 al = record {
-      segments = subst (AllByRecursion IsLawfulSegment) (sym segments) (all_members IsLawfulSegment (map changed_segment layout.segments) (λ t i. let (s, e, j) = from-map changed_segment t layout.segments i in subst IsLawfulSegment (sym e) (changed-lawful s j)));
+      segments =
+          subst (AllByRecursion IsLawfulSegment) (sym segments)
+          (all_members IsLawfulSegment (map changed_segment layout.segments)
+          (λ t i. let (s, e, j) = from-map changed_segment t layout.segments i in
+          subst IsLawfulSegment (sym e) (changed-lawful s j)));
       disjoint = subst AreDisjoint (sym segments) (changed-disjoint layout.segments h.disjoint);
-      below_top = subst (AllByRecursion (λ (s : SegInfo). reserved_end s ≤ new.top)) (sym segments) (all_members (λ (s : SegInfo). reserved_end s ≤ new.top) (map changed_segment layout.segments) under);
-      one_ephemeral = ap length (of_kind Ephemeral new segments) ∙ same_length (segments_of Ephemeral layout) ∙ h.one_ephemeral;
+      below_top =
+          subst (AllByRecursion (λ (s : SegInfo). reserved_end s ≤ new.top)) (sym segments)
+          (all_members (λ (s : SegInfo). reserved_end s ≤ new.top) (map changed_segment layout.segments) under);
+      top_aligned = subst (λ n. n % 4096 ≡ 0) (sym top) h.top_aligned;
+      one_ephemeral =
+          ap length (of_kind Ephemeral new segments) ∙ same_length (segments_of Ephemeral layout) ∙ h.one_ephemeral;
       ephemeral_last =
           subst (AllByRecursion (λ (s : SegInfo). s.base ≤ (ephemeral new).base)) (sym (of_kind Small new segments))
-          (all_members (λ (s : SegInfo). s.base ≤ (ephemeral new).base) (map changed_segment (segments_of Small layout)) last);
-      some_large = subst (λ n. 0 < n) (sym (ap length (of_kind Large new segments) ∙ same_length (segments_of Large layout))) h.some_large;
+          (all_members (λ (s : SegInfo). s.base ≤ (ephemeral new).base)
+          (map changed_segment (segments_of Small layout)) last);
+      some_large =
+          subst (λ n. 0 < n) (sym (ap length (of_kind Large new segments) ∙ same_length (segments_of Large layout)))
+          h.some_large;
       start1_low = subst (λ n. n ≤ new.start1) (sym (ap (λ n. n + 0x1000) base)) l1;
       start1_high = l2;
       start0_high = subst (λ (s : SegInfo). new.start0 ≤ s.end) (sym eph) l3;
@@ -202,7 +266,9 @@ module _ (layout : Layout) (h : IsLawfulLayout layout) (kinds : SegKind → Bool
     }
       where
         eph : ephemeral new ≡ changed_segment (ephemeral layout)
-        eph = ap segment_or_empty (of_kind Ephemeral new segments) ∙ head_changed (segments_of Ephemeral layout) h.one_ephemeral
+        eph =
+            ap segment_or_empty (of_kind Ephemeral new segments)
+            ∙ head_changed (segments_of Ephemeral layout) h.one_ephemeral
 
         base : (ephemeral new).base ≡ (ephemeral layout).base
         base = ap (λ (s : SegInfo). s.base) eph ∙ (keeps (ephemeral layout)).base
@@ -213,14 +279,16 @@ module _ (layout : Layout) (h : IsLawfulLayout layout) (kinds : SegKind → Bool
             let k : KeepsSegment s (changed_segment s) = keeps s in
             let a : reserved_end s ≤ layout.top = all_at (λ (s : SegInfo). reserved_end s ≤ layout.top) j h.below_top in
             let f : reserved_end t ≡ reserved_end (changed_segment s) = ap reserved_end e in
-            let kb : (changed_segment s).base ≡ s.base = k.base in let kr : (changed_segment s).reserved ≡ s.reserved = k.reserved in
+            let kb : (changed_segment s).base ≡ s.base = k.base in
+            let kr : (changed_segment s).reserved ≡ s.reserved = k.reserved in
             omega arith
 
         last : (t : SegInfo) → IsIn t (map changed_segment (segments_of Small layout)) → t.base ≤ (ephemeral new).base
         last t i =
             let (s, e, j) = from-map changed_segment t (segments_of Small layout) i in
             let k : KeepsSegment s (changed_segment s) = keeps s in
-            let a : s.base ≤ (ephemeral layout).base = all_at (λ (s : SegInfo). s.base ≤ (ephemeral layout).base) j h.ephemeral_last in
+            let a : s.base ≤ (ephemeral layout).base =
+            all_at (λ (s : SegInfo). s.base ≤ (ephemeral layout).base) j h.ephemeral_last in
             let f : t.base ≡ (changed_segment s).base = ap (λ (u : SegInfo). u.base) e in
             let kb : (changed_segment s).base ≡ s.base = k.base in
             let b = base in

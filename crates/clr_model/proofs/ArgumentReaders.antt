@@ -1,15 +1,20 @@
 -- The readers of what stands behind a verb.
-use Rattle.std.proofs.Common.{◌≡◌, ℕ, Bool, true, false, List, [], ◌∷◌, refl, ap, subst, Option, Some, None, IfSome, decimal, codes}
+use Rattle.std.proofs.Common.{◌≡◌, ℕ, Bool, true, false, List, [], ◌∷◌, refl, ap, subst, Option, Some, None, IfSome}
+use Rattle.std.proofs.Common.{decimal, codes}
 use Rattle.std.specs.Prelude.{IsTrue}
 use Rattle.std.specs.Option.{option_map, option_and_then}
 use Rattle.clr_nums.specs.Numbers.{hex16}
-use Rattle.clr_types.specs.declared.Kind.{Kind}
-use Rattle.clr_types.specs.declared.Kind.TheVariants.{Strong, Pinned, Weak, WeakLong, Dependent}
+use Rattle.clr_types.specs.declared.handle.Kind.{Kind}
+use Rattle.clr_types.specs.declared.handle.Kind.TheVariants.{Strong, Pinned, Weak, WeakLong, Dependent}
 use Rattle.clr_model.specs.declared.How.{How}
 use Rattle.clr_model.specs.declared.How.TheVariants.{Decide, Compact, Sweep}
-use Rattle.clr_model.specs.LineGrammar.{IsWord, IsHandleForm, is_name, local_word, handle_word, number_words, local_words, how_words, final_words}
-use Rattle.clr_model.specs.Parsing.{number_in, local_in, name_in, none_in, one_local_in, one_handle_in, locals_in, local_and_number_in, local_and_handle_in, load_in, store_in, number_store_in, length_in, birth_in, how_in, second_in, final_in, address_after_in}
-use Rattle.clr_model.proofs.Readers.{IsReader, bound, mapped, none_told, one_reader, both_reader, each_reader, nothing_told, choice_told, value_told}
+use Rattle.clr_model.specs.LineGrammar.{IsWord, IsHandleForm, is_name, local_word, handle_word, number_words}
+use Rattle.clr_model.specs.LineGrammar.{local_words, how_words, final_words}
+use Rattle.clr_model.specs.Parsing.{number_in, local_in, name_in, none_in, one_local_in, one_handle_in, locals_in}
+use Rattle.clr_model.specs.Parsing.{local_and_number_in, local_and_handle_in, load_in, store_in, number_store_in}
+use Rattle.clr_model.specs.Parsing.{length_in, birth_in, how_in, second_in, final_in, address_after_in}
+use Rattle.clr_model.proofs.Readers.{IsReader, bound, mapped, none_told, one_reader, both_reader, each_reader}
+use Rattle.clr_model.proofs.Readers.{nothing_told, choice_told, value_told}
 use Rattle.clr_model.proofs.WordReaders.{number_reader, address_reader, local_reader, handle_reader, name_reader}
 
 -- a local alone
@@ -33,40 +38,52 @@ unfolding locals_in
 locals_reader = let r = both_reader _ _ _ _ _ _ local_reader local_reader in record { found = r.found; told = r.told }
 
 -- a local and a number
-pub local_and_number_reader : IsReader local_and_number_in (λ p. local_word p.0 ∷ decimal p.1 ∷ []) (λ p. IsWord p.0 × IsWord p.1)
+pub local_and_number_reader : IsReader local_and_number_in (λ p. local_word p.0 ∷ decimal p.1 ∷ [])
+    (λ p. IsWord p.0 × IsWord p.1)
 unfolding local_and_number_in
-local_and_number_reader = let r = both_reader _ _ _ _ _ _ local_reader number_reader in record { found = r.found; told = r.told }
+local_and_number_reader = let r = both_reader _ _ _ _ _ _ local_reader number_reader in
+    record { found = r.found; told = r.told }
 
 -- a local and a handle
-pub local_and_handle_reader : IsReader local_and_handle_in (λ p. local_word p.0 ∷ handle_word p.1 ∷ []) (λ p. IsWord p.0 × IsWord p.1)
+pub local_and_handle_reader : IsReader local_and_handle_in (λ p. local_word p.0 ∷ handle_word p.1 ∷ [])
+    (λ p. IsWord p.0 × IsWord p.1)
 unfolding local_and_handle_in
-local_and_handle_reader = let r = both_reader _ _ _ _ _ _ local_reader handle_reader in record { found = r.found; told = r.told }
+local_and_handle_reader = let r = both_reader _ _ _ _ _ _ local_reader handle_reader in
+    record { found = r.found; told = r.told }
 
 -- two locals and a number
-pub load_reader : IsReader load_in (λ p. local_word p.0 ∷ local_word p.1 ∷ decimal p.2 ∷ []) (λ p. IsWord p.0 × IsWord p.1 × IsWord p.2)
+pub load_reader : IsReader load_in (λ p. local_word p.0 ∷ local_word p.1 ∷ decimal p.2 ∷ [])
+    (λ p. IsWord p.0 × IsWord p.1 × IsWord p.2)
 unfolding load_in
-load_reader = let r = each_reader _ _ _ _ _ _ _ _ _ local_reader local_reader number_reader in record { found = r.found; told = r.told }
+load_reader = let r = each_reader _ _ _ _ _ _ _ _ _ local_reader local_reader number_reader in
+    record { found = r.found; told = r.told }
 
 -- a local, a number and a local
-pub store_reader : IsReader store_in (λ p. local_word p.0 ∷ decimal p.1 ∷ local_word p.2 ∷ []) (λ p. IsWord p.0 × IsWord p.1 × IsWord p.2)
+pub store_reader : IsReader store_in (λ p. local_word p.0 ∷ decimal p.1 ∷ local_word p.2 ∷ [])
+    (λ p. IsWord p.0 × IsWord p.1 × IsWord p.2)
 unfolding store_in
-store_reader = let r = each_reader _ _ _ _ _ _ _ _ _ local_reader number_reader local_reader in record { found = r.found; told = r.told }
+store_reader = let r = each_reader _ _ _ _ _ _ _ _ _ local_reader number_reader local_reader in
+    record { found = r.found; told = r.told }
 
 -- a local and two numbers
-pub number_store_reader : IsReader number_store_in (λ p. local_word p.0 ∷ decimal p.1 ∷ decimal p.2 ∷ []) (λ p. IsWord p.0 × IsWord p.1 × IsWord p.2)
+pub number_store_reader : IsReader number_store_in (λ p. local_word p.0 ∷ decimal p.1 ∷ decimal p.2 ∷ [])
+    (λ p. IsWord p.0 × IsWord p.1 × IsWord p.2)
 unfolding number_store_in
-number_store_reader = let r = each_reader _ _ _ _ _ _ _ _ _ local_reader number_reader number_reader in record { found = r.found; told = r.told }
+number_store_reader = let r = each_reader _ _ _ _ _ _ _ _ _ local_reader number_reader number_reader in
+    record { found = r.found; told = r.told }
 
 -- ---- births
 
 -- a length that is read is spelled so
-length_told : (ws : List (List ℕ)) (len : Option ℕ) → length_in ws ≡ Some len → (ws ≡ number_words len) × IfSome len IsWord
+length_told : (ws : List (List ℕ)) (len : Option ℕ) → length_in ws ≡ Some len
+    → (ws ≡ number_words len) × IfSome len IsWord
 unfolding length_in
 length_told [] len e = value_told number_words (λ o. IfSome o IsWord) [] None refl tt len e
 length_told (word ∷ []) len e =
     let m = mapped Some (number_in word) len e in
     let p = number_reader.told word m.value m.was in
-    subst (λ (o : Option ℕ). (word ∷ [] ≡ number_words o) × IfSome o IsWord) m.gives (ap (λ (w : List ℕ). w ∷ []) p.0, p.1)
+    subst (λ (o : Option ℕ). (word ∷ [] ≡ number_words o) × IfSome o IsWord) m.gives
+    (ap (λ (w : List ℕ). w ∷ []) p.0, p.1)
 length_told (word ∷ other ∷ more) len e = absurd cc
 
 -- and each is read
@@ -93,13 +110,15 @@ unfolding birth_in
 birth_told [] b e = absurd cc
 birth_told (x ∷ []) b e = absurd cc
 birth_told (x ∷ y ∷ more) b e =
-    let l = bound (λ local. option_and_then (λ name. option_map (λ len. (local, name, len)) (length_in more)) (name_in y)) (local_in x) b e in
+    let l = bound (λ local. option_and_then (λ name. option_map (λ len. (local, name, len)) (length_in more))
+    (name_in y)) (local_in x) b e in
     let n = bound (λ name. option_map (λ len. (l.value, name, len)) (length_in more)) (name_in y) b l.gives in
     let m = mapped (λ len. (l.value, n.value, len)) (length_in more) b n.gives in
     let p = local_reader.told x l.value l.was in
     let q = name_reader.told y n.value n.was in
     let r = length_told more m.value m.was in
-    subst (λ (o : ℕ × List ℕ × Option ℕ). (x ∷ y ∷ more ≡ BirthWords o) × IsBirth o) m.gives ((λ i. p.0 i ∷ q.0 i ∷ r.0 i), (p.1, q.1, r.1))
+    subst (λ (o : ℕ × List ℕ × Option ℕ). (x ∷ y ∷ more ≡ BirthWords o) × IsBirth o) m.gives
+    ((λ i. p.0 i ∷ q.0 i ∷ r.0 i), (p.1, q.1, r.1))
 
 -- and each is read
 birth_found : (b : ℕ × List ℕ × Option ℕ) → IsBirth b → birth_in (BirthWords b) ≡ Some b
@@ -107,7 +126,8 @@ unfolding birth_in
 birth_found b v = rw (local_reader.found b.0 v.0, name_reader.found b.1 v.1, length_found b.2 v.2) refl
 
 -- a local, a name, and a length if one is written
-pub birth_reader : IsReader birth_in (λ b. local_word b.0 ∷ b.1 ∷ number_words b.2) (λ b. IsWord b.0 × IsTrue (is_name b.1) × IfSome b.2 IsWord)
+pub birth_reader : IsReader birth_in (λ b. local_word b.0 ∷ b.1 ∷ number_words b.2)
+    (λ b. IsWord b.0 × IsTrue (is_name b.1) × IfSome b.2 IsWord)
 birth_reader = record { found = birth_found; told = birth_told }
 
 -- ---- how to collect
@@ -117,8 +137,10 @@ how_told : (ws : List (List ℕ)) (how : How) → how_in ws ≡ Some how → (ws
 unfolding how_in
 how_told [] how e = value_told how_words (λ h. Unit {0}) [] Decide refl tt how e
 how_told (word ∷ []) how e =
-    choice_told how_words (λ h. Unit {0}) (λ w. w ∷ []) word (codes "compacting") _ _ (value_told how_words (λ h. Unit {0}) _ Compact refl tt)
-    (choice_told how_words (λ h. Unit {0}) (λ w. w ∷ []) word (codes "sweeping") _ _ (value_told how_words (λ h. Unit {0}) _ Sweep refl tt) (nothing_told _ _ _)) how e
+    choice_told how_words (λ h. Unit {0}) (λ w. w ∷ []) word (codes "compacting") _ _
+    (value_told how_words (λ h. Unit {0}) _ Compact refl tt)
+    (choice_told how_words (λ h. Unit {0}) (λ w. w ∷ []) word (codes "sweeping") _ _
+    (value_told how_words (λ h. Unit {0}) _ Sweep refl tt) (nothing_told _ _ _)) how e
 how_told (word ∷ other ∷ more) how e = absurd cc
 
 -- and each is read
@@ -135,18 +157,22 @@ how_reader = record { found = how_found; told = how_told }
 -- ---- the second local of a handle
 
 -- no second local is read where no word is left
-no_second_told : (ws : List (List ℕ)) (second : Option ℕ) → option_map {T = List (List ℕ)} (λ none. None) (none_in ws) ≡ Some second → (ws ≡ local_words second) × (second ≡ None)
+no_second_told : (ws : List (List ℕ)) (second : Option ℕ)
+    → option_map {T = List (List ℕ)} (λ none. None) (none_in ws) ≡ Some second
+    → (ws ≡ local_words second) × (second ≡ None)
 no_second_told ws second e =
     let m = mapped {A = List (List ℕ)} (λ none. None) (none_in ws) second e in
     subst (λ (o : Option ℕ). (ws ≡ local_words o) × (o ≡ None)) m.gives (none_told ws m.value m.was, refl)
 
 -- and that is read
-no_second_found : (second : Option ℕ) → second ≡ None → option_map {T = List (List ℕ)} (λ none. None) (none_in (local_words second)) ≡ Some second
+no_second_found : (second : Option ℕ) → second ≡ None
+    → option_map {T = List (List ℕ)} (λ none. None) (none_in (local_words second)) ≡ Some second
 no_second_found None h = refl
 no_second_found (Some k) h = absurd cc
 
 -- a second local that is read is spelled so, and the kind has it
-second_told : (kind : Kind) (ws : List (List ℕ)) (second : Option ℕ) → second_in kind ws ≡ Some second → (ws ≡ local_words second) × IsHandleForm kind second
+second_told : (kind : Kind) (ws : List (List ℕ)) (second : Option ℕ) → second_in kind ws ≡ Some second
+    → (ws ≡ local_words second) × IsHandleForm kind second
 unfolding second_in
 second_told Dependent ws second e =
     let m = mapped Some (one_local_in ws) second e in
@@ -158,7 +184,8 @@ second_told Weak ws second e = no_second_told ws second e
 second_told WeakLong ws second e = no_second_told ws second e
 
 -- and each is read
-second_found : (kind : Kind) (second : Option ℕ) → IsHandleForm kind second → second_in kind (local_words second) ≡ Some second
+second_found : (kind : Kind) (second : Option ℕ) → IsHandleForm kind second
+    → second_in kind (local_words second) ≡ Some second
 unfolding second_in
 second_found Dependent None h = absurd h
 second_found Dependent (Some k) h = rw (one_local_reader.found k h) refl
@@ -178,7 +205,8 @@ final_told : (ws : List (List ℕ)) (final : Bool) → final_in ws ≡ Some fina
 unfolding final_in
 final_told [] final e = value_told final_words (λ f. Unit {0}) [] false refl tt final e
 final_told (word ∷ []) final e =
-    choice_told final_words (λ f. Unit {0}) (λ w. w ∷ []) word (codes "final") _ _ (value_told final_words (λ f. Unit {0}) _ true refl tt) (nothing_told _ _ _) final e
+    choice_told final_words (λ f. Unit {0}) (λ w. w ∷ []) word (codes "final") _ _
+    (value_told final_words (λ f. Unit {0}) _ true refl tt) (nothing_told _ _ _) final e
 final_told (word ∷ other ∷ more) final e = absurd cc
 
 -- and each is read

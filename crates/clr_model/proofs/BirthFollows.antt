@@ -1,8 +1,10 @@
 -- The line that makes an object, on what is seen: what it does there, it does to each machine that is seen so.
-use Rattle.std.proofs.Common.{◌≡◌, ℕ, zero, suc, ◌+◌, ◌-◌, ◌<◌, ◌≤◌, ◌⊎◌, List, [], ◌∷◌, refl, sym, arith, subst, Bool, true, false, if◌then◌else◌, Option, Some, None, is_some, is_none, unwrap_or}
+use Rattle.std.proofs.Common.{◌≡◌, ℕ, zero, suc, ◌+◌, ◌-◌, ◌<◌, ◌≤◌, ◌⊎◌, List, [], ◌∷◌, refl, sym, arith, subst, Bool}
+use Rattle.std.proofs.Common.{true, false, if◌then◌else◌, Option, Some, None, is_some, is_none, unwrap_or}
 use Rattle.std.specs.Prelude.{slice_get, bytes_eq}
 use Rattle.std.specs.List.{AllByRecursion}
-use Rattle.clr_types.specs.Types.{TypeRow, Form, type_row, form_at, number_from, number_of, has_finalizer, is_array, size_of}
+use Rattle.clr_types.specs.Types.{TypeRow, Form, type_row, form_at, number_from, number_of, has_finalizer, is_array}
+use Rattle.clr_types.specs.Types.{size_of}
 use Rattle.clr_types.specs.Segments.{Layout}
 use Rattle.clr_types.proofs.TailTaken.{size-lawful}
 use Rattle.clr_model.specs.declared.Refusal.TheVariants.{UnknownThread, UnknownType, BadShape, NoSlot, TooBig, Oom}
@@ -22,19 +24,24 @@ use Rattle.clr_model.proofs.ContextRefilled.{refill_lawful}
 use Rattle.clr_model.proofs.FrontBirth.{IsFrontBirth, born_size, seen_at_front}
 use Rattle.clr_model.proofs.FrontBirthLawful.{front_lawful}
 use Rattle.clr_model.proofs.FrontBirthSeen.{picture-born}
-use Rattle.clr_model.proofs.BirthLine.{MayBear, suits_form, new_refuses_type, new_refuses_shape, new_refuses_local, new_refuses_size, new_obeys_own, new_obeys_refill, new_refuses_room}
+use Rattle.clr_model.proofs.BirthLine.{MayBear, suits_form, new_refuses_type, new_refuses_shape, new_refuses_local}
+use Rattle.clr_model.proofs.BirthLine.{new_refuses_size, new_obeys_own, new_obeys_refill, new_refuses_room}
 
-no_length : (array : Bool) (len : Option ℕ) → array ≡ false → (if array then is_some len else is_none len) ≡ true → unwrap_or len 0 ≡ 0
+no_length : (array : Bool) (len : Option ℕ) → array ≡ false → (if array then is_some len else is_none len) ≡ true
+    → unwrap_or len 0 ≡ 0
 no_length true len e f = absurd cc
 no_length false None e f = refl
 no_length false (Some n) e f = absurd cc
 
 -- a type that is found by its name is there
-there-from : (n : ℕ) (rows : List TypeRow) (name : List ℕ) (type : ℕ) → number_from n rows name ≡ Some type → (n ≤ type) × (is_some (slice_get rows (type - n)) ≡ true)
+there-from : (n : ℕ) (rows : List TypeRow) (name : List ℕ) (type : ℕ) → number_from n rows name ≡ Some type
+    → (n ≤ type) × (is_some (slice_get rows (type - n)) ≡ true)
 there-from n [] name type e = absurd cc
 there-from n (row ∷ rows) name type e = go (bytes_eq row.name name) e (there-from (n + 1) rows name type)
   where
-    go : (b : Bool) → (if b then Some n else number_from (n + 1) rows name) ≡ Some type → (number_from (n + 1) rows name ≡ Some type → (n + 1 ≤ type) × (is_some (slice_get rows (type - (n + 1))) ≡ true))
+    go : (b : Bool) → (if b then Some n else number_from (n + 1) rows name) ≡ Some type
+        → (number_from (n + 1) rows name ≡ Some type
+        → (n + 1 ≤ type) × (is_some (slice_get rows (type - (n + 1))) ≡ true))
         → (n ≤ type) × (is_some (slice_get (row ∷ rows) (type - n)) ≡ true)
     go true e more =
         let same : n ≡ type = cc in
@@ -45,16 +52,20 @@ there-from n (row ∷ rows) name type e = go (bytes_eq row.name name) e (there-f
         let next : type - n ≡ suc (type - (n + 1)) = omega arith in
         (omega arith, subst (λ i. is_some (slice_get (row ∷ rows) i) ≡ true) (sym next) there)
 
-known-there : (rows : List TypeRow) (name : List ℕ) (type : ℕ) → number_of rows name ≡ Some type → is_some (type_row rows type) ≡ true
+known-there : (rows : List TypeRow) (name : List ℕ) (type : ℕ) → number_of rows name ≡ Some type
+    → is_some (type_row rows type) ≡ true
 known-there rows name zero e = let (low, there) = there-from 1 rows name zero e in absurd (omega arith)
-known-there rows name (suc t) e = let (low, there) = there-from 1 rows name (suc t) e in let same : suc t - 1 ≡ t = omega arith in subst (λ i. is_some (slice_get rows i) ≡ true) same there
+known-there rows name (suc t) e = let (low, there) = there-from 1 rows name (suc t) e in
+    let same : suc t - 1 ≡ t = omega arith in subst (λ i. is_some (slice_get rows i) ≡ true) same there
 
 -- where no type has a finaliser, none of them has
-pub all-plain : (rows : List TypeRow) (type : ℕ) → AllByRecursion (λ (row : TypeRow). row.finalizer ≡ false) rows → has_finalizer (type_row rows type) ≡ false
+pub all-plain : (rows : List TypeRow) (type : ℕ) → AllByRecursion (λ (row : TypeRow). row.finalizer ≡ false) rows
+    → has_finalizer (type_row rows type) ≡ false
 all-plain rows zero all = refl
 all-plain rows (suc t) all = go rows t all
   where
-    go : (rows : List TypeRow) (t : ℕ) → AllByRecursion (λ (row : TypeRow). row.finalizer ≡ false) rows → has_finalizer (slice_get rows t) ≡ false
+    go : (rows : List TypeRow) (t : ℕ) → AllByRecursion (λ (row : TypeRow). row.finalizer ≡ false) rows
+        → has_finalizer (slice_get rows t) ≡ false
     go [] t all = refl
     go (row ∷ rows) zero all = all.0
     go (row ∷ rows) (suc t) all = go rows t all.1
@@ -62,16 +73,26 @@ all-plain rows (suc t) all = go rows t all
 module _ (m : Machine) (t k : ℕ) (name : List ℕ) (len : Option ℕ) (type : ℕ) where
   -- what holds of a picture's types, options, steps and holder holds of its machine
   pub may_bear_of-picture : MayBear (picture m) t k name len type → MayBear m t k name len type
-  may_bear_of-picture h = record { run = may_run_of-picture m t h.run; known = h.known; plain = h.plain; shape = h.shape; local = h.local; small = h.small }
+  may_bear_of-picture h = record {
+    run = may_run_of-picture m t h.run;
+    known = h.known;
+    plain = h.plain;
+    shape = h.shape;
+    local = h.local;
+    small = h.small;
+  }
 
   -- and with another layout
-  pub may_bear-relaid : (layout : Layout) → MayBear m t k name len type → MayBear (with_layout m layout) t k name len type
+  pub may_bear-relaid : (layout : Layout) → MayBear m t k name len type
+      → MayBear (with_layout m layout) t k name len type
   may_bear-relaid layout h =
-      let run : MayRun (with_layout m layout) t = record { thread = h.run.thread; idle = h.run.idle; unheld = h.run.unheld } in
+      let run : MayRun (with_layout m layout) t =
+      record { thread = h.run.thread; idle = h.run.idle; unheld = h.run.unheld } in
       record { run = run; known = h.known; plain = h.plain; shape = h.shape; local = h.local; small = h.small }
 
   -- an object that may be asked for is born at the front where it fits
-  pub front_birth : MayBear m t k name len type → own_fits m.layout t (born_size m type (unwrap_or len 0)) ≡ true → IsFrontBirth m t k type (unwrap_or len 0)
+  pub front_birth : MayBear m t k name len type → own_fits m.layout t (born_size m type (unwrap_or len 0)) ≡ true
+      → IsFrontBirth m t k type (unwrap_or len 0)
   front_birth h fits = record {
     thread = h.run.thread;
     local = h.local;
@@ -83,7 +104,8 @@ module _ (m : Machine) (t k : ℕ) (name : List ℕ) (len : Option ℕ) (type : 
   }
 
   -- the birth stands for what is seen after it
-  born_stands : IsBirthNamed m → MayBear m t k name len type → own_fits m.layout t (born_size m type (unwrap_or len 0)) ≡ true
+  born_stands : IsBirthNamed m → MayBear m t k name len type
+      → own_fits m.layout t (born_size m type (unwrap_or len 0)) ≡ true
       → StandsFor (seen_at_front (picture m) t k type (unwrap_or len 0)) (born_small m t k type (unwrap_or len 0))
   born_stands named h fits =
       let birth = front_birth h fits in
@@ -93,9 +115,12 @@ module _ (m : Machine) (t k : ℕ) (name : List ℕ) (len : Option ℕ) (type : 
       }
 
 -- the machine with a new context is lawful, and named by births
-pub refilled_named : (m : Machine) (t : ℕ) (form : Form) (len : ℕ) (layout : Layout) → IsBirthNamed m → MayRun m t → IsRefilled m.layout t (size_of form len) layout → IsBirthNamed (with_layout m layout) × (own_fits layout t (size_of form len) ≡ true)
+pub refilled_named : (m : Machine) (t : ℕ) (form : Form) (len : ℕ) (layout : Layout) → IsBirthNamed m → MayRun m t
+    → IsRefilled m.layout t (size_of form len) layout
+    → IsBirthNamed (with_layout m layout) × (own_fits layout t (size_of form len) ≡ true)
 refilled_named m t form len layout named run refilled =
-    let (lawful, fits) = refill_lawful m named.lawful t run.thread run.idle (size_of form len) (size-lawful form len) layout refilled in
+    let (lawful, fits) = refill_lawful m named.lawful t run.thread run.idle (size_of form len)
+    (size-lawful form len) layout refilled in
     (record { lawful = lawful; born = named.born }, fits)
 
 module _ (s : Machine) (t k : ℕ) (name : List ℕ) (len : Option ℕ) where
@@ -106,22 +131,33 @@ module _ (s : Machine) (t k : ℕ) (name : List ℕ) (len : Option ℕ) where
   l = unwrap_or len 0
 
   -- the context has room: the object is born at its front
-  pub new_follows_own : (type : ℕ) → MayBear s t k name len type → own_fits s.layout t (born_size s type (unwrap_or len 0)) ≡ true
-      → Follows s (new_object t k name len) (answered (Place (context_front s.layout t))) (seen_at_front s t k type (unwrap_or len 0))
+  pub new_follows_own : (type : ℕ) → MayBear s t k name len type
+      → own_fits s.layout t (born_size s type (unwrap_or len 0)) ≡ true
+      → Follows s (new_object t k name len) (answered (Place (context_front s.layout t)))
+      (seen_at_front s t k type (unwrap_or len 0))
   new_follows_own type may own =
       follows s i _ _
-      (carried i (λ s. MayBear s t k name len type × (own_fits s.layout t (born_size s type l) ≡ true)) (λ s. answered (Place (context_front s.layout t))) (λ s. seen_at_front s t k type l)
+      (carried i (λ s. MayBear s t k name len type × (own_fits s.layout t (born_size s type l) ≡ true))
+      (λ s. answered (Place (context_front s.layout t))) (λ s. seen_at_front s t k type l)
       (λ m named given.
-      let h = may_bear_of-picture m t k name len type given.0 in
-      (born_small m t k type l, new_obeys_own m t k name len type named h given.1, born_stands m t k name len type named h given.1))
+      let h = may_bear_of-picture m t k name len type given.0 in (
+        born_small m t k type l,
+        new_obeys_own m t k name len type named h given.1,
+        born_stands m t k name len type named
+            h given.1,
+      ))
       s (may, own))
 
   -- the context lacks room and a refill gives it: the object is born at the front of the new context
-  pub new_follows_refill : (type : ℕ) (layout : Layout) → MayBear s t k name len type → own_fits s.layout t (born_size s type (unwrap_or len 0)) ≡ false → IsRefilled s.layout t (born_size s type (unwrap_or len 0)) layout
-      → Follows s (new_object t k name len) (answered (Place (context_front layout t))) (seen_at_front (with_layout s layout) t k type (unwrap_or len 0))
+  pub new_follows_refill : (type : ℕ) (layout : Layout) → MayBear s t k name len type
+      → own_fits s.layout t (born_size s type (unwrap_or len 0)) ≡ false
+      → IsRefilled s.layout t (born_size s type (unwrap_or len 0)) layout
+      → Follows s (new_object t k name len) (answered (Place (context_front layout t)))
+      (seen_at_front (with_layout s layout) t k type (unwrap_or len 0))
   new_follows_refill type layout may own refilled =
       follows s i _ _
-      (carried i (λ s. MayBear s t k name len type × (own_fits s.layout t (born_size s type l) ≡ false) × IsRefilled s.layout t (born_size s type l) layout)
+      (carried i (λ s. MayBear s t k name len type × (own_fits s.layout t (born_size s type l) ≡ false)
+      × IsRefilled s.layout t (born_size s type l) layout)
       (λ s. answered (Place (context_front layout t))) (λ s. seen_at_front (with_layout s layout) t k type l)
       (λ m named given.
       let h = may_bear_of-picture m t k name len type given.0 in
@@ -133,20 +169,27 @@ module _ (s : Machine) (t k : ℕ) (name : List ℕ) (len : Option ℕ) where
       s (may, own, refilled))
 
   -- neither the context nor the heap has room
-  pub new_follows_room : (type : ℕ) → MayBear s t k name len type → own_fits s.layout t (born_size s type (unwrap_or len 0)) ≡ false → has_room s.layout (born_size s type (unwrap_or len 0)) ≡ false
+  pub new_follows_room : (type : ℕ) → MayBear s t k name len type
+      → own_fits s.layout t (born_size s type (unwrap_or len 0)) ≡ false
+      → has_room s.layout (born_size s type (unwrap_or len 0)) ≡ false
       → Follows s (new_object t k name len) (refused Oom) s
   new_follows_room type may own full =
       follows s i _ _
-      (refusal_carried_by i (λ s. MayBear s t k name len type × (own_fits s.layout t (born_size s type l) ≡ false) × (has_room s.layout (born_size s type l) ≡ false)) Oom
-      (λ m named given. new_refuses_room m t k name len type named (may_bear_of-picture m t k name len type given.0) given.1 given.2)
+      (refusal_carried_by i (λ s. MayBear s t k name len type × (own_fits s.layout t (born_size s type l) ≡ false)
+      × (has_room s.layout (born_size s type l) ≡ false)) Oom
+      (λ m named given. new_refuses_room m t k name len type named
+      (may_bear_of-picture m t k name len type given.0) given.1 given.2)
       s (may, own, full))
 
   -- a thread that there is not
   pub new_follows_thread : is_thread t ≡ false → Follows s (new_object t k name len) (refused UnknownThread) s
-  new_follows_thread none = follows s i _ _ (refusal_carried_by i (λ s. is_thread t ≡ false) UnknownThread (λ m named given. refuses_thread m i t refl given) s none)
+  new_follows_thread none = follows s i _ _
+      (refusal_carried_by i (λ s. is_thread t ≡ false) UnknownThread
+      (λ m named given. refuses_thread m i t refl given) s none)
 
   -- a name that no type has
-  pub new_follows_type : MayRun s t → number_of s.types name ≡ None → Follows s (new_object t k name len) (refused UnknownType) s
+  pub new_follows_type : MayRun s t → number_of s.types name ≡ None
+      → Follows s (new_object t k name len) (refused UnknownType) s
   new_follows_type run unknown =
       follows s i _ _
       (refusal_carried_by i (λ s. MayRun s t × (number_of s.types name ≡ None)) UnknownType
@@ -154,27 +197,35 @@ module _ (s : Machine) (t k : ℕ) (name : List ℕ) (len : Option ℕ) where
       s (run, unknown))
 
   -- a length with a class, or an array without one
-  pub new_follows_shape : (type : ℕ) → MayRun s t → number_of s.types name ≡ Some type → suits_form s type len ≡ false → Follows s (new_object t k name len) (refused BadShape) s
+  pub new_follows_shape : (type : ℕ) → MayRun s t → number_of s.types name ≡ Some type → suits_form s type len ≡ false
+      → Follows s (new_object t k name len) (refused BadShape) s
   new_follows_shape type run known unsuited =
       follows s i _ _
-      (refusal_carried_by i (λ s. MayRun s t × (number_of s.types name ≡ Some type) × (suits_form s type len ≡ false)) BadShape
+      (refusal_carried_by i (λ s. MayRun s t × (number_of s.types name ≡ Some type)
+      × (suits_form s type len ≡ false)) BadShape
       (λ m named given. new_refuses_shape m t k name len type given.1 (may_run_of-picture m t given.0) given.2)
       s (run, known, unsuited))
 
   -- a local that there is not
-  pub new_follows_local : (type : ℕ) → MayRun s t → number_of s.types name ≡ Some type → suits_form s type len ≡ true → 64 ≤ k → Follows s (new_object t k name len) (refused NoSlot) s
+  pub new_follows_local : (type : ℕ) → MayRun s t → number_of s.types name ≡ Some type → suits_form s type len ≡ true
+      → 64 ≤ k → Follows s (new_object t k name len) (refused NoSlot) s
   new_follows_local type run known suited high =
       follows s i _ _
-      (refusal_carried_by i (λ s. MayRun s t × (number_of s.types name ≡ Some type) × (suits_form s type len ≡ true)) NoSlot
+      (refusal_carried_by i (λ s. MayRun s t × (number_of s.types name ≡ Some type)
+      × (suits_form s type len ≡ true)) NoSlot
       (λ m named given. new_refuses_local m t k name len type given.1 (may_run_of-picture m t given.0) given.2 high)
       s (run, known, suited))
 
   -- more bytes than an object may have, or than the small heap takes
-  pub new_follows_size : (type : ℕ) → MayRun s t → number_of s.types name ≡ Some type → suits_form s type len ≡ true → k < 64
-      → (1073741824 < born_size s type (unwrap_or len 0)) ⊎ (s.options.large ≤ born_size s type (unwrap_or len 0)) → Follows s (new_object t k name len) (refused TooBig) s
+  pub new_follows_size : (type : ℕ) → MayRun s t → number_of s.types name ≡ Some type → suits_form s type len ≡ true
+      → k < 64
+      → (1073741824 < born_size s type (unwrap_or len 0)) ⊎ (s.options.large ≤ born_size s type (unwrap_or len 0))
+      → Follows s (new_object t k name len) (refused TooBig) s
   new_follows_size type run known suited local big =
       follows s i _ _
       (refusal_carried_by i
-      (λ s. MayRun s t × (number_of s.types name ≡ Some type) × (suits_form s type len ≡ true) × ((1073741824 < born_size s type l) ⊎ (s.options.large ≤ born_size s type l))) TooBig
-      (λ m named given. new_refuses_size m t k name len type given.1 (may_run_of-picture m t given.0) given.2 local given.3)
+      (λ s. MayRun s t × (number_of s.types name ≡ Some type) × (suits_form s type len ≡ true)
+      × ((1073741824 < born_size s type l) ⊎ (s.options.large ≤ born_size s type l))) TooBig
+      (λ m named given. new_refuses_size m t k name len type given.1
+      (may_run_of-picture m t given.0) given.2 local given.3)
       s (run, known, suited, big))

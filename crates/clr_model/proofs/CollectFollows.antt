@@ -1,5 +1,6 @@
 -- The line that collects: what is to follow from each outcome, on what is seen.
-use Rattle.std.proofs.Common.{◌≡◌, ℕ, ◌+◌, ◌≤◌, List, [], ◌∷◌, map, refl, sym, ap, subst, ◌∙◌, arith, false, Option, None, MatchOption, inl, ◌⊎◌}
+use Rattle.std.proofs.Common.{◌≡◌, ℕ, ◌+◌, ◌≤◌, List, [], ◌∷◌, map, refl, sym, ap, subst, ◌∙◌, arith, false, Option}
+use Rattle.std.proofs.Common.{None, MatchOption, inl, ◌⊎◌}
 use Rattle.clr_types.proofs.RisingLists.{all_at}
 use Rattle.clr_model.specs.declared.How.{How}
 use Rattle.clr_model.specs.declared.How.TheVariants.{Sweep}
@@ -17,7 +18,8 @@ use Rattle.clr_model.specs.Outcomes.{Outcome, answered, refused}
 use Rattle.clr_model.specs.Step.{Obeys}
 use Rattle.clr_model.specs.Lawful.{IsPlaceNamed}
 use Rattle.clr_model.specs.Run.{Follows}
-use Rattle.clr_model.proofs.LineChecks.{MayRun, may_run_of-picture, IsThreadLine, no_more, line_passes, line_refuses_thread, obeys_done}
+use Rattle.clr_model.proofs.LineChecks.{MayRun, may_run_of-picture, IsThreadLine, no_more, line_passes}
+use Rattle.clr_model.proofs.LineChecks.{line_refuses_thread, obeys_done}
 use Rattle.clr_model.proofs.Carried.{follows, follows_if_stands, refusal_carried_by}
 use Rattle.clr_model.proofs.CollectionLaws.{names_dont_matter}
 use Rattle.clr_model.proofs.CollectedLawful.{stays_lawful, stays_birth_named, objects_left}
@@ -26,7 +28,8 @@ use Rattle.clr_model.proofs.SeenStands.{picture_still}
 
 -- ---- what is seen of threads in mid-step
 
-lowest-renamed : (to : ℕ → ℕ) (t : ℕ) (steps : List ThreadStep) → lowest_step_from t (map (renamed_step to) steps) ≡ lowest_step_from t steps
+lowest-renamed : (to : ℕ → ℕ) (t : ℕ) (steps : List ThreadStep)
+    → lowest_step_from t (map (renamed_step to) steps) ≡ lowest_step_from t steps
 lowest-renamed to t [] = refl
 lowest-renamed to t (no_step ∷ ss) = lowest-renamed to (t + 1) ss
 lowest-renamed to t (begun_store object slot ∷ ss) = refl
@@ -44,30 +47,48 @@ collect_line t g how = record { thread = refl; checks = λ s. refl }
 -- where no thread is in mid-step: the collection and its answer, or want of memory
 abbrev CollectsNow : Machine → ℕ → How → Outcome → Machine → Type 0
 CollectsNow m g how outcome new =
-    ((answer : Collected) × Collects m g how answer new × (outcome ≡ answered (reply.Collected answer))) ⊎ ((outcome ≡ refused refusal.NoMemory) × NoMemoryToCollect how m new)
+    ((answer : Collected) × Collects m g how answer new × (outcome ≡ answered (reply.Collected answer)))
+    ⊎ ((outcome ≡ refused refusal.NoMemory) × NoMemoryToCollect how m new)
 
 -- then the line collects
-pub collect_obeys : (m : Machine) (t g : ℕ) (how : How) → MayRun m t → lowest_in_step m ≡ None → (answer : Collected) (next : Machine) → Collects m g how answer next → Obeys m (collect_heap t g how) (answered (reply.Collected answer)) next
+pub collect_obeys : (m : Machine) (t g : ℕ) (how : How) → MayRun m t → lowest_in_step m ≡ None
+    → (answer : Collected) (next : Machine) → Collects m g how answer next
+    → Obeys m (collect_heap t g how) (answered (reply.Collected answer)) next
 collect_obeys m t g how run idle answer next c =
-    obeys_done m (collect_heap t g how) (answered (reply.Collected answer)) next (line_passes (collect_heap t g how) t [] (λ s. None ∷ None ∷ None ∷ no_more) (collect_line t g how) m run tt)
-    (subst (λ (r : Option ℕ). MatchOption r (CollectsNow m g how (answered (reply.Collected answer)) next) (λ k. (answered (reply.Collected answer) ≡ refused (refusal.Wait k)) × (next ≡ m))) (sym idle) (inl (answer, c, refl)))
+    obeys_done m (collect_heap t g how) (answered (reply.Collected answer)) next
+    (line_passes (collect_heap t g how) t [] (λ s. None ∷ None ∷ None ∷ no_more) (collect_line t g how) m run tt)
+    (subst (λ (r : Option ℕ). MatchOption r (CollectsNow m g how (answered (reply.Collected answer)) next)
+    (λ k. (answered (reply.Collected answer) ≡ refused (refusal.Wait k)) × (next ≡ m))) (sym idle)
+    (inl (answer, c, refl)))
 
 -- What a collection does to what is seen, it does to each machine that is seen so.
-pub collect_follows : (s : Machine) (t g : ℕ) (how : How) (answer : Collected) (after : Machine) → g ≤ 2 → MayRun s t → lowest_in_step s ≡ None → Collects s g how answer after → Follows s (collect_heap t g how) (answered (reply.Collected answer)) (picture after)
+pub collect_follows : (s : Machine) (t g : ℕ) (how : How) (answer : Collected) (after : Machine) → g ≤ 2 → MayRun s t
+    → lowest_in_step s ≡ None → Collects s g how answer after
+    → Follows s (collect_heap t g how) (answered (reply.Collected answer)) (picture after)
 collect_follows s t g how answer after least run idle c =
     follows s (collect_heap t g how) (answered (reply.Collected answer)) (picture after)
     (λ m stands.
     let may : MayRun m t = may_run_of-picture m t (subst (λ (w : Machine). MayRun w t) (sym stands.seen_is) run) in
     let rests : lowest_in_step m ≡ None = sym (lowest_in_step-picture m) ∙ ap lowest_in_step stands.seen_is ∙ idle in
-    let (next, done, shown) = names_dont_matter m g how answer after stands.lawful.lawful least (subst (λ (w : Machine). Collects w g how answer after) (sym stands.seen_is) c) in
-    (next, collect_obeys m t g how may rests answer next done, record { lawful = stays_birth_named m stands.lawful.lawful rests g least how answer next done stands.lawful.born; seen_is = shown }))
+    let (next, done, shown) = names_dont_matter m g how answer after stands.lawful.lawful least
+    (subst (λ (w : Machine). Collects w g how answer after) (sym stands.seen_is) c) in (
+      next,
+      collect_obeys m t g how may rests answer next done,
+      record {
+        lawful = stays_birth_named m stands.lawful.lawful rests g least how answer next done
+            stands.lawful.born;
+        seen_is = shown;
+      },
+    ))
 
 -- a line of a thread that there is not
-pub collect_follows_thread : (s : Machine) (t g : ℕ) (how : How) → is_thread t ≡ false → Follows s (collect_heap t g how) (refused refusal.UnknownThread) s
+pub collect_follows_thread : (s : Machine) (t g : ℕ) (how : How) → is_thread t ≡ false
+    → Follows s (collect_heap t g how) (refused refusal.UnknownThread) s
 collect_follows_thread s t g how none =
     follows s (collect_heap t g how) (refused refusal.UnknownThread) s
     (refusal_carried_by (collect_heap t g how) (λ w. is_thread t ≡ false) refusal.UnknownThread
-    (λ m born none. line_refuses_thread (collect_heap t g how) t [] (λ s. None ∷ None ∷ None ∷ no_more) (collect_line t g how) m none) s none)
+    (λ m born none. line_refuses_thread (collect_heap t g how) t [] (λ s. None ∷ None ∷ None ∷ no_more)
+    (collect_line t g how) m none) s none)
 
 -- ---- a sweep of the whole heap
 
@@ -75,19 +96,23 @@ two : 2 ≤ 2
 two = omega arith
 
 -- A sweep moves nothing, so objects that are named by their places still are.
-pub after_sweep_is_sound : (s : Machine) → IsPlaceNamed s → lowest_in_step s ≡ None → (answer : Collected) (after : Machine) → Collects s 2 Sweep answer after → IsPlaceNamed after
+pub after_sweep_is_sound : (s : Machine) → IsPlaceNamed s → lowest_in_step s ≡ None
+    → (answer : Collected) (after : Machine) → Collects s 2 Sweep answer after → IsPlaceNamed after
 after_sweep_is_sound s h idle answer after c = record {
   lawful = stays_lawful s h.lawful idle 2 two Sweep answer after c;
   places =
       objects_left s h.lawful idle 2 two Sweep answer after c (λ (o : Object). o.name ≡ o.place)
-      (λ q i. all_at (λ (o : Object). o.name ≡ o.place) i h.places ∙ sym (ap (λ vs. moved_by vs q.place) c.small_laid.0));
+      (λ q i. all_at (λ (o : Object). o.name ≡ o.place) i h.places
+      ∙ sym (ap (λ vs. moved_by vs q.place) c.small_laid.0));
   uncounted = ap (λ (w : Machine). w.born) c.state ∙ h.uncounted;
 }
 
 -- What a sweep of the whole heap does to what is seen, follows.
-pub sweep_follows : (s : Machine) (t : ℕ) (answer : Collected) (after : Machine) → MayRun s t → lowest_in_step s ≡ None → Collects s 2 Sweep answer after → Follows s (collect_heap t 2 Sweep) (answered (reply.Collected answer)) after
+pub sweep_follows : (s : Machine) (t : ℕ) (answer : Collected) (after : Machine) → MayRun s t → lowest_in_step s ≡ None
+    → Collects s 2 Sweep answer after → Follows s (collect_heap t 2 Sweep) (answered (reply.Collected answer)) after
 sweep_follows s t answer after run idle c =
     follows_if_stands s (collect_heap t 2 Sweep) (answered (reply.Collected answer)) after
     (λ m stands.
-    subst (Follows s (collect_heap t 2 Sweep) (answered (reply.Collected answer))) (picture_still after (after_sweep_is_sound s (seen_sound s m stands) idle answer after c))
+    subst (Follows s (collect_heap t 2 Sweep) (answered (reply.Collected answer)))
+    (picture_still after (after_sweep_is_sound s (seen_sound s m stands) idle answer after c))
     (collect_follows s t 2 Sweep answer after two run idle c))

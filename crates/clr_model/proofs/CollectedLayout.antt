@@ -1,5 +1,7 @@
--- The layout that a whole collection leaves: the small heap compacted or swept, the large heap swept, and empty segments released.
-use Rattle.std.proofs.Common.{◌≡◌, ℕ, ◌%◌, ◌<◌, ◌≤◌, List, [], ◌∷◌, ◌++◌, length, refl, sym, ap, subst, ◌∙◌, arith, Bool, true, false, if◌then◌else◌, filter, ◌&&◌, ◌||◌, ◌==◌, nat_lt, min}
+-- The layout that a whole collection leaves: the small heap compacted or swept, the large heap swept, and empty
+-- segments released.
+use Rattle.std.proofs.Common.{◌≡◌, ℕ, ◌%◌, ◌<◌, ◌≤◌, List, [], ◌∷◌, ◌++◌, length, refl, sym, ap, subst, ◌∙◌, arith}
+use Rattle.std.proofs.Common.{Bool, true, false, if◌then◌else◌, filter, ◌&&◌, ◌||◌, ◌==◌, nat_lt, min}
 use Rattle.std.proofs.lemmas.Bool.{and_parts, eq-eqb, eqb-true}
 use Rattle.std.specs.List.{AllByRecursion, flat_map, list_any}
 use Rattle.clr_types.specs.Rising.{IsIn, first}
@@ -7,7 +9,8 @@ use Rattle.clr_types.specs.Ranges.{Piece, Tiles, by_place, gaps, end_of_last}
 use Rattle.clr_types.specs.declared.segment.SegKind.{SegKind}
 use Rattle.clr_types.specs.declared.segment.SegKind.TheVariants.{Small, Ephemeral, Large}
 use Rattle.clr_types.specs.declared.segment.SegInfo.{SegInfo}
-use Rattle.clr_types.specs.Segments.{Layout, first_place, reserved_end, same_kind, is_small_or_ephemeral, segments_of, ephemeral, generation, stands_in, segment_or_empty}
+use Rattle.clr_types.specs.Segments.{Layout, first_place, reserved_end, same_kind, is_small_or_ephemeral, segments_of}
+use Rattle.clr_types.specs.Segments.{ephemeral, generation, stands_in, segment_or_empty}
 use Rattle.clr_types.specs.LawfulLayout.{IsLawfulLayout, IsLawfulSegment}
 use Rattle.clr_types.proofs.RisingLists.{all_at}
 use Rattle.clr_types.proofs.ChangedLists.{all_members, into_filter, out_of_filter}
@@ -16,7 +19,9 @@ use Rattle.clr_types.proofs.SegmentFacts.{lawful_segment, ephemeral-kind, betwee
 use Rattle.clr_types.proofs.HighestSegment.{filter-disjoint}
 use Rattle.clr_model.specs.Machine.{Machine, Object}
 use Rattle.clr_model.specs.Lawful.{IsLaid}
-use Rattle.clr_model.specs.Sweep.{Survivor, survivors, survivor_pieces, part_start, sections, old_sections, pieces_between, has_condemned_part, taking_part, segments_after, swept_end, swept_free, swept_kind}
+use Rattle.clr_model.specs.Sweep.{Survivor, survivors, survivor_pieces, part_start, sections, old_sections}
+use Rattle.clr_model.specs.Sweep.{pieces_between, has_condemned_part, taking_part, segments_after, swept_end}
+use Rattle.clr_model.specs.Sweep.{swept_free, swept_kind}
 use Rattle.clr_model.specs.Compaction.{Move, compacted_end}
 use Rattle.clr_model.specs.Collection.{IsSmallLaid, is_retained, released, base_of_first}
 use Rattle.clr_model.proofs.SweptLawful.{sweep_tiles, sweep_end}
@@ -42,7 +47,8 @@ ephemeral-not_large Large e = absurd cc
 
 -- ---- the small heap
 
-module _ (m : Machine) (h : IsLaid m) (g : ℕ) (least : g ≤ 2) (keeps : ℕ → Bool) (moves : List Move) (small : Layout) where
+module _ (m : Machine) (h : IsLaid m) (g : ℕ) (least : g ≤ 2) (keeps : ℕ → Bool) (moves : List Move)
+    (small : Layout) where
   abbrev kept : List Survivor
   kept = survivors m g keeps
 
@@ -52,7 +58,9 @@ module _ (m : Machine) (h : IsLaid m) (g : ℕ) (least : g ≤ 2) (keeps : ℕ �
   small_lawful false c = subst IsLawfulLayout (sym c.1) (sweep_lawful m h g least keeps)
 
   -- segments that aren't in the small heap stay as they are
-  unchanged : (end_after : SegInfo → ℕ) → small.segments ≡ segments_after is_small_or_ephemeral g end_after m.layout.segments → (s : SegInfo) → IsIn s small.segments → same_kind Large s.kind ≡ true → IsIn s m.layout.segments
+  unchanged : (end_after : SegInfo → ℕ)
+      → small.segments ≡ segments_after is_small_or_ephemeral g end_after m.layout.segments → (s : SegInfo)
+      → IsIn s small.segments → same_kind Large s.kind ≡ true → IsIn s m.layout.segments
   unchanged end_after e s i kind =
       let (t, f, j) = from-map change s m.layout.segments (subst (IsIn s) e i) in
       go t j (is_small_or_ephemeral t.kind && has_condemned_part g t) refl f
@@ -60,21 +68,26 @@ module _ (m : Machine) (h : IsLaid m) (g : ℕ) (least : g ≤ 2) (keeps : ℕ �
       change : SegInfo → SegInfo
       change t = if is_small_or_ephemeral t.kind && has_condemned_part g t then record t { end = end_after t } else t
 
-      go : (t : SegInfo) → IsIn t m.layout.segments → (b : Bool) → (is_small_or_ephemeral t.kind && has_condemned_part g t) ≡ b → s ≡ (if b then record t { end = end_after t } else t) → IsIn s m.layout.segments
+      go : (t : SegInfo) → IsIn t m.layout.segments → (b : Bool)
+          → (is_small_or_ephemeral t.kind && has_condemned_part g t) ≡ b
+          → s ≡ (if b then record t { end = end_after t } else t) → IsIn s m.layout.segments
       go t j false e f = subst (λ (u : SegInfo). IsIn u m.layout.segments) (sym f) j
       go t j true e f =
           let (a, b) = and_parts (is_small_or_ephemeral t.kind) (has_condemned_part g t) e in
           let same : s.kind ≡ t.kind = ap (λ (u : SegInfo). u.kind) f in
-          let not_small : is_small_or_ephemeral t.kind ≡ false = subst (λ k. is_small_or_ephemeral k ≡ false) same (large-not_small s.kind kind) in
+          let not_small : is_small_or_ephemeral t.kind ≡ false =
+          subst (λ k. is_small_or_ephemeral k ≡ false) same (large-not_small s.kind kind) in
           absurd cc
 
-  pub large-known : (compacting : Bool) → IsSmallLaid compacting m.layout g kept moves small → (s : SegInfo) → IsIn s small.segments → same_kind Large s.kind ≡ true → IsIn s m.layout.segments
+  pub large-known : (compacting : Bool) → IsSmallLaid compacting m.layout g kept moves small → (s : SegInfo)
+      → IsIn s small.segments → same_kind Large s.kind ≡ true → IsIn s m.layout.segments
   large-known true c = unchanged (compacted_end small.start0 c.plugs moves) c.ends
   large-known false c = unchanged (swept_end m.layout g kept) (ap (λ (l : Layout). l.segments) c.1)
 
 -- ---- the large heap
 
-module _ (m : Machine) (h : IsLaid m) (keeps : ℕ → Bool) (moves : List Move) (small : Layout) (compacting : Bool) (laid : IsSmallLaid compacting m.layout 2 (survivors m 2 keeps) moves small) where
+module _ (m : Machine) (h : IsLaid m) (keeps : ℕ → Bool) (moves : List Move) (small : Layout) (compacting : Bool)
+    (laid : IsSmallLaid compacting m.layout 2 (survivors m 2 keeps) moves small) where
   abbrev stay : List Survivor
   stay = survivors m 2 keeps
 
@@ -89,7 +102,8 @@ module _ (m : Machine) (h : IsLaid m) (keeps : ℕ → Bool) (moves : List Move)
 
   large-is : (s : SegInfo) → IsIn s large → (same_kind Large s.kind ≡ true) × IsIn s m.layout.segments
   large-is s i =
-      let (e, j) = out_of_filter (λ (s : SegInfo). same_kind Large s.kind && has_condemned_part 2 s) s small.segments i in
+      let (e, j) = out_of_filter (λ (s : SegInfo). same_kind Large s.kind && has_condemned_part 2 s) s small.segments
+      i in
       let (a, b) = and_parts (same_kind Large s.kind) (has_condemned_part 2 s) e in
       (a, large-known m h 2 two keeps moves small compacting laid s j a)
 
@@ -98,13 +112,19 @@ module _ (m : Machine) (h : IsLaid m) (keeps : ℕ → Bool) (moves : List Move)
 
   -- a large segment's part doesn't hang on the layout
   same-start : (s : SegInfo) → IsIn s large → part_start m.layout 2 s ≡ part_start small 2 s
-  same-start s i = let e = large-not_ephemeral s.kind (large-is s i).0 in starts-at m.layout s e ∙ sym (starts-at small s e)
+  same-start s i =
+      let e = large-not_ephemeral s.kind (large-is s i).0 in starts-at m.layout s e ∙ sym (starts-at small s e)
 
-  large-sections : (l : Layout) (s : SegInfo) → same_kind Ephemeral s.kind ≡ false → sections l 2 s ≡ record { low = first_place s; high = s.end } ∷ []
-  large-sections l s e = ap (λ b. if b then old_sections l 2 s ++ (record { low = l.start0; high = s.end } ∷ []) else record { low = first_place s; high = s.end } ∷ []) e
+  large-sections : (l : Layout) (s : SegInfo) → same_kind Ephemeral s.kind ≡ false
+      → sections l 2 s ≡ record { low = first_place s; high = s.end } ∷ []
+  large-sections l s e =
+      ap (λ b. if b then old_sections l 2 s ++ (record { low = l.start0; high = s.end } ∷ [])
+      else record { low = first_place s; high = s.end } ∷ []) e
 
   same-sections : (s : SegInfo) → IsIn s large → sections m.layout 2 s ≡ sections small 2 s
-  same-sections s i = let e = large-not_ephemeral s.kind (large-is s i).0 in large-sections m.layout s e ∙ sym (large-sections small s e)
+  same-sections s i =
+      let e = large-not_ephemeral s.kind (large-is s i).0 in
+      large-sections m.layout s e ∙ sym (large-sections small s e)
 
   pub same-end : (s : SegInfo) → IsIn s large → swept_end m.layout 2 stay s ≡ swept_end small 2 stay s
   same-end s i = ap (λ n. end_of_last n (survivor_pieces s stay)) (same-start s i)
@@ -112,14 +132,20 @@ module _ (m : Machine) (h : IsLaid m) (keeps : ℕ → Bool) (moves : List Move)
   pub same-free : (s : SegInfo) → IsIn s large → swept_free m.layout 2 stay s ≡ swept_free small 2 stay s
   same-free s i =
       let end = same-end s i in let parts = same-sections s i in
-      λ k. flat_map (λ section. gaps section.low (min section.high (end k)) (pieces_between section.low section.high (survivor_pieces s stay))) (parts k)
+      λ k. flat_map (λ section. gaps section.low (min section.high (end k))
+      (pieces_between section.low section.high (survivor_pieces s stay))) (parts k)
 
   -- what the sweep keeps of a large segment and its new free items tile it up to its new end
-  pub large_tiles : (s : SegInfo) → IsIn s large → Tiles (part_start small 2 s) (swept_end small 2 stay s) (by_place (survivor_pieces s stay ++ swept_free small 2 stay s))
+  pub large_tiles : (s : SegInfo) → IsIn s large
+      → Tiles (part_start small 2 s) (swept_end small 2 stay s)
+      (by_place (survivor_pieces s stay ++ swept_free small 2 stay s))
   large_tiles s i =
-      subst (λ n. Tiles n (swept_end small 2 stay s) (by_place (survivor_pieces s stay ++ swept_free small 2 stay s))) (same-start s i)
-      (subst (λ n. Tiles (part_start m.layout 2 s) n (by_place (survivor_pieces s stay ++ swept_free small 2 stay s))) (same-end s i)
-      (subst (λ ps. Tiles (part_start m.layout 2 s) (swept_end m.layout 2 stay s) (by_place (survivor_pieces s stay ++ ps))) (same-free s i)
+      subst (λ n. Tiles n (swept_end small 2 stay s) (by_place (survivor_pieces s stay ++ swept_free small 2 stay s)))
+      (same-start s i)
+      (subst (λ n. Tiles (part_start m.layout 2 s) n (by_place (survivor_pieces s stay ++ swept_free small 2 stay s)))
+      (same-end s i)
+      (subst (λ ps. Tiles (part_start m.layout 2 s) (swept_end m.layout 2 stay s)
+      (by_place (survivor_pieces s stay ++ ps))) (same-free s i)
       (sweep_tiles m h 2 two keeps s (large-is s i).1)))
 
   large_high : (s : SegInfo) → IsIn s large → swept_end small 2 stay s ≤ reserved_end s
@@ -138,46 +164,63 @@ module _ (m : Machine) (h : IsLaid m) (keeps : ℕ → Bool) (moves : List Move)
   swept = swept_kind Large small 2 stay
 
   not_large : (same_kind Large (ephemeral small).kind && has_condemned_part 2 (ephemeral small)) ≡ false
-  not_large = ap (λ b. b && has_condemned_part 2 (ephemeral small)) (ephemeral-not_large (ephemeral small).kind (ephemeral-kind small lawful))
+  not_large =
+      ap (λ b. b && has_condemned_part 2 (ephemeral small))
+      (ephemeral-not_large (ephemeral small).kind (ephemeral-kind small lawful))
 
   -- the layout with the large heap swept too is lawful
   pub large_lawful : IsLawfulLayout (swept_kind Large small 2 stay)
   large_lawful =
-      layout_after small lawful (same_kind Large) 2 (swept_end small 2 stay) (λ s. survivor_pieces s stay) (swept_free small 2 stay) large_tiles large_high large_low
+      layout_after small lawful (same_kind Large) 2 (swept_end small 2 stay) (λ s. survivor_pieces s stay)
+      (swept_free small 2 stay) large_tiles large_high large_low
       swept refl refl refl refl lawful.start1_low lawful.start1_high
-      (subst (λ b. small.start0 ≤ (if b then record (ephemeral small) { end = swept_end small 2 stay (ephemeral small) } else ephemeral small).end) (sym not_large) lawful.start0_high)
+      (subst (λ b. small.start0 ≤ (if b
+      then record (ephemeral small) { end = swept_end small 2 stay (ephemeral small) } else ephemeral small).end)
+      (sym not_large) lawful.start0_high)
       lawful.aligned
 
   -- the ephemeral segment, and with it the generations, are those of the small heap
   pub large_ephemeral : ephemeral (swept_kind Large small 2 stay) ≡ ephemeral small
   large_ephemeral =
-      ephemeral_after small lawful (same_kind Large) 2 (swept_end small 2 stay) (λ s. survivor_pieces s stay) (swept_free small 2 stay) large_tiles large_high large_low swept refl
-      ∙ ap (λ b. if b then record (ephemeral small) { end = swept_end small 2 stay (ephemeral small) } else ephemeral small) not_large
+      ephemeral_after small lawful (same_kind Large) 2 (swept_end small 2 stay) (λ s. survivor_pieces s stay)
+      (swept_free small 2 stay) large_tiles large_high large_low swept refl
+      ∙ ap (λ b. if b then record (ephemeral small) { end = swept_end small 2 stay (ephemeral small) }
+      else ephemeral small) not_large
 
   -- a free item that the sweep of the large heap makes stands in a large segment
-  pub large_fresh : (p : Piece) → IsIn p (flat_map (swept_free small 2 stay) large) → (s : SegInfo) × (same_kind Large s.kind ≡ true) × IsIn s m.layout.segments × (stands_in s p.place ≡ true)
+  pub large_fresh : (p : Piece) → IsIn p (flat_map (swept_free small 2 stay) large)
+      → (s : SegInfo) × (same_kind Large s.kind ≡ true) × IsIn s m.layout.segments × (stands_in s p.place ≡ true)
   large_fresh p i =
-      let (s, j, k) = in-flat small lawful (same_kind Large) 2 (swept_end small 2 stay) (λ s. survivor_pieces s stay) (swept_free small 2 stay) large_tiles large_high large_low large p i in
-      let at = fresh-stands small lawful (same_kind Large) 2 (swept_end small 2 stay) (λ s. survivor_pieces s stay) (swept_free small 2 stay) large_tiles large_high large_low s j p k in
+      let (s, j, k) =
+      in-flat small lawful (same_kind Large) 2 (swept_end small 2 stay) (λ s. survivor_pieces s stay)
+      (swept_free small 2 stay) large_tiles large_high large_low large p i in
+      let at = fresh-stands small lawful (same_kind Large) 2 (swept_end small 2 stay) (λ s. survivor_pieces s stay)
+      (swept_free small 2 stay) large_tiles large_high large_low s j p k in
       let (kind, known) = large-is s j in
       (s, kind, known, between-stands s p.place at.low_place at.high_place)
 
 -- ---- what is released
 
-filter-through : {X : Type 0} (s t : X → Bool) (xs : List X) → ((x : X) → s x ≡ true → t x ≡ true) → filter s (filter t xs) ≡ filter s xs
+filter-through : {X : Type 0} (s t : X → Bool) (xs : List X) → ((x : X) → s x ≡ true → t x ≡ true)
+    → filter s (filter t xs) ≡ filter s xs
 filter-through s t [] h = refl
 filter-through s t (x ∷ xs) h = go (t x) (s x) refl refl (filter-through s t xs h)
   where
-    inner : (b : Bool) → s x ≡ b → filter s (filter t xs) ≡ filter s xs → (if s x then x ∷ filter s (filter t xs) else filter s (filter t xs)) ≡ (if b then x ∷ filter s xs else filter s xs)
-    inner true e more = ap (λ b. if b then x ∷ filter s (filter t xs) else filter s (filter t xs)) e ∙ ap (λ ys. x ∷ ys) more
+    inner : (b : Bool) → s x ≡ b → filter s (filter t xs) ≡ filter s xs
+        → (if s x then x ∷ filter s (filter t xs) else filter s (filter t xs))
+        ≡ (if b then x ∷ filter s xs else filter s xs)
+    inner true e more =
+        ap (λ b. if b then x ∷ filter s (filter t xs) else filter s (filter t xs)) e ∙ ap (λ ys. x ∷ ys) more
     inner false e more = ap (λ b. if b then x ∷ filter s (filter t xs) else filter s (filter t xs)) e ∙ more
 
-    go : (a b : Bool) → t x ≡ a → s x ≡ b → filter s (filter t xs) ≡ filter s xs → filter s (if a then x ∷ filter t xs else filter t xs) ≡ (if s x then x ∷ filter s xs else filter s xs)
+    go : (a b : Bool) → t x ≡ a → s x ≡ b → filter s (filter t xs) ≡ filter s xs
+        → filter s (if a then x ∷ filter t xs else filter t xs) ≡ (if s x then x ∷ filter s xs else filter s xs)
     go true b e f more = inner (s x) refl more
     go false true e f more = let p : t x ≡ true = h x f in absurd cc
     go false false e f more = more ∙ sym (ap (λ b. if b then x ∷ filter s xs else filter s xs) f)
 
-all-filter : (P : SegInfo → Type 0) (test : SegInfo → Bool) (ss : List SegInfo) → AllByRecursion P ss → AllByRecursion P (filter test ss)
+all-filter : (P : SegInfo → Type 0) (test : SegInfo → Bool) (ss : List SegInfo) → AllByRecursion P ss
+    → AllByRecursion P (filter test ss)
 all-filter P test ss h = all_members P (filter test ss) (λ s i. all_at P (out_of_filter test s ss i).1 h)
 
 or_true : (a b : Bool) → b ≡ true → (a || b) ≡ true
@@ -197,10 +240,15 @@ module _ (layout : Layout) (h : IsLawfulLayout layout) (objects : List Object) w
   left = released layout objects
 
   ephemeral_retained : (s : SegInfo) → same_kind Ephemeral s.kind ≡ true → is_retained layout objects s ≡ true
-  ephemeral_retained s e = or_true (list_any (λ o. stands_in s o.place) objects) (same_kind Ephemeral s.kind || (s.base == base_of_first (segments_of Large layout))) (ap (λ b. b || (s.base == base_of_first (segments_of Large layout))) e)
+  ephemeral_retained s e =
+      or_true (list_any (λ o. stands_in s o.place) objects)
+      (same_kind Ephemeral s.kind || (s.base == base_of_first (segments_of Large layout)))
+      (ap (λ b. b || (s.base == base_of_first (segments_of Large layout))) e)
 
   ephemerals_left : segments_of Ephemeral left ≡ segments_of Ephemeral layout
-  ephemerals_left = filter-through (λ (s : SegInfo). same_kind Ephemeral s.kind) (is_retained layout objects) layout.segments ephemeral_retained
+  ephemerals_left =
+      filter-through (λ (s : SegInfo). same_kind Ephemeral s.kind) (is_retained layout objects) layout.segments
+      ephemeral_retained
 
   -- the ephemeral segment stays
   pub released_ephemeral : ephemeral (released layout objects) ≡ ephemeral layout
@@ -211,22 +259,34 @@ module _ (layout : Layout) (h : IsLawfulLayout layout) (objects : List Object) w
       let (s, i, e) = head_is (segments_of Large layout) h.some_large in
       let (kind, j) = out_of_filter (λ (s : SegInfo). same_kind Large s.kind) s layout.segments i in
       let stays : is_retained layout objects s ≡ true =
-      or_true (list_any (λ o. stands_in s o.place) objects) (same_kind Ephemeral s.kind || (s.base == base_of_first (segments_of Large layout))) (or_true (same_kind Ephemeral s.kind) (s.base == base_of_first (segments_of Large layout)) (eq-eqb s.base (base_of_first (segments_of Large layout)) e))
+      or_true (list_any (λ o. stands_in s o.place) objects)
+      (same_kind Ephemeral s.kind || (s.base == base_of_first (segments_of Large layout)))
+      (or_true (same_kind Ephemeral s.kind) (s.base == base_of_first (segments_of Large layout))
+      (eq-eqb s.base (base_of_first (segments_of Large layout)) e))
       in
-      some_in (segments_of Large left) s (into_filter (λ (s : SegInfo). same_kind Large s.kind) (filter (is_retained layout objects) layout.segments) kind (into_filter (is_retained layout objects) layout.segments stays j))
+      some_in (segments_of Large left) s
+      (into_filter (λ (s : SegInfo). same_kind Large s.kind) (filter (is_retained layout objects) layout.segments)
+      kind (into_filter (is_retained layout objects) layout.segments stays j))
 
   small_left : (s : SegInfo) → IsIn s (segments_of Small left) → s.base ≤ (ephemeral left).base
   small_left s i =
-      let (kind, j) = out_of_filter (λ (s : SegInfo). same_kind Small s.kind) s (filter (is_retained layout objects) layout.segments) i in
+      let (kind, j) =
+      out_of_filter (λ (s : SegInfo). same_kind Small s.kind) s (filter (is_retained layout objects) layout.segments)
+      i in
       let k : IsIn s layout.segments = (out_of_filter (is_retained layout objects) s layout.segments j).1 in
-      subst (λ (u : SegInfo). s.base ≤ u.base) (sym released_ephemeral) (all_at (λ (s : SegInfo). s.base ≤ (ephemeral layout).base) (into_filter (λ (s : SegInfo). same_kind Small s.kind) layout.segments kind k) h.ephemeral_last)
+      subst (λ (u : SegInfo). s.base ≤ u.base) (sym released_ephemeral)
+      (all_at (λ (s : SegInfo). s.base ≤ (ephemeral layout).base)
+      (into_filter (λ (s : SegInfo). same_kind Small s.kind) layout.segments kind k) h.ephemeral_last)
 
   -- without the segments that nothing stands in, the layout is as lawful
   pub released_lawful : IsLawfulLayout (released layout objects)
   released_lawful = record {
     segments = all-filter IsLawfulSegment (is_retained layout objects) layout.segments h.segments;
     disjoint = filter-disjoint (is_retained layout objects) layout.segments h.disjoint;
-    below_top = all-filter (λ (s : SegInfo). reserved_end s ≤ layout.top) (is_retained layout objects) layout.segments h.below_top;
+    below_top =
+        all-filter (λ (s : SegInfo). reserved_end s ≤ layout.top) (is_retained layout objects) layout.segments
+        h.below_top;
+    top_aligned = h.top_aligned;
     one_ephemeral = ap length ephemerals_left ∙ h.one_ephemeral;
     ephemeral_last = all_members (λ (s : SegInfo). s.base ≤ (ephemeral left).base) (segments_of Small left) small_left;
     some_large = large_left;
@@ -244,36 +304,73 @@ module _ (layout : Layout) (h : IsLawfulLayout layout) (objects : List Object) w
 abbrev pub whole_after : ℕ → List Survivor → Layout → List Object → Layout
 whole_after g stay small objects = if g == 2 then released (swept_kind Large small 2 stay) objects else small
 
-module _ (m : Machine) (h : IsLaid m) (g : ℕ) (least : g ≤ 2) (keeps : ℕ → Bool) (moves : List Move) (small : Layout) (compacting : Bool) (laid : IsSmallLaid compacting m.layout g (survivors m g keeps) moves small) (objects : List Object) where
+module _ (m : Machine) (h : IsLaid m) (g : ℕ) (least : g ≤ 2) (keeps : ℕ → Bool) (moves : List Move) (small : Layout)
+    (compacting : Bool) (laid : IsSmallLaid compacting m.layout g (survivors m g keeps) moves small)
+    (objects : List Object) where
   -- the whole layout is lawful
   pub whole_lawful : IsLawfulLayout (whole_after g (survivors m g keeps) small objects)
   whole_lawful = go (g == 2) refl
     where
-      go : (b : Bool) → (g == 2) ≡ b → IsLawfulLayout (if b then released (swept_kind Large small 2 (survivors m g keeps)) objects else small)
+      go : (b : Bool) → (g == 2) ≡ b
+          → IsLawfulLayout (if b then released (swept_kind Large small 2 (survivors m g keeps)) objects else small)
       go false e = small_lawful m h g least keeps moves small compacting laid
       go true e =
           let two : g ≡ 2 = eqb-true g 2 e in
           subst (λ n. IsLawfulLayout (released (swept_kind Large small 2 (survivors m n keeps)) objects)) (sym two)
-          (released_lawful (swept_kind Large small 2 (survivors m 2 keeps)) (large_lawful m h keeps moves small compacting (subst (λ n. IsSmallLaid compacting m.layout n (survivors m n keeps) moves small) two laid)) objects)
+          (released_lawful (swept_kind Large small 2 (survivors m 2 keeps))
+          (large_lawful m h keeps moves small compacting
+          (subst (λ n. IsSmallLaid compacting m.layout n (survivors m n keeps) moves small) two laid)) objects)
 
   -- its ephemeral segment is the small heap's
   pub whole_ephemeral : ephemeral (whole_after g (survivors m g keeps) small objects) ≡ ephemeral small
   whole_ephemeral = go (g == 2) refl
     where
-      go : (b : Bool) → (g == 2) ≡ b → ephemeral (if b then released (swept_kind Large small 2 (survivors m g keeps)) objects else small) ≡ ephemeral small
+      go : (b : Bool) → (g == 2) ≡ b
+          → ephemeral (if b then released (swept_kind Large small 2 (survivors m g keeps)) objects else small)
+          ≡ ephemeral small
       go false e = refl
       go true e =
           let two : g ≡ 2 = eqb-true g 2 e in
-          subst (λ n. ephemeral (released (swept_kind Large small 2 (survivors m n keeps)) objects) ≡ ephemeral small) (sym two)
+          subst (λ n. ephemeral (released (swept_kind Large small 2 (survivors m n keeps)) objects) ≡ ephemeral small)
+          (sym two)
           (let laid_two = subst (λ n. IsSmallLaid compacting m.layout n (survivors m n keeps) moves small) two laid in
-          released_ephemeral (swept_kind Large small 2 (survivors m 2 keeps)) (large_lawful m h keeps moves small compacting laid_two) objects ∙ large_ephemeral m h keeps moves small compacting laid_two)
+          released_ephemeral (swept_kind Large small 2 (survivors m 2 keeps))
+          (large_lawful m h keeps moves small compacting laid_two) objects
+          ∙ large_ephemeral m h keeps moves small compacting laid_two)
+
+  -- the generations are the small heap's before anything is released
+  pub laid_generation : (place : ℕ)
+      → generation (if g == 2 then swept_kind Large small 2 (survivors m g keeps) else small) place
+      ≡ generation small place
+  laid_generation place = go (g == 2) refl
+    where
+      go : (b : Bool) → (g == 2) ≡ b
+          → generation (if b then swept_kind Large small 2 (survivors m g keeps) else small) place
+          ≡ generation small place
+      go false e = refl
+      go true e =
+          let two : g ≡ 2 = eqb-true g 2 e in
+          subst (λ n. generation (swept_kind Large small 2 (survivors m n keeps)) place ≡ generation small place)
+          (sym two)
+          (ap (λ (s : SegInfo). if stands_in s place
+          then (if nat_lt place small.start1 then 2 else (if nat_lt place small.start0 then 1 else 0)) else 2)
+          (large_ephemeral m h keeps moves small compacting
+          (subst (λ n. IsSmallLaid compacting m.layout n (survivors m n keeps) moves small) two laid)))
 
   -- and so are its generations
-  pub whole_generation : (place : ℕ) → generation (whole_after g (survivors m g keeps) small objects) place ≡ generation small place
+  pub whole_generation : (place : ℕ)
+      → generation (whole_after g (survivors m g keeps) small objects) place ≡ generation small place
   whole_generation place =
-      ap (λ (s : SegInfo). if stands_in s place then (if nat_lt place (whole_after g (survivors m g keeps) small objects).start1 then 2 else (if nat_lt place (whole_after g (survivors m g keeps) small objects).start0 then 1 else 0)) else 2) whole_ephemeral
+      ap (λ (s : SegInfo). if stands_in s place
+      then (if nat_lt place (whole_after g (survivors m g keeps) small objects).start1 then 2
+      else (if nat_lt place (whole_after g (survivors m g keeps) small objects).start0 then 1 else 0)) else 2)
+      whole_ephemeral
       ∙ go (g == 2)
     where
-      go : (b : Bool) → (if stands_in (ephemeral small) place then (if nat_lt place (if b then released (swept_kind Large small 2 (survivors m g keeps)) objects else small).start1 then 2 else (if nat_lt place (if b then released (swept_kind Large small 2 (survivors m g keeps)) objects else small).start0 then 1 else 0)) else 2) ≡ generation small place
+      go : (b : Bool) → (if stands_in (ephemeral small) place
+          then (if nat_lt place (if b then released (swept_kind Large small 2 (survivors m g keeps)) objects
+          else small).start1 then 2 else (if nat_lt place
+          (if b then released (swept_kind Large small 2 (survivors m g keeps)) objects else small).start0 then 1
+          else 0)) else 2) ≡ generation small place
       go true = refl
       go false = refl

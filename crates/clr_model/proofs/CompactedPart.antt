@@ -1,5 +1,6 @@
 -- A condemned part after a compaction: its objects and its new free items tile it.
-use Rattle.std.proofs.Common.{◌≡◌, ◌≢◌, ℕ, ◌+◌, ◌<◌, ◌≤◌, ◌⊎◌, inl, inr, List, [], ◌∷◌, ◌++◌, map, refl, sym, ap, subst, arith, Bool, true}
+use Rattle.std.proofs.Common.{◌≡◌, ◌≢◌, ℕ, ◌+◌, ◌<◌, ◌≤◌, ◌⊎◌, inl, inr, List, [], ◌∷◌, ◌++◌, map, refl, sym, ap, subst}
+use Rattle.std.proofs.Common.{arith, Bool, true}
 use Rattle.std.proofs.lemmas.Bool.{cases_order}
 use Rattle.clr_types.specs.Rising.{IsIn, first}
 use Rattle.clr_types.specs.Ranges.{Piece, piece_end, Tiles, by_place}
@@ -17,12 +18,14 @@ use Rattle.clr_model.specs.Machine.{Machine, Object}
 use Rattle.clr_model.specs.Lawful.{IsLaid}
 use Rattle.clr_model.specs.Sweep.{Survivor, survivors, part_start}
 use Rattle.clr_model.specs.Compaction.{Move, moved_by, moved_pieces, IsCompacted, compacted_end, compacted_free}
-use Rattle.clr_model.proofs.PlugLanding.{piece_of_move}
+use Rattle.clr_model.proofs.PlugsApart.{piece_of_move}
 use Rattle.clr_model.proofs.CompactedSmall.{none_overlap, compaction_tiles}
 use Rattle.clr_model.proofs.MovedPlaces.{ready, moves-apart}
 use Rattle.clr_model.proofs.CompactedPieces.{filled_by, moved_piece, moved_with}
 
-module _ (m : Machine) (h : IsLaid m) (g : ℕ) (least : g ≤ 2) (keeps : ℕ → Bool) (moves : List Move) (new : Layout) (c : IsCompacted m.layout g (survivors m g keeps) moves new) (s : SegInfo) (here : IsIn s c.segments) where
+module _ (m : Machine) (h : IsLaid m) (g : ℕ) (least : g ≤ 2) (keeps : ℕ
+    → Bool) (moves : List Move) (new : Layout) (c : IsCompacted m.layout g (survivors m g keeps) moves new)
+    (s : SegInfo) (here : IsIn s c.segments) where
   abbrev kept : List Survivor
   kept = survivors m g keeps
 
@@ -51,7 +54,9 @@ module _ (m : Machine) (h : IsLaid m) (g : ℕ) (least : g ≤ 2) (keeps : ℕ �
   tiles = compaction_tiles m.layout g kept moves new c (ready m h g least keeps moves new c) s here
 
   apart : (b f : Piece) → IsIn b blocks → IsIn f fresh → b.place ≢ f.place
-  apart = distinct_cross (λ (p : Piece). p.place) blocks fresh (distinct_of_sorted (λ (p : Piece). p.place) (blocks ++ fresh) (rising-distinct (λ (p : Piece). p.place) tiling (tiles-rise start end tiling tiles)))
+  apart = distinct_cross (λ (p : Piece). p.place) blocks fresh
+      (distinct_of_sorted (λ (p : Piece). p.place) (blocks ++ fresh)
+      (rising-distinct (λ (p : Piece). p.place) tiling (tiles-rise start end tiling tiles)))
 
   -- a piece of the tiling is a move's range, or a new free item
   abbrev IsBlock : Piece → Type 0
@@ -60,11 +65,16 @@ module _ (m : Machine) (h : IsLaid m) (g : ℕ) (least : g ≤ 2) (keeps : ℕ �
   block : (b : Piece) → IsIn b blocks → IsBlock b
   block b i =
       let (e, j) = out_of_filter (λ (p : Piece). stands_in s p.place) b (moved_pieces moves) i in
-      let (v, f, k) = from-map piece_of_move b moves (out_of_sorted_by (λ (p : Piece). p.place) b (map piece_of_move moves) j) in
+      let (v, f, k) = from-map piece_of_move b moves
+      (out_of_sorted_by (λ (p : Piece). p.place) b (map piece_of_move moves) j) in
       (i, (v, k, f))
 
   which : (b : Piece) → IsIn b tiling → IsBlock b ⊎ IsIn b fresh
-  which b i = elim (in_append blocks (out_of_sorted_by (λ (p : Piece). p.place) b (blocks ++ fresh) i)) [ inl j ↦ inl (block b j) | inr j ↦ inr j ]
+  which b i = elim (in_append blocks (out_of_sorted_by (λ (p : Piece). p.place) b (blocks ++ fresh) i)) [
+    | inl j
+        ↦ inl (block b j)
+    | inr j ↦ inr j
+  ]
 
   part_by : (b : Piece) → IsBlock b ⊎ IsIn b fresh → List Piece
   part_by b (inl (j, (v, k, e))) = (filled_by m h g least keeps moves new c v k).pieces
@@ -82,26 +92,35 @@ module _ (m : Machine) (h : IsLaid m) (g : ℕ) (least : g ≤ 2) (keeps : ℕ �
   refilling_tiles = tiles-refined start end tiling parts tiles (λ b i. by b i (which b i))
     where
       by : (b : Piece) → IsIn b tiling → (w : IsBlock b ⊎ IsIn b fresh) → Tiles b.place (piece_end b) (part_by b w)
-      by b i (inl (j, (v, k, e))) = subst (λ (p : Piece). Tiles p.place (piece_end p) (filled_by m h g least keeps moves new c v k).pieces) (sym e) (filled_by m h g least keeps moves new c v k).tiled
+      by b i (inl (j, (v, k, e))) = subst
+          (λ (p : Piece). Tiles p.place (piece_end p) (filled_by m h g least keeps moves new c v k).pieces) (sym e)
+          (filled_by m h g least keeps moves new c v k).tiled
       by b i (inr j) = (refl, (tile start end tiling b tiles i).size, refl)
 
   -- they are objects that stay, where these go, or new free items
-  pub refilling-is : (x : Piece) → IsIn x refilling → ((o : Object) × IsIn o m.objects × (keeps o.name ≡ true) × (x ≡ moved_piece m h g least keeps moves new c o)) ⊎ IsIn x (compacted_free m.layout g new.start0 c.plugs moves s)
+  pub refilling-is : (x : Piece) → IsIn x refilling
+      → ((o : Object) × IsIn o m.objects × (keeps o.name ≡ true) × (x ≡ moved_piece m h g least keeps moves new c o))
+      ⊎ IsIn x (compacted_free m.layout g new.start0 c.plugs moves s)
   unfolding refilling part_by parts which
   refilling-is x i = let (b, j, k) = out_of_refined tiling parts x i in by b (which b j) k
     where
-      by : (b : Piece) → (w : IsBlock b ⊎ IsIn b fresh) → IsIn x (part_by b w) → ((o : Object) × IsIn o m.objects × (keeps o.name ≡ true) × (x ≡ goes o)) ⊎ IsIn x fresh
-      by b (inl (j, (v, k, e))) n = let (o, present, stays, cover, is) = (filled_by m h g least keeps moves new c v k).objects x n in inl (o, present, stays, is)
+      by : (b : Piece) → (w : IsBlock b ⊎ IsIn b fresh) → IsIn x (part_by b w)
+          → ((o : Object) × IsIn o m.objects × (keeps o.name ≡ true) × (x ≡ goes o)) ⊎ IsIn x fresh
+      by b (inl (j, (v, k, e))) n = let (o, present, stays, cover, is) =
+          (filled_by m h g least keeps moves new c v k).objects x n in inl (o, present, stays, is)
       by b (inr j) n = inr (elim (in_cons n) [ inl e ↦ subst (λ y. IsIn y fresh) (sym e) j | inr k ↦ absurd (none k) ])
         where
           none : IsIn x [] → ⊥
           none k = elim k [ ]
 
   move_in : (v : Move) → IsIn v moves → stands_in s v.to ≡ true → IsIn (piece_of_move v) blocks
-  move_in v i e = into_filter (λ (p : Piece). stands_in s p.place) (moved_pieces moves) e (into_sorted_by (λ (p : Piece). p.place) (piece_of_move v) (map piece_of_move moves) (IsIn-map piece_of_move i))
+  move_in v i e = into_filter (λ (p : Piece). stands_in s p.place) (moved_pieces moves) e
+      (into_sorted_by (λ (p : Piece). p.place) (piece_of_move v) (map piece_of_move moves) (IsIn-map piece_of_move i))
 
   -- an object whose move lands in the segment is among them
-  pub moved_into : (o : Object) → IsIn o m.objects → (v : Move) → IsIn v moves → (v.start ≤ o.place) × (o.place < v.start + v.size) → stands_in s v.to ≡ true → IsIn (moved_piece m h g least keeps moves new c o) refilling
+  pub moved_into : (o : Object) → IsIn o m.objects → (v : Move) → IsIn v moves
+      → (v.start ≤ o.place) × (o.place < v.start + v.size) → stands_in s v.to ≡ true
+      → IsIn (moved_piece m h g least keeps moves new c o) refilling
   unfolding refilling part_by parts which
   moved_into o present v i cover stands = into_refined tiling parts b n (goes o) (by (which b n))
     where
@@ -111,7 +130,8 @@ module _ (m : Machine) (h : IsLaid m) (g : ℕ) (least : g ≤ 2) (keeps : ℕ �
       n : IsIn b tiling
       n = into_sorted_by (λ (p : Piece). p.place) b (blocks ++ fresh) (append_left fresh (move_in v i stands))
 
-      same : (w : Move) → IsIn w moves → b ≡ piece_of_move w → (v ≡ w) ⊎ ((v.to + v.size ≤ w.to) ⊎ (w.to + w.size ≤ v.to)) → v ≡ w
+      same : (w : Move) → IsIn w moves → b ≡ piece_of_move w
+          → (v ≡ w) ⊎ ((v.to + v.size ≤ w.to) ⊎ (w.to + w.size ≤ v.to)) → v ≡ w
       same w k e (inl q) = q
       same w k e (inr far) =
           let to : v.to ≡ w.to = ap (λ (p : Piece). p.place) e in
@@ -122,7 +142,8 @@ module _ (m : Machine) (h : IsLaid m) (g : ℕ) (least : g ≤ 2) (keeps : ℕ �
       by : (w : IsBlock b ⊎ IsIn b fresh) → IsIn (goes o) (part_by b w)
       by (inr j) = absurd (apart b b (move_in v i stands) j refl)
       by (inl (j, (w, k, e))) =
-          let one : v ≡ w = same w k e (moves-apart moves v w (none_overlap m.layout g kept moves new c (ready m h g least keeps moves new c)) i k) in
+          let one : v ≡ w = same w k e (moves-apart moves v w
+          (none_overlap m.layout g kept moves new c (ready m h g least keeps moves new c)) i k) in
           (filled_by m h g least keeps moves new c w k).all o present (subst (λ (u : Move). Covers u o.place) one cover)
 
   -- so is each new free item
@@ -138,7 +159,9 @@ module _ (m : Machine) (h : IsLaid m) (g : ℕ) (least : g ≤ 2) (keeps : ℕ �
       by (inr k) = first
 
   -- no moved object stands where a new free item does
-  pub moved_apart : (o : Object) (v : Move) → IsIn v moves → (v.start ≤ o.place) × (o.place < v.start + v.size) → stands_in s v.to ≡ true → (f : Piece) → IsIn f (compacted_free m.layout g new.start0 c.plugs moves s) → moved_by moves o.place ≢ f.place
+  pub moved_apart : (o : Object) (v : Move) → IsIn v moves → (v.start ≤ o.place) × (o.place < v.start + v.size)
+      → stands_in s v.to ≡ true → (f : Piece) → IsIn f (compacted_free m.layout g new.start0 c.plugs moves s)
+      → moved_by moves o.place ≢ f.place
   moved_apart o v i cover stands f j e = go (cases_order (piece_of_move v).place f.place)
     where
       b : IsIn (piece_of_move v) blocks
@@ -150,7 +173,9 @@ module _ (m : Machine) (h : IsLaid m) (g : ℕ) (least : g ≤ 2) (keeps : ℕ �
       go : (v.to ≡ f.place) ⊎ ((v.to < f.place) ⊎ (f.place < v.to)) → ⊥
       go (inl same) = apart (piece_of_move v) f b j same
       go (inr (inl l)) =
-          let far : IsGapped (piece_end (piece_of_move v)) f.place = tiles-apart start end tiling (piece_of_move v) f tiles (in_tiling (piece_of_move v) (append_left fresh b)) (in_tiling f (append_right blocks j)) l in
+          let far : IsGapped (piece_end (piece_of_move v)) f.place =
+          tiles-apart start end tiling (piece_of_move v) f tiles (in_tiling (piece_of_move v) (append_left fresh b))
+          (in_tiling f (append_right blocks j)) l in
           let at = moved_with m h g least keeps moves new c v i o.place cover in
           let (low, high) = cover in
           absurd (omega arith)

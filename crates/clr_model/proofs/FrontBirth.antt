@@ -1,5 +1,7 @@
--- The birth of a small object at the front of its thread's context: what it makes of the machine, and what is then seen.
-use Rattle.std.proofs.Common.{◌≡◌, ℕ, ◌+◌, ◌<◌, [], ◌∷◌, ◌++◌, refl, sym, ap, Bool, true, false, if◌then◌else◌, slice_set, Option, Some, None, true≢false, is_some}
+-- The birth of a small object at the front of its thread's context: what it makes of the machine, and what is then
+-- seen.
+use Rattle.std.proofs.Common.{◌≡◌, ℕ, ◌+◌, ◌<◌, [], ◌∷◌, ◌++◌, refl, sym, ap, Bool, true, false, if◌then◌else◌}
+use Rattle.std.proofs.Common.{slice_set, Option, Some, None, true≢false, is_some}
 use Rattle.clr_types.specs.Rising.{sorted_by}
 use Rattle.clr_types.specs.Ranges.{Piece, fits}
 use Rattle.clr_types.specs.Types.{type_row, form_at, has_finalizer, is_array, size_of}
@@ -14,7 +16,8 @@ use Rattle.clr_model.specs.Step.{born_small, with_spent}
 abbrev pub born_size : Machine → ℕ → ℕ → ℕ
 born_size m type len = size_of (form_at m.types type) len
 
--- An object of this type and length may be born at the front of the thread's context, and local k of the thread may take it.
+-- An object of this type and length may be born at the front of the thread's context, and local k of the thread may
+-- take it.
 pub record IsFrontBirth (m : Machine) (t k type len : ℕ) : Type 0 where
   pub thread : is_thread t ≡ true
   pub local : k < 64
@@ -26,7 +29,15 @@ pub record IsFrontBirth (m : Machine) (t k type len : ℕ) : Type 0 where
 
 -- the object that is born, under a name
 abbrev pub front_object : Machine → ℕ → ℕ → ℕ → ℕ → Object
-front_object m t name type len = record { name = name; place = context_front m.layout t; type = type; len = len; slots = empty_slots (form_at m.types type) len; suppressed = false }
+front_object m t name type len =
+    record {
+      name = name;
+      place = context_front m.layout t;
+      type = type;
+      len = len;
+      slots = empty_slots (form_at m.types type) len;
+      suppressed = false;
+    }
 
 -- The machine after the birth, by its parts: one object more at the front of the context, which begins where that ends.
 abbrev pub at_front : Machine → ℕ → ℕ → ℕ → ℕ → Machine
@@ -48,10 +59,12 @@ seen_at_front seen t local type len = record seen {
 }
 
 -- the context in which a size fits
-pub own-rest : (layout : Layout) (t size : ℕ) → own_fits layout t size ≡ true → (p : Piece) × (rest_of layout t ≡ Some p) × (fits size p.size ≡ true)
+pub own-rest : (layout : Layout) (t size : ℕ) → own_fits layout t size ≡ true
+    → (p : Piece) × (rest_of layout t ≡ Some p) × (fits size p.size ≡ true)
 own-rest layout t size e = go (rest_of layout t) refl e
   where
-    go : (r : Option Piece) → rest_of layout t ≡ r → rest_fits r size ≡ true → (p : Piece) × (rest_of layout t ≡ Some p) × (fits size p.size ≡ true)
+    go : (r : Option Piece) → rest_of layout t ≡ r → rest_fits r size ≡ true
+        → (p : Piece) × (rest_of layout t ≡ Some p) × (fits size p.size ≡ true)
     go None f e = absurd (true≢false (sym e))
     go (Some p) f e = (p, f, e)
 
@@ -62,5 +75,6 @@ born_by m t local type len finalizer =
     with_spent (if finalizer then with_entry born (m.born + 1) else born) (born_size m type len)
 
 -- the birth gives the machine these parts
-pub born_small-is : (m : Machine) (t local type len : ℕ) → has_finalizer (type_row m.types type) ≡ false → born_small m t local type len ≡ at_front m t local type len
+pub born_small-is : (m : Machine) (t local type len : ℕ) → has_finalizer (type_row m.types type) ≡ false
+    → born_small m t local type len ≡ at_front m t local type len
 born_small-is m t local type len plain = ap (born_by m t local type len) plain

@@ -1,5 +1,7 @@
 -- What is seen after a birth at the front of its thread's context.
-use Rattle.std.proofs.Common.{◌≡◌, ◌≢◌, ℕ, ◌+◌, ◌<◌, ◌≤◌, ◌⊎◌, List, [], ◌∷◌, ◌++◌, map, refl, sym, ap, ◌∙◌, arith, Bool, true, false, if◌then◌else◌, ◌==◌, Some, None, is_some, slice_set, inl, inr, ne_eqb, eq-eqb}
+use Rattle.std.proofs.Common.{◌≡◌, ◌≢◌, ℕ, ◌+◌, ◌<◌, ◌≤◌, ◌⊎◌, List, [], ◌∷◌, ◌++◌, map, refl, sym, ap, ◌∙◌, arith}
+use Rattle.std.proofs.Common.{Bool, true, false, if◌then◌else◌, ◌==◌, Some, None, is_some, slice_set, inl, inr, ne_eqb}
+use Rattle.std.proofs.Common.{eq-eqb}
 use Rattle.std.specs.List.{AllByRecursion}
 use Rattle.std.specs.FinMap as finmap
 use Rattle.std.proofs.lemmas.List.{map-append, append-nil}
@@ -7,10 +9,13 @@ use Rattle.clr_types.specs.Rising.{IsIn, sorted_by, insert_by}
 use Rattle.clr_types.specs.Types.{form_at, slot_kinds}
 use Rattle.clr_types.proofs.RisingLists.{all_at, in_cons}
 use Rattle.clr_types.proofs.SortedLists.{out_of_sorted_by, find_by-member}
-use Rattle.clr_types.proofs.ChangedLists.{all_members, all_imply, all-unmap, all-map, map-agree, rising-distinct, sorted_by-sorted, sorted_by-done, sorted_by-among}
-use Rattle.clr_model.specs.Machine.{Value, ref, num, Object, HandleRow, ThreadStep, no_step, begun_store, begun_new, Machine}
+use Rattle.clr_types.proofs.ChangedLists.{all_members, all_imply, all-unmap, all-map, map-agree, rising-distinct}
+use Rattle.clr_types.proofs.ChangedLists.{sorted_by-sorted, sorted_by-done, sorted_by-among}
+use Rattle.clr_types.specs.declared.handle.Handle.{Handle}
+use Rattle.clr_model.specs.Machine.{Value, ref, num, Object, ThreadStep, no_step, begun_store, begun_new, Machine}
 use Rattle.clr_model.specs.Lookups.{place_of, place_or_null, object_named, local_index, step_of, is_step}
-use Rattle.clr_model.specs.Picture.{picture, renamed_value, renamed_object, renamed_row, renamed_step, map_values}
+use Rattle.clr_types.specs.Maps.{map_values}
+use Rattle.clr_model.specs.Picture.{picture, renamed_value, renamed_object, renamed_row, renamed_step}
 use Rattle.clr_model.specs.Updates.{empty_value}
 use Rattle.clr_model.specs.Allocation.{context_front}
 use Rattle.clr_model.specs.Step.{born_small}
@@ -19,27 +24,36 @@ use Rattle.clr_model.proofs.Naming.{map-slice_set}
 use Rattle.clr_model.proofs.FrontBirth.{IsFrontBirth, front_object, at_front, seen_at_front, born_small-is}
 use Rattle.clr_model.proofs.FrontBirthLawful.{found-pushed, objects_apart}
 
-empty-renamed : (to : ℕ → ℕ) → to 0 ≡ 0 → (kinds : List Bool) → map (renamed_value to) (map empty_value kinds) ≡ map empty_value kinds
+empty-renamed : (to : ℕ → ℕ) → to 0 ≡ 0 → (kinds : List Bool)
+    → map (renamed_value to) (map empty_value kinds) ≡ map empty_value kinds
 empty-renamed to null [] = refl
 empty-renamed to null (true ∷ kinds) = let rest = empty-renamed to null kinds in λ i. ref (null i) ∷ rest i
 empty-renamed to null (false ∷ kinds) = ap (λ vs. num 0 ∷ vs) (empty-renamed to null kinds)
 
 -- a member is present under its name
-pub member-present : (objects : List Object) (o : Object) → IsIn o objects → is_some (object_named objects o.name) ≡ true
+pub member-present : (objects : List Object) (o : Object) → IsIn o objects
+    → is_some (object_named objects o.name) ≡ true
 member-present [] o i = elim i [ ]
 member-present (p ∷ ps) o i = go (p.name == o.name) refl (in_cons i) (member-present ps o)
   where
-    go : (b : Bool) → (p.name == o.name) ≡ b → (o ≡ p) ⊎ IsIn o ps → (IsIn o ps → is_some (object_named ps o.name) ≡ true) → is_some (if b then Some p else object_named ps o.name) ≡ true
+    go : (b : Bool) → (p.name == o.name) ≡ b → (o ≡ p) ⊎ IsIn o ps
+        → (IsIn o ps → is_some (object_named ps o.name) ≡ true)
+        → is_some (if b then Some p else object_named ps o.name) ≡ true
     go true e j more = refl
-    go false e (inl same) more = let hit : (p.name == o.name) ≡ true = eq-eqb p.name o.name (sym (ap (λ (w : Object). w.name) same)) in absurd cc
+    go false e (inl same) more = let hit : (p.name == o.name)
+        ≡ true = eq-eqb p.name o.name (sym (ap (λ (w : Object). w.name) same)) in absurd cc
     go false e (inr j) more = more j
 
 -- a new object of a name of its own is found
-new-found_is : (objects : List Object) (o : Object) → AllByRecursion (λ (p : Object). p.name ≢ o.name) objects → object_named (objects ++ o ∷ []) o.name ≡ Some o
+new-found_is : (objects : List Object) (o : Object) → AllByRecursion (λ (p : Object). p.name ≢ o.name) objects
+    → object_named (objects ++ o ∷ []) o.name ≡ Some o
 new-found_is [] o apart = ap (λ b. if b then Some o else None) (eq-eqb o.name o.name refl)
-new-found_is (p ∷ ps) o apart = ap (λ b. if b then Some p else object_named (ps ++ o ∷ []) o.name) (ne_eqb p.name o.name apart.0) ∙ new-found_is ps o apart.1
+new-found_is (p ∷ ps) o apart =
+    ap (λ b. if b then Some p else object_named (ps ++ o ∷ []) o.name) (ne_eqb p.name o.name apart.0)
+    ∙ new-found_is ps o apart.1
 
-module _ (m : Machine) (t local type len : ℕ) (named : IsBirthNamed m) (idle : is_step (step_of m t) ≡ false) (h : IsFrontBirth m t local type len) where
+module _ (m : Machine) (t local type len : ℕ) (named : IsBirthNamed m) (idle : is_step (step_of m t) ≡ false)
+    (h : IsFrontBirth m t local type len) where
   abbrev next : Machine
   next = at_front m t local type len
 
@@ -64,20 +78,24 @@ module _ (m : Machine) (t local type len : ℕ) (named : IsBirthNamed m) (idle :
   name_same name (inr there) = present_same name there
 
   names_apart : AllByRecursion (λ (o : Object). o.name ≢ m.born + 1) m.objects
-  names_apart = all_imply (λ (o : Object). o.name ≤ m.born) (λ (o : Object). o.name ≢ m.born + 1) m.objects (λ o l e. omega arith) named.born
+  names_apart = all_imply (λ (o : Object). o.name ≤ m.born) (λ (o : Object). o.name ≢ m.born + 1) m.objects
+      (λ o l e. omega arith) named.born
 
   -- and the new name has the place of the birth
   new_place : after (m.born + 1) ≡ place
   new_place =
-      ap (λ b. if b then 0 else place_or_null (object_named next.objects (m.born + 1))) (ne_eqb (m.born + 1) 0 (λ e. omega arith))
+      ap (λ b. if b then 0 else place_or_null (object_named next.objects (m.born + 1)))
+      (ne_eqb (m.born + 1) 0 (λ e. omega arith))
       ∙ ap place_or_null (new-found_is m.objects born names_apart)
 
   value_same : (v : Value) → SlotIsPresent m v → renamed_value after v ≡ renamed_value before v
   value_same (ref name) there = ap ref (name_same name there)
   value_same (num number) there = refl
 
-  row_same : (r : HandleRow) → IsNullOrPresent m r.target × IsNullOrPresent m r.second → renamed_row after r ≡ renamed_row before r
-  row_same r there = let target = name_same r.target there.0 in let second = name_same r.second there.1 in λ i. record r { target = target i; second = second i }
+  row_same : (r : Handle) → IsNullOrPresent m r.target × IsNullOrPresent m r.second
+      → renamed_row after r ≡ renamed_row before r
+  row_same r there = let target = name_same r.target there.0 in let second = name_same r.second there.1 in
+      λ i. record r { target = target i; second = second i }
 
   step_same : (s : ThreadStep) → StepIsPresent m s → renamed_step after s ≡ renamed_step before s
   step_same no_step there = refl
@@ -87,11 +105,14 @@ module _ (m : Machine) (t local type len : ℕ) (named : IsBirthNamed m) (idle :
   object_same : (o : Object) → IsIn o m.objects → renamed_object after o ≡ renamed_object before o
   object_same o i =
       let name = present_same o.name (member-present m.objects o i) in
-      let slots = map-agree (renamed_value after) (renamed_value before) o.slots (all_imply (SlotIsPresent m) (λ v. renamed_value after v ≡ renamed_value before v) o.slots value_same (all_at (λ (o : Object). AllByRecursion (SlotIsPresent m) o.slots) i named.lawful.names.slots)) in
+      let slots = map-agree (renamed_value after) (renamed_value before) o.slots
+      (all_imply (SlotIsPresent m) (λ v. renamed_value after v ≡ renamed_value before v) o.slots value_same
+      (all_at (λ (o : Object). AllByRecursion (SlotIsPresent m) o.slots) i named.lawful.names.slots)) in
       λ k. record o { name = name k; slots = slots k }
 
   born_seen : renamed_object after born ≡ front_object m t place type len
-  born_seen = let slots = empty-renamed after refl (slot_kinds (form_at m.types type) len) in λ k. record born { name = new_place k; slots = slots k }
+  born_seen = let slots = empty-renamed after refl (slot_kinds (form_at m.types type) len) in
+      λ k. record born { name = new_place k; slots = slots k }
 
   -- ---- the objects that are seen
 
@@ -103,7 +124,8 @@ module _ (m : Machine) (t local type len : ℕ) (named : IsBirthNamed m) (idle :
 
   objects_renamed : map (renamed_object after) next.objects ≡ shown ++ front_object m t place type len ∷ []
   objects_renamed =
-      let old = map-agree (renamed_object after) (renamed_object before) m.objects (all_members (λ o. renamed_object after o ≡ renamed_object before o) m.objects object_same) in
+      let old = map-agree (renamed_object after) (renamed_object before) m.objects
+      (all_members (λ o. renamed_object after o ≡ renamed_object before o) m.objects object_same) in
       map-append (renamed_object after) m.objects (born ∷ []) ∙ (λ k. old k ++ born_seen k ∷ [])
 
   -- each object is seen under its place
@@ -111,47 +133,63 @@ module _ (m : Machine) (t local type len : ℕ) (named : IsBirthNamed m) (idle :
   place_of-present o i =
       let above : 0 < o.name = (all_at (IsShaped m) i named.lawful.shapes).named in
       ap (λ b. if b then 0 else place_or_null (object_named m.objects o.name)) (ne_eqb o.name 0 (λ e. omega arith))
-      ∙ ap place_or_null (find_by-member (λ (w : Object). w.name) o m.objects (rising-distinct (λ (w : Object). w.name) m.objects named.lawful.names_rise) i)
+      ∙ ap place_or_null (find_by-member (λ (w : Object). w.name) o m.objects
+      (rising-distinct (λ (w : Object). w.name) m.objects named.lawful.names_rise) i)
 
   shown_apart : AllByRecursion (λ (o : Object). o.name ≢ place) shown
   shown_apart =
       all-map (renamed_object before) (λ (o : Object). o.name ≢ place) m.objects
       (all_members (λ (o : Object). before o.name ≢ place) m.objects
-      (λ o i same. all_at (λ (o : Object). o.place ≢ place) i (objects_apart m t local type len named idle h) (sym (place_of-present o i) ∙ same)))
+      (λ o i same. all_at (λ (o : Object). o.place ≢ place) i (objects_apart m t local type len named idle h)
+      (sym (place_of-present o i) ∙ same)))
 
-  sorted_next : sorted_by key (shown ++ front_object m t place type len ∷ []) ≡ insert_by key (front_object m t place type len) (sorted_by key shown)
-  sorted_next = sorted_by-among key shown (front_object m t place type len) [] shown_apart ∙ ap (λ os. insert_by key (front_object m t place type len) (sorted_by key os)) (append-nil shown)
+  sorted_next : sorted_by key (shown ++ front_object m t place type len ∷ [])
+      ≡ insert_by key (front_object m t place type len) (sorted_by key shown)
+  sorted_next = sorted_by-among key shown (front_object m t place type len) [] shown_apart
+      ∙ ap (λ os. insert_by key (front_object m t place type len) (sorted_by key os)) (append-nil shown)
 
   sorted_apart : AllByRecursion (λ (o : Object). o.name ≢ place) (sorted_by key shown)
-  sorted_apart = all_members (λ (o : Object). o.name ≢ place) (sorted_by key shown) (λ o i. all_at (λ (o : Object). o.name ≢ place) (out_of_sorted_by key o shown i) shown_apart)
+  sorted_apart = all_members (λ (o : Object). o.name ≢ place) (sorted_by key shown)
+      (λ o i. all_at (λ (o : Object). o.name ≢ place) (out_of_sorted_by key o shown i) shown_apart)
 
-  by_place-next : sorted_by key (map (renamed_object after) next.objects) ≡ sorted_by key (sorted_by key shown ++ front_object m t place type len ∷ [])
+  by_place-next : sorted_by key (map (renamed_object after) next.objects)
+      ≡ sorted_by key (sorted_by key shown ++ front_object m t place type len ∷ [])
   by_place-next =
       ap (sorted_by key) objects_renamed ∙ sorted_next
       ∙ sym (sorted_by-among key (sorted_by key shown) (front_object m t place type len) [] sorted_apart
       ∙ ap (λ os. insert_by key (front_object m t place type len) (sorted_by key os)) (append-nil (sorted_by key shown))
-      ∙ ap (insert_by key (front_object m t place type len)) (sorted_by-done key (sorted_by key shown) (sorted_by-sorted key shown)))
+      ∙ ap (insert_by key (front_object m t place type len))
+      (sorted_by-done key (sorted_by key shown) (sorted_by-sorted key shown)))
 
   -- ---- the rest
 
   locals-next : map after next.locals ≡ slice_set (map before m.locals) (local_index t local) place
   locals-next =
-      let old = map-agree after before m.locals (all_imply (IsNullOrPresent m) (λ x. after x ≡ before x) m.locals name_same named.lawful.names.locals) in
-      map-slice_set after m.locals (local_index t local) (m.born + 1) ∙ (λ k. slice_set (old k) (local_index t local) (new_place k))
+      let old = map-agree after before m.locals
+      (all_imply (IsNullOrPresent m) (λ x. after x ≡ before x) m.locals name_same named.lawful.names.locals) in
+      map-slice_set after m.locals (local_index t local) (m.born + 1)
+      ∙ (λ k. slice_set (old k) (local_index t local) (new_place k))
 
   handles-next : map_values (renamed_row after) m.handles ≡ map_values (renamed_row before) m.handles
   handles-next =
-      let rows = all-unmap (λ (e : ℕ × HandleRow). e.1) (λ (r : HandleRow). IsNullOrPresent m r.target × IsNullOrPresent m r.second) (finmap.entries m.handles) named.lawful.names.handles in
+      let rows = all-unmap (λ (e : ℕ × Handle). e.1)
+      (λ (r : Handle). IsNullOrPresent m r.target × IsNullOrPresent m r.second)
+      (finmap.entries m.handles) named.lawful.names.handles in
       ap finmap.from_sorted
       (map-agree (λ e. (e.0, renamed_row after e.1)) (λ e. (e.0, renamed_row before e.1)) (finmap.entries m.handles)
-      (all_imply (λ (e : ℕ × HandleRow). IsNullOrPresent m e.1.target × IsNullOrPresent m e.1.second) (λ (e : ℕ × HandleRow). ◌≡◌ {A = ℕ × HandleRow} (e.0, renamed_row after e.1) (e.0, renamed_row before e.1)) (finmap.entries m.handles)
+      (all_imply (λ (e : ℕ × Handle). IsNullOrPresent m e.1.target × IsNullOrPresent m e.1.second)
+      (λ (e : ℕ × Handle). ◌≡◌ {A = ℕ × Handle} (e.0, renamed_row after e.1) (e.0, renamed_row before e.1))
+      (finmap.entries m.handles)
       (λ e there. ap (λ r. (e.0, r)) (row_same e.1 there)) rows))
 
   names_same : (names : List ℕ) → AllByRecursion (IsPresent m) names → map after names ≡ map before names
-  names_same names there = map-agree after before names (all_imply (IsPresent m) (λ x. after x ≡ before x) names present_same there)
+  names_same names there = map-agree after before names
+      (all_imply (IsPresent m) (λ x. after x ≡ before x) names present_same there)
 
   steps-next : map (renamed_step after) m.steps ≡ map (renamed_step before) m.steps
-  steps-next = map-agree (renamed_step after) (renamed_step before) m.steps (all_imply (StepIsPresent m) (λ s. renamed_step after s ≡ renamed_step before s) m.steps step_same named.lawful.names.steps)
+  steps-next = map-agree (renamed_step after) (renamed_step before) m.steps
+      (all_imply (StepIsPresent m) (λ s. renamed_step after s
+      ≡ renamed_step before s) m.steps step_same named.lawful.names.steps)
 
   -- the object is seen at its place
   pub picture-at_front : picture next ≡ seen_at_front (picture m) t local type len

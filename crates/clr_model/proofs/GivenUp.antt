@@ -1,5 +1,6 @@
 -- Giving up the contexts leaves the pieces as they are.
-use Rattle.std.proofs.Common.{◌≡◌, ℕ, [], ◌++◌, map, refl, sym, subst, ◌∙◌, zero, suc, None, length, replicate, append_assoc, IsSome}
+use Rattle.std.proofs.Common.{◌≡◌, ℕ, [], ◌++◌, map, refl, sym, subst, ◌∙◌, zero, suc, None, length, replicate}
+use Rattle.std.proofs.Common.{append_assoc, IsSome}
 use Rattle.std.proofs.lemmas.List.{append-nil, length-replicate}
 use Rattle.std.specs.List.{AllByRecursion}
 use Rattle.clr_types.specs.Ranges.{Piece, by_place}
@@ -22,21 +23,37 @@ module _ (m : Machine) (h : IsLaid m) where
   abbrev begun : Machine
   begun = record m { layout = all_given_up m.layout }
 
-  distinct : IsDistinctBy (λ (p : Piece). p.place) ((map (object_piece m.types) m.objects ++ m.layout.free) ++ rest_pieces m.layout.rests)
-  distinct = distinct_of_sorted (λ (p : Piece). p.place) ((map (object_piece m.types) m.objects ++ m.layout.free) ++ rest_pieces m.layout.rests) (pieces-distinct m h)
+  distinct : IsDistinctBy (λ (p : Piece). p.place)
+      ((map (object_piece m.types) m.objects ++ m.layout.free) ++ rest_pieces m.layout.rests)
+  distinct =
+      distinct_of_sorted (λ (p : Piece). p.place)
+      ((map (object_piece m.types) m.objects ++ m.layout.free) ++ rest_pieces m.layout.rests) (pieces-distinct m h)
 
-  shuffled : IsShuffled ((map (object_piece m.types) m.objects ++ m.layout.free) ++ rest_pieces m.layout.rests) ((map (object_piece m.types) m.objects ++ by_place (m.layout.free ++ rest_pieces m.layout.rests)) ++ rest_pieces (replicate (length m.layout.rests) None))
+  shuffled : IsShuffled ((map (object_piece m.types) m.objects ++ m.layout.free) ++ rest_pieces m.layout.rests)
+      ((map (object_piece m.types) m.objects ++ by_place (m.layout.free ++ rest_pieces m.layout.rests)) ++ rest_pieces
+      (replicate (length m.layout.rests) None))
   shuffled =
-      subst (λ rs. IsShuffled ((map (object_piece m.types) m.objects ++ m.layout.free) ++ rest_pieces m.layout.rests) ((map (object_piece m.types) m.objects ++ by_place (m.layout.free ++ rest_pieces m.layout.rests)) ++ rs)) (sym (no_rests (length m.layout.rests)))
-      (subst (λ ws. IsShuffled ((map (object_piece m.types) m.objects ++ m.layout.free) ++ rest_pieces m.layout.rests) ws) (sym (append-nil (map (object_piece m.types) m.objects ++ by_place (m.layout.free ++ rest_pieces m.layout.rests))))
-      (subst (λ ws. IsShuffled ws (map (object_piece m.types) m.objects ++ by_place (m.layout.free ++ rest_pieces m.layout.rests))) (sym (append_assoc (map (object_piece m.types) m.objects) m.layout.free (rest_pieces m.layout.rests)))
-      (shuffled-right (map (object_piece m.types) m.objects) (shuffled-sorted (λ (p : Piece). p.place) (m.layout.free ++ rest_pieces m.layout.rests)))))
+      subst (λ rs. IsShuffled ((map (object_piece m.types) m.objects ++ m.layout.free) ++ rest_pieces m.layout.rests)
+      ((map (object_piece m.types) m.objects ++ by_place (m.layout.free ++ rest_pieces m.layout.rests)) ++ rs))
+      (sym (no_rests (length m.layout.rests)))
+      (subst (λ ws. IsShuffled ((map (object_piece m.types) m.objects ++ m.layout.free) ++ rest_pieces m.layout.rests)
+      ws) (sym (append-nil (map (object_piece m.types) m.objects ++ by_place
+      (m.layout.free ++ rest_pieces m.layout.rests))))
+      (subst (λ ws. IsShuffled ws (map (object_piece m.types) m.objects ++ by_place
+      (m.layout.free ++ rest_pieces m.layout.rests)))
+      (sym (append_assoc (map (object_piece m.types) m.objects) m.layout.free (rest_pieces m.layout.rests)))
+      (shuffled-right (map (object_piece m.types) m.objects)
+      (shuffled-sorted (λ (p : Piece). p.place) (m.layout.free ++ rest_pieces m.layout.rests)))))
 
   pub given_up-pieces : pieces m ≡ pieces begun
   given_up-pieces = shuffled-sorts (λ (p : Piece). p.place) shuffled distinct
 
   free-distinct : IsDistinctBy (λ (p : Piece). p.place) (m.layout.free ++ rest_pieces m.layout.rests)
-  free-distinct = distinct_right (λ (p : Piece). p.place) (map (object_piece m.types) m.objects) (m.layout.free ++ rest_pieces m.layout.rests) (subst (IsDistinctBy (λ (p : Piece). p.place)) (append_assoc (map (object_piece m.types) m.objects) m.layout.free (rest_pieces m.layout.rests)) distinct)
+  free-distinct =
+      distinct_right (λ (p : Piece). p.place) (map (object_piece m.types) m.objects)
+      (m.layout.free ++ rest_pieces m.layout.rests)
+      (subst (IsDistinctBy (λ (p : Piece). p.place))
+      (append_assoc (map (object_piece m.types) m.objects) m.layout.free (rest_pieces m.layout.rests)) distinct)
 
   -- the layout stays lawful
   pub given_up_laid : IsLaid begun
@@ -45,6 +62,7 @@ module _ (m : Machine) (h : IsLaid m) where
       segments = h.layout.segments;
       disjoint = h.layout.disjoint;
       below_top = h.layout.below_top;
+      top_aligned = h.layout.top_aligned;
       one_ephemeral = h.layout.one_ephemeral;
       ephemeral_last = h.layout.ephemeral_last;
       some_large = h.layout.some_large;

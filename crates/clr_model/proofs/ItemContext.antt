@@ -1,17 +1,22 @@
 -- A context that is given up, and one that is taken from a free item, keep a machine lawful.
-use Rattle.std.proofs.Common.{◌≡◌, ℕ, ◌+◌, ◌-◌, ◌<◌, ◌≤◌, List, ◌∷◌, ◌++◌, map, length, refl, sym, ap, subst, ◌∙◌, arith, Bool, true, false, if◌then◌else◌, ◌==◌, ◌||◌, nat_le, slice_set, Option, Some, None, IsSome, append_assoc}
+use Rattle.std.proofs.Common.{◌≡◌, ℕ, ◌+◌, ◌-◌, ◌<◌, ◌≤◌, List, ◌∷◌, ◌++◌, map, length, refl, sym, ap, subst, ◌∙◌}
+use Rattle.std.proofs.Common.{arith, Bool, true, false, if◌then◌else◌, ◌==◌, ◌||◌, nat_le, slice_set, Option, Some}
+use Rattle.std.proofs.Common.{None, IsSome, append_assoc}
 use Rattle.std.specs.List.{AllByRecursion}
 use Rattle.std.proofs.lemmas.Bool.{leb-true, le-leb, eq-eqb, and_parts}
 use Rattle.clr_types.specs.Rising.{IsIn, IsRisingBy}
 use Rattle.clr_types.specs.Ranges.{Piece, piece_end, fits, range_piece, by_place, IsLawfulSize}
-use Rattle.clr_types.specs.Segments.{Layout, first_place, stands_in, segment_of, ephemeral, generation, rest_pieces, rest_of}
+use Rattle.clr_types.specs.Segments.{Layout, first_place, stands_in, segment_of, ephemeral, generation, rest_pieces}
+use Rattle.clr_types.specs.Segments.{rest_of}
 use Rattle.clr_types.specs.LawfulLayout.{IsLawfulLayout, IsTiled, DoesNotCross}
 use Rattle.clr_types.proofs.SortedLists.{IsDistinctBy, sorted_by-rises, into_sorted_by}
 use Rattle.clr_types.proofs.ChangedLists.{length-slice_set, append_left, rising-distinct}
 use Rattle.clr_types.proofs.ListMembers.{append_right, distinct_of_sorted, distinct_left, distinct_right}
 use Rattle.clr_types.proofs.TilePieces.{IsTile}
 use Rattle.clr_types.proofs.PieceGaps.{IsGapped}
-use Rattle.clr_types.proofs.Shuffles.{IsShuffled, under, followed, shuffled-sym, shuffled-left, shuffled-right, shuffled-sorted, shuffled-sorts, shuffled-behind, shuffled-turn, shuffled-distinct}
+use Rattle.clr_types.proofs.Shuffles.{IsShuffled, under, followed, shuffled-sym, shuffled-left, shuffled-right}
+use Rattle.clr_types.proofs.Shuffles.{shuffled-sorted, shuffled-sorts, shuffled-behind, shuffled-turn}
+use Rattle.clr_types.proofs.Shuffles.{shuffled-distinct}
 use Rattle.clr_model.specs.Machine.{Machine}
 use Rattle.clr_model.specs.Lookups.{is_thread, is_step, step_of, pieces, object_piece}
 use Rattle.clr_model.specs.Updates.{given_up, option_piece, pieces_of_option}
@@ -20,11 +25,14 @@ use Rattle.clr_model.specs.Lawful.{IsLawful, IsLaid}
 use Rattle.clr_model.proofs.LawfulPieces.{HasHome, piece-home, piece-tile, pieces-apart, pieces-distinct}
 use Rattle.clr_model.proofs.RestLists.{HasRest, rest-at, all-rests, HasItem, item-at, taken-rises}
 use Rattle.clr_model.proofs.SplitPieces.{unsorted_pieces, FillSegments, front_piece, back_pieces, split_fills}
-use Rattle.clr_model.proofs.ContextChange.{rest-entry, rest_of-put, rest_of-other, context-is, is-young, rooms_kept, relaid_lawful}
+use Rattle.clr_model.proofs.ContextChange.{rest-entry, rest_of-put, rest_of-other, context-is, is-young, rooms_kept}
+use Rattle.clr_model.proofs.ContextChange.{relaid_lawful}
 
 -- pieces that fill the segments, with a lawful layout of those segments
-pub laid_from : (m : Machine) (layout : Layout) → IsLawfulLayout layout → FillSegments layout (pieces (with_layout m layout)) → IsLaid (with_layout m layout)
-laid_from m layout lawful f = record { layout = lawful; housed = f.housed; tiled = f.tiled; whole1 = f.whole1; whole0 = f.whole0 }
+pub laid_from : (m : Machine) (layout : Layout) → IsLawfulLayout layout
+    → FillSegments layout (pieces (with_layout m layout)) → IsLaid (with_layout m layout)
+laid_from m layout lawful f =
+    record { layout = lawful; housed = f.housed; tiled = f.tiled; whole1 = f.whole1; whole0 = f.whole0 }
 
 -- a size fits in itself, and where 24 bytes are left
 pub fits-same : (size : ℕ) → fits size size ≡ true
@@ -38,11 +46,14 @@ fits-more size bytes l = go (size == bytes) (nat_le (size + 24) bytes) (le-leb (
     go false b e = e
 
 -- the same segments and boundaries, with other free items and rests
-pub same_segments : (layout : Layout) (free : List Piece) (rests : List (Option Piece)) → IsLawfulLayout layout → IsRisingBy (λ (p : Piece). p.place) free → length rests ≡ 16 → IsLawfulLayout (record layout { free = free; rests = rests })
+pub same_segments : (layout : Layout) (free : List Piece) (rests : List (Option Piece)) → IsLawfulLayout layout
+    → IsRisingBy (λ (p : Piece). p.place) free → length rests ≡ 16
+    → IsLawfulLayout (record layout { free = free; rests = rests })
 same_segments layout free rests h rise count = record {
   segments = h.segments;
   disjoint = h.disjoint;
   below_top = h.below_top;
+  top_aligned = h.top_aligned;
   one_ephemeral = h.one_ephemeral;
   ephemeral_last = h.ephemeral_last;
   some_large = h.some_large;
@@ -56,7 +67,8 @@ same_segments layout free rests h rise count = record {
 
 -- ---- the old context is given up
 
-module _ (m : Machine) (h : IsLawful m) (t : ℕ) (thread : is_thread t ≡ true) (idle : is_step (step_of m t) ≡ false) where
+module _ (m : Machine) (h : IsLawful m) (t : ℕ) (thread : is_thread t ≡ true)
+    (idle : is_step (step_of m t) ≡ false) where
   abbrev objects : List Piece
   objects = map (object_piece m.types) m.objects
 
@@ -69,13 +81,17 @@ module _ (m : Machine) (h : IsLawful m) (t : ℕ) (thread : is_thread t ≡ true
   given : List Piece
   given = m.layout.free ++ pieces_of_option (rest_of m.layout t)
 
-  given-shuffled : IsShuffled (unsorted_pieces m) ((objects ++ by_place (m.layout.free ++ pieces_of_option (rest_of m.layout t))) ++ rest_pieces begun.rests)
+  given-shuffled : IsShuffled (unsorted_pieces m)
+      ((objects ++ by_place (m.layout.free ++ pieces_of_option (rest_of m.layout t))) ++ rest_pieces begun.rests)
   given-shuffled =
       let left = pieces_of_option (rest_of m.layout t) in
       let free = m.layout.free in
       followed (shuffled-right (objects ++ free) rest.was)
-      (subst (λ ws. IsShuffled ws ((objects ++ by_place (free ++ left)) ++ rest_pieces begun.rests)) (ap (λ ws. ws ++ rest.others) (sym (append_assoc objects free left)) ∙ append_assoc (objects ++ free) left rest.others)
-      (followed (shuffled-left rest.others (shuffled-right objects (shuffled-sorted (λ (p : Piece). p.place) (free ++ left))))
+      (subst (λ ws. IsShuffled ws ((objects ++ by_place (free ++ left)) ++ rest_pieces begun.rests))
+      (ap (λ ws. ws ++ rest.others) (sym (append_assoc objects free left))
+      ∙ append_assoc (objects ++ free) left rest.others)
+      (followed (shuffled-left rest.others
+      (shuffled-right objects (shuffled-sorted (λ (p : Piece). p.place) (free ++ left))))
       (shuffled-right (objects ++ by_place (free ++ left)) (shuffled-sym (rest.put None)))))
 
   raw-distinct : IsDistinctBy (λ (p : Piece). p.place) (unsorted_pieces m)
@@ -90,11 +106,14 @@ module _ (m : Machine) (h : IsLawful m) (t : ℕ) (thread : is_thread t ≡ true
       let d = shuffled-distinct (λ (p : Piece). p.place) given-shuffled raw-distinct in
       sorted_by-rises (λ (p : Piece). p.place) (m.layout.free ++ pieces_of_option (rest_of m.layout t))
       (distinct_of_sorted (λ (p : Piece). p.place) (m.layout.free ++ pieces_of_option (rest_of m.layout t))
-      (distinct_right (λ (p : Piece). p.place) objects begun.free (distinct_left (λ (p : Piece). p.place) (objects ++ begun.free) (rest_pieces begun.rests) d)))
+      (distinct_right (λ (p : Piece). p.place) objects begun.free
+      (distinct_left (λ (p : Piece). p.place) (objects ++ begun.free) (rest_pieces begun.rests) d)))
 
   given-laid : IsLaid (with_layout m begun)
   given-laid = record {
-    layout = same_segments m.layout begun.free begun.rests h.laid.layout given-rises (length-slice_set m.layout.rests (t - 1) None ∙ h.laid.layout.threads);
+    layout =
+        same_segments m.layout begun.free begun.rests h.laid.layout given-rises
+        (length-slice_set m.layout.rests (t - 1) None ∙ h.laid.layout.threads);
     housed = subst (AllByRecursion (λ (p : Piece). IsSome (segment_of m.layout p.place))) given-pieces h.laid.housed;
     tiled = subst (λ ps. AllByRecursion (IsTiled ps) m.layout.segments) given-pieces h.laid.tiled;
     whole1 = subst (AllByRecursion (DoesNotCross m.layout.start1)) given-pieces h.laid.whole1;
@@ -104,8 +123,11 @@ module _ (m : Machine) (h : IsLawful m) (t : ℕ) (thread : is_thread t ≡ true
   -- a thread that has begun nothing may give up its context
   pub given_up_lawful : IsLawful (with_layout m (given_up m.layout t))
   given_up_lawful =
-      relaid_lawful m begun h given-laid (all-rests (λ (p : Piece). generation m.layout p.place ≡ 0) m.layout.rests (t - 1) None h.rests_young tt) h.suited h.limit
+      relaid_lawful m begun h given-laid
+      (all-rests (λ (p : Piece). generation m.layout p.place ≡ 0) m.layout.rests (t - 1) None h.rests_young tt)
+      h.suited h.limit
       (rooms_kept m begun t thread idle (rest_of-other m.layout t thread h.laid.layout.threads None) h.rooms)
+      (λ o i. let same : generation begun o.place ≡ generation m.layout o.place = refl in omega arith)
 
   pub given_up-bare : rest_of (given_up m.layout t) t ≡ None
   given_up-bare = rest_of-put m.layout t thread h.laid.layout.threads None
@@ -116,36 +138,51 @@ module _ (m : Machine) (h : IsLawful m) (t : ℕ) (thread : is_thread t ≡ true
 pub want-lawful : (size : ℕ) → IsLawfulSize size → IsLawfulSize (want size) × (fits size (want size) ≡ true)
 want-lawful size lawful = go (nat_le (size + 24) 8192) refl
   where
-    go : (b : Bool) → nat_le (size + 24) 8192 ≡ b → IsLawfulSize (if b then 8192 else size) × (fits size (if b then 8192 else size) ≡ true)
+    go : (b : Bool) → nat_le (size + 24) 8192 ≡ b
+        → IsLawfulSize (if b then 8192 else size) × (fits size (if b then 8192 else size) ≡ true)
     go true e = ((omega arith, omega arith), fits-more size 8192 (leb-true (size + 24) 8192 e))
     go false e = (lawful, fits-same size)
 
-module _ (m : Machine) (h : IsLawful m) (t : ℕ) (thread : is_thread t ≡ true) (idle : is_step (step_of m t) ≡ false) (bare : rest_of m.layout t ≡ None) where
+module _ (m : Machine) (h : IsLawful m) (t : ℕ) (thread : is_thread t ≡ true) (idle : is_step (step_of m t) ≡ false)
+    (bare : rest_of m.layout t ≡ None) where
   abbrev held : List Piece
   held = map (object_piece m.types) m.objects
 
   pub no-rest : HasRest m.layout.rests (t - 1) None
-  no-rest = subst (HasRest m.layout.rests (t - 1)) bare (rest-at m.layout.rests (t - 1) (rest_of m.layout t) (rest-entry m.layout t thread h.laid.layout.threads))
+  no-rest =
+      subst (HasRest m.layout.rests (t - 1)) bare
+      (rest-at m.layout.rests (t - 1) (rest_of m.layout t) (rest-entry m.layout t thread h.laid.layout.threads))
 
   -- a new rest is one piece more
-  pub new-rest : (place size : ℕ) → 0 < size → IsShuffled (rest_pieces (slice_set m.layout.rests (t - 1) (option_piece (range_piece place (place + size))))) (record { place = place; size = size } ∷ no-rest.others)
+  pub new-rest : (place size : ℕ) → 0 < size
+      → IsShuffled (rest_pieces (slice_set m.layout.rests (t - 1) (option_piece (range_piece place (place + size)))))
+      (record { place = place; size = size } ∷ no-rest.others)
   new-rest place size some =
-      subst (λ (o : Option Piece). IsShuffled (rest_pieces (slice_set m.layout.rests (t - 1) (option_piece (range_piece place (place + size))))) (pieces_of_option o ++ no-rest.others))
+      subst (λ (o : Option Piece). IsShuffled
+      (rest_pieces (slice_set m.layout.rests (t - 1) (option_piece (range_piece place (place + size)))))
+      (pieces_of_option o ++ no-rest.others))
       (context-is place size some) (no-rest.put (option_piece (range_piece place (place + size))))
 
-  pub young-rests : (layout : Layout) (place size : ℕ) → 0 < size → generation layout place ≡ 0 → AllByRecursion (λ (p : Piece). generation layout p.place ≡ 0) (rest_pieces m.layout.rests)
-      → AllByRecursion (λ (p : Piece). generation layout p.place ≡ 0) (rest_pieces (slice_set m.layout.rests (t - 1) (option_piece (range_piece place (place + size)))))
+  pub young-rests : (layout : Layout) (place size : ℕ) → 0 < size → generation layout place ≡ 0
+      → AllByRecursion (λ (p : Piece). generation layout p.place ≡ 0) (rest_pieces m.layout.rests)
+      → AllByRecursion (λ (p : Piece). generation layout p.place ≡ 0)
+      (rest_pieces (slice_set m.layout.rests (t - 1) (option_piece (range_piece place (place + size)))))
   young-rests layout place size some young all =
-      all-rests (λ (p : Piece). generation layout p.place ≡ 0) m.layout.rests (t - 1) (option_piece (range_piece place (place + size))) all
-      (subst (λ (o : Option Piece). AllByRecursion (λ (p : Piece). generation layout p.place ≡ 0) (pieces_of_option o)) (sym (context-is place size some)) (young, tt))
+      all-rests (λ (p : Piece). generation layout p.place ≡ 0) m.layout.rests (t - 1)
+      (option_piece (range_piece place (place + size))) all
+      (subst (λ (o : Option Piece). AllByRecursion (λ (p : Piece). generation layout p.place ≡ 0)
+      (pieces_of_option o)) (sym (context-is place size some)) (young, tt))
 
-  pub other-rests : (new : Option Piece) (u : ℕ) → 1 ≤ u → (u ≡ t → ⊥) → rest_of (record m.layout { rests = slice_set m.layout.rests (t - 1) new }) u ≡ rest_of m.layout u
+  pub other-rests : (new : Option Piece) (u : ℕ) → 1 ≤ u → (u ≡ t → ⊥)
+      → rest_of (record m.layout { rests = slice_set m.layout.rests (t - 1) new }) u ≡ rest_of m.layout u
   other-rests = rest_of-other m.layout t thread h.laid.layout.threads
 
   -- ---- from a free item
 
   free-in : (p : Piece) → IsIn p m.layout.free → IsIn p (pieces m)
-  free-in p i = into_sorted_by (λ (p : Piece). p.place) p (unsorted_pieces m) (append_left (rest_pieces m.layout.rests) (append_right held i))
+  free-in p i =
+      into_sorted_by (λ (p : Piece). p.place) p (unsorted_pieces m)
+      (append_left (rest_pieces m.layout.rests) (append_right held i))
 
   -- an item has a lawful size
   pub item-size : (item : Piece) → IsIn item m.layout.free → IsLawfulSize item.size
@@ -154,7 +191,8 @@ module _ (m : Machine) (h : IsLawful m) (t : ℕ) (thread : is_thread t ≡ true
       let is : IsTile (first_place k.home) k.home.end item = piece-tile m h.laid item (free-in item i) k in
       is.size
 
-  module _ (item : Piece) (size : ℕ) (lawful : IsLawfulSize size) (room : fits size item.size ≡ true) (here : IsIn item m.layout.free) (young : is_young_item m.layout item ≡ true) where
+  module _ (item : Piece) (size : ℕ) (lawful : IsLawfulSize size) (room : fits size item.size ≡ true)
+      (here : IsIn item m.layout.free) (young : is_young_item m.layout item ≡ true) where
     abbrev from : Layout
     from = from_item m.layout t item size
 
@@ -165,40 +203,58 @@ module _ (m : Machine) (h : IsLawful m) (t : ℕ) (thread : is_thread t ≡ true
     raw-apart = distinct_of_sorted (λ (p : Piece). p.place) (unsorted_pieces m) (pieces-distinct m h.laid)
 
     among : HasItem item size m.layout.free
-    among = item-at item size m.layout.free (rising-distinct (λ (p : Piece). p.place) m.layout.free h.laid.layout.free_rise) here
+    among =
+        item-at item size m.layout.free
+        (rising-distinct (λ (p : Piece). p.place) m.layout.free h.laid.layout.free_rise) here
 
     abbrev beside : List Piece
     beside = (held ++ among.others) ++ no-rest.others
 
     item-was : IsShuffled (unsorted_pieces m) (item ∷ beside)
     item-was =
-        followed (shuffled-left (rest_pieces m.layout.rests) (followed (shuffled-right held among.was) (shuffled-sym (shuffled-behind item held among.others))))
+        followed (shuffled-left (rest_pieces m.layout.rests)
+        (followed (shuffled-right held among.was) (shuffled-sym (shuffled-behind item held among.others))))
         (under (shuffled-right (held ++ among.others) no-rest.was))
 
-    item-now : IsShuffled ((held ++ from.free) ++ rest_pieces from.rests) (front_piece item size ∷ (back_pieces item size ++ beside))
+    item-now : IsShuffled ((held ++ from.free) ++ rest_pieces from.rests)
+        (front_piece item size ∷ (back_pieces item size ++ beside))
     item-now =
         let back = back_pieces item size in
-        subst (λ ws. IsShuffled ((held ++ from.free) ++ rest_pieces from.rests) (front_piece item size ∷ ws)) (append_assoc back (held ++ among.others) no-rest.others)
-        (followed (shuffled-left (rest_pieces from.rests) (followed (shuffled-right held among.taken) (shuffled-turn held back among.others)))
-        (followed (shuffled-right (back ++ (held ++ among.others)) (new-rest item.place size some)) (shuffled-sym (shuffled-behind (front_piece item size) (back ++ (held ++ among.others)) no-rest.others))))
+        subst (λ ws. IsShuffled ((held ++ from.free) ++ rest_pieces from.rests) (front_piece item size ∷ ws))
+        (append_assoc back (held ++ among.others) no-rest.others)
+        (followed (shuffled-left (rest_pieces from.rests)
+        (followed (shuffled-right held among.taken) (shuffled-turn held back among.others)))
+        (followed (shuffled-right (back ++ (held ++ among.others)) (new-rest item.place size some))
+        (shuffled-sym (shuffled-behind (front_piece item size) (back ++ (held ++ among.others)) no-rest.others))))
 
     free-apart : (p q : Piece) → IsIn p m.layout.free → IsIn q m.layout.free → p.place < q.place → piece_end p ≤ q.place
-    free-apart p q i j l = let g : IsGapped (piece_end p) q.place = pieces-apart m h.laid p q (free-in p i) (free-in q j) l in omega arith
+    free-apart p q i j l =
+        let g : IsGapped (piece_end p) q.place = pieces-apart m h.laid p q (free-in p i) (free-in q j) l in omega arith
 
     item-laid : IsLaid (with_layout m from)
     item-laid =
         laid_from m from
-        (same_segments m.layout from.free from.rests h.laid.layout (taken-rises item.place size m.layout.free h.laid.layout.free_rise free-apart) (length-slice_set m.layout.rests (t - 1) (option_piece (range_piece item.place (item.place + size))) ∙ h.laid.layout.threads))
-        (let f : FillSegments m.layout (pieces (with_layout m from)) = split_fills m h.laid item size lawful room beside ((held ++ from.free) ++ rest_pieces from.rests) item-was item-now in
+        (same_segments m.layout from.free from.rests h.laid.layout
+        (taken-rises item.place size m.layout.free h.laid.layout.free_rise free-apart)
+        (length-slice_set m.layout.rests (t - 1) (option_piece (range_piece item.place (item.place + size)))
+        ∙ h.laid.layout.threads))
+        (let f : FillSegments m.layout (pieces (with_layout m from)) = split_fills m h.laid item size lawful room
+        beside ((held ++ from.free) ++ rest_pieces from.rests) item-was item-now in
         record { housed = f.housed; tiled = f.tiled; whole1 = f.whole1; whole0 = f.whole0 })
 
     -- a context from the front of a free item
     pub from_item_lawful : IsLawful (with_layout m (from_item m.layout t item size))
     from_item_lawful =
-        let (stands, high) = and_parts (stands_in (ephemeral m.layout) item.place) (nat_le m.layout.start0 item.place) young in
-        let gen = is-young m.layout item.place h.laid.layout.start1_high stands (leb-true m.layout.start0 item.place high) in
+        let (stands, high) =
+        and_parts (stands_in (ephemeral m.layout) item.place) (nat_le m.layout.start0 item.place) young in
+        let gen = is-young m.layout item.place h.laid.layout.start1_high stands
+        (leb-true m.layout.start0 item.place high) in
         relaid_lawful m from h item-laid (young-rests m.layout item.place size some gen h.rests_young) h.suited h.limit
-        (rooms_kept m from t thread idle (other-rests (option_piece (range_piece item.place (item.place + size)))) h.rooms)
+        (rooms_kept m from t thread idle (other-rests (option_piece (range_piece item.place (item.place + size))))
+        h.rooms)
+        (λ o i. let same : generation from o.place ≡ generation m.layout o.place = refl in omega arith)
 
     pub from_item-rest : rest_of (from_item m.layout t item size) t ≡ Some (record { place = item.place; size = size })
-    from_item-rest = rest_of-put m.layout t thread h.laid.layout.threads (option_piece (range_piece item.place (item.place + size))) ∙ context-is item.place size some
+    from_item-rest =
+        rest_of-put m.layout t thread h.laid.layout.threads
+        (option_piece (range_piece item.place (item.place + size))) ∙ context-is item.place size some

@@ -1,5 +1,7 @@
 -- The pieces of a lawful machine: in its segments, apart, at places of their own.
-use Rattle.std.proofs.Common.{◌≡◌, ◌≢◌, ℕ, ◌<◌, ◌≤◌, inl, inr, List, [], ◌∷◌, ◌++◌, map, refl, sym, ap, subst, arith, Bool, true, false, if◌then◌else◌, nat_le, nat_lt, Option, Some, None, IsSome, find, true≢false}
+use Rattle.std.proofs.Common.{◌≡◌, ◌≢◌, ℕ, ◌<◌, ◌≤◌, inl, inr, List, [], ◌∷◌, ◌++◌, map, refl, sym, ap, subst, arith}
+use Rattle.std.proofs.Common.{Bool, true, false, if◌then◌else◌, nat_le, nat_lt, Option, Some, None, IsSome, find}
+use Rattle.std.proofs.Common.{true≢false}
 use Rattle.std.proofs.lemmas.Bool.{and_parts, leb-true, ltb-true}
 use Rattle.clr_types.specs.Rising.{IsIn, first, later, IsRisingBy}
 use Rattle.clr_types.specs.Ranges.{Piece, piece_end, Tiles}
@@ -21,16 +23,25 @@ use Rattle.clr_types.proofs.TilePieces.{IsTile, tile, tiles-apart}
 
 -- ---- pieces in their segments
 
-find-home : (ss : List SegInfo) (place : ℕ) (s : SegInfo) → find (λ (s : SegInfo). stands_in s place) ss ≡ Some s → IsIn s ss × (stands_in s place ≡ true) × (base_at ss place ≡ s.base)
+find-home : (ss : List SegInfo) (place : ℕ) (s : SegInfo) → find (λ (s : SegInfo). stands_in s place) ss ≡ Some s
+    → IsIn s ss × (stands_in s place ≡ true) × (base_at ss place ≡ s.base)
 find-home [] place s e = absurd cc
 find-home (t ∷ ss) place s e = go (stands_in t place) refl e (find-home ss place s)
   where
     found : Some t ≡ Some s → t ≡ s
     found e = cc
 
-    go : (b : Bool) → stands_in t place ≡ b → (if b then Some t else find (λ (s : SegInfo). stands_in s place) ss) ≡ Some s → (find (λ (s : SegInfo). stands_in s place) ss ≡ Some s → IsIn s ss × (stands_in s place ≡ true) × (base_at ss place ≡ s.base))
+    go : (b : Bool) → stands_in t place ≡ b
+        → (if b then Some t else find (λ (s : SegInfo). stands_in s place) ss) ≡ Some s
+        → (find (λ (s : SegInfo). stands_in s place) ss ≡ Some s
+        → IsIn s ss × (stands_in s place ≡ true) × (base_at ss place ≡ s.base))
         → IsIn s (t ∷ ss) × (stands_in s place ≡ true) × ((if b then t.base else base_at ss place) ≡ s.base)
-    go true f e more = let q : t ≡ s = found e in (subst (λ (u : SegInfo). IsIn u (t ∷ ss)) q first, subst (λ (u : SegInfo). stands_in u place ≡ true) q f, ap (λ (u : SegInfo). u.base) q)
+    go true f e more = let q : t ≡ s = found e in (
+      subst (λ (u : SegInfo). IsIn u (t ∷ ss)) q first,
+      subst (λ (u : SegInfo). stands_in u place ≡ true) q f,
+      ap
+          (λ (u : SegInfo). u.base) q,
+    )
     go false f e more = let (i, a, b) = more e in (later i, a, b)
 
 -- a segment in which a place stands
@@ -50,7 +61,14 @@ home_of layout place h = go (segment_of layout place) refl h
     go (Some s) e h =
         let (i, t, b) = find-home layout.segments place s e in
         let (l, u) = and_parts (nat_le (first_place s) place) (nat_lt place (reserved_end s)) t in
-        record { home = s; among = i; stands = t; base = b; low = leb-true (first_place s) place l; high = ltb-true place (reserved_end s) u }
+        record {
+          home = s;
+          among = i;
+          stands = t;
+          base = b;
+          low = leb-true (first_place s) place l;
+          high = ltb-true place (reserved_end s) u;
+        }
 
 module _ (m : Machine) (h : IsLaid m) where
   pub piece-home : (p : Piece) → IsIn p (pieces m) → HasHome m.layout p.place
@@ -59,15 +77,19 @@ module _ (m : Machine) (h : IsLaid m) where
   pub segment-tiled : (s : SegInfo) → IsIn s m.layout.segments → Tiles (first_place s) s.end (pieces_in s (pieces m))
   segment-tiled s i = all_at (IsTiled (pieces m)) i h.tiled
 
-  piece-in : (p : Piece) → IsIn p (pieces m) → (s : SegInfo) → stands_in s p.place ≡ true → IsIn p (pieces_in s (pieces m))
+  piece-in : (p : Piece) → IsIn p (pieces m) → (s : SegInfo) → stands_in s p.place ≡ true
+      → IsIn p (pieces_in s (pieces m))
   piece-in p i s t = into_filter (λ (p : Piece). stands_in s p.place) (pieces m) t i
 
   -- each piece is a tile of its segment
-  pub piece-tile : (p : Piece) → IsIn p (pieces m) → (k : HasHome m.layout p.place) → IsTile (first_place k.home) k.home.end p
-  piece-tile p i k = tile (first_place k.home) k.home.end (pieces_in k.home (pieces m)) p (segment-tiled k.home k.among) (piece-in p i k.home k.stands)
+  pub piece-tile : (p : Piece) → IsIn p (pieces m) → (k : HasHome m.layout p.place)
+      → IsTile (first_place k.home) k.home.end p
+  piece-tile p i k = tile (first_place k.home) k.home.end (pieces_in k.home (pieces m)) p (segment-tiled k.home k.among)
+      (piece-in p i k.home k.stands)
 
   -- any two lie apart
-  pub pieces-apart : (p q : Piece) → IsIn p (pieces m) → IsIn q (pieces m) → p.place < q.place → IsGapped (piece_end p) q.place
+  pub pieces-apart : (p q : Piece) → IsIn p (pieces m) → IsIn q (pieces m) → p.place < q.place
+      → IsGapped (piece_end p) q.place
   pieces-apart p q i j l = go (piece-home p i) (piece-home q j)
     where
       go : HasHome m.layout p.place → HasHome m.layout q.place → IsGapped (piece_end p) q.place
@@ -80,7 +102,9 @@ module _ (m : Machine) (h : IsLaid m) where
           high = n.high
 
           by : AreSeparate k.home n.home → IsGapped (piece_end p) q.place
-          by (inl e) = tiles-apart (first_place k.home) k.home.end (pieces_in k.home (pieces m)) p q (segment-tiled k.home k.among) (piece-in p i k.home k.stands) (piece-in q j k.home (subst (λ (s : SegInfo). stands_in s q.place ≡ true) (sym e) n.stands)) l
+          by (inl e) = tiles-apart (first_place k.home) k.home.end (pieces_in k.home (pieces m)) p q
+              (segment-tiled k.home k.among) (piece-in p i k.home k.stands)
+              (piece-in q j k.home (subst (λ (s : SegInfo). stands_in s q.place ≡ true) (sym e) n.stands)) l
           by (inr (inl b)) =
               let is : IsTile (first_place k.home) k.home.end p = piece-tile p i k in
               let a : piece_end p ≤ k.home.end = is.high_end in
@@ -89,33 +113,49 @@ module _ (m : Machine) (h : IsLaid m) where
               inr (omega arith)
           by (inr (inr b)) = let c = low in let d = high in absurd (omega arith)
 
-  distinct-in : (ps : List Piece) → ((s : SegInfo) → IsIn s m.layout.segments → IsRisingBy (λ (p : Piece). p.place) (pieces_in s ps)) → ((p : Piece) → IsIn p ps → HasHome m.layout p.place) → IsDistinctBy (λ (p : Piece). p.place) ps
+  distinct-in : (ps : List Piece)
+      → ((s : SegInfo) → IsIn s m.layout.segments → IsRisingBy (λ (p : Piece). p.place) (pieces_in s ps))
+      → ((p : Piece) → IsIn p ps → HasHome m.layout p.place) → IsDistinctBy (λ (p : Piece). p.place) ps
   distinct-in [] rise home = tt
-  distinct-in (p ∷ ps) rise home = (all_members (λ (q : Piece). p.place ≢ q.place) ps (λ q i e. differ (home p first) q i e), distinct-in ps (λ s i. tail s (stands_in s p.place) (rise s i)) (λ q i. home q (later i)))
+  distinct-in (p ∷ ps) rise home = (
+    all_members (λ (q : Piece). p.place ≢ q.place) ps (λ q i e. differ (home p first) q i e),
+    distinct-in ps
+        (λ s i. tail s (stands_in s p.place) (rise s i)) (λ q i. home q (later i)),
+  )
     where
-      tail : (s : SegInfo) (b : Bool) → IsRisingBy (λ (p : Piece). p.place) (if b then p ∷ pieces_in s ps else pieces_in s ps) → IsRisingBy (λ (p : Piece). p.place) (pieces_in s ps)
+      tail : (s : SegInfo) (b : Bool)
+          → IsRisingBy (λ (p : Piece). p.place) (if b then p ∷ pieces_in s ps else pieces_in s ps)
+          → IsRisingBy (λ (p : Piece). p.place) (pieces_in s ps)
       tail s true r = r.1
       tail s false r = r
 
       differ : HasHome m.layout p.place → (q : Piece) → IsIn q ps → p.place ≡ q.place → ⊥
       differ k q i e =
-          let r : IsRisingBy (λ (p : Piece). p.place) (p ∷ pieces_in k.home ps) = subst (λ b. IsRisingBy (λ (p : Piece). p.place) (if b then p ∷ pieces_in k.home ps else pieces_in k.home ps)) k.stands (rise k.home k.among) in
-          let j : IsIn q (pieces_in k.home ps) = into_filter (λ (p : Piece). stands_in k.home p.place) ps (subst (λ n. stands_in k.home n ≡ true) e k.stands) i in
+          let r : IsRisingBy (λ (p : Piece). p.place) (p ∷ pieces_in k.home ps) =
+          subst (λ b. IsRisingBy (λ (p : Piece). p.place)
+          (if b then p ∷ pieces_in k.home ps else pieces_in k.home ps)) k.stands (rise k.home k.among) in
+          let j : IsIn q (pieces_in k.home ps) =
+          into_filter (λ (p : Piece). stands_in k.home p.place) ps
+          (subst (λ n. stands_in k.home n ≡ true) e k.stands) i in
           let l : p.place < q.place = all_at (λ (q : Piece). p.place < q.place) j r.0 in
           omega arith
 
   pub pieces-distinct : IsDistinctBy (λ (p : Piece). p.place) (pieces m)
-  pieces-distinct = distinct-in (pieces m) (λ s i. tiles-rise (first_place s) s.end (pieces_in s (pieces m)) (segment-tiled s i)) piece-home
+  pieces-distinct = distinct-in (pieces m)
+      (λ s i. tiles-rise (first_place s) s.end (pieces_in s (pieces m)) (segment-tiled s i)) piece-home
 
   -- no two objects have one place
   pub places-distinct : IsDistinctBy (λ (o : Object). o.place) m.objects
   places-distinct =
       distinct_unmap (object_piece m.types) (λ (p : Piece). p.place) m.objects
       (distinct_left (λ (p : Piece). p.place) (map (object_piece m.types) m.objects) m.layout.free
-      (distinct_left (λ (p : Piece). p.place) (map (object_piece m.types) m.objects ++ m.layout.free) (rest_pieces m.layout.rests)
-      (distinct_of_sorted (λ (p : Piece). p.place) ((map (object_piece m.types) m.objects ++ m.layout.free) ++ rest_pieces m.layout.rests) pieces-distinct)))
+      (distinct_left (λ (p : Piece). p.place) (map (object_piece m.types) m.objects ++ m.layout.free)
+      (rest_pieces m.layout.rests)
+      (distinct_of_sorted (λ (p : Piece). p.place)
+      ((map (object_piece m.types) m.objects ++ m.layout.free) ++ rest_pieces m.layout.rests) pieces-distinct)))
 
   pub object-in-pieces : (o : Object) → IsIn o m.objects → IsIn (object_piece m.types o) (pieces m)
   object-in-pieces o i =
-      into_sorted_by (λ (p : Piece). p.place) (object_piece m.types o) ((map (object_piece m.types) m.objects ++ m.layout.free) ++ rest_pieces m.layout.rests)
+      into_sorted_by (λ (p : Piece). p.place) (object_piece m.types o)
+      ((map (object_piece m.types) m.objects ++ m.layout.free) ++ rest_pieces m.layout.rests)
       (append_left (rest_pieces m.layout.rests) (append_left m.layout.free (IsIn-map (object_piece m.types) i)))

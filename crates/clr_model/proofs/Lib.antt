@@ -1,7 +1,6 @@
 pub mod Opening
 pub mod Reaching
 pub mod Spelling
-pub mod HandleMaps
 pub mod Naming
 pub mod Apart
 pub mod Carried
@@ -15,6 +14,7 @@ pub mod NamesDontMatter
 pub mod PlugRoom
 pub mod PlugPointer
 pub mod PlugWalk
+pub mod PlugsApart
 pub mod PlugLanding
 pub mod CompactedSmall
 pub mod PlugsOf
@@ -69,3 +69,15 @@ pub mod ArgumentReaders
 pub mod OptionReaders
 pub mod LineReaders
 pub mod UnspacedWords
+pub mod BoundedSums
+pub mod CollectedSums
+pub mod SealedSums
+pub mod TopGrows
+pub mod TopGrowsByLine
+pub mod PieceBytes
+pub mod LowestFit
+pub mod CompactionExists
+pub mod CollectionExists
+pub mod OrderKept
+pub mod ReachTests
+pub mod AliveTests

@@ -1,23 +1,29 @@
 -- What a collection does to the picture of a machine, it does to the machine.
-use Rattle.std.proofs.Common.{◌≡◌, ℕ, List, refl, sym, ap, subst, ◌∙◌, Bool, if◌then◌else◌, filter, ◌&&◌, ◌++◌, ◌==◌, not, ◌⊎◌, inl, inr}
+use Rattle.std.proofs.Common.{◌≡◌, ℕ, List, refl, sym, ap, subst, ◌∙◌, Bool, if◌then◌else◌, filter, ◌&&◌, ◌++◌, ◌==◌}
+use Rattle.std.proofs.Common.{not, ◌⊎◌, inl, inr}
 use Rattle.clr_types.specs.Rising.{Tests, IsIn}
 use Rattle.clr_model.specs.declared.How.{How}
 use Rattle.clr_model.specs.declared.Collected.{Collected}
 use Rattle.clr_model.specs.Machine.{Machine}
 use Rattle.clr_model.specs.Lookups.{place_of}
-use Rattle.clr_model.specs.Picture.{picture, map_values}
+use Rattle.clr_types.specs.Maps.{map_values}
+use Rattle.clr_model.specs.Picture.{picture}
 use Rattle.clr_model.specs.Reach.{StartOf, First, Kept, woken, is_suppressed}
 use Rattle.clr_model.specs.Sweep.{is_condemned}
 use Rattle.clr_model.specs.Compaction.{Move}
 use Rattle.clr_model.specs.Updates.{all_given_up}
-use Rattle.clr_model.specs.Collection.{row_after, objects_after, sums_after, released, compacts, decides_to_compact, IsCollected, Collects}
+use Rattle.clr_model.specs.Collection.{row_after, objects_after, sums_after, released, compacts, decides_to_compact}
+use Rattle.clr_model.specs.Collection.{IsCollected, Collects}
 use Rattle.clr_model.specs.Lawful.{IsLawful}
 use Rattle.clr_types.specs.Segments.{Layout}
 use Rattle.clr_model.proofs.Apart.{AreApart}
 use Rattle.clr_types.proofs.ListMembers.{from-map}
 use Rattle.clr_types.proofs.ChangedLists.{IsIn-map, out_of_filter}
-use Rattle.clr_model.proofs.NamedWell.{AreNamed, HasObject, lawful-named, start-named, start-goes, start-comes, tests-carried}
-use Rattle.clr_model.proofs.CollectedNames.{woken-picture, count-seen, promoted-seen, survivors-seen, objects-after, handles-after, locals-after, entries-after, ready-after, steps-after, layout-after}
+use Rattle.clr_model.proofs.NamedWell.{AreNamed, HasObject, lawful-named, start-named, start-goes, start-comes}
+use Rattle.clr_model.proofs.NamedWell.{tests-carried}
+use Rattle.clr_model.proofs.CollectedNames.{woken-picture, count-seen, promoted-seen, survivors-seen, objects-after}
+use Rattle.clr_model.proofs.CollectedNames.{handles-after, locals-after, entries-after, ready-after, steps-after}
+use Rattle.clr_model.proofs.CollectedNames.{layout-after}
 
 -- the machine after a collection with these tests, moves and layout
 abbrev pub next_of : Machine → ℕ → Collected → (ℕ → Bool) → (ℕ → Bool) → List Move → Layout → Machine
@@ -34,31 +40,43 @@ module _ (m : Machine) (h : AreNamed m) where
   abbrev to : ℕ → ℕ
   to = place_of m.objects
 
-  module _ (start start' : ℕ → Type 0) (known : (x : ℕ) → start x → HasObject m.objects x) (goes : (x : ℕ) → start x → start' (to x)) (comes : (z : ℕ) → start' z → (x : ℕ) × (z ≡ to x) × start x) where
+  module _ (start start' : ℕ → Type 0) (known : (x : ℕ) → start x → HasObject m.objects x) (goes : (x : ℕ) → start x
+      → start' (to x)) (comes : (z : ℕ) → start' z → (x : ℕ) × (z ≡ to x) × start x) where
     -- the tests of the picture, at places, are tests of the machine
     first-carried : (seen : ℕ → Bool) → Tests seen (First (picture m) start') → Tests (λ x. seen (to x)) (First m start)
     first-carried seen is = tests-carried m h start start' known goes comes seen is
 
     woken-known : (seen : ℕ → Bool) (x : ℕ) → IsIn x (woken m (λ x. seen (to x))) → HasObject m.objects x
-    woken-known seen x i = h.entries x (out_of_filter (λ e. not (seen (to e)) && not (is_suppressed m e)) x m.entries i).1
+    woken-known seen x i = h.entries x
+        (out_of_filter (λ e. not (seen (to e)) && not (is_suppressed m e)) x m.entries i).1
 
-    kept-carried : (seen kept : ℕ → Bool) → Tests kept (Kept (picture m) start' seen) → Tests (λ x. kept (to x)) (Kept m start (λ x. seen (to x)))
+    kept-carried : (seen kept : ℕ → Bool) → Tests kept (Kept (picture m) start' seen)
+        → Tests (λ x. kept (to x)) (Kept m start (λ x. seen (to x)))
     kept-carried seen kept is =
-        tests-carried m h (λ x. start x ⊎ IsIn x (woken m (λ x. seen (to x)))) (λ z. start' z ⊎ IsIn z (woken (picture m) seen))
+        tests-carried m h (λ x. start x ⊎ IsIn x (woken m (λ x. seen (to x))))
+        (λ z. start' z ⊎ IsIn z (woken (picture m) seen))
         (λ x s. elim s [ inl k ↦ known x k | inr i ↦ woken-known seen x i ])
-        (λ x s. elim s [ inl k ↦ inl (goes x k) | inr i ↦ inr (subst (IsIn (to x)) (sym (woken-picture m h seen)) (IsIn-map to i)) ])
+        (λ x s. elim s [
+          | inl k ↦ inl (goes x k)
+          | inr i
+              ↦ inr (subst (IsIn (to x)) (sym (woken-picture m h seen)) (IsIn-map to i))
+        ])
         (λ z s. elim s [
           | inl k ↦ let (x, e, t) = comes z k in (x, e, inl t)
-          | inr i ↦ let (x, e, j) = from-map to z (woken m (λ x. seen (to x))) (subst (IsIn z) (woken-picture m h seen) i) in (x, e, inr j)
+          | inr i ↦ let (x, e, j) = from-map to z (woken m (λ x. seen (to x)))
+              (subst (IsIn z) (woken-picture m h seen) i) in (x, e, inr j)
         ])
         kept is
 
     -- what a collection does to the picture, it does to the machine
-    pub collected_names : (g : ℕ) (how : How) (answer : Collected) (after : Machine) → IsCollected (picture m) g how start' answer after → AreApart after.objects
+    pub collected_names : (g : ℕ) (how : How) (answer : Collected) (after : Machine)
+        → IsCollected (picture m) g how start' answer after → AreApart after.objects
         → (next : Machine) × IsCollected m g how start answer next × (picture next ≡ picture after)
-    collected_names g how answer after c apart = (next_of m g answer (λ x. c.first (to x)) (λ x. c.kept (to x)) c.moves c.laid, collected, shown)
+    collected_names g how answer after c apart =
+        (next_of m g answer (λ x. c.first (to x)) (λ x. c.kept (to x)) c.moves c.laid, collected, shown)
       where
-        collected : IsCollected m g how start answer (next_of m g answer (λ x. c.first (to x)) (λ x. c.kept (to x)) c.moves c.laid)
+        collected : IsCollected m g how start answer
+            (next_of m g answer (λ x. c.first (to x)) (λ x. c.kept (to x)) c.moves c.laid)
         collected = record {
           first = λ x. c.first (to x);
           kept = λ x. c.kept (to x);
@@ -120,26 +138,43 @@ module _ (m : Machine) (h : AreNamed m) where
 
 -- giving up the contexts leaves the names as they are
 begun-named : (m : Machine) → AreNamed m → AreNamed (record m { layout = all_given_up m.layout })
-begun-named m h = record { apart = h.apart; slots = h.slots; locals = h.locals; handles = h.handles; entries = h.entries; ready = h.ready }
+begun-named m h = record {
+  apart = h.apart;
+  slots = h.slots;
+  locals = h.locals;
+  handles = h.handles;
+  entries = h.entries;
+  ready = h.ready;
+}
 
--- What a collection does to the picture of a machine, it does to the machine, where its objects have places of their own afterwards.
-pub collection_names : (m : Machine) → AreNamed m → (g : ℕ) (how : How) (answer : Collected) (after : Machine) → Collects (picture m) g how answer after → AreApart after.objects
+-- What a collection does to the picture of a machine, it does to the machine, where its objects have places of their
+-- own afterwards.
+pub collection_names : (m : Machine) → AreNamed m → (g : ℕ) (how : How) (answer : Collected) (after : Machine)
+    → Collects (picture m) g how answer after → AreApart after.objects
     → (next : Machine) × Collects m g how answer next × (picture next ≡ picture after)
 collection_names m h g how answer after c apart =
     let begun : Machine = record m { layout = all_given_up m.layout } in
-    collected_names begun (begun-named m h) (StartOf begun g) (StartOf (picture begun) g) (start-named begun (begun-named m h) g) (start-goes begun (begun-named m h) g) (start-comes begun (begun-named m h) g) g how answer after c apart
+    collected_names begun (begun-named m h) (StartOf begun g) (StartOf (picture begun) g)
+    (start-named begun (begun-named m h) g) (start-goes begun (begun-named m h) g)
+    (start-comes begun (begun-named m h) g) g how answer after c apart
 
 -- the same from lawful states to lawful states
-pub collection_names_lawful : (m : Machine) (g : ℕ) (how : How) (answer : Collected) (after : Machine) → IsLawful m → Collects (picture m) g how answer after → IsLawful after
+pub collection_names_lawful : (m : Machine) (g : ℕ) (how : How) (answer : Collected) (after : Machine) → IsLawful m
+    → Collects (picture m) g how answer after → IsLawful after
     → (next : Machine) × Collects m g how answer next × (picture next ≡ picture after)
-collection_names_lawful m g how answer after lawful c stays = collection_names m (lawful-named m lawful) g how answer after c (lawful-named after stays).apart
+collection_names_lawful m g how answer after lawful c stays =
+    collection_names m (lawful-named m lawful) g how answer after c (lawful-named after stays).apart
 
 -- Two collections in one line: the second goes on from the picture that the first left.
-pub two_collections : (m : Machine) → AreNamed m → (g1 g2 : ℕ) (how1 how2 : How) (one two : Collected) (after last : Machine)
-    → Collects (picture m) g1 how1 one after → AreApart after.objects → ((next : Machine) → picture next ≡ picture after → Collects m g1 how1 one next → AreNamed next)
+pub two_collections : (m : Machine) → AreNamed m
+    → (g1 g2 : ℕ) (how1 how2 : How) (one two : Collected) (after last : Machine)
+    → Collects (picture m) g1 how1 one after → AreApart after.objects
+    → ((next : Machine) → picture next ≡ picture after → Collects m g1 how1 one next → AreNamed next)
     → Collects (picture after) g2 how2 two last → AreApart last.objects
-    → (mid : Machine) × (next : Machine) × Collects m g1 how1 one mid × Collects mid g2 how2 two next × (picture next ≡ picture last)
+    → (mid : Machine) × (next : Machine) × Collects m g1 how1 one mid × Collects mid g2 how2 two next
+    × (picture next ≡ picture last)
 two_collections m h g1 g2 how1 how2 one two after last c apart named d apart' =
     let (mid, first, shown) = collection_names m h g1 how1 one after c apart in
-    let (next, second, shown') = collection_names mid (named mid shown first) g2 how2 two last (subst (λ w. Collects w g2 how2 two last) (sym shown) d) apart' in
+    let (next, second, shown') = collection_names mid (named mid shown first) g2 how2 two last
+    (subst (λ w. Collects w g2 how2 two last) (sym shown) d) apart' in
     (mid, next, first, second, shown')

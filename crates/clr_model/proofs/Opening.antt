@@ -1,13 +1,17 @@
 -- The opening state is lawful.
-use Rattle.std.proofs.Common.{◌≡◌, ℕ, zero, suc, ◌+◌, inl, List, [], ◌∷◌, refl, sym, subst, ap, ◌∙◌, arith, replicate, length, lit≤, lit<, map}
+use Rattle.std.proofs.Common.{◌≡◌, ℕ, zero, suc, ◌+◌, ◌<◌, inl, List, [], ◌∷◌, refl, sym, subst, ap, ◌∙◌, arith}
+use Rattle.std.proofs.Common.{replicate, length, lit≤, lit<, map}
 use Rattle.std.specs.List.{AllByRecursion}
 use Rattle.std.specs.FinMap as finmap
 use Rattle.std.specs.Ordering.{nat_cmp}
-use Rattle.clr_model.specs.Machine.{Options, HandleRow, Machine, no_step}
-use Rattle.clr_model.specs.Lawful.{IsBirthNamed, AreLawfulOptions, NamesArePresent, HasItsSecond, IsNullOrPresent, StepIsPresent, HasItsRoom, AllFrom}
-use Rattle.clr_model.specs.Picture.{picture, map_values, renamed_row}
+use Rattle.clr_types.specs.declared.handle.Handle.{Handle}
+use Rattle.clr_model.specs.Machine.{Options, Machine, no_step}
+use Rattle.clr_model.specs.Lawful.{IsBirthNamed, AreLawfulOptions, NamesArePresent, HasItsSecond, IsNullOrPresent}
+use Rattle.clr_model.specs.Lawful.{StepIsPresent, HasItsRoom, AllFrom}
+use Rattle.clr_types.specs.Maps.{map_values}
+use Rattle.clr_model.specs.Picture.{picture, renamed_row}
 use Rattle.clr_model.specs.Lookups.{place_of}
-use Rattle.clr_model.proofs.HandleMaps.{map_values-empty}
+use Rattle.clr_types.proofs.MapValues.{map_values-empty}
 use Rattle.clr_model.specs.Run.{opening, defaults, StandsFor}
 use Rattle.clr_types.specs.Segments.{opening_segment, opening_layout}
 use Rattle.clr_types.specs.LawfulLayout.{IsLawfulLayout, IsLawfulSegment}
@@ -22,28 +26,34 @@ length_copies : {X : Type 0} (n : ℕ) (x : X) → length (replicate n x) ≡ n
 length_copies zero x = refl
 length_copies (suc n) x = ap suc (length_copies n x)
 
-abbrev handles_of_opening : finmap.FinMap nat_cmp HandleRow
+abbrev handles_of_opening : finmap.FinMap nat_cmp Handle
 handles_of_opening = finmap.empty
 
-abbrev entries_of_empty : List (ℕ × HandleRow)
+abbrev entries_of_empty : List (ℕ × Handle)
 entries_of_empty = finmap.entries handles_of_opening
 
 -- both segments, the second after the first
-first_segment : (options : Options) → AreLawfulOptions options → IsLawfulSegment (opening_segment 0x10000000 Ephemeral options.segment)
+first_segment : (options : Options) → AreLawfulOptions options
+    → IsLawfulSegment (opening_segment 0x10000000 Ephemeral options.segment)
 first_segment options h = record {
   base = refl;
+  lowest = lit≤ tt;
   reserved = h.segment_aligned;
   least = h.segment_least;
+  most = λ small. h.segment_greatest;
   low = lit≤ tt;
   high = let least = h.segment_least in omega arith;
   aligned = refl;
 }
 
-second_segment : (options : Options) → AreLawfulOptions options → IsLawfulSegment (opening_segment (0x10000000 + options.segment) Large options.segment)
+second_segment : (options : Options) → AreLawfulOptions options
+    → IsLawfulSegment (opening_segment (0x10000000 + options.segment) Large options.segment)
 second_segment options h = record {
   base = let aligned = h.segment_aligned in omega arith;
+  lowest = omega arith;
   reserved = h.segment_aligned;
   least = h.segment_least;
+  most = λ small. absurd cc;
   low = omega arith;
   high = let least = h.segment_least in omega arith;
   aligned = let aligned = h.segment_aligned in omega arith;
@@ -54,6 +64,7 @@ layout_lawful options h = record {
   segments = (first_segment options h, (second_segment options h, tt));
   disjoint = ((omega arith, tt), (tt, tt));
   below_top = (omega arith, (omega arith, tt));
+  top_aligned = let aligned = h.segment_aligned in omega arith;
   one_ephemeral = refl;
   ephemeral_last = tt;
   some_large = lit< tt;
@@ -69,8 +80,11 @@ no_items : {X : Type 0} (es : List X) → length es ≡ 0 → es ≡ []
 no_items [] e = refl
 no_items (x ∷ es) e = absurd (omega (arith, e))
 
-no_rows : ◌≡◌ {A = List HandleRow} (map (λ e. e.1) (entries_of_empty)) []
-no_rows = ap (map (λ e. e.1)) (no_items entries_of_empty (sym (finmap.len-entries handles_of_opening) ∙ finmap.len-empty nat_cmp HandleRow))
+no_entries : ◌≡◌ {A = List (ℕ × Handle)} entries_of_empty []
+no_entries = no_items entries_of_empty (sym (finmap.len-entries handles_of_opening) ∙ finmap.len-empty nat_cmp Handle)
+
+no_rows : ◌≡◌ {A = List Handle} (map (λ e. e.1) (entries_of_empty)) []
+no_rows = ap (map (λ e. e.1)) no_entries
 
 -- a thread that began nothing needs no room
 all_idle : (m : Machine) (n t : ℕ) → AllFrom (HasItsRoom m) t (replicate n no_step)
@@ -82,7 +96,9 @@ unfolding opening
 names_lawful options = record {
   slots = tt;
   locals = all_copies (IsNullOrPresent (opening options)) 1024 0 (inl refl);
-  handles = subst (AllByRecursion (λ (row : HandleRow). IsNullOrPresent (opening options) row.target × IsNullOrPresent (opening options) row.second)) (sym no_rows) tt;
+  handles =
+      subst (AllByRecursion (λ (row : Handle). IsNullOrPresent (opening options) row.target
+      × IsNullOrPresent (opening options) row.second)) (sym no_rows) tt;
   entries = tt;
   ready = tt;
   steps = all_copies (StepIsPresent (opening options)) 16 no_step tt;
@@ -96,6 +112,7 @@ opening_lawful options h = record {
     types = tt;
     type_count = lit≤ tt;
     type_names = tt;
+    type_words = tt;
     names_rise = tt;
     shapes = tt;
     laid = record {
@@ -114,7 +131,11 @@ opening_lawful options h = record {
     steps = refl;
     rooms = all_idle (opening options) 16 1;
     holder = tt;
-    handle_count = let none = finmap.len-empty nat_cmp HandleRow in omega arith;
+    handle_count = let none = finmap.len-empty nat_cmp Handle in omega arith;
+    handle_numbers = subst (AllByRecursion (λ (e : ℕ × Handle). e.0 < 65536)) (sym no_entries) tt;
+    entries = tt;
+    ready = tt;
+    sums = record { spent0 = lit≤ tt; spent_large = lit≤ tt; promoted1 = lit≤ tt; promoted2 = lit≤ tt };
   };
   born = tt;
 }
@@ -129,7 +150,8 @@ null_map (suc n) = ap (λ xs. 0 ∷ xs) (null_map n)
 pub picture-opening : (options : Options) → picture (opening options) ≡ opening options
 unfolding opening
 picture-opening options =
-    let none : map_values (renamed_row (place_of [])) finmap.empty ≡ finmap.empty = map_values-empty (renamed_row (place_of [])) in
+    let none : map_values (renamed_row (place_of [])) finmap.empty ≡ finmap.empty =
+    map_values-empty (renamed_row (place_of [])) in
     let locals : map (place_of []) (replicate 1024 0) ≡ replicate 1024 0 = null_map 1024 in
     λ i. record (opening options) { handles = none i; locals = locals i }
 

@@ -1,107 +1,27 @@
 -- Where the plugs of a compaction stand afterwards: apart, each segment's with lawful gaps, and gaps before pins alone.
-use Rattle.std.proofs.Common.{◌≡◌, ◌≢◌, ℕ, ◌+◌, ◌%◌, ◌<◌, ◌≤◌, ◌⊎◌, inl, inr, List, [], ◌∷◌, ◌++◌, map, refl, sym, ap, subst, ◌∙◌, arith, Bool, true, false, filter, ◌&&◌, nat_le, nat_lt, if◌then◌else◌, ◌==◌, max}
+use Rattle.std.proofs.Common.{◌≡◌, ℕ, ◌+◌, ◌%◌, ◌<◌, ◌≤◌, ◌⊎◌, inl, inr, List, [], ◌∷◌, ◌++◌, map, refl, sym, ap}
+use Rattle.std.proofs.Common.{subst, ◌∙◌, arith, Bool, true, false, filter, ◌&&◌, nat_le, nat_lt, ◌==◌}
+use Rattle.std.proofs.Common.{max}
 use Rattle.std.proofs.lemmas.Bool.{cases_lt, leb-true, ltb-true, le-leb, lt-ltb, and_parts, and_from, eqb-true, eq-eqb}
-use Rattle.std.specs.List.{AllByRecursion}
 use Rattle.clr_types.specs.Rising.{IsIn, first, later, IsRisingBy}
 use Rattle.clr_types.specs.Ranges.{Piece, piece_end, IsLawfulSize, Tiles, gaps, end_of_last, by_place}
 use Rattle.clr_types.proofs.RisingLists.{in_cons, all_at}
-use Rattle.clr_types.proofs.SortedLists.{IsDistinctBy, sorted_by-rises, into_sorted_by, out_of_sorted_by}
-use Rattle.clr_model.specs.Compaction.{Plug, plug_end, Move, FitsAt, moved_pieces, piece_of_plug, pinned_pieces, raised_past_pins}
+use Rattle.clr_types.proofs.SortedLists.{sorted_by-rises, into_sorted_by, out_of_sorted_by}
+use Rattle.clr_model.specs.Compaction.{Plug, plug_end, Move, FitsAt, moved_pieces, piece_of_plug, pinned_pieces}
+use Rattle.clr_model.specs.Compaction.{raised_past_pins}
 use Rattle.clr_types.specs.declared.segment.SegInfo.{SegInfo}
 use Rattle.clr_types.specs.Segments.{first_place, reserved_end, stands_in, pieces_in}
-use Rattle.clr_types.proofs.ChangedLists.{IsIn-map, all_members, into_filter, out_of_filter}
+use Rattle.clr_types.proofs.ChangedLists.{IsIn-map, into_filter, out_of_filter}
 use Rattle.clr_types.proofs.ListMembers.{from-map, filter-rises}
-use Rattle.clr_types.proofs.PieceGaps.{IsGapped, IsEnd, IsJoined, AreBlocks, IsGapPiece, last-is, gaps-are, blocks-and-gaps-tile}
+use Rattle.clr_types.proofs.PieceGaps.{IsGapped, IsEnd, IsJoined, AreBlocks, IsGapPiece, last-is, gaps-are}
+use Rattle.clr_types.proofs.PieceGaps.{blocks-and-gaps-tile}
 use Rattle.clr_model.proofs.PlugRoom.{IsPlug, ArePlugs, IsOutside, IsClear, room-clear, fit-between, in_segment}
 use Rattle.clr_types.proofs.SegmentFacts.{AreSeparate}
 use Rattle.clr_model.proofs.PlugPointer.{IsNear, IsEdge, edge-outside}
-use Rattle.clr_model.proofs.PlugWalk.{Walk, Each, AreInLine, IsNearFirst, AreOrdered, IsLanded, IsWalked, IsSource, walked, each_both, plug_of_move, move_of_plug}
-
--- ---- pieces that don't overlap
-
--- of any two pieces one ends before the other begins
-abbrev pub AreScattered : List Piece → Type 0
-AreScattered [] = Unit {0}
-AreScattered (p ∷ ps) = AllByRecursion (λ (q : Piece). (piece_end p ≤ q.place) ⊎ (piece_end q ≤ p.place)) ps × AreScattered ps
-
-pub scattered-apart : (ps : List Piece) (a b : Piece) → AreScattered ps → IsIn a ps → IsIn b ps → (a ≡ b) ⊎ ((piece_end a ≤ b.place) ⊎ (piece_end b ≤ a.place))
-scattered-apart ps a b h first first = inl refl
-scattered-apart (p ∷ ps) a b h first (later j) = inr (all_at (λ (q : Piece). (piece_end a ≤ q.place) ⊎ (piece_end q ≤ a.place)) j h.0)
-scattered-apart (p ∷ ps) a b h (later i) first = inr (elim (all_at (λ (q : Piece). (piece_end b ≤ q.place) ⊎ (piece_end q ≤ b.place)) i h.0) [ inl l ↦ inr l | inr l ↦ inl l ])
-scattered-apart (p ∷ ps) a b h (later i) (later j) = scattered-apart ps a b h.1 i j
-
-scattered-distinct : (ps : List Piece) → AreScattered ps → ((a : Piece) → IsIn a ps → 0 < a.size) → IsDistinctBy (λ (p : Piece). p.place) ps
-scattered-distinct [] h size = tt
-scattered-distinct (p ∷ ps) h size =
-    (all_members (λ (q : Piece). p.place ≢ q.place) ps (λ q i e. differ q (size p first) (size q (later i)) (all_at (λ (q : Piece). (piece_end p ≤ q.place) ⊎ (piece_end q ≤ p.place)) i h.0) e), scattered-distinct ps h.1 (λ a i. size a (later i)))
-  where
-    differ : (q : Piece) → 0 < p.size → 0 < q.size → (piece_end p ≤ q.place) ⊎ (piece_end q ≤ p.place) → p.place ≡ q.place → ⊥
-    differ q s t (inl l) e = absurd (omega arith)
-    differ q s t (inr l) e = absurd (omega arith)
-
-abbrev pub piece_of_move : Move → Piece
-piece_of_move v = record { place = v.to; size = v.size }
-
-module _ (segments : List SegInfo) (all : List Plug) (h : ArePlugs segments all) (source : ℕ → Type 0) where
-  abbrev DoNotOverlap : Move → Move → Type 0
-  DoNotOverlap v w = (v.to + v.size ≤ w.to) ⊎ (w.to + w.size ≤ v.to)
-
-  two_apart : (p q : Plug) (v w : Move) → IsIn p all → IsIn q all → IsGapped (plug_end p) q.start → IsLanded segments all source p v → IsLanded segments all source q w → (p.pinned ≡ false → q.pinned ≡ false → v.to + v.size ≤ w.to)
-      → (b c : Bool) → p.pinned ≡ b → q.pinned ≡ c → DoNotOverlap v w
-  two_apart p q v w i j gap lp lq order true true e f = let at : v.to ≡ p.start = lp.pinned e in let to : w.to ≡ q.start = lq.pinned f in let size : v.size ≡ p.size = lp.size in inl (omega arith)
-  two_apart p q v w i j gap lp lq order false false e f = inl (order e f)
-  two_apart p q v w i j gap lp lq order true false e f = go (fit-between segments all h q.size w.to (lq.outside f) (lq.fits f) p i e)
-    where
-      go : (plug_end p ≤ w.to) ⊎ IsGapped (w.to + q.size) p.start → DoNotOverlap v w
-      go (inl l) = let at : v.to ≡ p.start = lp.pinned e in let size : v.size ≡ p.size = lp.size in inl (omega arith)
-      go (inr l) = let at : v.to ≡ p.start = lp.pinned e in let size : w.size ≡ q.size = lq.size in inr (omega arith)
-  two_apart p q v w i j gap lp lq order false true e f = go (fit-between segments all h p.size v.to (lp.outside e) (lp.fits e) q j f)
-    where
-      go : (plug_end q ≤ v.to) ⊎ IsGapped (v.to + p.size) q.start → DoNotOverlap v w
-      go (inl l) = let at : w.to ≡ q.start = lq.pinned f in let size : w.size ≡ q.size = lq.size in inr (omega arith)
-      go (inr l) = let at : w.to ≡ q.start = lq.pinned f in let size : v.size ≡ p.size = lp.size in inl (omega arith)
-
-  one_apart : (p : Plug) (v : Move) → IsIn p all → IsLanded segments all source p v → (ps : List Plug) (vs : List Move) → AreInLine all ps → AllByRecursion (λ (q : Plug). IsGapped (plug_end p) q.start) ps → Each (IsLanded segments all source) ps vs
-      → (p.pinned ≡ false → Each (λ q w. q.pinned ≡ false → v.to + v.size ≤ w.to) ps vs) → AllByRecursion (λ (q : Piece). (v.to + v.size ≤ q.place) ⊎ (piece_end q ≤ v.to)) (map piece_of_move vs)
-  one_apart p v i lp [] [] line gap landed order = tt
-  one_apart p v i lp [] (w ∷ vs) line gap landed order = absurd landed
-  one_apart p v i lp (q ∷ ps) [] line gap landed order = absurd landed
-  one_apart p v i lp (q ∷ ps) (w ∷ vs) line gap landed order =
-      (two_apart p q v w i line.0 gap.0 lp landed.0 (λ e. (order e).0) p.pinned q.pinned refl refl, one_apart p v i lp ps vs line.2 gap.1 landed.1 (λ e. (order e).1))
-
-  pub landed-scattered : (ps : List Plug) (vs : List Move) → AreInLine all ps → Each (IsLanded segments all source) ps vs → AreOrdered ps vs → AreScattered (map piece_of_move vs)
-  landed-scattered [] [] line landed order = tt
-  landed-scattered [] (w ∷ vs) line landed order = absurd landed
-  landed-scattered (q ∷ ps) [] line landed order = absurd landed
-  landed-scattered (p ∷ ps) (v ∷ vs) line landed order =
-      (one_apart p v line.0 landed.0 ps vs line.2 line.1 landed.1 order.0, landed-scattered ps vs line.2 landed.1 order.1)
-
--- a place raised past pins is that place or the end of a pin
-pub raised_is : (qs : List Plug) (place : ℕ) → (raised_past_pins qs place ≡ place) ⊎ ((p : Plug) × IsIn p qs × (p.pinned ≡ true) × (raised_past_pins qs place ≡ plug_end p))
-raised_is [] place = inl refl
-raised_is (q ∷ qs) place = go (q.pinned && (q.start == place)) refl (raised_is qs)
-  where
-    deeper : (n : ℕ) → (raised_past_pins qs n ≡ n) ⊎ ((p : Plug) × IsIn p qs × (p.pinned ≡ true) × (raised_past_pins qs n ≡ plug_end p)) → (raised_past_pins qs n ≡ n) ⊎ ((p : Plug) × IsIn p (q ∷ qs) × (p.pinned ≡ true) × (raised_past_pins qs n ≡ plug_end p))
-    deeper n (inl e) = inl e
-    deeper n (inr (p, i, pinned, e)) = inr (p, later i, pinned, e)
-
-    past : q.pinned ≡ true → (raised_past_pins qs (plug_end q) ≡ plug_end q) ⊎ ((p : Plug) × IsIn p (q ∷ qs) × (p.pinned ≡ true) × (raised_past_pins qs (plug_end q) ≡ plug_end p))
-        → (raised_past_pins qs (plug_end q) ≡ place) ⊎ ((p : Plug) × IsIn p (q ∷ qs) × (p.pinned ≡ true) × (raised_past_pins qs (plug_end q) ≡ plug_end p))
-    past pinned (inl e) = inr (q, first, pinned, e)
-    past pinned (inr k) = inr k
-
-    go : (b : Bool) → (q.pinned && (q.start == place)) ≡ b → ((n : ℕ) → (raised_past_pins qs n ≡ n) ⊎ ((p : Plug) × IsIn p qs × (p.pinned ≡ true) × (raised_past_pins qs n ≡ plug_end p)))
-        → (raised_past_pins qs (if b then plug_end q else place) ≡ place) ⊎ ((p : Plug) × IsIn p (q ∷ qs) × (p.pinned ≡ true) × (raised_past_pins qs (if b then plug_end q else place) ≡ plug_end p))
-    go true e more = past (and_parts q.pinned (q.start == place) e).0 (deeper (plug_end q) (more (plug_end q)))
-    go false e more = deeper place (more place)
-
-pub raised_up : (qs : List Plug) (place : ℕ) → place ≤ raised_past_pins qs place
-raised_up [] place = omega arith
-raised_up (q ∷ qs) place = go (q.pinned && (q.start == place)) refl (raised_up qs)
-  where
-    go : (b : Bool) → (q.pinned && (q.start == place)) ≡ b → ((n : ℕ) → n ≤ raised_past_pins qs n) → place ≤ raised_past_pins qs (if b then plug_end q else place)
-    go true e more = let at : q.start ≡ place = eqb-true q.start place (and_parts q.pinned (q.start == place) e).1 in let l : plug_end q ≤ raised_past_pins qs (plug_end q) = more (plug_end q) in omega arith
-    go false e more = more place
+use Rattle.clr_model.proofs.PlugWalk.{Walk, AreInLine, IsNearFirst, IsLanded, IsWalked, IsSource}
+use Rattle.clr_model.proofs.PlugWalk.{walked, each_both, plug_of_move, move_of_plug}
+use Rattle.clr_model.proofs.PlugsApart.{AreScattered, landed-scattered, piece_of_move, raised_is, raised_up}
+use Rattle.clr_model.proofs.PlugsApart.{scattered-apart, scattered-distinct}
 
 -- ---- in one segment
 
@@ -142,7 +62,8 @@ module _ (segments : List SegInfo) (all : List Plug) (whole : List Move) (pointe
   abbrev pub MayStart : ℕ → Type 0
   MayStart place = (place % 8 ≡ 0) × ((place ≡ pointer) ⊎ (IsEdge segments all place ⊎ IsPlacedEnd place))
 
-module _ (segments : List SegInfo) (all : List Plug) (h : ArePlugs segments all) (start : SegInfo → ℕ) (pointer : ℕ) (st : AreStarts segments all start pointer)
+module _ (segments : List SegInfo) (all : List Plug) (h : ArePlugs segments all) (start : SegInfo
+    → ℕ) (pointer : ℕ) (st : AreStarts segments all start pointer)
     (ps : List Plug) (whole : List Move) (after : ℕ)
     (line : AreInLine all ps) (complete : (p : Plug) → IsIn p all → IsIn p ps)
     (walk : Walk segments all pointer ps whole after)
@@ -157,7 +78,19 @@ module _ (segments : List SegInfo) (all : List Plug) (h : ArePlugs segments all)
     pub sources : IsSource segments all whole source
     sources = record {
       edge = λ place e. (edge-aligned place e, inr (inl e));
-      placed = λ p v i unpinned size fits j from. let (a, b) = st.whole p i in let at : v.to % 8 ≡ 0 = from.0 in (omega arith, inr (inr (record { plug = p; move = v; known = i; unpinned = unpinned; size = size; fits = fits; among = j; is = refl })));
+      placed = λ p v i unpinned size fits j from. let (a, b) = st.whole p i in let at : v.to % 8 ≡ 0 = from.0 in (
+        omega arith,
+        inr (inr (record {
+          plug = p;
+          move = v;
+          known = i;
+          unpinned = unpinned;
+          size = size;
+          fits = fits;
+          among = j;
+          is = refl;
+        })),
+      );
     }
 
     -- the pointer begins near the first plug
@@ -168,13 +101,17 @@ module _ (segments : List SegInfo) (all : List Plug) (h : ArePlugs segments all)
         is : IsPlug segments p
         is = h.each p line.0
 
-        far : pointer ≤ first_place is.home → first_place is.home ≤ p.start → IsGapped (first_place is.home) p.start → (pointer < first_place is.home) ⊎ (first_place is.home ≤ pointer) → IsNear segments all pointer p.start
+        far : pointer ≤ first_place is.home → first_place is.home ≤ p.start → IsGapped (first_place is.home) p.start
+            → (pointer < first_place is.home) ⊎ (first_place is.home ≤ pointer) → IsNear segments all pointer p.start
         far l m g (inl up) = (omega arith, inr (inr (is.home, is.among, up, m)))
         far l m g (inr down) = (omega arith, inl (subst (λ n. IsGapped n p.start) (omega arith) g))
 
-        go : (start is.home ≡ pointer) ⊎ (start is.home ≡ first_place is.home) → IsGapped (start is.home) p.start → IsNear segments all pointer p.start
+        go : (start is.home ≡ pointer) ⊎ (start is.home ≡ first_place is.home) → IsGapped (start is.home) p.start
+            → IsNear segments all pointer p.start
         go (inl e) g = (omega arith, inl (subst (λ n. IsGapped n p.start) e g))
-        go (inr e) g = let l : pointer ≤ start is.home = st.lowest is.home is.among in far (omega arith) (omega arith) (subst (λ n. IsGapped n p.start) e g) (cases_lt pointer (first_place is.home))
+        go (inr e) g = let l : pointer ≤ start is.home = st.lowest is.home is.among in
+            far (omega arith) (omega arith) (subst (λ n. IsGapped n p.start) e g)
+            (cases_lt pointer (first_place is.home))
 
     pub first-outside : IsOutside all pointer
     first-outside p i pinned =
@@ -184,16 +121,19 @@ module _ (segments : List SegInfo) (all : List Plug) (h : ArePlugs segments all)
         inl (omega arith)
 
     pub first-aligned : pointer % 8 ≡ 0
-    first-aligned = let (a, b) = st.aligned st.base st.among in let e : start st.base ≡ pointer = st.begins in omega arith
+    first-aligned = let (a, b) = st.aligned st.base st.among in let e : start st.base ≡ pointer = st.begins in
+        omega arith
 
     pub done : IsWalked segments all source pointer ps whole after
-    done = walked segments all h whole source sources pointer ps whole after walk line (first-near ps line) first-outside (first-aligned, inl refl) (λ v i. i)
+    done = walked segments all h whole source sources pointer ps whole after walk line
+        (first-near ps line) first-outside (first-aligned, inl refl) (λ v i. i)
 
     abbrev pub blocks_in : SegInfo → List Piece
     blocks_in s = pieces_in s (moved_pieces whole)
 
     -- what stands in two segments stands in one
-    one_home : (s t : SegInfo) (place : ℕ) → IsIn s segments → IsIn t segments → first_place s ≤ place → place ≤ reserved_end s → first_place t ≤ place → place ≤ reserved_end t → s ≡ t
+    one_home : (s t : SegInfo) (place : ℕ) → IsIn s segments → IsIn t segments → first_place s ≤ place
+        → place ≤ reserved_end s → first_place t ≤ place → place ≤ reserved_end t → s ≡ t
     one_home s t place i j a b c d = go (h.separate s t i j)
       where
         go : AreSeparate s t → s ≡ t
@@ -202,15 +142,18 @@ module _ (segments : List SegInfo) (all : List Plug) (h : ArePlugs segments all)
         go (inr (inr l)) = absurd (omega arith)
 
     stands : (s : SegInfo) (place : ℕ) → first_place s ≤ place → place < reserved_end s → stands_in s place ≡ true
-    stands s place a b = and_from (nat_le (first_place s) place) (nat_lt place (reserved_end s)) (le-leb (first_place s) place a) (lt-ltb place (reserved_end s) b)
+    stands s place a b = and_from (nat_le (first_place s) place) (nat_lt place (reserved_end s))
+        (le-leb (first_place s) place a) (lt-ltb place (reserved_end s) b)
 
-    block_of : (s : SegInfo) (v : Move) → IsIn v whole → first_place s ≤ v.to → v.to < reserved_end s → IsIn (piece_of_move v) (blocks_in s)
+    block_of : (s : SegInfo) (v : Move) → IsIn v whole → first_place s ≤ v.to → v.to < reserved_end s
+        → IsIn (piece_of_move v) (blocks_in s)
     block_of s v i a b =
         into_filter (λ (p : Piece). stands_in s p.place) (moved_pieces whole) (stands s v.to a b)
         (into_sorted_by (λ (p : Piece). p.place) (piece_of_move v) (map piece_of_move whole) (IsIn-map piece_of_move i))
 
     -- a place in the segment from which a plug may start is the start of its part or a piece's end
-    pub source-end : (s : SegInfo) (place : ℕ) → IsIn s segments → first_place s ≤ place → place ≤ reserved_end s → start s ≤ place → source place → IsEnd (start s) (blocks_in s) place
+    pub source-end : (s : SegInfo) (place : ℕ) → IsIn s segments → first_place s ≤ place → place ≤ reserved_end s
+        → start s ≤ place → source place → IsEnd (start s) (blocks_in s) place
     source-end s place i a b c (al, inl e) =
         let l : first_place st.base ≤ start st.base = st.low st.base st.among in
         let u : start st.base ≤ reserved_end st.base = st.high st.base st.among in
@@ -238,7 +181,8 @@ module _ (segments : List SegInfo) (all : List Plug) (h : ArePlugs segments all)
     source-end s place i a b c (al, inr (inr e)) =
         let t : SegInfo = e.fits.0 in
         let low : first_place t ≤ e.move.to = e.fits.2 in
-        let clear : IsClear all t e.plug.size e.move.to = room-clear segments all h t e.plug.size e.move.to e.fits.1 e.fits.4 in
+        let clear : IsClear all t e.plug.size e.move.to =
+        room-clear segments all h t e.plug.size e.move.to e.fits.1 e.fits.4 in
         let tail : e.move.to + e.plug.size ≤ reserved_end t = clear.tail in
         let size : e.move.size ≡ e.plug.size = e.size in
         let big : 24 ≤ e.plug.size = (h.each e.plug e.known).size in
@@ -269,20 +213,37 @@ module _ (segments : List SegInfo) (all : List Plug) (h : ArePlugs segments all)
     pub block-is : (s : SegInfo) (b : Piece) → IsIn b (blocks_in s) → IsBlock s b
     block-is s b i =
         let (t, j) = out_of_filter (λ (p : Piece). stands_in s p.place) b (moved_pieces whole) i in
-        let (v, e, k) = from-map piece_of_move b whole (out_of_sorted_by (λ (p : Piece). p.place) b (map piece_of_move whole) j) in
+        let (v, e, k) = from-map piece_of_move b whole
+        (out_of_sorted_by (λ (p : Piece). p.place) b (map piece_of_move whole) j) in
         let (p, m, (landed, (above, below))) =
-        plug_of_move (λ p v. IsLanded segments all source p v × ((p.pinned ≡ false → pointer ≤ v.to) × (p.pinned ≡ false → v.to + v.size ≤ after))) ps whole v
-        (each_both (IsLanded segments all source) (λ p v. (p.pinned ≡ false → pointer ≤ v.to) × (p.pinned ≡ false → v.to + v.size ≤ after)) ps whole done.landed
-        (each_both (λ p v. p.pinned ≡ false → pointer ≤ v.to) (λ p v. p.pinned ≡ false → v.to + v.size ≤ after) ps whole done.above done.below)) k
+        plug_of_move (λ p v. IsLanded segments all source p v
+        × ((p.pinned ≡ false → pointer ≤ v.to) × (p.pinned ≡ false → v.to + v.size ≤ after))) ps whole v
+        (each_both (IsLanded segments all source)
+        (λ p v. (p.pinned ≡ false → pointer ≤ v.to)
+        × (p.pinned ≡ false → v.to + v.size ≤ after)) ps whole done.landed
+        (each_both (λ p v. p.pinned ≡ false → pointer ≤ v.to) (λ p v. p.pinned ≡ false
+        → v.to + v.size ≤ after) ps whole done.above done.below)) k
         in
         let place : b.place ≡ v.to = ap (λ (p : Piece). p.place) e in
         let (l, u) = and_parts (nat_le (first_place s) b.place) (nat_lt b.place (reserved_end s)) t in
         let l' : first_place s ≤ b.place = leb-true (first_place s) b.place l in
         let u' : b.place < reserved_end s = ltb-true b.place (reserved_end s) u in
-        record { plug = p; move = v; known = in_line-among ps p line m; among = k; is = e; landed = landed; above = above; below = below; low = omega arith; high = omega arith }
+        record {
+          plug = p;
+          move = v;
+          known = in_line-among ps p line m;
+          among = k;
+          is = e;
+          landed = landed;
+          above = above;
+          below = below;
+          low = omega arith;
+          high = omega arith;
+        }
 
     -- the segment of a pinned plug that stands in this one
-    pin-home : (s : SegInfo) → IsIn s segments → (a : Piece) (b : IsBlock s a) → b.plug.pinned ≡ true → b.plug.segment ≡ s.base
+    pin-home : (s : SegInfo) → IsIn s segments → (a : Piece) (b : IsBlock s a) → b.plug.pinned ≡ true
+        → b.plug.segment ≡ s.base
     pin-home s i a b pinned =
         let is : IsPlug segments b.plug = h.each b.plug b.known in
         let at : b.move.to ≡ b.plug.start = b.landed.pinned pinned in
@@ -290,7 +251,8 @@ module _ (segments : List SegInfo) (all : List Plug) (h : ArePlugs segments all)
         let u : plug_end b.plug ≤ reserved_end is.home = is.high in
         let l : first_place s ≤ b.move.to = b.low in
         let m : b.move.to < reserved_end s = b.high in
-        let same : is.home ≡ s = one_home is.home s b.plug.start is.among i (omega arith) (omega arith) (omega arith) (omega arith) in
+        let same : is.home ≡ s = one_home is.home s b.plug.start is.among i (omega arith) (omega arith) (omega arith)
+        (omega arith) in
         is.of ∙ ap (λ (t : SegInfo). t.base) same
 
     block-above : (s : SegInfo) → IsIn s segments → (a : Piece) (b : IsBlock s a) → start s ≤ b.move.to
@@ -300,14 +262,16 @@ module _ (segments : List SegInfo) (all : List Plug) (h : ArePlugs segments all)
         l = b.low
 
         go : (t : Bool) → b.plug.pinned ≡ t → (start s ≡ pointer) ⊎ (start s ≡ first_place s) → start s ≤ b.move.to
-        go true e k = let at : b.move.to ≡ b.plug.start = b.landed.pinned e in let g : IsGapped (start s) b.plug.start = st.plugs s b.plug i b.known (pin-home s i a b e) in omega arith
+        go true e k = let at : b.move.to ≡ b.plug.start = b.landed.pinned e in
+            let g : IsGapped (start s) b.plug.start = st.plugs s b.plug i b.known (pin-home s i a b e) in omega arith
         go false e (inl k) = let up : pointer ≤ b.move.to = b.above e in omega arith
         go false e (inr k) = omega arith
 
     blocks-rise : (s : SegInfo) → IsRisingBy (λ (p : Piece). p.place) (blocks_in s)
     blocks-rise s =
         filter-rises (λ (p : Piece). stands_in s p.place) (λ (p : Piece). p.place) (moved_pieces whole)
-        (sorted_by-rises (λ (p : Piece). p.place) (map piece_of_move whole) (scattered-distinct (map piece_of_move whole) scattered sized))
+        (sorted_by-rises (λ (p : Piece). p.place) (map piece_of_move whole)
+        (scattered-distinct (map piece_of_move whole) scattered sized))
       where
         scattered : AreScattered (map piece_of_move whole)
         scattered = landed-scattered segments all h source ps whole line done.landed done.ordered
@@ -332,16 +296,20 @@ module _ (segments : List SegInfo) (all : List Plug) (h : ArePlugs segments all)
         ((omega arith, omega arith), go b at b.plug.pinned refl)
       where
         go : (b : IsBlock s a) → a.place ≡ b.move.to → (t : Bool) → b.plug.pinned ≡ t → a.place % 8 ≡ 0
-        go b at true e = let (x, y) = st.whole b.plug b.known in let k : b.move.to ≡ b.plug.start = b.landed.pinned e in omega arith
+        go b at true e = let (x, y) = st.whole b.plug b.known in let k : b.move.to ≡ b.plug.start = b.landed.pinned e in
+            omega arith
         go b at false e = let k : source b.move.to = b.landed.from e in let m : b.move.to % 8 ≡ 0 = k.0 in omega arith
 
     -- pieces of one segment are apart
-    block-apart : (s : SegInfo) (a b : Piece) → IsIn a (blocks_in s) → IsIn b (blocks_in s) → a.place < b.place → piece_end a ≤ b.place
+    block-apart : (s : SegInfo) (a b : Piece) → IsIn a (blocks_in s) → IsIn b (blocks_in s) → a.place < b.place
+        → piece_end a ≤ b.place
     block-apart s a b i j l =
-        go (scattered-apart (map piece_of_move whole) a b (landed-scattered segments all h source ps whole line done.landed done.ordered) (back a i) (back b j))
+        go (scattered-apart (map piece_of_move whole) a b
+        (landed-scattered segments all h source ps whole line done.landed done.ordered) (back a i) (back b j))
       where
         back : (c : Piece) → IsIn c (blocks_in s) → IsIn c (map piece_of_move whole)
-        back c k = out_of_sorted_by (λ (p : Piece). p.place) c (map piece_of_move whole) (out_of_filter (λ (p : Piece). stands_in s p.place) c (moved_pieces whole) k).1
+        back c k = out_of_sorted_by (λ (p : Piece). p.place) c (map piece_of_move whole)
+            (out_of_filter (λ (p : Piece). stands_in s p.place) c (moved_pieces whole) k).1
 
         go : (a ≡ b) ⊎ ((piece_end a ≤ b.place) ⊎ (piece_end b ≤ a.place)) → piece_end a ≤ b.place
         go (inl e) = let same : a.place ≡ b.place = ap (λ (p : Piece). p.place) e in absurd (omega arith)
@@ -349,7 +317,8 @@ module _ (segments : List SegInfo) (all : List Plug) (h : ArePlugs segments all)
         go (inr (inr k)) = absurd (omega arith)
 
     -- up to a pinned plug is nothing, or room for a free item
-    pin-gapped : (s : SegInfo) (a d : Piece) (b : IsBlock s d) → IsIn a (blocks_in s) → b.plug.pinned ≡ true → piece_end a ≤ b.move.to → IsGapped (piece_end a) b.move.to
+    pin-gapped : (s : SegInfo) (a d : Piece) (b : IsBlock s d) → IsIn a (blocks_in s) → b.plug.pinned ≡ true
+        → piece_end a ≤ b.move.to → IsGapped (piece_end a) b.move.to
     pin-gapped s a d b i pinned l = go (block-is s a i)
       where
         to : b.move.to ≡ b.plug.start
@@ -367,8 +336,10 @@ module _ (segments : List SegInfo) (all : List Plug) (h : ArePlugs segments all)
             z : 24 ≤ c.plug.size
             z = (h.each c.plug c.known).size
 
-            by_fit : (plug_end b.plug ≤ c.move.to) ⊎ IsGapped (c.move.to + c.plug.size) b.plug.start → IsGapped (piece_end a) b.move.to
-            by_fit (inl k) = let zb : 24 ≤ b.plug.size = (h.each b.plug b.known).size in let e = ends in let t = to in let sz = size in absurd (omega arith)
+            by_fit : (plug_end b.plug ≤ c.move.to) ⊎ IsGapped (c.move.to + c.plug.size) b.plug.start
+                → IsGapped (piece_end a) b.move.to
+            by_fit (inl k) = let zb : 24 ≤ b.plug.size = (h.each b.plug b.known).size in let e = ends in let t = to in
+                let sz = size in absurd (omega arith)
             by_fit (inr k) = let e = ends in let t = to in let sz = size in grind arith
 
             by_pin : (t : Bool) → c.plug.pinned ≡ t → IsGapped (piece_end a) b.move.to
@@ -377,7 +348,8 @@ module _ (segments : List SegInfo) (all : List Plug) (h : ArePlugs segments all)
                 let t = to in let sz = size in let en = ends in let zz = z in
                 let g : IsGapped (plug_end c.plug) b.plug.start = h.apart c.plug b.plug c.known b.known (omega arith) in
                 grind arith
-            by_pin false e = by_fit (fit-between segments all h c.plug.size c.move.to (c.landed.outside e) (c.landed.fits e) b.plug b.known pinned)
+            by_pin false e = by_fit (fit-between segments all h c.plug.size c.move.to (c.landed.outside e)
+                (c.landed.fits e) b.plug b.known pinned)
 
     pub blocks : (s : SegInfo) → IsIn s segments → AreBlocks (start s) (blocks_in s)
     blocks s i = record {
@@ -385,7 +357,8 @@ module _ (segments : List SegInfo) (all : List Plug) (h : ArePlugs segments all)
       apart = block-apart s;
       lawful = λ a j. (block-size s a j).0;
       aligned = λ a j. (block-size s a j).1;
-      above = λ a j. let b : IsBlock s a = block-is s a j in let l : start s ≤ b.move.to = block-above s i a b in let e : a.place ≡ b.move.to = ap (λ (p : Piece). p.place) b.is in omega arith;
+      above = λ a j. let b : IsBlock s a = block-is s a j in let l : start s ≤ b.move.to = block-above s i a b in
+          let e : a.place ≡ b.move.to = ap (λ (p : Piece). p.place) b.is in omega arith;
       start = (st.aligned s i).1;
       joined = joined;
     }
@@ -402,17 +375,26 @@ module _ (segments : List SegInfo) (all : List Plug) (h : ArePlugs segments all)
                 by_pin : (t : Bool) → b.plug.pinned ≡ t → IsJoined (start s) (blocks_in s) a
                 by_pin true e =
                     let to : b.move.to ≡ b.plug.start = b.landed.pinned e in
-                    inr (subst (IsGapped (start s)) (sym (at ∙ to)) (st.plugs s b.plug i b.known (pin-home s i a b e)), λ c k l. subst (IsGapped (piece_end c)) (sym at) (pin-gapped s c a b k e (subst (λ n. piece_end c ≤ n) at l)))
+                    inr (
+                      subst (IsGapped (start s)) (sym (at ∙ to))
+                          (st.plugs s b.plug i b.known (pin-home s i a b e)),
+                      λ c k l. subst (IsGapped (piece_end c))
+                          (sym at) (pin-gapped s c a b k e (subst (λ n. piece_end c ≤ n) at l)),
+                    )
                 by_pin false e =
                     let up : b.move.to < reserved_end s = b.high in
-                    inl (subst (IsEnd (start s) (blocks_in s)) (sym at) (source-end s b.move.to i b.low (omega arith) (block-above s i a b) (b.landed.from e)))
+                    inl (subst (IsEnd (start s) (blocks_in s)) (sym at)
+                    (source-end s b.move.to i b.low (omega arith) (block-above s i a b) (b.landed.from e)))
 
     -- the pieces of a segment and the gaps between them tile it from the start of its part to the end of its last piece
-    pub segment-tiles : (s : SegInfo) → IsIn s segments → Tiles (start s) (end_of_last (start s) (blocks_in s)) (by_place (blocks_in s ++ gaps (start s) (end_of_last (start s) (blocks_in s)) (blocks_in s)))
+    pub segment-tiles : (s : SegInfo) → IsIn s segments
+        → Tiles (start s) (end_of_last (start s) (blocks_in s))
+        (by_place (blocks_in s ++ gaps (start s) (end_of_last (start s) (blocks_in s)) (blocks_in s)))
     segment-tiles s i = blocks-and-gaps-tile (start s) (blocks_in s) (blocks s i)
 
     -- each gap is followed directly by a pinned plug
-    pub gap-before-pin : (s : SegInfo) → IsIn s segments → (g : Piece) → IsIn g (gaps (start s) (end_of_last (start s) (blocks_in s)) (blocks_in s)) → IsBeforePin all g
+    pub gap-before-pin : (s : SegInfo) → IsIn s segments → (g : Piece)
+        → IsIn g (gaps (start s) (end_of_last (start s) (blocks_in s)) (blocks_in s)) → IsBeforePin all g
     gap-before-pin s i g j = go (gaps-are (start s) (blocks_in s) (blocks s i) g j)
       where
         go : IsGapPiece (start s) (blocks_in s) g → IsBeforePin all g
@@ -425,10 +407,17 @@ module _ (segments : List SegInfo) (all : List Plug) (h : ArePlugs segments all)
                 at = ap (λ (p : Piece). p.place) b.is
 
                 by_pin : (t : Bool) → b.plug.pinned ≡ t → IsBeforePin all g
-                by_pin true e = record { plug = b.plug; known = b.known; pinned = e; ends = k.ends ∙ at ∙ b.landed.pinned e; lawful = k.lawful }
+                by_pin true e = record {
+                  plug = b.plug;
+                  known = b.known;
+                  pinned = e;
+                  ends = k.ends ∙ at ∙ b.landed.pinned e;
+                  lawful = k.lawful;
+                }
                 by_pin false e =
                     let up : b.move.to < reserved_end s = b.high in
-                    absurd (k.not_end (subst (IsEnd (start s) (blocks_in s)) (sym at) (source-end s b.move.to i b.low (omega arith) (block-above s i k.before b) (b.landed.from e))))
+                    absurd (k.not_end (subst (IsEnd (start s) (blocks_in s)) (sym at)
+                    (source-end s b.move.to i b.low (omega arith) (block-above s i k.before b) (b.landed.from e))))
 
     -- a piece of the segment ends in its reservation
     pub block-high : (s : SegInfo) → IsIn s segments → (a : Piece) → IsIn a (blocks_in s) → piece_end a ≤ reserved_end s
@@ -451,88 +440,123 @@ module _ (segments : List SegInfo) (all : List Plug) (h : ArePlugs segments all)
                 omega arith
             by_pin false e =
                 let t = b.landed.fits e in
-                let clear : IsClear all t.0 b.plug.size b.move.to = room-clear segments all h t.0 b.plug.size b.move.to t.1 t.4 in
+                let clear : IsClear all t.0 b.plug.size b.move.to =
+                room-clear segments all h t.0 b.plug.size b.move.to t.1 t.4 in
                 let tail : b.move.to + b.plug.size ≤ reserved_end t.0 = clear.tail in
                 let m : first_place t.0 ≤ b.move.to = t.2 in
                 let n : first_place s ≤ b.move.to = b.low in
                 let o : b.move.to < reserved_end s = b.high in
-                let same : t.0 ≡ s = one_home t.0 s b.move.to t.1 i (omega arith) (omega arith) (omega arith) (omega arith) in
+                let same : t.0 ≡ s = one_home t.0 s b.move.to t.1 i (omega arith) (omega arith) (omega arith)
+                (omega arith) in
                 let base : reserved_end t.0 ≡ reserved_end s = ap (λ (u : SegInfo). u.base + u.reserved) same in
                 let en = ends in let sz = size in
                 omega arith
 
     -- a place from which a plug may start is crossed by no gap
-    pub gap-outside : (s : SegInfo) → IsIn s segments → (g : Piece) → IsIn g (gaps (start s) (end_of_last (start s) (blocks_in s)) (blocks_in s)) → (place : ℕ) → IsEnd (start s) (blocks_in s) place → (place ≤ g.place) ⊎ (piece_end g ≤ place)
+    pub gap-outside : (s : SegInfo) → IsIn s segments → (g : Piece)
+        → IsIn g (gaps (start s) (end_of_last (start s) (blocks_in s)) (blocks_in s)) → (place : ℕ)
+        → IsEnd (start s) (blocks_in s) place → (place ≤ g.place) ⊎ (piece_end g ≤ place)
     gap-outside s i g j place end = go end (gaps-are (start s) (blocks_in s) (blocks s i) g j)
       where
-        split : (a : Piece) → piece_end a ≡ place → (piece_end a ≤ g.place) ⊎ (piece_end g ≤ a.place) → (place ≤ g.place) ⊎ (piece_end g ≤ place)
+        split : (a : Piece) → piece_end a ≡ place → (piece_end a ≤ g.place) ⊎ (piece_end g ≤ a.place)
+            → (place ≤ g.place) ⊎ (piece_end g ≤ place)
         split a e (inl l) = inl (omega arith)
         split a e (inr l) = inr (omega arith)
 
-        go : IsEnd (start s) (blocks_in s) place → IsGapPiece (start s) (blocks_in s) g → (place ≤ g.place) ⊎ (piece_end g ≤ place)
+        go : IsEnd (start s) (blocks_in s) place → IsGapPiece (start s) (blocks_in s) g
+            → (place ≤ g.place) ⊎ (piece_end g ≤ place)
         go (inl e) k = let l : start s ≤ g.place = k.start in inl (omega arith)
         go (inr (a, m, e)) k = split a e (k.free a m)
 
     -- ---- the end of the segment in which the walk ended
 
-    end-up : (low : ℕ) (qs : List Plug) → IsRisingBy (λ (p : Plug). p.start) qs → ((p : Plug) → IsIn p qs → IsIn p all) → ((p : Plug) → IsIn p qs → low ≤ p.start) → low ≤ end_of_last low (map piece_of_plug qs)
+    end-up : (low : ℕ) (qs : List Plug) → IsRisingBy (λ (p : Plug). p.start) qs → ((p : Plug) → IsIn p qs → IsIn p all)
+        → ((p : Plug) → IsIn p qs → low ≤ p.start) → low ≤ end_of_last low (map piece_of_plug qs)
     end-up low [] rise sub above = omega arith
     end-up low (q ∷ qs) rise sub above =
         let l : low ≤ q.start = above q first in
         let m : plug_end q ≤ end_of_last (plug_end q) (map piece_of_plug qs) =
-        end-up (plug_end q) qs rise.1 (λ r j. sub r (later j)) (λ r j. let g : IsGapped (plug_end q) r.start = h.apart q r (sub q first) (sub r (later j)) (all_at (λ (w : Plug). q.start < w.start) j rise.0) in omega arith)
+        end-up (plug_end q) qs rise.1 (λ r j. sub r (later j))
+        (λ r j. let g : IsGapped (plug_end q) r.start =
+        h.apart q r (sub q first) (sub r (later j)) (all_at (λ (w : Plug). q.start < w.start) j rise.0) in
+        omega arith)
         in omega arith
 
-    last-above : (low : ℕ) (qs : List Plug) → IsRisingBy (λ (p : Plug). p.start) qs → ((p : Plug) → IsIn p qs → IsIn p all) → (p : Plug) → IsIn p qs → plug_end p ≤ end_of_last low (map piece_of_plug qs)
+    last-above : (low : ℕ) (qs : List Plug) → IsRisingBy (λ (p : Plug). p.start) qs
+        → ((p : Plug) → IsIn p qs → IsIn p all) → (p : Plug) → IsIn p qs
+        → plug_end p ≤ end_of_last low (map piece_of_plug qs)
     last-above low [] rise sub p i = elim i [ ]
-    last-above low (q ∷ qs) rise sub p i = go (in_cons i) (last-above (plug_end q) qs rise.1 (λ r j. sub r (later j)) p) (end-up (plug_end q) qs rise.1 (λ r j. sub r (later j)) (λ r j. above r j))
+    last-above low (q ∷ qs) rise sub p i =
+        go (in_cons i) (last-above (plug_end q) qs rise.1 (λ r j. sub r (later j)) p)
+        (end-up (plug_end q) qs rise.1 (λ r j. sub r (later j)) (λ r j. above r j))
       where
         above : (r : Plug) → IsIn r qs → plug_end q ≤ r.start
-        above r j = let g : IsGapped (plug_end q) r.start = h.apart q r (sub q first) (sub r (later j)) (all_at (λ (w : Plug). q.start < w.start) j rise.0) in omega arith
+        above r j = let g : IsGapped (plug_end q) r.start =
+            h.apart q r (sub q first) (sub r (later j)) (all_at (λ (w : Plug). q.start < w.start) j rise.0) in
+            omega arith
 
-        go : (p ≡ q) ⊎ IsIn p qs → (IsIn p qs → plug_end p ≤ end_of_last (plug_end q) (map piece_of_plug qs)) → plug_end q ≤ end_of_last (plug_end q) (map piece_of_plug qs) → plug_end p ≤ end_of_last (plug_end q) (map piece_of_plug qs)
+        go : (p ≡ q) ⊎ IsIn p qs → (IsIn p qs → plug_end p ≤ end_of_last (plug_end q) (map piece_of_plug qs))
+            → plug_end q ≤ end_of_last (plug_end q) (map piece_of_plug qs)
+            → plug_end p ≤ end_of_last (plug_end q) (map piece_of_plug qs)
         go (inl e) more up = let same : plug_end p ≡ plug_end q = ap (λ (w : Plug). w.start + w.size) e in omega arith
         go (inr j) more up = more j
 
     -- where the last plug ends, or the low place where there is none
-    last-is-one : (low : ℕ) (qs : List Plug) → (end_of_last low (map piece_of_plug qs) ≡ low) ⊎ ((p : Plug) × IsIn p qs × (end_of_last low (map piece_of_plug qs) ≡ plug_end p))
+    last-is-one : (low : ℕ) (qs : List Plug)
+        → (end_of_last low (map piece_of_plug qs) ≡ low)
+        ⊎ ((p : Plug) × IsIn p qs × (end_of_last low (map piece_of_plug qs) ≡ plug_end p))
     last-is-one low [] = inl refl
     last-is-one low (q ∷ qs) = go (last-is-one (plug_end q) qs)
       where
-        go : (end_of_last (plug_end q) (map piece_of_plug qs) ≡ plug_end q) ⊎ ((p : Plug) × IsIn p qs × (end_of_last (plug_end q) (map piece_of_plug qs) ≡ plug_end p))
-            → (end_of_last (plug_end q) (map piece_of_plug qs) ≡ low) ⊎ ((p : Plug) × IsIn p (q ∷ qs) × (end_of_last (plug_end q) (map piece_of_plug qs) ≡ plug_end p))
+        go : (end_of_last (plug_end q) (map piece_of_plug qs) ≡ plug_end q)
+            ⊎ ((p : Plug) × IsIn p qs × (end_of_last (plug_end q) (map piece_of_plug qs) ≡ plug_end p))
+            → (end_of_last (plug_end q) (map piece_of_plug qs) ≡ low)
+            ⊎ ((p : Plug) × IsIn p (q ∷ qs) × (end_of_last (plug_end q) (map piece_of_plug qs) ≡ plug_end p))
         go (inl e) = inr (q, first, e)
         go (inr (p, i, e)) = inr (p, later i, e)
 
-    pub raised-source : (qs : List Plug) → ((p : Plug) → IsIn p qs → IsIn p all) → (place : ℕ) → source place → source (raised_past_pins qs place)
+    pub raised-source : (qs : List Plug) → ((p : Plug) → IsIn p qs → IsIn p all) → (place : ℕ) → source place
+        → source (raised_past_pins qs place)
     raised-source qs sub place s = go (raised_is qs place)
       where
-        go : (raised_past_pins qs place ≡ place) ⊎ ((p : Plug) × IsIn p qs × (p.pinned ≡ true) × (raised_past_pins qs place ≡ plug_end p)) → source (raised_past_pins qs place)
+        go : (raised_past_pins qs place ≡ place)
+            ⊎ ((p : Plug) × IsIn p qs × (p.pinned ≡ true) × (raised_past_pins qs place ≡ plug_end p))
+            → source (raised_past_pins qs place)
         go (inl e) = subst source (sym e) s
         go (inr (p, i, pinned, e)) = sources.edge (raised_past_pins qs place) (inl (p, sub p i, pinned, e))
 
-    pub raised-outside : (qs : List Plug) → ((p : Plug) → IsIn p qs → IsIn p all) → (place : ℕ) → IsOutside all place → IsOutside all (raised_past_pins qs place)
+    pub raised-outside : (qs : List Plug) → ((p : Plug) → IsIn p qs → IsIn p all) → (place : ℕ) → IsOutside all place
+        → IsOutside all (raised_past_pins qs place)
     raised-outside qs sub place out = go (raised_is qs place)
       where
-        go : (raised_past_pins qs place ≡ place) ⊎ ((p : Plug) × IsIn p qs × (p.pinned ≡ true) × (raised_past_pins qs place ≡ plug_end p)) → IsOutside all (raised_past_pins qs place)
+        go : (raised_past_pins qs place ≡ place)
+            ⊎ ((p : Plug) × IsIn p qs × (p.pinned ≡ true) × (raised_past_pins qs place ≡ plug_end p))
+            → IsOutside all (raised_past_pins qs place)
         go (inl e) = subst (IsOutside all) (sym e) out
-        go (inr (p, i, pinned, e)) = edge-outside segments all h (raised_past_pins qs place) (inl (p, sub p i, pinned, e))
+        go (inr (p, i, pinned, e)) = edge-outside segments all h (raised_past_pins qs place)
+            (inl (p, sub p i, pinned, e))
 
     -- a place from which a plug may start is at most the end of some reservation
     source-high : (place : ℕ) → source place → (t : SegInfo) × IsIn t segments × (place ≤ reserved_end t)
-    source-high place (al, inl e) = let l : start st.base ≤ reserved_end st.base = st.high st.base st.among in let b : start st.base ≡ pointer = st.begins in (st.base, st.among, omega arith)
-    source-high place (al, inr (inl (inl (p, i, pinned, e)))) = let is : IsPlug segments p = h.each p i in let l : plug_end p ≤ reserved_end is.home = is.high in (is.home, is.among, omega arith)
-    source-high place (al, inr (inl (inr (s, i, e)))) = let l : 0x2000 ≤ s.reserved = h.reserved s i in (s, i, omega arith)
+    source-high place (al, inl e) = let l : start st.base ≤ reserved_end st.base = st.high st.base st.among in
+        let b : start st.base ≡ pointer = st.begins in (st.base, st.among, omega arith)
+    source-high place (al, inr (inl (inl (p, i, pinned, e)))) = let is : IsPlug segments p = h.each p i in
+        let l : plug_end p ≤ reserved_end is.home = is.high in (is.home, is.among, omega arith)
+    source-high place (al, inr (inl (inr (s, i, e)))) = let l : 0x2000 ≤ s.reserved = h.reserved s i in
+        (s, i, omega arith)
     source-high place (al, inr (inr e)) =
-        let clear : IsClear all e.fits.0 e.plug.size e.move.to = room-clear segments all h e.fits.0 e.plug.size e.move.to e.fits.1 e.fits.4 in
+        let clear : IsClear all e.fits.0 e.plug.size e.move.to =
+        room-clear segments all h e.fits.0 e.plug.size e.move.to e.fits.1 e.fits.4 in
         let tail : e.move.to + e.plug.size ≤ reserved_end e.fits.0 = clear.tail in
         let size : e.move.size ≡ e.plug.size = e.size in
         let is : place ≡ e.move.to + e.move.size = e.is in
         (e.fits.0, e.fits.1, omega arith)
 
-    module _ (s : SegInfo) (i : IsIn s segments) (highest : (t : SegInfo) → IsIn t segments → reserved_end t ≤ reserved_end s) (reached : first_place s ≤ after) where
+    module _ (s : SegInfo) (i : IsIn s segments) (highest : (t : SegInfo) → IsIn t segments
+        → reserved_end t ≤ reserved_end s) (reached : first_place s ≤ after) where
       pub source-under : (place : ℕ) → source place → place ≤ reserved_end s
-      source-under place m = let (t, j, l) = source-high place m in let k : reserved_end t ≤ reserved_end s = highest t j in omega arith
+      source-under place m = let (t, j, l) = source-high place m in
+          let k : reserved_end t ≤ reserved_end s = highest t j in omega arith
 
       after-start : start s ≤ after
       after-start = let up : pointer ≤ after = done.rises in go (st.each s i) up
@@ -554,18 +578,21 @@ module _ (segments : List SegInfo) (all : List Plug) (h : ArePlugs segments all)
       start0-source = raised-source all (λ p j. j) after done.from
 
       pub start0-end : IsEnd (start s) (blocks_in s) start0
-      start0-end = let l = start0-up in let m = after-start in source-end s start0 i (omega arith) (source-under start0 start0-source) (omega arith) start0-source
+      start0-end = let l = start0-up in let m = after-start in
+          source-end s start0 i (omega arith) (source-under start0 start0-source) (omega arith) start0-source
 
       abbrev pub top : ℕ
       top = max start0 (end_of_last start0 (pinned_pieces s.base all))
 
       pin-in : (p : Plug) → IsIn p pins → (p.pinned ≡ true) × (p.segment ≡ s.base) × IsIn p all
-      pin-in p j = let (t, k) = out_of_filter (λ (p : Plug). p.pinned && (p.segment == s.base)) p all j in let (pinned, of) = and_parts p.pinned (p.segment == s.base) t in (pinned, eqb-true p.segment s.base of, k)
+      pin-in p j = let (t, k) = out_of_filter (λ (p : Plug). p.pinned && (p.segment == s.base)) p all j in
+          let (pinned, of) = and_parts p.pinned (p.segment == s.base) t in (pinned, eqb-true p.segment s.base of, k)
 
       top-end : IsEnd (start s) (blocks_in s) top
       top-end = go (last-is-one start0 pins)
         where
-          at_pin : (p : Plug) → IsIn p pins → end_of_last start0 (map piece_of_plug pins) ≡ plug_end p → (start0 ≤ plug_end p) ⊎ (plug_end p < start0) → IsEnd (start s) (blocks_in s) top
+          at_pin : (p : Plug) → IsIn p pins → end_of_last start0 (map piece_of_plug pins) ≡ plug_end p
+              → (start0 ≤ plug_end p) ⊎ (plug_end p < start0) → IsEnd (start s) (blocks_in s) top
           at_pin p j e (inr l) = subst (IsEnd (start s) (blocks_in s)) (omega arith) start0-end
           at_pin p j e (inl l) =
               let (pinned, of, k) = pin-in p j in
@@ -573,13 +600,16 @@ module _ (segments : List SegInfo) (all : List Plug) (h : ArePlugs segments all)
               let from : source (plug_end p) = sources.edge (plug_end p) edge in
               let up = start0-up in
               let m = after-start in
-              subst (IsEnd (start s) (blocks_in s)) (omega arith) (source-end s (plug_end p) i (omega arith) (source-under (plug_end p) from) (omega arith) from)
+              subst (IsEnd (start s) (blocks_in s)) (omega arith)
+              (source-end s (plug_end p) i (omega arith) (source-under (plug_end p) from) (omega arith) from)
 
           order : (m n : ℕ) → (m < n) ⊎ (n ≤ m) → (n ≤ m) ⊎ (m < n)
           order m n (inl l) = inr l
           order m n (inr l) = inl l
 
-          go : (end_of_last start0 (map piece_of_plug pins) ≡ start0) ⊎ ((p : Plug) × IsIn p pins × (end_of_last start0 (map piece_of_plug pins) ≡ plug_end p)) → IsEnd (start s) (blocks_in s) top
+          go : (end_of_last start0 (map piece_of_plug pins) ≡ start0)
+              ⊎ ((p : Plug) × IsIn p pins × (end_of_last start0 (map piece_of_plug pins) ≡ plug_end p))
+              → IsEnd (start s) (blocks_in s) top
           go (inl e) = subst (IsEnd (start s) (blocks_in s)) (omega arith) start0-end
           go (inr (p, j, e)) = at_pin p j e (order (plug_end p) start0 (cases_lt (plug_end p) start0))
 
@@ -594,13 +624,18 @@ module _ (segments : List SegInfo) (all : List Plug) (h : ArePlugs segments all)
 
               by_pin : (t : Bool) → b.plug.pinned ≡ t → piece_end a ≤ top
               by_pin true e =
-                  let k : IsIn b.plug pins = into_filter (λ (p : Plug). p.pinned && (p.segment == s.base)) all (and_from b.plug.pinned (b.plug.segment == s.base) e (eq-eqb b.plug.segment s.base (pin-home s i a b e))) b.known in
-                  let l : plug_end b.plug ≤ end_of_last start0 (map piece_of_plug pins) = last-above start0 pins (filter-rises (λ (p : Plug). p.pinned && (p.segment == s.base)) (λ (p : Plug). p.start) all h.rise) (λ p m. (pin-in p m).2) b.plug k in
+                  let k : IsIn b.plug pins = into_filter (λ (p : Plug). p.pinned && (p.segment == s.base)) all
+                  (and_from b.plug.pinned (b.plug.segment == s.base) e
+                  (eq-eqb b.plug.segment s.base (pin-home s i a b e))) b.known in
+                  let l : plug_end b.plug ≤ end_of_last start0 (map piece_of_plug pins) =
+                  last-above start0 pins (filter-rises (λ (p : Plug). p.pinned && (p.segment == s.base))
+                  (λ (p : Plug). p.start) all h.rise) (λ p m. (pin-in p m).2) b.plug k in
                   let to : b.move.to ≡ b.plug.start = b.landed.pinned e in
                   let size : b.move.size ≡ b.plug.size = b.landed.size in
                   let en = ends in
                   omega arith
-              by_pin false e = let l : b.move.to + b.move.size ≤ after = b.below e in let up = start0-up in let en = ends in omega arith
+              by_pin false e = let l : b.move.to + b.move.size ≤ after = b.below e in let up = start0-up in
+                  let en = ends in omega arith
 
       -- the segment's new end is where its last piece ends
       pub top-is : top ≡ end_of_last (start s) (blocks_in s)

@@ -1,5 +1,6 @@
 -- Words with spaces between them are read again in one way.
-use Rattle.std.proofs.Common.{◌≡◌, ◌==◌, ◌∙◌, ℕ, zero, suc, false, List, [], ◌∷◌, ◌++◌, refl, sym, ap, drop, get_or, ◌≢◌, arith}
+use Rattle.std.proofs.Common.{◌≡◌, ◌==◌, ◌∙◌, ℕ, zero, suc, false, List, [], ◌∷◌, ◌++◌, refl, sym, ap, drop, get_or}
+use Rattle.std.proofs.Common.{◌≢◌, arith}
 use Rattle.std.specs.Prelude.{All}
 use Rattle.std.specs.List.{join_with_byte}
 use Rattle.std.proofs.lemmas.Bool.{ne_eqb}
@@ -38,7 +39,8 @@ no_cut (a ∷ w) [] s h e = h.0 (heads e)
 no_cut (a ∷ w) (b ∷ v) s h e = no_cut w v s h.1 (tails e)
 
 -- lists of words, none of them empty, that are spaced alike are one
-pub spaced_once : (w v : List ℕ) (ws vs : List (List ℕ)) → AllByRecursion IsUnspaced (w ∷ ws) → AllByRecursion IsUnspaced (v ∷ vs) → spaced (w ∷ ws) ≡ spaced (v ∷ vs) → ◌≡◌ {A = List (List ℕ)} (w ∷ ws) (v ∷ vs)
+pub spaced_once : (w v : List ℕ) (ws vs : List (List ℕ)) → AllByRecursion IsUnspaced (w ∷ ws)
+    → AllByRecursion IsUnspaced (v ∷ vs) → spaced (w ∷ ws) ≡ spaced (v ∷ vs) → ◌≡◌ {A = List (List ℕ)} (w ∷ ws) (v ∷ vs)
 spaced_once w v [] [] hw hv e = λ i. e i ∷ []
 spaced_once w v [] (x ∷ vs) hw hv e = absurd (no_cut w v (spaced (x ∷ vs)) hw.0 e)
 spaced_once w v (y ∷ ws) [] hw hv e = absurd (no_cut v w (spaced (y ∷ ws)) hv.0 (sym e))
@@ -55,10 +57,12 @@ unspaced_passes (b ∷ w) h zero d lt = ne_eqb b 32 h.0
 unspaced_passes (b ∷ w) h (suc k) d lt = unspaced_passes w h.1 k d (omega arith)
 
 -- words without spaces, with one between two of them, are found again
-pub words-spaced : (w : List ℕ) (ws : List (List ℕ)) → AllByRecursion IsUnspaced (w ∷ ws) → words (spaced (w ∷ ws)) ≡ w ∷ ws
+pub words-spaced : (w : List ℕ) (ws : List (List ℕ)) → AllByRecursion IsUnspaced (w ∷ ws)
+    → words (spaced (w ∷ ws)) ≡ w ∷ ws
 words-spaced w [] h = slice_split_none (λ b. b == 32) w (unspaced_passes w h.0)
 words-spaced w (v ∷ vs) h =
-    slice_split_at (λ b. b == 32) w 32 (spaced (v ∷ vs)) (unspaced_passes w h.0) refl ∙ ap (λ more. w ∷ more) (words-spaced v vs h.1)
+    slice_split_at (λ b. b == 32) w 32 (spaced (v ∷ vs)) (unspaced_passes w h.0) refl
+    ∙ ap (λ more. w ∷ more) (words-spaced v vs h.1)
 
 joined : (ws : List (List ℕ)) → join_with_byte 32 ws ≡ spaced ws
 joined [] = refl

@@ -1,13 +1,14 @@
 -- The words of an instruction have no spaces, so a line gives them back, and has one reading.
-use Rattle.std.proofs.Common.{◌≡◌, ◌≢◌, ◌==◌, ◌∙◌, ℕ, ◌+◌, ◌<◌, ◌^◌, ◌%◌, Bool, true, false, List, [], ◌∷◌, ◌++◌, refl, sym, ap, subst, arith, Option, Some, None, IfSome, decimal, codes, not}
+use Rattle.std.proofs.Common.{◌≡◌, ◌≢◌, ◌==◌, ◌∙◌, ℕ, ◌+◌, ◌<◌, ◌^◌, ◌%◌, Bool, true, false, List, [], ◌∷◌, ◌++◌, refl}
+use Rattle.std.proofs.Common.{sym, ap, subst, arith, Option, Some, None, IfSome, decimal, codes, not}
 use Rattle.std.specs.Prelude.{IsTrue}
 use Rattle.std.specs.List.{AllByRecursion, list_all}
 use Rattle.std.proofs.lemmas.Bool.{and_parts, both_ways, eq-eqb, not-true}
 use Rattle.std.proofs.lemmas.Fmt.{decimal_by_steps}
 use Rattle.clr_nums.specs.Numbers.{is_hex_digit, hex16}
 use Rattle.clr_nums.proofs.HexText.{list_all-hex16}
-use Rattle.clr_types.specs.declared.Kind.{Kind}
-use Rattle.clr_types.specs.declared.Kind.TheVariants.{Strong, Pinned, Weak, WeakLong, Dependent}
+use Rattle.clr_types.specs.declared.handle.Kind.{Kind}
+use Rattle.clr_types.specs.declared.handle.Kind.TheVariants.{Strong, Pinned, Weak, WeakLong, Dependent}
 use Rattle.clr_types.specs.Types.{Form, class_form, references_form, bytes_form, structs_form, is_pattern_byte}
 use Rattle.clr_model.specs.declared.How.{How}
 use Rattle.clr_model.specs.declared.How.TheVariants.{Decide, Compact, Sweep}
@@ -15,9 +16,18 @@ use Rattle.clr_model.specs.declared.Mode.{Mode}
 use Rattle.clr_model.specs.declared.Mode.TheVariants.{Full, Stat, Short}
 use Rattle.clr_model.specs.declared.Life.{Life}
 use Rattle.clr_model.specs.declared.Life.TheVariants.{Any, Live, Dead}
-use Rattle.clr_model.specs.Instructions.{Instruction, DumpOptions, define_type, new_object, get_slot, set_slot, put_number, read_number, copy_local, clear_local, suppress_object, reregister_object, collect_heap, suspend_others, resume_others, begin_set, begin_new, finish_step, create_handle, fetch_target, fetch_second, free_handle, take_ready, dump_heap, dump_object, show_root, show_segments, verify_heap, show_handles, show_queues, where_is}
+use Rattle.clr_model.specs.Instructions.{Instruction, DumpOptions, define_type, new_object, get_slot, set_slot}
+use Rattle.clr_model.specs.Instructions.{put_number, read_number, copy_local, clear_local, suppress_object}
+use Rattle.clr_model.specs.Instructions.{reregister_object, collect_heap, suspend_others, resume_others, begin_set}
+use Rattle.clr_model.specs.Instructions.{begin_new, finish_step, create_handle, fetch_target, fetch_second, free_handle}
+use Rattle.clr_model.specs.Instructions.{take_ready, dump_heap, dump_object, show_root, show_segments, verify_heap}
+use Rattle.clr_model.specs.Instructions.{show_handles, show_queues, where_is}
 use Rattle.clr_model.specs.ReplyText.{spaced, kind_word}
-use Rattle.clr_model.specs.LineGrammar.{IsLine, IsWellFormed, IsForm, IsWord, IsHandleForm, AreOptions, is_name, is_name_start, is_name_byte, form_words, final_words, pattern_word, thread_word, local_word, handle_word, number_words, local_words, how_words, mode_words, life_words, mt_words, name_words, size_words, option_words, words, words_of, spelling}
+use Rattle.clr_model.specs.LineGrammar.{IsLine, IsWellFormed, IsForm, IsWord, IsHandleForm, AreOptions, is_name}
+use Rattle.clr_model.specs.LineGrammar.{is_name_start, is_name_byte, form_words, final_words, pattern_word, thread_word}
+use Rattle.clr_model.specs.LineGrammar.{local_word, handle_word, number_words, local_words, how_words, mode_words}
+use Rattle.clr_model.specs.LineGrammar.{life_words, mt_words, name_words, size_words, option_words, words, words_of}
+use Rattle.clr_model.specs.LineGrammar.{spelling}
 use Rattle.clr_model.specs.Parsing.{instruction_in}
 use Rattle.clr_model.proofs.Spelling.{IsUnspaced, words-spaced, spaced-words}
 use Rattle.clr_model.proofs.LineReaders.{instruction_found, instruction_told}
@@ -31,7 +41,8 @@ not_space test none b h e = none (subst (λ n. test n ≡ true) e h)
 -- and so are bytes
 all_other : (test : ℕ → Bool) → (test 32 ≡ true → ⊥) → (bytes : List ℕ) → list_all test bytes ≡ true → IsUnspaced bytes
 all_other test none [] h = tt
-all_other test none (b ∷ bytes) h = let p = and_parts _ _ h in (not_space test none b p.0, all_other test none bytes p.1)
+all_other test none (b ∷ bytes) h = let p = and_parts _ _ h in
+    (not_space test none b p.0, all_other test none bytes p.1)
 
 -- a space stands in no name
 no_name_byte : is_name_byte 32 ≡ true → ⊥
@@ -83,7 +94,8 @@ hex_free a = all_other is_hex_digit no_hex_digit (hex16 a) (list_all-hex16 a)
 -- nor a text of other bytes
 text_free : (bytes : List ℕ) → list_all (λ b. not (b == 32)) bytes ≡ true → IsUnspaced bytes
 text_free [] h = tt
-text_free (b ∷ bytes) h = let p = and_parts _ _ h in (λ e. both_ways (b == 32) (not-true _ p.0) (eq-eqb b 32 e), text_free bytes p.1)
+text_free (b ∷ bytes) h = let p = and_parts _ _ h in
+    (λ e. both_ways (b == 32) (not-true _ p.0) (eq-eqb b 32 e), text_free bytes p.1)
 
 -- nor a thread
 thread_free : (t : ℕ) → IsWord t → IsUnspaced (thread_word t)
@@ -178,38 +190,112 @@ size_free option (Some n) o h = (o, (number_free n h, tt))
 -- of all options
 options_free : (o : DumpOptions) → AreOptions o → AreFree (option_words o)
 options_free o v =
-    both_free _ (size_words (codes "-max") o.greatest) (both_free _ (size_words (codes "-min") o.least) (both_free _ (name_words o.name) (both_free _ (mt_words o.mt) (both_free (mode_words o.mode) (life_words o.life) (mode_free o.mode) (life_free o.life)) (mt_free o.mt)) (type_free o.name v.name))
-    (size_free (codes "-min") o.least (text_free (codes "-min") refl) v.least)) (size_free (codes "-max") o.greatest (text_free (codes "-max") refl) v.greatest)
+    both_free _ (size_words (codes "-max") o.greatest)
+    (both_free _ (size_words (codes "-min") o.least)
+    (both_free _ (name_words o.name)
+    (both_free _ (mt_words o.mt) (both_free (mode_words o.mode) (life_words o.life) (mode_free o.mode)
+    (life_free o.life)) (mt_free o.mt)) (type_free o.name v.name))
+    (size_free (codes "-min") o.least (text_free (codes "-min") refl) v.least))
+    (size_free (codes "-max") o.greatest (text_free (codes "-max") refl) v.greatest)
 
 -- ---- a line gives its words back
 
 -- the words of an instruction are the words of its line
 pub words_back : (i : Instruction) → IsWellFormed i → words (spelling i) ≡ words_of i
-words_back (define_type name form final) v = words-spaced (codes "type") _ (text_free (codes "type") refl, (name_free name v.0, both_free (form_words form) (final_words final) (form_free form v.1) (final_free final)))
-words_back (new_object t local name len) v = words-spaced (thread_word t) _ (thread_free t v.0, (text_free (codes "new") refl, (local_free local v.1, (name_free name v.2, length_free len v.3))))
-words_back (get_slot t to from index) v = words-spaced (thread_word t) _ (thread_free t v.0, (text_free (codes "get") refl, (local_free to v.1, (local_free from v.2, (number_free index v.3, tt)))))
-words_back (set_slot t into index from) v = words-spaced (thread_word t) _ (thread_free t v.0, (text_free (codes "set") refl, (local_free into v.1, (number_free index v.2, (local_free from v.3, tt)))))
-words_back (put_number t into index value) v = words-spaced (thread_word t) _ (thread_free t v.0, (text_free (codes "put") refl, (local_free into v.1, (number_free index v.2, (number_free value v.3, tt)))))
-words_back (read_number t from index) v = words-spaced (thread_word t) _ (thread_free t v.0, (text_free (codes "read") refl, (local_free from v.1, (number_free index v.2, tt))))
-words_back (copy_local t to from) v = words-spaced (thread_word t) _ (thread_free t v.0, (text_free (codes "copy") refl, (local_free to v.1, (local_free from v.2, tt))))
-words_back (clear_local t local) v = words-spaced (thread_word t) _ (thread_free t v.0, (text_free (codes "null") refl, (local_free local v.1, tt)))
-words_back (suppress_object t local) v = words-spaced (thread_word t) _ (thread_free t v.0, (text_free (codes "suppress") refl, (local_free local v.1, tt)))
-words_back (reregister_object t local) v = words-spaced (thread_word t) _ (thread_free t v.0, (text_free (codes "reregister") refl, (local_free local v.1, tt)))
-words_back (collect_heap t g how) v = words-spaced (thread_word t) _ (thread_free t v.0, (text_free (codes "collect") refl, (number_free g (let low = v.1 in omega arith), how_free how)))
-words_back (suspend_others t) v = words-spaced (thread_word t) _ (thread_free t v, (text_free (codes "suspend") refl, tt))
+words_back (define_type name form final) v =
+    words-spaced (codes "type") _ (
+      text_free (codes "type") refl,
+      (name_free name v.0, both_free (form_words form) (final_words final) (form_free form v.1) (final_free final)),
+    )
+words_back (new_object t local name len) v =
+    words-spaced (thread_word t) _ (
+      thread_free t v.0,
+      (text_free (codes "new") refl, (local_free local v.1, (name_free name v.2, length_free len v.3))),
+    )
+words_back (get_slot t to from index) v =
+    words-spaced (thread_word t) _ (
+      thread_free t v.0,
+      (text_free (codes "get") refl, (local_free to v.1, (local_free from v.2, (number_free index v.3, tt)))),
+    )
+words_back (set_slot t into index from) v =
+    words-spaced (thread_word t) _ (
+      thread_free t v.0,
+      (text_free (codes "set") refl, (local_free into v.1, (number_free index v.2, (local_free from v.3, tt)))),
+    )
+words_back (put_number t into index value) v =
+    words-spaced (thread_word t) _ (
+      thread_free t v.0,
+      (text_free (codes "put") refl, (local_free into v.1, (number_free index v.2, (number_free value v.3, tt)))),
+    )
+words_back (read_number t from index) v =
+    words-spaced (thread_word t) _ (
+      thread_free t v.0,
+      (text_free (codes "read") refl, (local_free from v.1, (number_free index v.2, tt))),
+    )
+words_back (copy_local t to from) v =
+    words-spaced (thread_word t) _ (
+      thread_free t v.0,
+      (text_free (codes "copy") refl, (local_free to v.1, (local_free from v.2, tt))),
+    )
+words_back (clear_local t local) v =
+    words-spaced (thread_word t) _ (thread_free t v.0, (text_free (codes "null") refl, (local_free local v.1, tt)))
+words_back (suppress_object t local) v =
+    words-spaced (thread_word t) _ (thread_free t v.0, (text_free (codes "suppress") refl, (local_free local v.1, tt)))
+words_back (reregister_object t local) v =
+    words-spaced (thread_word t) _ (
+      thread_free t v.0,
+      (text_free (codes "reregister") refl, (local_free local v.1, tt)),
+    )
+words_back (collect_heap t g how) v =
+    words-spaced (thread_word t) _ (
+      thread_free t v.0,
+      (text_free (codes "collect") refl, (number_free g (let low = v.1 in omega arith), how_free how)),
+    )
+words_back (suspend_others t) v =
+    words-spaced (thread_word t) _ (thread_free t v, (text_free (codes "suspend") refl, tt))
 words_back (resume_others t) v = words-spaced (thread_word t) _ (thread_free t v, (text_free (codes "resume") refl, tt))
-words_back (begin_set t into index from) v = words-spaced (thread_word t) _ (thread_free t v.0, (text_free (codes "begin") refl, (text_free (codes "set") refl, (local_free into v.1, (number_free index v.2, (local_free from v.3, tt))))))
-words_back (begin_new t local name len) v = words-spaced (thread_word t) _ (thread_free t v.0, (text_free (codes "begin") refl, (text_free (codes "new") refl, (local_free local v.1, (name_free name v.2, length_free len v.3)))))
+words_back (begin_set t into index from) v =
+    words-spaced (thread_word t) _ (
+      thread_free t v.0,
+      (
+        text_free (codes "begin") refl,
+        (text_free (codes "set") refl, (local_free into v.1, (number_free index v.2, (local_free from v.3, tt)))),
+      ),
+    )
+words_back (begin_new t local name len) v =
+    words-spaced (thread_word t) _ (
+      thread_free t v.0,
+      (
+        text_free (codes "begin") refl,
+        (text_free (codes "new") refl, (local_free local v.1, (name_free name v.2, length_free len v.3))),
+      ),
+    )
 words_back (finish_step t) v = words-spaced (thread_word t) _ (thread_free t v, (text_free (codes "step") refl, tt))
-words_back (create_handle t kind local second) v = words-spaced (thread_word t) _ (thread_free t v.0, (text_free (codes "handle") refl, (kind_free kind, (local_free local v.1, second_free kind second v.2))))
-words_back (fetch_target t to h) v = words-spaced (thread_word t) _ (thread_free t v.0, (text_free (codes "fetch") refl, (local_free to v.1, (handle_free h v.2, tt))))
-words_back (fetch_second t to h) v = words-spaced (thread_word t) _ (thread_free t v.0, (text_free (codes "second") refl, (local_free to v.1, (handle_free h v.2, tt))))
-words_back (free_handle t h) v = words-spaced (thread_word t) _ (thread_free t v.0, (text_free (codes "free") refl, (handle_free h v.1, tt)))
-words_back (take_ready t to) v = words-spaced (thread_word t) _ (thread_free t v.0, (text_free (codes "finalizer") refl, (local_free to v.1, tt)))
-words_back (dump_heap options) v = words-spaced (codes "dumpheap") _ (text_free (codes "dumpheap") refl, options_free options v)
+words_back (create_handle t kind local second) v =
+    words-spaced (thread_word t) _ (
+      thread_free t v.0,
+      (text_free (codes "handle") refl, (kind_free kind, (local_free local v.1, second_free kind second v.2))),
+    )
+words_back (fetch_target t to h) v =
+    words-spaced (thread_word t) _ (
+      thread_free t v.0,
+      (text_free (codes "fetch") refl, (local_free to v.1, (handle_free h v.2, tt))),
+    )
+words_back (fetch_second t to h) v =
+    words-spaced (thread_word t) _ (
+      thread_free t v.0,
+      (text_free (codes "second") refl, (local_free to v.1, (handle_free h v.2, tt))),
+    )
+words_back (free_handle t h) v =
+    words-spaced (thread_word t) _ (thread_free t v.0, (text_free (codes "free") refl, (handle_free h v.1, tt)))
+words_back (take_ready t to) v =
+    words-spaced (thread_word t) _ (thread_free t v.0, (text_free (codes "finalizer") refl, (local_free to v.1, tt)))
+words_back (dump_heap options) v =
+    words-spaced (codes "dumpheap") _ (text_free (codes "dumpheap") refl, options_free options v)
 words_back (dump_object a) v = words-spaced (codes "dumpobj") _ (text_free (codes "dumpobj") refl, (hex_free a, tt))
 words_back (show_root a) v = words-spaced (codes "gcroot") _ (text_free (codes "gcroot") refl, (hex_free a, tt))
-words_back show_segments v = words-spaced (codes "eeheap") _ (text_free (codes "eeheap") refl, (text_free (codes "-gc") refl, tt))
+words_back show_segments v = words-spaced (codes "eeheap") _
+    (text_free (codes "eeheap") refl, (text_free (codes "-gc") refl, tt))
 words_back verify_heap v = words-spaced (codes "verifyheap") [] (text_free (codes "verifyheap") refl, tt)
 words_back show_handles v = words-spaced (codes "gchandles") [] (text_free (codes "gchandles") refl, tt)
 words_back show_queues v = words-spaced (codes "finalizequeue") [] (text_free (codes "finalizequeue") refl, tt)
@@ -217,11 +303,13 @@ words_back (where_is a) v = words-spaced (codes "gcwhere") _ (text_free (codes "
 
 -- the instruction of a line is the one that is read from its words
 pub line_read : (bytes : List ℕ) (i : Instruction) → IsLine bytes i → instruction_in (words bytes) ≡ Some i
-line_read bytes i line = ap instruction_in (ap words line.spelled ∙ words_back i line.formed) ∙ instruction_found i line.formed
+line_read bytes i line = ap instruction_in (ap words line.spelled ∙ words_back i line.formed)
+    ∙ instruction_found i line.formed
 
 -- so a line has one reading
 pub one_reading : (bytes : List ℕ) (i j : Instruction) → IsLine bytes i → IsLine bytes j → i ≡ j
-one_reading bytes i j one other = let same : Some i ≡ Some j = sym (line_read bytes i one) ∙ line_read bytes j other in cc
+one_reading bytes i j one other = let same : Some i ≡ Some j = sym (line_read bytes i one) ∙ line_read bytes j other in
+    cc
 
 -- and what is read from its words is its instruction
 pub line_told : (bytes : List ℕ) (i : Instruction) → instruction_in (words bytes) ≡ Some i → IsLine bytes i

@@ -1,21 +1,25 @@
 -- The readers of single words.
-use Rattle.std.proofs.Common.{◌≡◌, ◌≢◌, ◌∙◌, ◌==◌, ◌&&◌, ◌||◌, ℕ, ◌+◌, ◌*◌, ◌<◌, ◌≤◌, ◌^◌, Bool, true, false, not, List, [], ◌∷◌, ◌++◌, length, take, add-one, append-nil, append_assoc, refl, sym, ap, subst, Option, Some, None, cond, decimal, codes, arith, nat_lt, nat_le}
+use Rattle.std.proofs.Common.{◌≡◌, ◌≢◌, ◌∙◌, ◌==◌, ◌&&◌, ◌||◌, ℕ, ◌+◌, ◌*◌, ◌<◌, ◌≤◌, ◌^◌, Bool, true, false, not, List}
+use Rattle.std.proofs.Common.{[], ◌∷◌, ◌++◌, length, take, add-one, append-nil, append_assoc, refl, sym, ap, subst}
+use Rattle.std.proofs.Common.{Option, Some, None, cond, decimal, codes, arith, nat_lt, nat_le}
 use Rattle.std.specs.Prelude.{IsTrue, bytes_eq, if◌then◌else◌}
 use Rattle.std.specs.List.{list_all}
 use Rattle.std.specs.Str.Parse.{digits_value}
 use Rattle.std.proofs.lemmas.Bool.Decides.{nat_tests}
 use Rattle.std.proofs.lemmas.List.{take_all}
 use Rattle.std.proofs.lemmas.Option.{cond_some}
-use Rattle.std.proofs.lemmas.Bool.{agree_below_at, and_parts, eqb-true, eq-eqb, ltb-true, lt-ltb, leb-true, le-leb, ne_eqb}
+use Rattle.std.proofs.lemmas.Bool.{agree_below_at, and_parts, eqb-true, eq-eqb, ltb-true, lt-ltb, leb-true, le-leb}
+use Rattle.std.proofs.lemmas.Bool.{ne_eqb}
 use Rattle.clr_nums.specs.Numbers.{is_decimal_form, is_hex_form, is_hex_digit, hex_digit, hex_onto, hex16}
 use Rattle.clr_nums.proofs.DecimalText.{is_decimal_form-decimal, value-decimal, decimal-value}
 use Rattle.clr_nums.proofs.HexText.{hex_onto-read, hex16-read, hex16_injective, is_hex_form-hex16, hex_bound}
-use Rattle.clr_types.specs.declared.Kind.{Kind}
-use Rattle.clr_types.specs.declared.Kind.TheVariants.{Strong, Pinned, Weak, WeakLong, Dependent}
+use Rattle.clr_types.specs.declared.handle.Kind.{Kind}
+use Rattle.clr_types.specs.declared.handle.Kind.TheVariants.{Strong, Pinned, Weak, WeakLong, Dependent}
 use Rattle.clr_types.specs.Types.{is_pattern_byte}
 use Rattle.clr_model.specs.ReplyText.{kind_word}
 use Rattle.clr_model.specs.LineGrammar.{IsWord, is_name, pattern_word, thread_word, local_word, handle_word}
-use Rattle.clr_model.specs.Parsing.{number_in, hex_digit_value, hex_value_after, address_in, numbered_in, thread_in, local_in, handle_in, name_in, pattern_in, kind_in, generation_in}
+use Rattle.clr_model.specs.Parsing.{number_in, hex_digit_value, hex_value_after, address_in, numbered_in, thread_in}
+use Rattle.clr_model.specs.Parsing.{local_in, handle_in, name_in, pattern_in, kind_in, generation_in}
 use Rattle.clr_model.proofs.Readers.{IsReader, IsTold, bound, nothing_told, choice_told, value_told}
 
 -- ---- numbers
@@ -23,7 +27,11 @@ use Rattle.clr_model.proofs.Readers.{IsReader, IsTold, bound, nothing_told, choi
 -- a number is read from its decimal digits
 pub number_reader : IsReader number_in decimal IsWord
 unfolding number_in
-number_reader = record { found = λ n small. rw (is_decimal_form-decimal n small, value-decimal n small, lt-ltb n (2 ^ 64) small) refl; told = told }
+number_reader = record {
+  found =
+      λ n small. rw (is_decimal_form-decimal n small, value-decimal n small, lt-ltb n (2 ^ 64) small) refl;
+  told = told;
+}
   where
     told : (w : List ℕ) (n : ℕ) → number_in w ≡ Some n → (w ≡ decimal n) × IsWord n
     told w n e =
@@ -40,21 +48,27 @@ hex_digit_low b h = grind (arith, nat_tests)
 hex_digit_back : (b : ℕ) → is_hex_digit b ≡ true → (hex_digit_value b < 16) × (hex_digit (hex_digit_value b) ≡ b)
 hex_digit_back b h =
     let low : b < 103 = hex_digit_low b h in
-    let test = agree_below_at (λ x. not (is_hex_digit x) || (nat_lt (hex_digit_value x) 16 && (hex_digit (hex_digit_value x) == x))) (λ _. true) 103 b refl low in
+    let test = agree_below_at (λ x. not (is_hex_digit x) ||
+    (nat_lt (hex_digit_value x) 16 && (hex_digit (hex_digit_value x) == x))) (λ _. true) 103 b refl low in
     let both = rw h at test in
     let p = and_parts (nat_lt (hex_digit_value b) 16) (hex_digit (hex_digit_value b) == b) both in
     (ltb-true _ _ p.0, eqb-true _ _ p.1)
 
 -- digits behind those of n are the digits of their number
-hex_told : (bs : List ℕ) (i n : ℕ) → list_all is_hex_digit bs ≡ true → n < 16 ^ i → (hex_value_after n bs < 16 ^ (i + length bs)) × (hex_onto (i + length bs) (hex_value_after n bs) [] ≡ hex_onto i n [] ++ bs)
-hex_told [] i n all fits = let e : i + length {A = ℕ} [] ≡ i = omega arith in rw e (fits, sym (append-nil (hex_onto i n [])))
+hex_told : (bs : List ℕ) (i n : ℕ) → list_all is_hex_digit bs ≡ true → n < 16 ^ i
+    → (hex_value_after n bs < 16 ^ (i + length bs))
+    × (hex_onto (i + length bs) (hex_value_after n bs) [] ≡ hex_onto i n [] ++ bs)
+hex_told [] i n all fits = let e : i + length {A = ℕ} [] ≡ i = omega arith in
+    rw e (fits, sym (append-nil (hex_onto i n [])))
 hex_told (b ∷ bs) i n all fits =
     let p = and_parts (is_hex_digit b) (list_all is_hex_digit bs) all in
     let d = hex_digit_back b p.0 in
     let e : i + length (b ∷ bs) ≡ (i + 1) + length bs = omega arith in
     let more = hex_told bs (i + 1) (n * 16 + hex_digit_value b) p.1 (hex_bound i n (hex_digit_value b) d.0 fits) in
-    let front : hex_onto (i + 1) (n * 16 + hex_digit_value b) [] ≡ hex_onto i n [] ++ hex_digit (hex_digit_value b) ∷ [] = rw add-one (hex_onto-read i n (hex_digit_value b) d.0) in
-    let whole : hex_onto (i + 1) (n * 16 + hex_digit_value b) [] ++ bs ≡ hex_onto i n [] ++ b ∷ bs = rw (front, append_assoc, d.1) refl in
+    let front : hex_onto (i + 1) (n * 16 + hex_digit_value b) [] ≡ hex_onto i n [] ++ hex_digit (hex_digit_value b)
+    ∷ [] = rw add-one (hex_onto-read i n (hex_digit_value b) d.0) in
+    let whole : hex_onto (i + 1) (n * 16 + hex_digit_value b) [] ++ bs ≡ hex_onto i n [] ++ b
+    ∷ bs = rw (front, append_assoc, d.1) refl in
     rw e (more.0, more.1 ∙ whole)
 
 -- what is read as an address is its 16 digits
@@ -84,13 +98,17 @@ address_reader = record {
 
 -- a number is read behind its letter
 pub numbered_reader : (letter : ℕ) → IsReader (numbered_in letter) (λ n. letter ∷ decimal n) IsWord
-numbered_reader letter = record { found = λ n small. rw (eq-eqb letter letter refl) (number_reader.found n small); told = told }
+numbered_reader letter = record {
+  found = λ n small. rw (eq-eqb letter letter refl) (number_reader.found n small);
+  told = told;
+}
   where
     told : (w : List ℕ) (n : ℕ) → numbered_in letter w ≡ Some n → (w ≡ letter ∷ decimal n) × IsWord n
     told [] n e = absurd cc
     told (b ∷ digits) n e = go (b == letter) refl e
       where
-        go : (test : Bool) → (b == letter) ≡ test → cond test (number_in digits) None ≡ Some n → (b ∷ digits ≡ letter ∷ decimal n) × IsWord n
+        go : (test : Bool) → (b == letter) ≡ test → cond test (number_in digits) None ≡ Some n
+            → (b ∷ digits ≡ letter ∷ decimal n) × IsWord n
         go true is f =
             let first : b ≡ letter = eqb-true _ _ is in
             let p = number_reader.told digits n f in
@@ -133,17 +151,23 @@ pattern_reader = record { found = found; told = told }
         no : is_pattern_byte 45 ≡ true → ⊥
         no h = cc
 
-    found : (pattern : List ℕ) → IsTrue (list_all is_pattern_byte pattern) → pattern_in (pattern_word pattern) ≡ Some pattern
+    found : (pattern : List ℕ) → IsTrue (list_all is_pattern_byte pattern)
+        → pattern_in (pattern_word pattern) ≡ Some pattern
     found [] all = refl
     found (b ∷ bytes) all =
         let p = and_parts (is_pattern_byte b) (list_all is_pattern_byte bytes) all in
         rw (ne_eqb b 45 (other b p.0), p.0, p.1) refl
 
-    told : (w pattern : List ℕ) → pattern_in w ≡ Some pattern → (w ≡ pattern_word pattern) × IsTrue (list_all is_pattern_byte pattern)
+    told : (w pattern : List ℕ) → pattern_in w ≡ Some pattern
+        → (w ≡ pattern_word pattern) × IsTrue (list_all is_pattern_byte pattern)
     told [] pattern e = absurd cc
-    told (b ∷ bytes) pattern e = choice_told pattern_word (λ p. IsTrue (list_all is_pattern_byte p)) (λ v. v) (b ∷ bytes) (codes "-") (Some []) _ (value_told _ _ (codes "-") [] refl refl) (go (list_all is_pattern_byte (b ∷ bytes)) refl) pattern e
+    told (b ∷ bytes) pattern e = choice_told pattern_word (λ p. IsTrue (list_all is_pattern_byte p)) (λ v. v)
+        (b ∷ bytes) (codes "-") (Some []) _ (value_told _ _ (codes "-") [] refl refl)
+        (go (list_all is_pattern_byte (b ∷ bytes)) refl) pattern e
       where
-        go : (test : Bool) → list_all is_pattern_byte (b ∷ bytes) ≡ test → IsTold pattern_word (λ p. IsTrue (list_all is_pattern_byte p)) (b ∷ bytes) (cond test (Some (b ∷ bytes)) None)
+        go : (test : Bool) → list_all is_pattern_byte (b ∷ bytes) ≡ test
+            → IsTold pattern_word (λ p. IsTrue (list_all is_pattern_byte p)) (b ∷ bytes)
+            (cond test (Some (b ∷ bytes)) None)
         go true is = value_told pattern_word (λ p. IsTrue (list_all is_pattern_byte p)) (b ∷ bytes) (b ∷ bytes) refl is
         go false is = nothing_told pattern_word (λ p. IsTrue (list_all is_pattern_byte p)) (b ∷ bytes)
 
@@ -162,16 +186,22 @@ kind_reader = record { found = found; told = told }
     is : (k : List ℕ) (kind : Kind) → k ≡ kind_word kind → IsTold kind_word (λ v. Unit {0}) k (Some kind)
     is k kind e = value_told kind_word (λ v. Unit {0}) k kind e tt
 
-    or : (w k : List ℕ) (x y : Option Kind) → IsTold kind_word (λ v. Unit {0}) k x → IsTold kind_word (λ v. Unit {0}) w y → IsTold kind_word (λ v. Unit {0}) w (if bytes_eq w k then x else y)
+    or : (w k : List ℕ) (x y : Option Kind) → IsTold kind_word (λ v. Unit {0}) k x
+        → IsTold kind_word (λ v. Unit {0}) w y → IsTold kind_word (λ v. Unit {0}) w (if bytes_eq w k then x else y)
     or w k x y = choice_told kind_word (λ v. Unit {0}) (λ v. v) w k x y
 
     told : (w : List ℕ) (kind : Kind) → kind_in w ≡ Some kind → (w ≡ kind_word kind) × Unit {0}
-    told w = or w _ _ _ (is _ Strong refl) (or w _ _ _ (is _ Pinned refl) (or w _ _ _ (is _ Weak refl) (or w _ _ _ (is _ WeakLong refl) (or w _ _ _ (is _ Dependent refl) (nothing_told _ _ w)))))
+    told w = or w _ _ _ (is _ Strong refl)
+        (or w _ _ _ (is _ Pinned refl) (or w _ _ _ (is _ Weak refl)
+        (or w _ _ _ (is _ WeakLong refl) (or w _ _ _ (is _ Dependent refl) (nothing_told _ _ w)))))
 
 -- a generation is read from its digit
 pub generation_reader : IsReader generation_in decimal (λ g. g ≤ 2)
 unfolding generation_in
-generation_reader = record { found = λ g low. rw (number_reader.found g (omega arith), le-leb g 2 low) refl; told = told }
+generation_reader = record {
+  found = λ g low. rw (number_reader.found g (omega arith), le-leb g 2 low) refl;
+  told = told;
+}
   where
     told : (w : List ℕ) (g : ℕ) → generation_in w ≡ Some g → (w ≡ decimal g) × (g ≤ 2)
     told w g e =

@@ -1,5 +1,6 @@
 -- Room for a new object: contexts, refills, the ladders of small and of large objects.
-use Rattle.std.specs.Prelude.{◌≡◌, ◌==◌, ℕ, ◌+◌, max, List, [], ◌∷◌, ◌++◌, map, if◌then◌else◌, nat_le, Bool, false, ◌&&◌, ◌||◌, not, ◌⊎◌, IsTrue, Option, Some, None, MatchOption, MatchBool}
+use Rattle.std.specs.Prelude.{◌≡◌, ◌==◌, ℕ, ◌+◌, max, List, [], ◌∷◌, ◌++◌, map, if◌then◌else◌, nat_le, Bool, false}
+use Rattle.std.specs.Prelude.{◌&&◌, ◌||◌, not, ◌⊎◌, IsTrue, Option, Some, None, MatchOption, MatchBool}
 use Rattle.std.specs.List.{flat_map, list_any}
 use Rattle.clr_types.specs.Rising.{IsIn}
 use Rattle.clr_types.specs.Ranges.{Piece, piece_end, fits, range_piece, rounded_up}
@@ -12,9 +13,10 @@ use Rattle.clr_model.specs.Updates.{given_up, all_given_up, with_rest}
 use Rattle.clr_model.specs.Collection.{Collects, which}
 use Rattle.clr_model.specs.Stage.{allocation_collects, seals, takes_memory}
 use Rattle.clr_types.specs.declared.segment.SegKind.{SegKind}
-use Rattle.clr_types.specs.declared.segment.SegKind.TheVariants.{Small, Ephemeral, Large}
+use Rattle.clr_types.specs.declared.segment.SegKind.TheVariants.{Ephemeral, Large}
 use Rattle.clr_types.specs.declared.segment.SegInfo.{SegInfo}
-use Rattle.clr_types.specs.Segments.{Layout, fits_in_tail, with_end, same_kind, segments_of, stands_in, ephemeral, reserved_sum, rest_of}
+use Rattle.clr_types.specs.Segments.{Layout, fits_in_tail, with_end, opening_segment, sealed_segment, segments_of}
+use Rattle.clr_types.specs.Segments.{stands_in, ephemeral, reserved_sum, rest_of}
 
 -- what an attempt to make room comes to
 pub data Attempt : Type 0 where
@@ -72,7 +74,8 @@ from_tail layout t taken =
     let s = ephemeral layout in
     with_rest (with_end layout s.base (s.end + taken)) t s.end (s.end + taken)
 
--- A new context for the thread, after what was left of the old one went back to the free items: it is cut from the front of a free
+-- A new context for the thread, after what was left of the old one went back to the free items: it is cut from the
+-- front of a free
 -- item of generation 0 that is large enough, whichever that is, or from the tail.
 abbrev pub IsRefilled : Layout → ℕ → ℕ → Layout → Type 0
 IsRefilled layout t size new =
@@ -101,14 +104,9 @@ front_taken layout t size = with_rest layout t (context_front layout t + size) (
 -- ---- segments
 
 -- a new empty segment above all that ever were
-abbrev pub new_segment : Layout → SegKind → ℕ → SegInfo
-new_segment layout kind size = record { base = layout.top; reserved = size; kind = kind; end = layout.top + 0x1000 }
-
 abbrev pub with_segment : Layout → SegKind → ℕ → Layout
-with_segment layout kind size = record layout { segments = layout.segments ++ (new_segment layout kind size ∷ []); top = layout.top + size }
-
-abbrev pub sealed_segment : SegInfo → SegInfo
-sealed_segment s = if same_kind Ephemeral s.kind then record s { kind = Small } else s
+with_segment layout kind size =
+    record layout { segments = layout.segments ++ (opening_segment layout.top kind size ∷ []); top = layout.top + size }
 
 -- the ephemeral segment becomes a small one, and a new one takes its place
 abbrev pub sealed : Layout → ℕ → Layout
@@ -133,7 +131,8 @@ with_layout m layout = record m { layout = layout }
 
 -- room by a refill
 abbrev pub RoomedByRefill : Machine → ℕ → ℕ → Attempt → Machine → Type 0
-RoomedByRefill m t size attempt new = (attempt ≡ roomed) × (layout : Layout) × IsRefilled m.layout t size layout × (new ≡ with_layout m layout)
+RoomedByRefill m t size attempt new = (attempt ≡ roomed) × (layout : Layout) × IsRefilled m.layout t size layout
+    × (new ≡ with_layout m layout)
 
 -- after the full compacting collection: room, else a new segment where the limit allows one
 abbrev pub SmallAfterFull : Machine → ℕ → ℕ → Attempt → Machine → Type 0
@@ -141,7 +140,8 @@ SmallAfterFull m t size attempt new =
     MatchBool (has_room m.layout size)
     (RoomedByRefill m t size attempt new)
     (MatchBool (seals && allows m m.options.segment)
-    (RoomedByRefill (with_layout m (sealed m.layout m.options.segment)) t size attempt new ⊎ ((attempt ≡ out_of_memory) × (new ≡ m)))
+    (RoomedByRefill (with_layout m (sealed m.layout m.options.segment)) t size attempt new
+    ⊎ ((attempt ≡ out_of_memory) × (new ≡ m)))
     ((attempt ≡ out_of_room) × (new ≡ m)))
 
 -- want of memory at the start of a collection, which has given up the contexts
@@ -153,15 +153,18 @@ abbrev pub SmallAfterFirst : Machine → ℕ → ℕ → Attempt → Machine →
 SmallAfterFirst m t size attempt new =
     MatchBool (has_room m.layout size)
     (RoomedByRefill m t size attempt new)
-    (((answer : Collected) × (full : Machine) × Collects m 2 Compact answer full × SmallAfterFull full t size attempt new)
+    (((answer : Collected) × (full : Machine) × Collects m 2 Compact answer full
+    × SmallAfterFull full t size attempt new)
     ⊎ ((attempt ≡ out_of_memory) × NoMemoryToCollect Compact m new))
 
 abbrev pub SmallByCollection : Machine → ℕ → ℕ → Attempt → Machine → Type 0
 SmallByCollection m t size attempt new =
-    ((answer : Collected) × (young : Machine) × Collects m (which m) Decide answer young × SmallAfterFirst young t size attempt new)
+    ((answer : Collected) × (young : Machine) × Collects m (which m) Decide answer young
+    × SmallAfterFirst young t size attempt new)
     ⊎ ((attempt ≡ out_of_memory) × NoMemoryToCollect Decide m new)
 
--- Room for a small object at the front of the thread's context, by the first of these steps that serves: the context as it
+-- Room for a small object at the front of the thread's context, by the first of these steps that serves: the context as
+-- it
 -- is, a refill within the budget, a wait, a collection, a full compacting collection, a new segment.
 abbrev pub MakesRoom : Machine → ℕ → ℕ → Attempt → Machine → Type 0
 MakesRoom m t size attempt new =
@@ -175,10 +178,12 @@ MakesRoom m t size attempt new =
 
 -- ---- large objects
 
--- in a segment of this kind the object takes the front of a free item that is large enough, or of the bytes behind the segment's end
+-- in a segment of this kind the object takes the front of a free item that is large enough, or of the bytes behind the
+-- segment's end
 abbrev pub IsPlacedIn : SegKind → Layout → ℕ → ℕ → Layout → Type 0
 IsPlacedIn kind layout size place new =
-    ((item : Piece) × IsIn item layout.free × IsTrue (stands_in_kind kind layout item.place) × IsTrue (fits size item.size)
+    ((item : Piece) × IsIn item layout.free × IsTrue (stands_in_kind kind layout item.place)
+    × IsTrue (fits size item.size)
     × (place ≡ item.place) × (new ≡ record layout { free = taken_from item.place size layout.free }))
     ⊎ ((s : SegInfo) × IsIn s (segments_of kind layout) × IsTrue (fits_in_tail s size) × (place ≡ s.end)
     × (new ≡ with_end layout s.base (s.end + size)))
@@ -193,7 +198,8 @@ RoomedOrAcquired kind m size place attempt new otherwise =
     MatchBool (has_room_in kind m.layout size)
     (RoomedIn kind m size place attempt new)
     (MatchBool (allows m (segment_for m size))
-    (RoomedIn kind (with_layout m (with_segment m.layout kind (segment_for m size))) size place attempt new ⊎ ((attempt ≡ out_of_memory) × (new ≡ m)))
+    (RoomedIn kind (with_layout m (with_segment m.layout kind (segment_for m size))) size place attempt new
+    ⊎ ((attempt ≡ out_of_memory) × (new ≡ m)))
     otherwise)
 
 abbrev pub LargeAfterFirst : Machine → ℕ → ℕ → Attempt → Machine → Type 0
@@ -211,6 +217,7 @@ PlacesLarge m size place attempt new =
     MatchBool (nat_le (m.sums.spent_large + size) m.options.bl && has_room_in Large m.layout size)
     (RoomedIn Large m size place attempt new)
     (MatchOption (lowest_in_step m)
-    (((answer : Collected) × (first : Machine) × Collects m 2 Decide answer first × LargeAfterFirst first size place attempt new)
+    (((answer : Collected) × (first : Machine) × Collects m 2 Decide answer first
+    × LargeAfterFirst first size place attempt new)
     ⊎ ((attempt ≡ out_of_memory) × NoMemoryToCollect Decide m new))
     (λ k. (attempt ≡ waits k) × (new ≡ m)))

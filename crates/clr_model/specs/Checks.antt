@@ -1,14 +1,24 @@
 -- The checks of a line, in their order: the first that fails is why the line is refused.
-use Rattle.std.specs.Prelude.{ℕ, ◌+◌, List, [], ◌∷◌, length, if◌then◌else◌, ◌==◌, nat_lt, nat_le, Bool, true, false, ◌&&◌, ◌||◌, not, Option, Some, None, is_some, is_none, slice_get, unwrap_or}
+use Rattle.std.specs.Prelude.{ℕ, ◌+◌, List, [], ◌∷◌, length, if◌then◌else◌, ◌==◌, nat_lt, nat_le, Bool, true, false}
+use Rattle.std.specs.Prelude.{◌&&◌, ◌||◌, not, Option, Some, None, is_some, is_none, slice_get, unwrap_or}
 use Rattle.std.specs.List.{list_any, list_all}
 use Rattle.std.specs.FinMap as finmap
-use Rattle.clr_types.specs.declared.Kind.TheVariants.{Dependent}
-use Rattle.clr_types.specs.Types.{TypeRow, Form, size_of, is_array, is_lawful_form, number_of, number_with_free, mt_of, form_at}
+use Rattle.clr_types.specs.declared.handle.Kind.TheVariants.{Dependent}
+use Rattle.clr_types.specs.Types.{TypeRow, Form, size_of, is_array, is_lawful_form, number_of, number_with_free, mt_of}
+use Rattle.clr_types.specs.Types.{form_at}
 use Rattle.clr_model.specs.declared.Refusal.{Refusal}
-use Rattle.clr_model.specs.declared.Refusal.TheVariants.{UnknownThread, Blocked, MidStep, NotMidStep, UnknownType, DuplicateType, BadShape, TooManyTypes, NoSlot, Null, Index, NotReference, IsReference, NoHandle, HandleKind, TooManyHandles, TooBig, NoObject, Empty}
-use Rattle.clr_model.specs.Machine.{Value, ref, num, HandleRow, Machine}
+use Rattle.clr_model.specs.declared.Refusal.TheVariants.{UnknownThread, Blocked, MidStep, NotMidStep, UnknownType}
+use Rattle.clr_model.specs.declared.Refusal.TheVariants.{DuplicateType, BadShape, TooManyTypes, NoSlot, Null, Index}
+use Rattle.clr_model.specs.declared.Refusal.TheVariants.{NotReference, IsReference, NoHandle, HandleKind}
+use Rattle.clr_model.specs.declared.Refusal.TheVariants.{TooManyHandles, TooBig, NoObject, Empty}
+use Rattle.clr_types.specs.declared.handle.Handle.{Handle}
+use Rattle.clr_model.specs.Machine.{Value, ref, num, Machine}
 use Rattle.clr_model.specs.Lookups.{object_at, slots_of_named, is_thread, local_of, step_of, is_step, is_dependent}
-use Rattle.clr_model.specs.Instructions.{Instruction, define_type, new_object, get_slot, set_slot, put_number, read_number, copy_local, clear_local, suppress_object, reregister_object, collect_heap, suspend_others, resume_others, begin_set, begin_new, finish_step, create_handle, fetch_target, fetch_second, free_handle, take_ready, dump_heap, dump_object, show_root, where_is}
+use Rattle.clr_model.specs.Instructions.{Instruction, define_type, new_object, get_slot, set_slot, put_number}
+use Rattle.clr_model.specs.Instructions.{read_number, copy_local, clear_local, suppress_object, reregister_object}
+use Rattle.clr_model.specs.Instructions.{collect_heap, suspend_others, resume_others, begin_set, begin_new, finish_step}
+use Rattle.clr_model.specs.Instructions.{create_handle, fetch_target, fetch_second, free_handle, take_ready, dump_heap}
+use Rattle.clr_model.specs.Instructions.{dump_object, show_root, where_is}
 use Rattle.clr_model.specs.Stage.{has_large_heap}
 
 -- ---- what a line speaks of
@@ -109,7 +119,8 @@ unknown_thread i = with_some (thread_of i) (λ t. refuse_if (not (is_thread t)) 
 
 -- another thread holds the suspension, and this one isn't in mid-step
 abbrev pub blocked : Machine → Instruction → Option Refusal
-blocked m i = with_some (thread_of i) (λ t. with_some m.holder (λ h. refuse_if (not (h == t) && not (is_step (step_of m t))) (Blocked h)))
+blocked m i = with_some (thread_of i)
+    (λ t. with_some m.holder (λ h. refuse_if (not (h == t) && not (is_step (step_of m t))) (Blocked h)))
 
 abbrev pub is_finish : Instruction → Bool
 is_finish (finish_step t) = true
@@ -133,7 +144,8 @@ has_mt rows mt = (mt_of 0 == mt) || has_mt_from 1 rows mt
 -- the type isn't there: of a new object a defined one, of `dumpheap` also `Free`
 abbrev pub unknown_type : Machine → Instruction → Option Refusal
 unknown_type m (dump_heap o) =
-    refuse_if (not (list_all (has_mt m.types) (list_of o.mt)) || not (list_all (λ n. is_some (number_with_free m.types n)) (list_of o.name))) UnknownType
+    refuse_if (not (list_all (has_mt m.types) (list_of o.mt)) || not
+    (list_all (λ n. is_some (number_with_free m.types n)) (list_of o.name))) UnknownType
 unknown_type m i = with_some (made_by i) (λ made. refuse_if (is_none (number_of m.types made.0)) UnknownType)
 
 abbrev pub duplicate_type : Machine → Instruction → Option Refusal
@@ -147,7 +159,8 @@ made_form m name = form_at m.types (unwrap_or (number_of m.types name) 0)
 -- a form out of bounds; a length with a class, or an array without one
 abbrev pub bad_shape : Machine → Instruction → Option Refusal
 bad_shape m (define_type name form finalizer) = refuse_if (not (is_lawful_form form finalizer)) BadShape
-bad_shape m i = with_some (made_by i) (λ made. refuse_if (not (if is_array (made_form m made.0) then is_some made.1 else is_none made.1)) BadShape)
+bad_shape m i = with_some (made_by i)
+    (λ made. refuse_if (not (if is_array (made_form m made.0) then is_some made.1 else is_none made.1)) BadShape)
 
 abbrev pub too_many_types : Machine → Instruction → Option Refusal
 too_many_types m (define_type name form finalizer) = refuse_if (nat_le 1000 (length m.types)) TooManyTypes
@@ -186,7 +199,7 @@ wrong_slot m i = with_some (slot_index i) (λ s.
 abbrev pub no_handle : Machine → Instruction → Option Refusal
 no_handle m i = with_some (handle_of i) (λ h. refuse_if (is_none (finmap.get m.handles h)) NoHandle)
 
-abbrev pub is_dependent_row : Option HandleRow → Bool
+abbrev pub is_dependent_row : Option Handle → Bool
 is_dependent_row None = false
 is_dependent_row (Some row) = is_dependent row.kind
 
@@ -207,7 +220,8 @@ abbrev pub too_big : Machine → Instruction → Option Refusal
 too_big m (begin_new t local name len) =
     refuse_if (nat_lt 1073741824 (made_size m name len) || nat_le m.options.large (made_size m name len)) TooBig
 too_big m i = with_some (made_by i) (λ made.
-    refuse_if (nat_lt 1073741824 (made_size m made.0 made.1) || (not has_large_heap && nat_le m.options.large (made_size m made.0 made.1))) TooBig)
+    refuse_if (nat_lt 1073741824 (made_size m made.0 made.1) ||
+    (not has_large_heap && nat_le m.options.large (made_size m made.0 made.1))) TooBig)
 
 -- the address that a line shows
 abbrev pub address_of : Instruction → Option ℕ
@@ -233,6 +247,7 @@ first_of_all (Some refusal ∷ checks) = Some refusal
 -- the first check that fails, apart from those that depend on the course of the line
 abbrev pub refusal : Machine → Instruction → Option Refusal
 refusal m i = first_of_all (
-    unknown_thread i ∷ blocked m i ∷ mid_step m i ∷ not_mid_step m i ∷ unknown_type m i ∷ duplicate_type m i ∷ bad_shape m i
+    unknown_thread i ∷ blocked m i ∷ mid_step m i ∷ not_mid_step m i ∷ unknown_type m i ∷ duplicate_type m i
+    ∷ bad_shape m i
     ∷ too_many_types m i ∷ no_slot i ∷ null m i ∷ index m i ∷ wrong_slot m i ∷ no_handle m i ∷ handle_kind m i
     ∷ too_many_handles m i ∷ too_big m i ∷ no_object m i ∷ empty m i ∷ [])

@@ -1,15 +1,17 @@
 -- One blocking collection: what stays, what becomes of handles and queues, and where everything stands afterwards.
-use Rattle.std.specs.Prelude.{◌≡◌, ℕ, ◌+◌, ◌-◌, ◌*◌, List, [], ◌∷◌, ◌++◌, map, if◌then◌else◌, ◌==◌, nat_lt, Bool, true, false, ◌&&◌, ◌||◌, not, filter, sum_by, count_by, MatchBool}
+use Rattle.std.specs.Prelude.{◌≡◌, ℕ, ◌+◌, ◌-◌, ◌*◌, List, [], ◌∷◌, ◌++◌, map, if◌then◌else◌, ◌==◌, nat_lt, Bool, true}
+use Rattle.std.specs.Prelude.{false, ◌&&◌, ◌||◌, not, filter, sum_by, count_by, MatchBool}
 use Rattle.std.specs.List.{list_any}
-use Rattle.clr_types.specs.declared.Kind.{Kind}
-use Rattle.clr_types.specs.declared.Kind.TheVariants.{Strong, Pinned, Weak, WeakLong, Dependent}
+use Rattle.clr_types.specs.declared.handle.Kind.{Kind}
+use Rattle.clr_types.specs.declared.handle.Kind.TheVariants.{Strong, Pinned, Weak, WeakLong, Dependent}
 use Rattle.clr_types.specs.Rising.{Tests}
 use Rattle.clr_model.specs.declared.How.{How}
 use Rattle.clr_model.specs.declared.How.TheVariants.{Decide, Compact, Sweep}
 use Rattle.clr_model.specs.declared.Collected.{Collected}
-use Rattle.clr_model.specs.Machine.{Object, HandleRow, Sums, Machine}
+use Rattle.clr_types.specs.declared.handle.Handle.{Handle}
+use Rattle.clr_model.specs.Machine.{Object, Sums, Machine}
 use Rattle.clr_model.specs.Lookups.{object_size}
-use Rattle.clr_model.specs.Picture.{map_values}
+use Rattle.clr_types.specs.Maps.{map_values}
 use Rattle.clr_model.specs.Reach.{StartOf, First, Kept, woken, is_suppressed}
 use Rattle.clr_model.specs.Sweep.{Survivor, survivors, is_condemned, part_start, taking_part, swept_small, swept_kind}
 use Rattle.clr_model.specs.Compaction.{Move, moved_by, IsCompacted}
@@ -38,7 +40,8 @@ kept_bytes layout kept = sum_by (λ k. k.size) (filter (λ k. is_in_small_heap l
 
 -- where a line gives no kind, a collection compacts if enough of those bytes are free
 abbrev pub decides_to_compact : Machine → ℕ → List Survivor → Bool
-decides_to_compact m g kept = nat_lt (m.options.compact * extent m.layout g) ((extent m.layout g - kept_bytes m.layout kept) * 100)
+decides_to_compact m g kept = nat_lt (m.options.compact * extent m.layout g)
+    ((extent m.layout g - kept_bytes m.layout kept) * 100)
 
 abbrev pub compacts : How → Bool → Bool
 compacts Decide decision = decision
@@ -50,15 +53,16 @@ compacts Sweep decision = false
 abbrev pub kept_or_null : (ℕ → Bool) → ℕ → ℕ
 kept_or_null test name = if test name then name else 0
 
-abbrev pub row_of_kind : (ℕ → Bool) → (ℕ → Bool) → Kind → HandleRow → HandleRow
+abbrev pub row_of_kind : (ℕ → Bool) → (ℕ → Bool) → Kind → Handle → Handle
 row_of_kind first kept Strong row = row
 row_of_kind first kept Pinned row = row
 row_of_kind first kept Weak row = record row { target = kept_or_null first row.target }
 row_of_kind first kept WeakLong row = record row { target = kept_or_null kept row.target }
 row_of_kind first kept Dependent row = if kept row.target then row else record row { target = 0; second = 0 }
 
--- a short weak handle loses what is outside the first set, a long one what is outside the kept set, and a dependent one both parts where its primary is outside that
-abbrev pub row_after : (ℕ → Bool) → (ℕ → Bool) → HandleRow → HandleRow
+-- a short weak handle loses what is outside the first set, a long one what is outside the kept set, and a dependent one
+-- both parts where its primary is outside that
+abbrev pub row_after : (ℕ → Bool) → (ℕ → Bool) → Handle → Handle
 row_after first kept row = row_of_kind first kept row.kind row
 
 -- an entry goes, unwoken: its object is outside the first set and suppressed
@@ -79,7 +83,9 @@ objects_after m first kept moves = map (object_after m first moves) (filter (λ 
 -- the bytes of what stayed and went from one generation to the next older one
 abbrev pub bytes_promoted : Machine → Layout → (ℕ → Bool) → List Move → ℕ → ℕ
 bytes_promoted m new kept moves g =
-    sum_by (object_size m.types) (filter (λ o. kept o.name && ((generation m.layout o.place == g) && (generation new (moved_by moves o.place) == g + 1))) m.objects)
+    sum_by (object_size m.types) (filter
+    (λ o. kept o.name && ((generation m.layout o.place == g) && (generation new (moved_by moves o.place) == g + 1)))
+    m.objects)
 
 abbrev pub sums_after : Machine → ℕ → ℕ → ℕ → Sums
 sums_after m g promoted1 promoted2 = record {
@@ -93,7 +99,8 @@ abbrev pub base_of_first : List SegInfo → ℕ
 base_of_first [] = 0
 base_of_first (s ∷ ss) = s.base
 
--- after a full collection a segment stays where an object stands in it, and so do the ephemeral one and the first large one
+-- after a full collection a segment stays where an object stands in it, and so do the ephemeral one and the first large
+-- one
 abbrev pub is_retained : Layout → List Object → SegInfo → Bool
 is_retained layout objects s =
     list_any (λ o. stands_in s o.place) objects
@@ -112,7 +119,8 @@ IsSmallLaid compacting layout g kept moves new =
 -- ---- the collection
 
 -- what a collection does to a machine whose contexts are given up, from this start, with these tests for what stays
-pub record IsCollected (m : Machine) (g : ℕ) (how : How) (start : ℕ → Type 0) (answer : Collected) (new : Machine) : Type 0 where
+pub record IsCollected (m : Machine) (g : ℕ) (how : How) (start : ℕ
+    → Type 0) (answer : Collected) (new : Machine) : Type 0 where
   pub first : ℕ → Bool
   pub kept : ℕ → Bool
   pub first_is : Tests first (First m start)
@@ -145,8 +153,11 @@ pub record IsCollected (m : Machine) (g : ℕ) (how : How) (start : ℕ → Type
         sums = sums_after m g answer.promoted1 answer.promoted2;
       }
 
+-- the machine when every context is given up, with which a collection begins
+abbrev pub begun : Machine → Machine
+begun m = record m { layout = all_given_up m.layout }
+
 -- a blocking collection of generation g: first every context is given up
 abbrev pub Collects : Machine → ℕ → How → Collected → Machine → Type 0
 Collects m g how answer new =
-    let begun = record m { layout = all_given_up m.layout } in
-    IsCollected begun g how (StartOf begun g) answer new
+    IsCollected (begun m) g how (StartOf (begun m) g) answer new

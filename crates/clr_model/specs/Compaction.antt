@@ -1,5 +1,7 @@
--- The layout that a compaction leaves, by its plugs: each goes to the lowest candidate at or above the pointer at which it fits.
-use Rattle.std.specs.Prelude.{◌≡◌, ℕ, ◌+◌, ◌-◌, ◌≤◌, max, List, [], ◌∷◌, ◌++◌, map, if◌then◌else◌, ◌==◌, nat_lt, nat_le, Bool, ◌&&◌, ◌⊎◌, filter, IsTrue, Option, MatchOption, MatchBool, find}
+-- The layout that a compaction leaves, by its plugs: each goes to the lowest candidate at or above the pointer at which
+-- it fits.
+use Rattle.std.specs.Prelude.{◌≡◌, ℕ, ◌+◌, ◌-◌, ◌≤◌, max, List, [], ◌∷◌, ◌++◌, map, if◌then◌else◌, ◌==◌, nat_lt, nat_le}
+use Rattle.std.specs.Prelude.{Bool, ◌&&◌, ◌⊎◌, filter, IsTrue, Option, MatchOption, MatchBool, find}
 use Rattle.std.specs.Bool.{beq}
 use Rattle.std.specs.List.{flat_map, list_any}
 use Rattle.clr_types.specs.Rising.{IsIn}
@@ -8,7 +10,8 @@ use Rattle.clr_model.specs.Sweep.{Survivor, part_start, taking_part, free_after,
 use Rattle.clr_types.specs.declared.segment.SegKind.{SegKind}
 use Rattle.clr_types.specs.declared.segment.SegKind.TheVariants.{Ephemeral}
 use Rattle.clr_types.specs.declared.segment.SegInfo.{SegInfo}
-use Rattle.clr_types.specs.Segments.{Layout, first_place, reserved_end, same_kind, is_small_or_ephemeral, ephemeral, pieces_in, segment_or_empty}
+use Rattle.clr_types.specs.Segments.{Layout, first_place, reserved_end, same_kind, is_small_or_ephemeral, ephemeral}
+use Rattle.clr_types.specs.Segments.{pieces_in, segment_or_empty}
 
 -- ---- plugs
 
@@ -28,7 +31,8 @@ plug_of k = record { start = k.place; size = k.size; segment = k.segment; genera
 
 -- the object belongs to the plug that follows it
 abbrev pub joins : Survivor → Plug → Bool
-joins k p = ((k.place + k.size == p.start) && (k.segment == p.segment)) && ((k.generation == p.generation) && beq k.pinned p.pinned)
+joins k p = ((k.place + k.size == p.start) && (k.segment == p.segment)) &&
+    ((k.generation == p.generation) && beq k.pinned p.pinned)
 
 abbrev pub joined : Survivor → List Plug → List Plug
 joined k [] = plug_of k ∷ []
@@ -56,7 +60,8 @@ next_pin plugs s place = find (λ p. p.pinned && ((p.segment == s.base) && nat_l
 
 -- from this place to the next pinned plug, or else to the reserved end, there are bytes enough for the size
 abbrev pub HasRoomAt : List Plug → SegInfo → ℕ → ℕ → Type 0
-HasRoomAt plugs s size place = MatchOption (next_pin plugs s place) (place + size ≤ reserved_end s) (λ p. IsTrue (fits size (p.start - place)))
+HasRoomAt plugs s size place = MatchOption (next_pin plugs s place) (place + size ≤ reserved_end s)
+    (λ p. IsTrue (fits size (p.start - place)))
 
 -- the size fits at the place, which stands in one of the segments or at the end of its reservation
 abbrev pub FitsAt : List SegInfo → List Plug → ℕ → ℕ → Type 0
@@ -67,14 +72,16 @@ FitsAt segments plugs size place =
 abbrev pub IsCandidate : List SegInfo → List Plug → ℕ → ℕ → Type 0
 IsCandidate segments plugs pointer place =
     (place ≡ pointer)
-    ⊎ (((p : Plug) × IsIn p plugs × IsTrue p.pinned × (place ≡ plug_end p)) ⊎ ((s : SegInfo) × IsIn s segments × (place ≡ first_place s)))
+    ⊎ (((p : Plug) × IsIn p plugs × IsTrue p.pinned × (place ≡ plug_end p))
+    ⊎ ((s : SegInfo) × IsIn s segments × (place ≡ first_place s)))
 
 -- the place is the lowest candidate at or above the pointer at which the size fits
 pub record IsDestination (segments : List SegInfo) (plugs : List Plug) (pointer size place : ℕ) : Type 0 where
   pub candidate : IsCandidate segments plugs pointer place
   pub not_below : pointer ≤ place
   pub fits : FitsAt segments plugs size place
-  pub lowest : (other : ℕ) → IsCandidate segments plugs pointer other → pointer ≤ other → FitsAt segments plugs size other → place ≤ other
+  pub lowest : (other : ℕ) → IsCandidate segments plugs pointer other → pointer ≤ other
+      → FitsAt segments plugs size other → place ≤ other
 
 -- From the pointer these plugs, by rising place, make these moves, and the pointer is then `after`. A pinned plug stays
 -- and leaves the pointer; another goes to its destination, and the pointer is the end of that.
@@ -96,7 +103,8 @@ raised_past_pins (p ∷ ps) place = raised_past_pins ps (if p.pinned && (p.start
 -- where a place is afterwards: with its plug, or where it was
 abbrev pub moved_by : List Move → ℕ → ℕ
 moved_by [] place = place
-moved_by (v ∷ vs) place = if nat_le v.start place && nat_lt place (v.start + v.size) then v.to + (place - v.start) else moved_by vs place
+moved_by (v ∷ vs) place = if nat_le v.start place && nat_lt place (v.start + v.size) then v.to + (place - v.start) else
+    moved_by vs place
 
 abbrev pub moved_pieces : List Move → List Piece
 moved_pieces moves = by_place (map (λ v. record { place = v.to; size = v.size }) moves)
@@ -104,7 +112,8 @@ moved_pieces moves = by_place (map (λ v. record { place = v.to; size = v.size }
 -- ---- the layout
 
 abbrev pub survivors_in : (SegKind → Bool) → Layout → List Survivor → List Survivor
-survivors_in kinds layout kept = filter (λ k. list_any (λ s. kinds s.kind && (s.base == k.segment)) layout.segments) kept
+survivors_in kinds layout kept =
+    filter (λ k. list_any (λ s. kinds s.kind && (s.base == k.segment)) layout.segments) kept
 
 abbrev pub piece_of_plug : Plug → Piece
 piece_of_plug p = record { place = p.start; size = p.size }
@@ -112,7 +121,8 @@ piece_of_plug p = record { place = p.start; size = p.size }
 abbrev pub pinned_pieces : ℕ → List Plug → List Piece
 pinned_pieces base plugs = map piece_of_plug (filter (λ p. p.pinned && (p.segment == base)) plugs)
 
--- where a segment ends afterwards: the ephemeral one behind its second boundary and its last pinned plug, another behind its last
+-- where a segment ends afterwards: the ephemeral one behind its second boundary and its last pinned plug, another
+-- behind its last
 -- object, or at its first place where it has none
 abbrev pub compacted_end : ℕ → List Plug → List Move → SegInfo → ℕ
 compacted_end start0 plugs moves s =
@@ -129,7 +139,8 @@ abbrev pub first_pointer : Layout → ℕ → List SegInfo → ℕ
 first_pointer layout g segments = part_start layout g (segment_or_empty segments)
 
 -- the small heap compacted: the generations are placed from the oldest to the youngest
-pub record IsCompacted (layout : Layout) (g : ℕ) (kept : List Survivor) (moves : List Move) (new : Layout) : Type 0 where
+pub record IsCompacted (layout : Layout) (g : ℕ) (kept : List Survivor) (moves : List Move)
+    (new : Layout) : Type 0 where
   pub after2 : ℕ
   pub after1 : ℕ
   pub after0 : ℕ
@@ -142,11 +153,15 @@ pub record IsCompacted (layout : Layout) (g : ℕ) (kept : List Survivor) (moves
   pub plugs_are : plugs ≡ plugs_of (survivors_in is_small_or_ephemeral layout kept)
   pub placed2 : Placed segments plugs (first_pointer layout g segments) (plugs_of_generation 2 plugs) moves2 after2
   pub placed1 : Placed segments plugs after2 (plugs_of_generation 1 plugs) moves1 after1
-  pub start1 : new.start1 ≡ (if g == 0 then layout.start1 else raised_past_pins (filter (λ p. nat_le 1 p.generation) plugs) (max after1 (first_place (ephemeral layout))))
-  pub placed0 : Placed segments plugs (if g == 0 then after1 else new.start1) (plugs_of_generation 0 plugs) moves0 after0
+  pub start1 : new.start1 ≡ (if g == 0 then layout.start1 else
+      raised_past_pins (filter (λ p. nat_le 1 p.generation) plugs) (max after1 (first_place (ephemeral layout))))
+  pub placed0 : Placed segments plugs (if g == 0 then after1 else new.start1)
+      (plugs_of_generation 0 plugs) moves0 after0
   pub start0 : new.start0 ≡ raised_past_pins plugs after0
   pub moves_are : moves ≡ (moves2 ++ moves1) ++ moves0
-  pub ends : new.segments ≡ segments_after is_small_or_ephemeral g (compacted_end new.start0 plugs moves) layout.segments
-  pub free : new.free ≡ free_after is_small_or_ephemeral layout g (flat_map (compacted_free layout g new.start0 plugs moves) segments)
+  pub ends : new.segments ≡ segments_after is_small_or_ephemeral g
+      (compacted_end new.start0 plugs moves) layout.segments
+  pub free : new.free ≡ free_after is_small_or_ephemeral layout g
+      (flat_map (compacted_free layout g new.start0 plugs moves) segments)
   pub rests : new.rests ≡ layout.rests
   pub top : new.top ≡ layout.top

@@ -2,13 +2,17 @@
 use Rattle.std.specs.Prelude.{ℕ, ◌-◌, ◌^◌, Bool, List, Option, Some, unwrap_or}
 use Rattle.std.specs.Option.{option_map}
 use Rattle.clr_types.specs.Types.{Form, form_of}
-use Rattle.clr_types.specs.declared.Kind.{Kind}
+use Rattle.clr_types.specs.declared.handle.Kind.{Kind}
 use Rattle.clr_model.specs.declared.How.{How}
 use Rattle.clr_model.specs.declared.Mode.{Mode}
 use Rattle.clr_model.specs.declared.Life.{Life}
 use Rattle.clr_model.specs.declared.command.Filter.{Filter}
 use Rattle.clr_model.specs.declared.command.Command.{Command}
-use Rattle.clr_model.specs.declared.command.Command.TheVariants.{Define, New, Get, Set, Put, Read, Copy, Clear, Suppress, Reregister, Collect, Suspend, Resume, BeginSet, BeginNew, Step, Handle, Fetch, Second, Free, Finalizer, DumpHeap, DumpObj, GcRoot, EeHeap, VerifyHeap, GcHandles, FinalizeQueue, GcWhere}
+use Rattle.clr_model.specs.declared.command.Command.TheVariants.{Define, New, Get, Set, Put, Read, Copy, Clear}
+use Rattle.clr_model.specs.declared.command.Command.TheVariants.{Suppress, Reregister, Collect, Suspend, Resume}
+use Rattle.clr_model.specs.declared.command.Command.TheVariants.{BeginSet, BeginNew, Step, Handle, Fetch, Second, Free}
+use Rattle.clr_model.specs.declared.command.Command.TheVariants.{Finalizer, DumpHeap, DumpObj, GcRoot, EeHeap}
+use Rattle.clr_model.specs.declared.command.Command.TheVariants.{VerifyHeap, GcHandles, FinalizeQueue, GcWhere}
 
 -- the options of `dumpheap` as they are written
 pub record DumpOptions : Type 0 where

@@ -1,12 +1,18 @@
 -- What is to hold of a machine's state between any two lines.
-use Rattle.std.specs.Prelude.{◌≡◌, ℕ, ◌+◌, ◌*◌, ◌%◌, ◌^◌, ◌<◌, ◌≤◌, List, [], ◌∷◌, map, length, Some, if◌then◌else◌, Bool, true, false, ◌⊎◌, IsTrue, IsSome, IfSome, is_some, slice_get}
+use Rattle.std.specs.Prelude.{◌≡◌, ℕ, ◌+◌, ◌*◌, ◌%◌, ◌^◌, ◌<◌, ◌≤◌, List, [], ◌∷◌, map, length, Some, if◌then◌else◌}
+use Rattle.std.specs.Prelude.{Bool, true, false, ◌⊎◌, IsTrue, IsSome, IfSome, is_some, nat_le, slice_get}
 use Rattle.std.specs.List.{AllByRecursion}
 use Rattle.std.specs.FinMap as finmap
 use Rattle.clr_types.specs.Rising.{IsRisingBy}
 use Rattle.clr_types.specs.Ranges.{Piece, fits}
-use Rattle.clr_types.specs.Types.{Form, type_row, size_of, slot_kinds, is_bytes, is_array, form_at, has_finalizer}
-use Rattle.clr_model.specs.Machine.{Value, ref, num, Object, HandleRow, ThreadStep, no_step, begun_store, begun_new, Options, Machine}
-use Rattle.clr_model.specs.Lookups.{object_size, object_named, slots_of_named, is_thread, is_dependent, pieces}
+use Rattle.clr_types.specs.Types.{Form, TypeRow, type_row, size_of, slot_kinds, is_bytes, is_array, form_at}
+use Rattle.clr_types.specs.Types.{has_finalizer}
+use Rattle.clr_types.specs.declared.handle.Handle.{Handle}
+use Rattle.clr_model.specs.Machine.{Value, ref, num, Object, ThreadStep, no_step, begun_store, begun_new, Options}
+use Rattle.clr_model.specs.Machine.{Machine}
+use Rattle.clr_model.specs.Lookups.{object_size, object_named, object_has_finalizer, slots_of_named, is_thread}
+use Rattle.clr_model.specs.Lookups.{is_dependent, pieces, bytes_of, bytes_where, bytes_up_to}
+use Rattle.clr_model.specs.LineGrammar.{is_name}
 use Rattle.clr_types.specs.Table.{IsLawfulRow, HasDistinctNames}
 use Rattle.clr_types.specs.LawfulLayout.{IsLawfulLayout, IsTiled, DoesNotCross}
 use Rattle.clr_types.specs.declared.segment.SegKind.{SegKind}
@@ -32,18 +38,22 @@ is_reference_value (num number) = false
 -- a begun store is into a reference slot of an object that is present, and a begun object of a class has no length
 abbrev pub StepIsPresent : Machine → ThreadStep → Type 0
 StepIsPresent m no_step = Unit {0}
-StepIsPresent m (begun_store object slot) = IsPresent m object × (name : ℕ) × (slice_get (slots_of_named m object) slot ≡ Some (ref name))
-StepIsPresent m (begun_new type len local) = (local < 64) × IsTrue (is_some (type_row m.types type)) × (is_array (form_at m.types type) ≡ false → len ≡ 0)
+StepIsPresent m (begun_store object slot) = IsPresent m object × (name : ℕ)
+    × (slice_get (slots_of_named m object) slot ≡ Some (ref name))
+StepIsPresent m (begun_new type len local) = (local < 64) × IsTrue (is_some (type_row m.types type))
+    × (is_array (form_at m.types type) ≡ false → len ≡ 0)
 
--- only a dependent handle names a second object
-abbrev pub HasItsSecond : HandleRow → Type 0
-HasItsSecond row = is_dependent row.kind ≡ false → row.second ≡ 0
+-- only a dependent handle whose primary is an object names a second one
+pub record HasItsSecond (row : Handle) : Type 0 where
+  pub dependent : is_dependent row.kind ≡ false → row.second ≡ 0
+  pub primary : row.target ≡ 0 → row.second ≡ 0
 
 -- every name in the state is null or an object's; queues and begun stores have no null
 pub record NamesArePresent (m : Machine) : Type 0 where
   pub slots : AllByRecursion (λ (o : Object). AllByRecursion (SlotIsPresent m) o.slots) m.objects
   pub locals : AllByRecursion (IsNullOrPresent m) m.locals
-  pub handles : AllByRecursion (λ (row : HandleRow). IsNullOrPresent m row.target × IsNullOrPresent m row.second) (finmap.values m.handles)
+  pub handles : AllByRecursion (λ (row : Handle). IsNullOrPresent m row.target × IsNullOrPresent m row.second)
+      (finmap.values m.handles)
   pub entries : AllByRecursion (IsPresent m) m.entries
   pub ready : AllByRecursion (IsPresent m) m.ready
   pub steps : AllByRecursion (StepIsPresent m) m.steps
@@ -73,6 +83,23 @@ Suits m o Large = m.options.large ≤ object_size m.types o
 abbrev pub SuitsItsSegment : Machine → Object → Type 0
 SuitsItsSegment m o = IfSome (segment_of m.layout o.place) (λ s. Suits m o s.kind)
 
+-- ---- what is queued, and what is counted
+
+-- an object whose type has a finaliser
+abbrev pub IsFinal : Machine → ℕ → Type 0
+IsFinal m name = object_has_finalizer m name ≡ true
+
+-- The bytes of small births since the last collection, of large ones since the last full one, and of what went from
+-- generation 0 to 1 and
+-- from 1 to 2 are bytes of objects that are there. What went to 1 isn't of generation 0, and what went to 2 is of
+-- neither, so these bounds
+-- hold on when the segment of all of them becomes a small one.
+pub record AreBoundedSums (m : Machine) : Type 0 where
+  pub spent0 : m.sums.spent0 ≤ bytes_of m
+  pub spent_large : m.sums.spent_large ≤ bytes_where m (λ o. nat_le m.options.large (object_size m.types o))
+  pub promoted1 : m.sums.promoted1 + bytes_up_to m 0 ≤ bytes_of m
+  pub promoted2 : m.sums.promoted2 + bytes_up_to m 1 ≤ bytes_of m
+
 -- ---- what threads have begun
 
 -- the front of the thread's context has room for what it began
@@ -80,7 +107,8 @@ abbrev pub HasItsRoom : Machine → ℕ → ThreadStep → Type 0
 HasItsRoom m t no_step = Unit {0}
 HasItsRoom m t (begun_store object slot) = Unit {0}
 HasItsRoom m t (begun_new type len local) =
-    (rest : Piece) × (rest_of m.layout t ≡ Some rest) × IsTrue (fits (size_of (form_at m.types type) len) rest.size) × (size_of (form_at m.types type) len < m.options.large)
+    (rest : Piece) × (rest_of m.layout t ≡ Some rest) × IsTrue (fits (size_of (form_at m.types type) len) rest.size)
+    × (size_of (form_at m.types type) len < m.options.large)
 
 abbrev pub AllFrom : (ℕ → ThreadStep → Type 0) → ℕ → List ThreadStep → Type 0
 AllFrom P t [] = Unit {0}
@@ -113,6 +141,7 @@ pub record IsLawful (m : Machine) : Type 0 where
   pub types : AllByRecursion IsLawfulRow m.types
   pub type_count : length m.types ≤ 1000
   pub type_names : HasDistinctNames m.types
+  pub type_words : AllByRecursion (λ (row : TypeRow). is_name row.name ≡ true) m.types
   pub names_rise : IsRisingBy (λ (o : Object). o.name) m.objects
   pub shapes : AllByRecursion (IsShaped m) m.objects
   pub laid : IsLaid m
@@ -126,6 +155,10 @@ pub record IsLawful (m : Machine) : Type 0 where
   pub rooms : AllFrom (HasItsRoom m) 1 m.steps
   pub holder : IfSome m.holder (λ t. IsTrue (is_thread t))
   pub handle_count : finmap.len m.handles ≤ 65536
+  pub handle_numbers : AllByRecursion (λ (e : ℕ × Handle). e.0 < 65536) (finmap.entries m.handles)
+  pub entries : AllByRecursion (IsFinal m) m.entries
+  pub ready : AllByRecursion (IsFinal m) m.ready
+  pub sums : AreBoundedSums m
 
 -- a machine whose objects are named by their births, counted from 1
 pub record IsBirthNamed (m : Machine) : Type 0 where

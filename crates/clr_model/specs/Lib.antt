@@ -1,5 +1,4 @@
 pub mod Machine
-pub mod MachineCode
 pub mod Lookups
 pub mod Picture
 pub mod Lawful

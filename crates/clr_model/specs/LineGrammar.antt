@@ -1,8 +1,9 @@
 -- The grammar of lines: each instruction has one spelling, and a line is the spelling of a well-formed instruction.
-use Rattle.std.specs.Prelude.{◌≡◌, ℕ, ◌^◌, ◌<◌, ◌≤◌, List, [], ◌∷◌, ◌++◌, length, Bool, true, false, ◌&&◌, ◌||◌, nat_le, ◌==◌, if◌then◌else◌, IsTrue, codes, decimal, Option, Some, None, IfSome}
+use Rattle.std.specs.Prelude.{◌≡◌, ℕ, ◌^◌, ◌<◌, ◌≤◌, List, [], ◌∷◌, ◌++◌, length, Bool, true, false, ◌&&◌, ◌||◌, nat_le}
+use Rattle.std.specs.Prelude.{◌==◌, if◌then◌else◌, IsTrue, codes, decimal, Option, Some, None, IfSome}
 use Rattle.std.specs.List.{list_all, slice_split}
-use Rattle.clr_types.specs.declared.Kind.{Kind}
-use Rattle.clr_types.specs.declared.Kind.TheVariants.{Strong, Pinned, Weak, WeakLong, Dependent}
+use Rattle.clr_types.specs.declared.handle.Kind.{Kind}
+use Rattle.clr_types.specs.declared.handle.Kind.TheVariants.{Strong, Pinned, Weak, WeakLong, Dependent}
 use Rattle.clr_types.specs.Types.{Form, class_form, references_form, bytes_form, structs_form, is_pattern_byte}
 use Rattle.clr_model.specs.declared.How.{How}
 use Rattle.clr_model.specs.declared.How.TheVariants.{Decide, Compact, Sweep}
@@ -10,7 +11,12 @@ use Rattle.clr_model.specs.declared.Mode.{Mode}
 use Rattle.clr_model.specs.declared.Mode.TheVariants.{Full, Stat, Short}
 use Rattle.clr_model.specs.declared.Life.{Life}
 use Rattle.clr_model.specs.declared.Life.TheVariants.{Any, Live, Dead}
-use Rattle.clr_model.specs.Instructions.{Instruction, DumpOptions, define_type, new_object, get_slot, set_slot, put_number, read_number, copy_local, clear_local, suppress_object, reregister_object, collect_heap, suspend_others, resume_others, begin_set, begin_new, finish_step, create_handle, fetch_target, fetch_second, free_handle, take_ready, dump_heap, dump_object, show_root, show_segments, verify_heap, show_handles, show_queues, where_is}
+use Rattle.clr_model.specs.Instructions.{Instruction, DumpOptions, define_type, new_object, get_slot, set_slot}
+use Rattle.clr_model.specs.Instructions.{put_number, read_number, copy_local, clear_local, suppress_object}
+use Rattle.clr_model.specs.Instructions.{reregister_object, collect_heap, suspend_others, resume_others, begin_set}
+use Rattle.clr_model.specs.Instructions.{begin_new, finish_step, create_handle, fetch_target, fetch_second, free_handle}
+use Rattle.clr_model.specs.Instructions.{take_ready, dump_heap, dump_object, show_root, show_segments, verify_heap}
+use Rattle.clr_model.specs.Instructions.{show_handles, show_queues, where_is}
 use Rattle.clr_nums.specs.Numbers.{hex16}
 use Rattle.clr_model.specs.ReplyText.{spaced, kind_word}
 
@@ -77,15 +83,18 @@ size_words option None = []
 size_words option (Some n) = option ∷ decimal n ∷ []
 
 abbrev pub option_words : DumpOptions → List (List ℕ)
-option_words o = ((((mode_words o.mode ++ life_words o.life) ++ mt_words o.mt) ++ name_words o.name) ++ size_words (codes "-min") o.least) ++ size_words (codes "-max") o.greatest
+option_words o = ((((mode_words o.mode ++ life_words o.life) ++ mt_words o.mt) ++ name_words o.name)
+    ++ size_words (codes "-min") o.least) ++ size_words (codes "-max") o.greatest
 
 -- the words of a line, in order
 abbrev pub words_of : Instruction → List (List ℕ)
 words_of (define_type name form finalizer) = codes "type" ∷ name ∷ (form_words form ++ final_words finalizer)
 words_of (new_object t local name len) = thread_word t ∷ codes "new" ∷ local_word local ∷ name ∷ number_words len
 words_of (get_slot t to from index) = thread_word t ∷ codes "get" ∷ local_word to ∷ local_word from ∷ decimal index ∷ []
-words_of (set_slot t into index from) = thread_word t ∷ codes "set" ∷ local_word into ∷ decimal index ∷ local_word from ∷ []
-words_of (put_number t into index value) = thread_word t ∷ codes "put" ∷ local_word into ∷ decimal index ∷ decimal value ∷ []
+words_of (set_slot t into index from) = thread_word t ∷ codes "set" ∷ local_word into ∷ decimal index ∷ local_word from
+    ∷ []
+words_of (put_number t into index value) = thread_word t ∷ codes "put" ∷ local_word into ∷ decimal index ∷ decimal value
+    ∷ []
 words_of (read_number t from index) = thread_word t ∷ codes "read" ∷ local_word from ∷ decimal index ∷ []
 words_of (copy_local t to from) = thread_word t ∷ codes "copy" ∷ local_word to ∷ local_word from ∷ []
 words_of (clear_local t local) = thread_word t ∷ codes "null" ∷ local_word local ∷ []
@@ -94,10 +103,13 @@ words_of (reregister_object t local) = thread_word t ∷ codes "reregister" ∷ 
 words_of (collect_heap t g how) = thread_word t ∷ codes "collect" ∷ decimal g ∷ how_words how
 words_of (suspend_others t) = thread_word t ∷ codes "suspend" ∷ []
 words_of (resume_others t) = thread_word t ∷ codes "resume" ∷ []
-words_of (begin_set t into index from) = thread_word t ∷ codes "begin" ∷ codes "set" ∷ local_word into ∷ decimal index ∷ local_word from ∷ []
-words_of (begin_new t local name len) = thread_word t ∷ codes "begin" ∷ codes "new" ∷ local_word local ∷ name ∷ number_words len
+words_of (begin_set t into index from) = thread_word t ∷ codes "begin" ∷ codes "set" ∷ local_word into ∷ decimal index
+    ∷ local_word from ∷ []
+words_of (begin_new t local name len) = thread_word t ∷ codes "begin" ∷ codes "new" ∷ local_word local ∷ name
+    ∷ number_words len
 words_of (finish_step t) = thread_word t ∷ codes "step" ∷ []
-words_of (create_handle t kind local second) = thread_word t ∷ codes "handle" ∷ kind_word kind ∷ local_word local ∷ local_words second
+words_of (create_handle t kind local second) = thread_word t ∷ codes "handle" ∷ kind_word kind ∷ local_word local
+    ∷ local_words second
 words_of (fetch_target t to h) = thread_word t ∷ codes "fetch" ∷ local_word to ∷ handle_word h ∷ []
 words_of (fetch_second t to h) = thread_word t ∷ codes "second" ∷ local_word to ∷ handle_word h ∷ []
 words_of (free_handle t h) = thread_word t ∷ codes "free" ∷ handle_word h ∷ []

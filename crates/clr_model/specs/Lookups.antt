@@ -1,14 +1,16 @@
 -- What the machine's state says of a name, a place, a thread and a type.
-use Rattle.std.specs.Prelude.{ℕ, ◌+◌, ◌-◌, ◌*◌, List, [], ◌∷◌, ◌++◌, map, Option, Some, None, if◌then◌else◌, ◌==◌, nat_le, Bool, true, false, ◌&&◌, slice_get, slice_index}
+use Rattle.std.specs.Prelude.{ℕ, ◌+◌, ◌-◌, ◌*◌, List, [], ◌∷◌, ◌++◌, map, Option, Some, None, if◌then◌else◌, ◌==◌}
+use Rattle.std.specs.Prelude.{nat_le, Bool, true, false, ◌&&◌, filter, slice_get, slice_index, sum_by}
 use Rattle.std.specs.List.{list_any}
 use Rattle.std.specs.FinMap as finmap
-use Rattle.clr_types.specs.declared.Kind.{Kind}
-use Rattle.clr_types.specs.declared.Kind.TheVariants.{Strong, Pinned, Weak, WeakLong, Dependent}
+use Rattle.clr_types.specs.declared.handle.Kind.{Kind}
+use Rattle.clr_types.specs.declared.handle.Kind.TheVariants.{Strong, Pinned, Weak, WeakLong, Dependent}
 use Rattle.clr_types.specs.Rising.{find_by}
 use Rattle.clr_types.specs.Ranges.{Piece, by_place}
-use Rattle.clr_types.specs.Types.{TypeRow, form_at, size_of}
-use Rattle.clr_types.specs.Segments.{rest_pieces}
-use Rattle.clr_model.specs.Machine.{Value, Object, HandleRow, ThreadStep, no_step, begun_store, begun_new, Machine}
+use Rattle.clr_types.specs.Types.{TypeRow, form_at, has_finalizer, size_of, type_row}
+use Rattle.clr_types.specs.Segments.{generation, rest_pieces}
+use Rattle.clr_types.specs.declared.handle.Handle.{Handle}
+use Rattle.clr_model.specs.Machine.{Value, Object, ThreadStep, no_step, begun_store, begun_new, Machine}
 
 -- ---- types and sizes
 
@@ -37,6 +39,17 @@ slots_or_none (Some o) = o.slots
 
 abbrev pub slots_of_named : Machine → ℕ → List Value
 slots_of_named m name = slots_or_none (object_named m.objects name)
+
+-- the type of an object, 0 where there is none
+abbrev pub type_of_object : Option Object → ℕ
+type_of_object None = 0
+type_of_object (Some o) = o.type
+
+abbrev pub type_of_named : Machine → ℕ → ℕ
+type_of_named m name = type_of_object (object_named m.objects name)
+
+abbrev pub object_has_finalizer : Machine → ℕ → Bool
+object_has_finalizer m name = has_finalizer (type_row m.types (type_of_named m name))
 
 -- ---- threads
 
@@ -93,7 +106,7 @@ is_root_kind Weak = false
 is_root_kind WeakLong = false
 is_root_kind Dependent = false
 
-abbrev pub handle_rows : Machine → List HandleRow
+abbrev pub handle_rows : Machine → List Handle
 handle_rows m = finmap.values m.handles
 
 -- a pinned handle has this object as its target
@@ -108,3 +121,17 @@ object_piece rows o = record { place = o.place; size = object_size rows o }
 -- the objects' ranges, the free items and the rests of contexts, by rising place
 abbrev pub pieces : Machine → List Piece
 pieces m = by_place ((map (object_piece m.types) m.objects ++ m.layout.free) ++ rest_pieces m.layout.rests)
+
+-- ---- bytes
+
+-- the bytes of all objects
+abbrev pub bytes_of : Machine → ℕ
+bytes_of m = sum_by (object_size m.types) m.objects
+
+-- the bytes of the objects that a test passes
+abbrev pub bytes_where : Machine → (Object → Bool) → ℕ
+bytes_where m test = sum_by (object_size m.types) (filter test m.objects)
+
+-- the bytes of the objects of generation g and younger ones
+abbrev pub bytes_up_to : Machine → ℕ → ℕ
+bytes_up_to m g = bytes_where m (λ o. nat_le (generation m.layout o.place) g)

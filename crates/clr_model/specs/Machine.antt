@@ -3,7 +3,7 @@
 use Rattle.std.specs.Prelude.{ℕ, Bool, List, Option}
 use Rattle.std.specs.FinMap.{FinMap}
 use Rattle.std.specs.Ordering.{nat_cmp}
-use Rattle.clr_types.specs.declared.Kind.{Kind}
+use Rattle.clr_types.specs.declared.handle.Handle.{Handle}
 use Rattle.clr_types.specs.Types.{TypeRow}
 use Rattle.clr_types.specs.Segments.{Layout}
 
@@ -20,19 +20,14 @@ pub record Object : Type 0 where
   pub slots : List Value
   pub suppressed : Bool
 
--- `target` of a dependent handle is its primary. `second` is null but for those.
-pub record HandleRow : Type 0 where
-  pub kind : Kind
-  pub target : ℕ
-  pub second : ℕ
-
 -- what a thread has begun: a store into this slot of this object, or an object to be placed and put into this local
 pub data ThreadStep : Type 0 where
   no_step : ThreadStep
   begun_store : (object slot : ℕ) → ThreadStep
   begun_new : (type len local : ℕ) → ThreadStep
 
--- bytes allocated since the last collection, large ones since the last full one, and bytes that went from 0 to 1 and from 1 to 2
+-- bytes allocated since the last collection, large ones since the last full one, and bytes that went from 0 to 1 and
+-- from 1 to 2
 pub record Sums : Type 0 where
   pub spent0 : ℕ
   pub spent_large : ℕ
@@ -49,13 +44,14 @@ pub record Options : Type 0 where
   pub compact : ℕ
   pub large : ℕ
 
--- `locals` has 64 for each of 16 threads, by thread. `entries` are the finalisation entries and `ready` the f-reachable queue.
+-- `locals` has 64 for each of 16 threads, by thread. `entries` are the finalisation entries and `ready` the f-reachable
+-- queue.
 pub record Machine : Type 0 where
   pub types : List TypeRow
   pub born : ℕ
   pub objects : List Object
   pub locals : List ℕ
-  pub handles : FinMap nat_cmp HandleRow
+  pub handles : FinMap nat_cmp Handle
   pub entries : List ℕ
   pub ready : List ℕ
   pub steps : List ThreadStep

@@ -1,12 +1,14 @@
--- The instruction that words spell, found by reading them from the front. The grammar is LineGrammar's; this is the tool by which it is shown that a line
+-- The instruction that words spell, found by reading them from the front. The grammar is LineGrammar's; this is the
+-- tool by which it is shown that a line
 -- has one reading, and by which the reader of lines is proved.
-use Rattle.std.specs.Prelude.{ℕ, ◌^◌, List, [], ◌∷◌, Bool, true, false, ◌&&◌, nat_lt, nat_le, ◌==◌, ◌+◌, ◌-◌, ◌*◌, if◌then◌else◌, codes, bytes_eq, Option, Some, None}
+use Rattle.std.specs.Prelude.{ℕ, ◌^◌, List, [], ◌∷◌, Bool, true, false, ◌&&◌, nat_lt, nat_le, ◌==◌, ◌+◌, ◌-◌, ◌*◌}
+use Rattle.std.specs.Prelude.{if◌then◌else◌, codes, bytes_eq, Option, Some, None}
 use Rattle.std.specs.Option.{option_map, option_and_then}
 use Rattle.std.specs.List.{list_all}
 use Rattle.std.specs.Str.Parse.{digits_value}
 use Rattle.clr_nums.specs.Numbers.{is_decimal_form, is_hex_form}
-use Rattle.clr_types.specs.declared.Kind.{Kind}
-use Rattle.clr_types.specs.declared.Kind.TheVariants.{Strong, Pinned, Weak, WeakLong, Dependent}
+use Rattle.clr_types.specs.declared.handle.Kind.{Kind}
+use Rattle.clr_types.specs.declared.handle.Kind.TheVariants.{Strong, Pinned, Weak, WeakLong, Dependent}
 use Rattle.clr_types.specs.Types.{class_form, references_form, bytes_form, structs_form, is_pattern_byte}
 use Rattle.clr_model.specs.declared.How.{How}
 use Rattle.clr_model.specs.declared.How.TheVariants.{Decide, Compact, Sweep}
@@ -14,14 +16,20 @@ use Rattle.clr_model.specs.declared.Mode.{Mode}
 use Rattle.clr_model.specs.declared.Mode.TheVariants.{Full, Stat, Short}
 use Rattle.clr_model.specs.declared.Life.{Life}
 use Rattle.clr_model.specs.declared.Life.TheVariants.{Any, Live, Dead}
-use Rattle.clr_model.specs.Instructions.{Instruction, DumpOptions, define_type, new_object, get_slot, set_slot, put_number, read_number, copy_local, clear_local, suppress_object, reregister_object, collect_heap, suspend_others, resume_others, begin_set, begin_new, finish_step, create_handle, fetch_target, fetch_second, free_handle, take_ready, dump_heap, dump_object, show_root, show_segments, verify_heap, show_handles, show_queues, where_is}
+use Rattle.clr_model.specs.Instructions.{Instruction, DumpOptions, define_type, new_object, get_slot, set_slot}
+use Rattle.clr_model.specs.Instructions.{put_number, read_number, copy_local, clear_local, suppress_object}
+use Rattle.clr_model.specs.Instructions.{reregister_object, collect_heap, suspend_others, resume_others, begin_set}
+use Rattle.clr_model.specs.Instructions.{begin_new, finish_step, create_handle, fetch_target, fetch_second, free_handle}
+use Rattle.clr_model.specs.Instructions.{take_ready, dump_heap, dump_object, show_root, show_segments, verify_heap}
+use Rattle.clr_model.specs.Instructions.{show_handles, show_queues, where_is}
 use Rattle.clr_model.specs.LineGrammar.{is_name}
 
 -- ---- one word
 
 -- the number of a word in decimal digits, if it fits 64 bits
 unfoldable pub number_in : List ℕ → Option ℕ
-number_in word = if is_decimal_form word && nat_lt (digits_value 10 word) (2 ^ 64) then Some (digits_value 10 word) else None
+number_in word = if is_decimal_form word && nat_lt (digits_value 10 word) (2 ^ 64) then Some (digits_value 10 word) else
+    None
 
 -- the value of a hexadecimal digit's byte
 abbrev pub hex_digit_value : ℕ → ℕ
@@ -60,7 +68,8 @@ name_in word = if is_name word then Some word else None
 -- the pattern of a word: none of its slots for `-`
 unfoldable pub pattern_in : List ℕ → Option (List ℕ)
 pattern_in [] = None
-pattern_in (b ∷ bytes) = if bytes_eq (b ∷ bytes) (codes "-") then Some [] else (if list_all is_pattern_byte (b ∷ bytes) then Some (b ∷ bytes) else None)
+pattern_in (b ∷ bytes) = if bytes_eq (b ∷ bytes) (codes "-") then Some [] else
+    (if list_all is_pattern_byte (b ∷ bytes) then Some (b ∷ bytes) else None)
 
 -- the kind of a handle
 unfoldable pub kind_in : List ℕ → Option Kind
@@ -115,12 +124,14 @@ one_handle_in ws = option_and_then handle_in (one_in ws)
 
 -- two words, each read in its way
 abbrev pub both_in : (first second : List ℕ → Option ℕ) → List (List ℕ) → Option (ℕ × ℕ)
-both_in first second ws = option_and_then (λ w. option_and_then (λ a. option_map (λ b. (a, b)) (second w.1)) (first w.0)) (two_in ws)
+both_in first second ws = option_and_then
+    (λ w. option_and_then (λ a. option_map (λ b. (a, b)) (second w.1)) (first w.0)) (two_in ws)
 
 -- and three
 abbrev pub each_in : (first second third : List ℕ → Option ℕ) → List (List ℕ) → Option (ℕ × ℕ × ℕ)
 each_in first second third ws =
-    option_and_then (λ w. option_and_then (λ a. option_and_then (λ b. option_map (λ c. (a, b, c)) (third w.2)) (second w.1)) (first w.0)) (three_in ws)
+    option_and_then (λ w. option_and_then
+    (λ a. option_and_then (λ b. option_map (λ c. (a, b, c)) (third w.2)) (second w.1)) (first w.0)) (three_in ws)
 
 -- two locals
 unfoldable pub locals_in : List (List ℕ) → Option (ℕ × ℕ)
@@ -156,12 +167,15 @@ length_in (word ∷ other ∷ more) = None
 unfoldable pub birth_in : List (List ℕ) → Option (ℕ × List ℕ × Option ℕ)
 birth_in [] = None
 birth_in (a ∷ []) = None
-birth_in (a ∷ b ∷ more) = option_and_then (λ local. option_and_then (λ name. option_map (λ len. (local, name, len)) (length_in more)) (name_in b)) (local_in a)
+birth_in (a ∷ b ∷ more) = option_and_then
+    (λ local. option_and_then (λ name. option_map (λ len. (local, name, len)) (length_in more)) (name_in b))
+    (local_in a)
 
 -- how to collect
 unfoldable pub how_in : List (List ℕ) → Option How
 how_in [] = Some Decide
-how_in (word ∷ []) = if bytes_eq word (codes "compacting") then Some Compact else (if bytes_eq word (codes "sweeping") then Some Sweep else None)
+how_in (word ∷ []) = if bytes_eq word (codes "compacting") then Some Compact else
+    (if bytes_eq word (codes "sweeping") then Some Sweep else None)
 how_in (word ∷ other ∷ more) = None
 
 -- a generation, and how to collect it
@@ -181,7 +195,9 @@ second_in WeakLong ws = option_map (λ none. None) (none_in ws)
 unfoldable pub create_in : ℕ → List (List ℕ) → Option Instruction
 create_in t [] = None
 create_in t (a ∷ []) = None
-create_in t (a ∷ b ∷ more) = option_and_then (λ kind. option_and_then (λ local. option_map (create_handle t kind local) (second_in kind more)) (local_in b)) (kind_in a)
+create_in t (a ∷ b ∷ more) = option_and_then
+    (λ kind. option_and_then (λ local. option_map (create_handle t kind local) (second_in kind more)) (local_in b))
+    (kind_in a)
 
 -- ---- the lines of a thread
 
@@ -249,11 +265,13 @@ final_in (word ∷ other ∷ more) = None
 -- a class: its pattern, and whether it has a finaliser
 unfoldable pub class_in : List ℕ → List (List ℕ) → Option Instruction
 class_in name [] = None
-class_in name (word ∷ more) = option_and_then (λ pattern. option_map (define_type name (class_form pattern)) (final_in more)) (pattern_in word)
+class_in name (word ∷ more) = option_and_then
+    (λ pattern. option_map (define_type name (class_form pattern)) (final_in more)) (pattern_in word)
 
 -- an array of structs: its pattern
 unfoldable pub structs_in : List ℕ → List (List ℕ) → Option Instruction
-structs_in name ws = option_and_then (λ word. option_map (λ pattern. define_type name (structs_form pattern) false) (pattern_in word)) (one_in ws)
+structs_in name ws = option_and_then
+    (λ word. option_map (λ pattern. define_type name (structs_form pattern) false) (pattern_in word)) (one_in ws)
 
 -- the shape that this word begins
 unfoldable pub shape_in : List ℕ → List ℕ → List (List ℕ) → Option Instruction
@@ -261,7 +279,8 @@ shape_in name word ws =
     if bytes_eq word (codes "class") then class_in name ws
     else (if bytes_eq word (codes "structs") then structs_in name ws
     else (if bytes_eq word (codes "refs") then option_map (λ none. define_type name references_form false) (none_in ws)
-    else (if bytes_eq word (codes "bytes") then option_map (λ none. define_type name bytes_form false) (none_in ws) else None)))
+    else (if bytes_eq word (codes "bytes") then option_map (λ none. define_type name bytes_form false) (none_in ws) else
+    None)))
 
 -- a name and a shape
 unfoldable pub define_in : List (List ℕ) → Option Instruction
@@ -274,12 +293,14 @@ define_in (a ∷ b ∷ more) = option_and_then (λ name. shape_in name b more) (
 -- how to show the heap
 unfoldable pub mode_in : List (List ℕ) → Mode × List (List ℕ)
 mode_in [] = (Full, [])
-mode_in (word ∷ ws) = if bytes_eq word (codes "-stat") then (Stat, ws) else (if bytes_eq word (codes "-short") then (Short, ws) else (Full, word ∷ ws))
+mode_in (word ∷ ws) = if bytes_eq word (codes "-stat") then (Stat, ws) else
+    (if bytes_eq word (codes "-short") then (Short, ws) else (Full, word ∷ ws))
 
 -- which objects to show
 unfoldable pub life_in : List (List ℕ) → Life × List (List ℕ)
 life_in [] = (Any, [])
-life_in (word ∷ ws) = if bytes_eq word (codes "-live") then (Live, ws) else (if bytes_eq word (codes "-dead") then (Dead, ws) else (Any, word ∷ ws))
+life_in (word ∷ ws) = if bytes_eq word (codes "-live") then (Live, ws) else
+    (if bytes_eq word (codes "-dead") then (Dead, ws) else (Any, word ∷ ws))
 
 -- the type by its method table word or by its name
 pub record TypeChoice : Type 0 where
@@ -301,7 +322,8 @@ unfoldable pub choice_in : List (List ℕ) → Option (TypeChoice × List (List 
 choice_in [] = Some (record { mt = None; name = None }, [])
 choice_in (word ∷ ws) =
     if bytes_eq word (codes "-mt") then mt_choice_in ws
-    else (if bytes_eq word (codes "-type") then name_choice_in ws else Some (record { mt = None; name = None }, word ∷ ws))
+    else (if bytes_eq word (codes "-type") then name_choice_in ws else
+    Some (record { mt = None; name = None }, word ∷ ws))
 
 -- the number that is due behind an option
 abbrev pub number_then_in : List (List ℕ) → Option (Option ℕ × List (List ℕ))

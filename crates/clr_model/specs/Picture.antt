@@ -1,9 +1,9 @@
 -- A machine with other names, and its picture: the same machine with each object named by its place.
 use Rattle.std.specs.Prelude.{ℕ, map}
-use Rattle.std.specs.Ordering.{nat_cmp}
-use Rattle.std.specs.FinMap as finmap
 use Rattle.clr_types.specs.Rising.{sorted_by}
-use Rattle.clr_model.specs.Machine.{Value, ref, num, Object, HandleRow, ThreadStep, no_step, begun_store, begun_new, Machine}
+use Rattle.clr_types.specs.Maps.{map_values}
+use Rattle.clr_types.specs.declared.handle.Handle.{Handle}
+use Rattle.clr_model.specs.Machine.{Value, ref, num, Object, ThreadStep, no_step, begun_store, begun_new, Machine}
 use Rattle.clr_model.specs.Lookups.{place_of}
 
 abbrev pub renamed_value : (ℕ → ℕ) → Value → Value
@@ -13,17 +13,13 @@ renamed_value to (num number) = num number
 abbrev pub renamed_object : (ℕ → ℕ) → Object → Object
 renamed_object to o = record o { name = to o.name; slots = map (renamed_value to) o.slots }
 
-abbrev pub renamed_row : (ℕ → ℕ) → HandleRow → HandleRow
+abbrev pub renamed_row : (ℕ → ℕ) → Handle → Handle
 renamed_row to row = record row { target = to row.target; second = to row.second }
 
 abbrev pub renamed_step : (ℕ → ℕ) → ThreadStep → ThreadStep
 renamed_step to no_step = no_step
 renamed_step to (begun_store object slot) = begun_store (to object) slot
 renamed_step to (begun_new type len local) = begun_new type len local
-
--- the map with each value changed
-abbrev pub map_values : {X Y : Type 0} → (X → Y) → finmap.FinMap nat_cmp X → finmap.FinMap nat_cmp Y
-map_values f m = finmap.from_sorted (map (λ e. (e.0, f e.1)) (finmap.entries m))
 
 -- each name changed; the objects stand by rising name
 abbrev pub renamed : (ℕ → ℕ) → Machine → Machine

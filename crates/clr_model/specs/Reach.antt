@@ -2,7 +2,8 @@
 use Rattle.std.specs.Prelude.{◌≡◌, ℕ, ◌<◌, List, Option, Some, None, Bool, false, ◌⊎◌, ◌&&◌, not, filter, IsTrue}
 use Rattle.std.specs.FinMap as finmap
 use Rattle.clr_types.specs.Rising.{IsIn}
-use Rattle.clr_model.specs.Machine.{ref, Object, HandleRow, Machine}
+use Rattle.clr_types.specs.declared.handle.Handle.{Handle}
+use Rattle.clr_model.specs.Machine.{ref, Object, Machine}
 use Rattle.clr_model.specs.Lookups.{is_dependent, is_root_kind, object_named}
 use Rattle.clr_types.specs.Segments.{generation}
 
@@ -22,7 +23,7 @@ pub record SlotNames (objects : List Object) (x y : ℕ) : Type 0 where
 -- a dependent handle ties its secondary y to its primary x
 pub record SecondOf (m : Machine) (x y : ℕ) : Type 0 where
   pub handle : ℕ
-  pub row : HandleRow
+  pub row : Handle
   pub in_use : finmap.get m.handles handle ≡ Some row
   pub dependent : IsTrue (is_dependent row.kind)
   pub primary : row.target ≡ x
@@ -36,12 +37,13 @@ Edge m x y = SlotNames m.objects x y ⊎ SecondOf m x y
 -- x is the target of a strong or pinned handle
 pub record HeldBy (m : Machine) (x : ℕ) : Type 0 where
   pub handle : ℕ
-  pub row : HandleRow
+  pub row : Handle
   pub in_use : finmap.get m.handles handle ≡ Some row
   pub holds : IsTrue (is_root_kind row.kind)
   pub target : row.target ≡ x
 
--- where reaching starts, besides older objects: what locals name, what strong and pinned handles hold, and the f-reachable queue
+-- where reaching starts, besides older objects: what locals name, what strong and pinned handles hold, and the
+-- f-reachable queue
 abbrev pub Roots : Machine → ℕ → Type 0
 Roots m x = (0 < x) × ((IsIn x m.locals ⊎ HeldBy m x) ⊎ IsIn x m.ready)
 

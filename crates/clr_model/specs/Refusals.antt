@@ -1,7 +1,10 @@
 -- Why lines are refused: the numbers of the checks.
 use Rattle.std.specs.Prelude.{ℕ}
 use Rattle.clr_model.specs.declared.Refusal.{Refusal}
-use Rattle.clr_model.specs.declared.Refusal.TheVariants.{TooLong, Syntax, UnknownThread, Blocked, MidStep, NotMidStep, UnknownType, DuplicateType, BadShape, TooManyTypes, NoSlot, Null, Index, NotReference, IsReference, NoHandle, HandleKind, TooManyHandles, TooBig, Wait, Oom, NoObject, Empty, NoMemory}
+use Rattle.clr_model.specs.declared.Refusal.TheVariants.{TooLong, Syntax, UnknownThread, Blocked, MidStep, NotMidStep}
+use Rattle.clr_model.specs.declared.Refusal.TheVariants.{UnknownType, DuplicateType, BadShape, TooManyTypes, NoSlot}
+use Rattle.clr_model.specs.declared.Refusal.TheVariants.{Null, Index, NotReference, IsReference, NoHandle, HandleKind}
+use Rattle.clr_model.specs.declared.Refusal.TheVariants.{TooManyHandles, TooBig, Wait, Oom, NoObject, Empty, NoMemory}
 
 -- the number of the check that a refusal names
 abbrev pub number_of_refusal : Refusal → ℕ

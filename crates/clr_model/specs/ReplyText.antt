@@ -1,14 +1,17 @@
 -- The text of a reply of one line, and of a refusal, without the line feed.
 use Rattle.std.specs.Prelude.{ℕ, List, [], ◌∷◌, ◌++◌, if◌then◌else◌, ◌==◌, codes, decimal}
 use Rattle.clr_nums.specs.Numbers.{hex16}
-use Rattle.clr_types.specs.declared.Kind.{Kind}
-use Rattle.clr_types.specs.declared.Kind.TheVariants.{Strong, Pinned, Weak, WeakLong, Dependent}
+use Rattle.clr_types.specs.declared.handle.Kind.{Kind}
+use Rattle.clr_types.specs.declared.handle.Kind.TheVariants.{Strong, Pinned, Weak, WeakLong, Dependent}
 use Rattle.clr_model.specs.declared.Collected.{Collected}
 use Rattle.clr_model.specs.declared.Reply.{Reply}
 use Rattle.clr_model.specs.declared.Reply.TheVariants.{Done, Place, Number, Mt, HandleNumber, Clean}
 use Rattle.clr_model.specs.declared.Reply.TheVariants as reply
 use Rattle.clr_model.specs.declared.Refusal.{Refusal}
-use Rattle.clr_model.specs.declared.Refusal.TheVariants.{TooLong, Syntax, UnknownThread, Blocked, MidStep, NotMidStep, UnknownType, DuplicateType, BadShape, TooManyTypes, NoSlot, Null, Index, NotReference, IsReference, NoHandle, HandleKind, TooManyHandles, TooBig, Wait, Oom, NoObject, Empty, NoMemory}
+use Rattle.clr_model.specs.declared.Refusal.TheVariants.{TooLong, Syntax, UnknownThread, Blocked, MidStep, NotMidStep}
+use Rattle.clr_model.specs.declared.Refusal.TheVariants.{UnknownType, DuplicateType, BadShape, TooManyTypes, NoSlot}
+use Rattle.clr_model.specs.declared.Refusal.TheVariants.{Null, Index, NotReference, IsReference, NoHandle, HandleKind}
+use Rattle.clr_model.specs.declared.Refusal.TheVariants.{TooManyHandles, TooBig, Wait, Oom, NoObject, Empty, NoMemory}
 
 -- words with one space between two of them
 abbrev pub spaced : List (List ℕ) → List ℕ
@@ -40,8 +43,11 @@ reply_text (Place place) = place_text place
 reply_text (Number number) = decimal number
 reply_text (Mt mt) = spaced (codes "mt" ∷ hex16 mt ∷ [])
 reply_text (HandleNumber h) = codes "h" ++ decimal h
-reply_text (reply.Collected c) = spaced (codes "collected" ∷ decimal c.generation ∷ collected_word c ∷ codes "kept" ∷ decimal c.kept ∷ codes "freed" ∷ decimal c.freed ∷ [])
-reply_text (reply.Where w) = spaced (codes "gen" ∷ decimal w.generation ∷ segment_word w.kind ∷ hex16 w.base ∷ codes "size" ∷ decimal w.size ∷ [])
+reply_text (reply.Collected c) =
+    spaced (codes "collected" ∷ decimal c.generation ∷ collected_word c ∷ codes "kept" ∷ decimal c.kept ∷ codes "freed"
+    ∷ decimal c.freed ∷ [])
+reply_text (reply.Where w) = spaced
+    (codes "gen" ∷ decimal w.generation ∷ segment_word w.kind ∷ hex16 w.base ∷ codes "size" ∷ decimal w.size ∷ [])
 reply_text Clean = codes "clean"
 
 abbrev pub refusal_words : Refusal → List (List ℕ)

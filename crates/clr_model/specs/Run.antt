@@ -28,7 +28,8 @@ defaults = record {
   large = 85000;
 }
 
--- the state in which a script begins: nothing was made, every local is null, no thread has begun a step, and the two segments are empty
+-- the state in which a script begins: nothing was made, every local is null, no thread has begun a step, and the two
+-- segments are empty
 unfoldable pub opening : Options → Machine
 opening options = record {
   types = [];
@@ -56,7 +57,8 @@ pub record Reads (bytes : List ℕ) (i : Instruction) : Type 0 where
 -- One line of bytes is refused for its length, or for its syntax where it says nothing, or it is obeyed.
 pub data Step (m : Machine) (bytes : List ℕ) (outcome : Outcome) (new : Machine) : Type 0 where
   too_long : 4096 < length bytes → outcome ≡ refused refusal.TooLong → new ≡ m → Step m bytes outcome new
-  no_syntax : length bytes ≤ 4096 → ((i : Instruction) → Reads bytes i → ⊥) → outcome ≡ refused refusal.Syntax → new ≡ m → Step m bytes outcome new
+  no_syntax : length bytes ≤ 4096 → ((i : Instruction) → Reads bytes i → ⊥) → outcome ≡ refused refusal.Syntax → new ≡ m
+      → Step m bytes outcome new
   obeyed : (i : Instruction) → Reads bytes i → Obeys m i outcome new → Step m bytes outcome new
 
 -- each line in its turn, from one state to another
@@ -64,7 +66,8 @@ abbrev pub Run : Machine → List (List ℕ) → List Outcome → Machine → Ty
 Run m [] [] last = last ≡ m
 Run m [] (outcome ∷ outcomes) last = ⊥
 Run m (line ∷ lines) [] last = ⊥
-Run m (line ∷ lines) (outcome ∷ outcomes) last = (next : Machine) × Step m line outcome next × Run next lines outcomes last
+Run m (line ∷ lines) (outcome ∷ outcomes) last = (next : Machine) × Step m line outcome next
+    × Run next lines outcomes last
 
 -- the replies in order
 abbrev pub run_text : List Outcome → List ℕ
@@ -83,8 +86,10 @@ pub record StandsFor (seen : Machine) (m : Machine) : Type 0 where
 
 -- Each state that is stood for before has a next one, by the instruction's step, that is stood for afterwards.
 unfoldable pub Follows : Machine → Instruction → Outcome → Machine → Type 0
-Follows old i outcome new = (m : Machine) → StandsFor old m → (next : Machine) × Obeys m i outcome next × StandsFor new next
+Follows old i outcome new = (m : Machine) → StandsFor old m
+    → (next : Machine) × Obeys m i outcome next × StandsFor new next
 
 -- the same of a line of bytes
 unfoldable pub FollowsLine : Machine → List ℕ → Outcome → Machine → Type 0
-FollowsLine old line outcome new = (m : Machine) → StandsFor old m → (next : Machine) × Step m line outcome next × StandsFor new next
+FollowsLine old line outcome new = (m : Machine) → StandsFor old m
+    → (next : Machine) × Step m line outcome next × StandsFor new next

@@ -1,5 +1,7 @@
 -- The texts of the commands that show the heap. They speak of places, so they are texts of a picture.
-use Rattle.std.specs.Prelude.{◌≡◌, ℕ, zero, suc, ◌+◌, ◌-◌, ◌<◌, List, [], ◌∷◌, ◌++◌, length, if◌then◌else◌, ◌==◌, nat_le, Bool, true, false, ◌&&◌, not, ◌≢◌, filter, sum_by, take, codes, decimal, Option, Some, None, IsTrue, slice_get}
+use Rattle.std.specs.Prelude.{◌≡◌, ℕ, zero, suc, ◌+◌, ◌-◌, ◌<◌, List, [], ◌∷◌, ◌++◌, length, if◌then◌else◌, ◌==◌}
+use Rattle.std.specs.Prelude.{nat_le, Bool, true, false, ◌&&◌, not, ◌≢◌, filter, sum_by, take, codes, decimal, Option}
+use Rattle.std.specs.Prelude.{Some, None, IsTrue, slice_get}
 use Rattle.std.specs.List.{flat_map, enumerate_from, AllByRecursion}
 use Rattle.std.specs.FinMap as finmap
 use Rattle.clr_types.specs.Ranges.{Piece, piece_end}
@@ -9,7 +11,8 @@ use Rattle.clr_model.specs.declared.Mode.TheVariants.{Full, Stat, Short}
 use Rattle.clr_model.specs.declared.Life.{Life}
 use Rattle.clr_model.specs.declared.Life.TheVariants.{Any, Live, Dead}
 use Rattle.clr_model.specs.declared.Where.{Where}
-use Rattle.clr_model.specs.Machine.{Value, ref, num, Object, HandleRow, Machine}
+use Rattle.clr_types.specs.declared.handle.Handle.{Handle}
+use Rattle.clr_model.specs.Machine.{Value, ref, num, Object, Machine}
 use Rattle.clr_model.specs.Lookups.{object_size, object_at, is_dependent, is_root_kind, local_index, is_thread}
 use Rattle.clr_model.specs.Reach.{Edge}
 use Rattle.clr_model.specs.Listing.{listing}
@@ -63,7 +66,8 @@ bytes_in = sum_by (λ i. i.size)
 abbrev pub total_line : List Item → List ℕ
 total_line shown =
     let objects = filter (λ i. not (is_free_item i)) shown in
-    line (codes "total" ∷ decimal (length objects) ∷ codes "bytes" ∷ decimal (bytes_in objects) ∷ codes "free" ∷ decimal (bytes_in (filter is_free_item shown)) ∷ [])
+    line (codes "total" ∷ decimal (length objects) ∷ codes "bytes" ∷ decimal (bytes_in objects) ∷ codes "free"
+    ∷ decimal (bytes_in (filter is_free_item shown)) ∷ [])
 
 abbrev pub none_or : List Item → List ℕ → List ℕ
 none_or [] text = line (codes "none" ∷ [])
@@ -72,12 +76,14 @@ none_or (i ∷ is) text = text
 -- a line for a type with at least one item
 abbrev pub stat_line : List TypeRow → List Item → ℕ → List ℕ
 stat_line rows [] type = []
-stat_line rows (i ∷ is) type = line (hex16 (mt_of type) ∷ decimal (length (i ∷ is)) ∷ decimal (bytes_in (i ∷ is)) ∷ name_of rows type ∷ [])
+stat_line rows (i ∷ is) type = line
+    (hex16 (mt_of type) ∷ decimal (length (i ∷ is)) ∷ decimal (bytes_in (i ∷ is)) ∷ name_of rows type ∷ [])
 
 -- a line for each of so many types from this number on
 abbrev pub stat_lines : ℕ → ℕ → List TypeRow → List Item → List ℕ
 stat_lines zero type rows shown = []
-stat_lines (suc n) type rows shown = stat_line rows (filter (λ i. i.type_id.0 == type) shown) type ++ stat_lines n (type + 1) rows shown
+stat_lines (suc n) type rows shown = stat_line rows (filter (λ i. i.type_id.0 == type) shown) type
+    ++ stat_lines n (type + 1) rows shown
 
 abbrev pub dump_by_mode : Mode → List TypeRow → List Item → List ℕ
 dump_by_mode Full rows shown = flat_map (item_line rows) shown ++ total_line shown
@@ -102,7 +108,8 @@ more_line n = if nat_le n 16 then [] else line (codes "more" ∷ decimal (n - 16
 
 abbrev pub object_text : Machine → Object → List ℕ
 object_text m o =
-    (line (codes "object" ∷ hex16 o.place ∷ name_of m.types o.type ∷ codes "size" ∷ decimal (object_size m.types o) ∷ codes "gen" ∷ decimal (generation m.layout o.place) ∷ length_words (is_array (form_at m.types o.type)) o.len)
+    (line (codes "object" ∷ hex16 o.place ∷ name_of m.types o.type ∷ codes "size" ∷ decimal (object_size m.types o)
+    ∷ codes "gen" ∷ decimal (generation m.layout o.place) ∷ length_words (is_array (form_at m.types o.type)) o.len)
     ++ flat_map (λ s. line (slot_words s)) (take 16 (enumerate_from 0 o.slots)))
     ++ more_line (length o.slots)
 
@@ -117,9 +124,12 @@ dumpobj_text m a = text_of_object m (object_at m.objects a)
 
 -- the root's words, and the object that it names
 pub data RootWords (m : Machine) : List (List ℕ) → ℕ → Type 0 where
-  local_root : {place : ℕ} (t k : ℕ) → IsTrue (is_thread t) → k < 64 → slice_get m.locals (local_index t k) ≡ Some place → RootWords m (codes "root" ∷ (116 ∷ decimal t) ∷ (108 ∷ decimal k) ∷ []) place
-  handle_root : {place : ℕ} (h : ℕ) (row : HandleRow) → finmap.get m.handles h ≡ Some row → IsTrue (is_root_kind row.kind) → row.target ≡ place → RootWords m (codes "root" ∷ (104 ∷ decimal h) ∷ []) place
-  ready_root : {place : ℕ} (i : ℕ) → slice_get m.ready i ≡ Some place → RootWords m (codes "root" ∷ codes "ready" ∷ decimal i ∷ []) place
+  local_root : {place : ℕ} (t k : ℕ) → IsTrue (is_thread t) → k < 64 → slice_get m.locals (local_index t k) ≡ Some place
+      → RootWords m (codes "root" ∷ (116 ∷ decimal t) ∷ (108 ∷ decimal k) ∷ []) place
+  handle_root : {place : ℕ} (h : ℕ) (row : Handle) → finmap.get m.handles h ≡ Some row → IsTrue (is_root_kind row.kind)
+      → row.target ≡ place → RootWords m (codes "root" ∷ (104 ∷ decimal h) ∷ []) place
+  ready_root : {place : ℕ} (i : ℕ) → slice_get m.ready i ≡ Some place
+      → RootWords m (codes "root" ∷ codes "ready" ∷ decimal i ∷ []) place
 
 -- each place has an edge to the next, and the last is this one
 abbrev pub IsChain : Machine → List ℕ → ℕ → Type 0
@@ -169,11 +179,13 @@ boundary_words layout Large = []
 
 abbrev pub segment_line : Layout → SegInfo → List ℕ
 segment_line layout s =
-    line (codes "segment" ∷ hex16 s.base ∷ segment_word (kind_number s.kind) ∷ codes "end" ∷ hex16 s.end ∷ codes "reserved" ∷ decimal s.reserved ∷ boundary_words layout s.kind)
+    line (codes "segment" ∷ hex16 s.base ∷ segment_word (kind_number s.kind) ∷ codes "end" ∷ hex16 s.end
+    ∷ codes "reserved" ∷ decimal s.reserved ∷ boundary_words layout s.kind)
 
 abbrev pub context_line : ℕ × Option Piece → List ℕ
 context_line (t, None) = []
-context_line (t, Some rest) = line (codes "context" ∷ (116 ∷ decimal t) ∷ hex16 rest.place ∷ hex16 (piece_end rest) ∷ [])
+context_line (t, Some rest) = line
+    (codes "context" ∷ (116 ∷ decimal t) ∷ hex16 rest.place ∷ hex16 (piece_end rest) ∷ [])
 
 abbrev pub eeheap_text : Machine → List ℕ
 eeheap_text m =
@@ -184,11 +196,13 @@ abbrev pub second_words : Bool → ℕ → List (List ℕ)
 second_words true second = place_text second ∷ []
 second_words false second = []
 
-abbrev pub handle_line : ℕ × HandleRow → List ℕ
-handle_line (h, row) = line ((104 ∷ decimal h) ∷ kind_word row.kind ∷ place_text row.target ∷ second_words (is_dependent row.kind) row.second)
+abbrev pub handle_line : ℕ × Handle → List ℕ
+handle_line (h, row) = line ((104 ∷ decimal h) ∷ kind_word row.kind ∷ place_text row.target
+    ∷ second_words (is_dependent row.kind) row.second)
 
 abbrev pub gchandles_text : Machine → List ℕ
-gchandles_text m = flat_map handle_line (finmap.entries m.handles) ++ line (codes "handles" ∷ decimal (finmap.len m.handles) ∷ [])
+gchandles_text m = flat_map handle_line (finmap.entries m.handles)
+    ++ line (codes "handles" ∷ decimal (finmap.len m.handles) ∷ [])
 
 abbrev pub queue_line : Machine → List ℕ → ℕ → List ℕ
 queue_line m word place = line (word ∷ hex16 place ∷ name_of m.types (type_of_place (object_at m.objects place)) ∷ [])

@@ -6,7 +6,8 @@ use Rattle.clr_model.specs.declared.Mode.{Mode}
 use Rattle.clr_model.specs.declared.Mode.TheVariants.{Full}
 use Rattle.clr_model.specs.declared.Life.{Life}
 use Rattle.clr_model.specs.declared.Life.TheVariants.{Any}
-use Rattle.clr_model.specs.Instructions.{Instruction, DumpOptions, define_type, new_object, get_slot, set_slot, put_number, read_number, copy_local, clear_local, collect_heap, dump_heap}
+use Rattle.clr_model.specs.Instructions.{Instruction, DumpOptions, define_type, new_object, get_slot, set_slot}
+use Rattle.clr_model.specs.Instructions.{put_number, read_number, copy_local, clear_local, collect_heap, dump_heap}
 
 abbrev pub is_full_mode : Mode → Life → Bool
 is_full_mode Full Any = true
@@ -14,7 +15,8 @@ is_full_mode _ _ = false
 
 -- `dumpheap` alone
 abbrev pub is_plain_dump : DumpOptions → Bool
-is_plain_dump o = is_full_mode o.mode o.life && ((is_none o.mt && is_none o.name) && (is_none o.least && is_none o.greatest))
+is_plain_dump o = is_full_mode o.mode o.life &&
+    ((is_none o.mt && is_none o.name) && (is_none o.least && is_none o.greatest))
 
 -- a sweep of the whole heap
 abbrev pub is_full_sweep : ℕ → How → Bool
@@ -22,7 +24,8 @@ is_full_sweep g Decide = false
 is_full_sweep g Compact = false
 is_full_sweep g Sweep = g == 2
 
--- types without finaliser may be defined, objects of them made, slots and locals read and written, the whole heap swept, and the heap shown
+-- types without finaliser may be defined, objects of them made, slots and locals read and written, the whole heap
+-- swept, and the heap shown
 abbrev pub is_built : Instruction → Bool
 is_built (define_type name form finalizer) = not finalizer
 is_built (new_object t k name len) = true
@@ -48,7 +51,8 @@ seals = false
 abbrev pub has_large_heap : Bool
 has_large_heap = false
 
--- whether a collection that leaves the small heap so may be refused for want of memory; a sweep takes none, as the stack of its marking has a fixed capacity
+-- whether a collection that leaves the small heap so may be refused for want of memory; a sweep takes none, as the
+-- stack of its marking has a fixed capacity
 abbrev pub takes_memory : How → Bool
 takes_memory Decide = true
 takes_memory Compact = true

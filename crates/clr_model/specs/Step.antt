@@ -1,9 +1,11 @@
 -- What each line does: the state and the outcome that the machine may go on to.
-use Rattle.std.specs.Prelude.{◌≡◌, ℕ, ◌+◌, ◌%◌, ◌<◌, List, [], ◌∷◌, ◌++◌, length, if◌then◌else◌, nat_le, Bool, true, false, ◌⊎◌, IsTrue, Option, Some, None, MatchOption, MatchBool, slice_get, unwrap_or, codes}
+use Rattle.std.specs.Prelude.{◌≡◌, ℕ, ◌+◌, ◌%◌, ◌<◌, List, [], ◌∷◌, ◌++◌, length, if◌then◌else◌, nat_le, Bool, true}
+use Rattle.std.specs.Prelude.{false, ◌⊎◌, IsTrue, Option, Some, None, MatchOption, MatchBool, slice_get, unwrap_or}
+use Rattle.std.specs.Prelude.{codes}
 use Rattle.std.specs.FinMap as finmap
 use Rattle.clr_types.specs.Rising.{Tests}
 use Rattle.clr_types.specs.Types.{TypeRow, Form, mt_of, is_bytes, number_of, size_of, type_row, form_at, has_finalizer}
-use Rattle.clr_types.specs.declared.Kind.{Kind}
+use Rattle.clr_types.specs.declared.handle.Kind.{Kind}
 use Rattle.clr_model.specs.declared.How.{How}
 use Rattle.clr_model.specs.declared.Collected.{Collected}
 use Rattle.clr_model.specs.declared.Life.{Life}
@@ -11,16 +13,26 @@ use Rattle.clr_model.specs.declared.Life.TheVariants as life
 use Rattle.clr_model.specs.declared.Reply.{Reply}
 use Rattle.clr_model.specs.declared.Reply.TheVariants as reply
 use Rattle.clr_model.specs.declared.Refusal.TheVariants as refusal
-use Rattle.clr_model.specs.Machine.{Value, ref, num, Object, HandleRow, ThreadStep, no_step, begun_store, begun_new, Machine}
-use Rattle.clr_model.specs.Lookups.{object_named, place_of, slots_of_named, local_of, step_of, lowest_in_step}
+use Rattle.clr_types.specs.declared.handle.Handle.{Handle}
+use Rattle.clr_model.specs.Machine.{Value, ref, num, ThreadStep, no_step, begun_store, begun_new, Machine}
+use Rattle.clr_model.specs.Lookups.{object_has_finalizer, place_of, type_of_named, slots_of_named}
+use Rattle.clr_model.specs.Lookups.{local_of, step_of, lowest_in_step}
 use Rattle.clr_model.specs.Picture.{picture}
 use Rattle.clr_model.specs.Reach.{Live, is_suppressed}
 use Rattle.clr_model.specs.Collection.{Collects}
-use Rattle.clr_model.specs.Updates.{with_local, with_slot, with_flag, with_step, with_handle, without_handle, with_entry, born_at}
-use Rattle.clr_model.specs.Allocation.{Attempt, roomed, waits, out_of_room, out_of_memory, MakesRoom, PlacesLarge, context_front, front_taken, with_layout, NoMemoryToCollect}
-use Rattle.clr_model.specs.Instructions.{Instruction, define_type, new_object, get_slot, set_slot, put_number, read_number, copy_local, clear_local, suppress_object, reregister_object, collect_heap, suspend_others, resume_others, begin_set, begin_new, finish_step, create_handle, fetch_target, fetch_second, free_handle, take_ready, dump_heap, dump_object, show_root, show_segments, verify_heap, show_handles, show_queues, where_is}
+use Rattle.clr_model.specs.Updates.{with_local, with_slot, with_flag, with_step, with_handle, without_handle}
+use Rattle.clr_model.specs.Updates.{with_entry, born_at}
+use Rattle.clr_model.specs.Allocation.{Attempt, roomed, waits, out_of_room, out_of_memory, MakesRoom, PlacesLarge}
+use Rattle.clr_model.specs.Allocation.{context_front, front_taken, with_layout, NoMemoryToCollect}
+use Rattle.clr_model.specs.Instructions.{Instruction, define_type, new_object, get_slot, set_slot, put_number}
+use Rattle.clr_model.specs.Instructions.{read_number, copy_local, clear_local, suppress_object, reregister_object}
+use Rattle.clr_model.specs.Instructions.{collect_heap, suspend_others, resume_others, begin_set, begin_new, finish_step}
+use Rattle.clr_model.specs.Instructions.{create_handle, fetch_target, fetch_second, free_handle, take_ready, dump_heap}
+use Rattle.clr_model.specs.Instructions.{dump_object, show_root, show_segments, verify_heap, show_handles, show_queues}
+use Rattle.clr_model.specs.Instructions.{where_is}
 use Rattle.clr_model.specs.Checks.{refusal as first_refusal, made_size}
-use Rattle.clr_model.specs.Sos.{dumpheap_text, dumpobj_text, IsRootText, eeheap_text, gchandles_text, finalizequeue_text, where_of, line}
+use Rattle.clr_model.specs.Sos.{dumpheap_text, dumpobj_text, IsRootText, eeheap_text, gchandles_text}
+use Rattle.clr_model.specs.Sos.{finalizequeue_text, where_of, line}
 use Rattle.clr_model.specs.Outcomes.{Outcome, answered, shown, refused}
 
 -- ---- outcomes
@@ -52,25 +64,15 @@ number_in None = 0
 number_in (Some (ref name)) = 0
 number_in (Some (num number)) = number
 
-abbrev pub type_of_object : Option Object → ℕ
-type_of_object None = 0
-type_of_object (Some o) = o.type
-
-abbrev pub type_of_named : Machine → ℕ → ℕ
-type_of_named m name = type_of_object (object_named m.objects name)
-
 -- a byte's slot takes a number modulo 256
 abbrev pub stored_number : Form → ℕ → ℕ
 stored_number form value = if is_bytes form then value % 256 else value
 
-abbrev pub object_has_finalizer : Machine → ℕ → Bool
-object_has_finalizer m name = has_finalizer (type_row m.types (type_of_named m name))
-
-abbrev pub target_of : Option HandleRow → ℕ
+abbrev pub target_of : Option Handle → ℕ
 target_of None = 0
 target_of (Some row) = row.target
 
-abbrev pub second_of : Option HandleRow → ℕ
+abbrev pub second_of : Option Handle → ℕ
 second_of None = 0
 second_of (Some row) = row.second
 
@@ -99,7 +101,8 @@ abbrev pub born_small : Machine → ℕ → ℕ → ℕ → ℕ → Machine
 born_small m t local type len =
     let size = size_of (form_at m.types type) len in
     let place = context_front m.layout t in
-    with_spent (with_entry_of (born_at (with_layout m (front_taken m.layout t size)) t local place type len) type (m.born + 1)) size
+    with_spent (with_entry_of (born_at (with_layout m (front_taken m.layout t size)) t local place type len) type
+    (m.born + 1)) size
 
 -- what an attempt that gives no room comes to: it waits, finds no room, or lacks memory
 abbrev pub Fails : Attempt → Outcome → Type 0
@@ -112,23 +115,27 @@ Fails out_of_memory outcome = outcome ≡ refused refusal.NoMemory
 abbrev pub MakesSmall : Machine → ℕ → ℕ → ℕ → ℕ → Outcome → Machine → Type 0
 MakesSmall m t local type len outcome new =
     (attempt : Attempt) × (ready : Machine) × MakesRoom m t (size_of (form_at m.types type) len) attempt ready
-    × ((attempt ≡ roomed × Replies outcome (reply.Place (context_front ready.layout t)) new (born_small ready t local type len))
+    × ((attempt ≡ roomed × Replies outcome (reply.Place (context_front ready.layout t)) new
+    (born_small ready t local type len))
     ⊎ (Fails attempt outcome × (new ≡ ready)))
 
 -- a new large object: a place in the large heap, and the birth there
 abbrev pub MakesLarge : Machine → ℕ → ℕ → ℕ → ℕ → Outcome → Machine → Type 0
 MakesLarge m t local type len outcome new =
-    (attempt : Attempt) × (ready : Machine) × (place : ℕ) × PlacesLarge m (size_of (form_at m.types type) len) place attempt ready
+    (attempt : Attempt) × (ready : Machine) × (place : ℕ)
+    × PlacesLarge m (size_of (form_at m.types type) len) place attempt ready
     × ((attempt ≡ roomed
     × Replies outcome (reply.Place place) new
-    (with_spent_large (with_entry_of (born_at ready t local place type len) type (ready.born + 1)) (size_of (form_at m.types type) len)))
+    (with_spent_large (with_entry_of (born_at ready t local place type len) type (ready.born + 1))
+    (size_of (form_at m.types type) len)))
     ⊎ (Fails attempt outcome × (new ≡ ready)))
 
 -- what is begun is kept with the thread
 abbrev pub BeginsNew : Machine → ℕ → ℕ → ℕ → ℕ → Outcome → Machine → Type 0
 BeginsNew m t local type len outcome new =
     (attempt : Attempt) × (ready : Machine) × MakesRoom m t (size_of (form_at m.types type) len) attempt ready
-    × ((attempt ≡ roomed × Replies outcome reply.Done new (with_step ready t (begun_new type len local))) ⊎ (Fails attempt outcome × (new ≡ ready)))
+    × ((attempt ≡ roomed × Replies outcome reply.Done new (with_step ready t (begun_new type len local)))
+    ⊎ (Fails attempt outcome × (new ≡ ready)))
 
 -- Before any change memory may be wanting for the finalisation entry of the object.
 abbrev pub WantsEntry : Machine → ℕ → Outcome → Machine → Type 0
@@ -168,12 +175,13 @@ CollectsByLine m g how outcome new =
     ⊎ ((outcome ≡ refused refusal.NoMemory) × NoMemoryToCollect how m new))
     (λ k. (outcome ≡ refused (refusal.Wait k)) × (new ≡ m))
 
-abbrev pub CreatesHandle : Machine → HandleRow → Outcome → Machine → Type 0
+abbrev pub CreatesHandle : Machine → Handle → Outcome → Machine → Type 0
 CreatesHandle m row outcome new =
-    ((h : ℕ) × (h < 65536) × (finmap.get m.handles h ≡ None) × Replies outcome (reply.HandleNumber h) new (with_handle m h row))
+    ((h : ℕ) × (h < 65536) × (finmap.get m.handles h ≡ None)
+    × Replies outcome (reply.HandleNumber h) new (with_handle m h row))
     ⊎ WantsMemory m outcome new
 
-abbrev pub row_of : Machine → ℕ → Kind → ℕ → Option ℕ → HandleRow
+abbrev pub row_of : Machine → ℕ → Kind → ℕ → Option ℕ → Handle
 row_of m t kind local None = record { kind = kind; target = local_of m t local; second = 0 }
 row_of m t kind local (Some second) = record { kind = kind; target = local_of m t local; second = local_of m t second }
 
@@ -193,29 +201,36 @@ TestsLife life.Dead live P = Tests live P
 -- What a line that no check refuses does.
 abbrev pub Does : Machine → Instruction → Outcome → Machine → Type 0
 Does m (define_type name form finalizer) outcome new =
-    Replies outcome (reply.Mt (mt_of (length m.types + 1))) new (with_type m name form finalizer) ⊎ WantsMemory m outcome new
+    Replies outcome (reply.Mt (mt_of (length m.types + 1))) new (with_type m name form finalizer)
+    ⊎ WantsMemory m outcome new
 Does m (new_object t local name len) outcome new =
     let type = type_named m name in
-    MatchBool (nat_le m.options.large (made_size m name len)) (MakesLarge m t local type (unwrap_or len 0) outcome new) (MakesSmall m t local type (unwrap_or len 0) outcome new)
+    MatchBool (nat_le m.options.large (made_size m name len)) (MakesLarge m t local type (unwrap_or len 0) outcome new)
+    (MakesSmall m t local type (unwrap_or len 0) outcome new)
     ⊎ WantsEntry m type outcome new
 Does m (get_slot t to from index) outcome new =
     let name = name_in (slice_get (slots_of_named m (local_of m t from)) index) in
     RepliesName m outcome name new (with_local m t to name)
-Does m (set_slot t into index from) outcome new = Replies outcome reply.Done new (with_slot m (local_of m t into) index (ref (local_of m t from)))
+Does m (set_slot t into index from) outcome new =
+    Replies outcome reply.Done new (with_slot m (local_of m t into) index (ref (local_of m t from)))
 Does m (put_number t into index value) outcome new =
-    Replies outcome reply.Done new (with_slot m (local_of m t into) index (num (stored_number (form_at m.types (type_of_named m (local_of m t into))) value)))
+    Replies outcome reply.Done new (with_slot m (local_of m t into) index
+    (num (stored_number (form_at m.types (type_of_named m (local_of m t into))) value)))
 Does m (read_number t from index) outcome new =
     Replies outcome (reply.Number (number_in (slice_get (slots_of_named m (local_of m t from)) index))) new m
-Does m (copy_local t to from) outcome new = RepliesName m outcome (local_of m t from) new (with_local m t to (local_of m t from))
+Does m (copy_local t to from) outcome new =
+    RepliesName m outcome (local_of m t from) new (with_local m t to (local_of m t from))
 Does m (clear_local t local) outcome new = Replies outcome reply.Done new (with_local m t local 0)
 Does m (suppress_object t local) outcome new =
-    Replies outcome reply.Done new (if object_has_finalizer m (local_of m t local) then with_flag m (local_of m t local) true else m)
+    Replies outcome reply.Done new (if object_has_finalizer m (local_of m t local) then
+    with_flag m (local_of m t local) true else m)
 Does m (reregister_object t local) outcome new = Reregisters m (local_of m t local) outcome new
 Does m (collect_heap t g how) outcome new = CollectsByLine m g how outcome new
 Does m (suspend_others t) outcome new = Replies outcome reply.Done new (record m { holder = Some t })
 Does m (resume_others t) outcome new = Replies outcome reply.Done new (record m { holder = None })
 Does m (begin_set t into index from) outcome new =
-    Replies outcome reply.Done new (with_step (with_slot m (local_of m t into) index (ref (local_of m t from))) t (begun_store (local_of m t into) index))
+    Replies outcome reply.Done new (with_step (with_slot m (local_of m t into) index (ref (local_of m t from))) t
+    (begun_store (local_of m t into) index))
 Does m (begin_new t local name len) outcome new =
     let type = type_named m name in
     BeginsNew m t local type (unwrap_or len 0) outcome new ⊎ WantsEntry m type outcome new
@@ -227,9 +242,11 @@ Does m (fetch_second t to h) outcome new =
     let name = second_of (finmap.get m.handles h) in RepliesName m outcome name new (with_local m t to name)
 Does m (free_handle t h) outcome new = Replies outcome reply.Done new (without_handle m h)
 Does m (take_ready t to) outcome new =
-    let name = head_or_null m.ready in RepliesName m outcome name new (record (with_local m t to name) { ready = tail_of m.ready })
+    let name = head_or_null m.ready in
+    RepliesName m outcome name new (record (with_local m t to name) { ready = tail_of m.ready })
 Does m (dump_heap options) outcome new =
-    ((live : ℕ → Bool) × TestsLife options.life live (Live (picture m)) × (outcome ≡ shown (dumpheap_text (picture m) live options)) × (new ≡ m))
+    ((live : ℕ → Bool) × TestsLife options.life live (Live (picture m))
+    × (outcome ≡ shown (dumpheap_text (picture m) live options)) × (new ≡ m))
     ⊎ WantsMemory m outcome new
 Does m (dump_object a) outcome new = Shows m (dumpobj_text (picture m) a) outcome new
 Does m (show_root a) outcome new = ShowsRoot m a outcome new

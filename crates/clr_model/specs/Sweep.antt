@@ -1,5 +1,6 @@
 -- The condemned parts of segments, what survives in them, and the layout that a sweep leaves.
-use Rattle.std.specs.Prelude.{ℕ, min, List, [], ◌∷◌, ◌++◌, map, if◌then◌else◌, ◌==◌, nat_lt, nat_le, Bool, ◌&&◌, ◌||◌, not, filter}
+use Rattle.std.specs.Prelude.{ℕ, min, List, [], ◌∷◌, ◌++◌, map, if◌then◌else◌, ◌==◌, nat_lt, nat_le, Bool, ◌&&◌, ◌||◌}
+use Rattle.std.specs.Prelude.{not, filter}
 use Rattle.std.specs.List.{flat_map, list_any}
 use Rattle.clr_types.specs.Rising.{sorted_by}
 use Rattle.clr_types.specs.Ranges.{Piece, by_place, gaps, end_of_last}
@@ -8,7 +9,8 @@ use Rattle.clr_model.specs.Lookups.{object_size, is_pinned}
 use Rattle.clr_types.specs.declared.segment.SegKind.{SegKind}
 use Rattle.clr_types.specs.declared.segment.SegKind.TheVariants.{Ephemeral}
 use Rattle.clr_types.specs.declared.segment.SegInfo.{SegInfo}
-use Rattle.clr_types.specs.Segments.{Layout, first_place, same_kind, stands_in, ephemeral, generation, is_small_or_ephemeral}
+use Rattle.clr_types.specs.Segments.{Layout, first_place, same_kind, stands_in, ephemeral, generation}
+use Rattle.clr_types.specs.Segments.{is_small_or_ephemeral}
 
 -- an object that stays, as far as its layout goes: `segment` is the base of the segment in which it stands
 pub record Survivor : Type 0 where
@@ -37,7 +39,8 @@ is_condemned m g o = nat_le (generation m.layout o.place) g
 
 -- the condemned objects that stay, by rising place
 abbrev pub survivors : Machine → ℕ → (ℕ → Bool) → List Survivor
-survivors m g kept = sorted_by (λ s. s.place) (map (survivor m) (filter (λ o. is_condemned m g o && kept o.name) m.objects))
+survivors m g kept = sorted_by (λ s. s.place)
+    (map (survivor m) (filter (λ o. is_condemned m g o && kept o.name) m.objects))
 
 abbrev pub survivor_piece : Survivor → Piece
 survivor_piece s = record { place = s.place; size = s.size }
@@ -52,7 +55,8 @@ has_condemned_part g s = same_kind Ephemeral s.kind || (g == 2)
 -- where the condemned part of the segment starts; it goes to the segment's end
 abbrev pub part_start : Layout → ℕ → SegInfo → ℕ
 part_start layout g s =
-    if same_kind Ephemeral s.kind then (if g == 0 then layout.start0 else (if g == 1 then layout.start1 else first_place s)) else first_place s
+    if same_kind Ephemeral s.kind then
+    (if g == 0 then layout.start0 else (if g == 1 then layout.start1 else first_place s)) else first_place s
 
 -- the generations of a condemned part, each from low to high
 pub record Section : Type 0 where
@@ -80,13 +84,15 @@ swept_end layout g kept s = end_of_last (part_start layout g s) (survivor_pieces
 -- below the new end, what kept objects leave inside one old generation is free
 abbrev pub swept_free : Layout → ℕ → List Survivor → SegInfo → List Piece
 swept_free layout g kept s =
-    flat_map (λ section. gaps section.low (min section.high (swept_end layout g kept s)) (pieces_between section.low section.high (survivor_pieces s kept)))
+    flat_map (λ section. gaps section.low (min section.high (swept_end layout g kept s))
+    (pieces_between section.low section.high (survivor_pieces s kept)))
     (sections layout g s)
 
 -- the piece stands in a condemned part of a segment of these kinds
 abbrev pub is_in_part : (SegKind → Bool) → Layout → ℕ → Piece → Bool
 is_in_part kinds layout g p =
-    list_any (λ s. kinds s.kind && (has_condemned_part g s && (stands_in s p.place && nat_le (part_start layout g s) p.place))) layout.segments
+    list_any (λ s. kinds s.kind && (has_condemned_part g s &&
+    (stands_in s p.place && nat_le (part_start layout g s) p.place))) layout.segments
 
 -- the segments of these kinds that have a condemned part
 abbrev pub taking_part : (SegKind → Bool) → ℕ → Layout → List SegInfo
@@ -97,7 +103,8 @@ abbrev pub free_after : (SegKind → Bool) → Layout → ℕ → List Piece →
 free_after kinds layout g fresh = by_place (filter (λ p. not (is_in_part kinds layout g p)) layout.free ++ fresh)
 
 abbrev pub segments_after : (SegKind → Bool) → ℕ → (SegInfo → ℕ) → List SegInfo → List SegInfo
-segments_after kinds g end_after segments = map (λ s. if kinds s.kind && has_condemned_part g s then record s { end = end_after s } else s) segments
+segments_after kinds g end_after segments =
+    map (λ s. if kinds s.kind && has_condemned_part g s then record s { end = end_after s } else s) segments
 
 -- No object moves, and each generation of the condemned parts becomes the next older one.
 abbrev pub swept_small : Layout → ℕ → List Survivor → Layout
@@ -115,5 +122,6 @@ swept_small layout g kept =
 abbrev pub swept_kind : SegKind → Layout → ℕ → List Survivor → Layout
 swept_kind kind layout g kept = record layout {
   segments = segments_after (same_kind kind) g (swept_end layout g kept) layout.segments;
-  free = free_after (same_kind kind) layout g (flat_map (swept_free layout g kept) (taking_part (same_kind kind) g layout));
+  free = free_after (same_kind kind) layout g
+      (flat_map (swept_free layout g kept) (taking_part (same_kind kind) g layout));
 }

@@ -1,10 +1,12 @@
 -- The changes that lines make to a machine's state, one part at a time.
-use Rattle.std.specs.Prelude.{ℕ, ◌+◌, ◌-◌, List, [], ◌∷◌, ◌++◌, map, replicate, length, Option, Some, None, Bool, true, false, slice_set}
+use Rattle.std.specs.Prelude.{ℕ, ◌+◌, ◌-◌, List, [], ◌∷◌, ◌++◌, map, replicate, length, Option, Some, None, Bool, true}
+use Rattle.std.specs.Prelude.{false, slice_set}
 use Rattle.std.specs.FinMap as finmap
 use Rattle.clr_types.specs.Rising.{changed_by}
 use Rattle.clr_types.specs.Ranges.{Piece, by_place, range_piece}
 use Rattle.clr_types.specs.Types.{Form, slot_kinds, form_at}
-use Rattle.clr_model.specs.Machine.{Value, ref, num, Object, HandleRow, ThreadStep, Machine}
+use Rattle.clr_types.specs.declared.handle.Handle.{Handle}
+use Rattle.clr_model.specs.Machine.{Value, ref, num, Object, ThreadStep, Machine}
 use Rattle.clr_model.specs.Lookups.{local_index}
 use Rattle.clr_types.specs.Segments.{Layout, rest_of, rest_pieces}
 
@@ -27,7 +29,7 @@ with_flag m name flag = record m { objects = changed_by (λ o. o.name) name (wit
 abbrev pub with_step : Machine → ℕ → ThreadStep → Machine
 with_step m t s = record m { steps = slice_set m.steps (t - 1) s }
 
-abbrev pub with_handle : Machine → ℕ → HandleRow → Machine
+abbrev pub with_handle : Machine → ℕ → Handle → Machine
 with_handle m h row = record m { handles = finmap.insert m.handles h row }
 
 abbrev pub without_handle : Machine → ℕ → Machine
@@ -44,7 +46,10 @@ option_piece (p ∷ ps) = Some p
 
 -- the thread's context has the range from low to high left, or nothing where that is empty
 abbrev pub with_rest : Layout → ℕ → ℕ → ℕ → Layout
-with_rest layout t low high = record layout { rests = slice_set layout.rests (t - 1) (option_piece (range_piece low high)) }
+with_rest layout t low high = record layout {
+  rests =
+      slice_set layout.rests (t - 1) (option_piece (range_piece low high));
+}
 
 abbrev pub pieces_of_option : Option Piece → List Piece
 pieces_of_option None = []

@@ -1,0 +1,5 @@
+use Rattle.clr_model.proofs.OrderKept.{order}
+use Rattle.clr_model.proofs.laws.objects_keep_their_order.Goals as goal
+
+pub returns : goal.returns
+returns c = order

@@ -1,5 +1,6 @@
 -- The search for the memory of an address, where memories stand one above the other.
-use Rattle.std.proofs.Common.{◌≡◌, ℕ, ◌-◌, ◌/◌, ◌%◌, ◌<◌, ◌≤◌, inl, inr, true, List, length, get_or, refl, ap, sym, ◌∙◌, subst, arith}
+use Rattle.std.proofs.Common.{◌≡◌, ℕ, ◌-◌, ◌/◌, ◌%◌, ◌<◌, ◌≤◌, inl, inr, true, List, length, get_or, refl, ap, sym, ◌∙◌}
+use Rattle.std.proofs.Common.{subst, arith}
 use Rattle.std.proofs.lemmas.Bool.{cases_lt}
 use Rattle.std.proofs.lemmas.List.{get_or_default}
 use Rattle.clr_mem.specs.Words.{Holds, Memory, end_of, word_at}
@@ -7,7 +8,8 @@ use Rattle.clr_heap.specs.Memories.{contains, HasWord, IsApart, memory_index, sh
 use Rattle.clr_heap.proofs.Storing.{contains_at_index, contains_bounds, get_memory}
 use Rattle.clr_heap.proofs.Moving.{apart_order}
 
-module _ (ms : List Memory) (a : ℕ) (d : Memory) (apart : IsApart (shapes ms)) (inside : memory_index ms a < length ms) where
+module _ (ms : List Memory) (a : ℕ) (d : Memory) (apart : IsApart (shapes ms))
+    (inside : memory_index ms a < length ms) where
   bounds_at : (get_or ms (memory_index ms a) d).base ≤ a × (a < end_of (get_or ms (memory_index ms a) d))
   bounds_at = contains_bounds (get_or ms (memory_index ms a) d) a (contains_at_index ms a d inside)
 
@@ -41,23 +43,29 @@ module _ (ms : List Memory) (a : ℕ) (d : Memory) (apart : IsApart (shapes ms))
   ]
 
 -- memory i, which was read as m, is that of a word
-pub found_holds : (ms : List Memory) (i a : ℕ) (m : Memory) → HasWord ms a → i ≡ memory_index ms a → m ≡ get_or ms i m → m.base % 8 ≡ 0 → (d : Memory) → Holds (get_or ms i d) a 8
+pub found_holds : (ms : List Memory) (i a : ℕ) (m : Memory) → HasWord ms a → i ≡ memory_index ms a → m ≡ get_or ms i m
+    → m.base % 8 ≡ 0 → (d : Memory) → Holds (get_or ms i d) a 8
 found_holds ms i a m w e r z d =
     let within : i < length ms = rw e w.inside in
     let read : m ≡ get_or ms i d = r ∙ get_or_default ms i m d within in
     let P : ℕ → Type 0 = λ j. contains (get_or ms j m) a ≡ true in
-    let held : contains m a ≡ true = ap (λ (n : Memory). contains n a) r ∙ subst P (sym e) (contains_at_index ms a m w.inside) in
+    let held : contains m a ≡ true =
+    ap (λ (n : Memory). contains n a) r ∙ subst P (sym e) (contains_at_index ms a m w.inside) in
     let b = contains_bounds m a held in
     let start = w.aligned in
     let Q : Memory → Type 0 = λ n. Holds n a 8 in
     subst Q read (record { above = b.0; below = omega arith; start = start; whole = refl })
 
-pub found_aligned : (ms : List Memory) (i : ℕ) (m : Memory) → i < length ms → m ≡ get_or ms i m → m.base % 8 ≡ 0 → (d : Memory) → (get_or ms i d).base % 8 ≡ 0
-found_aligned ms i m l r z d = let P : Memory → Type 0 = λ n. n.base % 8 ≡ 0 in subst P (r ∙ get_or_default ms i m d l) z
+pub found_aligned : (ms : List Memory) (i : ℕ) (m : Memory) → i < length ms → m ≡ get_or ms i m → m.base % 8 ≡ 0
+    → (d : Memory) → (get_or ms i d).base % 8 ≡ 0
+found_aligned ms i m l r z d =
+    let P : Memory → Type 0 = λ n. n.base % 8 ≡ 0 in subst P (r ∙ get_or_default ms i m d l) z
 
 -- the word that a byte belongs to
-pub word_of_byte : (ms : List Memory) (i a : ℕ) (m : Memory) → memory_index ms (word_address a) < length ms → i ≡ memory_index ms (word_address a) → m ≡ get_or ms i m → m.base % 8 ≡ 0 → m.base ≤ word_address a
+pub word_of_byte : (ms : List Memory) (i a : ℕ) (m : Memory) → memory_index ms (word_address a) < length ms
+    → i ≡ memory_index ms (word_address a) → m ≡ get_or ms i m → m.base % 8 ≡ 0 → m.base ≤ word_address a
     → word_at m a ≡ word_in ms (word_address a)
 word_of_byte ms i a m w e r z low =
     let at : (a - m.base) / 8 ≡ (word_address a - m.base) / 8 = omega arith in
-    ap (λ (k : ℕ). get_or m.words k 0) at ∙ ap (λ (n : Memory). word_at n (word_address a)) (r ∙ ap (λ (k : ℕ). get_or ms k m) e) ∙ get_memory ms (word_address a) m w
+    ap (λ (k : ℕ). get_or m.words k 0) at ∙ ap (λ (n : Memory). word_at n (word_address a))
+    (r ∙ ap (λ (k : ℕ). get_or ms k m) e) ∙ get_memory ms (word_address a) m w

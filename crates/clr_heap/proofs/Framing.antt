@@ -1,46 +1,54 @@
 -- Lists of segments: what each of them is, and what stays where one is changed, added or taken away.
-use Rattle.std.proofs.Common.{◌≡◌, inl, inr, ℕ, zero, suc, ◌+◌, ◌<◌, ◌≤◌, true, false, List, [], ◌∷◌, ◌++◌, length, get_or, set, map, filter, sum_by, refl, ap, sym, ◌∙◌, subst, arith}
+use Rattle.std.proofs.Common.{◌≡◌, inl, inr, ℕ, zero, suc, ◌+◌, ◌<◌, ◌≤◌, Bool, true, false, List, [], ◌∷◌, ◌++◌}
+use Rattle.std.proofs.Common.{length, get_or, set, map, filter, sum_by, refl, ap, sym, ◌∙◌, subst, arith}
 use Rattle.std.proofs.lemmas.Bool.{cases_Bool}
 use Rattle.std.proofs.lemmas.List.{get_or-map, length-map}
 use Rattle.std.proofs.lemmas.List.Sums.{sum-map, sum_by-append}
 use Rattle.std.specs.List.{AllByRecursion, remove, sum}
 use Rattle.clr_mem.specs.Words.{Memory}
-use Rattle.clr_types.specs.Segments.{empty_segment, reserved_end, same_kind, segment_or_empty}
+use Rattle.clr_types.specs.Segments.{empty_segment, reserved_end, same_kind, sealed_kind, sealed_segment}
+use Rattle.clr_types.specs.Segments.{segment_or_empty}
 use Rattle.clr_types.specs.LawfulLayout.{AreDisjoint, IsLawfulSegment}
 use Rattle.clr_types.specs.declared.segment.SegInfo.{SegInfo}
 use Rattle.clr_types.specs.declared.segment.SegKind.{SegKind}
 use Rattle.clr_types.specs.declared.segment.SegKind.TheVariants.{Small, Ephemeral, Large}
 use Rattle.clr_heap.specs.Memories.{memory_index, shape_of, shapes, IsAbove, IsApart}
-use Rattle.clr_heap.specs.View.{extent_of, extents, HeapView, IsHeap, sealed, sealed_kind, segment_at}
+use Rattle.clr_heap.specs.View.{extent_of, extents, HeapView, IsHeap, SameShape, segment_at}
 use Rattle.clr_heap.proofs.Storing.{contains_from, index_below}
 
 -- ---- what holds of each element
 
-pub all_at : {X : Type 0} (P : X → Type 0) (xs : List X) (k : ℕ) (d : X) → AllByRecursion P xs → k < length xs → P (get_or xs k d)
+pub all_at : {X : Type 0} (P : X → Type 0) (xs : List X) (k : ℕ) (d : X) → AllByRecursion P xs → k < length xs
+    → P (get_or xs k d)
 all_at P [] k d h l = absurd (omega arith)
 all_at P (x ∷ xs) zero d h l = h.0
 all_at P (x ∷ xs) (suc k) d h l = all_at P xs k d h.1 (omega arith)
 
-pub all_set : {X : Type 0} (P : X → Type 0) (xs : List X) (k : ℕ) (y : X) → AllByRecursion P xs → P y → AllByRecursion P (set xs k y)
+pub all_set : {X : Type 0} (P : X → Type 0) (xs : List X) (k : ℕ) (y : X) → AllByRecursion P xs → P y
+    → AllByRecursion P (set xs k y)
 all_set P [] k y h p = tt
 all_set P (x ∷ xs) zero y h p = (p, h.1)
 all_set P (x ∷ xs) (suc k) y h p = (h.0, all_set P xs k y h.1 p)
 
-pub all_push : {X : Type 0} (P : X → Type 0) (xs : List X) (y : X) → AllByRecursion P xs → P y → AllByRecursion P (xs ++ y ∷ [])
+pub all_push : {X : Type 0} (P : X → Type 0) (xs : List X) (y : X) → AllByRecursion P xs → P y
+    → AllByRecursion P (xs ++ y ∷ [])
 all_push P [] y h p = (p, tt)
 all_push P (x ∷ xs) y h p = (h.0, all_push P xs y h.1 p)
 
-pub all_remove : {X : Type 0} (P : X → Type 0) (xs : List X) (k : ℕ) → AllByRecursion P xs → AllByRecursion P (remove xs k)
+pub all_remove : {X : Type 0} (P : X → Type 0) (xs : List X) (k : ℕ) → AllByRecursion P xs
+    → AllByRecursion P (remove xs k)
 all_remove P [] zero h = tt
 all_remove P [] (suc k) h = tt
 all_remove P (x ∷ xs) zero h = h.1
 all_remove P (x ∷ xs) (suc k) h = (h.0, all_remove P xs k h.1)
 
-pub all_map : {X : Type 0} (P Q : X → Type 0) (f : X → X) (xs : List X) → ((x : X) → P x → Q (f x)) → AllByRecursion P xs → AllByRecursion Q (map f xs)
+pub all_map : {X : Type 0} (P Q : X → Type 0) (f : X → X) (xs : List X) → ((x : X) → P x → Q (f x))
+    → AllByRecursion P xs → AllByRecursion Q (map f xs)
 all_map P Q f [] g h = tt
 all_map P Q f (x ∷ xs) g h = (g x h.0, all_map P Q f xs g h.1)
 
-pub all_weaker : {X : Type 0} (P Q : X → Type 0) (xs : List X) → ((x : X) → P x → Q x) → AllByRecursion P xs → AllByRecursion Q xs
+pub all_weaker : {X : Type 0} (P Q : X → Type 0) (xs : List X) → ((x : X) → P x → Q x) → AllByRecursion P xs
+    → AllByRecursion Q xs
 all_weaker P Q [] g h = tt
 all_weaker P Q (x ∷ xs) g h = (g x h.0, all_weaker P Q xs g h.1)
 
@@ -65,19 +73,29 @@ disjoint_from_apart (s ∷ ss) h = (all_from_above (reserved_end s) ss h.0, disj
 pub disjoint_same : (ss ts : List SegInfo) → extents ss ≡ extents ts → AreDisjoint ss → AreDisjoint ts
 disjoint_same ss ts e h = disjoint_from_apart ts (subst IsApart e (apart_from_disjoint ss h))
 
-abbrev EndsBelow : ℕ → List (ℕ × ℕ) → Type 0
-EndsBelow t es = AllByRecursion (λ (e : ℕ × ℕ). e.0 + e.1 ≤ t) es
+module _ (Q : ℕ × ℕ → Type 0) where
+  extents_from_all : (ss : List SegInfo) → AllByRecursion (λ s. Q (extent_of s)) ss → AllByRecursion Q (extents ss)
+  extents_from_all [] h = tt
+  extents_from_all (s ∷ ss) h = (h.0, extents_from_all ss h.1)
 
-ends_from_all : (t : ℕ) (ss : List SegInfo) → AllByRecursion (λ (s : SegInfo). reserved_end s ≤ t) ss → EndsBelow t (extents ss)
-ends_from_all t [] h = tt
-ends_from_all t (s ∷ ss) h = (h.0, ends_from_all t ss h.1)
+  all_from_extents : (ss : List SegInfo) → AllByRecursion Q (extents ss) → AllByRecursion (λ s. Q (extent_of s)) ss
+  all_from_extents [] h = tt
+  all_from_extents (s ∷ ss) h = (h.0, all_from_extents ss h.1)
 
-all_from_ends : (t : ℕ) (ss : List SegInfo) → EndsBelow t (extents ss) → AllByRecursion (λ (s : SegInfo). reserved_end s ≤ t) ss
-all_from_ends t [] h = tt
-all_from_ends t (s ∷ ss) h = (h.0, all_from_ends t ss h.1)
+  -- what holds of all by their extents stays where these do
+  pub all_same : (ss us : List SegInfo) → extents ss ≡ extents us → AllByRecursion (λ s. Q (extent_of s)) ss
+      → AllByRecursion (λ s. Q (extent_of s)) us
+  all_same ss us e h =
+      let P : List (ℕ × ℕ) → Type 0 = λ es. AllByRecursion Q es in
+      all_from_extents us (subst P e (extents_from_all ss h))
 
-pub below_same : (t : ℕ) (ss us : List SegInfo) → extents ss ≡ extents us → AllByRecursion (λ (s : SegInfo). reserved_end s ≤ t) ss → AllByRecursion (λ (s : SegInfo). reserved_end s ≤ t) us
-below_same t ss us e h = all_from_ends t us (let P : List (ℕ × ℕ) → Type 0 = λ es. EndsBelow t es in subst P e (ends_from_all t ss h))
+pub below_same : (t : ℕ) (ss us : List SegInfo) → extents ss ≡ extents us
+    → AllByRecursion (λ (s : SegInfo). reserved_end s ≤ t) ss → AllByRecursion (λ (s : SegInfo). reserved_end s ≤ t) us
+below_same t = all_same (λ e. e.0 + e.1 ≤ t)
+
+pub bases_same : (b : ℕ) (ss us : List SegInfo) → extents ss ≡ extents us
+    → AllByRecursion (λ (s : SegInfo). s.base ≤ b) ss → AllByRecursion (λ (s : SegInfo). s.base ≤ b) us
+bases_same b = all_same (λ e. e.0 ≤ b)
 
 -- how many bytes the segments reserve
 abbrev pub reserved_in : List SegInfo → ℕ
@@ -91,19 +109,23 @@ reserved_map ss = sym (sum-map (λ (s : SegInfo). s.reserved) ss) ∙ ap sum (ma
     maps (s ∷ ss) = ap (λ (ns : List ℕ). s.reserved ∷ ns) (maps ss)
 
 pub reserved_same : (ss us : List SegInfo) → extents ss ≡ extents us → reserved_in us ≡ reserved_in ss
-reserved_same ss us e = reserved_map us ∙ ap (λ (es : List (ℕ × ℕ)). sum (map (λ (e : ℕ × ℕ). e.1) es)) (sym e) ∙ sym (reserved_map ss)
+reserved_same ss us e =
+    reserved_map us ∙ ap (λ (es : List (ℕ × ℕ)). sum (map (λ (e : ℕ × ℕ). e.1) es)) (sym e) ∙ sym (reserved_map ss)
 
 -- ---- one segment more, or one less
 
-pub disjoint_push : (ss : List SegInfo) (t : SegInfo) → AreDisjoint ss → AllByRecursion (λ (s : SegInfo). reserved_end s ≤ t.base) ss → AreDisjoint (ss ++ t ∷ [])
+pub disjoint_push : (ss : List SegInfo) (t : SegInfo) → AreDisjoint ss
+    → AllByRecursion (λ (s : SegInfo). reserved_end s ≤ t.base) ss → AreDisjoint (ss ++ t ∷ [])
 disjoint_push [] t h b = (tt, tt)
-disjoint_push (s ∷ ss) t h b = (all_push (λ (r : SegInfo). reserved_end s ≤ r.base) ss t h.0 b.0, disjoint_push ss t h.1 b.1)
+disjoint_push (s ∷ ss) t h b =
+    (all_push (λ (r : SegInfo). reserved_end s ≤ r.base) ss t h.0 b.0, disjoint_push ss t h.1 b.1)
 
 pub disjoint_remove : (ss : List SegInfo) (k : ℕ) → AreDisjoint ss → AreDisjoint (remove ss k)
 disjoint_remove [] zero h = tt
 disjoint_remove [] (suc k) h = tt
 disjoint_remove (s ∷ ss) zero h = h.1
-disjoint_remove (s ∷ ss) (suc k) h = (all_remove (λ (r : SegInfo). reserved_end s ≤ r.base) ss k h.0, disjoint_remove ss k h.1)
+disjoint_remove (s ∷ ss) (suc k) h =
+    (all_remove (λ (r : SegInfo). reserved_end s ≤ r.base) ss k h.0, disjoint_remove ss k h.1)
 
 pub map_remove : {X Y : Type 0} (f : X → Y) (xs : List X) (k : ℕ) → map f (remove xs k) ≡ remove (map f xs) k
 map_remove f [] zero = refl
@@ -127,25 +149,47 @@ reserved_remove (s ∷ ss) (suc k) =
     let f = reserved_cons s (remove ss k) in
     omega arith
 
--- ---- the ephemeral segments
+-- ---- the segments of a kind
+
+abbrev pub of_kind : SegKind → List SegInfo → List SegInfo
+of_kind kind ss = filter (λ s. same_kind kind s.kind) ss
 
 abbrev pub ephemerals : List SegInfo → List SegInfo
-ephemerals ss = filter (λ s. same_kind Ephemeral s.kind) ss
+ephemerals ss = of_kind Ephemeral ss
 
-pub ephemerals_set : (ss : List SegInfo) (k : ℕ) (t d : SegInfo) → k < length ss → extent_of t ≡ extent_of (get_or ss k d) → t.kind ≡ (get_or ss k d).kind → extents (ephemerals (set ss k t)) ≡ extents (ephemerals ss)
-ephemerals_set [] k t d l e f = absurd (omega arith)
-ephemerals_set (s ∷ ss) zero t d l e f = elim (cases_Bool (same_kind Ephemeral s.kind)) [
-  | inl yes_here ↦ rw (f, yes_here) (ap (λ (p : ℕ × ℕ). p ∷ extents (ephemerals ss)) e)
-  | inr no_here ↦ rw (f, no_here) refl
-]
-ephemerals_set (s ∷ ss) (suc k) t d l e f =
-    let ih = ephemerals_set ss k t d (omega arith) e f in
-    elim (cases_Bool (same_kind Ephemeral s.kind)) [
-      | inl yes_here ↦ rw yes_here (ap (λ (ps : List (ℕ × ℕ)). extent_of s ∷ ps) ih)
-      | inr no_here ↦ rw no_here ih
-    ]
+module _ (kind : SegKind) where
+  pub of_kind_set : (ss : List SegInfo) (k : ℕ) (t d : SegInfo) → k < length ss
+      → extent_of t ≡ extent_of (get_or ss k d)
+      → t.kind ≡ (get_or ss k d).kind → extents (of_kind kind (set ss k t)) ≡ extents (of_kind kind ss)
+  of_kind_set [] k t d l e f = absurd (omega arith)
+  of_kind_set (s ∷ ss) zero t d l e f = elim (cases_Bool (same_kind kind s.kind)) [
+    | inl yes_here ↦ rw (f, yes_here) (ap (λ (p : ℕ × ℕ). p ∷ extents (of_kind kind ss)) e)
+    | inr no_here ↦ rw (f, no_here) refl
+  ]
+  of_kind_set (s ∷ ss) (suc k) t d l e f =
+      let ih = of_kind_set ss k t d (omega arith) e f in
+      elim (cases_Bool (same_kind kind s.kind)) [
+        | inl yes_here ↦ rw yes_here (ap (λ (ps : List (ℕ × ℕ)). extent_of s ∷ ps) ih)
+        | inr no_here ↦ rw no_here ih
+      ]
 
-pub ephemerals_remove : (ss : List SegInfo) (k : ℕ) (d : SegInfo) → k < length ss → same_kind Ephemeral (get_or ss k d).kind ≡ false → ephemerals (remove ss k) ≡ ephemerals ss
+  pub of_kind_push : (ss : List SegInfo) (t : SegInfo) → same_kind kind t.kind ≡ false
+      → of_kind kind (ss ++ t ∷ []) ≡ of_kind kind ss
+  of_kind_push [] t f = rw f refl
+  of_kind_push (s ∷ ss) t f =
+      let ih = of_kind_push ss t f in
+      elim (cases_Bool (same_kind kind s.kind)) [
+        | inl yes_here ↦ rw yes_here (ap (λ (ts : List SegInfo). s ∷ ts) ih)
+        | inr no_here ↦ rw no_here ih
+      ]
+
+pub ephemerals_set : (ss : List SegInfo) (k : ℕ) (t d : SegInfo) → k < length ss
+    → extent_of t ≡ extent_of (get_or ss k d) → t.kind ≡ (get_or ss k d).kind
+    → extents (ephemerals (set ss k t)) ≡ extents (ephemerals ss)
+ephemerals_set = of_kind_set Ephemeral
+
+pub ephemerals_remove : (ss : List SegInfo) (k : ℕ) (d : SegInfo) → k < length ss
+    → same_kind Ephemeral (get_or ss k d).kind ≡ false → ephemerals (remove ss k) ≡ ephemerals ss
 ephemerals_remove [] k d l f = absurd (omega arith)
 ephemerals_remove (s ∷ ss) zero d l f = rw f refl
 ephemerals_remove (s ∷ ss) (suc k) d l f =
@@ -155,14 +199,30 @@ ephemerals_remove (s ∷ ss) (suc k) d l f =
       | inr no_here ↦ rw no_here ih
     ]
 
-pub ephemerals_push : (ss : List SegInfo) (t : SegInfo) → same_kind Ephemeral t.kind ≡ false → ephemerals (ss ++ t ∷ []) ≡ ephemerals ss
-ephemerals_push [] t f = rw f refl
-ephemerals_push (s ∷ ss) t f =
-    let ih = ephemerals_push ss t f in
-    elim (cases_Bool (same_kind Ephemeral s.kind)) [
-      | inl yes_here ↦ rw yes_here (ap (λ (ts : List SegInfo). s ∷ ts) ih)
-      | inr no_here ↦ rw no_here ih
-    ]
+-- what holds of all elements holds of those that pass a test, also where one is taken away
+pub all_passing : {X : Type 0} (P : X → Type 0) (test : X → Bool) (xs : List X) → AllByRecursion P xs
+    → AllByRecursion P (filter test xs)
+all_passing P test [] h = tt
+all_passing P test (x ∷ xs) h =
+    let ih = all_passing P test xs h.1 in
+    elim (cases_Bool (test x)) [ inl passes ↦ rw passes (h.0, ih) | inr fails ↦ rw fails ih ]
+
+pub all_passing_remove : {X : Type 0} (P : X → Type 0) (test : X → Bool) (xs : List X) (k : ℕ)
+    → AllByRecursion P (filter test xs) → AllByRecursion P (filter test (remove xs k))
+all_passing_remove P test [] zero h = tt
+all_passing_remove P test [] (suc k) h = tt
+all_passing_remove P test (x ∷ xs) zero h = elim (cases_Bool (test x)) [
+  | inl passes ↦ (rw passes at h).1
+  | inr fails ↦ rw fails at h
+]
+all_passing_remove P test (x ∷ xs) (suc k) h = elim (cases_Bool (test x)) [
+  | inl passes ↦
+      let both : P x × AllByRecursion P (filter test xs) = rw passes at h in
+      rw passes (both.0, all_passing_remove P test xs k both.1)
+  | inr fails ↦
+      let rest : AllByRecursion P (filter test xs) = rw fails at h in
+      rw fails (all_passing_remove P test xs k rest)
+]
 
 never_ephemeral : (kind : SegKind) → same_kind Ephemeral (sealed_kind kind) ≡ false
 never_ephemeral Small = refl
@@ -170,11 +230,12 @@ never_ephemeral Ephemeral = refl
 never_ephemeral Large = refl
 
 -- a new ephemeral segment after sealed ones is the only one
-pub ephemerals_sealed : (ss : List SegInfo) (t : SegInfo) → same_kind Ephemeral t.kind ≡ true → ephemerals (map sealed ss ++ t ∷ []) ≡ t ∷ []
+pub ephemerals_sealed : (ss : List SegInfo) (t : SegInfo) → same_kind Ephemeral t.kind ≡ true
+    → ephemerals (map sealed_segment ss ++ t ∷ []) ≡ t ∷ []
 ephemerals_sealed [] t f = rw f refl
 ephemerals_sealed (s ∷ ss) t f = let other = never_ephemeral s.kind in rw other (ephemerals_sealed ss t f)
 
-pub extents_sealed : (ss : List SegInfo) → extents (map sealed ss) ≡ extents ss
+pub extents_sealed : (ss : List SegInfo) → extents (map sealed_segment ss) ≡ extents ss
 extents_sealed [] = refl
 extents_sealed (s ∷ ss) = ap (λ (ps : List (ℕ × ℕ)). extent_of s ∷ ps) (extents_sealed ss)
 
@@ -187,7 +248,8 @@ first_is [] = refl
 first_is (s ∷ ss) = refl
 
 -- where the extents of the ephemeral segments stay, so does their number and where the first stands
-pub same_first : (ss us : List SegInfo) → extents ss ≡ extents us → extent_of (segment_or_empty ss) ≡ extent_of (segment_or_empty us)
+pub same_first : (ss us : List SegInfo) → extents ss ≡ extents us
+    → extent_of (segment_or_empty ss) ≡ extent_of (segment_or_empty us)
 same_first ss us e = first_is ss ∙ ap first_extent e ∙ sym (first_is us)
 
 pub same_count : (ss us : List SegInfo) → extents ss ≡ extents us → length ss ≡ length us
@@ -198,12 +260,15 @@ same_count ss us e = sym (length-map ss extent_of) ∙ ap length e ∙ length-ma
 pub count_is : (h : HeapView) → IsHeap h → length h.memories ≡ length h.segments
 count_is h i = sym (length-map h.memories shape_of) ∙ ap length i.memories ∙ length-map h.segments extent_of
 
-pub memory_extent : (ms : List Memory) (ss : List SegInfo) (k : ℕ) (m : Memory) (s : SegInfo) → shapes ms ≡ extents ss → k < length ms → k < length ss → shape_of (get_or ms k m) ≡ extent_of (get_or ss k s)
+pub memory_extent : (ms : List Memory) (ss : List SegInfo) (k : ℕ) (m : Memory) (s : SegInfo) → shapes ms ≡ extents ss
+    → k < length ms → k < length ss → shape_of (get_or ms k m) ≡ extent_of (get_or ss k s)
 memory_extent ms ss k m s e l l' =
-    sym (get_or-map shape_of ms k m (0, 0) l) ∙ ap (λ (ps : List (ℕ × ℕ)). get_or ps k (0, 0)) e ∙ get_or-map extent_of ss k s (0, 0) l'
+    sym (get_or-map shape_of ms k m (0, 0) l) ∙ ap (λ (ps : List (ℕ × ℕ)). get_or ps k (0, 0)) e
+    ∙ get_or-map extent_of ss k s (0, 0) l'
 
 -- the addresses that a segment reserves have words
-pub held_in : (h : HeapView) (k a : ℕ) → IsHeap h → k < length h.segments → (segment_at h k).base ≤ a → a < reserved_end (segment_at h k) → memory_index h.memories a < length h.memories
+pub held_in : (h : HeapView) (k a : ℕ) → IsHeap h → k < length h.segments → (segment_at h k).base ≤ a
+    → a < reserved_end (segment_at h k) → memory_index h.memories a < length h.memories
 held_in h k a i l low high =
     let d : Memory = record { base = 0; words = [] } in
     let n = count_is h i in
@@ -222,3 +287,19 @@ lawful_at h k i l = all_at IsLawfulSegment h.segments k empty_segment i.segments
 
 pub below_top_at : (h : HeapView) (k : ℕ) → IsHeap h → k < length h.segments → reserved_end (segment_at h k) ≤ h.top
 below_top_at h k i l = all_at (λ (s : SegInfo). reserved_end s ≤ h.top) h.segments k empty_segment i.below_top l
+
+-- ---- words alone
+
+-- shapes that stay, backwards
+pub SameShape-sym : (old new : HeapView) → SameShape old new → SameShape new old
+SameShape-sym old new h = record {
+  memories = sym h.memories;
+  others = ap (λ (g : HeapView). record g { memories = old.memories }) (sym h.others);
+}
+
+-- and one after the other
+pub SameShape-trans : (a b c : HeapView) → SameShape a b → SameShape b c → SameShape a c
+SameShape-trans a b c h k = record {
+  memories = k.memories ∙ h.memories;
+  others = k.others ∙ ap (λ (g : HeapView). record g { memories = c.memories }) h.others;
+}

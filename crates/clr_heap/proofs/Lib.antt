@@ -2,7 +2,6 @@ pub mod Storing
 pub mod Framing
 pub mod Spelling
 pub mod Walking
-pub mod Rewriting
 pub mod Rewrite
 pub mod Placing
 pub mod Writing
@@ -19,7 +18,6 @@ pub mod Carrying
 pub mod Staying
 pub mod Ends
 pub mod Acquiring
-pub mod Clearing
 pub mod Addresses
 pub mod Young
 pub mod Zeroing

@@ -1,5 +1,7 @@
 -- Words that are written and read, by address.
-use Rattle.std.proofs.Common.{◌≡◌, ◌≢◌, inl, inr, ℕ, zero, suc, ◌+◌, ◌*◌, ◌%◌, ◌<◌, ◌≤◌, true, false, cond, ◌&&◌, List, [], ◌∷◌, length, get_or, set, refl, ap, sym, ◌∙◌, arith, length-set, get_or-set_same, get_or-set_other, ltb, leb}
+use Rattle.std.proofs.Common.{◌≡◌, ◌≢◌, inl, inr, ℕ, zero, suc, ◌+◌, ◌*◌, ◌%◌, ◌<◌, ◌≤◌, true, false, cond, ◌&&◌, List}
+use Rattle.std.proofs.Common.{[], ◌∷◌, length, get_or, set, refl, ap, sym, ◌∙◌, arith, length-set, get_or-set_same}
+use Rattle.std.proofs.Common.{get_or-set_other, ltb, leb}
 use Rattle.std.proofs.lemmas.Bool.{leb-true, ltb-true, and_parts, and_from, le-leb, lt-ltb, cases_Bool}
 use Rattle.std.proofs.Common.{drop}
 use Rattle.std.proofs.lemmas.List.{drop_more, length-map, set-get_or}
@@ -8,7 +10,8 @@ use Rattle.clr_heap.specs.Memories.{contains, with_word, memory_index, word_in, 
 
 -- a write moves no end
 contains-with_word : (m : Memory) (a v b : ℕ) → contains (with_word m a v) b ≡ contains m b
-contains-with_word m a v b = let e = length-set m.words (place_of m a) v in ap (λ (n : ℕ). leb m.base b && ltb b (m.base + 8 * n)) e
+contains-with_word m a v b =
+    let e = length-set m.words (place_of m a) v in ap (λ (n : ℕ). leb m.base b && ltb b (m.base + 8 * n)) e
 
 pub contains_bounds : (m : Memory) (a : ℕ) → contains m a ≡ true → (m.base ≤ a) × (a < end_of m)
 contains_bounds m a h =
@@ -19,7 +22,8 @@ pub contains_from : (m : Memory) (a : ℕ) → m.base ≤ a → a < end_of m →
 contains_from m a low high = and_from (leb m.base a) (ltb a (end_of m)) (le-leb m.base a low) (lt-ltb a (end_of m) high)
 
 -- the word that was written
-pub word_in-store_in_same : (ms : List Memory) (a v : ℕ) → memory_index ms a < length ms → word_in (store_in ms a v) a ≡ v
+pub word_in-store_in_same : (ms : List Memory) (a v : ℕ) → memory_index ms a < length ms
+    → word_in (store_in ms a v) a ≡ v
 word_in-store_in_same [] a v h = absurd (omega arith)
 word_in-store_in_same (m ∷ ms) a v h = elim (cases_Bool (contains m a)) [
   | inl here ↦
@@ -35,12 +39,14 @@ word_in-store_in_same (m ∷ ms) a v h = elim (cases_Bool (contains m a)) [
 pub store_in-same : (ms : List Memory) (a : ℕ) → store_in ms a (word_in ms a) ≡ ms
 store_in-same [] a = refl
 store_in-same (m ∷ ms) a = elim (cases_Bool (contains m a)) [
-  | inl here ↦ rw here (ap (λ (ws : List ℕ). (let n : Memory = record { base = m.base; words = ws } in n) ∷ ms) (set-get_or m.words (place_of m a) 0))
+  | inl here ↦ rw here (ap (λ (ws : List ℕ). (let n : Memory = record { base = m.base; words = ws } in n) ∷ ms)
+      (set-get_or m.words (place_of m a) 0))
   | inr other ↦ rw other (ap (λ (ns : List Memory). m ∷ ns) (store_in-same ms a))
 ]
 
 -- every other word
-pub word_in-store_in_other : (ms : List Memory) (a v b : ℕ) → a % 8 ≡ 0 → b % 8 ≡ 0 → b ≢ a → word_in (store_in ms a v) b ≡ word_in ms b
+pub word_in-store_in_other : (ms : List Memory) (a v b : ℕ) → a % 8 ≡ 0 → b % 8 ≡ 0 → b ≢ a
+    → word_in (store_in ms a v) b ≡ word_in ms b
 word_in-store_in_other [] a v b p q ne = refl
 word_in-store_in_other (m ∷ ms) a v b p q ne = elim (cases_Bool (contains m a)) [
   | inl here ↦
@@ -49,7 +55,8 @@ word_in-store_in_other (m ∷ ms) a v b p q ne = elim (cases_Bool (contains m a)
         | inl both ↦
             let d = contains_bounds m b both in
             let apart : place_of m b ≢ place_of m a = λ e. ne (omega arith) in
-            rw (here, both) (rw (contains-with_word m a v b ∙ both) (get_or-set_other m.words (place_of m a) (place_of m b) v 0 apart))
+            rw (here, both) (rw (contains-with_word m a v b ∙ both)
+            (get_or-set_other m.words (place_of m a) (place_of m b) v 0 apart))
         | inr miss ↦ rw (here, miss) (rw (contains-with_word m a v b ∙ miss) refl)
       ]
   | inr other ↦
@@ -86,7 +93,8 @@ set_memory (m ∷ ms) a v d h = elim (cases_Bool (contains m a)) [
       rw other (ap (λ (ns : List Memory). m ∷ ns) (set_memory ms a v d rest))
 ]
 
-pub get_memory : (ms : List Memory) (a : ℕ) (d : Memory) → memory_index ms a < length ms → word_at (get_or ms (memory_index ms a) d) a ≡ word_in ms a
+pub get_memory : (ms : List Memory) (a : ℕ) (d : Memory) → memory_index ms a < length ms
+    → word_at (get_or ms (memory_index ms a) d) a ≡ word_in ms a
 get_memory [] a d h = absurd (omega arith)
 get_memory (m ∷ ms) a d h = elim (cases_Bool (contains m a)) [
   | inl here ↦ rw here refl
@@ -109,14 +117,17 @@ pub index_more : (ms : List Memory) (i a : ℕ) (d : Memory) → i < length ms �
     → i + memory_index (drop i ms) a ≡ memory_index ms a → i + 1 + memory_index (drop (i + 1) ms) a ≡ memory_index ms a
 index_more ms i a d h t e =
     let cut = drop_more ms i d h in
-    let here : memory_index (drop i ms) a ≡ suc (memory_index (drop (i + 1) ms) a) = ap (λ (ns : List Memory). memory_index ns a) cut ∙ rw t refl in
+    let here : memory_index (drop i ms) a ≡ suc (memory_index (drop (i + 1) ms) a) =
+    ap (λ (ns : List Memory). memory_index ns a) cut ∙ rw t refl in
     omega arith
 
-pub index_ends : (ms : List Memory) (i a : ℕ) → length ms ≤ i → i + memory_index (drop i ms) a ≡ memory_index ms a → length ms ≤ memory_index ms a
+pub index_ends : (ms : List Memory) (i a : ℕ) → length ms ≤ i → i + memory_index (drop i ms) a ≡ memory_index ms a
+    → length ms ≤ memory_index ms a
 index_ends ms i a h e = omega arith
 
 -- the memory at an address's number holds it
-pub contains_at_index : (ms : List Memory) (a : ℕ) (d : Memory) → memory_index ms a < length ms → contains (get_or ms (memory_index ms a) d) a ≡ true
+pub contains_at_index : (ms : List Memory) (a : ℕ) (d : Memory) → memory_index ms a < length ms
+    → contains (get_or ms (memory_index ms a) d) a ≡ true
 contains_at_index [] a d h = absurd (omega arith)
 contains_at_index (m ∷ ms) a d h = elim (cases_Bool (contains m a)) [
   | inl here ↦ rw here here
@@ -126,7 +137,8 @@ contains_at_index (m ∷ ms) a d h = elim (cases_Bool (contains m a)) [
 ]
 
 -- an address in any of the memories has a number
-pub index_below : (ms : List Memory) (k a : ℕ) (d : Memory) → k < length ms → contains (get_or ms k d) a ≡ true → memory_index ms a < length ms
+pub index_below : (ms : List Memory) (k a : ℕ) (d : Memory) → k < length ms → contains (get_or ms k d) a ≡ true
+    → memory_index ms a < length ms
 index_below [] k a d h t = absurd (omega arith)
 index_below (m ∷ ms) zero a d h t = rw t (omega arith)
 index_below (m ∷ ms) (suc k) a d h t = elim (cases_Bool (contains m a)) [

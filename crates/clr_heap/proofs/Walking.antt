@@ -1,9 +1,11 @@
 -- Steps of a walk.
-use Rattle.std.proofs.Common.{◌≡◌, ℕ, ◌+◌, ◌%◌, ◌<◌, ◌≤◌, List, [], ◌∷◌, length, refl, ap, sym, ◌∙◌, subst, arith, Some, None}
+use Rattle.std.proofs.Common.{◌≡◌, ℕ, ◌+◌, ◌%◌, ◌<◌, ◌≤◌, List, [], ◌∷◌, length, refl, ap, sym, ◌∙◌, subst, arith, Some}
+use Rattle.std.proofs.Common.{None}
 use Rattle.clr_mem.specs.Words.{Memory}
 use Rattle.clr_types.specs.declared.item.Item.{Item}
 use Rattle.clr_heap.specs.Memories.{memory_index}
-use Rattle.clr_heap.specs.Parts.{Part, item_part, rest_part, items_in, hole_from, Sight, item_at, NamesItem, Spells, parts}
+use Rattle.clr_heap.specs.Parts.{Part, item_part, rest_part, items_in, hole_from, Sight, item_at, NamesItem, Spells}
+use Rattle.clr_heap.specs.Parts.{parts}
 use Rattle.clr_heap.specs.View.{AfterItem, CanWalk, items_between}
 use Rattle.clr_heap.proofs.Spelling.{parts-Spells, Spells-le, item_size}
 
@@ -38,14 +40,21 @@ record HoleStep (s : Sight) (ps : List Part) (p hi e : ℕ) : Type 0 where
   higher : p + 24 ≤ hi
   whole : hi % 8 ≡ 0
 
-hole_step : (s : Sight) (ps : List Part) (p hi e : ℕ) → Spells s p ps e → p < e → hole_from s.holes p ≡ Some hi → HoleStep s ps p hi e
+hole_step : (s : Sight) (ps : List Part) (p hi e : ℕ) → Spells s p ps e → p < e → hole_from s.holes p ≡ Some hi
+    → HoleStep s ps p hi e
 hole_step s [] p hi e h k l = absurd (omega arith)
 hole_step s (item_part i ∷ ps) p hi e h k l = let clash : None ≡ Some hi = sym h.0 ∙ l in cc
 hole_step s (rest_part lo to ∷ ps) p hi e h k l =
     let same : Some to ≡ Some hi = sym h.1 ∙ l in
     let end : to ≡ hi = cc in
     let P : ℕ → Type 0 = λ q. Spells s q ps e in
-    record { tail = ps; items = refl; spells = subst P end h.4; higher = omega arith; whole = sym (ap (λ (q : ℕ). q % 8) end) ∙ h.3 }
+    record {
+      tail = ps;
+      items = refl;
+      spells = subst P end h.4;
+      higher = omega arith;
+      whole = sym (ap (λ (q : ℕ). q % 8) end) ∙ h.3;
+    }
 
 pub record AfterHole (s : Sight) (ms : List Memory) (p hi e : ℕ) : Type 0 where
   pub walk : CanWalk s ms hi e
@@ -53,7 +62,8 @@ pub record AfterHole (s : Sight) (ms : List Memory) (p hi e : ℕ) : Type 0 wher
   pub higher : p < hi
   pub within : hi ≤ e
 
-pub walk_hole : (s : Sight) (ms : List Memory) (p hi e : ℕ) → CanWalk s ms p e → p < e → hole_from s.holes p ≡ Some hi → AfterHole s ms p hi e
+pub walk_hole : (s : Sight) (ms : List Memory) (p hi e : ℕ) → CanWalk s ms p e → p < e → hole_from s.holes p ≡ Some hi
+    → AfterHole s ms p hi e
 walk_hole s ms p hi e c k l =
     let t = hole_step s (parts e s p e) p hi e c.spelled k l in
     let b = t.higher in
@@ -72,14 +82,16 @@ record ItemStep (s : Sight) (ps : List Part) (p e : ℕ) : Type 0 where
   spells : Spells s (p + (item_at s.rows s.word p).size) tail e
   names : NamesItem s.rows s.word p
 
-item_step : (s : Sight) (ps : List Part) (p e : ℕ) → Spells s p ps e → p < e → hole_from s.holes p ≡ None → ItemStep s ps p e
+item_step : (s : Sight) (ps : List Part) (p e : ℕ) → Spells s p ps e → p < e → hole_from s.holes p ≡ None
+    → ItemStep s ps p e
 item_step s [] p e h k l = absurd (omega arith)
 item_step s (item_part i ∷ ps) p e h k l =
     let P : Item → Type 0 = λ j. Spells s (p + j.size) ps e in
     record { tail = ps; items = ap (λ (j : Item). j ∷ items_in ps) h.1; spells = subst P h.1 h.3; names = h.2 }
 item_step s (rest_part lo to ∷ ps) p e h k l = let clash : None ≡ Some to = sym l ∙ h.1 in cc
 
-pub walk_item : (s : Sight) (ms : List Memory) (p e : ℕ) → CanWalk s ms p e → p < e → hole_from s.holes p ≡ None → AfterItem s ms p e
+pub walk_item : (s : Sight) (ms : List Memory) (p e : ℕ) → CanWalk s ms p e → p < e → hole_from s.holes p ≡ None
+    → AfterItem s ms p e
 walk_item s ms p e c k l =
     let t = item_step s (parts e s p e) p e c.spelled k l in
     let n = t.names in
@@ -87,8 +99,10 @@ walk_item s ms p e c k l =
     let w = Spells-le s t.tail (p + (item_at s.rows s.word p).size) e t.spells in
     record {
       names = n;
-      walk = CanWalk-from s ms t.tail (p + (item_at s.rows s.word p).size) e (omega arith) t.spells (λ a z' low high. c.held a z' (omega arith) high);
-      items = t.items ∙ ap (λ (js : List Item). item_at s.rows s.word p ∷ js) (sym (ap items_in (spelled_parts s t.tail (p + (item_at s.rows s.word p).size) e t.spells)));
+      walk = CanWalk-from s ms t.tail (p + (item_at s.rows s.word p).size) e (omega arith) t.spells
+          (λ a z' low high. c.held a z' (omega arith) high);
+      items = t.items ∙ ap (λ (js : List Item). item_at s.rows s.word p ∷ js)
+          (sym (ap items_in (spelled_parts s t.tail (p + (item_at s.rows s.word p).size) e t.spells)));
       mt = record { aligned = z; inside = c.held p z (omega arith) (omega arith) };
       len = record { aligned = omega arith; inside = c.held (p + 8) (omega arith) (omega arith) (omega arith) };
       within = w;

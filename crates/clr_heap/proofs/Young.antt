@@ -10,7 +10,8 @@ use Rattle.clr_heap.proofs.Addresses.{has_word, index_is_segment}
 use Rattle.clr_heap.proofs.Framing.{ephemerals, lawful_at}
 
 -- the first ephemeral segment has a number
-pub young_number : (ss : List SegInfo) → 0 < length (ephemerals ss) → (k : ℕ) × (k < length ss) × (get_or ss k empty_segment ≡ segment_or_empty (ephemerals ss))
+pub young_number : (ss : List SegInfo) → 0 < length (ephemerals ss)
+    → (k : ℕ) × (k < length ss) × (get_or ss k empty_segment ≡ segment_or_empty (ephemerals ss))
 young_number [] some = absurd (omega arith)
 young_number (s ∷ ss) some = elim (cases_Bool (same_kind Ephemeral s.kind)) [
   | inl here ↦ (0, omega arith, rw here refl)

@@ -1,5 +1,6 @@
 -- Words that are cleared within a memory.
-use Rattle.std.proofs.Common.{◌≡◌, ◌⊎◌, inl, inr, ℕ, ◌+◌, ◌*◌, ◌%◌, ◌<◌, ◌≤◌, true, false, leb, ltb, List, length, get_or, set, ap, sym, ◌∙◌, arith, length-set}
+use Rattle.std.proofs.Common.{◌≡◌, ◌⊎◌, inl, inr, ℕ, ◌+◌, ◌*◌, ◌%◌, ◌<◌, ◌≤◌, true, false, leb, ltb, List, length}
+use Rattle.std.proofs.Common.{get_or, set, ap, sym, ◌∙◌, arith, length-set}
 use Rattle.std.proofs.lemmas.Bool.{cases_eq, cases_lt, le-leb, lt-leb, lt-ltb, le-ltb}
 use Rattle.clr_mem.specs.Words.{cleared, Holds, Memory, word_at}
 use Rattle.clr_mem.proofs.Callers.{length-cleared, word_at-cleared_inside, word_at-cleared_outside}
@@ -13,7 +14,8 @@ pub record ClearedAll (ms new : List Memory) (a n : ℕ) : Type 0 where
   pub shapes : shapes new ≡ shapes ms
   pub len : length new ≡ length ms
 
-module _ (ms : List Memory) (k a n : ℕ) (d : Memory) (apart : IsApart (shapes ms)) (l : k < length ms) (base : (get_or ms k d).base % 8 ≡ 0) (held : Holds (get_or ms k d) a n) where
+module _ (ms : List Memory) (k a n : ℕ) (d : Memory) (apart : IsApart (shapes ms)) (l : k < length ms)
+    (base : (get_or ms k d).base % 8 ≡ 0) (held : Holds (get_or ms k d) a n) where
   abbrev m : Memory
   m = get_or ms k d
 
@@ -25,16 +27,20 @@ module _ (ms : List Memory) (k a n : ℕ) (d : Memory) (apart : IsApart (shapes 
       let above = held.above in
       let below = held.below in
       let here = index_unique ms k b d apart l (contains_from m b (omega arith) (omega arith)) in
-      word_in-set_same ms k (cleared m a n) d b shape here l ∙ word_at-cleared_inside m a n held.above held.below base held.start held.whole b low high
+      word_in-set_same ms k (cleared m a n) d b shape here l
+      ∙ word_at-cleared_inside m a n held.above held.below base held.start held.whole b low high
 
   outside : (b : ℕ) → (b < a) ⊎ (a + n ≤ b) → word_in (set ms k (cleared m a n)) b ≡ word_in ms b
   outside b out = elim (cases_eq (memory_index ms b) k) [
     | inl here ↦
         let bound : memory_index ms b < length ms = rw here l in
-        let at : contains m b ≡ true = ap (λ (j : ℕ). contains (get_or ms j d) b) (sym here) ∙ contains_at_index ms b d bound in
+        let at : contains m b ≡ true =
+        ap (λ (j : ℕ). contains (get_or ms j d) b) (sym here) ∙ contains_at_index ms b d bound in
         let c = contains_bounds m b at in
-        let read : word_at m b ≡ word_in ms b = ap (λ (j : ℕ). word_at (get_or ms j d) b) (sym here) ∙ get_memory ms b d bound in
-        word_in-set_same ms k (cleared m a n) d b shape here l ∙ word_at-cleared_outside m a n held.above held.below base held.start held.whole b c.0 out ∙ read
+        let read : word_at m b ≡ word_in ms b =
+        ap (λ (j : ℕ). word_at (get_or ms j d) b) (sym here) ∙ get_memory ms b d bound in
+        word_in-set_same ms k (cleared m a n) d b shape here l
+        ∙ word_at-cleared_outside m a n held.above held.below base held.start held.whole b c.0 out ∙ read
     | inr elsewhere ↦ word_in-set_other ms k (cleared m a n) d b shape elsewhere l
   ]
 

@@ -1,5 +1,5 @@
 pub mod Memories
 pub mod Parts
 pub mod View
-pub mod Rewrites
 pub mod Walk
+pub mod Laws

@@ -1,5 +1,6 @@
 -- The words of several memories, by address.
-use Rattle.std.specs.Prelude.{◌≡◌, ℕ, suc, ◌+◌, ◌-◌, ◌*◌, ◌/◌, ◌%◌, ◌<◌, ◌≤◌, Bool, ◌&&◌, List, [], ◌∷◌, length, get_or, set, nat_le, nat_lt, if◌then◌else◌, map}
+use Rattle.std.specs.Prelude.{◌≡◌, ℕ, suc, ◌+◌, ◌-◌, ◌*◌, ◌/◌, ◌%◌, ◌<◌, ◌≤◌, Bool, ◌&&◌, List, [], ◌∷◌, length, get_or}
+use Rattle.std.specs.Prelude.{set, nat_le, nat_lt, if◌then◌else◌, map}
 use Rattle.clr_mem.specs.Words.{Memory, place_of, word_at, end_of, zeros}
 
 -- whether an address lies in a memory

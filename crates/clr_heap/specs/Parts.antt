@@ -1,5 +1,6 @@
 -- The objects, free items and holes of a segment, placed end to end, and how words spell them.
-use Rattle.std.specs.Prelude.{◌≡◌, ℕ, zero, suc, ◌+◌, ◌-◌, ◌*◌, ◌/◌, ◌%◌, ◌≤◌, ◌⊎◌, List, [], ◌∷◌, ◌++◌, length, Option, Some, None, nat_le, nat_lt, nat_eq, if◌then◌else◌, ◌==◌, map, false}
+use Rattle.std.specs.Prelude.{◌≡◌, ℕ, zero, suc, ◌+◌, ◌-◌, ◌*◌, ◌/◌, ◌%◌, ◌≤◌, ◌⊎◌, List, [], ◌∷◌, ◌++◌, length, Option}
+use Rattle.std.specs.Prelude.{Some, None, nat_le, nat_lt, nat_eq, if◌then◌else◌, ◌==◌, map, false}
 use Rattle.clr_types.specs.Types.{TypeRow, form_at, size_of, is_array, mt_of}
 use Rattle.clr_types.specs.Ranges.{Piece, piece_end}
 use Rattle.clr_types.specs.declared.item.Item.{Item}
@@ -80,8 +81,10 @@ pub record NamesItem (rows : List TypeRow) (word : ℕ → ℕ) (p : ℕ) : Type
 -- from p to e stand exactly these parts
 abbrev pub Spells : Sight → ℕ → List Part → ℕ → Type 0
 Spells s p [] e = p ≡ e
-Spells s p (item_part i ∷ ps) e = (hole_from s.holes p ≡ None) × (i ≡ item_at s.rows s.word p) × NamesItem s.rows s.word p × Spells s (p + i.size) ps e
-Spells s p (rest_part low high ∷ ps) e = (low ≡ p) × (hole_from s.holes p ≡ Some high) × (p + 24 ≤ high) × (high % 8 ≡ 0) × Spells s high ps e
+Spells s p (item_part i ∷ ps) e = (hole_from s.holes p ≡ None) × (i ≡ item_at s.rows s.word p)
+    × NamesItem s.rows s.word p × Spells s (p + i.size) ps e
+Spells s p (rest_part low high ∷ ps) e =
+    (low ≡ p) × (hole_from s.holes p ≡ Some high) × (p + 24 ≤ high) × (high % 8 ≡ 0) × Spells s high ps e
 
 -- the part at p, where a hole ends that may start there
 abbrev pub part_from : Sight → ℕ → Option ℕ → Part
@@ -92,7 +95,8 @@ part_from s p (Some high) = rest_part p high
 abbrev pub parts : ℕ → Sight → ℕ → ℕ → List Part
 parts zero s p e = []
 parts (suc fuel) s p e =
-    if nat_le e p then [] else part_from s p (hole_from s.holes p) ∷ parts fuel s (part_end (part_from s p (hole_from s.holes p))) e
+    if nat_le e p then [] else part_from s p (hole_from s.holes p)
+    ∷ parts fuel s (part_end (part_from s p (hole_from s.holes p))) e
 
 -- a part stands in a list
 abbrev pub Among : List Part → Part → Type 0

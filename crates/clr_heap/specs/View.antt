@@ -1,10 +1,12 @@
 -- The heap as its callers see it.
-use Rattle.std.specs.Prelude.{◌≡◌, ℕ, ◌+◌, ◌-◌, ◌%◌, ◌^◌, ◌<◌, ◌≤◌, List, [], ◌∷◌, ◌++◌, length, get_or, map, find, nat_eq, if◌then◌else◌, ◌==◌, Option, Some, None, replicate}
+use Rattle.std.specs.Prelude.{◌≡◌, ℕ, ◌+◌, ◌-◌, ◌%◌, ◌^◌, ◌<◌, ◌≤◌, List, [], ◌∷◌, ◌++◌, length, get_or, map, find}
+use Rattle.std.specs.Prelude.{nat_eq, if◌then◌else◌, ◌==◌, Option, Some, None, replicate}
 use Rattle.std.specs.List.{AllByRecursion}
 use Rattle.clr_mem.specs.Words.{Memory}
 use Rattle.clr_types.specs.Types.{TypeRow, form_at, is_array, mt_of}
 use Rattle.clr_types.specs.Ranges.{Piece}
-use Rattle.clr_types.specs.Segments.{Layout, first_place, reserved_end, same_kind, empty_segment, segments_of, reserved_sum, ephemeral}
+use Rattle.clr_types.specs.Segments.{Layout, first_place, reserved_end, same_kind, empty_segment, segments_of}
+use Rattle.clr_types.specs.Segments.{reserved_sum, ephemeral, opening_segment, sealed_segment}
 use Rattle.clr_types.specs.LawfulLayout.{AreDisjoint, IsLawfulSegment}
 use Rattle.clr_types.specs.declared.item.Item.{Item}
 use Rattle.clr_types.specs.declared.segment.SegInfo.{SegInfo}
@@ -13,8 +15,8 @@ use Rattle.clr_types.specs.declared.segment.SegKind.TheVariants.{Small, Ephemera
 use Rattle.clr_heap.specs.Memories.{first_memory, HasWord, word_in, store_in, memory_index, shapes}
 use Rattle.clr_heap.specs.Parts.{item_at, items_in, NamesItem, Part, parts, Sight, Spells}
 
--- The words of each segment, the segments by rising base, what is left of each thread's context (by thread, from 1), the
--- boundaries of the generations, the highest end of a reservation that ever was, and the most that may be reserved.
+-- The words of each segment, the segments by rising base, what is left of each thread's context (by thread, from 1),
+-- the boundaries of the generations, the highest end of a reservation that ever was, and the most that may be reserved.
 pub record HeapView : Type 0 where
   pub memories : List Memory
   pub segments : List SegInfo
@@ -26,7 +28,8 @@ pub record HeapView : Type 0 where
 
 -- the heap as a layout whose free items aren't told
 abbrev pub frame : HeapView → Layout
-frame h = record { segments = h.segments; start1 = h.start1; start0 = h.start0; free = []; rests = h.rests; top = h.top }
+frame h =
+    record { segments = h.segments; start1 = h.start1; start0 = h.start0; free = []; rests = h.rests; top = h.top }
 
 -- where a segment begins and how many bytes it reserves
 abbrev pub extent_of : SegInfo → ℕ × ℕ
@@ -42,6 +45,8 @@ pub record IsHeap (h : HeapView) : Type 0 where
   pub disjoint : AreDisjoint h.segments
   pub below_top : AllByRecursion (λ (s : SegInfo). reserved_end s ≤ h.top) h.segments
   pub one_ephemeral : length (segments_of Ephemeral (frame h)) ≡ 1
+  pub ephemeral_last :
+      AllByRecursion (λ (s : SegInfo). s.base ≤ (ephemeral (frame h)).base) (segments_of Small (frame h))
   pub top_aligned : h.top % 4096 ≡ 0
   pub top_small : h.top ≤ 2 ^ 61 + 2 ^ 30
   pub within_limit : reserved_sum (frame h) ≤ h.limit
@@ -134,7 +139,8 @@ pub record HasParts (rows : List TypeRow) (old new : HeapView) (k : ℕ) (ps : L
 pub record AfterItem (s : Sight) (ms : List Memory) (p e : ℕ) : Type 0 where
   pub names : NamesItem s.rows s.word p
   pub walk : CanWalk s ms (p + (item_at s.rows s.word p).size) e
-  pub items : items_between s p e ≡ item_at s.rows s.word p ∷ items_between s (p + (item_at s.rows s.word p).size) e
+  pub items : items_between s p e
+      ≡ item_at s.rows s.word p ∷ items_between s (p + (item_at s.rows s.word p).size) e
   pub mt : HasWord ms p
   pub len : HasWord ms (p + 8)
   pub within : p + (item_at s.rows s.word p).size ≤ e
@@ -159,9 +165,13 @@ only_object (Some i) = if nat_eq i.type_id.0 0 then None else Some i
 
 -- ---- heads
 
--- the heap with the head of an item written at a: a clear header, the method table word, and the length where the type has one
+-- the heap with the head of an item written at a: a clear header, the method table word, and the length where the type
+-- has one
 unfoldable pub placed : List TypeRow → HeapView → ℕ → ℕ → ℕ → HeapView
-placed rows h a t n = if is_array (form_at rows t) then stored (stored (stored h (a - 8) 0) a (mt_of t)) (a + 8) n else stored (stored h (a - 8) 0) a (mt_of t)
+placed rows h a t n =
+    if is_array (form_at rows t)
+    then stored (stored (stored h (a - 8) 0) a (mt_of t)) (a + 8) n
+    else stored (stored h (a - 8) 0) a (mt_of t)
 
 -- the heap with a free item of this size made at a
 abbrev pub freed : HeapView → ℕ → ℕ → HeapView
@@ -196,25 +206,12 @@ no_rests = replicate 16 None
 
 -- ---- segments that come and go
 
--- an empty segment
-abbrev pub new_segment : SegKind → ℕ → ℕ → SegInfo
-new_segment kind base size = record { base = base; reserved = size; kind = kind; end = base + 0x1000 }
-
-abbrev pub sealed_kind : SegKind → SegKind
-sealed_kind Small = Small
-sealed_kind Ephemeral = Small
-sealed_kind Large = Large
-
--- an ephemeral segment becomes small
-abbrev pub sealed : SegInfo → SegInfo
-sealed s = record s { kind = sealed_kind s.kind }
-
 -- the heap with a new segment of another kind than the ephemeral one
-abbrev pub with_segment : HeapView → SegKind → ℕ → HeapView
-with_segment h kind size =
+abbrev pub heap_with_segment : HeapView → SegKind → ℕ → HeapView
+heap_with_segment h kind size =
     record h {
       memories = h.memories ++ first_memory h.top size ∷ [];
-      segments = h.segments ++ new_segment kind h.top size ∷ [];
+      segments = h.segments ++ opening_segment h.top kind size ∷ [];
       top = h.top + size;
     }
 
@@ -223,7 +220,7 @@ abbrev pub with_ephemeral : HeapView → ℕ → HeapView
 with_ephemeral h size =
     record h {
       memories = h.memories ++ first_memory h.top size ∷ [];
-      segments = map sealed h.segments ++ new_segment Ephemeral h.top size ∷ [];
+      segments = map sealed_segment h.segments ++ opening_segment h.top Ephemeral size ∷ [];
       start1 = h.top + 0x1000;
       start0 = h.top + 0x1000;
       top = h.top + size;
@@ -231,16 +228,18 @@ with_ephemeral h size =
 
 -- the heap with a new segment
 abbrev pub acquired : HeapView → SegKind → ℕ → HeapView
-acquired h Small size = with_segment h Small size
+acquired h Small size = heap_with_segment h Small size
 acquired h Ephemeral size = with_ephemeral h size
-acquired h Large size = with_segment h Large size
+acquired h Large size = heap_with_segment h Large size
 
 -- the heap at the start
-abbrev pub opening : ℕ → ℕ → HeapView
-opening segment limit =
+abbrev pub opening_heap : ℕ → ℕ → HeapView
+opening_heap segment limit =
     record {
       memories = first_memory 0x10000000 segment ∷ first_memory (0x10000000 + segment) segment ∷ [];
-      segments = new_segment Ephemeral 0x10000000 segment ∷ new_segment Large (0x10000000 + segment) segment ∷ [];
+      segments = opening_segment 0x10000000 Ephemeral segment
+          ∷ opening_segment (0x10000000 + segment) Large segment
+          ∷ [];
       rests = no_rests;
       start1 = 0x10001000;
       start0 = 0x10001000;

@@ -1,14 +1,13 @@
 // The heap: its segments, their words, the boundaries of the generations and the rests of contexts.
 ghost use Rattle.std.specs.Prelude.{◌≡◌, ℕ, ◌+◌, ◌*◌, ◌%◌, ◌<◌, ◌≤◌, ◌^◌, [], ◌∷◌, length, set, IfOk};
-ghost use Rattle.clr_types.specs.Segments.{ended_at, ephemeral, first_place, generation, reserved_end};
+ghost use Rattle.clr_types.specs.Segments.{ended_at, ephemeral, first_place, generation, opening_segment, reserved_end};
 ghost use Rattle.clr_types.specs.LawfulLayout.{IsLawfulSegment};
 ghost use Rattle.clr_heap.specs.Memories.{first_memory};
-ghost use Rattle.clr_heap.specs.View.{new_segment, no_rests};
+ghost use Rattle.clr_heap.specs.View.{no_rests};
 
-pub use crate::heap::rest::Rest;
 pub use crate::heap::segments::AcquireFault;
 use clr_mem::{Mem, NoMemory};
-use clr_types::{SegInfo, SegKind};
+use clr_types::{FIRST_OFFSET, SegInfo, SegKind, Span};
 use std::alloc::{AllocError, Global};
 use std::marker::Model;
 
@@ -20,9 +19,6 @@ mod words;
 /// The base of the first segment.
 pub const FIRST_BASE: u64 = 0x1000_0000;
 
-/// How far the first place of a segment stands above its base.
-pub const FIRST_OFFSET: u64 = 0x1000;
-
 /// The segments, with the rests of the threads' contexts and the boundaries of the generations.
 ///
 /// There is always exactly one ephemeral segment.
@@ -31,13 +27,13 @@ pub struct Heap {
     alloc: Global,
     memories: Vec<Mem>,
     segments: Vec<SegInfo>,
-    rests: Vec<Option<Rest>>,
+    rests: Vec<Option<Span>>,
     start1: u64,
     start0: u64,
     top: u64,
     limit: u64,
-    young_low: u64,
-    young_high: u64,
+    ephemeral_first: u64,
+    ephemeral_end: u64,
 }
 
 impl Model for Heap {
@@ -45,13 +41,29 @@ impl Model for Heap {
 
     ghost Value = { HeapView };
 
-    ghost view = { λ h. record { memories = h.memories.items; segments = h.segments.items; rests = h.rests.items; start1 = h.start1; start0 = h.start0; top = h.top; limit = h.limit } };
+    ghost view = { λ h. record {
+      memories = h.memories.items;
+      segments = h.segments.items;
+      rests = h.rests.items;
+      start1 = h.start1;
+      start0 = h.start0;
+      top = h.top;
+      limit = h.limit;
+    } };
 
-    ghost invariant = { λ h. IsKept (record { memories = h.memories.items; segments = h.segments.items; rests = h.rests.items; start1 = h.start1; start0 = h.start0; top = h.top; limit = h.limit }) h.young_low h.young_high };
+    ghost invariant = { λ h. IsKept (record {
+      memories = h.memories.items;
+      segments = h.segments.items;
+      rests = h.rests.items;
+      start1 = h.start1;
+      start0 = h.start0;
+      top = h.top;
+      limit = h.limit;
+    }) h.ephemeral_first h.ephemeral_end };
 }
 
 impl Heap {
-    ghost use Rattle.clr_heap.specs.View.{first_of, frame, IsHeap, last_of, opening, segment_at};
+    ghost use Rattle.clr_heap.specs.View.{first_of, frame, IsHeap, last_of, opening_heap, segment_at};
 
     /// One empty ephemeral segment, and above it one empty large one, each of `segment` bytes.
     /// Later segments are refused where all together would reserve more than `limit` bytes.
@@ -61,7 +73,7 @@ impl Heap {
         requires most { segment ≤ 67108864 }
         requires room { 2 * segment ≤ limit }
         requires limit_small { limit ≤ 1073741824 }
-        ensures { IfOk result (λ h. h ≡ opening segment limit) }
+        ensures { IfOk result (λ h. h ≡ opening_heap segment limit) }
     {
         let memories = first_memories(alloc, segment)?;
         let segments = first_segments(alloc, segment)?;
@@ -76,9 +88,17 @@ impl Heap {
             start0: first,
             top: FIRST_BASE + segment + segment,
             limit,
-            young_low: first,
-            young_high: FIRST_BASE + segment,
+            ephemeral_first: first,
+            ephemeral_end: FIRST_BASE + segment,
         })
+    }
+
+    /// Nothing: a call for the evidence alone that the heap is lawful, as every heap is.
+    #[inline]
+    pub fn lawful(&self)
+        ensures { IsHeap self.now }
+    {
+        let _ = &self.segments;
     }
 
     /// The number of segments.
@@ -126,7 +146,7 @@ impl Heap {
     pub fn gen_of(&self, a: u64) -> u8
         ensures { result ≡ generation (frame self.now) a }
     {
-        if a < self.young_low || a >= self.young_high || a < self.start1 {
+        if a < self.ephemeral_first || a >= self.ephemeral_end || a < self.start1 {
             2
         } else if a < self.start0 {
             1
@@ -141,7 +161,7 @@ impl Heap {
         ensures segment { segment_at self.now result ≡ ephemeral (frame self.now) }
         ensures heap { IsHeap self.now }
     {
-        self.segment_of(self.young_low)
+        self.segment_of(self.ephemeral_first)
     }
 
     /// Moves the end of segment `k`. No word changes.
@@ -150,7 +170,8 @@ impl Heap {
         requires above { first_of self.old k ≤ end }
         requires below { end ≤ reserved_end (segment_at self.old k) }
         requires aligned { end % 8 ≡ 0 }
-        ensures { self.new ≡ record self.old { segments = set self.old.segments k (ended_at end (segment_at self.old k)) } }
+        ensures { self.new
+            ≡ record self.old { segments = set self.old.segments k (ended_at end (segment_at self.old k)) } }
     {
         self.segments[k].end = end;
     }
@@ -159,7 +180,8 @@ impl Heap {
 fn first_memories(alloc: Global, segment: u64) -> Result<Vec<Mem>, NoMemory>
     requires aligned { segment % 4096 ≡ 0 }
     requires most { segment ≤ 67108864 }
-    ensures { IfOk result (λ v. v.items ≡ first_memory FIRST_BASE segment ∷ first_memory (FIRST_BASE + segment) segment ∷ []) }
+    ensures { IfOk result (λ v. v.items
+        ≡ first_memory FIRST_BASE segment ∷ first_memory (FIRST_BASE + segment) segment ∷ []) }
 {
     let low = Mem::new(alloc, FIRST_BASE, segment)?;
     let high = Mem::new(alloc, FIRST_BASE + segment, segment)?;
@@ -171,27 +193,17 @@ fn first_memories(alloc: Global, segment: u64) -> Result<Vec<Mem>, NoMemory>
 
 fn first_segments(alloc: Global, segment: u64) -> Result<Vec<SegInfo>, NoMemory>
     requires { segment ≤ 67108864 }
-    ensures { IfOk result (λ v. v.items ≡ new_segment SegKind.Ephemeral FIRST_BASE segment ∷ new_segment SegKind.Large (FIRST_BASE + segment) segment ∷ []) }
+    ensures { IfOk result (λ v. v.items
+        ≡ opening_segment FIRST_BASE SegKind.Ephemeral segment
+        ∷ opening_segment (FIRST_BASE + segment) SegKind.Large segment
+        ∷ []) }
 {
-    let low = empty_segment(SegKind::Ephemeral, FIRST_BASE, segment);
-    let high = empty_segment(SegKind::Large, FIRST_BASE + segment, segment);
+    let low = SegInfo::empty(SegKind::Ephemeral, FIRST_BASE, segment);
+    let high = SegInfo::empty(SegKind::Large, FIRST_BASE + segment, segment);
     Ok(vec![in alloc; low, high]?)
 }
 
-// A segment with nothing in it.
-fn empty_segment(kind: SegKind, base: u64, size: u64) -> SegInfo
-    requires { base + 4096 < 2 ^ 64 }
-    ensures { result ≡ new_segment kind base size }
-{
-    SegInfo {
-        base,
-        reserved: size,
-        kind,
-        end: base + FIRST_OFFSET,
-    }
-}
-
-fn no_contexts(alloc: Global) -> Result<Vec<Option<Rest>>, AllocError>
+fn no_contexts(alloc: Global) -> Result<Vec<Option<Span>>, AllocError>
     ensures { IfOk result (λ v. v.items ≡ no_rests) }
 {
     vec![in alloc; None; 16]

@@ -6,10 +6,7 @@ ghost use Rattle.clr_heap.specs.View.{freed, HasHead, HasItem, placed, SameShape
 
 use crate::Item;
 use crate::heap::Heap;
-use clr_types::{TypeId, Types};
-
-/// The method table word of a free item.
-const FREE_MT: u64 = 0x0000_7ff0_0000_0000;
+use clr_types::{FREE_MT, TypeId, Types};
 
 impl Heap {
     /// The item that starts at `a`, an object or a free item, whether it is marked or not.

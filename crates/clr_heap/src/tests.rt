@@ -1,10 +1,11 @@
 // Heaps that are built part by part, and what is read back from them.
-ghost use Rattle.std.specs.Prelude.{◌≡◌, ◌≢◌, ◌^◌, ℕ, ◌+◌, ◌-◌, ◌%◌, ◌<◌, ◌≤◌, [], ◌∷◌, ◌++◌, codes, false, length, get_or, set, IfOk, None};
-ghost use Rattle.clr_types.specs.Types.{class_form, references_form, bytes_form};
+ghost use Rattle.std.specs.Prelude.{◌≡◌, ◌≢◌, ◌^◌, ℕ, ◌+◌, ◌-◌, ◌%◌, ◌<◌, ◌≤◌, [], ◌∷◌, ◌++◌};
+ghost use Rattle.std.specs.Prelude.{false, length, get_or, set, IfOk, None};
+ghost use Rattle.clr_types.specs.Types.{form_at, size_of};
 ghost use Rattle.clr_heap.specs.Parts.{IsMakeable, item_part, made_item, rest_part};
 ghost use Rattle.clr_heap.specs.View.{IsWalkable, last_of, no_rests, parts_of, PartsAre, segment_at};
 
-use crate::{AcquireFault, Heap, SegKind, clear_marks, count_objects};
+use crate::{AcquireFault, Heap, SegKind};
 use clr_types::{Shape, TypeId, Types};
 use std::alloc::Global;
 use std::process::Abort;
@@ -19,9 +20,7 @@ const REFERENCES: TypeId = TypeId(2);
 const BYTES: TypeId = TypeId(3);
 
 // A class of a reference and a number, arrays of references, and arrays of bytes.
-fn sample_types(alloc: Global) -> Result<Types, Fail>
-    ensures { IfOk result (λ types. types ≡ record { name = codes "Pair"; form = class_form (codes "rn"); finalizer = false } ∷ record { name = codes "Refs"; form = references_form; finalizer = false } ∷ record { name = codes "Bytes"; form = bytes_form; finalizer = false } ∷ []) }
-{
+fn sample_types(alloc: Global) -> Result<Types, Fail> {
     let mut types = Types::new(alloc)?;
     let _ = types.define(b"Pair", Shape::Class(b"rn"), false)?;
     let _ = types.define(b"Refs", Shape::RefArray, false)?;
@@ -29,21 +28,35 @@ fn sample_types(alloc: Global) -> Result<Types, Fail>
     Ok(types)
 }
 
+// The size of an item of this type and length, which can be made.
+fn size_to_make(rt: &impl Abort, types: &Types, t: TypeId, len: u64) -> u64
+    ensures size { result ≡ size_of (form_at types.now t.0) len }
+    ensures item { IsMakeable types.now t.0 len }
+{
+    assert!(rt; t.0 < types.count());
+    assert!(rt; types.has_length(t) || len == 0);
+    assert!(rt; t.0 != 0 || len % 8 == 0);
+    let size = types.size_of(t, len).expect(rt, "at most 2^30 bytes");
+    assert!(rt; size >= 24);
+    assert!(rt; size % 8 == 0);
+    size
+}
+
 // Makes an item at the end of segment `k`, and answers its place.
 fn append(rt: &impl Abort, heap: &mut Heap, types: &Types, k: usize, t: TypeId, len: u64) -> u64
     requires in_range { k < length heap.old.segments }
     requires walkable { IsWalkable types.now heap.old k }
-    requires item { IsMakeable types.now t.0 len }
     ensures place { result ≡ last_of heap.old k }
-    ensures parts { PartsAre types.now heap.new k (parts_of types.now heap.old k ++ item_part (made_item types.now (last_of heap.old k) t.0 len) ∷ []) }
+    ensures parts { PartsAre types.now heap.new k (parts_of types.now heap.old k
+        ++ item_part (made_item types.now (last_of heap.old k) t.0 len) ∷ []) }
     ensures count { length heap.new.segments ≡ length heap.old.segments }
     ensures kind { (segment_at heap.new k).kind ≡ (segment_at heap.old k).kind }
     ensures rests { heap.new.rests ≡ heap.old.rests }
     ensures others { (j : ℕ) → j ≢ k → segment_at heap.new j ≡ segment_at heap.old j }
 {
     let segment = heap.info(k);
-    let size = types.item_size(t, len);
-    let _ = heap.segments();
+    let size = size_to_make(rt, types, t, len);
+    heap.lawful();
     assert!(rt; segment.end + size <= segment.base + segment.reserved);
     assert!(rt; heap.hole_end(k, segment.end).is_none());
     heap.make_object(types, segment.end, t, len);
@@ -62,11 +75,12 @@ fn open_context(rt: &impl Abort, heap: &mut Heap, types: &Types, k: usize, threa
     requires least { 24 ≤ size }
     requires whole { size % 8 ≡ 0 }
     requires small { size < 1000 }
-    ensures parts { PartsAre types.now heap.new k (parts_of types.now heap.old k ++ rest_part (last_of heap.old k) (last_of heap.old k + size) ∷ []) }
+    ensures parts { PartsAre types.now heap.new k (parts_of types.now heap.old k
+        ++ rest_part (last_of heap.old k) (last_of heap.old k + size) ∷ []) }
     ensures count { length heap.new.segments ≡ length heap.old.segments }
 {
     let segment = heap.info(k);
-    let _ = heap.segments();
+    heap.lawful();
     assert!(rt; segment.end + size <= segment.base + segment.reserved);
     heap.set_end(k, segment.end + size);
     heap.set_hole(thread, segment.end, segment.end + size);
@@ -77,7 +91,7 @@ fn poke(rt: &impl Abort, heap: &mut Heap, k: usize, a: u64, v: u8) -> u64
     requires in_range { k < length heap.old.segments }
     ensures count { length heap.new.segments ≡ length heap.old.segments }
 {
-    let _ = heap.segments();
+    heap.lawful();
     let segment = heap.info(k);
     assert!(rt; segment.base <= a);
     assert!(rt; a < segment.base + segment.reserved);
@@ -95,7 +109,7 @@ fn shift(rt: &impl Abort, heap: &mut Heap, k: usize, from: u64, to: u64, v: u64)
     requires low { from < 2 ^ 60 }
     ensures count { length heap.new.segments ≡ length heap.old.segments }
 {
-    let _ = heap.segments();
+    heap.lawful();
     let segment = heap.info(k);
     assert!(rt; segment.base <= to);
     assert!(rt; from + 8 <= segment.base + segment.reserved);
@@ -133,10 +147,10 @@ fn a_heap_is_read_back(rt: HostRuntime) -> Result<(), Fail> {
         number += 1;
     }
     assert_eq!(rt; number, 4);
-    assert_eq!(rt; count_objects(&heap, &types, 0), 3);
     assert_eq!(rt; heap.hole(3), Some((0x1000_10b0, 0x1000_1110)));
     assert_eq!(rt; heap.hole(4), None);
-    clear_marks(&mut heap, &types, 0);
+    assert_eq!(rt; heap.next_hole(0, 0x1000_1000), 0x1000_10b0);
+    assert_eq!(rt; heap.next_hole(0, 0x1000_10b0), u64::MAX);
     Ok(())
 }
 
@@ -200,7 +214,9 @@ fn acquire_more(
     heap: &mut Heap,
     kind: SegKind,
 ) -> Result<(usize, u64), AcquireFault>
-    requires { kind ≢ SegKind.Small }
+    requires kind { kind ≢ SegKind.Small }
+    requires no_contexts { heap.old.rests ≡ no_rests }
+    ensures { heap.new.rests ≡ no_rests }
 {
     assert!(rt; heap.top() < 0x2000_0000_0000_0000);
     let k = heap.acquire(kind, 262_144)?;
@@ -209,7 +225,7 @@ fn acquire_more(
 }
 
 #[test]
-fn segments_come_and_go(rt: HostRuntime) -> Result<(), Fail> {
+fn segments_come(rt: HostRuntime) -> Result<(), Fail> {
     let mut heap = Heap::new(rt.alloc(), 262_144, 1_048_576)?;
     assert_eq!(rt; (heap.segments(), heap.top()), (2, 0x1008_0000));
     assert_eq!(rt;
@@ -231,6 +247,15 @@ fn segments_come_and_go(rt: HostRuntime) -> Result<(), Fail> {
     );
     assert!(rt; heap.segments() == 4);
     assert!(rt; heap.info(0).kind == SegKind::Small);
+    Ok(())
+}
+
+#[test]
+fn segments_go(rt: HostRuntime) -> Result<(), Fail> {
+    let mut heap = Heap::new(rt.alloc(), 262_144, 1_048_576)?;
+    let _ = acquire_more(&rt, &mut heap, SegKind::Large)?;
+    let _ = acquire_more(&rt, &mut heap, SegKind::Ephemeral)?;
+    assert!(rt; heap.segments() == 4);
     assert!(rt; heap.info(2).kind != SegKind::Ephemeral);
     heap.release(2);
     assert!(rt; heap.segments() == 3);

@@ -1,9 +1,10 @@
 // Walks over the items of a segment.
 ghost use Rattle.std.specs.Prelude.{◌≡◌, ℕ, ◌+◌, ◌<◌, ◌≤◌, ◌^◌, length, None};
 ghost use Rattle.clr_heap.specs.Parts.{hole_from, item_at};
-ghost use Rattle.clr_heap.specs.View.{AfterItem, AreWalkable, CanWalk, heap_items, holes_of, item_with_place, items_between, IsWalkable, listing, only_object, sight, word_of};
+ghost use Rattle.clr_heap.specs.View.{AfterItem, AreWalkable, CanWalk, heap_items, holes_of, item_with_place};
+ghost use Rattle.clr_heap.specs.View.{items_between, IsWalkable, listing, only_object, sight, word_of};
 
-use crate::heap::{FIRST_OFFSET, Heap};
+use crate::heap::Heap;
 use crate::{Item, SegKind};
 use clr_types::Types;
 use std::marker::Model;
@@ -19,7 +20,8 @@ struct Cursor<'a> {
     next_hole: u64,
 }
 
-/// The items of a segment that are left of a walk, by rising address. Holes are passed over. Clauses see it as their list.
+/// The items of a segment that are left of a walk, by rising address. Holes are passed over. Clauses see it as their
+/// list.
 #[derive(Drop)]
 pub struct Walk<'a> {
     cursor: Cursor<'a>,
@@ -81,7 +83,7 @@ impl Heap {
         ensures few { length result < 2 ^ 64 }
     {
         let segment = self.info(k);
-        let place = segment.base + FIRST_OFFSET;
+        let place = segment.first_place();
         let next_hole = if segment.kind == SegKind::Ephemeral {
             place
         } else {
@@ -148,11 +150,14 @@ impl Heap {
 fn past_holes(heap: &Heap, types: &Types, k: usize, spot: Spot, end: u64) -> Spot
     requires in_range { k < length heap.now.segments }
     requires walk { CanWalk (sight types.now heap.now k) heap.now.memories spot.place end }
-    requires clear { (q : ℕ) → spot.place ≤ q → q < spot.next_hole → q < end → hole_from (holes_of heap.now k) q ≡ None }
+    requires clear { (q : ℕ) → spot.place ≤ q → q < spot.next_hole → q < end
+        → hole_from (holes_of heap.now k) q ≡ None }
     ensures walk { CanWalk (sight types.now heap.now k) heap.now.memories result.place end }
-    ensures same { items_between (sight types.now heap.now k) result.place end ≡ items_between (sight types.now heap.now k) spot.place end }
+    ensures same { items_between (sight types.now heap.now k) result.place end
+        ≡ items_between (sight types.now heap.now k) spot.place end }
     ensures stops { result.place < end → hole_from (holes_of heap.now k) result.place ≡ None }
-    ensures clear { (q : ℕ) → result.place ≤ q → q < result.next_hole → q < end → hole_from (holes_of heap.now k) q ≡ None }
+    ensures clear { (q : ℕ) → result.place ≤ q → q < result.next_hole → q < end
+        → hole_from (holes_of heap.now k) q ≡ None }
 {
     if spot.place < spot.next_hole {
         return spot;
@@ -169,7 +174,8 @@ fn skip_holes(heap: &Heap, types: &Types, k: usize, from: u64, end: u64) -> u64
     requires in_range { k < length heap.now.segments }
     requires walk { CanWalk (sight types.now heap.now k) heap.now.memories from end }
     ensures walk { CanWalk (sight types.now heap.now k) heap.now.memories result end }
-    ensures same { items_between (sight types.now heap.now k) result end ≡ items_between (sight types.now heap.now k) from end }
+    ensures same { items_between (sight types.now heap.now k) result end
+        ≡ items_between (sight types.now heap.now k) from end }
     ensures stops { result < end → hole_from (holes_of heap.now k) result ≡ None }
 {
     let mut place = from;

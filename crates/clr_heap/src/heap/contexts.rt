@@ -1,13 +1,12 @@
 // The rests of the threads' contexts.
-ghost use Rattle.std.specs.Prelude.{◌≡◌, ℕ, ◌+◌, ◌-◌, ◌<◌, ◌≤◌, length, set, None, option_map};
-ghost use Rattle.std.specs.Prelude.{slice_get};
+ghost use Rattle.std.specs.Prelude.{◌≡◌, ℕ, ◌+◌, ◌-◌, ◌<◌, ◌≤◌, ◌^◌, length, set, IsSome, None, option_map, slice_get};
 ghost use Rattle.clr_types.specs.Segments.{flat_option, rest_of};
 ghost use Rattle.clr_heap.specs.View.{rest_bounds};
 ghost use Rattle.clr_heap.specs.Parts.{hole_from};
 
 use super::Heap;
-use super::rest::{Rest, hole_end_in, next_hole_in};
-use clr_types::SegKind;
+use super::rest::{hole_end_in, next_hole_in};
+use clr_types::{SegKind, Span};
 
 impl Heap {
     ghost use Rattle.clr_heap.specs.View.{frame, holes_of, rest_between};
@@ -33,7 +32,7 @@ impl Heap {
         self.rests[thread - 1] = if lo == hi {
             None
         } else {
-            Some(Rest::between(lo, hi))
+            Some(Span::between(lo, hi))
         };
     }
 
@@ -49,10 +48,12 @@ impl Heap {
         }
     }
 
-    // A place up to which no hole of segment `k` starts above `p`.
-    pub(crate) fn next_hole(&self, k: usize, p: u64) -> u64
+    /// Where the next hole of segment `k` that starts above `p` starts: `u64::MAX` where none does.
+    pub fn next_hole(&self, k: usize, p: u64) -> u64
         requires { k < length self.now.segments }
-        ensures { (q : ℕ) → p < q → q < result → hole_from (holes_of self.now k) q ≡ None }
+        ensures none_before { (q : ℕ) → p < q → q < result → hole_from (holes_of self.now k) q ≡ None }
+        ensures ahead { p < 2 ^ 64 - 1 → p < result }
+        ensures starts { result < 2 ^ 64 - 1 → IsSome (hole_from (holes_of self.now k) result) }
     {
         if self.segments[k].kind == SegKind::Ephemeral {
             next_hole_in(&self.rests, p)
@@ -62,7 +63,7 @@ impl Heap {
     }
 }
 
-fn hole_at(rests: &Vec<Option<Rest>>, i: usize) -> Option<(u64, u64)>
+fn hole_at(rests: &Vec<Option<Span>>, i: usize) -> Option<(u64, u64)>
     requires { i < length rests.now.items }
     ensures { result ≡ option_map rest_bounds (flat_option (slice_get rests.now.items i)) }
 {

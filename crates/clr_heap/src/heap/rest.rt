@@ -1,59 +1,11 @@
-// What is left of a thread's context.
-ghost use Rattle.std.specs.Prelude.{◌≡◌, ℕ, ◌+◌, ◌-◌, ◌<◌, ◌≤◌, ◌^◌, length, None};
-ghost use Rattle.clr_types.specs.Ranges.{piece_end};
+// Searches in the rests of contexts.
+ghost use Rattle.std.specs.Prelude.{◌≡◌, ℕ, ◌-◌, ◌<◌, ◌^◌, IsSome, None};
 ghost use Rattle.clr_heap.specs.Parts.{hole_from};
 
-use std::marker::Model;
-
-/// A range that belongs to a thread.
-#[derive(Clone, Copy)]
-pub struct Rest {
-    place: u64,
-    size: u64,
-}
-
-impl Model for Rest {
-    ghost use Rattle.std.specs.Prelude.{◌+◌, ◌<◌, ◌^◌};
-    ghost use Rattle.clr_types.specs.Ranges.{Piece};
-
-    ghost Value = { Piece };
-
-    ghost view = { λ r. record { place = r.place; size = r.size } };
-
-    ghost inverse = { λ p. record { place = p.place; size = p.size } };
-
-    ghost invariant = { λ r. r.place + r.size < 2 ^ 64 };
-}
-
-impl Rest {
-    /// The range from `low` to `high`.
-    pub fn between(low: u64, high: u64) -> Rest
-        requires { low ≤ high }
-        ensures { result ≡ record { place = low; size = high - low } }
-    {
-        Rest {
-            place: low,
-            size: high - low,
-        }
-    }
-
-    /// The first address.
-    pub fn place(&self) -> u64
-        ensures { result ≡ self.now.place }
-    {
-        self.place
-    }
-
-    /// One past the last address.
-    pub fn end(&self) -> u64
-        ensures { result ≡ piece_end self.now }
-    {
-        self.place + self.size
-    }
-}
+use clr_types::Span;
 
 /// The end of the first of the ranges that starts at `p`.
-pub fn hole_end_in(rests: &Vec<Option<Rest>>, p: u64) -> Option<u64>
+pub fn hole_end_in(rests: &Vec<Option<Span>>, p: u64) -> Option<u64>
     ensures { result ≡ hole_from rests.now.items p }
 {
     for slot in rests {
@@ -66,9 +18,11 @@ pub fn hole_end_in(rests: &Vec<Option<Rest>>, p: u64) -> Option<u64>
     None
 }
 
-/// A place above `p` up to which none of the ranges starts: where the next of them does, or the highest address.
-pub fn next_hole_in(rests: &Vec<Option<Rest>>, p: u64) -> u64
-    ensures { (q : ℕ) → p < q → q < result → hole_from rests.now.items q ≡ None }
+/// Where the next of the ranges that starts above `p` starts: `u64::MAX` where none does.
+pub fn next_hole_in(rests: &Vec<Option<Span>>, p: u64) -> u64
+    ensures none_before { (q : ℕ) → p < q → q < result → hole_from rests.now.items q ≡ None }
+    ensures ahead { p < 2 ^ 64 - 1 → p < result }
+    ensures starts { result < 2 ^ 64 - 1 → IsSome (hole_from rests.now.items result) }
 {
     let mut next = u64::MAX;
     for slot in rests {

@@ -1,10 +1,10 @@
 // Segments that are acquired and released.
-ghost use Rattle.std.specs.Prelude.{◌≡◌, ◌≢◌, ◌↔◌, ℕ, ◌+◌, ◌%◌, ◌<◌, ◌≤◌, ◌^◌, [], ◌∷◌, ◌++◌, length, map, sum_by, vec_len, vec_capacity, IfOk, OnOk, OnErr, drop, take};
+ghost use Rattle.std.specs.Prelude.{◌≡◌, ◌≢◌, ◌↔◌, ℕ, ◌+◌, ◌%◌, ◌<◌, ◌≤◌, ◌^◌, [], ◌∷◌, ◌++◌, length, map, sum_by};
+ghost use Rattle.std.specs.Prelude.{vec_len, vec_capacity, IfOk, OnOk, OnErr, drop, take};
 ghost use Rattle.std.specs.List.{remove};
-ghost use Rattle.clr_types.specs.Segments.{reserved_sum};
-ghost use Rattle.clr_heap.specs.View.{sealed};
+ghost use Rattle.clr_types.specs.Segments.{reserved_sum, sealed_segment};
 
-use super::{FIRST_OFFSET, Heap, empty_segment};
+use super::Heap;
 use clr_mem::{Mem, NoMemory};
 use clr_types::{SegInfo, SegKind};
 
@@ -28,21 +28,25 @@ impl From<NoMemory> for AcquireFault {
 }
 
 impl Heap {
-    ghost use Rattle.clr_heap.specs.View.{acquired, frame, segment_at};
+    ghost use Rattle.clr_heap.specs.View.{acquired, frame, no_rests, segment_at};
 
-    /// Acquires an empty segment of `size` bytes above all others, and answers its number. A new ephemeral segment
-    /// seals the old one, which becomes small, and no place of the new one is old.
+    /// Acquires an empty segment of `size` bytes above all others, and answers its number. An ephemeral one has 64 MiB
+    /// at most. It seals the old one, which becomes small, and no place of the new one is old. No thread may have a
+    /// context then, since its rest would stand in a small segment.
     ///
     /// `OverLimit` comes exactly where all segments together would reserve more than the limit. On both faults nothing
     /// has changed.
     pub fn acquire(&mut self, kind: SegKind, size: u64) -> Result<usize, AcquireFault>
         requires kind { kind ≢ SegKind.Small }
+        requires no_contexts { kind ≡ SegKind.Ephemeral → self.old.rests ≡ no_rests }
         requires aligned { size % 4096 ≡ 0 }
         requires least { 262144 ≤ size }
+        requires most { kind ≡ SegKind.Ephemeral → size ≤ 67108864 }
         requires top { self.old.top ≤ 2 ^ 61 }
         ensures number { IfOk result (λ k. k ≡ length self.old.segments) }
         ensures acquired { OnOk result (self.new ≡ acquired self.old kind size) }
-        ensures over_limit { (result ≡ Err AcquireFault.OverLimit) ↔ (self.old.limit < reserved_sum (frame self.old) + size) }
+        ensures over_limit { (result ≡ Err AcquireFault.OverLimit)
+            ↔ (self.old.limit < reserved_sum (frame self.old) + size) }
         ensures err { OnErr result (self.new ≡ self.old) }
     {
         let left = self.limit - reserved_by(&self.segments);
@@ -53,14 +57,15 @@ impl Heap {
         let memory = Mem::new(self.alloc, base, size)?;
         make_room(&mut self.memories, &mut self.segments)?;
         let k = self.segments.len();
-        let segment = empty_segment(kind, base, size);
+        let segment = SegInfo::empty(kind, base, size);
         if kind == SegKind::Ephemeral {
             seal(&mut self.segments);
             push_both(&mut self.memories, &mut self.segments, memory, segment);
-            self.start1 = base + FIRST_OFFSET;
-            self.start0 = base + FIRST_OFFSET;
-            self.young_low = base + FIRST_OFFSET;
-            self.young_high = base + size;
+            let first = segment.first_place();
+            self.start1 = first;
+            self.start0 = first;
+            self.ephemeral_first = first;
+            self.ephemeral_end = base + size;
             self.top = base + size;
             return Ok(k);
         }
@@ -73,7 +78,8 @@ impl Heap {
     pub fn release(&mut self, k: usize)
         requires in_range { k < length self.old.segments }
         requires not_ephemeral { (segment_at self.old k).kind ≢ SegKind.Ephemeral }
-        ensures { self.new ≡ record self.old { memories = remove self.old.memories k; segments = remove self.old.segments k } }
+        ensures { self.new
+            ≡ record self.old { memories = remove self.old.memories k; segments = remove self.old.segments k } }
     {
         let _ = self.memories.remove(k);
         let _ = self.segments.remove(k);
@@ -92,7 +98,8 @@ fn reserved_by(segments: &Vec<SegInfo>) -> u64
 fn make_room(memories: &mut Vec<Mem>, segments: &mut Vec<SegInfo>) -> Result<(), NoMemory>
     ensures memories { memories.new.items ≡ memories.old.items }
     ensures segments { segments.new.items ≡ segments.old.items }
-    ensures room { OnOk result ((vec_len memories.new < vec_capacity memories.new) × (vec_len segments.new < vec_capacity segments.new)) }
+    ensures room { OnOk result ((vec_len memories.new < vec_capacity memories.new)
+        × (vec_len segments.new < vec_capacity segments.new)) }
 {
     memories.reserve(1)?;
     segments.reserve(1)?;
@@ -122,21 +129,10 @@ fn push_within<T: Drop>(items: &mut Vec<T>, item: T)
 
 // Makes every ephemeral segment small.
 fn seal(segments: &mut Vec<SegInfo>)
-    ensures items { segments.new.items ≡ map sealed segments.old.items }
+    ensures items { segments.new.items ≡ map sealed_segment segments.old.items }
     ensures room { vec_len segments.old < vec_capacity segments.old → vec_len segments.new < vec_capacity segments.new }
 {
     for i in 0..segments.len() {
-        segments[i] = sealed_info(segments[i]);
+        segments[i] = segments[i].sealed();
     }
-}
-
-fn sealed_info(segment: SegInfo) -> SegInfo
-    ensures { result ≡ sealed segment }
-{
-    let kind = match segment.kind {
-        SegKind::Large => SegKind::Large,
-        SegKind::Small => SegKind::Small,
-        SegKind::Ephemeral => SegKind::Small,
-    };
-    SegInfo { kind, ..segment }
 }

@@ -1,7 +1,8 @@
 // The words and bytes of the heap, by address.
 ghost use Rattle.std.specs.Prelude.{◌≡◌, ℕ, ◌+◌, ◌*◌, ◌/◌, ◌%◌, ◌<◌, ◌≤◌, ◌^◌, true, length, get_or, set};
 ghost use Rattle.clr_mem.specs.Words.{byte_of, cleared, Holds, moved, with_byte};
-ghost use Rattle.clr_heap.specs.Memories.{clears, contains, HasWord, InOne, IsApart, moves, memory_index, shapes, store_in, word_address, word_in};
+ghost use Rattle.clr_heap.specs.Memories.{clears, contains, HasWord, InOne, IsApart, moves, memory_index, shapes};
+ghost use Rattle.clr_heap.specs.Memories.{store_in, word_address, word_in};
 
 use super::Heap;
 use clr_mem::Mem;
@@ -56,7 +57,8 @@ impl Heap {
     /// Writes the byte at an address.
     pub fn set_byte(&mut self, a: u64, v: u8)
         requires { HasWord self.old.memories (word_address a) }
-        ensures { self.new ≡ stored self.old (word_address a) (with_byte (word_of self.old (word_address a)) (a % 8) v) }
+        ensures { self.new
+            ≡ stored self.old (word_address a) (with_byte (word_of self.old (word_address a)) (a % 8) v) }
     {
         set_byte_of_memories(&mut self.memories, a, v);
     }
@@ -89,8 +91,8 @@ impl Heap {
         find(&self.memories, a)
     }
 
-    /// The number of the segment that an address lies in, at once where that is `near`, a guess: most references of an object
-    /// lead into its own segment.
+    /// The number of the segment that an address lies in, at once where that is `near`, a guess: most references of an
+    /// object lead into its own segment.
     #[inline]
     pub fn segment_near(&self, near: usize, a: u64) -> usize
         requires { HasWord self.now.memories a }
@@ -107,7 +109,8 @@ impl Heap {
 // Whether memory `k` is there, and an address lies in it.
 #[inline]
 fn is_in(memories: &Vec<Mem>, k: usize, a: u64) -> bool
-    ensures { result ≡ true → (d : _) → (k < length memories.now.items) × (contains (get_or memories.now.items k d) a ≡ true) }
+    ensures { result ≡ true → (d : _)
+        → (k < length memories.now.items) × (contains (get_or memories.now.items k d) a ≡ true) }
 {
     match memories.get(k) {
         Some(memory) => memory.base() <= a && a - memory.base() < memory.len(),
@@ -199,7 +202,9 @@ fn byte_of_memories(memories: &Vec<Mem>, a: u64) -> u8
 fn set_byte_of_memories(memories: &mut Vec<Mem>, a: u64, v: u8)
     requires word { HasWord memories.old.items (word_address a) }
     requires apart { IsApart (shapes memories.old.items) }
-    ensures items { memories.new.items ≡ store_in memories.old.items (word_address a) (with_byte (word_in memories.old.items (word_address a)) (a % 8) v) }
+    ensures items { memories.new.items
+        ≡ store_in memories.old.items (word_address a)
+        (with_byte (word_in memories.old.items (word_address a)) (a % 8) v) }
     ensures shapes { shapes memories.new.items ≡ shapes memories.old.items }
 {
     let k = find(memories, a / 8 * 8);
@@ -212,7 +217,8 @@ fn move_in_memories(memories: &mut Vec<Mem>, from: u64, to: u64, len: u64)
     requires to_in { InOne memories.old.items to len }
     requires down { to ≤ from }
     requires apart { IsApart (shapes memories.old.items) }
-    ensures words { (b : ℕ) → b % 8 ≡ 0 → word_in memories.new.items b ≡ moves from to len (word_in memories.old.items) b }
+    ensures words { (b : ℕ) → b % 8 ≡ 0
+        → word_in memories.new.items b ≡ moves from to len (word_in memories.old.items) b }
     ensures shapes { shapes memories.new.items ≡ shapes memories.old.items }
     ensures len { length memories.new.items ≡ length memories.old.items }
 {
@@ -230,7 +236,9 @@ fn slide_in(memories: &mut Vec<Mem>, k: usize, from: u64, to: u64, len: u64)
     requires to_in { (d : _) → Holds (get_or memories.old.items k d) to len }
     requires from_in { (d : _) → Holds (get_or memories.old.items k d) from len }
     requires down { to ≤ from }
-    ensures { (d : _) → memories.new.items ≡ set memories.old.items k (moved (get_or memories.old.items k d) (get_or memories.old.items k d) to from len) }
+    ensures { (d : _) → memories.new.items
+        ≡ set memories.old.items k
+        (moved (get_or memories.old.items k d) (get_or memories.old.items k d) to from len) }
 {
     let memory = &mut memories[k];
     memory.slide(from, to, len);
@@ -241,7 +249,9 @@ fn carry_between(memories: &mut Vec<Mem>, low: usize, high: usize, from: u64, to
     requires in_range { high < length memories.old.items }
     requires to_in { (d : _) → Holds (get_or memories.old.items low d) to len }
     requires from_in { (d : _) → Holds (get_or memories.old.items high d) from len }
-    ensures { (d : _) → memories.new.items ≡ set memories.old.items low (moved (get_or memories.old.items low d) (get_or memories.old.items high d) to from len) }
+    ensures { (d : _) → memories.new.items
+        ≡ set memories.old.items low
+        (moved (get_or memories.old.items low d) (get_or memories.old.items high d) to from len) }
 {
     let (front, back) = memories.split_at_mut(high);
     let target = &mut front[low];

@@ -1,4 +1,5 @@
-use Rattle.std.proofs.Common.{◌≡◌, ◌+◌, ◌-◌, ◌++◌, ◌∷◌, [], ℕ, List, None, Option, get_or, set, sym, ap, ◌∙◌, subst, arith}
+use Rattle.std.proofs.Common.{◌≡◌, ◌+◌, ◌-◌, ◌++◌, ◌∷◌, [], ℕ, List, None, Option, get_or, set, sym, ap, ◌∙◌, subst}
+use Rattle.std.proofs.Common.{arith}
 use Rattle.std.proofs.lemmas.List.{get_or-replicate}
 use Rattle.clr_types.specs.Ranges.{Piece}
 use Rattle.clr_types.specs.Segments.{ended_at}
@@ -18,13 +19,22 @@ returns-clause-parts g c =
     let here = c.info-segment.ensures.value in
     let last : c.info-segment.result.end ≡ last_of h k = ap (λ (s : SegInfo). s.end) here in
     let all = ap (λ (s : SegInfo). s.base + s.reserved) here in
-    let threads = c.segments.ensures.heap.threads in
+    let threads = c.lawful.ensures.threads in
     let positive = c.requires.positive in
     let few = c.requires.few in
-    let had : get_or h.rests i None ≡ None = ap (λ (hs : List (Option Piece)). get_or hs i None) c.requires.none ∙ get_or-replicate {A = Option Piece} 16 i None None (omega arith) in
-    let none : hole_from h.rests (last_of h k) ≡ None = ap (λ (hs : List (Option Piece)). hole_from hs (last_of h k)) c.requires.none in
-    let made = hole_at_end rows h k i size c.segments.ensures.heap c.requires.in_range c.requires.walkable c.requires.young (omega arith) had c.requires.least c.requires.whole (omega arith) none in
-    let P : HeapView → Type 0 = λ q. PartsAre rows q k (parts_of rows h k ++ rest_part (last_of h k) (last_of h k + size) ∷ []) in
-    let is = c.set_hole.ensures ∙ ap (λ (q : HeapView). record q { rests = set q.rests i (rest_between c.info-segment.result.end (c.info-segment.result.end + size)) }) c.set_end.ensures
-    ∙ ap (λ (e : ℕ). record h { segments = set h.segments k (ended_at (e + size) (segment_at h k)); rests = set h.rests i (rest_between e (e + size)) }) last in
+    let had : get_or h.rests i None ≡ None = ap (λ (hs : List (Option Piece)). get_or hs i None) c.requires.none
+    ∙ get_or-replicate {A = Option Piece} 16 i None None (omega arith) in
+    let none : hole_from h.rests (last_of h k) ≡ None =
+    ap (λ (hs : List (Option Piece)). hole_from hs (last_of h k)) c.requires.none in
+    let made = hole_at_end rows h k i size c.lawful.ensures c.requires.in_range c.requires.walkable c.requires.young
+    (omega arith) had c.requires.least c.requires.whole (omega arith) none in
+    let P : HeapView → Type 0 =
+    λ q. PartsAre rows q k (parts_of rows h k ++ rest_part (last_of h k) (last_of h k + size) ∷ []) in
+    let is = c.set_hole.ensures ∙ ap (λ (q : HeapView). record q
+    { rests = set q.rests i (rest_between c.info-segment.result.end (c.info-segment.result.end + size)) })
+    c.set_end.ensures
+    ∙ ap (λ (e : ℕ). record h {
+      segments = set h.segments k (ended_at (e + size) (segment_at h k));
+      rests = set h.rests i (rest_between e (e + size));
+    }) last in
     subst P (sym is) made

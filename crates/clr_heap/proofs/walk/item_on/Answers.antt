@@ -4,10 +4,12 @@ use Rattle.clr_heap.proofs.walk.item_on.Goals as goal
 
 pub item-requires : goal.item-requires
 item-requires c =
-    let step = walk_item (sight c.args.types.now c.args.heap.now c.args.k) c.args.heap.now.memories c.args.place c.args.end c.requires.walk c.requires.below c.requires.free in
+    let step = walk_item (sight c.args.types.now c.args.heap.now c.args.k) c.args.heap.now.memories c.args.place
+    c.args.end c.requires.walk c.requires.below c.requires.free in
     record { names = step.names; mt = step.mt; len = step.len }
 
 pub returns : goal.returns
 returns c =
-    let step = walk_item (sight c.args.types.now c.args.heap.now c.args.k) c.args.heap.now.memories c.args.place c.args.end c.requires.walk c.requires.below c.requires.free in
+    let step = walk_item (sight c.args.types.now c.args.heap.now c.args.k) c.args.heap.now.memories c.args.place
+    c.args.end c.requires.walk c.requires.below c.requires.free in
     record { after = step; item = c.item.ensures; size = rw c.item.ensures step.within }

@@ -5,10 +5,14 @@ use Rattle.clr_heap.proofs.walk.skip_holes.Goals as goal
 
 pub loop-place-preserved : goal.loop-place-preserved
 loop-place-preserved c =
-    let step = walk_hole (sight c.args.types.now c.args.heap.now c.args.k) c.args.heap.now.memories c.loop-place.place c.in-Some.high c.args.end c.loop-place.invariant.walk c.loop-place-test.true (sym c.hole_end.ensures ∙ c.in-Some.is) in
+    let step = walk_hole (sight c.args.types.now c.args.heap.now c.args.k) c.args.heap.now.memories c.loop-place.place
+    c.in-Some.high c.args.end c.loop-place.invariant.walk c.loop-place-test.true
+    (sym c.hole_end.ensures ∙ c.in-Some.is) in
     record { walk = step.walk; same = sym step.items ∙ c.loop-place.invariant.same }
 
 pub loop-place-smaller : goal.loop-place-smaller
 loop-place-smaller c =
-    let step = walk_hole (sight c.args.types.now c.args.heap.now c.args.k) c.args.heap.now.memories c.loop-place.place c.in-Some.high c.args.end c.loop-place.invariant.walk c.loop-place-test.true (sym c.hole_end.ensures ∙ c.in-Some.is) in
+    let step = walk_hole (sight c.args.types.now c.args.heap.now c.args.k) c.args.heap.now.memories c.loop-place.place
+    c.in-Some.high c.args.end c.loop-place.invariant.walk c.loop-place-test.true
+    (sym c.hole_end.ensures ∙ c.in-Some.is) in
     omega arith

@@ -11,5 +11,6 @@ returns-then-a-segment c =
     let a = c.args.a in
     let base = ap (λ (s : SegInfo). s.base) c.info-segment.ensures.value in
     let last = ap (λ (s : SegInfo). s.end) c.info-segment.ensures.value in
-    let out : (a < first_of h k) ⊎ (last_of h k ≤ a) = elim c.then-a-segment.either [ inl low ↦ inl (omega arith) | inr high ↦ inr (omega arith) ] in
+    let out : (a < first_of h k) ⊎ (last_of h k ≤ a) =
+    elim c.then-a-segment.either [ inl low ↦ inl (omega arith) | inr high ↦ inr (omega arith) ] in
     sym (no_item_outside c.args.types.now h k a c.requires.walkable out)

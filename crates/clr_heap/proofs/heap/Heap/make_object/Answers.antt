@@ -8,4 +8,5 @@ returns-then-has_length-clause-shape c =
 
 pub returns-else-has_length-clause-shape : goal.returns-else-has_length-clause-shape
 returns-else-has_length-clause-shape c =
-    rw (c.set_word-2.ensures.value, c.set_word.ensures.value) (SameShape-stored _ _ _ _ (SameShape-stored _ _ _ _ (SameShape-refl c.args.self.now)))
+    rw (c.set_word-2.ensures.value, c.set_word.ensures.value)
+    (SameShape-stored _ _ _ _ (SameShape-stored _ _ _ _ (SameShape-refl c.args.self.now)))

@@ -14,4 +14,5 @@ pub invariant_of-self : goal.invariant_of-self
 invariant_of-self c =
     let other = other_kind _ c.requires.not_ephemeral in
     rw (c.remove.ensures.items, c.remove-2.ensures.items)
-    (kept_released _ c.args.k _ _ c.self.invariant (rw (← c.self.view_is) at c.requires.in_range) (rw (← c.self.view_is) at other))
+    (kept_released _ c.args.k _ _ c.self.invariant (rw (← c.self.view_is) at c.requires.in_range)
+    (rw (← c.self.view_is) at other))

@@ -13,4 +13,6 @@ pub returns-then-is_in : goal.returns-then-is_in
 returns-then-is_in c =
     let none : Memory = record { base = 0; words = [] } in
     let there = c.is_in.ensures c.if-is_in.true none in
-    sym (index_unique c.self.inside.memories.items c.args.near c.args.a none (memories_apart _ c.self.invariant.heap) there.0 there.1) ∙ ap (λ (h : HeapView). memory_index h.memories c.args.a) c.self.view_is
+    sym (index_unique c.self.inside.memories.items c.args.near c.args.a none
+    (memories_apart _ c.self.invariant.heap) there.0 there.1)
+    ∙ ap (λ (h : HeapView). memory_index h.memories c.args.a) c.self.view_is

@@ -11,7 +11,8 @@ invariant_of-self c =
     let k = c.args.k in
     let count = ap (λ (h : HeapView). length h.segments) c.self.view_is in
     let within : k < length ss = omega (arith, c.requires.in_range) in
-    let read : c.index_mut.result.now ≡ get_or ss k empty_segment = c.index_mut.ensures.value ∙ get_or_default ss k c.index_mut.result.now empty_segment within in
+    let read : c.index_mut.result.now ≡ get_or ss k empty_segment =
+    c.index_mut.ensures.value ∙ get_or_default ss k c.index_mut.result.now empty_segment within in
     let low : (get_or ss k empty_segment).base + 4096 ≤ c.args.end = rw (← c.self.view_is) at c.requires.above in
     let high : c.args.end ≤ reserved_end (get_or ss k empty_segment) = rw (← c.self.view_is) at c.requires.below in
     kept_ended _ k c.args.end _ _ _ c.self.invariant within (ap (ended_at c.args.end) read) low high c.requires.aligned

@@ -1,4 +1,5 @@
-use Rattle.std.proofs.Common.{◌≡◌, ℕ, ◌+◌, List, get_or, take, drop, set, ap, ap₂, sym, ◌∙◌, arith, get_or-take, get_or-drop}
+use Rattle.std.proofs.Common.{◌≡◌, ℕ, ◌+◌, List, get_or, take, drop, set, ap, ap₂, sym, ◌∙◌, arith, get_or-take}
+use Rattle.std.proofs.Common.{get_or-drop}
 use Rattle.std.proofs.lemmas.List.{get_or_default}
 use Rattle.clr_mem.specs.Words.{Memory, moved}
 use Rattle.clr_heap.proofs.Halves.{set_half}
@@ -18,8 +19,13 @@ returns c = λ d.
     let order = c.requires.order in
     let r = c.index-front-low.result in
     let o = c.index-back-0.result in
-    let target : get_or front low r ≡ get_or xs low d = ap (λ (fs : List Memory). get_or fs low r) fe ∙ get_or-take high xs low r order ∙ get_or_default xs low r d (omega arith) in
+    let target : get_or front low r ≡ get_or xs low d = ap (λ (fs : List Memory). get_or fs low r) fe
+    ∙ get_or-take high xs low r order ∙ get_or_default xs low r d (omega arith) in
     let at : high + 0 ≡ high = omega arith in
-    let source : o ≡ get_or xs high d = c.index-back-0.is ∙ ap (λ (bs : List Memory). get_or bs 0 o) be ∙ get_or-drop high xs 0 o ∙ ap (λ (k : ℕ). get_or xs k o) at ∙ get_or_default xs high o d within in
-    let half = set_half xs front back low high c.args.memories.now.len c.carry.new.self fe be order (omega arith) (omega arith) in
-    half ∙ ap (λ (m : Memory). set xs low m) (c.carry.ensures.value ∙ ap₂ (λ (m n : Memory). moved m n c.args.to c.args.from c.args.len) target (sym c.index-back-0.is ∙ source))
+    let source : o ≡ get_or xs high d = c.index-back-0.is ∙ ap (λ (bs : List Memory). get_or bs 0 o) be
+    ∙ get_or-drop high xs 0 o ∙ ap (λ (k : ℕ). get_or xs k o) at ∙ get_or_default xs high o d within in
+    let half = set_half xs front back low high c.args.memories.now.len c.carry.new.self fe be order (omega arith)
+    (omega arith) in
+    half ∙ ap (λ (m : Memory). set xs low m)
+    (c.carry.ensures.value ∙ ap₂ (λ (m n : Memory). moved m n c.args.to c.args.from c.args.len) target
+    (sym c.index-back-0.is ∙ source))

@@ -9,5 +9,7 @@ returns c =
     let k = c.find-k.result in
     let d = no_memory in
     let l : k < length ms = rw c.find-k.ensures.index c.requires.held.word.inside in
-    let all = cleared_all ms k c.args.a c.args.len d c.requires.apart l (c.find-k.ensures.aligned d) (holds_in_one ms k c.args.a c.args.len d c.find-k.ensures.index c.requires.held (c.find-k.ensures.word d)) c.clear_in.new.memories.items (c.clear_in.ensures d) in
+    let all = cleared_all ms k c.args.a c.args.len d c.requires.apart l (c.find-k.ensures.aligned d)
+    (holds_in_one ms k c.args.a c.args.len d c.find-k.ensures.index c.requires.held (c.find-k.ensures.word d))
+    c.clear_in.new.memories.items (c.clear_in.ensures d) in
     record { words = all.words; shapes = all.shapes; len = all.len }

@@ -35,7 +35,8 @@ returns-clause-word c =
     let i = c.loop-low.invariant in
     let last = c.loop-low-test.false in
     let at : c.loop-low.low ≡ memory_index c.args.memories.now.items c.args.a = omega arith in
-    found_holds c.args.memories.now.items c.loop-low.low c.args.a c.index-memory-2.result.now c.requires.word at c.index-memory-2.ensures c.len.ensures.aligned
+    found_holds c.args.memories.now.items c.loop-low.low c.args.a c.index-memory-2.result.now
+    c.requires.word at c.index-memory-2.ensures c.len.ensures.aligned
 
 pub returns-clause-room : goal.returns-clause-room
 returns-clause-room c =

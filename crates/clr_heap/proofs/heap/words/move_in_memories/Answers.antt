@@ -7,7 +7,8 @@ use Rattle.clr_heap.proofs.heap.words.move_in_memories.Goals as goal
 pub carry_between-requires-clause-order : goal.carry_between-requires-clause-order
 carry_between-requires-clause-order c =
     let ms = c.args.memories.now.items in
-    let up = index_order ms c.args.to c.args.from no_memory c.requires.apart c.requires.to_in.word.inside c.requires.from_in.word.inside c.requires.down in
+    let up = index_order ms c.args.to c.args.from no_memory c.requires.apart c.requires.to_in.word.inside
+    c.requires.from_in.word.inside c.requires.down in
     let i = c.find-low.ensures.index in
     let j = c.find-high.ensures.index in
     let ne = c.if-low-high.false in
@@ -24,7 +25,8 @@ returns-then-low-high c =
     let hi : high < length ms = rw same c.requires.from_in.word.inside in
     let upper : Holds (get_or ms high d) c.args.from 8 = rw c.if-low-high.true (c.find-high.ensures.word d) in
     let upper8 : (get_or ms high d).base % 8 ≡ 0 = rw c.if-low-high.true (c.find-high.ensures.aligned d) in
-    let all = moved_all ms c.slide_in.new.memories.items c.args.from c.args.to c.args.len low high d c.requires.apart lo hi (c.find-low.ensures.aligned d) upper8
+    let all = moved_all ms c.slide_in.new.memories.items c.args.from c.args.to c.args.len low high d c.requires.apart lo
+    hi (c.find-low.ensures.aligned d) upper8
     (holds_in_one ms low c.args.to c.args.len d c.find-low.ensures.index c.requires.to_in (c.find-low.ensures.word d))
     (holds_in_one ms high c.args.from c.args.len d same c.requires.from_in upper) (c.slide_in.ensures d) in
     record { words = all.words; shapes = all.shapes; len = all.len }
@@ -40,7 +42,8 @@ returns-else-low-high c =
     let hi : high < length ms = rw same c.requires.from_in.word.inside in
     let upper : Holds (get_or ms high d) c.args.from 8 = c.find-high.ensures.word d in
     let upper8 : (get_or ms high d).base % 8 ≡ 0 = c.find-high.ensures.aligned d in
-    let all = moved_all ms c.carry_between.new.memories.items c.args.from c.args.to c.args.len low high d c.requires.apart lo hi (c.find-low.ensures.aligned d) upper8
+    let all = moved_all ms c.carry_between.new.memories.items c.args.from c.args.to c.args.len low high d
+    c.requires.apart lo hi (c.find-low.ensures.aligned d) upper8
     (holds_in_one ms low c.args.to c.args.len d c.find-low.ensures.index c.requires.to_in (c.find-low.ensures.word d))
     (holds_in_one ms high c.args.from c.args.len d same c.requires.from_in upper) (c.carry_between.ensures d) in
     record { words = all.words; shapes = all.shapes; len = all.len }

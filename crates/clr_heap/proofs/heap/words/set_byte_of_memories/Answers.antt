@@ -19,9 +19,13 @@ returns-clause-items c =
     let v = with_byte (word_in ms b) (a % 8) c.args.v in
     let at : (a - m.base) / 8 ≡ (b - m.base) / 8 = omega arith in
     let here : m ≡ get_or ms (memory_index ms b) m = read ∙ ap (λ (k : ℕ). get_or ms k m) c.find-k.ensures.index in
-    let one = ap₂ (λ (i w : ℕ). record { base = m.base; words = set m.words i (with_byte w (a % 8) c.args.v) }) at word in
-    let new : c.set_byte.new.self ≡ with_word (get_or ms (memory_index ms b) m) b v = c.set_byte.ensures.value ∙ one ∙ ap (λ (n : Memory). with_word n b v) here in
-    let placed : set ms c.find-k.result c.set_byte.new.self ≡ set ms (memory_index ms b) (with_word (get_or ms (memory_index ms b) m) b v) = ap₂ (λ (k : ℕ) (n : Memory). set ms k n) c.find-k.ensures.index new in
+    let one =
+    ap₂ (λ (i w : ℕ). record { base = m.base; words = set m.words i (with_byte w (a % 8) c.args.v) }) at word in
+    let new : c.set_byte.new.self ≡ with_word (get_or ms (memory_index ms b) m) b v =
+    c.set_byte.ensures.value ∙ one ∙ ap (λ (n : Memory). with_word n b v) here in
+    let placed : set ms c.find-k.result c.set_byte.new.self
+    ≡ set ms (memory_index ms b) (with_word (get_or ms (memory_index ms b) m) b v) =
+    ap₂ (λ (k : ℕ) (n : Memory). set ms k n) c.find-k.ensures.index new in
     placed ∙ set_memory ms b v m c.requires.word.inside
 
 pub returns-clause-shapes : goal.returns-clause-shapes

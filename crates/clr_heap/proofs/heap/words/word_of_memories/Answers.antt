@@ -8,5 +8,6 @@ pub returns-clause-value : goal.returns-clause-value
 returns-clause-value c =
     let ms = c.args.memories.now.items in
     let m = c.index-memory.result.now in
-    let at : m ≡ get_or ms (memory_index ms c.args.a) m = c.index-memory.ensures ∙ ap (λ (k : ℕ). get_or ms k m) c.find-k.ensures.index in
+    let at : m ≡ get_or ms (memory_index ms c.args.a) m =
+    c.index-memory.ensures ∙ ap (λ (k : ℕ). get_or ms k m) c.find-k.ensures.index in
     c.word.ensures.value ∙ ap (λ (n : Memory). word_at n c.args.a) at ∙ get_memory ms c.args.a m c.requires.word.inside

@@ -1,5 +1,6 @@
 -- A birth at the front of a thread's context: what the heap holds after it.
-use Rattle.std.proofs.Common.{◌≡◌, ◌≢◌, ◌⊎◌, inl, inr, ℕ, ◌+◌, ◌-◌, ◌<◌, ◌≤◌, false, List, [], ◌∷◌, ◌++◌, get_or, length, set, Option, None, Some, slice_set, refl, ap, ap₂, sym, ◌∙◌, subst, subst₂, arith}
+use Rattle.std.proofs.Common.{◌≡◌, ◌≢◌, ◌⊎◌, inl, inr, ℕ, ◌+◌, ◌-◌, ◌<◌, ◌≤◌, false, List, [], ◌∷◌, ◌++◌, get_or}
+use Rattle.std.proofs.Common.{length, set, Option, None, Some, slice_set, refl, ap, ap₂, sym, ◌∙◌, subst, subst₂, arith}
 use Rattle.std.proofs.lemmas.Bool.{cases_Bool, cases_eq, eq-eqb, le-ltb, lt-ltb, ne_eqb}
 use Rattle.std.proofs.lemmas.List.{append_assoc, length-set}
 use Rattle.std.proofs.lemmas.Option.{slice_get-get_or}
@@ -10,25 +11,33 @@ use Rattle.clr_types.specs.Segments.{empty_segment, flat_option, Layout, rest_of
 use Rattle.clr_types.specs.declared.item.Item.{Item}
 use Rattle.clr_types.specs.declared.segment.SegInfo.{SegInfo}
 use Rattle.clr_types.specs.declared.segment.SegKind.TheVariants.{Ephemeral}
-use Rattle.clr_heap.specs.Parts.{Among, item_part, items_in, made_item, Part, replace_run, rest_part, rest_parts, start_of}
-use Rattle.clr_heap.specs.View.{AreWalkable, first_of, frame, heap_items, HeapView, IsHeap, IsWalkable, last_of, listing, listings, parts_of, PartsAre, placed, rest_between, SameShape, segment_at, sight, word_of}
+use Rattle.clr_heap.specs.Parts.{Among, item_part, items_in, made_item, Part, replace_run, rest_part, rest_parts}
+use Rattle.clr_heap.specs.Parts.{start_of}
+use Rattle.clr_heap.specs.View.{AreWalkable, first_of, frame, heap_items, HeapView, IsHeap, IsWalkable, last_of}
+use Rattle.clr_heap.specs.View.{listing, listings, parts_of, PartsAre, placed, rest_between, SameShape, segment_at}
+use Rattle.clr_heap.specs.View.{sight, word_of}
 use Rattle.clr_heap.proofs.Framing.{lawful_at}
 use Rattle.clr_heap.proofs.Holes.{drawn_run}
 use Rattle.clr_heap.proofs.Staying.{parts_stay, stays_placed, stays_rested}
 use Rattle.clr_model.specs.Machine.{Object}
 use Rattle.clr_model.specs.Allocation.{context_front, front_of, front_taken, rest_end}
 use Rattle.clr_model.specs.Updates.{option_piece}
-use Rattle.clr_view.specs.View.{free_among, free_in, HasNewborn, IsContext, IsHeld, layout_in, objects_among, objects_in, newborn_at}
+use Rattle.clr_view.specs.View.{free_among, free_in, HasNewborn, IsContext, IsHeld, layout_in, newborn_at}
+use Rattle.clr_view.specs.View.{objects_among, objects_in, tail_of}
 use Rattle.clr_view.specs.Births.{with_newborn}
 use Rattle.clr_view.proofs.Cuts.{among-either, among-left, among-right, items-of-rest}
-use Rattle.clr_view.proofs.Fronts.{above-stays, alone, among, below-stays, between-some, bounds, clear-above, cut, FitsFront, headed, hole, k, leaves, newborn-is, other-apart, other-least, others-stay, own, rest-either, up-to, walk, young}
+use Rattle.clr_view.proofs.Fronts.{above-stays, alone, among, below-stays, between-some, bounds, clear-above, cut}
+use Rattle.clr_view.proofs.Fronts.{FitsFront, headed, hole, k, leaves, newborn-is, other-apart, other-least}
+use Rattle.clr_view.proofs.Fronts.{others-stay, own, rest-either, up-to, walk, young}
 use Rattle.clr_view.proofs.Items.{items-are, objects-stay}
-use Rattle.clr_view.proofs.Listings.{free-append, heap-cut, heap-rise, items-append, listing-are, listings-agree, objects-agree, objects-append}
+use Rattle.clr_view.proofs.Listings.{free-append, heap-cut, heap-rise, items-append, listing-are, listings-agree}
+use Rattle.clr_view.proofs.Listings.{objects-agree, objects-append}
 use Rattle.clr_view.proofs.Rises.{objects-rise, sorted-between}
 use Rattle.clr_view.proofs.Tails.{kind-young, only-young, same-kind-is}
 
 -- what holds of a heap holds where words and rests alone changed
-pub heap-rested : (h new : HeapView) (rests : List (Option Piece)) → IsHeap h → SameShape h new → length rests ≡ length h.rests → IsHeap (record new { rests = rests })
+pub heap-rested : (h new : HeapView) (rests : List (Option Piece)) → IsHeap h → SameShape h new
+    → length rests ≡ length h.rests → IsHeap (record new { rests = rests })
 heap-rested h new rests heap shape count =
     subst (λ (g : HeapView). IsHeap (record g { rests = rests })) (sym shape.others) (record {
       memories = shape.memories ∙ heap.memories;
@@ -36,6 +45,7 @@ heap-rested h new rests heap shape count =
       disjoint = heap.disjoint;
       below_top = heap.below_top;
       one_ephemeral = heap.one_ephemeral;
+      ephemeral_last = heap.ephemeral_last;
       top_aligned = heap.top_aligned;
       top_small = heap.top_small;
       within_limit = heap.within_limit;
@@ -56,7 +66,8 @@ option-rest low high l = elim (cases_eq low high) [
       rw (go, miss) refl
 ]
 
-module _ (rows : List TypeRow) (h : HeapView) (thread : ℕ) (r : Piece) (t n : ℕ) (f : FitsFront rows h thread r t n) where
+module _ (rows : List TypeRow) (h : HeapView) (thread : ℕ) (r : Piece) (t n : ℕ)
+    (f : FitsFront rows h thread r t n) where
   abbrev a : ℕ
   a = r.place
 
@@ -96,7 +107,9 @@ module _ (rows : List TypeRow) (h : HeapView) (thread : ℕ) (r : Piece) (t n : 
 
   -- it is a heap
   pub heap-grown : IsHeap grown
-  heap-grown = heap-rested h p rests f.heap (leaves rows h thread r t n f).shape (length-set h.rests (thread - 1) (rest_between last high))
+  heap-grown =
+      heap-rested h p rests f.heap (leaves rows h thread r t n f).shape
+      (length-set h.rests (thread - 1) (rest_between last high))
 
   -- ---- the parts of each segment
 
@@ -112,11 +125,15 @@ module _ (rows : List TypeRow) (h : HeapView) (thread : ℕ) (r : Piece) (t n : 
       let up = up-to rows h thread r t n f in
       let size = f.item.least in
       let count : r.size ≡ high - a = omega arith in
-      let had : get_or h.rests (thread - 1) None ≡ Some (record { place = a; size = high - a }) = f.rest ∙ ap (λ (s : ℕ). Some (record { place = a; size = s })) count in
+      let had : get_or h.rests (thread - 1) None ≡ Some (record { place = a; size = high - a }) =
+      f.rest ∙ ap (λ (s : ℕ). Some (record { place = a; size = s })) count in
       let none = alone rows h thread r t n f in
-      let drawn = drawn_run rows h e (thread - 1) w kind thread-there p a high t n l had (among rows h thread r t n f) (none a (omega arith) (omega arith)) f.item f.room (λ ne. none last (omega arith) (omega arith)) in
+      let drawn = drawn_run rows h e (thread - 1) w kind thread-there p a high t n l had (among rows h thread r t n f)
+      (none a (omega arith) (omega arith)) f.item f.room (λ ne. none last (omega arith) (omega arith)) in
       let had_rests : p.rests ≡ h.rests = ap (λ (g : HeapView). g.rests) same_but_words in
-      subst (λ (rs : List (Option Piece)). PartsAre rows (record p { rests = set rs (thread - 1) (rest_between last high) }) e (replace_run (parts_of rows h e) a high new-parts)) had_rests drawn
+      subst (λ (rs : List (Option Piece)).
+      PartsAre rows (record p { rests = set rs (thread - 1) (rest_between last high) }) e
+      (replace_run (parts_of rows h e) a high new-parts)) had_rests drawn
 
   other-parts : (j : ℕ) → j < length h.segments → j ≢ e → PartsAre rows grown j (parts_of rows h j)
   other-parts j l ne =
@@ -124,10 +141,16 @@ module _ (rows : List TypeRow) (h : HeapView) (thread : ℕ) (r : Piece) (t n : 
       let least = (hole rows h thread r t n f).least in
       let lawful = lawful_at h e f.heap in_range in
       let end = lawful.high in
-      let written = parts_stay rows h p j j (f.held.walkable j l) (stays_placed rows h p j e a t n f.heap l in_range ne b.0 (omega arith) (leaves rows h thread r t n f)) in
-      let kinds : (segment_at p j).kind ≡ (segment_at h j).kind = ap (λ (ss : List SegInfo). (get_or ss j empty_segment).kind) segments-are in
-      let old : same_kind (segment_at p j).kind Ephemeral ≡ false = elim (cases_Bool (same_kind (segment_at p j).kind Ephemeral)) [
-        | inl is ↦ absurd (ne (only-young h e f.heap (young rows h thread r t n f) j l (sym kinds ∙ same-kind-is (segment_at p j).kind is)))
+      let written =
+      parts_stay rows h p j j (f.held.walkable j l)
+      (stays_placed rows h p j e a t n f.heap l in_range ne b.0 (omega arith) (leaves rows h thread r t n f)) in
+      let kinds : (segment_at p j).kind ≡ (segment_at h j).kind =
+      ap (λ (ss : List SegInfo). (get_or ss j empty_segment).kind) segments-are in
+      let old : same_kind (segment_at p j).kind Ephemeral ≡ false =
+      elim (cases_Bool (same_kind (segment_at p j).kind Ephemeral)) [
+        | inl is ↦ absurd (ne
+            (only-young h e f.heap (young rows h thread r t n f) j l
+            (sym kinds ∙ same-kind-is (segment_at p j).kind is)))
         | inr not ↦ not
       ] in
       let rested = parts_stay rows p grown j j written.walkable (stays_rested p j rests old) in
@@ -178,10 +201,14 @@ module _ (rows : List TypeRow) (h : HeapView) (thread : ℕ) (r : Piece) (t n : 
   pub items-grown : heap_items rows grown ≡ below ++ ((lower-items ++ newborn ∷ higher-items) ++ above)
   items-grown =
       let l = in_range in
-      let low : listings rows grown 0 e ≡ below = listings-agree rows rows h grown 0 e (λ j up down. ap items_in (other-parts j (omega arith) (λ same. omega arith)).parts) in
+      let low : listings rows grown 0 e ≡ below =
+      listings-agree rows rows h grown 0 e
+      (λ j up down. ap items_in (other-parts j (omega arith) (λ same. omega arith)).parts) in
       let up : listings rows grown (e + 1) (length h.segments - (e + 1)) ≡ above =
-      listings-agree rows rows h grown (e + 1) (length h.segments - (e + 1)) (λ j up down. ap items_in (other-parts j (omega arith) (λ same. omega arith)).parts) in
-      ap (listings rows grown 0) (ap length segments-are) ∙ heap-cut rows grown e (length h.segments) l ∙ (λ i. low i ++ (here-is i ++ up i))
+      listings-agree rows rows h grown (e + 1) (length h.segments - (e + 1))
+      (λ j up down. ap items_in (other-parts j (omega arith) (λ same. omega arith)).parts) in
+      ap (listings rows grown 0) (ap length segments-are) ∙ heap-cut rows grown e (length h.segments) l
+      ∙ (λ i. low i ++ (here-is i ++ up i))
 
   -- ---- the objects
 
@@ -193,26 +220,34 @@ module _ (rows : List TypeRow) (h : HeapView) (thread : ℕ) (r : Piece) (t n : 
 
   segment-stays : (j : ℕ) → j < length h.segments → j ≢ e → now (listing rows h j) ≡ before (listing rows h j)
   segment-stays j l ne =
-      objects-stay rows (word_of h) (word_of grown) (first_of h j) (last_of h j) (listing rows h j) (omega arith) (others-stay rows h thread r t n f j l ne) (listing-are rows h f.held.walkable j l)
+      objects-stay rows (word_of h) (word_of grown) (first_of h j) (last_of h j) (listing rows h j) (omega arith)
+      (others-stay rows h thread r t n f j l ne) (listing-are rows h f.held.walkable j l)
 
   below-same : now below ≡ before below
-  below-same = let l = in_range in objects-agree rows rows (word_of h) (word_of grown) h 0 e (λ j up down. segment-stays j (omega arith) (λ same. omega arith))
+  below-same = let l = in_range in
+      objects-agree rows rows (word_of h) (word_of grown) h 0 e
+      (λ j up down. segment-stays j (omega arith) (λ same. omega arith))
 
   above-same : now above ≡ before above
   above-same =
-      objects-agree rows rows (word_of h) (word_of grown) h (e + 1) (length h.segments - (e + 1)) (λ j up down. let l = in_range in segment-stays j (omega arith) (λ same. omega arith))
+      objects-agree rows rows (word_of h) (word_of grown) h (e + 1) (length h.segments - (e + 1))
+      (λ j up down. let l = in_range in segment-stays j (omega arith) (λ same. omega arith))
 
   lower-same : now lower-items ≡ before lower-items
   lower-same =
-      objects-stay rows (word_of h) (word_of grown) (first_of h e) a lower-items (omega arith) (below-stays rows h thread r t n f)
-      (items-are (sight rows h e) low-parts (first_of h e) a (walk rows h thread r t n f).start (cut rows h thread r t n f).low_spelled)
+      objects-stay rows (word_of h) (word_of grown) (first_of h e) a lower-items (omega arith)
+      (below-stays rows h thread r t n f)
+      (items-are (sight rows h e) low-parts (first_of h e) a (walk rows h thread r t n f).start
+      (cut rows h thread r t n f).low_spelled)
 
   higher-same : now higher-items ≡ before higher-items
   higher-same =
       let b = bounds rows h thread r t n f in
       let least = (hole rows h thread r t n f).least in
-      objects-stay rows (word_of h) (word_of grown) high (last_of h e) higher-items (omega arith) (above-stays rows h thread r t n f)
-      (items-are (sight rows h e) high-parts high (last_of h e) (hole rows h thread r t n f).whole (cut rows h thread r t n f).high_spelled)
+      objects-stay rows (word_of h) (word_of grown) high (last_of h e) higher-items (omega arith)
+      (above-stays rows h thread r t n f)
+      (items-are (sight rows h e) high-parts high (last_of h e) (hole rows h thread r t n f).whole
+      (cut rows h thread r t n f).high_spelled)
 
   one-object : now (newborn ∷ []) ≡ newborn_at rows a t n ∷ []
   one-object =
@@ -237,16 +272,23 @@ module _ (rows : List TypeRow) (h : HeapView) (thread : ℕ) (r : Piece) (t n : 
   objects-are : objects_in rows grown ≡ lower ++ newborn_at rows a t n ∷ upper
   objects-are =
       let more : now (newborn ∷ higher-items) ≡ newborn_at rows a t n ∷ before higher-items =
-      objects-append rows (word_of grown) (newborn ∷ []) higher-items ∙ ap₂ (λ xs ys. xs ++ ys) one-object higher-same in
-      let mine : now (lower-items ++ newborn ∷ higher-items) ≡ before lower-items ++ newborn_at rows a t n ∷ before higher-items =
-      objects-append rows (word_of grown) lower-items (newborn ∷ higher-items) ∙ ap₂ (λ xs ys. xs ++ ys) lower-same more in
+      objects-append rows (word_of grown) (newborn ∷ []) higher-items
+      ∙ ap₂ (λ xs ys. xs ++ ys) one-object higher-same in
+      let mine : now (lower-items ++ newborn ∷ higher-items)
+      ≡ before lower-items ++ newborn_at rows a t n ∷ before higher-items =
+      objects-append rows (word_of grown) lower-items (newborn ∷ higher-items)
+      ∙ ap₂ (λ xs ys. xs ++ ys) lower-same more in
       ap now items-grown ∙ objects-append rows (word_of grown) below ((lower-items ++ newborn ∷ higher-items) ++ above)
-      ∙ ap₂ (λ xs ys. xs ++ ys) below-same (objects-append rows (word_of grown) (lower-items ++ newborn ∷ higher-items) above ∙ ap₂ (λ xs ys. xs ++ ys) mine above-same)
-      ∙ ap (λ os. before below ++ os) (append_assoc (before lower-items) (newborn_at rows a t n ∷ before higher-items) (before above))
+      ∙ ap₂ (λ xs ys. xs ++ ys) below-same
+      (objects-append rows (word_of grown) (lower-items ++ newborn ∷ higher-items) above
+      ∙ ap₂ (λ xs ys. xs ++ ys) mine above-same)
+      ∙ ap (λ os. before below ++ os)
+      (append_assoc (before lower-items) (newborn_at rows a t n ∷ before higher-items) (before above))
       ∙ sym (append_assoc (before below) (before lower-items) (newborn_at rows a t n ∷ upper))
 
   rise-grown : IsRisingBy (λ (o : Object). o.name) (objects_in rows grown)
-  rise-grown = objects-rise rows (word_of grown) (heap_items rows grown) (heap-rise rows grown walkable-grown heap-grown)
+  rise-grown =
+      objects-rise rows (word_of grown) (heap_items rows grown) (heap-rise rows grown walkable-grown heap-grown)
 
   pub objects-born : objects_in rows grown ≡ sorted_by (λ o. o.name) (objects_in rows h ++ newborn_at rows a t n ∷ [])
   objects-born =
@@ -263,21 +305,27 @@ module _ (rows : List TypeRow) (h : HeapView) (thread : ℕ) (r : Piece) (t n : 
       let is = ne_eqb t 0 (λ none. omega arith) in
       let none : free_among (newborn ∷ higher-items) ≡ free_among higher-items = rw is refl in
       let mine : free_among (lower-items ++ newborn ∷ higher-items) ≡ free_among (lower-items ++ higher-items) =
-      free-append lower-items (newborn ∷ higher-items) ∙ ap (λ ps. free_among lower-items ++ ps) none ∙ sym (free-append lower-items higher-items) in
-      let rest : free_among ((lower-items ++ newborn ∷ higher-items) ++ above) ≡ free_among ((lower-items ++ higher-items) ++ above) =
-      free-append (lower-items ++ newborn ∷ higher-items) above ∙ ap (λ ps. ps ++ free_among above) mine ∙ sym (free-append (lower-items ++ higher-items) above) in
-      ap free_among items-grown ∙ free-append below ((lower-items ++ newborn ∷ higher-items) ++ above) ∙ ap (λ ps. free_among below ++ ps) rest
+      free-append lower-items (newborn ∷ higher-items) ∙ ap (λ ps. free_among lower-items ++ ps) none
+      ∙ sym (free-append lower-items higher-items) in
+      let rest : free_among ((lower-items ++ newborn ∷ higher-items) ++ above)
+      ≡ free_among ((lower-items ++ higher-items) ++ above) =
+      free-append (lower-items ++ newborn ∷ higher-items) above ∙ ap (λ ps. ps ++ free_among above) mine
+      ∙ sym (free-append (lower-items ++ higher-items) above) in
+      ap free_among items-grown ∙ free-append below ((lower-items ++ newborn ∷ higher-items) ++ above)
+      ∙ ap (λ ps. free_among below ++ ps) rest
       ∙ sym (free-append below ((lower-items ++ higher-items) ++ above)) ∙ ap free_among (sym items-were)
 
   -- ---- contexts
 
   new-among : (m : Part) → Among (low-parts ++ (new-parts ++ high-parts)) m → Among (parts_of rows grown e) m
-  new-among m there = subst (λ ps. Among ps m) (sym (here-parts.parts ∙ (cut rows h thread r t n f).replaced new-parts)) there
+  new-among m there = subst (λ ps. Among ps m) (sym (here-parts.parts ∙ (cut rows h thread r t n f).replaced new-parts))
+      there
 
   only-here : (m : ℕ) → m < length grown.segments → (segment_at grown m).kind ≡ Ephemeral → m ≡ e
   only-here m l kind =
       let count = ap length segments-are in
-      only-young h e f.heap (young rows h thread r t n f) m (omega arith) (sym (ap (λ (ss : List SegInfo). (get_or ss m empty_segment).kind) segments-are) ∙ kind)
+      only-young h e f.heap (young rows h thread r t n f) m (omega arith)
+      (sym (ap (λ (ss : List SegInfo). (get_or ss m empty_segment).kind) segments-are) ∙ kind)
 
   -- what is left of the context
   left-context : last ≢ high → IsContext rows grown (record { place = last; size = high - last })
@@ -286,7 +334,10 @@ module _ (rows : List TypeRow) (h : HeapView) (thread : ℕ) (r : Piece) (t n : 
       let end : last + (high - last) ≡ high = omega arith in
       let miss = ne_eqb last high ne in
       let hole : Among (rest_parts last high) (rest_part last high) = rw miss (inl refl) in
-      let there : Among (parts_of rows grown e) (rest_part last high) = new-among (rest_part last high) (among-right low-parts (new-parts ++ high-parts) (rest_part last high) (inr (among-left (rest_parts last high) high-parts (rest_part last high) hole))) in
+      let there : Among (parts_of rows grown e) (rest_part last high) =
+      new-among (rest_part last high)
+      (among-right low-parts (new-parts ++ high-parts) (rest_part last high)
+      (inr (among-left (rest_parts last high) high-parts (rest_part last high) hole))) in
       let P : ℕ → ℕ → Type 0 = λ m q. Among (parts_of rows grown m) (rest_part last q) in
       let start : grown.start0 ≡ h.start0 = ap (λ (g : HeapView). g.start0) same_but_words in
       let least = f.item.least in
@@ -305,11 +356,15 @@ module _ (rows : List TypeRow) (h : HeapView) (thread : ℕ) (r : Piece) (t n : 
       let apart = other-apart rows h thread r t n f j q ne is in
       let own_least = (hole rows h thread r t n f).least in
       let part = rest_part q.place (piece_end q) in
-      let was : Among (low-parts ++ rest_part a high ∷ high-parts) part = subst (λ ps. Among ps part) (cut rows h thread r t n f).whole (old.among e in_range (kind-young h e f.heap (young rows h thread r t n f))) in
-      let there : Among (parts_of rows grown e) part = new-among part (elim (among-either low-parts (rest_part a high ∷ high-parts) part was) [
+      let was : Among (low-parts ++ rest_part a high ∷ high-parts) part =
+      subst (λ ps. Among ps part) (cut rows h thread r t n f).whole
+      (old.among e in_range (kind-young h e f.heap (young rows h thread r t n f))) in
+      let there : Among (parts_of rows grown e) part =
+      new-among part (elim (among-either low-parts (rest_part a high ∷ high-parts) part was) [
         | inl l ↦ among-left low-parts (new-parts ++ high-parts) part l
         | inr more ↦ elim more [
-          | inl same ↦ let at : q.place ≡ a = ap start_of same in elim apart [ inl l ↦ absurd (omega arith) | inr l ↦ absurd (omega arith) ]
+          | inl same ↦ let at : q.place ≡ a = ap start_of same in
+              elim apart [ inl l ↦ absurd (omega arith) | inr l ↦ absurd (omega arith) ]
           | inr l ↦ among-right low-parts (new-parts ++ high-parts) part (among-right new-parts high-parts part l)
         ]
       ]) in
@@ -334,7 +389,9 @@ module _ (rows : List TypeRow) (h : HeapView) (thread : ℕ) (r : Piece) (t n : 
       let least = other-least rows h thread r t n f j q is in
       elim (other-apart rows h thread r t n f j q ne is) [ inl l ↦ omega arith | inr l ↦ more (omega arith) ]
 
-  context-either : (j : ℕ) (q : Piece) → get_or rests j None ≡ Some q → ((j ≡ thread - 1) × (last ≢ high) × (record { place = last; size = high - last } ≡ q)) ⊎ ((j ≢ thread - 1) × (get_or h.rests j None ≡ Some q))
+  context-either : (j : ℕ) (q : Piece) → get_or rests j None ≡ Some q
+      → ((j ≡ thread - 1) × (last ≢ high) × (record { place = last; size = high - last } ≡ q)) ⊎ ((j ≢ thread - 1)
+      × (get_or h.rests j None ≡ Some q))
   context-either j q is = elim (rest-either h.rests (thread - 1) j (rest_between last high) q thread-there is) [
     | inl here ↦ let some = between-some last high q here.1 in inl (here.0, some.0, some.1)
     | inr other ↦ inr other
@@ -350,13 +407,15 @@ module _ (rows : List TypeRow) (h : HeapView) (thread : ℕ) (r : Piece) (t n : 
     apart = λ i j q s is there same. elim (context-either i q is) [
       | inl here ↦ elim (context-either j s there) [
         | inl too ↦ here.0 ∙ sym too.0
-        | inr other ↦ absurd (left-alone j s other.0 other.1 here.1 (sym same ∙ sym (ap (λ (x : Piece). x.place) here.2)))
+        | inr other ↦ absurd (left-alone j s other.0 other.1 here.1
+            (sym same ∙ sym (ap (λ (x : Piece). x.place) here.2)))
       ]
       | inr other ↦ elim (context-either j s there) [
         | inl here ↦ absurd (left-alone i q other.0 other.1 here.1 (same ∙ sym (ap (λ (x : Piece). x.place) here.2)))
         | inr too ↦ f.held.apart i j q s other.1 too.1 same
       ]
     ];
+    young = subst (λ (g : HeapView). g.start0 ≤ tail_of g) (sym same_but_words) f.held.young;
   }
 
   -- ---- the layout
@@ -373,19 +432,35 @@ module _ (rows : List TypeRow) (h : HeapView) (thread : ℕ) (r : Piece) (t n : 
   layout-born : layout_in rows grown ≡ front_taken (layout_in rows h) thread (size_of (form_at rows t) n)
   layout-born =
       let size = size_of (form_at rows t) n in
-      let taken : Option Piece → Layout = λ o. record (layout_in rows h) { rests = slice_set h.rests (thread - 1) (option_piece (range_piece (front_of o + size) (rest_end o))) } in
+      let taken : Option Piece → Layout =
+      λ o. record (layout_in rows h) {
+        rests = slice_set h.rests (thread - 1)
+            (option_piece (range_piece (front_of o + size) (rest_end o)));
+      } in
       let left = option-rest last high (up-to rows h thread r t n f) in
-      (λ i. record { segments = segments-are i; start1 = (same_but_words i).start1; start0 = (same_but_words i).start0; free = free-same i; rests = set h.rests (thread - 1) (sym left i); top = (same_but_words i).top })
+      (λ i. record {
+        segments = segments-are i;
+        start1 = (same_but_words i).start1;
+        start0 = (same_but_words i).start0;
+        free = free-same i;
+        rests = set h.rests (thread - 1) (sym left i);
+        top = (same_but_words i).top;
+      })
       ∙ sym (ap taken rest-is)
 
   -- A BIRTH AT THE FRONT: one object more, and all else that the heap holds stays
   pub born_at_front : HasNewborn rows h grown thread t n
   born_at_front = record {
-    objects = objects-born ∙ ap (λ q. sorted_by (λ (o : Object). o.name) (objects_in rows h ++ newborn_at rows q t n ∷ [])) (sym front-is);
+    objects = objects-born
+        ∙ ap (λ q. sorted_by (λ (o : Object). o.name) (objects_in rows h ++ newborn_at rows q t n ∷ [])) (sym front-is);
     layout = layout-born;
     held = held-grown;
   }
 
   -- which heap that is
   pub grown-is : with_newborn rows h thread t n ≡ grown
-  grown-is = λ i. record (placed rows h (front-is i) t n) { rests = set h.rests (thread - 1) (rest_between (front-is i + size_of (form_at rows t) n) (end-is i)) }
+  grown-is = λ i.
+      record (placed rows h (front-is i) t n) {
+        rests = set h.rests (thread - 1)
+            (rest_between (front-is i + size_of (form_at rows t) n) (end-is i));
+      }

@@ -1,7 +1,8 @@
 -- Parts of a segment that stand apart, and a hole that cuts them in two.
 use Rattle.std.proofs.Common.{◌≡◌, ◌⊎◌, inl, inr, ℕ, ◌+◌, ◌≤◌, List, [], ◌∷◌, ◌++◌, refl, ap, sym, ◌∙◌, subst, arith}
 use Rattle.std.proofs.lemmas.Bool.{cases_eq, eq-eqb, le-ltb, ne_eqb}
-use Rattle.clr_heap.specs.Parts.{Among, from_place, item_part, items_in, Part, part_end, replace_run, rest_part, rest_parts, Sight, Spells, start_of}
+use Rattle.clr_heap.specs.Parts.{Among, from_place, item_part, items_in, Part, part_end, replace_run, rest_part}
+use Rattle.clr_heap.specs.Parts.{rest_parts, Sight, Spells, start_of}
 use Rattle.clr_heap.proofs.Spelling.{Among-bounds, item_size}
 
 -- ---- apart
@@ -10,7 +11,8 @@ use Rattle.clr_heap.proofs.Spelling.{Among-bounds, item_size}
 abbrev pub AreApart : Part → Part → Type 0
 AreApart m n = (m ≡ n) ⊎ ((part_end m ≤ start_of n) ⊎ (part_end n ≤ start_of m))
 
-apart-step : (s : Sight) (x : Part) (ps : List Part) (m n : Part) (e : ℕ) → Spells s (part_end x) ps e → (Among ps m → Among ps n → AreApart m n) → Among (x ∷ ps) m → Among (x ∷ ps) n → AreApart m n
+apart-step : (s : Sight) (x : Part) (ps : List Part) (m n : Part) (e : ℕ) → Spells s (part_end x) ps e
+    → (Among ps m → Among ps n → AreApart m n) → Among (x ∷ ps) m → Among (x ∷ ps) n → AreApart m n
 apart-step s x ps m n e h ih a b = elim a [
   | inl here ↦ elim b [
     | inl there ↦ inl (here ∙ sym there)
@@ -29,14 +31,16 @@ apart-step s x ps m n e h ih a b = elim a [
 ]
 
 -- two parts of a segment stand apart
-pub parts-apart : (s : Sight) (ps : List Part) (m n : Part) (p e : ℕ) → Spells s p ps e → Among ps m → Among ps n → AreApart m n
+pub parts-apart : (s : Sight) (ps : List Part) (m n : Part) (p e : ℕ) → Spells s p ps e → Among ps m → Among ps n
+    → AreApart m n
 parts-apart s [] m n p e h a b = absurd a
 parts-apart s (item_part i ∷ ps) m n p e h a b =
     let f = item_size s i p h.1 h.2 in
     let next : p + i.size ≡ i.place + i.size = omega arith in
     let spelled : Spells s (i.place + i.size) ps e = let P : ℕ → Type 0 = λ q. Spells s q ps e in subst P next h.3 in
     apart-step s (item_part i) ps m n e spelled (parts-apart s ps m n (p + i.size) e h.3) a b
-parts-apart s (rest_part low high ∷ ps) m n p e h a b = apart-step s (rest_part low high) ps m n e h.4 (parts-apart s ps m n high e h.4) a b
+parts-apart s (rest_part low high ∷ ps) m n p e h a b =
+    apart-step s (rest_part low high) ps m n e h.4 (parts-apart s ps m n high e h.4) a b
 
 -- ---- cut
 
@@ -61,7 +65,8 @@ from-start s (rest_part low high ∷ ps) p e h =
     rw stop refl
 
 -- a hole among parts cuts them
-pub hole-cuts : (s : Sight) (ps : List Part) (p low high e : ℕ) → Spells s p ps e → Among ps (rest_part low high) → IsCut s ps p low high e
+pub hole-cuts : (s : Sight) (ps : List Part) (p low high e : ℕ) → Spells s p ps e → Among ps (rest_part low high)
+    → IsCut s ps p low high e
 hole-cuts s [] p low high e h a = absurd a
 hole-cuts s (item_part i ∷ ps) p low high e h a = elim a [
   | inl here ↦ absurd cc

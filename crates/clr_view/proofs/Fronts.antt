@@ -1,18 +1,21 @@
--- An object at the front of a thread's context: what its words hold, which words stay, and which other contexts there are.
-use Rattle.std.proofs.Common.{◌≡◌, ◌≢◌, ◌⊎◌, inl, inr, ℕ, suc, ◌+◌, ◌-◌, ◌%◌, ◌<◌, ◌≤◌, false, List, [], ◌∷◌, length, get_or, set, refl, ap, sym, ◌∙◌, arith, Option, None, Some}
+-- An object at the front of a thread's context: what its words hold, which words stay, and which other contexts there
+-- are.
+use Rattle.std.proofs.Common.{◌≡◌, ◌≢◌, ◌⊎◌, inl, inr, ℕ, suc, ◌+◌, ◌-◌, ◌%◌, ◌<◌, ◌≤◌, true, false, List, [], ◌∷◌}
+use Rattle.std.proofs.Common.{length, get_or, set, refl, ap, sym, ◌∙◌, arith, Option, None, Some}
 use Rattle.std.proofs.lemmas.Bool.{cases_Bool, cases_eq, eq-eqb, ne_eqb}
 use Rattle.std.proofs.lemmas.List.{get_or-set_other, get_or-set_same}
 use Rattle.clr_types.specs.Types.{TypeRow, Form, form_at, is_array, mt_of, size_of, slot_kinds, slot_offset}
 use Rattle.clr_types.specs.Ranges.{Piece, piece_end}
 use Rattle.clr_heap.specs.Parts.{Among, hole_from, IsMakeable, made_item, rest_part, start_of}
-use Rattle.clr_heap.specs.View.{first_of, HasHead, HeapView, IsHeap, IsWalkable, last_of, parts_of, placed, rest_between, sight, stored, word_of}
+use Rattle.clr_heap.specs.View.{first_of, HasHead, HeapView, IsHeap, IsWalkable, last_of, parts_of, placed}
+use Rattle.clr_heap.specs.View.{rest_between, sight, stored, word_of}
 use Rattle.clr_heap.proofs.Framing.{lawful_at}
 use Rattle.clr_heap.proofs.Holes.{hole_among, HoleAt, part_bounds}
 use Rattle.clr_heap.proofs.Placing.{head_at, Placed, placed_leaves}
 use Rattle.clr_heap.proofs.Spelling.{Among-bounds}
 use Rattle.clr_heap.proofs.Staying.{outside_other}
 use Rattle.clr_heap.proofs.Storing.{word_in-store_in_other}
-use Rattle.clr_view.specs.View.{IsContext, IsHeld, is_suppressed, newborn_at, object_in}
+use Rattle.clr_view.specs.View.{IsContext, IsHeld, has_suppressed_bit, newborn_at, object_in}
 use Rattle.clr_view.proofs.Cuts.{hole-cuts, IsCut, parts-apart}
 use Rattle.clr_view.proofs.Items.{CellsStay}
 use Rattle.clr_view.proofs.Slots.{above-length, slot_word, slot-inside, slots-empty}
@@ -21,7 +24,8 @@ use Rattle.clr_view.proofs.Tails.{found-young, IsEphemeral, kind-young}
 -- ---- lists of rests
 
 -- where no rest starts, there is no hole
-pub none-starts : (rests : List (Option Piece)) (q : ℕ) → ((j : ℕ) (r : Piece) → get_or rests j None ≡ Some r → r.place ≢ q) → hole_from rests q ≡ None
+pub none-starts : (rests : List (Option Piece)) (q : ℕ)
+    → ((j : ℕ) (r : Piece) → get_or rests j None ≡ Some r → r.place ≢ q) → hole_from rests q ≡ None
 none-starts [] q ne = refl
 none-starts (None ∷ rests) q ne = none-starts rests q (λ j r e. ne (suc j) r e)
 none-starts (Some r ∷ rests) q ne =
@@ -29,21 +33,29 @@ none-starts (Some r ∷ rests) q ne =
     rw miss (none-starts rests q (λ j s e. ne (suc j) s e))
 
 -- a rest of the list with one changed is that one or another one
-pub rest-either : (rests : List (Option Piece)) (i j : ℕ) (o : Option Piece) (r : Piece) → i < length rests → get_or (set rests i o) j None ≡ Some r → ((j ≡ i) × (o ≡ Some r)) ⊎ ((j ≢ i) × (get_or rests j None ≡ Some r))
+pub rest-either : (rests : List (Option Piece)) (i j : ℕ) (o : Option Piece) (r : Piece) → i < length rests
+    → get_or (set rests i o) j None ≡ Some r → ((j ≡ i) × (o ≡ Some r)) ⊎ ((j ≢ i) × (get_or rests j None ≡ Some r))
 rest-either rests i j o r l e = elim (cases_eq j i) [
-  | inl same ↦ inl (same, sym (get_or-set_same rests i o None l) ∙ ap (λ n. get_or (set rests i o) n None) (sym same) ∙ e)
+  | inl same ↦ inl (
+    same,
+    sym (get_or-set_same rests i o None l) ∙ ap (λ n. get_or (set rests i o) n None) (sym same)
+        ∙ e,
+  )
   | inr other ↦ inr (other, sym (get_or-set_other rests i j o None other) ∙ e)
 ]
 
 -- what is left between two places is the range between them
-pub between-some : (low high : ℕ) (r : Piece) → rest_between low high ≡ Some r → (low ≢ high) × (record { place = low; size = high - low } ≡ r)
+pub between-some : (low high : ℕ) (r : Piece) → rest_between low high ≡ Some r
+    → (low ≢ high) × (record { place = low; size = high - low } ≡ r)
 between-some low high r e = elim (cases_eq low high) [
   | inl same ↦ let hit = eq-eqb low high same in let none : None ≡ Some r = rw hit at e in absurd cc
-  | inr apart ↦ let miss = ne_eqb low high apart in let some : Some (record { place = low; size = high - low }) ≡ Some r = rw miss at e in (apart, cc)
+  | inr apart ↦ let miss = ne_eqb low high apart in let some : Some (record { place = low; size = high - low })
+      ≡ Some r = rw miss at e in (apart, cc)
 ]
 
 -- a class has no length word, so what stands there stays
-unmeasured : (rows : List TypeRow) (h : HeapView) (a t n : ℕ) → HasHead h a → is_array (form_at rows t) ≡ false → word_of (placed rows h a t n) (a + 8) ≡ word_of h (a + 8)
+unmeasured : (rows : List TypeRow) (h : HeapView) (a t n : ℕ) → HasHead h a → is_array (form_at rows t) ≡ false
+    → word_of (placed rows h a t n) (a + 8) ≡ word_of h (a + 8)
 unfolding placed
 unmeasured rows h a t n g class =
     let h1 = stored h (a - 8) 0 in
@@ -51,7 +63,8 @@ unmeasured rows h a t n g class =
     let z0 = g.header.aligned in
     let z1 = g.mt.aligned in
     let z2 = g.len.aligned in
-    rw class (word_in-store_in_other h1.memories a (mt_of t) (a + 8) z1 z2 (λ same. omega arith) ∙ word_in-store_in_other h.memories (a - 8) 0 (a + 8) z0 z2 (λ same. omega arith))
+    rw class (word_in-store_in_other h1.memories a (mt_of t) (a + 8) z1 z2 (λ same. omega arith)
+    ∙ word_in-store_in_other h.memories (a - 8) 0 (a + 8) z0 z2 (λ same. omega arith))
 
 -- ---- the birth
 
@@ -64,9 +77,11 @@ pub record FitsFront (rows : List TypeRow) (h : HeapView) (thread : ℕ) (r : Pi
   pub rest : get_or h.rests (thread - 1) None ≡ Some r
   pub item : IsMakeable rows t n
   pub object : 0 < t
-  pub room : (r.place + size_of (form_at rows t) n ≡ piece_end r) ⊎ (r.place + size_of (form_at rows t) n + 24 ≤ piece_end r)
+  pub room : (r.place + size_of (form_at rows t) n ≡ piece_end r)
+      ⊎ (r.place + size_of (form_at rows t) n + 24 ≤ piece_end r)
 
-module _ (rows : List TypeRow) (h : HeapView) (thread : ℕ) (r : Piece) (t n : ℕ) (f : FitsFront rows h thread r t n) where
+module _ (rows : List TypeRow) (h : HeapView) (thread : ℕ) (r : Piece) (t n : ℕ)
+    (f : FitsFront rows h thread r t n) where
   abbrev form : Form
   form = form_at rows t
 
@@ -106,14 +121,16 @@ module _ (rows : List TypeRow) (h : HeapView) (thread : ℕ) (r : Piece) (t n : 
   cut = hole-cuts (sight rows h k) (parts_of rows h k) (first_of h k) a high (last_of h k) walk.spelled among
 
   pub bounds : (first_of h k ≤ a) × (high ≤ last_of h k)
-  bounds = Among-bounds (sight rows h k) (parts_of rows h k) (rest_part a high) (first_of h k) (last_of h k) walk.spelled among
+  bounds = Among-bounds (sight rows h k) (parts_of rows h k) (rest_part a high) (first_of h k) (last_of h k)
+      walk.spelled among
 
   pub up-to : last ≤ high
   up-to = elim f.room [ inl l ↦ omega arith | inr l ↦ omega arith ]
 
   pub head : HasHead h a
   head =
-      let b = part_bounds (sight rows h k) (parts_of rows h k) (rest_part a high) (first_of h k) (last_of h k) walk.spelled among in
+      let b = part_bounds (sight rows h k) (parts_of rows h k) (rest_part a high) (first_of h k) (last_of h k)
+      walk.spelled among in
       head_at rows h k a high walk b.0 b.1 hole.least
 
   pub leaves : Placed rows h headed a t n
@@ -122,18 +139,22 @@ module _ (rows : List TypeRow) (h : HeapView) (thread : ℕ) (r : Piece) (t n : 
   -- ---- other contexts
 
   -- the context of another thread ends before this one begins, or begins where it ends
-  pub other-apart : (j : ℕ) (q : Piece) → j ≢ thread - 1 → get_or h.rests j None ≡ Some q → (piece_end q ≤ a) ⊎ (high ≤ q.place)
+  pub other-apart : (j : ℕ) (q : Piece) → j ≢ thread - 1 → get_or h.rests j None ≡ Some q
+      → (piece_end q ≤ a) ⊎ (high ≤ q.place)
   other-apart j q ne e =
       let there = (f.held.contexts j q e).among k young.in_range (kind-young h k f.heap young) in
-      elim (parts-apart (sight rows h k) (parts_of rows h k) (rest_part q.place (piece_end q)) (rest_part a high) (first_of h k) (last_of h k) walk.spelled there among) [
-        | inl same ↦ let at : q.place ≡ a = ap start_of same in absurd (ne (f.held.apart j (thread - 1) q r e f.rest at))
+      elim (parts-apart (sight rows h k) (parts_of rows h k) (rest_part q.place (piece_end q)) (rest_part a high)
+      (first_of h k) (last_of h k) walk.spelled there among) [
+        | inl same ↦ let at : q.place ≡ a = ap start_of same in
+            absurd (ne (f.held.apart j (thread - 1) q r e f.rest at))
         | inr apart ↦ apart
       ]
 
   pub other-least : (j : ℕ) (q : Piece) → get_or h.rests j None ≡ Some q → q.place + 24 ≤ piece_end q
   other-least j q e =
       let there = (f.held.contexts j q e).among k young.in_range (kind-young h k f.heap young) in
-      (hole_among (sight rows h k) (parts_of rows h k) q.place (piece_end q) (first_of h k) (last_of h k) walk.spelled there).least
+      (hole_among (sight rows h k) (parts_of rows h k) q.place (piece_end q) (first_of h k) (last_of h k) walk.spelled
+      there).least
 
   -- none of them starts within this one
   pub alone : (q : ℕ) → a ≤ q → q < high → hole_from (set h.rests (thread - 1) None) q ≡ None
@@ -154,33 +175,41 @@ module _ (rows : List TypeRow) (h : HeapView) (thread : ℕ) (r : Piece) (t n : 
   pub clear-above : (b : ℕ) → b % 8 ≡ 0 → last ≤ b + 8 → b + 8 < high → word_of headed b ≡ 0
   clear-above b z low up =
       let least = f.item.least in
-      leaves.others b z (λ same. omega arith) (λ same. omega arith) (λ same. omega arith) ∙ own.clear b z (omega arith) up
+      leaves.others b z (λ same. omega arith) (λ same. omega arith) (λ same. omega arith)
+      ∙ own.clear b z (omega arith) up
+
+  -- so are those of the new object, but for its method table word and its length word
+  pub cell-clear : (b : ℕ) → b % 8 ≡ 0 → a + 8 ≤ b → b + 16 ≤ last → (is_array form ≡ true → a + 16 ≤ b)
+      → word_of headed b ≡ 0
+  cell-clear b z low end long =
+      let up = head.above in
+      let room = up-to in
+      let zero = own.clear b z (omega arith) (omega arith) in
+      elim (cases_Bool (is_array form)) [
+        | inl array ↦
+            let far = long array in
+            leaves.others b z (λ same. omega arith) (λ same. omega arith) (λ same. omega arith) ∙ zero
+        | inr class ↦ elim (cases_eq b (a + 8)) [
+          | inl same ↦
+              ap (word_of headed) same ∙ unmeasured rows h a t n head class ∙ ap (word_of h) (sym same) ∙ zero
+          | inr other ↦ leaves.others b z (λ same. omega arith) (λ same. omega arith) other ∙ zero
+        ]
+      ]
 
   slot-clear : (j : ℕ) → j < length (slot_kinds form n) → word_of headed (slot_word form (a + slot_offset form j)) ≡ 0
   slot-clear j l =
       let z = head.mt.aligned in
-      let up = head.above in
       let at = slot-inside form n a j z l in
-      let b = slot_word form (a + slot_offset form j) in
       let above = at.above in
       let below = at.below in
-      let room = up-to in
-      let zero = own.clear b at.aligned (omega arith) (omega arith) in
-      elim (cases_Bool (is_array form)) [
-        | inl array ↦
-            let far = above-length form a j z array in
-            leaves.others b at.aligned (λ same. omega arith) (λ same. omega arith) (λ same. omega arith) ∙ zero
-        | inr class ↦ elim (cases_eq b (a + 8)) [
-          | inl same ↦ ap (word_of headed) same ∙ unmeasured rows h a t n head class ∙ ap (word_of h) (sym same) ∙ zero
-          | inr other ↦ leaves.others b at.aligned (λ same. omega arith) (λ same. omega arith) other ∙ zero
-        ]
-      ]
+      cell-clear (slot_word form (a + slot_offset form j)) at.aligned above below
+      (λ array. above-length form a j z array)
 
   -- the object that its words hold
   pub newborn-is : object_in rows (word_of headed) (made_item rows a t n) ≡ newborn_at rows a t n
   newborn-is =
       let slots = slots-empty form (word_of headed) a n slot-clear in
-      let flag : is_suppressed (word_of headed (a - 8)) ≡ false = ap is_suppressed leaves.header in
+      let flag : has_suppressed_bit (word_of headed (a - 8)) ≡ false = ap has_suppressed_bit leaves.header in
       λ i. record (newborn_at rows a t n) { slots = slots i; suppressed = flag i }
 
   -- the cells below and above the context stay
@@ -193,7 +222,8 @@ module _ (rows : List TypeRow) (h : HeapView) (thread : ℕ) (r : Piece) (t n : 
       leaves.others b z (λ same. omega arith) (λ same. omega arith) (λ same. omega arith)
 
   -- and those of all other segments
-  pub others-stay : (j : ℕ) → j < length h.segments → j ≢ k → CellsStay (word_of h) (word_of headed) (first_of h j) (last_of h j)
+  pub others-stay : (j : ℕ) → j < length h.segments → j ≢ k
+      → CellsStay (word_of h) (word_of headed) (first_of h j) (last_of h j)
   others-stay j l ne b z low up =
       let here = lawful_at h k f.heap young.in_range in
       let there = lawful_at h j f.heap l in

@@ -19,3 +19,8 @@ pub mod HeldBytes
 pub mod FirstContext
 pub mod Unmarked
 pub mod FreeHeads
+pub mod Padding
+pub mod CleanWords
+pub mod LeftNames
+pub mod Among
+pub mod Standing

@@ -25,15 +25,20 @@ in_map f y (x ∷ xs) l = elim (in_cons l) [
 
 module _ (rows : List TypeRow) (h : HeapView) (heap : IsHeap h) (held : IsHeld rows h) where
   -- each object is told by its place
-  pub object-told : (i : Item) → IsIn i (heap_items rows h) → is_object i ≡ true → find_by (λ (o : Object). o.name) i.place (objects_in rows h) ≡ Some (object_in rows (word_of h) i)
+  pub object-told : (i : Item) → IsIn i (heap_items rows h) → is_object i ≡ true
+      → find_by (λ (o : Object). o.name) i.place (objects_in rows h) ≡ Some (object_in rows (word_of h) i)
   object-told i listed object =
       let key : Object → ℕ = λ o. o.name in
-      let distinct = rising-distinct key (objects_in rows h) (objects-rise rows (word_of h) (heap_items rows h) (heap-rise rows h held.walkable heap)) in
-      find_by-member key (object_in rows (word_of h) i) (objects_in rows h) distinct (IsIn-map (object_in rows (word_of h)) (into_filter is_object (heap_items rows h) object listed))
+      let distinct =
+      rising-distinct key (objects_in rows h)
+      (objects-rise rows (word_of h) (heap_items rows h) (heap-rise rows h held.walkable heap)) in
+      find_by-member key (object_in rows (word_of h) i) (objects_in rows h) distinct
+      (IsIn-map (object_in rows (word_of h)) (into_filter is_object (heap_items rows h) object listed))
 
   module _ (place : ℕ) (stands : StandsAt rows h place) where
     -- the item that the object at the place is
-    abbrev found : (i : Item) × IsIn i (filter is_object (heap_items rows h)) × (object_in rows (word_of h) i ≡ stands.0)
+    abbrev found : (i : Item) × IsIn i (filter is_object (heap_items rows h))
+        × (object_in rows (word_of h) i ≡ stands.0)
     found = in_map (object_in rows (word_of h)) stands.0 (filter is_object (heap_items rows h)) stands.1
 
     abbrev i : Item
@@ -57,7 +62,8 @@ module _ (rows : List TypeRow) (h : HeapView) (heap : IsHeap h) (held : IsHeld r
       listed = passed.1;
       object = passed.0;
       at = at;
-      named = ap (λ q. find_by (λ (o : Object). o.name) q (objects_in rows h)) (sym at) ∙ object-told i passed.1 passed.0;
+      named = ap (λ q. find_by (λ (o : Object). o.name) q (objects_in rows h)) (sym at)
+          ∙ object-told i passed.1 passed.0;
       known = listed-known rows h i heap held passed.1;
       small = listed-small rows h i heap held passed.1;
     }

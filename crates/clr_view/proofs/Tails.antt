@@ -1,5 +1,6 @@
 -- The ephemeral segment of a heap, by its number, and its end that moves.
-use Rattle.std.proofs.Common.{if◌then◌else◌, ◌≡◌, ℕ, zero, suc, ◌<◌, ◌≤◌, true, false, List, [], ◌∷◌, length, get_or, set, refl, ap, sym, ◌∙◌, subst, arith, inl, inr}
+use Rattle.std.proofs.Common.{if◌then◌else◌, ◌≡◌, ℕ, zero, suc, ◌<◌, ◌≤◌, true, false, List, [], ◌∷◌, length, get_or}
+use Rattle.std.proofs.Common.{set, refl, ap, sym, ◌∙◌, subst, arith, inl, inr}
 use Rattle.std.specs.List.{AllByRecursion}
 use Rattle.std.proofs.lemmas.Bool.{cases_Bool, eq-eqb, ne_eqb}
 use Rattle.clr_types.specs.Rising.{changed_by}
@@ -33,7 +34,8 @@ first-young (s ∷ ss) = elim (cases_Bool (same_kind Ephemeral s.kind)) [
   | inr other ↦ rw other (first-young ss)
 ]
 
-some-young : (ss : List SegInfo) (k : ℕ) → k < length ss → IsYoung (get_or ss k empty_segment) → 0 < length (ephemerals ss)
+some-young : (ss : List SegInfo) (k : ℕ) → k < length ss → IsYoung (get_or ss k empty_segment)
+    → 0 < length (ephemerals ss)
 some-young [] k l e = absurd (omega arith)
 some-young (s ∷ ss) zero l e = let n = one-more s ss e in omega arith
 some-young (s ∷ ss) (suc k) l e = elim (cases_Bool (same_kind Ephemeral s.kind)) [
@@ -46,18 +48,21 @@ no-elements [] e = refl
 no-elements (s ∷ ss) e = absurd (omega (arith, e))
 
 -- another ephemeral segment in the place of the only one
-young-set : (ss : List SegInfo) (k : ℕ) (t : SegInfo) → k < length ss → IsYoung (get_or ss k empty_segment) → IsYoung t → length (ephemerals ss) ≡ 1 → ephemerals (set ss k t) ≡ t ∷ []
+young-set : (ss : List SegInfo) (k : ℕ) (t : SegInfo) → k < length ss → IsYoung (get_or ss k empty_segment) → IsYoung t
+    → length (ephemerals ss) ≡ 1 → ephemerals (set ss k t) ≡ t ∷ []
 young-set [] k t l e f one = absurd (omega arith)
 young-set (s ∷ ss) zero t l e f one =
     let n = one-more s ss e in
     rw f (ap (λ us. t ∷ us) (no-elements (ephemerals ss) (omega arith)))
 young-set (s ∷ ss) (suc k) t l e f one = elim (cases_Bool (same_kind Ephemeral s.kind)) [
   | inl here ↦ let n = one-more s ss here in let some = some-young ss k (omega arith) e in absurd (omega arith)
-  | inr other ↦ let count : length (ephemerals ss) ≡ 1 = sym (ap length (none-more s ss other)) ∙ one in rw other (young-set ss k t (omega arith) e f count)
+  | inr other ↦ let count : length (ephemerals ss) ≡ 1 = sym (ap length (none-more s ss other)) ∙ one in
+      rw other (young-set ss k t (omega arith) e f count)
 ]
 
 -- only one place of the list has one
-young-alone : (ss : List SegInfo) (j k : ℕ) → j < length ss → k < length ss → IsYoung (get_or ss j empty_segment) → IsYoung (get_or ss k empty_segment) → length (ephemerals ss) ≡ 1 → j ≡ k
+young-alone : (ss : List SegInfo) (j k : ℕ) → j < length ss → k < length ss → IsYoung (get_or ss j empty_segment)
+    → IsYoung (get_or ss k empty_segment) → length (ephemerals ss) ≡ 1 → j ≡ k
 young-alone [] j k l m e f one = absurd (omega arith)
 young-alone (s ∷ ss) zero zero l m e f one = refl
 young-alone (s ∷ ss) zero (suc k) l m e f one =
@@ -90,7 +95,8 @@ same-kind-is Large e = absurd cc
 
 -- ---- segments with one changed, by base
 
-none-changed : (base : ℕ) (change : SegInfo → SegInfo) (ss : List SegInfo) → AllByRecursion (λ (s : SegInfo). base < s.base) ss → changed_by (λ s. s.base) base change ss ≡ ss
+none-changed : (base : ℕ) (change : SegInfo → SegInfo) (ss : List SegInfo)
+    → AllByRecursion (λ (s : SegInfo). base < s.base) ss → changed_by (λ s. s.base) base change ss ≡ ss
 none-changed base change [] h = tt-refl
   where
     tt-refl : changed_by (λ (s : SegInfo). s.base) base change [] ≡ []
@@ -100,17 +106,21 @@ none-changed base change (s ∷ ss) h =
     let other = ne_eqb s.base base (λ same. omega arith) in
     rw other (ap (λ us. s ∷ us) (none-changed base change ss h.1))
 
-above-all : (base low : ℕ) (ss : List SegInfo) → base < low → AllByRecursion (λ (s : SegInfo). low ≤ s.base) ss → AllByRecursion (λ (s : SegInfo). base < s.base) ss
+above-all : (base low : ℕ) (ss : List SegInfo) → base < low → AllByRecursion (λ (s : SegInfo). low ≤ s.base) ss
+    → AllByRecursion (λ (s : SegInfo). base < s.base) ss
 above-all base low [] l h = tt
 above-all base low (s ∷ ss) l h = let le = h.0 in (omega arith, above-all base low ss l h.1)
 
-changed-set : (change : SegInfo → SegInfo) (ss : List SegInfo) (k : ℕ) → AreDisjoint ss → AllByRecursion IsLawfulSegment ss → k < length ss
-    → changed_by (λ s. s.base) (get_or ss k empty_segment).base change ss ≡ set ss k (change (get_or ss k empty_segment))
+changed-set : (change : SegInfo → SegInfo) (ss : List SegInfo) (k : ℕ) → AreDisjoint ss
+    → AllByRecursion IsLawfulSegment ss → k < length ss
+    → changed_by (λ s. s.base) (get_or ss k empty_segment).base change ss ≡ set ss k
+    (change (get_or ss k empty_segment))
 changed-set change [] k d lawful l = absurd (omega arith)
 changed-set change (s ∷ ss) zero d lawful l =
     let least = lawful.0.least in
     let here = eq-eqb s.base s.base refl in
-    rw here (ap (λ us. change s ∷ us) (none-changed s.base change ss (above-all s.base (reserved_end s) ss (omega arith) d.0)))
+    rw here (ap (λ us. change s ∷ us)
+    (none-changed s.base change ss (above-all s.base (reserved_end s) ss (omega arith) d.0)))
 changed-set change (s ∷ ss) (suc k) d lawful l =
     let least = lawful.0.least in
     let above = all_at (λ (r : SegInfo). reserved_end s ≤ r.base) ss k empty_segment d.0 (omega arith) in
@@ -140,15 +150,21 @@ module _ (h : HeapView) (k : ℕ) (heap : IsHeap h) (e : IsEphemeral h k) where
 
   -- its holes are the rests of contexts
   pub holes-are : holes_of h k ≡ h.rests
-  holes-are = ap (λ (kind : SegKind). if same_kind kind Ephemeral then h.rests else []) (kind-is (segment_at h k).kind young)
+  holes-are = ap (λ (kind : SegKind). if same_kind kind Ephemeral then h.rests else [])
+      (kind-is (segment_at h k).kind young)
 
   -- it has the end to which it is moved
-  pub ephemeral-ended : (end : ℕ) → ephemeral (frame (record h { segments = set h.segments k (ended_at end (segment_at h k)) })) ≡ ended_at end (ephemeral (frame h))
+  pub ephemeral-ended : (end : ℕ)
+      → ephemeral (frame (record h { segments = set h.segments k (ended_at end (segment_at h k)) })) ≡ ended_at end
+      (ephemeral (frame h))
   ephemeral-ended end =
-      ap segment_or_empty (young-set h.segments k (ended_at end (segment_at h k)) e.in_range young young heap.one_ephemeral) ∙ ap (ended_at end) e.is
+      ap segment_or_empty
+      (young-set h.segments k (ended_at end (segment_at h k)) e.in_range young young heap.one_ephemeral)
+      ∙ ap (ended_at end) e.is
 
   -- and no other segment changes
-  pub segments-ended : (end : ℕ) → set h.segments k (ended_at end (segment_at h k)) ≡ changed_by (λ s. s.base) (ephemeral (frame h)).base (ended_at end) h.segments
+  pub segments-ended : (end : ℕ) → set h.segments k (ended_at end (segment_at h k)) ≡ changed_by (λ s. s.base)
+      (ephemeral (frame h)).base (ended_at end) h.segments
   segments-ended end =
       sym (changed-set (ended_at end) h.segments k heap.disjoint heap.segments e.in_range)
       ∙ ap (λ (s : SegInfo). changed_by (λ (s : SegInfo). s.base) s.base (ended_at end) h.segments) e.is

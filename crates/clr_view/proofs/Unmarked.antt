@@ -1,5 +1,6 @@
 -- No object comes to be marked where the words of the old ones stay, and a new one is born without a mark.
-use Rattle.std.proofs.Common.{◌≡◌, ◌≢◌, ◌⊎◌, inl, inr, ℕ, ◌+◌, ◌%◌, ◌≤◌, false, List, [], ◌∷◌, ◌++◌, refl, ap, sym, ◌∙◌, subst, arith}
+use Rattle.std.proofs.Common.{◌≡◌, ◌≢◌, ◌⊎◌, inl, inr, ℕ, ◌+◌, ◌%◌, ◌≤◌, false, List, [], ◌∷◌, ◌++◌, refl, ap, sym, ◌∙◌}
+use Rattle.std.proofs.Common.{subst, arith}
 use Rattle.std.proofs.lemmas.Bool.{cases_eq, ne_eqb, true≢false}
 use Rattle.clr_types.specs.Rising.{IsIn}
 use Rattle.clr_types.specs.Types.{TypeRow, mt_of}
@@ -8,16 +9,15 @@ use Rattle.clr_types.proofs.ChangedLists.{all-changed_same, all_members}
 use Rattle.clr_types.proofs.RisingLists.{all_at, in_cons}
 use Rattle.clr_types.proofs.SortedLists.{out_of_sorted_by}
 use Rattle.clr_heap.specs.Parts.{item_at}
-use Rattle.clr_heap.specs.View.{frame, HasHead, HeapView, heap_items, IsHeap, opening, placed, stored, word_of}
+use Rattle.clr_heap.specs.View.{frame, HeapView, heap_items, IsHeap, opening_heap, placed, stored, word_of}
 use Rattle.clr_heap.proofs.Placing.{Placed, placed_leaves}
 use Rattle.clr_model.specs.Allocation.{context_front}
 use Rattle.clr_model.specs.Machine.{Object, Value}
 use Rattle.clr_model.specs.Updates.{with_slot_of}
-use Rattle.clr_view.specs.Births.{with_newborn}
 use Rattle.clr_view.specs.Marks.{has_mark, IsUnmarked}
 use Rattle.clr_view.specs.SlotValues.{StandsAt}
-use Rattle.clr_view.specs.View.{HasNewborn, HasStored, IsHeld, KeepsObjects, newborn_at, objects_in}
-use Rattle.clr_view.proofs.Bearing.{born-stands}
+use Rattle.clr_view.specs.View.{HasStored, IsHeld, KeepsObjects, newborn_at, objects_in}
+use Rattle.clr_view.proofs.Bearing.{born-stands, IsBirth}
 use Rattle.clr_view.proofs.Items.{stacked-apart}
 use Rattle.clr_view.proofs.Listed.{in_append}
 use Rattle.clr_view.proofs.Listings.{heap-stacked}
@@ -38,27 +38,32 @@ module _ (rows : List TypeRow) (h : HeapView) (heap : IsHeap h) (held : IsHeld r
       let ay = iy.at in
       let lx = (stands-head rows h heap held x sx).names.least in
       let ly = (stands-head rows h heap held y sy).names.least in
-      elim (stacked-apart (heap_items rows h) i j (heap-stacked rows h held.walkable heap) ix.listed iy.listed (λ e. ne (sym ax ∙ e ∙ ay))) [ inl under ↦ inl (omega arith) | inr over ↦ inr (omega arith) ]
+      elim (stacked-apart (heap_items rows h) i j (heap-stacked rows h held.walkable heap) ix.listed iy.listed
+      (λ e. ne (sym ax ∙ e ∙ ay))) [ inl under ↦ inl (omega arith) | inr over ↦ inr (omega arith) ]
 
   -- an object stands at a multiple of 8, above 8
   pub stands-aligned : (x : ℕ) → StandsAt rows h x → x % 8 ≡ 0
   stands-aligned x s = (stands-head rows h heap held x s).mt.aligned
 
   -- the words of an object whose cells stay
-  pub unmarked_kept : (new : HeapView) → objects_in rows new ≡ objects_in rows h → KeepsObjects rows h new → IsUnmarked rows h → IsUnmarked rows new
+  pub unmarked_kept : (new : HeapView) → objects_in rows new ≡ objects_in rows h → KeepsObjects rows h new
+      → IsUnmarked rows h → IsUnmarked rows new
   unmarked_kept new objects cells clear x marked =
       let stands = subst (λ (os : List Object). (o : Object) × IsIn o os × (o.place ≡ x)) objects marked.stands in
       let i = stands-item rows h heap held x stands in
       let least = (stands-head rows h heap held x stands).names.least in
       let at = i.at in
-      let same = cells (item_at rows (word_of h) x) x i.listed i.object (stands-aligned x stands) (omega arith) (omega arith) in
+      let same = cells (item_at rows (word_of h) x) x i.listed i.object (stands-aligned x stands) (omega arith)
+      (omega arith) in
       clear x (record { stands = stands; mark = ap has_mark (sym same) ∙ marked.mark })
 
 -- a method table word carries no mark
 even-mt : (t : ℕ) → has_mark (mt_of t) ≡ false
 even-mt t = ne_eqb (mt_of t % 2) 1 (λ e. omega arith)
 
-module _ (rows : List TypeRow) (old new : HeapView) (thread t n : ℕ) (heap : IsHeap new) (head : HasHead old (context_front (frame old) thread)) (born : HasNewborn rows old new thread t n) (words : new ≡ with_newborn rows old thread t n) where
+module _ (rows : List TypeRow) (old new : HeapView) (thread t n : ℕ) (birth : IsBirth rows old new thread t n) where
+  open birth use {after, born, head, words}
+
   abbrev front : ℕ
   front = context_front (frame old) thread
 
@@ -67,7 +72,8 @@ module _ (rows : List TypeRow) (old new : HeapView) (thread t n : ℕ) (heap : I
   was-there x (o, among, at) ne =
       let key : Object → ℕ = λ o. o.name in
       let newborn = newborn_at rows front t n in
-      elim (in_append o (objects_in rows old) (newborn ∷ []) (out_of_sorted_by key o (objects_in rows old ++ newborn ∷ []) (subst (IsIn o) born.objects among))) [
+      elim (in_append o (objects_in rows old) (newborn ∷ [])
+      (out_of_sorted_by key o (objects_in rows old ++ newborn ∷ []) (subst (IsIn o) born.objects among))) [
         | inl before ↦ (o, before, at)
         | inr last ↦ elim (in_cons last) [
           | inl this ↦ absurd (ne (sym at ∙ ap (λ (o : Object). o.place) this))
@@ -78,13 +84,17 @@ module _ (rows : List TypeRow) (old new : HeapView) (thread t n : ℕ) (heap : I
   -- A BIRTH marks nothing
   pub unmarked_born : IsUnmarked rows old → IsUnmarked rows new
   unmarked_born clear x marked = elim (cases_eq x front) [
-    | inl same ↦ true≢false (sym marked.mark ∙ ap (λ (g : HeapView). has_mark (word_of g x)) words ∙ ap (λ q. has_mark (word_of (placed rows old front t n) q)) same ∙ ap has_mark leaves.mt ∙ even-mt t)
+    | inl same ↦ true≢false (sym marked.mark ∙ ap (λ (g : HeapView). has_mark (word_of g x)) words
+        ∙ ap (λ q. has_mark (word_of (placed rows old front t n) q)) same ∙ ap has_mark leaves.mt ∙ even-mt t)
     | inr other ↦
         let stands = was-there x marked.stands other in
-        let z = stands-aligned rows new heap born.held x marked.stands in
+        let z = stands-aligned rows new after born.held x marked.stands in
         let above = head.above in
-        let apart = stands-apart rows new heap born.held x front marked.stands (born-stands rows old new thread t n born) other in
-        let same : word_of new x ≡ word_of old x = ap (λ (g : HeapView). word_of g x) words ∙ leaves.others x z (λ e. elim apart [ inl under ↦ omega arith | inr over ↦ omega arith ]) other (λ e. elim apart [ inl under ↦ omega arith | inr over ↦ omega arith ]) in
+        let apart = stands-apart rows new after born.held x front marked.stands
+        (born-stands rows old new thread t n born) other in
+        let same : word_of new x ≡ word_of old x = ap (λ (g : HeapView). word_of g x) words
+        ∙ leaves.others x z (λ e. elim apart [ inl under ↦ omega arith | inr over ↦ omega arith ]) other
+        (λ e. elim apart [ inl under ↦ omega arith | inr over ↦ omega arith ]) in
         clear x (record { stands = stands; mark = ap has_mark (sym same) ∙ marked.mark })
   ]
     where
@@ -94,15 +104,20 @@ module _ (rows : List TypeRow) (old new : HeapView) (thread t n : ℕ) (heap : I
 -- ---- stores
 
 -- a store into a slot leaves objects at their places
-stored-stands : (rows : List TypeRow) (old new : HeapView) (place j : ℕ) (value : Value) → HasStored rows old new place j value → (x : ℕ) → StandsAt rows new x → StandsAt rows old x
+stored-stands : (rows : List TypeRow) (old new : HeapView) (place j : ℕ) (value : Value)
+    → HasStored rows old new place j value → (x : ℕ) → StandsAt rows new x → StandsAt rows old x
 stored-stands rows old new place j value stored x (o, among, at) =
     let P : Object → Type 0 = λ o. StandsAt rows old o.place in
     let here = all_members P (objects_in rows old) (λ o i. (o, i, refl)) in
-    subst (StandsAt rows old) at (all_at P (subst (IsIn o) stored.objects among) (all-changed_same (λ (o : Object). o.name) place (with_slot_of j value) P (λ o s. s) (objects_in rows old) here))
+    subst (StandsAt rows old) at
+    (all_at P (subst (IsIn o) stored.objects among)
+    (all-changed_same (λ (o : Object). o.name) place (with_slot_of j value) P (λ o s. s) (objects_in rows old) here))
 
-module _ (rows : List TypeRow) (h : HeapView) (i : Item) (a v : ℕ) (heap : IsHeap h) (held : IsHeld rows h) (slot : IsCellWord rows h i a) where
+module _ (rows : List TypeRow) (h : HeapView) (i : Item) (a v : ℕ) (heap : IsHeap h) (held : IsHeld rows h)
+    (slot : IsCellWord rows h i a) where
   -- A STORE into a slot marks nothing
-  pub unmarked_stored : (place j : ℕ) (value : Value) → HasStored rows h (stored h a v) place j value → IsUnmarked rows h → IsUnmarked rows (stored h a v)
+  pub unmarked_stored : (place j : ℕ) (value : Value) → HasStored rows h (stored h a v) place j value
+      → IsUnmarked rows h → IsUnmarked rows (stored h a v)
   unmarked_stored place j value has clear x marked =
       let stands = stored-stands rows h (stored h a v) place j value has x marked.stands in
       let this = stands-item rows h heap held x stands in
@@ -111,24 +126,36 @@ module _ (rows : List TypeRow) (h : HeapView) (i : Item) (a v : ℕ) (heap : IsH
       let down = below rows h i a v heap held slot in
       let apart : x ≢ a = λ e. elim (cases_eq x i.place) [
         | inl own ↦ omega arith
-        | inr other ↦ elim (stacked-apart (heap_items rows h) (item_at rows (word_of h) x) i (heap-stacked rows h held.walkable heap) this.listed slot.listed (λ s. other (sym at ∙ s))) [
-          | inl under ↦ let least = (stands-head rows h heap held x stands).names.least in omega arith
-          | inr over ↦ omega arith
-        ]
+        | inr other ↦ elim (stacked-apart (heap_items rows h) (item_at rows (word_of h) x) i
+            (heap-stacked rows h held.walkable heap) this.listed slot.listed (λ s. other (sym at ∙ s))) [
+              | inl under ↦ let least = (stands-head rows h heap held x stands).names.least in omega arith
+              | inr over ↦ omega arith
+            ]
       ] in
-      clear x (record { stands = stands; mark = ap has_mark (sym (elsewhere rows h i a v heap held slot x (stands-aligned rows h heap held x stands) apart)) ∙ marked.mark })
+      clear x (record {
+        stands = stands;
+        mark = ap has_mark
+            (sym (elsewhere rows h i a v heap held slot x (stands-aligned rows h heap held x stands) apart))
+            ∙ marked.mark;
+      })
 
 -- ---- types
 
 -- a type more marks nothing
-pub unmarked_with_type : (rows : List TypeRow) (row : TypeRow) (h : HeapView) → IsHeld rows h → IsUnmarked rows h → IsUnmarked (rows ++ row ∷ []) h
+pub unmarked_with_type : (rows : List TypeRow) (row : TypeRow) (h : HeapView) → IsHeld rows h → IsUnmarked rows h
+    → IsUnmarked (rows ++ row ∷ []) h
 unmarked_with_type rows row h held clear x marked =
-    clear x (record { stands = subst (λ (os : List Object). (o : Object) × IsIn o os × (o.place ≡ x)) (objects_with_type rows row h held.walkable) marked.stands; mark = marked.mark })
+    clear x (record {
+      stands = subst (λ (os : List Object). (o : Object) × IsIn o os × (o.place ≡ x))
+          (objects_with_type rows row h held.walkable) marked.stands;
+      mark = marked.mark;
+    })
 
--- ---- the opening
+-- ---- the opening_heap
 
 -- where no object stands none is marked
-pub unmarked_at_start : (rows : List TypeRow) (segment limit : ℕ) → segment % 4096 ≡ 0 → IsUnmarked rows (opening segment limit)
+pub unmarked_at_start : (rows : List TypeRow) (segment limit : ℕ) → segment % 4096 ≡ 0
+    → IsUnmarked rows (opening_heap segment limit)
 unmarked_at_start rows segment limit aligned x marked =
     let (o, among, at) = marked.stands in
     let none : IsIn o [] = subst (IsIn o) (no_objects rows segment limit aligned) among in

@@ -1,5 +1,9 @@
+pub mod Items
 pub mod View
 pub mod Births
 pub mod SlotValues
 pub mod Marks
 pub mod Shown
+pub mod Memory
+pub mod Clean
+pub mod Among

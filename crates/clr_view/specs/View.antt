@@ -1,7 +1,9 @@
 -- The objects, the free items and the layout of a machine, read off the words of a heap.
-use Rattle.std.specs.Prelude.{◌≡◌, ℕ, ◌+◌, ◌-◌, ◌/◌, ◌%◌, ◌<◌, ◌≤◌, Bool, true, false, not, nat_eq, List, [], ◌∷◌, ◌++◌, filter, map, None, Some, slice_get, length, get_or}
+use Rattle.std.specs.Prelude.{◌≡◌, ℕ, ◌+◌, ◌-◌, ◌/◌, ◌%◌, ◌<◌, ◌≤◌, Bool, true, false, nat_eq, List, [], ◌∷◌, ◌++◌}
+use Rattle.std.specs.Prelude.{filter, map, None, Some, slice_get, length, get_or}
 use Rattle.clr_mem.specs.Words.{byte_of}
-use Rattle.clr_types.specs.Types.{TypeRow, Form, class_form, references_form, bytes_form, structs_form, form_at, is_bytes, mt_of, size_of, slot_kinds, slot_offset, slots_of}
+use Rattle.clr_types.specs.Types.{TypeRow, Form, class_form, references_form, bytes_form, structs_form, form_at}
+use Rattle.clr_types.specs.Types.{is_bytes, mt_of, size_of, slot_kinds, slot_offset, slots_of}
 use Rattle.clr_types.specs.Rising.{changed_by, IsIn, sorted_by}
 use Rattle.clr_types.specs.Ranges.{Piece, piece_end}
 use Rattle.clr_types.specs.Segments.{Layout, ephemeral}
@@ -14,6 +16,8 @@ use Rattle.clr_heap.specs.View.{AreWalkable, frame, heap_items, HeapView, parts_
 use Rattle.clr_model.specs.Machine.{Value, ref, num, Object}
 use Rattle.clr_model.specs.Allocation.{context_front, front_taken, IsRefilled}
 use Rattle.clr_model.specs.Updates.{all_given_up, empty_slots, with_slot_of}
+use Rattle.clr_view.specs.Clean.{AreClean}
+pub use Rattle.clr_view.specs.Items.{is_free, is_object}
 
 -- ---- one object
 
@@ -33,9 +37,9 @@ value_at (structs_form pattern) word reference a = word_value reference (word a)
 abbrev pub slot_value : Form → (ℕ → ℕ) → ℕ → Slot → Value
 slot_value form word place slot = value_at form word slot.reference (place + slot.offset)
 
--- the bit of an object's header that says that its finaliser is suppressed
-abbrev pub is_suppressed : ℕ → Bool
-is_suppressed header = nat_eq (header / 0x40000000 % 2) 1
+-- whether an object's header has the bit that says that its finaliser is suppressed
+abbrev pub has_suppressed_bit : ℕ → Bool
+has_suppressed_bit header = nat_eq (header / 0x40000000 % 2) 1
 
 -- the object that an item is, named by its place, with what the words hold
 abbrev pub object_in : List TypeRow → (ℕ → ℕ) → Item → Object
@@ -45,21 +49,18 @@ object_in rows word i = record {
   type = i.type_id.0;
   len = i.len;
   slots = map (slot_value (form_at rows i.type_id.0) word i.place) (slots_of (form_at rows i.type_id.0) i.len);
-  suppressed = is_suppressed (word (i.place - 8));
+  suppressed = has_suppressed_bit (word (i.place - 8));
 }
 
 -- ---- the heap
 
--- an item of type 0 is free
-abbrev pub is_free : Item → Bool
-is_free i = nat_eq i.type_id.0 0
-
-abbrev pub is_object : Item → Bool
-is_object i = not (is_free i)
-
 -- the objects among items
 abbrev pub objects_among : List TypeRow → (ℕ → ℕ) → List Item → List Object
 objects_among rows word items = map (object_in rows word) (filter is_object items)
+
+-- an object among the items stands at the place
+abbrev pub StandsAmong : List TypeRow → (ℕ → ℕ) → List Item → ℕ → Type 0
+StandsAmong rows word items place = (o : Object) × IsIn o (objects_among rows word items) × (o.place ≡ place)
 
 -- the ranges of the free items among items
 abbrev pub free_among : List Item → List Piece
@@ -95,42 +96,59 @@ AreFreeHeads rows h = HaveFreeHeads (word_of h) (heap_items rows h)
 
 -- A range is what is left of a context: a part of the ephemeral segment, of generation 0, whose words are clear.
 pub record IsContext (rows : List TypeRow) (h : HeapView) (r : Piece) : Type 0 where
-  pub among : (k : ℕ) → k < length h.segments → (segment_at h k).kind ≡ Ephemeral → Among (parts_of rows h k) (rest_part r.place (piece_end r))
+  pub among : (k : ℕ) → k < length h.segments → (segment_at h k).kind ≡ Ephemeral
+      → Among (parts_of rows h k) (rest_part r.place (piece_end r))
   pub young : h.start0 ≤ r.place
   pub clear : (b : ℕ) → b % 8 ≡ 0 → r.place ≤ b + 8 → b + 8 < piece_end r → word_of h b ≡ 0
 
--- The words of a heap hold a machine's objects: the parts of each segment fill it, and what is left of each thread's context is one
--- of them, another for each thread.
+-- The words of a heap hold a machine's objects: the parts of each segment fill it, and what is left of each thread's
+-- context is one of them, another for each thread. Generation 0 doesn't begin above the tail.
 pub record IsHeld (rows : List TypeRow) (h : HeapView) : Type 0 where
   pub walkable : AreWalkable rows h
   pub contexts : (i : ℕ) (r : Piece) → get_or h.rests i None ≡ Some r → IsContext rows h r
-  pub apart : (i j : ℕ) (r q : Piece) → get_or h.rests i None ≡ Some r → get_or h.rests j None ≡ Some q → r.place ≡ q.place → i ≡ j
+  pub apart : (i j : ℕ) (r q : Piece) → get_or h.rests i None ≡ Some r → get_or h.rests j None ≡ Some q
+      → r.place ≡ q.place → i ≡ j
+  pub young : h.start0 ≤ tail_of h
 
--- every word of the cells of the objects that there were is as before: headers, slots and padding, and no mark comes or goes
+-- every word of the cells of the objects that there were is as before: headers, slots and padding, and no mark comes or
+-- goes
 abbrev pub KeepsObjects : List TypeRow → HeapView → HeapView → Type 0
 KeepsObjects rows old new =
-    (i : Item) (b : ℕ) → IsIn i (heap_items rows old) → is_object i ≡ true → b % 8 ≡ 0 → i.place ≤ b + 8 → b + 8 < i.place + i.size → word_of new b ≡ word_of old b
+    (i : Item) (b : ℕ) → IsIn i (heap_items rows old) → is_object i ≡ true → b % 8 ≡ 0 → i.place ≤ b + 8
+    → b + 8 < i.place + i.size → word_of new b ≡ word_of old b
 
 -- ---- births
 
 -- the object that is new at a place: its references are null, and its numbers 0
 abbrev pub newborn_at : List TypeRow → ℕ → ℕ → ℕ → Object
-newborn_at rows place t n = record { name = place; place = place; type = t; len = n; slots = empty_slots (form_at rows t) n; suppressed = false }
+newborn_at rows place t n =
+    record {
+      name = place;
+      place = place;
+      type = t;
+      len = n;
+      slots = empty_slots (form_at rows t) n;
+      suppressed = false;
+    }
 
--- The old heap with one object more at the front of a thread's context, of which the rest is left. Objects by rising place.
+-- The old heap with one object more at the front of a thread's context, of which the rest is left. Objects by rising
+-- place.
 pub record HasNewborn (rows : List TypeRow) (old new : HeapView) (thread t n : ℕ) : Type 0 where
-  pub objects : objects_in rows new ≡ sorted_by (λ o. o.name) (objects_in rows old ++ newborn_at rows (context_front (frame old) thread) t n ∷ [])
+  pub objects : objects_in rows new
+      ≡ sorted_by (λ o. o.name) (objects_in rows old ++ newborn_at rows (context_front (frame old) thread) t n ∷ [])
   pub layout : layout_in rows new ≡ front_taken (layout_in rows old) thread (size_of (form_at rows t) n)
   pub held : IsHeld rows new
 
 -- ---- contexts
 
--- The old heap where the thread has a new context, from a free item of generation 0 or from the tail, for which the size is asked.
+-- The old heap where the thread has a new context, from a free item of generation 0 or from the tail, for which the
+-- size is asked.
 pub record HasRefilled (rows : List TypeRow) (old new : HeapView) (thread size : ℕ) : Type 0 where
   pub objects : objects_in rows new ≡ objects_in rows old
   pub layout : IsRefilled (layout_in rows old) thread size (layout_in rows new)
   pub cells : KeepsObjects rows old new
   pub free_heads : AreFreeHeads rows old → AreFreeHeads rows new
+  pub clean : AreClean rows old → AreClean rows new
   pub limit : new.limit ≡ old.limit
   pub held : IsHeld rows new
 
@@ -140,6 +158,7 @@ pub record HasGivenUp (rows : List TypeRow) (old new : HeapView) : Type 0 where
   pub layout : layout_in rows new ≡ all_given_up (layout_in rows old)
   pub cells : KeepsObjects rows old new
   pub free_heads : AreFreeHeads rows old → AreFreeHeads rows new
+  pub clean : AreClean rows old → AreClean rows new
   pub limit : new.limit ≡ old.limit
   pub held : IsHeld rows new
 

@@ -6,16 +6,18 @@ ghost use Rattle.clr_heap.specs.View.{frame};
 ghost use Rattle.clr_model.specs.Allocation.{context_front, own_fits};
 ghost use Rattle.clr_view.specs.View.{AreFreeHeads, HasNewborn, IsHeld};
 ghost use Rattle.clr_view.specs.Births.{with_newborn};
+ghost use Rattle.clr_view.specs.Clean.{AreClean};
 ghost use Rattle.clr_view.specs.Marks.{IsUnmarked};
 
 use clr_heap::Heap;
 use clr_types::{TypeId, Types};
 
-/// Makes an object of type `t`, with `len` elements where it is an array, at the front of what is left of the context of a
-/// thread, 1 to 16, and answers its place.
+/// Makes an object of type `t`, with `len` elements where it is an array, at the front of what is left of the context
+/// of a thread, 1 to 16, and answers its place.
 ///
-/// Its references are null and its numbers 0. Of the context the bytes behind the object are left. All other objects, the
-/// free items and the rest of the layout stay. It marks nothing, and changes no head of a free item.
+/// Its references are null and its numbers 0. Of the context the bytes behind the object are left. All other objects,
+/// the free items and the rest of the layout stay. It marks nothing, changes no head of a free item, and leaves headers
+/// and padding clean.
 pub fn bear(heap: &mut Heap, types: &Types, thread: usize, t: TypeId, len: u64) -> u64
     requires held { IsHeld types.now heap.old }
     requires positive { 0 < thread }
@@ -28,8 +30,9 @@ pub fn bear(heap: &mut Heap, types: &Types, thread: usize, t: TypeId, len: u64) 
     ensures words { heap.new ≡ with_newborn types.now heap.old thread t.0 len }
     ensures unmarked { IsUnmarked types.now heap.old → IsUnmarked types.now heap.new }
     ensures free_heads { AreFreeHeads types.now heap.old → AreFreeHeads types.now heap.new }
+    ensures clean { AreClean types.now heap.old → AreClean types.now heap.new }
 {
-    let _ = heap.segments();
+    heap.lawful();
     let size = types.item_size(t, len);
     let Some((front, end)) = heap.hole(thread) else {
         unreachable!()

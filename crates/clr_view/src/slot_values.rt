@@ -1,11 +1,12 @@
 // Objects by their places, and the values of their slots.
-ghost use Rattle.std.specs.Prelude.{◌≡◌, ℕ, ◌+◌, ◌<◌, ◌≤◌, ◌^◌, true, length, slice_get};
+ghost use Rattle.std.specs.Prelude.{◌≡◌, ◌<◌, ◌≤◌, true, length};
 ghost use Rattle.clr_types.specs.Rising.{IsIn};
 ghost use Rattle.clr_types.specs.Types.{form_at, is_bytes};
 ghost use Rattle.clr_heap.specs.View.{heap_items, word_of};
-ghost use Rattle.clr_view.specs.View.{AreFreeHeads, HasStored, IsHeld, object_in, word_value};
+ghost use Rattle.clr_view.specs.View.{AreFreeHeads, IsHeld};
+ghost use Rattle.clr_view.specs.Clean.{AreClean};
 ghost use Rattle.clr_view.specs.Marks.{IsUnmarked};
-ghost use Rattle.clr_view.specs.SlotValues.{HasSlot, IsObjectAt, IsSlot, StandsAt, with_value};
+ghost use Rattle.clr_view.specs.SlotValues.{HasSlot, HasSlotValue, HasStoredSlot, IsObjectAt, StandsAt, with_value};
 
 use clr_heap::{Heap, Item};
 use clr_types::{Shape, Slot, Types};
@@ -16,7 +17,7 @@ pub fn object_item(heap: &Heap, types: &Types, place: u64) -> Item
     requires stands { StandsAt types.now heap.now place }
     ensures { IsObjectAt types.now heap.now place result }
 {
-    let _ = heap.segments();
+    heap.lawful();
     heap.item(types, place)
 }
 
@@ -27,9 +28,9 @@ pub fn slot_value(heap: &Heap, types: &Types, item: &Item, slot: Slot) -> u64
     requires held { IsHeld types.now heap.now }
     requires listed { IsIn item.now (heap_items types.now heap.now) }
     requires slot { HasSlot types.now item.now slot }
-    ensures { (i : ℕ) → IsSlot types.now item.now i slot → slice_get (object_in types.now (word_of heap.now) item.now).slots i ≡ Some (word_value slot.reference result) }
+    ensures { HasSlotValue types.now (word_of heap.now) item.now slot result }
 {
-    let _ = heap.segments();
+    heap.lawful();
     let address = item.place + slot.offset;
     if is_byte(types, item, slot) {
         u64::from(heap.byte(address))
@@ -38,27 +39,28 @@ pub fn slot_value(heap: &Heap, types: &Types, item: &Item, slot: Slot) -> u64
     }
 }
 
-/// Gives a slot of an object another value: the place that it is to refer to, 0 for null, or a number, which in an array of
-/// bytes is below 256.
+/// Gives a slot of an object another value: the place that it is to refer to, 0 for null, or a number, which in an
+/// array of bytes is below 256.
 ///
-/// `slot` is what the table of types says of the slot. All other slots and objects stay, and so do the free items and the
-/// layout. It marks nothing, and changes no head of a free item.
+/// `slot` is what the table of types says of the slot. All other slots and objects stay, and so do the free items and
+/// the layout. It marks nothing, changes no head of a free item, and leaves headers and padding clean.
 pub fn set_slot_value(heap: &mut Heap, types: &Types, item: &Item, slot: Slot, value: u64)
     requires held { IsHeld types.now heap.old }
     requires listed { IsIn item.now (heap_items types.now heap.old) }
     requires slot { HasSlot types.now item.now slot }
     requires byte { is_bytes (form_at types.now item.now.type_id.0) ≡ true → value < 256 }
-    ensures stored { (i : ℕ) → IsSlot types.now item.now i slot → HasStored types.now heap.old heap.new item.now.place i (word_value slot.reference value) }
+    ensures stored { HasStoredSlot types.now heap.old heap.new item.now slot value }
     ensures words { heap.new ≡ with_value types.now heap.old item.now slot value }
     ensures unmarked { IsUnmarked types.now heap.old → IsUnmarked types.now heap.new }
     ensures free_heads { AreFreeHeads types.now heap.old → AreFreeHeads types.now heap.new }
+    ensures clean { AreClean types.now heap.old → AreClean types.now heap.new }
 {
-    let _ = heap.segments();
-    let address = item.place + slot.offset;
+    heap.lawful();
+    let target = item.place + slot.offset;
     if is_byte(types, item, slot) {
-        heap.set_byte(address, value as u8);
+        heap.set_byte(target, value as u8);
     } else {
-        heap.set_word(address, value);
+        heap.set_word(target, value);
     }
 }
 

@@ -2,7 +2,7 @@
 ghost use Rattle.std.specs.Prelude.{◌≡◌, ◌+◌, ◌-◌, ◌%◌, ◌<◌, ◌≤◌, ◌^◌, [], ◌∷◌, codes, false, true, length, IfOk};
 ghost use Rattle.clr_types.specs.Types.{bytes_form, class_form, form_at, references_form, size_of};
 ghost use Rattle.clr_heap.specs.Parts.{IsMakeable};
-ghost use Rattle.clr_heap.specs.View.{frame, opening};
+ghost use Rattle.clr_heap.specs.View.{frame, opening_heap};
 ghost use Rattle.clr_model.specs.Allocation.{own_fits};
 ghost use Rattle.clr_view.specs.View.{IsHeld};
 ghost use Rattle.clr_view.specs.SlotValues.{StandsAt};
@@ -16,7 +16,10 @@ use std::test::Fail;
 
 // A class of a reference and a number, arrays of references, and arrays of bytes.
 fn sample_types(alloc: Global) -> Result<Types, Fail>
-    ensures { IfOk result (λ types. types ≡ record { name = codes "Pair"; form = class_form (codes "rn"); finalizer = false } ∷ record { name = codes "Refs"; form = references_form; finalizer = false } ∷ record { name = codes "Bytes"; form = bytes_form; finalizer = false } ∷ []) }
+    ensures { IfOk result (λ types. types ≡
+        record { name = codes "Pair"; form = class_form (codes "rn"); finalizer = false }
+        ∷ record { name = codes "Refs"; form = references_form; finalizer = false }
+        ∷ record { name = codes "Bytes"; form = bytes_form; finalizer = false } ∷ []) }
 {
     let mut types = Types::new(alloc)?;
     let _ = types.define(b"Pair", Shape::Class(b"rn"), false)?;
@@ -27,7 +30,7 @@ fn sample_types(alloc: Global) -> Result<Types, Fail>
 
 // Gives a thread a context of `size` bytes, the first of a new heap.
 fn open_context(rt: &impl Abort, heap: &mut Heap, types: &Types, thread: usize, size: u64)
-    requires opened { heap.old ≡ opening 262144 1048576 }
+    requires opened { heap.old ≡ opening_heap 262144 1048576 }
     requires positive { 0 < thread }
     requires few { thread ≤ 16 }
     requires least { 24 ≤ size }

@@ -4,9 +4,11 @@ use Rattle.clr_view.proofs.ObjectItems.{stands-head, stands-item}
 use Rattle.clr_view.proofs.slot_values.object_item.Goals as goal
 
 pub item-requires : goal.item-requires
-item-requires c = stands-head c.args.types.now c.args.heap.now c.segments.ensures.heap c.requires.held c.args.place c.requires.stands
+item-requires c = stands-head c.args.types.now c.args.heap.now c.lawful.ensures c.requires.held c.args.place
+    c.requires.stands
 
 pub returns : goal.returns
 returns c =
     subst (IsObjectAt c.args.types.now c.args.heap.now c.args.place) (sym c.item.ensures)
-    (stands-item c.args.types.now c.args.heap.now c.segments.ensures.heap c.requires.held c.args.place c.requires.stands)
+    (stands-item c.args.types.now c.args.heap.now c.lawful.ensures c.requires.held c.args.place
+    c.requires.stands)

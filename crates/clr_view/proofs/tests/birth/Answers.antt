@@ -6,4 +6,5 @@ use Rattle.clr_view.proofs.tests.birth.Goals as goal
 pub returns-clause-stands : goal.returns-clause-stands
 returns-clause-stands g c =
     subst (StandsAt c.args.types.now c.bear.new.heap) (sym c.bear.ensures.place)
-    (born-stands c.args.types.now c.args.heap.now c.bear.new.heap c.args.thread c.args.t.0 c.args.len c.bear.ensures.born)
+    (born-stands c.args.types.now c.args.heap.now c.bear.new.heap c.args.thread c.args.t.0 c.args.len
+    c.bear.ensures.born)

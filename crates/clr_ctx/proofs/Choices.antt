@@ -1,5 +1,7 @@
 -- The choice of where a context comes from, and the two steps of a refill put together.
-use Rattle.std.proofs.Common.{◌≡◌, ℕ, zero, suc, ◌+◌, ◌-◌, ◌%◌, ◌≤◌, true, false, Bool, List, [], ◌∷◌, ◌++◌, get_or, set, refl, ap, sym, ◌∙◌, subst, arith, inl, inr, filter, find, Option, None, Some, is_some, ◌&&◌, ◌||◌, if◌then◌else◌, nat_le}
+use Rattle.std.proofs.Common.{◌≡◌, ℕ, zero, suc, ◌+◌, ◌-◌, ◌%◌, ◌≤◌, true, false, Bool, List, [], ◌∷◌, ◌++◌, get_or}
+use Rattle.std.proofs.Common.{set, refl, ap, sym, ◌∙◌, subst, arith, inl, inr, filter, find, Option, None, Some}
+use Rattle.std.proofs.Common.{is_some, ◌&&◌, ◌||◌, if◌then◌else◌, nat_le}
 use Rattle.std.specs.List.{list_any}
 use Rattle.clr_types.specs.Rising.{IsIn, first, later, IsRisingBy}
 use Rattle.clr_types.specs.Types.{TypeRow}
@@ -19,33 +21,43 @@ use Rattle.clr_ctx.proofs.Steps.{is_young, the_young}
 
 -- ---- searches
 
-any_first : (young : Piece → Bool) (size : ℕ) (ps : List Piece) → list_any (λ p. young p && fits size p.size) ps ≡ is_some (find (λ p. fits size p.size) (filter young ps))
+any_first : (young : Piece → Bool) (size : ℕ) (ps : List Piece)
+    → list_any (λ p. young p && fits size p.size) ps ≡ is_some (find (λ p. fits size p.size) (filter young ps))
 any_first young size [] = refl
 any_first young size (p ∷ ps) = go (young p) (any_first young size ps)
   where
-    next : (b : Bool) → list_any (λ (p : Piece). young p && fits size p.size) ps ≡ is_some (find (λ (p : Piece). fits size p.size) (filter young ps))
-        → (b || list_any (λ (p : Piece). young p && fits size p.size) ps) ≡ is_some (if b then Some p else find (λ (p : Piece). fits size p.size) (filter young ps))
+    next : (b : Bool) → list_any (λ (p : Piece). young p && fits size p.size) ps ≡ is_some
+        (find (λ (p : Piece). fits size p.size) (filter young ps))
+        → (b || list_any (λ (p : Piece). young p && fits size p.size) ps) ≡ is_some
+        (if b then Some p else find (λ (p : Piece). fits size p.size) (filter young ps))
     next true ih = refl
     next false ih = ih
 
-    go : (b : Bool) → list_any (λ (p : Piece). young p && fits size p.size) ps ≡ is_some (find (λ (p : Piece). fits size p.size) (filter young ps))
-        → ((b && fits size p.size) || list_any (λ (p : Piece). young p && fits size p.size) ps) ≡ is_some (find (λ (p : Piece). fits size p.size) (if b then p ∷ filter young ps else filter young ps))
+    go : (b : Bool) → list_any (λ (p : Piece). young p && fits size p.size) ps ≡ is_some
+        (find (λ (p : Piece). fits size p.size) (filter young ps))
+        → ((b && fits size p.size) || list_any (λ (p : Piece). young p && fits size p.size) ps) ≡ is_some
+        (find (λ (p : Piece). fits size p.size) (if b then p ∷ filter young ps else filter young ps))
     go true ih = next (fits size p.size) ih
     go false ih = ih
 
 -- there is room where a young free item is found, or behind the end
-pub room_is : (layout : Layout) (size : ℕ) (found : Option Piece) → found ≡ first_fit layout size → has_room layout size ≡ (is_some found || fits_in_tail (ephemeral layout) size)
+pub room_is : (layout : Layout) (size : ℕ) (found : Option Piece) → found ≡ first_fit layout size
+    → has_room layout size ≡ (is_some found || fits_in_tail (ephemeral layout) size)
 room_is layout size found is =
-    ap (λ (b : Bool). b || fits_in_tail (ephemeral layout) size) (any_first (is_young_item layout) size layout.free ∙ ap is_some (sym is))
+    ap (λ (b : Bool). b || fits_in_tail (ephemeral layout) size) (any_first (is_young_item layout) size layout.free
+    ∙ ap is_some (sym is))
 
-pub no_room : (layout : Layout) (size : ℕ) (found : Option Piece) → found ≡ first_fit layout size → is_some found ≡ false → fits_in_tail (ephemeral layout) size ≡ false → has_room layout size ≡ false
+pub no_room : (layout : Layout) (size : ℕ) (found : Option Piece) → found ≡ first_fit layout size
+    → is_some found ≡ false → fits_in_tail (ephemeral layout) size ≡ false → has_room layout size ≡ false
 no_room layout size found is none full = room_is layout size found is ∙ (λ i. none i || full i)
 
-pub found_passes : (test : Piece → Bool) (ps : List Piece) (p : Piece) → find test ps ≡ Some p → IsIn p ps × (test p ≡ true)
+pub found_passes : (test : Piece → Bool) (ps : List Piece) (p : Piece) → find test ps ≡ Some p
+    → IsIn p ps × (test p ≡ true)
 found_passes test [] p e = absurd (cc)
 found_passes test (x ∷ ps) p e = go (test x) refl e (found_passes test ps p)
   where
-    go : (b : Bool) → test x ≡ b → (if b then Some x else find test ps) ≡ Some p → (find test ps ≡ Some p → IsIn p ps × (test p ≡ true)) → IsIn p (x ∷ ps) × (test p ≡ true)
+    go : (b : Bool) → test x ≡ b → (if b then Some x else find test ps) ≡ Some p
+        → (find test ps ≡ Some p → IsIn p ps × (test p ≡ true)) → IsIn p (x ∷ ps) × (test p ≡ true)
     go true t is more =
         let same : x ≡ p = cc in
         (subst (λ q. IsIn q (x ∷ ps)) same first, ap test (sym same) ∙ t)
@@ -59,49 +71,66 @@ get_none (r ∷ rs) zero = refl
 get_none (r ∷ rs) (suc i) = get_none rs i
 
 -- its thread has none
-pub given_none : (rows : List TypeRow) (h new : HeapView) (t : ℕ) → IsRelaid rows h new (given_up (layout_in rows h) t) → rest_of (frame new) t ≡ None
+pub given_none : (rows : List TypeRow) (h new : HeapView) (t : ℕ) → IsRelaid rows h new (given_up (layout_in rows h) t)
+    → rest_of (frame new) t ≡ None
 given_none rows h new t relaid =
-    ap (λ (layout : Layout). rest_of layout t) relaid.layout ∙ rest_is (set h.rests (t - 1) None) (t - 1) ∙ get_none h.rests (t - 1)
+    ap (λ (layout : Layout). rest_of layout t) relaid.layout ∙ rest_is (set h.rests (t - 1) None) (t - 1)
+    ∙ get_none h.rests (t - 1)
 
 -- a young free item is still one
-pub still_listed : (rows : List TypeRow) (h new : HeapView) (t : ℕ) (p : Piece) → IsRelaid rows h new (given_up (layout_in rows h) t) → IsIn p (young_items (layout_in rows h)) → IsIn p (young_items (layout_in rows new))
+pub still_listed : (rows : List TypeRow) (h new : HeapView) (t : ℕ) (p : Piece)
+    → IsRelaid rows h new (given_up (layout_in rows h) t) → IsIn p (young_items (layout_in rows h))
+    → IsIn p (young_items (layout_in rows new))
 still_listed rows h new t p relaid i =
     let layout = layout_in rows h in
     let (passes, listed) = out_of_filter (is_young_item layout) p layout.free i in
     subst (λ (l : Layout). IsIn p (young_items l)) (sym relaid.layout)
     (into_filter (is_young_item layout) (given_up layout t).free passes
-    (into_sorted_by place p (layout.free ++ pieces_of_option (rest_of layout t)) (append_left (pieces_of_option (rest_of layout t)) listed)))
+    (into_sorted_by place p (layout.free ++ pieces_of_option (rest_of layout t))
+    (append_left (pieces_of_option (rest_of layout t)) listed)))
 
 -- ---- two steps
 
-pub keeps_both : (rows : List TypeRow) (h mid new : HeapView) → filter is_object (heap_items rows mid) ≡ filter is_object (heap_items rows h) → KeepsObjects rows h mid → KeepsObjects rows mid new → KeepsObjects rows h new
+pub keeps_both : (rows : List TypeRow) (h mid new : HeapView)
+    → filter is_object (heap_items rows mid) ≡ filter is_object (heap_items rows h) → KeepsObjects rows h mid
+    → KeepsObjects rows mid new → KeepsObjects rows h new
 keeps_both rows h mid new kept first_cells next_cells i b listed object z low high =
-    let (o, there) = out_of_filter is_object i (heap_items rows mid) (subst (IsIn i) (sym kept) (into_filter is_object (heap_items rows h) object listed)) in
+    let (o, there) =
+    out_of_filter is_object i (heap_items rows mid)
+    (subst (IsIn i) (sym kept) (into_filter is_object (heap_items rows h) object listed)) in
     next_cells i b there object z low high ∙ first_cells i b listed object z low high
 
-refilled_by : (rows : List TypeRow) (h mid new : HeapView) (t size : ℕ) (laid : Layout) → IsRelaid rows h mid (given_up (layout_in rows h) t) → IsRelaid rows mid new laid → IsRefilled (layout_in rows h) t size laid → HasRefilled rows h new t size
+refilled_by : (rows : List TypeRow) (h mid new : HeapView) (t size : ℕ) (laid : Layout)
+    → IsRelaid rows h mid (given_up (layout_in rows h) t) → IsRelaid rows mid new laid
+    → IsRefilled (layout_in rows h) t size laid → HasRefilled rows h new t size
 refilled_by rows h mid new t size laid a b refilled = record {
   objects = b.objects ∙ a.objects;
   layout = subst (IsRefilled (layout_in rows h) t size) (sym b.layout) refilled;
   cells = keeps_both rows h mid new a.kept a.cells b.cells;
   free_heads = λ heads. b.free_heads (a.free_heads heads);
+  clean = λ clean. b.clean (a.clean clean);
   limit = b.limit ∙ a.limit;
   held = b.held;
 }
 
 -- A REFILL FROM A FREE ITEM
-pub refilled_item : (rows : List TypeRow) (h mid new : HeapView) (t size : ℕ) (p : Piece) → IsRelaid rows h mid (given_up (layout_in rows h) t) → IsRelaid rows mid new (from_item (layout_in rows mid) t p (share size p.size))
+pub refilled_item : (rows : List TypeRow) (h mid new : HeapView) (t size : ℕ) (p : Piece)
+    → IsRelaid rows h mid (given_up (layout_in rows h) t)
+    → IsRelaid rows mid new (from_item (layout_in rows mid) t p (share size p.size))
     → first_fit (layout_in rows h) size ≡ Some p → HasRefilled rows h new t size
 refilled_item rows h mid new t size p a b found =
     let layout = layout_in rows h in
     let (i, f) = found_passes (λ (q : Piece). fits size q.size) (young_items layout) p found in
     let (passes, listed) = out_of_filter (is_young_item layout) p layout.free i in
-    let there = into_sorted_by place p (layout.free ++ pieces_of_option (rest_of layout t)) (append_left (pieces_of_option (rest_of layout t)) listed) in
+    let there = into_sorted_by place p (layout.free ++ pieces_of_option (rest_of layout t))
+    (append_left (pieces_of_option (rest_of layout t)) listed) in
     refilled_by rows h mid new t size (from_item (layout_in rows mid) t p (share size p.size)) a b
     (inl (p, there, passes, f, ap (λ (l : Layout). from_item l t p (share size p.size)) a.layout))
 
 -- A REFILL FROM THE TAIL
-pub refilled_tail : (rows : List TypeRow) (h mid new : HeapView) (t size : ℕ) → IsRelaid rows h mid (given_up (layout_in rows h) t) → IsRelaid rows mid new (from_tail (layout_in rows mid) t (tail_share (layout_in rows mid) size))
+pub refilled_tail : (rows : List TypeRow) (h mid new : HeapView) (t size : ℕ)
+    → IsRelaid rows h mid (given_up (layout_in rows h) t)
+    → IsRelaid rows mid new (from_tail (layout_in rows mid) t (tail_share (layout_in rows mid) size))
     → fits_in_tail (ephemeral (frame h)) size ≡ true → HasRefilled rows h new t size
 refilled_tail rows h mid new t size a b room =
     refilled_by rows h mid new t size (from_tail (layout_in rows mid) t (tail_share (layout_in rows mid) size)) a b
@@ -110,27 +139,36 @@ refilled_tail rows h mid new t size a b room =
 -- ---- the index
 
 -- what is kept of the index rises
-pub index_rises : (rows : List TypeRow) (h : HeapView) (index : Option (List Piece)) (items : List Piece) (complete : Bool) → IsHeap h → IsHeld rows h → IsIndex rows h index → (if complete then Some items else None) ≡ index → complete ≡ true → IsRisingBy place items
+pub index_rises : (rows : List TypeRow) (h : HeapView) (index : Option (List Piece)) (items : List Piece)
+    (complete : Bool) → IsHeap h → IsHeld rows h → IsIndex rows h index
+    → (if complete then Some items else None) ≡ index → complete ≡ true → IsRisingBy place items
 index_rises rows h index items complete heap held is view all =
     let kept : index ≡ Some items = sym view ∙ ap (λ (b : Bool). if b then Some items else None) all in
     let same : items ≡ young_items (layout_in rows h) = subst (IsIndex rows h) kept is in
     subst (IsRisingBy place) (sym same) (young_rises rows h held.walkable heap)
 
 -- where the layout's young free items stay, the index does
-pub index_kept : (rows : List TypeRow) (h new : HeapView) (index : Option (List Piece)) (laid : Layout) → layout_in rows new ≡ laid → young_items laid ≡ young_items (layout_in rows h) → IsIndex rows h index → IsIndex rows new index
+pub index_kept : (rows : List TypeRow) (h new : HeapView) (index : Option (List Piece)) (laid : Layout)
+    → layout_in rows new ≡ laid → young_items laid ≡ young_items (layout_in rows h) → IsIndex rows h index
+    → IsIndex rows new index
 index_kept rows h new None laid is same kept = tt
 index_kept rows h new (Some ps) laid is same kept = kept ∙ sym (ap young_items is ∙ same)
 
 -- as where an object takes the front of a context
-pub index_after_birth : (rows : List TypeRow) (h new : HeapView) (index : Option (List Piece)) (t size : ℕ) → layout_in rows new ≡ front_taken (layout_in rows h) t size → IsIndex rows h index → IsIndex rows new index
-index_after_birth rows h new index t size is kept = index_kept rows h new index (front_taken (layout_in rows h) t size) is refl kept
+pub index_after_birth : (rows : List TypeRow) (h new : HeapView) (index : Option (List Piece)) (t size : ℕ)
+    → layout_in rows new ≡ front_taken (layout_in rows h) t size → IsIndex rows h index → IsIndex rows new index
+index_after_birth rows h new index t size is kept =
+    index_kept rows h new index (front_taken (layout_in rows h) t size) is refl kept
 
 -- a share is in whole words
-pub share_aligned : (rows : List TypeRow) (h : HeapView) (size : ℕ) (p : Piece) → IsHeap h → IsHeld rows h → IsIn p (young_items (layout_in rows h)) → fits size p.size ≡ true → 24 ≤ size → size % 8 ≡ 0 → share size p.size % 8 ≡ 0
+pub share_aligned : (rows : List TypeRow) (h : HeapView) (size : ℕ) (p : Piece) → IsHeap h → IsHeld rows h
+    → IsIn p (young_items (layout_in rows h)) → fits size p.size ≡ true → 24 ≤ size → size % 8 ≡ 0
+    → share size p.size % 8 ≡ 0
 share_aligned rows h size p heap held listed f least z =
     let (k, e) = the_young h heap in
     let cut = fits_cases size p.size f in
-    let at = item_at_piece rows h k p heap held e (is_young h k e) listed (elim cut [ inl l ↦ omega arith | inr l ↦ omega arith ]) in
+    let at = item_at_piece rows h k p heap held e (is_young h k e) listed
+    (elim cut [ inl l ↦ omega arith | inr l ↦ omega arith ]) in
     let a = at.aligned in
     let b = at.whole in
     go (fits (want size) p.size) (want_aligned (nat_le (size + 24) 8192)) (omega arith)

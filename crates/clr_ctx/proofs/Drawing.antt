@@ -1,5 +1,8 @@
--- A context is opened at the front of a free item of generation 0: its words are clear, and what is left of the item is still free.
-use Rattle.std.proofs.Common.{◌≡◌, ◌≢◌, ◌⊎◌, inl, inr, ℕ, ◌+◌, ◌-◌, ◌%◌, ◌<◌, ◌≤◌, true, false, Bool, List, [], ◌∷◌, ◌++◌, length, get_or, set, refl, ap, sym, ◌∙◌, subst, arith, filter, Option, None, Some, if◌then◌else◌, nat_le, ◌==◌}
+-- A context is opened at the front of a free item of generation 0: its words are clear, and what is left of the item is
+-- still free.
+use Rattle.std.proofs.Common.{◌≡◌, ◌≢◌, ◌⊎◌, inl, inr, ℕ, ◌+◌, ◌-◌, ◌%◌, ◌<◌, ◌≤◌, true, false, Bool, List, [], ◌∷◌}
+use Rattle.std.proofs.Common.{◌++◌, length, get_or, set, refl, ap, sym, ◌∙◌, subst, arith, filter, Option, None, Some}
+use Rattle.std.proofs.Common.{if◌then◌else◌, nat_le, ◌==◌}
 use Rattle.std.proofs.lemmas.Bool.{and_parts, cases_eq, eq-eqb, le-ltb, lt-ltb, ne_eqb, leb-true}
 use Rattle.std.proofs.lemmas.List.{get_or-set_other, get_or-set_same}
 use Rattle.std.proofs.lemmas.List.Elements.{filter-append}
@@ -12,7 +15,8 @@ use Rattle.clr_types.specs.declared.item.Item.{Item}
 use Rattle.clr_types.specs.declared.segment.SegKind.TheVariants.{Ephemeral}
 use Rattle.clr_heap.specs.Memories.{shapes, word_in}
 use Rattle.clr_heap.specs.Parts.{Among, free_item, hole_from, item_part, items_in, Part, rest_part, Spells}
-use Rattle.clr_heap.specs.View.{first_of, frame, HeapView, IsHeap, last_of, parts_of, PartsAre, segment_at, sight, word_of}
+use Rattle.clr_heap.specs.View.{first_of, frame, HeapView, IsHeap, last_of, parts_of, PartsAre, segment_at, sight}
+use Rattle.clr_heap.specs.View.{word_of}
 use Rattle.clr_heap.proofs.Framing.{lawful_at}
 use Rattle.clr_heap.proofs.Holes.{holes_young, part_bounds}
 use Rattle.clr_heap.proofs.Placing.{boundary-aligned}
@@ -25,8 +29,10 @@ use Rattle.clr_view.proofs.FreeHeads.{heads_none, heads_one}
 use Rattle.clr_view.proofs.Tails.{IsEphemeral}
 use Rattle.clr_ctx.specs.Contexts.{IsRelaid, young_items}
 use Rattle.clr_ctx.proofs.Lists.{apart_around, place, taken-between}
-use Rattle.clr_ctx.proofs.Resting.{free_rises, heap_rested, others_rested, young_item, YoungItem, young_place, young_rises}
-use Rattle.clr_ctx.proofs.Swapping.{among_append, back, cells_now, free_is, free_was, front, heads_now, held_now, kept_now, objects_now, Rests, Swaps}
+use Rattle.clr_ctx.proofs.Resting.{free_rises, heap_rested, others_rested, young_item, YoungItem, young_place}
+use Rattle.clr_ctx.proofs.Resting.{young_rises}
+use Rattle.clr_ctx.proofs.Swapping.{clean_now, among_append, back, cells_now, free_is, free_was, front, heads_now}
+use Rattle.clr_ctx.proofs.Swapping.{held_now, kept_now, objects_now, Rests, Swaps}
 
 -- what the words hold after the head of what is left was written, and the words of the context were cleared
 pub record DrawsItem (h : HeapView) (p : Piece) (n : ℕ) (ms : List Memory) : Type 0 where
@@ -58,7 +64,9 @@ pub record ItemAt (rows : List TypeRow) (h : HeapView) (k : ℕ) (p : Piece) : T
   pub most : p.size ≤ 1073741824
   pub unheld : hole_from h.rests p.place ≡ None
 
-pub item_at_piece : (rows : List TypeRow) (h : HeapView) (k : ℕ) (p : Piece) → IsHeap h → IsHeld rows h → IsEphemeral h k → (segment_at h k).kind ≡ Ephemeral → IsIn p (young_items (layout_in rows h)) → 0 < p.size → ItemAt rows h k p
+pub item_at_piece : (rows : List TypeRow) (h : HeapView) (k : ℕ) (p : Piece) → IsHeap h → IsHeld rows h
+    → IsEphemeral h k → (segment_at h k).kind ≡ Ephemeral → IsIn p (young_items (layout_in rows h)) → 0 < p.size
+    → ItemAt rows h k p
 item_at_piece rows h k p heap held segment young listed some =
     let s = sight rows h k in
     let ps = parts_of rows h k in
@@ -66,7 +74,8 @@ item_at_piece rows h k p heap held segment young listed some =
     let x = y.item in
     let m = item_part x in
     let w = held.walkable k segment.in_range in
-    let cut : CutAt s ps m (first_of h k) (last_of h k) = cut_at s ps m (first_of h k) (last_of h k) w.spelled y.among in
+    let cut : CutAt s ps m (first_of h k) (last_of h k) =
+    cut_at s ps m (first_of h k) (last_of h k) w.spelled y.among in
     let here = cut.here in
     let f = item_size s x x.place here.1 here.2 in
     let size : p.size ≡ x.size = ap (λ (q : Piece). q.size) y.is in
@@ -84,14 +93,17 @@ item_at_piece rows h k p heap held segment young listed some =
       low = omega (arith, place, bounds);
       high = omega (arith, place, size, bounds);
       most = omega (arith, size, big);
-      unheld = ap (hole_from h.rests) place ∙ ap (λ (hs : List (Option Piece)). hole_from hs x.place) (sym (holes_young h k young)) ∙ here.0;
+      unheld = ap (hole_from h.rests) place
+          ∙ ap (λ (hs : List (Option Piece)). hole_from hs x.place) (sym (holes_young h k young)) ∙ here.0;
     }
 
 -- what is left of a range after a size that fits is a free item, or nothing
-left_free : (mid high : ℕ) → (mid ≡ high) ⊎ (mid + 24 ≤ high) → free_among (items_in (free_parts mid high)) ≡ range_piece mid high
+left_free : (mid high : ℕ) → (mid ≡ high) ⊎ (mid + 24 ≤ high)
+    → free_among (items_in (free_parts mid high)) ≡ range_piece mid high
 left_free mid high cut = elim cut [
   | inl same ↦ let hit = eq-eqb mid high same in let none = le-ltb mid high (omega arith) in rw (hit, none) refl
-  | inr more ↦ let miss = ne_eqb mid high (λ same. omega arith) in let some = lt-ltb mid high (omega arith) in rw (miss, some) refl
+  | inr more ↦ let miss = ne_eqb mid high (λ same. omega arith) in let some = lt-ltb mid high (omega arith) in
+      rw (miss, some) refl
 ]
 
 left_objects : (mid high : ℕ) → filter is_object (items_in (free_parts mid high)) ≡ []
@@ -101,8 +113,11 @@ left_objects mid high = go (mid == high)
     go true = refl
     go false = refl
 
-module _ (rows : List TypeRow) (h : HeapView) (k i : ℕ) (p : Piece) (n : ℕ) (ms : List Memory) (heap : IsHeap h) (held : IsHeld rows h) (segment : IsEphemeral h k) (young : (segment_at h k).kind ≡ Ephemeral) (f : DrawsItem h p n ms) (thread : i < length h.rests)
-    (had : get_or h.rests i None ≡ None) (listed : IsIn p (young_items (layout_in rows h))) (least : 24 ≤ n) (aligned : n % 8 ≡ 0) (within : (n ≡ p.size) ⊎ (n + 24 ≤ p.size)) where
+module _ (rows : List TypeRow) (h : HeapView) (k i : ℕ) (p : Piece) (n : ℕ) (ms : List Memory) (heap : IsHeap h)
+    (held : IsHeld rows h) (segment : IsEphemeral h k) (young : (segment_at h k).kind ≡ Ephemeral)
+    (f : DrawsItem h p n ms) (thread : i < length h.rests)
+    (had : get_or h.rests i None ≡ None) (listed : IsIn p (young_items (layout_in rows h))) (least : 24 ≤ n)
+    (aligned : n % 8 ≡ 0) (within : (n ≡ p.size) ⊎ (n + 24 ≤ p.size)) where
   abbrev r : Piece
   r = record { place = p.place; size = n }
 
@@ -119,7 +134,8 @@ module _ (rows : List TypeRow) (h : HeapView) (k i : ℕ) (p : Piece) (n : ℕ) 
   high = piece_end p
 
   pub at : ItemAt rows h k p
-  at = item_at_piece rows h k p heap held segment young listed (elim within [ inl l ↦ omega arith | inr l ↦ omega arith ])
+  at = item_at_piece rows h k p heap held segment young listed
+      (elim within [ inl l ↦ omega arith | inr l ↦ omega arith ])
 
   abbrev x : Item
   x = at.item.item
@@ -140,7 +156,8 @@ module _ (rows : List TypeRow) (h : HeapView) (k i : ℕ) (p : Piece) (n : ℕ) 
   end_is = ap piece_end (sym at.item.is)
 
   abbrev cut : CutAt (sight rows h k) (parts_of rows h k) m (first_of h k) (last_of h k)
-  cut = cut_at (sight rows h k) (parts_of rows h k) m (first_of h k) (last_of h k) (held.walkable k segment.in_range).spelled at.among
+  cut = cut_at (sight rows h k) (parts_of rows h k) m (first_of h k) (last_of h k)
+      (held.walkable k segment.in_range).spelled at.among
 
   under : Spells (sight rows h k) (first_of h k) cut.below low
   under = subst (λ q. Spells (sight rows h k) (first_of h k) cut.below q) place_is cut.low
@@ -161,10 +178,12 @@ module _ (rows : List TypeRow) (h : HeapView) (k i : ℕ) (p : Piece) (n : ℕ) 
         ]
       ]
 
-  without : (q : ℕ) → ((j : ℕ) (s : Piece) → get_or h.rests j None ≡ Some s → s.place ≢ q) → hole_from (set h.rests i None) q ≡ None
+  without : (q : ℕ) → ((j : ℕ) (s : Piece) → get_or h.rests j None ≡ Some s → s.place ≢ q)
+      → hole_from (set h.rests i None) q ≡ None
   without q other = hole_from-none (set h.rests i None) q (λ j s e. elim (cases_eq j i) [
     | inl same ↦
-        let read : get_or (set h.rests i None) i None ≡ Some s = subst (λ l. get_or (set h.rests i None) l None ≡ Some s) same e in
+        let read : get_or (set h.rests i None) i None ≡ Some s =
+        subst (λ l. get_or (set h.rests i None) l None ≡ Some s) same e in
         let clash : None ≡ Some s = sym (get_or-set_same h.rests i None None thread) ∙ read in
         absurd (cc)
     | inr ne ↦ other j s (sym (get_or-set_other h.rests i j None None ne) ∙ e)
@@ -179,10 +198,15 @@ module _ (rows : List TypeRow) (h : HeapView) (k i : ℕ) (p : Piece) (n : ℕ) 
       let written = f.head (omega arith) in
       let left : p.size - n - 24 ≡ high - mid - 24 = omega arith in
       (written.0, written.1 ∙ left) in
-      let P : ℕ → Type 0 = λ b. PartsAre rows (record h { memories = ms; rests = set h.rests i (Some (record { place = low; size = b })) }) k (cut.below ++ (ns ++ cut.above)) in
-      subst P size (drawn_swap rows h k i ms (held.walkable k segment.in_range) young thread f.shape low high cut.below cut.above under over at.whole f.words
-      (without low (λ j s e. hole_from-some h.rests j low s at.unheld e)) mid had (omega arith) (omega arith) cuts (omega arith)
-      (λ more. without mid (λ j s e same. let out = other_rest j s e in elim out [ inl l ↦ omega arith | inr l ↦ omega arith ])) head)
+      let P : ℕ → Type 0 =
+      λ b. PartsAre rows (record h { memories = ms; rests = set h.rests i (Some (record { place = low; size = b })) }) k
+      (cut.below ++ (ns ++ cut.above)) in
+      subst P size (drawn_swap rows h k i ms (held.walkable k segment.in_range) young thread f.shape low high cut.below
+      cut.above under over at.whole f.words
+      (without low (λ j s e. hole_from-some h.rests j low s at.unheld e)) mid had (omega arith) (omega arith) cuts
+      (omega arith)
+      (λ more. without mid (λ j s e same. let out = other_rest j s e in
+      elim out [ inl l ↦ omega arith | inr l ↦ omega arith ])) head)
 
   pub swaps : Swaps rows h drawn k low high (m ∷ []) ns
   swaps =
@@ -203,7 +227,8 @@ module _ (rows : List TypeRow) (h : HeapView) (k i : ℕ) (p : Piece) (n : ℕ) 
         new_parts = new_here;
         low = λ y k'. (Among-bounds (sight rows h k) cut.below y (first_of h k) low under k').1;
         high = λ y k'. (Among-bounds (sight rows h k) cut.above y high (last_of h k) over k').0;
-        others = others_rested rows h k i ms (Some r) heap segment.in_range young f.shape low high at.low (omega arith) f.words held.walkable;
+        others = others_rested rows h k i ms (Some r) heap segment.in_range young f.shape low high at.low (omega arith)
+            f.words held.walkable;
         from = at.low;
         to = omega arith;
         words = f.words;
@@ -218,6 +243,7 @@ module _ (rows : List TypeRow) (h : HeapView) (k i : ℕ) (p : Piece) (n : ℕ) 
     thread = thread;
     rests = refl;
     start0 = refl;
+    tail = omega arith;
     gone = λ j q ne e k'. elim k' [ inl same ↦ absurd (cc) | inr none ↦ none ];
     own = λ q e. let same : r ≡ q = cc in inl (ap (λ (s : Piece). rest_part s.place (piece_end s)) (sym same));
     aged = λ q e. let same : r ≡ q = cc in subst (λ (s : Piece). h.start0 ≤ s.place) same aged;
@@ -250,7 +276,8 @@ module _ (rows : List TypeRow) (h : HeapView) (k i : ℕ) (p : Piece) (n : ℕ) 
       free_was rows h drawn k low high (m ∷ []) ns swaps ∙ ap (λ (ps : List Piece). fs ++ (ps ++ bs)) one
 
   is : free_in rows drawn ≡ fs ++ (range_piece mid high ++ bs)
-  is = free_is rows h drawn k low high (m ∷ []) ns swaps ∙ ap (λ (ps : List Piece). fs ++ (ps ++ bs)) (left_free mid high cuts)
+  is = free_is rows h drawn k low high (m ∷ []) ns swaps
+      ∙ ap (λ (ps : List Piece). fs ++ (ps ++ bs)) (left_free mid high cuts)
 
   rising : IsRisingBy place (fs ++ p ∷ bs)
   rising = subst (IsRisingBy place) was (free_rises rows h held.walkable heap)
@@ -266,7 +293,8 @@ module _ (rows : List TypeRow) (h : HeapView) (k i : ℕ) (p : Piece) (n : ℕ) 
   young_was : young_items (layout_in rows h) ≡ filter t fs ++ p ∷ filter t bs
   young_was =
       let passes = at.item.passes in
-      ap (filter t) was ∙ filter-append t fs (p ∷ bs) ∙ ap (λ (b : Bool). filter t fs ++ (if b then p ∷ filter t bs else filter t bs)) passes
+      ap (filter t) was ∙ filter-append t fs (p ∷ bs)
+      ∙ ap (λ (b : Bool). filter t fs ++ (if b then p ∷ filter t bs else filter t bs)) passes
 
   young_left : filter t (range_piece mid high) ≡ range_piece mid high
   young_left = elim cuts [
@@ -277,7 +305,9 @@ module _ (rows : List TypeRow) (h : HeapView) (k i : ℕ) (p : Piece) (n : ℕ) 
         let down = at.high in
         let from = aged in
         let end = (lawful_at h k heap segment.in_range).high in
-        let passes : t (record { place = mid; size = high - mid }) ≡ true = young_place rows h k heap held segment (record { place = mid; size = high - mid }) (omega arith) (omega arith) (omega arith) in
+        let passes : t (record { place = mid; size = high - mid }) ≡ true =
+        young_place rows h k heap held segment (record { place = mid; size = high - mid }) (omega arith) (omega arith)
+        (omega arith) in
         ap (λ (b : Bool). filter t (if b then record { place = mid; size = high - mid } ∷ [] else [])) some
         ∙ ap (λ (b : Bool). if b then record { place = mid; size = high - mid } ∷ [] else []) passes
         ∙ ap (λ (b : Bool). if b then record { place = mid; size = high - mid } ∷ [] else []) (sym some)
@@ -286,10 +316,13 @@ module _ (rows : List TypeRow) (h : HeapView) (k i : ℕ) (p : Piece) (n : ℕ) 
   -- the index has what is left of the item in its place
   pub young_drawn : young_items (layout_in rows drawn) ≡ taken_from low n (young_items (layout_in rows h))
   young_drawn =
-      let rise : IsRisingBy place (filter t fs ++ p ∷ filter t bs) = subst (IsRisingBy place) young_was (young_rises rows h held.walkable heap) in
+      let rise : IsRisingBy place (filter t fs ++ p ∷ filter t bs) =
+      subst (IsRisingBy place) young_was (young_rises rows h held.walkable heap) in
       ap (filter t) is ∙ filter-append t fs (range_piece mid high ++ bs)
-      ∙ ap (λ (ps : List Piece). filter t fs ++ ps) (filter-append t (range_piece mid high) bs ∙ ap (λ (ps : List Piece). ps ++ filter t bs) young_left)
-      ∙ sym (taken-between (filter t fs) p (filter t bs) n (apart_around (filter t fs) p (filter t bs) rise)) ∙ ap (taken_from low n) (sym young_was)
+      ∙ ap (λ (ps : List Piece). filter t fs ++ ps) (filter-append t (range_piece mid high) bs
+      ∙ ap (λ (ps : List Piece). ps ++ filter t bs) young_left)
+      ∙ sym (taken-between (filter t fs) p (filter t bs) n (apart_around (filter t fs) p (filter t bs) rise))
+      ∙ ap (taken_from low n) (sym young_was)
 
   none_was : filter is_object (items_in (m ∷ [])) ≡ []
   none_was = let free = at.item.free in rw free refl
@@ -308,7 +341,8 @@ module _ (rows : List TypeRow) (h : HeapView) (k i : ℕ) (p : Piece) (n : ℕ) 
   option_is =
       let some = lt-ltb low mid (omega arith) in
       let size : mid - low ≡ n = omega arith in
-      ap (λ (b : Bool). option_piece (if b then record { place = low; size = mid - low } ∷ [] else [])) some ∙ ap (λ (b : ℕ). Some (record { place = low; size = b })) size
+      ap (λ (b : Bool). option_piece (if b then record { place = low; size = mid - low } ∷ [] else [])) some
+      ∙ ap (λ (b : ℕ). Some (record { place = low; size = b })) size
 
   -- DRAWING: the layout is the one with the context at the front of the item
   pub relaid_drawn : (thread : ℕ) → thread - 1 ≡ i → IsRelaid rows h drawn (from_item (layout_in rows h) thread p n)
@@ -326,6 +360,7 @@ module _ (rows : List TypeRow) (h : HeapView) (k i : ℕ) (p : Piece) (n : ℕ) 
     };
     cells = cells_now rows h drawn k low high (m ∷ []) ns swaps none_was (left_objects mid high);
     free_heads = heads_now rows h drawn k low high (m ∷ []) ns swaps left_heads;
+    clean = clean_now rows h drawn k low high (m ∷ []) ns swaps i (Some r) rests none_was (left_objects mid high);
     limit = refl;
     held = held_drawn;
   }

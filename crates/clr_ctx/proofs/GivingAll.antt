@@ -1,13 +1,16 @@
 -- All contexts are given up, one thread after the other.
-use Rattle.std.proofs.Common.{◌≡◌, ℕ, zero, suc, ◌-◌, List, [], ◌∷◌, ◌++◌, length, get_or, set, replicate, refl, ap, sym, ◌∙◌, subst, arith, filter, Option, None, Some}
+use Rattle.std.proofs.Common.{◌≡◌, ℕ, zero, suc, ◌-◌, List, [], ◌∷◌, ◌++◌, length, get_or, set, replicate, refl, ap}
+use Rattle.std.proofs.Common.{sym, ◌∙◌, subst, arith, filter, Option, None, Some}
 use Rattle.std.proofs.lemmas.List.{append-nil, append_assoc}
 use Rattle.clr_types.specs.Types.{TypeRow}
 use Rattle.clr_types.specs.Ranges.{by_place, Piece}
 use Rattle.clr_types.specs.Segments.{Layout, rest_of, rest_pieces}
 use Rattle.clr_types.proofs.ChangedLists.{rising-distinct, rising-sorted, sorted_by-done}
-use Rattle.clr_types.proofs.Shuffles.{IsShuffled, followed, shuffled-left, shuffled-same, shuffled-sorted, shuffled-sorts, shuffled-sym}
+use Rattle.clr_types.proofs.Shuffles.{IsShuffled, followed, shuffled-left, shuffled-same, shuffled-sorted}
+use Rattle.clr_types.proofs.Shuffles.{shuffled-sorts, shuffled-sym}
 use Rattle.clr_heap.specs.View.{heap_items, HeapView, IsHeap}
 use Rattle.clr_model.specs.Updates.{given_up, pieces_of_option}
+use Rattle.clr_view.specs.Clean.{AreClean}
 use Rattle.clr_view.specs.View.{AreFreeHeads, free_in, HasGivenUp, IsHeld, is_object, KeepsObjects, layout_in}
 use Rattle.clr_ctx.specs.Contexts.{IsRelaid}
 use Rattle.clr_ctx.proofs.Choices.{keeps_both}
@@ -37,12 +40,14 @@ next_rest zero rs = refl
 next_rest (suc n) [] = refl
 next_rest (suc n) (r ∷ rs) = next_rest n rs
 
-next_piece : (n : ℕ) (rs : List (Option Piece)) → pieces_before (suc n) rs ≡ pieces_before n rs ++ pieces_of_option (get_or rs n None)
+next_piece : (n : ℕ) (rs : List (Option Piece)) → pieces_before (suc n) rs ≡ pieces_before n rs ++ pieces_of_option
+    (get_or rs n None)
 next_piece zero [] = refl
 next_piece zero (r ∷ rs) = append-nil (pieces_of_option r)
 next_piece (suc n) [] = refl
 next_piece (suc n) (r ∷ rs) =
-    ap (λ (ps : List Piece). pieces_of_option r ++ ps) (next_piece n rs) ∙ sym (append_assoc (pieces_of_option r) (pieces_before n rs) (pieces_of_option (get_or rs n None)))
+    ap (λ (ps : List Piece). pieces_of_option r ++ ps) (next_piece n rs)
+    ∙ sym (append_assoc (pieces_of_option r) (pieces_before n rs) (pieces_of_option (get_or rs n None)))
 
 all_rests : (rs : List (Option Piece)) → rests_after (length rs) rs ≡ replicate (length rs) None
 all_rests [] = refl
@@ -59,6 +64,7 @@ pub record IsGivingUp (rows : List TypeRow) (h now : HeapView) (n : ℕ) : Type 
   pub kept : filter is_object (heap_items rows now) ≡ filter is_object (heap_items rows h)
   pub cells : KeepsObjects rows h now
   pub free_heads : AreFreeHeads rows h → AreFreeHeads rows now
+  pub clean : AreClean rows h → AreClean rows now
   pub limit : now.limit ≡ h.limit
   pub held : IsHeld rows now
   pub layout : layout_in rows now ≡ record (layout_in rows h) { free = free_in rows now; rests = rests_after n h.rests }
@@ -70,13 +76,15 @@ giving_starts rows h heap held = record {
   kept = refl;
   cells = λ i b listed object z low high. refl;
   free_heads = λ heads. heads;
+  clean = λ clean. clean;
   limit = refl;
   held = held;
   layout = refl;
   free = subst (IsShuffled (free_in rows h)) (sym (append-nil (free_in rows h))) (shuffled-same (free_in rows h));
 }
 
-pub giving_step : (rows : List TypeRow) (h now new : HeapView) (n t : ℕ) → t ≡ suc n → IsGivingUp rows h now n → IsRelaid rows now new (given_up (layout_in rows now) t) → IsGivingUp rows h new (suc n)
+pub giving_step : (rows : List TypeRow) (h now new : HeapView) (n t : ℕ) → t ≡ suc n → IsGivingUp rows h now n
+    → IsRelaid rows now new (given_up (layout_in rows now) t) → IsGivingUp rows h new (suc n)
 giving_step rows h now new n t number f r =
     let at : t - 1 ≡ n = omega arith in
     let rests : now.rests ≡ rests_after n h.rests = ap (λ (l : Layout). l.rests) f.layout in
@@ -84,15 +92,19 @@ giving_step rows h now new n t number f r =
     rest_is now.rests (t - 1) ∙ (λ e. get_or (rests e) (at e) None) ∙ next_rest n h.rests in
     let ps = pieces_of_option (get_or h.rests n None) in
     let free : free_in rows new ≡ by_place (free_in rows now ++ ps) =
-    ap (λ (l : Layout). l.free) r.layout ∙ ap (λ (o : Option Piece). by_place (free_in rows now ++ pieces_of_option o)) rest in
-    let new_rests : new.rests ≡ rests_after (suc n) h.rests = ap (λ (l : Layout). l.rests) r.layout ∙ (λ e. set (rests e) (at e) None) ∙ one_more n h.rests in
+    ap (λ (l : Layout). l.free) r.layout ∙ ap (λ (o : Option Piece). by_place (free_in rows now ++ pieces_of_option o))
+    rest in
+    let new_rests : new.rests ≡ rests_after (suc n) h.rests = ap (λ (l : Layout). l.rests) r.layout
+    ∙ (λ e. set (rests e) (at e) None) ∙ one_more n h.rests in
     let joined : (free_in rows h ++ pieces_before n h.rests) ++ ps ≡ free_in rows h ++ pieces_before (suc n) h.rests =
-    append_assoc (free_in rows h) (pieces_before n h.rests) ps ∙ ap (λ (qs : List Piece). free_in rows h ++ qs) (sym (next_piece n h.rests)) in
+    append_assoc (free_in rows h) (pieces_before n h.rests) ps
+    ∙ ap (λ (qs : List Piece). free_in rows h ++ qs) (sym (next_piece n h.rests)) in
     record {
       heap = r.heap;
       kept = r.kept ∙ f.kept;
       cells = keeps_both rows h now new f.kept f.cells r.cells;
       free_heads = λ heads. r.free_heads (f.free_heads heads);
+      clean = λ clean. r.clean (f.clean clean);
       limit = r.limit ∙ f.limit;
       held = r.held;
       layout = λ e. record {
@@ -109,11 +121,14 @@ giving_step rows h now new n t number f r =
     }
 
 -- GIVING UP ALL
-pub giving_ends : (rows : List TypeRow) (h now : HeapView) (n : ℕ) → IsHeld rows h → n ≡ length h.rests → IsGivingUp rows h now n → HasGivenUp rows h now
+pub giving_ends : (rows : List TypeRow) (h now : HeapView) (n : ℕ) → IsHeld rows h → n ≡ length h.rests
+    → IsGivingUp rows h now n → HasGivenUp rows h now
 giving_ends rows h now n held all f =
     let rises = free_rises rows now f.held.walkable f.heap in
-    let pieces : pieces_before n h.rests ≡ rest_pieces h.rests = ap (λ (k : ℕ). pieces_before k h.rests) all ∙ all_pieces h.rests in
-    let rests : rests_after n h.rests ≡ replicate (length h.rests) None = ap (λ (k : ℕ). rests_after k h.rests) all ∙ all_rests h.rests in
+    let pieces : pieces_before n h.rests ≡ rest_pieces h.rests = ap (λ (k : ℕ). pieces_before k h.rests) all
+    ∙ all_pieces h.rests in
+    let rests : rests_after n h.rests ≡ replicate (length h.rests) None = ap (λ (k : ℕ). rests_after k h.rests) all
+    ∙ all_rests h.rests in
     let free : free_in rows now ≡ by_place (free_in rows h ++ rest_pieces h.rests) =
     sym (sorted_by-done place (free_in rows now) (rising-sorted place (free_in rows now) rises))
     ∙ shuffled-sorts place f.free (rising-distinct place (free_in rows now) rises)
@@ -123,6 +138,7 @@ giving_ends rows h now n held all f =
       layout = f.layout ∙ (λ e. record (layout_in rows h) { free = free e; rests = rests e });
       cells = f.cells;
       free_heads = f.free_heads;
+      clean = f.clean;
       limit = f.limit;
       held = f.held;
     }

@@ -1,5 +1,7 @@
 -- Pieces by rising place: where one is put in, what is left of one that is taken from, and tests of such lists.
-use Rattle.std.proofs.Common.{◌≡◌, ◌≢◌, inl, inr, ℕ, zero, suc, ◌+◌, ◌-◌, ◌<◌, ◌≤◌, true, false, Bool, List, [], ◌∷◌, ◌++◌, length, get_or, set, refl, ap, sym, ◌∙◌, subst, arith, filter, nat_le, ◌==◌, if◌then◌else◌}
+use Rattle.std.proofs.Common.{◌≡◌, ◌≢◌, inl, inr, ℕ, zero, suc, ◌+◌, ◌-◌, ◌<◌, ◌≤◌, true, false, Bool, List, [], ◌∷◌}
+use Rattle.std.proofs.Common.{◌++◌, length, get_or, set, refl, ap, sym, ◌∙◌, subst, arith, filter, nat_le, ◌==◌}
+use Rattle.std.proofs.Common.{if◌then◌else◌}
 use Rattle.std.specs.List.{AllByRecursion, insert, remove}
 use Rattle.std.proofs.lemmas.Bool.{cases_lt, eq-eqb, le-leb, le-ltb, lt-leb, lt-ltb, ne_eqb, leb-true}
 use Rattle.std.proofs.lemmas.List.Concat.{flat_map-cons}
@@ -16,7 +18,8 @@ place p = p.place
 -- ---- where a piece is put in
 
 -- where a list rises, each piece below a place is counted
-pub counted : (ps : List Piece) (k at : ℕ) (d : Piece) → IsRisingBy place ps → k < length ps → (get_or ps k d).place < at → k < lower_count at ps
+pub counted : (ps : List Piece) (k at : ℕ) (d : Piece) → IsRisingBy place ps → k < length ps
+    → (get_or ps k d).place < at → k < lower_count at ps
 counted [] k at d rise l low = absurd (omega arith)
 counted (p ∷ ps) zero at d rise l low = let here = lt-ltb p.place at low in rw here (omega arith)
 counted (p ∷ ps) (suc k) at d rise l low =
@@ -25,7 +28,8 @@ counted (p ∷ ps) (suc k) at d rise l low =
     let rest = counted ps k at d rise.1 (omega arith) low in
     rw here (omega arith)
   where
-    above : (qs : List Piece) (j : ℕ) → AllByRecursion (λ q. p.place < place q) qs → j < length qs → p.place < (get_or qs j d).place
+    above : (qs : List Piece) (j : ℕ) → AllByRecursion (λ q. p.place < place q) qs → j < length qs
+        → p.place < (get_or qs j d).place
     above [] j all l = absurd (omega arith)
     above (q ∷ qs) zero all l = all.0
     above (q ∷ qs) (suc j) all l = above qs j all.1 (omega arith)
@@ -48,17 +52,21 @@ put_in (p ∷ ps) x = elim (cases_lt p.place x.place) [
 
 -- ---- a piece among others that rise
 
-all_middle : (P : Piece → Type 0) (xs : List Piece) (x : Piece) (ys : List Piece) → AllByRecursion P (xs ++ x ∷ ys) → P x
+all_middle : (P : Piece → Type 0) (xs : List Piece) (x : Piece) (ys : List Piece) → AllByRecursion P (xs ++ x ∷ ys)
+    → P x
 all_middle P [] x ys all = all.0
 all_middle P (z ∷ xs) x ys all = all_middle P xs x ys all.1
 
-pub apart_around : (xs : List Piece) (x : Piece) (ys : List Piece) → IsRisingBy place (xs ++ x ∷ ys) → AllByRecursion (λ y. place y ≢ x.place) (xs ++ ys)
-apart_around [] x ys rise = all_imply (λ (y : Piece). x.place < place y) (λ (y : Piece). place y ≢ x.place) ys (λ y l same. omega arith) rise.0
+pub apart_around : (xs : List Piece) (x : Piece) (ys : List Piece) → IsRisingBy place (xs ++ x ∷ ys)
+    → AllByRecursion (λ y. place y ≢ x.place) (xs ++ ys)
+apart_around [] x ys rise =
+    all_imply (λ (y : Piece). x.place < place y) (λ (y : Piece). place y ≢ x.place) ys (λ y l same. omega arith) rise.0
 apart_around (z ∷ xs) x ys rise =
     let low : z.place < x.place = all_middle (λ (y : Piece). z.place < place y) xs x ys rise.0 in
     ((λ same. omega arith), apart_around xs x ys rise.1)
 
-pub put_between : (xs : List Piece) (x : Piece) (ys : List Piece) → IsRisingBy place (xs ++ x ∷ ys) → insert_by place x (xs ++ ys) ≡ xs ++ x ∷ ys
+pub put_between : (xs : List Piece) (x : Piece) (ys : List Piece) → IsRisingBy place (xs ++ x ∷ ys)
+    → insert_by place x (xs ++ ys) ≡ xs ++ x ∷ ys
 put_between [] x [] rise = refl
 put_between [] x (y ∷ ys) rise = let below = rise.0.0 in let at = le-leb x.place y.place (omega arith) in rw at refl
 put_between (z ∷ xs) x ys rise =
@@ -77,10 +85,14 @@ taken-apart at n [] apart = refl
 taken-apart at n (p ∷ ps) apart =
     let miss = ne_eqb p.place at apart.0 in
     let ih = taken-apart at n ps apart.1 in
-    flat_map-cons (left_of at n) p ps ∙ ap (λ (b : Bool). (if b then range_piece (p.place + n) (piece_end p) else p ∷ []) ++ taken_from at n ps) miss ∙ ap (λ (qs : List Piece). p ∷ qs) ih
+    flat_map-cons (left_of at n) p ps
+    ∙ ap (λ (b : Bool). (if b then range_piece (p.place + n) (piece_end p) else p ∷ []) ++ taken_from at n ps) miss
+    ∙ ap (λ (qs : List Piece). p ∷ qs) ih
 
 -- a piece among others of which the front is taken
-pub taken-between : (xs : List Piece) (x : Piece) (ys : List Piece) (n : ℕ) → AllByRecursion (λ q. place q ≢ x.place) (xs ++ ys) → taken_from x.place n (xs ++ x ∷ ys) ≡ xs ++ (range_piece (x.place + n) (piece_end x) ++ ys)
+pub taken-between : (xs : List Piece) (x : Piece) (ys : List Piece) (n : ℕ)
+    → AllByRecursion (λ q. place q ≢ x.place) (xs ++ ys)
+    → taken_from x.place n (xs ++ x ∷ ys) ≡ xs ++ (range_piece (x.place + n) (piece_end x) ++ ys)
 taken-between [] x ys n apart =
     let hit = eq-eqb x.place x.place refl in
     flat_map-cons (left_of x.place n) x ys
@@ -89,27 +101,33 @@ taken-between [] x ys n apart =
 taken-between (z ∷ xs) x ys n apart =
     let miss = ne_eqb z.place x.place apart.0 in
     flat_map-cons (left_of x.place n) z (xs ++ x ∷ ys)
-    ∙ ap (λ (b : Bool). (if b then range_piece (z.place + n) (piece_end z) else z ∷ []) ++ taken_from x.place n (xs ++ x ∷ ys)) miss
+    ∙ ap (λ (b : Bool). (if b then range_piece (z.place + n) (piece_end z) else z ∷ [])
+    ++ taken_from x.place n (xs ++ x ∷ ys)) miss
     ∙ ap (λ (qs : List Piece). z ∷ qs) (taken-between xs x ys n apart.1)
 
 -- the piece that is counted up to
 pub record Spot (ps : List Piece) (x : Piece) : Type 0 where
   pub in_range : lower_count x.place ps < length ps
   pub whole : taken_from x.place x.size ps ≡ remove ps (lower_count x.place ps)
-  pub part : (n : ℕ) (y : Piece) → n < x.size → y ≡ record { place = x.place + n; size = piece_end x - (x.place + n) } → taken_from x.place n ps ≡ set ps (lower_count x.place ps) y
+  pub part : (n : ℕ) (y : Piece) → n < x.size → y ≡ record { place = x.place + n; size = piece_end x - (x.place + n) }
+      → taken_from x.place n ps ≡ set ps (lower_count x.place ps) y
 
 spot-first : (ps : List Piece) (x : Piece) → IsRisingBy place (x ∷ ps) → Spot (x ∷ ps) x
 spot-first ps x rise =
     let here = le-ltb x.place x.place (omega arith) in
-    let apart = all_imply (λ (q : Piece). x.place < place q) (λ (q : Piece). place q ≢ x.place) ps (λ q l same. omega arith) rise.0 in
+    let apart = all_imply (λ (q : Piece). x.place < place q) (λ (q : Piece). place q ≢ x.place) ps
+    (λ q l same. omega arith) rise.0 in
     let empty = le-ltb (piece_end x) (piece_end x) (omega arith) in
     record {
       in_range = rw here (omega arith);
-      whole = rw here (taken-between [] x ps x.size apart ∙ ap (λ (b : Bool). (if b then record { place = x.place + x.size; size = piece_end x - (x.place + x.size) } ∷ [] else []) ++ ps) empty);
+      whole = rw here (taken-between [] x ps x.size apart
+          ∙ ap (λ (b : Bool). (if b then record { place = x.place + x.size; size = piece_end x - (x.place + x.size) }
+          ∷ [] else []) ++ ps) empty);
       part = λ n y l e.
           let some = lt-ltb (x.place + n) (piece_end x) (omega arith) in
           rw here (taken-between [] x ps n apart
-          ∙ ap (λ (b : Bool). (if b then record { place = x.place + n; size = piece_end x - (x.place + n) } ∷ [] else []) ++ ps) some
+          ∙ ap (λ (b : Bool). (if b then record { place = x.place + n; size = piece_end x - (x.place + n) }
+          ∷ [] else []) ++ ps) some
           ∙ ap (λ (z : Piece). z ∷ ps) (sym e));
     }
 
@@ -120,7 +138,9 @@ spot-later p ps x low s =
     let count : 1 + lower_count x.place ps ≡ suc (lower_count x.place ps) = omega arith in
     let in_range = s.in_range in
     let step : (n : ℕ) → taken_from x.place n (p ∷ ps) ≡ p ∷ taken_from x.place n ps =
-    λ n. flat_map-cons (left_of x.place n) p ps ∙ ap (λ (b : Bool). (if b then range_piece (p.place + n) (piece_end p) else p ∷ []) ++ taken_from x.place n ps) miss in
+    λ n. flat_map-cons (left_of x.place n) p ps
+    ∙ ap (λ (b : Bool). (if b then range_piece (p.place + n) (piece_end p) else p ∷ []) ++ taken_from x.place n ps)
+    miss in
     record {
       in_range = rw here (omega arith);
       whole = rw (here, count) (step x.size ∙ ap (λ (qs : List Piece). p ∷ qs) s.whole);
@@ -141,7 +161,8 @@ module _ (test : Piece → Bool) where
   all_filter P [] all = tt
   all_filter P (p ∷ ps) all = go (test p) (all_filter P ps all.1)
     where
-      go : (b : Bool) → AllByRecursion P (filter test ps) → AllByRecursion P (if b then p ∷ filter test ps else filter test ps)
+      go : (b : Bool) → AllByRecursion P (filter test ps)
+          → AllByRecursion P (if b then p ∷ filter test ps else filter test ps)
       go true rest = (all.0, rest)
       go false rest = rest
 
@@ -150,19 +171,25 @@ module _ (test : Piece → Bool) where
   put_first x (y ∷ ys) all = let at = le-leb x.place y.place all.0 in rw at refl
 
   -- a piece that passes a test is put among those that pass it
-  pub filter-put : (x : Piece) (ys : List Piece) → IsSortedBy place ys → test x ≡ true → filter test (insert_by place x ys) ≡ insert_by place x (filter test ys)
+  pub filter-put : (x : Piece) (ys : List Piece) → IsSortedBy place ys → test x ≡ true
+      → filter test (insert_by place x ys) ≡ insert_by place x (filter test ys)
   filter-put x [] sorted passes = rw passes refl
   filter-put x (y ∷ ys) sorted passes = go (nat_le x.place y.place) refl (filter-put x ys sorted.1 passes)
     where
-      behind : (b : Bool) → nat_le x.place y.place ≡ false → filter test (insert_by place x ys) ≡ insert_by place x (filter test ys)
-          → (if b then y ∷ filter test (insert_by place x ys) else filter test (insert_by place x ys)) ≡ insert_by place x (if b then y ∷ filter test ys else filter test ys)
+      behind : (b : Bool) → nat_le x.place y.place ≡ false → filter test (insert_by place x ys) ≡ insert_by place x
+          (filter test ys)
+          → (if b then y ∷ filter test (insert_by place x ys) else filter test (insert_by place x ys)) ≡ insert_by place
+          x (if b then y ∷ filter test ys else filter test ys)
       behind true past ih = rw past (ap (λ (zs : List Piece). y ∷ zs) ih)
       behind false past ih = ih
 
-      go : (b : Bool) → nat_le x.place y.place ≡ b → filter test (insert_by place x ys) ≡ insert_by place x (filter test ys)
+      go : (b : Bool) → nat_le x.place y.place ≡ b → filter test (insert_by place x ys) ≡ insert_by place x
+          (filter test ys)
           → filter test (if b then x ∷ y ∷ ys else y ∷ insert_by place x ys) ≡ insert_by place x (filter test (y ∷ ys))
       go true e ih =
           let low = leb-true x.place y.place e in
-          let all = all_filter (λ z. x.place ≤ place z) (y ∷ ys) (low, all_imply (λ z. y.place ≤ place z) (λ z. x.place ≤ place z) ys (λ z l. omega arith) sorted.0) in
-          ap (λ (c : Bool). if c then x ∷ filter test (y ∷ ys) else filter test (y ∷ ys)) passes ∙ sym (put_first x (filter test (y ∷ ys)) all)
+          let all = all_filter (λ z. x.place ≤ place z) (y ∷ ys)
+          (low, all_imply (λ z. y.place ≤ place z) (λ z. x.place ≤ place z) ys (λ z l. omega arith) sorted.0) in
+          ap (λ (c : Bool). if c then x ∷ filter test (y ∷ ys) else filter test (y ∷ ys)) passes
+          ∙ sym (put_first x (filter test (y ∷ ys)) all)
       go false e ih = behind (test y) e ih

@@ -1,5 +1,8 @@
--- Heaps where words of the ephemeral segment and the rest of one thread's context change: what holds of the heap and of the other segments.
-use Rattle.std.proofs.Common.{◌≡◌, ◌≢◌, ◌⊎◌, inl, inr, ℕ, zero, suc, ◌+◌, ◌-◌, ◌%◌, ◌<◌, ◌≤◌, true, false, List, [], ◌∷◌, length, get_or, set, refl, ap, sym, ◌∙◌, subst, arith, filter, map, Option, None, Some, length-set, nat_le}
+-- Heaps where words of the ephemeral segment and the rest of one thread's context change: what holds of the heap and of
+-- the other segments.
+use Rattle.std.proofs.Common.{◌≡◌, ◌≢◌, ◌⊎◌, inl, inr, ℕ, zero, suc, ◌+◌, ◌-◌, ◌%◌, ◌<◌, ◌≤◌, true, false, List, []}
+use Rattle.std.proofs.Common.{◌∷◌, length, get_or, set, refl, ap, sym, ◌∙◌, subst, arith, filter, map, Option, None}
+use Rattle.std.proofs.Common.{Some, length-set, nat_le}
 use Rattle.std.specs.Prelude.{slice_get}
 use Rattle.std.proofs.lemmas.Bool.{and_from, and_parts, le-leb, ne_eqb, eq-eqb}
 use Rattle.clr_mem.specs.Words.{Memory}
@@ -17,7 +20,8 @@ use Rattle.clr_types.proofs.RisingLists.{all_at, in_cons}
 use Rattle.clr_types.proofs.SegmentFacts.{between-stands, stands-between}
 use Rattle.clr_heap.specs.Memories.{shapes, word_in}
 use Rattle.clr_heap.specs.Parts.{Among, item_part, item_piece, items_in, Part, rest_part}
-use Rattle.clr_heap.specs.View.{AreWalkable, first_of, frame, heap_items, HeapView, IsHeap, listing, listings, parts_of, PartsAre, rest_between, segment_at, word_of}
+use Rattle.clr_heap.specs.View.{AreWalkable, first_of, frame, heap_items, HeapView, IsHeap, listing, listings, parts_of}
+use Rattle.clr_heap.specs.View.{PartsAre, rest_between, segment_at, word_of}
 use Rattle.clr_heap.proofs.Framing.{lawful_at, reserved_cons, reserved_in}
 use Rattle.clr_heap.proofs.Staying.{outside_other, parts_stay}
 use Rattle.clr_heap.proofs.Storing.{length-shapes, memory_index-shapes}
@@ -58,16 +62,22 @@ rising_map [] rise = tt
 rising_map (i ∷ is) rise = (all-map item_piece (λ (p : Piece). i.place < p.place) is rise.0, rising_map is rise.1)
 
 -- they rise
-pub free_rises : (rows : List TypeRow) (h : HeapView) → AreWalkable rows h → IsHeap h → IsRisingBy place (free_in rows h)
-free_rises rows h walkable heap = rising_map (filter is_free (heap_items rows h)) (filter-rises is_free (λ (i : Item). i.place) (heap_items rows h) (heap-rise rows h walkable heap))
+pub free_rises : (rows : List TypeRow) (h : HeapView) → AreWalkable rows h → IsHeap h
+    → IsRisingBy place (free_in rows h)
+free_rises rows h walkable heap =
+    rising_map (filter is_free (heap_items rows h))
+    (filter-rises is_free (λ (i : Item). i.place) (heap_items rows h) (heap-rise rows h walkable heap))
 
-pub young_rises : (rows : List TypeRow) (h : HeapView) → AreWalkable rows h → IsHeap h → IsRisingBy place (young_items (layout_in rows h))
-young_rises rows h walkable heap = filter-rises (is_young_item (layout_in rows h)) place (free_in rows h) (free_rises rows h walkable heap)
+pub young_rises : (rows : List TypeRow) (h : HeapView) → AreWalkable rows h → IsHeap h
+    → IsRisingBy place (young_items (layout_in rows h))
+young_rises rows h walkable heap =
+    filter-rises (is_young_item (layout_in rows h)) place (free_in rows h) (free_rises rows h walkable heap)
 
 -- an item of a list of parts is one of them
 among_items : (ps : List Part) (i : Item) → IsIn i (items_in ps) → Among ps (item_part i)
 among_items [] i j = elim j [ ]
-among_items (item_part x ∷ ps) i j = elim (in_cons j) [ inl same ↦ inl (ap item_part same) | inr k ↦ inr (among_items ps i k) ]
+among_items (item_part x ∷ ps) i j =
+    elim (in_cons j) [ inl same ↦ inl (ap item_part same) | inr k ↦ inr (among_items ps i k) ]
 among_items (rest_part low high ∷ ps) i j = inr (among_items ps i j)
 
 -- a free item of generation 0 is a part of the ephemeral segment
@@ -78,20 +88,27 @@ pub record YoungItem (rows : List TypeRow) (h : HeapView) (k : ℕ) (p : Piece) 
   pub among : Among (parts_of rows h k) (item_part item)
   pub passes : is_young_item (layout_in rows h) p ≡ true
 
-module _ (rows : List TypeRow) (h : HeapView) (k : ℕ) (heap : IsHeap h) (held : IsHeld rows h) (segment : IsEphemeral h k) where
-  pub item_here : (i : Item) → IsIn i (heap_items rows h) → stands_in (ephemeral (frame h)) i.place ≡ true → 0 < i.size → Among (parts_of rows h k) (item_part i)
+module _ (rows : List TypeRow) (h : HeapView) (k : ℕ) (heap : IsHeap h) (held : IsHeld rows h)
+    (segment : IsEphemeral h k) where
+  pub item_here : (i : Item) → IsIn i (heap_items rows h) → stands_in (ephemeral (frame h)) i.place ≡ true → 0 < i.size
+      → Among (parts_of rows h k) (item_part i)
   item_here i listed stands some =
-      let at : stands_in (segment_at h k) i.place ≡ true = subst (λ (s : SegInfo). stands_in s i.place ≡ true) (sym segment.is) stands in
+      let at : stands_in (segment_at h k) i.place ≡ true =
+      subst (λ (s : SegInfo). stands_in s i.place ≡ true) (sym segment.is) stands in
       let (low, high) = stands-between (segment_at h k) i.place at in
       let l = segment.in_range in
       elim (in_append (listings rows h 0 k) (subst (IsIn i) (heap-cut rows h k (length h.segments) l) listed)) [
         | inl lower ↦
-            let end : i.place + i.size ≤ (segment_at h k).base = all_at (λ (j : Item). j.place + j.size ≤ (segment_at h k).base) lower (items_lower rows h k heap held.walkable l (segment_at h k).base (omega arith)) in
+            let end : i.place + i.size ≤ (segment_at h k).base =
+            all_at (λ (j : Item). j.place + j.size ≤ (segment_at h k).base) lower
+            (items_lower rows h k heap held.walkable l (segment_at h k).base (omega arith)) in
             absurd (omega arith)
         | inr rest ↦ elim (in_append (listing rows h k) rest) [
           | inl here ↦ among_items (parts_of rows h k) i here
           | inr higher ↦
-              let start : reserved_end (segment_at h k) ≤ i.place = all_at (λ (j : Item). reserved_end (segment_at h k) ≤ j.place) higher (items_higher rows h k heap held.walkable l (reserved_end (segment_at h k)) (omega arith)) in
+              let start : reserved_end (segment_at h k) ≤ i.place =
+              all_at (λ (j : Item). reserved_end (segment_at h k) ≤ j.place) higher
+              (items_higher rows h k heap held.walkable l (reserved_end (segment_at h k)) (omega arith)) in
               absurd (omega arith)
         ]
       ]
@@ -102,16 +119,20 @@ module _ (rows : List TypeRow) (h : HeapView) (k : ℕ) (heap : IsHeap h) (held 
       let (x, is, j) = from-map item_piece p (filter is_free (heap_items rows h)) listed in
       let (free, there) = out_of_filter is_free x (heap_items rows h) j in
       let parts = and_parts (stands_in (ephemeral (frame h)) p.place) (nat_le h.start0 p.place) passes in
-      let stands : stands_in (ephemeral (frame h)) x.place ≡ true = subst (λ (q : Piece). stands_in (ephemeral (frame h)) q.place ≡ true) is parts.0 in
+      let stands : stands_in (ephemeral (frame h)) x.place ≡ true =
+      subst (λ (q : Piece). stands_in (ephemeral (frame h)) q.place ≡ true) is parts.0 in
       let size : p.size ≡ x.size = ap (λ (q : Piece). q.size) is in
       record { item = x; is = is; free = free; among = item_here x there stands (omega arith); passes = passes }
 
   -- a place of the segment from the start of generation 0 on is young
-  pub young_place : (p : Piece) → first_of h k ≤ p.place → p.place < reserved_end (segment_at h k) → h.start0 ≤ p.place → is_young_item (layout_in rows h) p ≡ true
+  pub young_place : (p : Piece) → first_of h k ≤ p.place → p.place < reserved_end (segment_at h k) → h.start0 ≤ p.place
+      → is_young_item (layout_in rows h) p ≡ true
   young_place p low high young =
       let at = between-stands (segment_at h k) p.place low high in
-      let stands : stands_in (ephemeral (frame h)) p.place ≡ true = subst (λ (s : SegInfo). stands_in s p.place ≡ true) segment.is at in
-      and_from (stands_in (ephemeral (frame h)) p.place) (nat_le h.start0 p.place) stands (le-leb h.start0 p.place young)
+      let stands : stands_in (ephemeral (frame h)) p.place ≡ true =
+      subst (λ (s : SegInfo). stands_in s p.place ≡ true) segment.is at in
+      and_from (stands_in (ephemeral (frame h)) p.place) (nat_le h.start0 p.place) stands
+      (le-leb h.start0 p.place young)
 
 -- ---- the heap with other words and another rest
 
@@ -120,7 +141,9 @@ other_kind Small ne = refl
 other_kind Ephemeral ne = absurd (ne refl)
 other_kind Large ne = refl
 
-module _ (rows : List TypeRow) (h : HeapView) (k i : ℕ) (ms : List Memory) (o : Option Piece) (heap : IsHeap h) (l : k < length h.segments) (young : (segment_at h k).kind ≡ Ephemeral) (shape : shapes ms ≡ shapes h.memories) where
+module _ (rows : List TypeRow) (h : HeapView) (k i : ℕ) (ms : List Memory) (o : Option Piece) (heap : IsHeap h)
+    (l : k < length h.segments) (young : (segment_at h k).kind ≡ Ephemeral)
+    (shape : shapes ms ≡ shapes h.memories) where
   abbrev pub rested : HeapView
   rested = record h { memories = ms; rests = set h.rests i o }
 
@@ -131,6 +154,7 @@ module _ (rows : List TypeRow) (h : HeapView) (k i : ℕ) (ms : List Memory) (o 
     disjoint = heap.disjoint;
     below_top = heap.below_top;
     one_ephemeral = heap.one_ephemeral;
+    ephemeral_last = heap.ephemeral_last;
     top_aligned = heap.top_aligned;
     top_small = heap.top_small;
     within_limit = heap.within_limit;
@@ -139,16 +163,23 @@ module _ (rows : List TypeRow) (h : HeapView) (k i : ℕ) (ms : List Memory) (o 
   }
 
   -- the other segments have their parts
-  pub others_rested : (a c : ℕ) → first_of h k ≤ a → c ≤ reserved_end (segment_at h k) → ((b : ℕ) → b % 8 ≡ 0 → (b + 8 < a) ⊎ (c ≤ b + 8) → word_in ms b ≡ word_of h b) → AreWalkable rows h
+  pub others_rested : (a c : ℕ) → first_of h k ≤ a → c ≤ reserved_end (segment_at h k)
+      → ((b : ℕ) → b % 8 ≡ 0 → (b + 8 < a) ⊎ (c ≤ b + 8) → word_in ms b ≡ word_of h b) → AreWalkable rows h
       → (j : ℕ) → j < length h.segments → j ≢ k → PartsAre rows rested j (parts_of rows h j)
   others_rested a c from to words walkable j lj ne =
       let end = (lawful_at h j heap lj).high in
-      let other : same_kind (segment_at h j).kind Ephemeral ≡ false = other_kind (segment_at h j).kind (λ e. ne (same_young h j k heap lj l e young)) in
+      let other : same_kind (segment_at h j).kind Ephemeral ≡ false =
+      other_kind (segment_at h j).kind (λ e. ne (same_young h j k heap lj l e young)) in
       parts_stay rows h rested j j (walkable j lj) (record {
         first = refl;
         last = refl;
         words = λ b z low high.
-            words b z (elim (outside_other h j k b heap lj l ne (omega arith) (omega arith)) [ inl under ↦ inl (omega arith) | inr over ↦ inr (omega arith) ]);
+            words b z (elim (outside_other h j k b heap lj l ne (omega arith) (omega arith)) [
+              | inl under ↦ inl
+                  (omega arith)
+              | inr over ↦ inr (omega arith)
+            ]);
         holes = λ q low high. rw other refl;
-        held = λ b low high inside. rw (memory_index-shapes ms h.memories b shape, length-shapes ms h.memories shape) inside;
+        held = λ b low high inside. rw (memory_index-shapes ms h.memories b shape, length-shapes ms h.memories shape)
+            inside;
       })

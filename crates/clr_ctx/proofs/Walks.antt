@@ -1,5 +1,7 @@
 -- A walk over the ephemeral segment meets the free items of generation 0 by rising place.
-use Rattle.std.proofs.Common.{◌≡◌, inl, inr, ℕ, ◌+◌, ◌-◌, ◌^◌, ◌<◌, ◌≤◌, true, false, Bool, List, [], ◌∷◌, ◌++◌, length, refl, ap, sym, ◌∙◌, subst, arith, filter, find, map, Option, Some, nat_le, ◌&&◌, if◌then◌else◌}
+use Rattle.std.proofs.Common.{◌≡◌, inl, inr, ℕ, ◌+◌, ◌-◌, ◌^◌, ◌<◌, ◌≤◌, true, false, Bool, List, [], ◌∷◌, ◌++◌, length}
+use Rattle.std.proofs.Common.{refl, ap, sym, ◌∙◌, subst, arith, filter, find, map, Option, Some, nat_le, ◌&&◌}
+use Rattle.std.proofs.Common.{if◌then◌else◌}
 use Rattle.std.specs.List.{AllByRecursion}
 use Rattle.std.proofs.lemmas.Bool.{cases_Bool, eq-eqb, le-leb}
 use Rattle.std.proofs.lemmas.List.{append-nil}
@@ -33,34 +35,49 @@ abbrev pub first_found : ℕ → ℕ → List Item → Option Piece
 first_found start size items = find (λ p. fits size p.size) (young_among start items)
 
 -- an item that a search passes over, and one at which it stops
-pub found_not : (start size : ℕ) (i : Item) (items : List Item) → (is_free i ≡ true → nat_le start i.place ≡ true → fits size i.size ≡ true → ⊥) → first_found start size (i ∷ items) ≡ first_found start size items
+pub found_not : (start size : ℕ) (i : Item) (items : List Item)
+    → (is_free i ≡ true → nat_le start i.place ≡ true → fits size i.size ≡ true → ⊥)
+    → first_found start size (i ∷ items) ≡ first_found start size items
 found_not start size i items fails = go (is_free i) refl
   where
-    last : (b : Bool) → fits size i.size ≡ b → is_free i ≡ true → nat_le start i.place ≡ true → (if b then Some (item_piece i) else first_found start size items) ≡ first_found start size items
+    last : (b : Bool) → fits size i.size ≡ b → is_free i ≡ true → nat_le start i.place ≡ true
+        → (if b then Some (item_piece i) else first_found start size items) ≡ first_found start size items
     last true f e g = absurd (fails e g f)
     last false f e g = refl
 
-    next : (b : Bool) → nat_le start i.place ≡ b → is_free i ≡ true → find (λ (p : Piece). fits size p.size) (if b then item_piece i ∷ young_among start items else young_among start items) ≡ first_found start size items
+    next : (b : Bool) → nat_le start i.place ≡ b → is_free i ≡ true
+        → find (λ (p : Piece). fits size p.size)
+        (if b then item_piece i ∷ young_among start items else young_among start items) ≡ first_found start size items
     next true g e = last (fits size i.size) refl e g
     next false g e = refl
 
-    go : (b : Bool) → is_free i ≡ b → find (λ (p : Piece). fits size p.size) (filter (λ (p : Piece). nat_le start p.place) (map item_piece (if b then i ∷ filter is_free items else filter is_free items))) ≡ first_found start size items
+    go : (b : Bool) → is_free i ≡ b
+        → find (λ (p : Piece). fits size p.size)
+        (filter (λ (p : Piece). nat_le start p.place)
+        (map item_piece (if b then i ∷ filter is_free items else filter is_free items))) ≡ first_found start size items
     go true e = next (nat_le start i.place) refl e
     go false e = refl
 
-pub found_here : (start size : ℕ) (i : Item) (items : List Item) → is_free i ≡ true → nat_le start i.place ≡ true → fits size i.size ≡ true → first_found start size (i ∷ items) ≡ Some (item_piece i)
+pub found_here : (start size : ℕ) (i : Item) (items : List Item) → is_free i ≡ true → nat_le start i.place ≡ true
+    → fits size i.size ≡ true → first_found start size (i ∷ items) ≡ Some (item_piece i)
 found_here start size i items e g f =
-    ap (λ (b : Bool). find (λ (p : Piece). fits size p.size) (filter (λ (p : Piece). nat_le start p.place) (map item_piece (if b then i ∷ filter is_free items else filter is_free items)))) e
-    ∙ ap (λ (b : Bool). find (λ (p : Piece). fits size p.size) (if b then item_piece i ∷ young_among start items else young_among start items)) g
+    ap (λ (b : Bool). find (λ (p : Piece). fits size p.size)
+    (filter (λ (p : Piece). nat_le start p.place)
+    (map item_piece (if b then i ∷ filter is_free items else filter is_free items)))) e
+    ∙ ap (λ (b : Bool). find (λ (p : Piece). fits size p.size)
+    (if b then item_piece i ∷ young_among start items else young_among start items)) g
     ∙ ap (λ (b : Bool). if b then Some (item_piece i) else first_found start size items) f
 
-pub walk_stops : (start size : ℕ) (i : Item) (left items : List Item) → left ≡ i ∷ items → i.type_id.0 ≡ 0 → start ≤ i.place → fits size i.size ≡ true → first_found start size left ≡ Some (item_piece i)
+pub walk_stops : (start size : ℕ) (i : Item) (left items : List Item) → left ≡ i ∷ items → i.type_id.0 ≡ 0
+    → start ≤ i.place → fits size i.size ≡ true → first_found start size left ≡ Some (item_piece i)
 walk_stops start size i left items is free old f =
-    ap (first_found start size) is ∙ found_here start size i items (eq-eqb i.type_id.0 0 free) (le-leb start i.place old) f
+    ap (first_found start size) is
+    ∙ found_here start size i items (eq-eqb i.type_id.0 0 free) (le-leb start i.place old) f
 
 -- ---- the ephemeral segment among all
 
-module _ (rows : List TypeRow) (h : HeapView) (k : ℕ) (heap : IsHeap h) (held : IsHeld rows h) (segment : IsEphemeral h k) where
+module _ (rows : List TypeRow) (h : HeapView) (k : ℕ) (heap : IsHeap h) (held : IsHeld rows h)
+    (segment : IsEphemeral h k) where
   abbrev t : Piece → Bool
   t = is_young_item (layout_in rows h)
 
@@ -71,8 +88,11 @@ module _ (rows : List TypeRow) (h : HeapView) (k : ℕ) (heap : IsHeap h) (held 
   none_young [] out = refl
   none_young (i ∷ items) out = go (is_free i) (none_young items out.1)
     where
-      go : (b : Bool) → filter t (free_among items) ≡ [] → filter t (map item_piece (if b then i ∷ filter is_free items else filter is_free items)) ≡ []
-      go true rest = ap (λ (b : Bool). if b && nat_le h.start0 i.place then item_piece i ∷ filter t (free_among items) else filter t (free_among items)) out.0 ∙ rest
+      go : (b : Bool) → filter t (free_among items) ≡ []
+          → filter t (map item_piece (if b then i ∷ filter is_free items else filter is_free items)) ≡ []
+      go true rest =
+          ap (λ (b : Bool). if b && nat_le h.start0 i.place then item_piece i ∷ filter t (free_among items) else filter
+          t (free_among items)) out.0 ∙ rest
       go false rest = rest
 
   abbrev In : Item → Type 0
@@ -83,9 +103,11 @@ module _ (rows : List TypeRow) (h : HeapView) (k : ℕ) (heap : IsHeap h) (held 
   all_young (i ∷ items) all = go (is_free i) (all_young items all.1)
     where
       go : (b : Bool) → filter t (free_among items) ≡ young_among h.start0 items
-          → filter t (map item_piece (if b then i ∷ filter is_free items else filter is_free items)) ≡ filter (λ p. nat_le h.start0 p.place) (map item_piece (if b then i ∷ filter is_free items else filter is_free items))
+          → filter t (map item_piece (if b then i ∷ filter is_free items else filter is_free items)) ≡ filter
+          (λ p. nat_le h.start0 p.place) (map item_piece (if b then i ∷ filter is_free items else filter is_free items))
       go true rest =
-          ap (λ (b : Bool). if b && nat_le h.start0 i.place then item_piece i ∷ filter t (free_among items) else filter t (free_among items)) all.0
+          ap (λ (b : Bool). if b && nat_le h.start0 i.place then item_piece i ∷ filter t (free_among items) else filter
+          t (free_among items)) all.0
           ∙ ap (λ (ps : List Piece). if nat_le h.start0 i.place then item_piece i ∷ ps else ps) rest
       go false rest = rest
 
@@ -97,12 +119,15 @@ module _ (rows : List TypeRow) (h : HeapView) (k : ℕ) (heap : IsHeap h) (held 
 
   lower_out : AllByRecursion Out (listings rows h 0 k)
   lower_out =
-      all_imply (λ (i : Item). i.place + i.size ≤ (segment_at h k).base) Out (listings rows h 0 k) (λ i end. not_standing i.place (λ e. let at = stands-between (segment_at h k) i.place e in omega arith))
+      all_imply (λ (i : Item). i.place + i.size ≤ (segment_at h k).base) Out (listings rows h 0 k)
+      (λ i end. not_standing i.place (λ e. let at = stands-between (segment_at h k) i.place e in omega arith))
       (items_lower rows h k heap held.walkable segment.in_range (segment_at h k).base (omega arith))
 
   higher_out : AllByRecursion Out (listings rows h (k + 1) (length h.segments - (k + 1)))
   higher_out =
-      all_imply (λ (i : Item). reserved_end (segment_at h k) ≤ i.place) Out (listings rows h (k + 1) (length h.segments - (k + 1))) (λ i start. not_standing i.place (λ e. let at = stands-between (segment_at h k) i.place e in omega arith))
+      all_imply (λ (i : Item). reserved_end (segment_at h k) ≤ i.place) Out
+      (listings rows h (k + 1) (length h.segments - (k + 1)))
+      (λ i start. not_standing i.place (λ e. let at = stands-between (segment_at h k) i.place e in omega arith))
       (items_higher rows h k heap held.walkable segment.in_range (reserved_end (segment_at h k)) (omega arith))
 
   here_in : AllByRecursion In (listing rows h k)
@@ -112,7 +137,9 @@ module _ (rows : List TypeRow) (h : HeapView) (k : ℕ) (heap : IsHeap h) (held 
       let above = is.above in
       let below = is.below in
       let least = is.least in
-      subst (λ s. stands_in s i.place ≡ true) segment.is (between-stands (segment_at h k) i.place (omega arith) (omega arith))) (listing-are rows h held.walkable k segment.in_range)
+      subst (λ s. stands_in s i.place ≡ true) segment.is
+      (between-stands (segment_at h k) i.place (omega arith) (omega arith)))
+      (listing-are rows h held.walkable k segment.in_range)
 
   -- the young free items are those that a walk over the segment meets from the start of generation 0 on
   pub young_walked : young_items (layout_in rows h) ≡ young_among h.start0 (listing rows h k)
@@ -122,7 +149,8 @@ module _ (rows : List TypeRow) (h : HeapView) (k : ℕ) (heap : IsHeap h) (held 
       let here = listing rows h k in
       let over = listings rows h (k + 1) (length h.segments - (k + 1)) in
       ap (λ (is : List Item). filter t (free_among is)) (heap-cut rows h k (length h.segments) l)
-      ∙ ap (filter t) (free-append under (here ++ over) ∙ ap (λ (ps : List Piece). free_among under ++ ps) (free-append here over))
+      ∙ ap (filter t) (free-append under (here ++ over)
+      ∙ ap (λ (ps : List Piece). free_among under ++ ps) (free-append here over))
       ∙ filter-append t (free_among under) (free_among here ++ free_among over)
       ∙ ap (λ (ps : List Piece). ps ++ filter t (free_among here ++ free_among over)) (none_young under lower_out)
       ∙ filter-append t (free_among here) (free_among over)
@@ -138,7 +166,9 @@ module _ (rows : List TypeRow) (h : HeapView) (k : ℕ) (heap : IsHeap h) (held 
       let end = (lawful_at h k heap segment.in_range).high in
       let top = below_top_at h k heap segment.in_range in
       let small = heap.top_small in
-      all_imply (IsItem rows (first_of h k) (last_of h k)) EndsWithin (listing rows h k) (λ i is. let below = is.below in omega arith) (listing-are rows h held.walkable k segment.in_range)
+      all_imply (IsItem rows (first_of h k) (last_of h k)) EndsWithin (listing rows h k)
+      (λ i is. let below = is.below in omega arith) (listing-are rows h held.walkable k segment.in_range)
 
-  pub first_walk : (start size : ℕ) (walked : List Item) → walked ≡ listing rows h k → start ≡ h.start0 → first_found start size walked ≡ first_fit (layout_in rows h) size
+  pub first_walk : (start size : ℕ) (walked : List Item) → walked ≡ listing rows h k → start ≡ h.start0
+      → first_found start size walked ≡ first_fit (layout_in rows h) size
   first_walk start size walked is young = (λ e. first_found (young e) size (is e)) ∙ first_is size

@@ -4,26 +4,26 @@ ghost use Rattle.clr_types.specs.Rising.{IsIn};
 ghost use Rattle.clr_types.specs.Ranges.{fits};
 ghost use Rattle.clr_types.specs.Segments.{ephemeral, fits_in_tail, rest_of};
 ghost use Rattle.clr_heap.specs.View.{frame};
-ghost use Rattle.clr_model.specs.Allocation.{context_front, from_item, from_tail, has_room, own_fits};
+ghost use Rattle.clr_model.specs.Allocation.{from_item, from_tail, has_room, own_fits};
 ghost use Rattle.clr_model.specs.Updates.{given_up};
-ghost use Rattle.clr_view.specs.View.{HasGivenUp, HasRefilled, IsHeld, layout_in, tail_of};
-ghost use Rattle.clr_ctx.specs.Contexts.{first_fit, IsIndex, IsRelaid, refilled, share, shortened, tail_share, young_items};
+ghost use Rattle.clr_view.specs.View.{HasGivenUp, HasRefilled, IsHeld, layout_in};
+ghost use Rattle.clr_ctx.specs.Contexts.{first_fit, IsIndex, IsRelaid, refilled, share, tail_share, young_items};
 
-use crate::items::{FreeItem, first_in, fits_in, insert_item, take_front};
+use crate::items::{first_in, fits_in, insert_item, take_front};
 use crate::ranges::{close, open_behind, open_in_item};
 use crate::rooms::{first_walked, fits_behind, share_of, tail_share_of};
 use clr_heap::Heap;
-use clr_types::Types;
+use clr_types::{Span, Types};
 use std::alloc::Global;
 use std::marker::Model;
 
 /// What makes contexts fast to refill: an index of the free items of generation 0, by rising place.
 ///
-/// Where there is no memory for it, it is dropped, and searches walk the segment. Clauses see it as the list, where it is
-/// kept.
+/// Where there is no memory for it, it is dropped, and searches walk the segment. Clauses see it as the list, where it
+/// is kept.
 #[derive(Drop)]
 pub struct Contexts {
-    items: Vec<FreeItem>,
+    items: Vec<Span>,
     complete: bool,
 }
 
@@ -76,25 +76,8 @@ impl Contexts {
         }
     }
 
-    /// Takes the bytes of an object from the front of a thread's context, and answers where they are: `None`, and nothing
-    /// changes, exactly where they do not fit there.
-    pub fn take(&self, heap: &mut Heap, t: usize, size: u64) -> Option<u64>
-        requires positive { 0 < t }
-        requires few { t ≤ 16 }
-        requires small { size < 2 ^ 62 }
-        ensures none { result ≡ None → (own_fits (frame heap.old) t size ≡ false) × (heap.new ≡ heap.old) }
-        ensures some { IfSome result (λ a. (own_fits (frame heap.old) t size ≡ true) × (a ≡ context_front (frame heap.old) t) × (heap.new ≡ shortened heap.old t size)) }
-    {
-        let (low, high) = heap.hole(t)?;
-        if !fits_in(size, high - low) {
-            return None;
-        }
-        heap.set_hole(t, low + size, high);
-        Some(low)
-    }
-
     // The first free item of generation 0 in which a size fits.
-    fn first_fit(&self, heap: &Heap, types: &Types, size: u64) -> Option<FreeItem>
+    fn first_fit(&self, heap: &Heap, types: &Types, size: u64) -> Option<Span>
         requires held { IsHeld types.now heap.now }
         requires index { IsIndex types.now heap.now self.now }
         requires small { size < 2 ^ 62 }
@@ -117,11 +100,12 @@ impl Contexts {
         self.first_fit(heap, types, size).is_some() || fits_behind(heap, size)
     }
 
-    /// Gives up a thread's context, and gives it a new one in which an object of this size fits: from the first free item of
-    /// generation 0 in which the size fits, and from the tail of the ephemeral segment where there is none.
+    /// Gives up a thread's context, and gives it a new one in which an object of this size fits: from the first free
+    /// item of generation 0 in which the size fits, and from the tail of the ephemeral segment where there is none.
     ///
-    /// What is left of the old context is a free item with a new head, and so is what is left of an item. No mark comes into a free
-    /// item's head. `None`, and nothing changes, exactly where there is no room.
+    /// What is left of the old context is a free item with a new head, and so is what is left of an item. No mark comes
+    /// into a free item's head, and headers and padding of objects stay clean. `None`, and nothing changes, exactly
+    /// where there is no room.
     pub fn refill(&mut self, heap: &mut Heap, types: &Types, t: usize, size: u64) -> Option<()>
         requires held { IsHeld types.now heap.old }
         requires index { IsIndex types.now heap.old self.old }
@@ -130,11 +114,12 @@ impl Contexts {
         requires least { 24 ≤ size }
         requires aligned { size % 8 ≡ 0 }
         requires small { size < 2 ^ 61 }
-        requires young { heap.old.start0 ≤ tail_of heap.old }
-        ensures none { result ≡ None → (has_room (layout_in types.now heap.old) size ≡ false) × (heap.new ≡ heap.old) × (self.new ≡ self.old) }
+        ensures none { result ≡ None → (has_room (layout_in types.now heap.old) size ≡ false)
+            × (heap.new ≡ heap.old) × (self.new ≡ self.old) }
         ensures some { IfSome result (λ _. has_room (layout_in types.now heap.old) size ≡ true) }
         ensures refilled { IfSome result (λ _. HasRefilled types.now heap.old heap.new t size) }
-        ensures first { IfSome result (λ _. layout_in types.now heap.new ≡ refilled (layout_in types.now heap.old) t size) }
+        ensures first { IfSome result (λ _. layout_in types.now heap.new
+            ≡ refilled (layout_in types.now heap.old) t size) }
         ensures index { IsIndex types.now heap.new self.new }
     {
         let found = self.first_fit(heap, types, size);
@@ -149,14 +134,15 @@ impl Contexts {
         Some(())
     }
 
-    /// Gives up the contexts of all threads. What is left of each is a free item with a new head.
+    /// Gives up the contexts of all threads. What is left of each is a free item with a new head, and headers and
+    /// padding of objects stay clean.
     pub fn give_up_all(&mut self, heap: &mut Heap, types: &Types)
         requires held { IsHeld types.now heap.old }
         requires index { IsIndex types.now heap.old self.old }
         ensures given { HasGivenUp types.now heap.old heap.new }
         ensures index { IsIndex types.now heap.new self.new }
     {
-        let _ = heap.segments();
+        heap.lawful();
         for t in 1..17 {
             self.give_up(heap, types, t);
         }
@@ -171,7 +157,7 @@ impl Contexts {
         ensures relaid { IsRelaid types.now heap.old heap.new (given_up (layout_in types.now heap.old) t) }
         ensures index { IsIndex types.now heap.new self.new }
     {
-        let _ = heap.segments();
+        heap.lawful();
         let Some(item) = close(heap, types, t) else {
             return;
         };
@@ -181,7 +167,7 @@ impl Contexts {
     }
 
     // Opens a context in a free item.
-    fn open_in(&mut self, heap: &mut Heap, types: &Types, t: usize, item: FreeItem, size: u64)
+    fn open_in(&mut self, heap: &mut Heap, types: &Types, t: usize, item: Span, size: u64)
         requires held { IsHeld types.now heap.old }
         requires index { IsIndex types.now heap.old self.old }
         requires positive { 0 < t }
@@ -192,10 +178,11 @@ impl Contexts {
         requires least { 24 ≤ size }
         requires aligned { size % 8 ≡ 0 }
         requires small { size < 2 ^ 61 }
-        ensures relaid { IsRelaid types.now heap.old heap.new (from_item (layout_in types.now heap.old) t item (share size item.size)) }
+        ensures relaid { IsRelaid types.now heap.old heap.new
+            (from_item (layout_in types.now heap.old) t item (share size item.size)) }
         ensures index { IsIndex types.now heap.new self.new }
     {
-        let _ = heap.segments();
+        heap.lawful();
         let taken = share_of(size, item.size());
         open_in_item(heap, types, t, item, taken);
         if self.complete {
@@ -210,12 +197,12 @@ impl Contexts {
         requires positive { 0 < t }
         requires few { t ≤ 16 }
         requires none { rest_of (frame heap.old) t ≡ None }
-        requires young { heap.old.start0 ≤ tail_of heap.old }
         requires within { fits_in_tail (ephemeral (frame heap.old)) size ≡ true }
         requires least { 24 ≤ size }
         requires aligned { size % 8 ≡ 0 }
         requires small { size < 2 ^ 61 }
-        ensures relaid { IsRelaid types.now heap.old heap.new (from_tail (layout_in types.now heap.old) t (tail_share (layout_in types.now heap.old) size)) }
+        ensures relaid { IsRelaid types.now heap.old heap.new
+            (from_tail (layout_in types.now heap.old) t (tail_share (layout_in types.now heap.old) size)) }
         ensures index { IsIndex types.now heap.new self.new }
     {
         let taken = tail_share_of(heap, size);

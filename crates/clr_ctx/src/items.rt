@@ -5,62 +5,7 @@ ghost use Rattle.clr_types.specs.Ranges.{fits, piece_end};
 ghost use Rattle.clr_model.specs.Allocation.{taken_from};
 ghost use Rattle.clr_ctx.specs.Items.{lower_count};
 
-use std::marker::Model;
-
-/// A range that a free item fills.
-#[derive(Clone, Copy)]
-pub struct FreeItem {
-    place: u64,
-    size: u64,
-}
-
-impl Model for FreeItem {
-    ghost use Rattle.std.specs.Prelude.{◌+◌, ◌<◌, ◌^◌};
-    ghost use Rattle.clr_types.specs.Ranges.{Piece};
-
-    ghost Value = { Piece };
-
-    ghost view = { λ i. record { place = i.place; size = i.size } };
-
-    ghost inverse = { λ p. record { place = p.place; size = p.size } };
-
-    ghost invariant = { λ i. i.place + i.size < 2 ^ 64 };
-}
-
-impl FreeItem {
-    /// The range from `low` to `high`.
-    pub fn between(low: u64, high: u64) -> FreeItem
-        requires { low ≤ high }
-        ensures { result ≡ record { place = low; size = high - low } }
-    {
-        FreeItem {
-            place: low,
-            size: high - low,
-        }
-    }
-
-    /// The first address.
-    pub fn place(&self) -> u64
-        ensures { result ≡ self.now.place }
-    {
-        self.place
-    }
-
-    /// The number of bytes.
-    pub fn size(&self) -> u64
-        ensures value { result ≡ self.now.size }
-        ensures within { piece_end self.now < 2 ^ 64 }
-    {
-        self.size
-    }
-
-    /// One past the last address.
-    pub fn end(&self) -> u64
-        ensures { result ≡ piece_end self.now }
-    {
-        self.place + self.size
-    }
-}
+use clr_types::Span;
 
 /// Whether a size fits in a range of `bytes`: it fills it, or leaves at least 24 bytes.
 pub fn fits_in(size: u64, bytes: u64) -> bool
@@ -71,7 +16,7 @@ pub fn fits_in(size: u64, bytes: u64) -> bool
 }
 
 /// The first item in which a size fits: `None` where it fits in none.
-pub fn first_in(items: &Vec<FreeItem>, size: u64) -> Option<FreeItem>
+pub fn first_in(items: &Vec<Span>, size: u64) -> Option<Span>
     requires { size < 2 ^ 62 }
     ensures { result ≡ find (λ p. fits size p.size) items.now.items }
 {
@@ -84,7 +29,7 @@ pub fn first_in(items: &Vec<FreeItem>, size: u64) -> Option<FreeItem>
 }
 
 // How many items stand below a place.
-fn count_below(items: &Vec<FreeItem>, place: u64) -> usize
+fn count_below(items: &Vec<Span>, place: u64) -> usize
     requires { IsRisingBy (λ p. p.place) items.now.items }
     ensures { result ≡ lower_count place items.now.items }
 {
@@ -102,7 +47,7 @@ fn count_below(items: &Vec<FreeItem>, place: u64) -> usize
 }
 
 /// Puts an item in before those that do not stand below it: `false` where there is no memory for it.
-pub fn insert_item(items: &mut Vec<FreeItem>, item: FreeItem) -> bool
+pub fn insert_item(items: &mut Vec<Span>, item: Span) -> bool
     requires { IsRisingBy (λ p. p.place) items.old.items }
     ensures { result ≡ true → items.new.items ≡ insert_by (λ p. p.place) item items.old.items }
 {
@@ -111,7 +56,7 @@ pub fn insert_item(items: &mut Vec<FreeItem>, item: FreeItem) -> bool
 }
 
 /// Takes `taken` bytes from the front of one of the items. What is left of it stays.
-pub fn take_front(items: &mut Vec<FreeItem>, item: FreeItem, taken: u64)
+pub fn take_front(items: &mut Vec<Span>, item: Span, taken: u64)
     requires rising { IsRisingBy (λ p. p.place) items.old.items }
     requires listed { IsIn item items.old.items }
     requires within { taken ≤ item.size }
@@ -121,6 +66,6 @@ pub fn take_front(items: &mut Vec<FreeItem>, item: FreeItem, taken: u64)
     if taken == item.size() {
         let _ = items.remove(at);
     } else {
-        items[at] = FreeItem::between(item.place() + taken, item.end());
+        items[at] = Span::between(item.place() + taken, item.end());
     }
 }

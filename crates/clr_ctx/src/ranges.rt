@@ -6,33 +6,35 @@ ghost use Rattle.clr_types.specs.Segments.{ephemeral, fits_in_tail, rest_of};
 ghost use Rattle.clr_heap.specs.View.{frame};
 ghost use Rattle.clr_model.specs.Allocation.{from_item, from_tail, taken_from};
 ghost use Rattle.clr_model.specs.Updates.{given_up};
-ghost use Rattle.clr_view.specs.View.{IsHeld, layout_in, tail_of};
+ghost use Rattle.clr_view.specs.View.{IsHeld, layout_in};
 ghost use Rattle.clr_ctx.specs.Contexts.{IsRelaid, young_items};
 
-use crate::items::FreeItem;
 use clr_heap::Heap;
-use clr_types::Types;
+use clr_types::{Span, Types};
 
 /// Gives up a thread's context: what was left of it is a free item now, which is answered.
-pub fn close(heap: &mut Heap, types: &Types, t: usize) -> Option<FreeItem>
+pub fn close(heap: &mut Heap, types: &Types, t: usize) -> Option<Span>
     requires held { IsHeld types.now heap.old }
     requires positive { 0 < t }
     requires few { t ≤ 16 }
     ensures rest { result ≡ rest_of (frame heap.old) t }
     ensures relaid { IsRelaid types.now heap.old heap.new (given_up (layout_in types.now heap.old) t) }
-    ensures none { IfNone result (young_items (layout_in types.now heap.new) ≡ young_items (layout_in types.now heap.old)) }
-    ensures young { IfSome result (λ p. young_items (layout_in types.now heap.new) ≡ insert_by (λ q. q.place) p (young_items (layout_in types.now heap.old))) }
+    ensures none { IfNone result (young_items (layout_in types.now heap.new)
+        ≡ young_items (layout_in types.now heap.old)) }
+    ensures young { IfSome result (λ p.
+        young_items (layout_in types.now heap.new)
+        ≡ insert_by (λ q. q.place) p (young_items (layout_in types.now heap.old))) }
 {
-    let _ = heap.segments();
+    heap.lawful();
     let (low, high) = heap.hole(t)?;
     heap.make_free(low, high - low);
     heap.set_hole(t, low, low);
-    Some(FreeItem::between(low, high))
+    Some(Span::between(low, high))
 }
 
-/// Makes the front of a free item the context of a thread that has none. Its words are clear, and what is left of the item
-/// stays free.
-pub fn open_in_item(heap: &mut Heap, types: &Types, t: usize, item: FreeItem, taken: u64)
+/// Makes the front of a free item the context of a thread that has none. Its words are clear, and what is left of the
+/// item stays free.
+pub fn open_in_item(heap: &mut Heap, types: &Types, t: usize, item: Span, taken: u64)
     requires held { IsHeld types.now heap.old }
     requires positive { 0 < t }
     requires few { t ≤ 16 }
@@ -42,9 +44,10 @@ pub fn open_in_item(heap: &mut Heap, types: &Types, t: usize, item: FreeItem, ta
     requires aligned { taken % 8 ≡ 0 }
     requires within { fits taken item.size ≡ true }
     ensures relaid { IsRelaid types.now heap.old heap.new (from_item (layout_in types.now heap.old) t item taken) }
-    ensures young { young_items (layout_in types.now heap.new) ≡ taken_from item.place taken (young_items (layout_in types.now heap.old)) }
+    ensures young { young_items (layout_in types.now heap.new)
+        ≡ taken_from item.place taken (young_items (layout_in types.now heap.old)) }
 {
-    let _ = heap.segments();
+    heap.lawful();
     let low = item.place();
     let middle = low + taken;
     if taken < item.size() {
@@ -61,7 +64,6 @@ pub fn open_behind(heap: &mut Heap, types: &Types, t: usize, taken: u64)
     requires positive { 0 < t }
     requires few { t ≤ 16 }
     requires none { rest_of (frame heap.old) t ≡ None }
-    requires young { heap.old.start0 ≤ tail_of heap.old }
     requires least { 24 ≤ taken }
     requires aligned { taken % 8 ≡ 0 }
     requires small { taken < 2 ^ 62 }

@@ -6,15 +6,15 @@ ghost use Rattle.clr_model.specs.Allocation.{want};
 ghost use Rattle.clr_view.specs.View.{IsHeld, layout_in};
 ghost use Rattle.clr_ctx.specs.Contexts.{first_fit, share, tail_share};
 
-use crate::items::{FreeItem, fits_in};
+use crate::items::fits_in;
 use clr_heap::Heap;
-use clr_types::Types;
+use clr_types::{Span, Types};
 
 /// How many bytes a context has where they are there.
 const CONTEXT_SIZE: u64 = 8192;
 
 /// The first free item of generation 0 in which a size fits, found by a walk over the ephemeral segment.
-pub fn first_walked(heap: &Heap, types: &Types, size: u64) -> Option<FreeItem>
+pub fn first_walked(heap: &Heap, types: &Types, size: u64) -> Option<Span>
     requires held { IsHeld types.now heap.now }
     requires small { size < 2 ^ 62 }
     ensures { result ≡ first_fit (layout_in types.now heap.now) size }
@@ -24,7 +24,7 @@ pub fn first_walked(heap: &Heap, types: &Types, size: u64) -> Option<FreeItem>
     let _ = heap.info(k);
     for found in heap.walk(types, k) {
         if found.type_id.0 == 0 && found.place >= start0 && fits_in(size, found.size) {
-            return Some(FreeItem::between(found.place, found.place + found.size));
+            return Some(Span::between(found.place, found.place + found.size));
         }
     }
     None

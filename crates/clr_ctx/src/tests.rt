@@ -4,9 +4,9 @@ ghost use Rattle.clr_view.specs.View.{IsHeld};
 ghost use Rattle.clr_ctx.specs.Contexts.{IsIndex};
 
 use crate::Contexts;
-use crate::items::{FreeItem, first_in, insert_item};
+use crate::items::{first_in, insert_item};
 use clr_heap::Heap;
-use clr_types::Types;
+use clr_types::{Span, Types};
 use std::alloc::Global;
 use std::process::Abort;
 use std::test::Fail;
@@ -38,9 +38,6 @@ fn refilled(
 {
     assert!(rt; 0 < t && t <= 16);
     assert!(rt; 24 <= size && size % 8 == 0 && size <= 0x4000_0000);
-    let (_, start0) = heap.boundaries();
-    let tail = heap.info(heap.ephemeral()).end;
-    assert!(rt; start0 <= tail);
     contexts.refill(heap, types, t, size)?;
     heap.hole(t)
 }
@@ -63,16 +60,16 @@ fn refill_each(
 }
 
 #[test]
-fn a_context_is_filled_from_its_front(rt: HostRuntime) -> Result<(), Fail> {
+fn a_size_fits_in_a_context(rt: HostRuntime) -> Result<(), Fail> {
     let (types, mut heap, mut contexts) = started(rt.alloc())?;
     assert!(rt; !contexts.fits(&heap, 1, 24));
     let context = refilled(&rt, &mut contexts, &mut heap, &types, 1, 24);
     assert_eq!(rt; context, Some((0x1000_1000, 0x1000_3000)));
     assert!(rt; contexts.fits(&heap, 1, 24));
-    assert_eq!(rt; contexts.take(&mut heap, 1, 24), Some(0x1000_1000));
-    assert_eq!(rt; contexts.take(&mut heap, 1, 8152), None);
-    assert_eq!(rt; contexts.take(&mut heap, 1, 8168), Some(0x1000_1018));
-    assert_eq!(rt; heap.hole(1), None);
+    assert!(rt; contexts.fits(&heap, 1, 8168));
+    assert!(rt; !contexts.fits(&heap, 1, 8176));
+    assert!(rt; contexts.fits(&heap, 1, 8192));
+    assert!(rt; !contexts.fits(&heap, 1, 8200));
     Ok(())
 }
 
@@ -100,7 +97,7 @@ fn contexts_come_from_free_items(rt: HostRuntime) -> Result<(), Fail> {
 #[test]
 fn an_item_is_put_in(rt: HostRuntime) {
     let mut items = Vec::new(rt.alloc());
-    assert!(rt; insert_item(&mut items, FreeItem::between(0x1000, 0x1020)));
+    assert!(rt; insert_item(&mut items, Span::between(0x1000, 0x1020)));
     let found = first_in(&items, 32);
     assert_eq!(rt; found.map(|item| item.place()), Some(0x1000));
     assert!(rt; first_in(&items, 24).is_none());

@@ -39,7 +39,9 @@ loop-low-preserved c =
     let count : lower_count c.args.place ps ≤ middle =
     elim (cases_lt middle (lower_count c.args.place ps)) [
       | inl wrong ↦
-          let passes = ltb-true (get_or ps middle d).place c.args.place (prefix_len_passes (λ (p : Piece). nat_lt p.place c.args.place) ps middle d wrong) in
+          let passes =
+          ltb-true (get_or ps middle d).place c.args.place
+          (prefix_len_passes (λ (p : Piece). nat_lt p.place c.args.place) ps middle d wrong) in
           absurd (omega (arith, at, read, high, passes))
       | inr right ↦ right
     ] in

@@ -3,7 +3,9 @@ use Rattle.clr_ctx.specs.Items.{lower_count}
 use Rattle.clr_ctx.proofs.items.count_below.Given as goal
 
 abbrev pub invariant-loop-low : goal.invariant-loop-low
-invariant-loop-low l = (l.low ≤ lower_count l.fn.place l.fn.items.items) × (lower_count l.fn.place l.fn.items.items ≤ l.high) × (l.high ≤ length l.fn.items.items)
+invariant-loop-low l =
+    (l.low ≤ lower_count l.fn.place l.fn.items.items) × (lower_count l.fn.place l.fn.items.items ≤ l.high)
+    × (l.high ≤ length l.fn.items.items)
 
 abbrev pub decreases-loop-low : goal.decreases-loop-low
 decreases-loop-low l = l.high - l.low

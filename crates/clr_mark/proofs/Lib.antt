@@ -1,4 +1,3 @@
-pub mod Standing
 pub mod Remarking
 pub mod Held
 pub mod References

@@ -2,11 +2,10 @@
 #![tactic(auto)]
 
 pub use crate::marker::Marker;
-pub use crate::no_memory::NoMemory;
 pub use crate::roots::mark_from;
+pub use clr_mem::NoMemory;
 
 mod marker;
-mod no_memory;
 mod roots;
 #[cfg(test)]
 mod tests;

@@ -1,13 +1,13 @@
 // The marker: a stack of objects to follow, and the range of those that had no room on it.
-ghost use Rattle.std.specs.Prelude.{◌≡◌, ◌≢◌, ℕ, ◌+◌, ◌/◌, ◌%◌, ◌<◌, ◌≤◌, ◌^◌, ◌↔◌, ◌⊎◌, Bool, true, false, [], ◌∷◌, ◌++◌, length, nat_le, IfOk, None};
+ghost use Rattle.std.specs.Prelude.{◌≡◌, ◌≢◌, ℕ, ◌+◌, ◌/◌, ◌%◌, ◌<◌, ◌≤◌, ◌^◌, ◌↔◌, ◌⊎◌, Bool, true, false, [], ◌∷◌};
+ghost use Rattle.std.specs.Prelude.{◌++◌, length, nat_le, IfOk, None};
 ghost use Rattle.clr_types.specs.Rising.{IsIn};
 ghost use Rattle.clr_heap.specs.Memories.{HasWord, memory_index};
 ghost use Rattle.clr_heap.specs.View.{word_of};
 ghost use Rattle.clr_model.specs.Reach.{Reach};
 ghost use Rattle.clr_view.specs.SlotValues.{StandsAt};
 ghost use Rattle.clr_view.specs.Marks.{has_mark, Marked};
-ghost use Rattle.clr_mark.specs.Marks.{IsClosed, IsRemarked, LeadsTo, with_mark};
-ghost use Rattle.clr_mark.specs.Marks as marks;
+ghost use Rattle.clr_mark.specs.Marks.{is_condemned_place, IsClosed, IsRemarked, LeadsTo, with_mark};
 ghost use Rattle.clr_mark.specs.Markings.{HasGrayed};
 ghost use Rattle.clr_mark.specs.Waiting.{IsGray, widened, with_next, with_waiting};
 
@@ -25,8 +25,8 @@ mod targets;
 mod unmark;
 mod wide;
 
-/// What marking needs: the objects whose slots are still to be followed, on a stack, and the lowest and the highest place of
-/// those that had no room on it.
+/// What marking needs: the objects whose slots are still to be followed, on a stack, and the lowest and the highest
+/// place of those that had no room on it.
 ///
 /// The mark is the low bit of an object's method table word. Marking takes no memory.
 #[derive(Drop)]
@@ -42,12 +42,17 @@ impl Model for Marker {
 
     ghost Value = { MarkerView };
 
-    ghost view = { λ m. record { stack = m.stack.items; capacity = vec_capacity m.stack; range = m.range; oldest = m.oldest } };
+    ghost view = { λ m. record {
+      stack = m.stack.items;
+      capacity = vec_capacity m.stack;
+      range = m.range;
+      oldest = m.oldest;
+    } };
 }
 
 impl Marker {
-    /// A marker with room for `capacity` objects on its stack, for collections of all generations. This is the only call that
-    /// takes memory: `NoMemory` where there is none for the stack.
+    /// A marker with room for `capacity` objects on its stack, for collections of all generations. This is the only
+    /// call that takes memory: `NoMemory` where there is none for the stack.
     pub fn new(alloc: Global, capacity: usize) -> Result<Marker, NoMemory>
         requires { 1 ≤ capacity }
         ensures { IfOk result (λ m. m ≡ record { stack = []; capacity = capacity; range = None; oldest = 2 }) }
@@ -76,6 +81,13 @@ impl Marker {
         &self.stack
     }
 
+    /// The oldest condemned generation.
+    pub fn oldest(&self) -> u8
+        ensures { result ≡ self.now.oldest }
+    {
+        self.oldest
+    }
+
     /// Whether the object at `obj` is marked.
     pub fn is_marked(&self, heap: &Heap, obj: u64) -> bool
         requires { HasWord heap.now.memories obj }
@@ -94,7 +106,8 @@ impl Marker {
         ensures marker { self.new ≡ with_waiting heap.old self.old obj }
         ensures gray { IsGray types.now heap.new self.new }
         ensures words { IsRemarked types.now heap.old heap.new }
-        ensures marked { (x : ℕ) → Marked types.now heap.new x ↔ (((x ≡ obj) × (marks.is_condemned heap.old self.old.oldest obj ≡ true)) ⊎ Marked types.now heap.old x) }
+        ensures marked { (x : ℕ) → Marked types.now heap.new x
+            ↔ (((x ≡ obj) × (is_condemned_place heap.old self.old.oldest obj ≡ true)) ⊎ Marked types.now heap.old x) }
     {
         let _ = types.count();
         let k = heap.segment_of(obj);
@@ -109,7 +122,8 @@ impl Marker {
         ensures marker { self.new ≡ record self.old { stack = []; range = None } }
         ensures gray { IsGray types.now heap.new self.new }
         ensures words { IsRemarked types.now heap.old heap.new }
-        ensures marked { (x : ℕ) → Marked types.now heap.new x ↔ Reach (LeadsTo types.now heap.old self.old.oldest) (Marked types.now heap.old) x }
+        ensures marked { (x : ℕ) → Marked types.now heap.new x
+            ↔ Reach (LeadsTo types.now heap.old self.old.oldest) (Marked types.now heap.old) x }
     {
         self.empty_stack(heap, types);
         while let Some((low, high)) = self.take_range() {
@@ -125,7 +139,7 @@ impl Marker {
         ensures empty { self.new.stack ≡ [] }
     {
         while let Some(obj) = self.stack.pop() {
-            self.scan_any(heap, types, obj);
+            self.scan_object(heap, types, obj);
         }
     }
 
@@ -147,13 +161,13 @@ impl Marker {
         }
     }
 
-    // The same for a condemned object, where the stack has room. It decides nothing: often whether an object is marked already
-    // can't be foreseen.
+    // The same for a condemned object, where the stack has room. It decides nothing: often whether an object is marked
+    // already can't be foreseen.
     #[inline]
     fn mark_with_room(&mut self, heap: &mut Heap, k: usize, obj: u64)
         requires word { HasWord heap.old.memories obj }
         requires segment { k ≡ memory_index heap.old.memories obj }
-        requires condemned { marks.is_condemned heap.old self.old.oldest obj ≡ true }
+        requires condemned { is_condemned_place heap.old self.old.oldest obj ≡ true }
         requires room { length self.old.stack < self.old.capacity }
         ensures heap { heap.new ≡ with_mark heap.old self.old.oldest obj }
         ensures marker { self.new ≡ with_waiting heap.old self.old obj }
@@ -170,7 +184,7 @@ impl Marker {
     fn mark_without_room(&mut self, heap: &mut Heap, k: usize, obj: u64)
         requires word { HasWord heap.old.memories obj }
         requires segment { k ≡ memory_index heap.old.memories obj }
-        requires condemned { marks.is_condemned heap.old self.old.oldest obj ≡ true }
+        requires condemned { is_condemned_place heap.old self.old.oldest obj ≡ true }
         requires full { self.old.capacity ≤ length self.old.stack }
         ensures heap { heap.new ≡ with_mark heap.old self.old.oldest obj }
         ensures marker { self.new ≡ with_waiting heap.old self.old obj }
@@ -185,7 +199,7 @@ impl Marker {
     // Whether the object at `obj` is condemned.
     #[inline]
     fn is_condemned(&self, heap: &Heap, obj: u64) -> bool
-        ensures { result ≡ marks.is_condemned heap.now self.now.oldest obj }
+        ensures { result ≡ is_condemned_place heap.now self.now.oldest obj }
     {
         self.oldest >= 2 || heap.gen_of(obj) <= self.oldest
     }

@@ -2,6 +2,7 @@ pub mod Rules
 pub mod FreeHeads
 pub mod Filling
 pub mod Tallies
+pub mod Parting
 pub mod Passing
 pub mod PassEnds
 pub mod Agreeing
@@ -12,3 +13,8 @@ pub mod SurvivorsSwept
 pub mod LayoutSwept
 pub mod TallySwept
 pub mod WholeSwept
+pub mod YoungPart
+pub mod YoungSurvivors
+pub mod YoungSwept
+pub mod YoungLayout
+pub mod YoungWhole

@@ -1,19 +1,26 @@
 -- What a sweep of each segment's items makes of the heap, in the machine's words.
-use Rattle.std.proofs.Common.{◌≡◌, ℕ, sym, ap, subst, ◌∙◌, Bool, List}
+use Rattle.std.proofs.Common.{◌≡◌, ◌⊎◌, ℕ, ◌+◌, ◌<◌, ◌≤◌, sym, ap, subst, ◌∙◌, Bool, true, not, ◌||◌, if◌then◌else◌}
+use Rattle.std.proofs.Common.{List}
+use Rattle.std.proofs.lemmas.Bool.{le-leb}
+use Rattle.clr_types.specs.Segments.{generation}
+use Rattle.clr_types.proofs.ListMembers.{filter-on}
 use Rattle.clr_types.specs.Types.{TypeRow}
-use Rattle.clr_heap.specs.View.{HeapView, IsHeap, no_rests}
+use Rattle.clr_heap.specs.View.{frame, heap_items, HeapView, IsHeap, last_of, no_rests, segment_at, word_of}
 use Rattle.clr_model.specs.Lawful.{IsLaid}
 use Rattle.clr_model.specs.Machine.{Machine}
 use Rattle.clr_model.specs.Sweep.{survivors}
-use Rattle.clr_view.specs.View.{IsHeld, layout_in}
-use Rattle.clr_sweep.specs.Swept.{HasSwept, IsMemoryOf, swept_layout, TestsMarks}
-use Rattle.clr_sweep.specs.SweptItems.{HasSweptItems}
-use Rattle.clr_sweep.proofs.SurvivorsSwept.{seen}
+use Rattle.clr_model.proofs.LawfulSurvivors.{generation-least}
+use Rattle.clr_view.specs.View.{IsHeld, layout_in, objects_in}
+use Rattle.clr_view.specs.Memory.{is_left, is_marked, is_reached_by, IsMemoryOf, TestsMarks, word_without_mark}
+use Rattle.clr_sweep.specs.Swept.{HasSwept, swept_layout, tally_of}
+use Rattle.clr_sweep.specs.SweptItems.{HasSweptItems, tally_among}
+use Rattle.clr_sweep.proofs.SurvivorsSwept.{part-start, seen}
 use Rattle.clr_sweep.proofs.ObjectsSwept.{swept_cells, swept_held, swept_limit, swept_objects, swept_unmarked}
-use Rattle.clr_sweep.proofs.LayoutSwept.{layout_swept}
+use Rattle.clr_sweep.proofs.LayoutSwept.{layout_swept, part-taken}
+use Rattle.clr_sweep.proofs.TallySwept.{tally_all, tally_swept}
 
 -- a machine whose memory the heap is, is what is seen in the heap
-memory-seen : (rows : List TypeRow) (h : HeapView) (m : Machine) → IsMemoryOf rows h m → m ≡ seen rows h m
+pub memory-seen : (rows : List TypeRow) (h : HeapView) (m : Machine) → IsMemoryOf rows h m → m ≡ seen rows h m
 memory-seen rows h m memory =
     let types = memory.types in
     let objects = memory.objects in
@@ -21,24 +28,48 @@ memory-seen rows h m memory =
     λ k. record m { types = types k; objects = objects k; layout = layout k }
 
 -- all machines whose memory it is are laid alike
-seen-alike : (rows : List TypeRow) (h : HeapView) (m other : Machine) → IsLaid (seen rows h m) → IsLaid (seen rows h other)
-seen-alike rows h m other laid = record { layout = laid.layout; housed = laid.housed; tiled = laid.tiled; whole1 = laid.whole1; whole0 = laid.whole0 }
+pub seen-alike : (rows : List TypeRow) (h : HeapView) (m other : Machine) → IsLaid (seen rows h m)
+    → IsLaid (seen rows h other)
+seen-alike rows h m other laid = record {
+  layout = laid.layout;
+  housed = laid.housed;
+  tiled = laid.tiled;
+  whole1 = laid.whole1;
+  whole0 = laid.whole0;
+}
 
-module _ (rows : List TypeRow) (old new : HeapView) (swept : HasSweptItems rows old new) (heap : IsHeap old) (held : IsHeld rows old) (none : old.rests ≡ no_rests) where
-  layout-told : (base : Machine) → IsMemoryOf rows old base → IsLaid base → (m : Machine) (kept : ℕ → Bool) → IsMemoryOf rows old m → TestsMarks rows old kept → layout_in rows new ≡ swept_layout m.layout (survivors m 2 kept)
+-- a sweep of all generations goes over every place
+pub all_swept_over : (h : HeapView) (place : ℕ) → is_reached_by h 2 place ≡ true
+all_swept_over h place = le-leb (generation (frame h) place) 2 (generation-least (frame h) place)
+
+module _ (rows : List TypeRow) (old new : HeapView) (swept : HasSweptItems rows old new) (heap : IsHeap old)
+    (held : IsHeld rows old) (none : old.rests ≡ no_rests) where
+  layout-told : (base : Machine) → IsMemoryOf rows old base → IsLaid base → (m : Machine) (kept : ℕ → Bool)
+      → IsMemoryOf rows old m → TestsMarks rows old 2 kept
+      → layout_in rows new ≡ swept_layout m.layout 2 (survivors m 2 kept)
   layout-told base memory laid m kept memory_too tests =
       let seen_laid : IsLaid (seen rows old base) = subst IsLaid (memory-seen rows old base memory) laid in
       layout_swept rows old new m swept heap held none (seen-alike rows old base m seen_laid) kept tests
-      ∙ ap (λ (x : Machine). swept_layout x.layout (survivors x 2 kept)) (sym (memory-seen rows old m memory_too))
+      ∙ ap (λ (x : Machine). swept_layout x.layout 2 (survivors x 2 kept)) (sym (memory-seen rows old m memory_too))
 
-  -- THE SWEEP, in the machine's words
-  pub has_swept : (base : Machine) × IsMemoryOf rows old base × IsLaid base → HasSwept rows old new
+  -- THE SWEEP of all generations, in the machine's words
+  pub has_swept : (base : Machine) × IsMemoryOf rows old base × IsLaid base → HasSwept rows old new 2
   has_swept (base, memory, laid) = record {
-    objects = swept_objects rows old new swept heap held;
+    objects = swept_objects rows old new swept heap held
+        ∙ filter-on (is_marked old) (is_left old 2) (objects_in rows old)
+        (λ o l. sym (ap (λ (b : Bool). not b || is_marked old o) (all_swept_over old o.place)));
     layout = layout-told base memory laid;
-    cells = swept_cells rows old new swept heap held;
-    unmarked = swept_unmarked rows old new swept heap held;
-    free_heads = swept.free_heads;
+    cells = λ i b l object z low high. swept_cells rows old new swept heap held i b l object z low high
+        ∙ sym (ap (λ (t : Bool). if t then word_without_mark old i b else word_of old b) (all_swept_over old i.place));
+    outside = λ b z away. swept.outside b z (λ j l. subst (λ n. (b + 8 < n) ⊎ (last_of old j ≤ b + 8))
+        (part-start (frame old) (segment_at old j)) (away j l (part-taken (segment_at old j).kind)));
+    unmarked = λ x marked. absurd (swept_unmarked rows old new swept heap held x marked);
+    free_heads = λ _. swept.free_heads;
     limit = swept_limit rows old new swept heap held;
     held = swept_held rows old new swept heap held none;
   }
+
+  -- and its counts
+  pub has_counted : tally_among old (heap_items rows old) ≡ tally_of rows old 2
+  has_counted = sym (tally_all old 2 (heap_items rows old) (λ i l. all_swept_over old i.place))
+      ∙ tally_swept rows old 2 heap held

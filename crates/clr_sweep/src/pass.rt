@@ -2,24 +2,19 @@
 ghost use Rattle.std.specs.Prelude.{◌≡◌, ℕ, ◌+◌, ◌-◌, ◌<◌, ◌≤◌, ◌^◌, ◌⊎◌, ◌&&◌, length, if◌then◌else◌};
 ghost use Rattle.clr_heap.specs.Memories.{HasWord, memory_index};
 ghost use Rattle.clr_heap.specs.Parts.{item_at, unmarked};
-ghost use Rattle.clr_heap.specs.View.{first_of, freed, IsWalkable, last_of, listing, no_rests, stored, word_of};
+ghost use Rattle.clr_heap.specs.View.{freed, last_of, no_rests, stored, word_of};
 ghost use Rattle.clr_view.specs.Marks.{has_mark};
 ghost use Rattle.clr_view.specs.View.{is_object};
 ghost use Rattle.clr_sweep.specs.Passes.{CanFill, CanStep, filled, IsAtMost, item_tally, plus, stepped, stepped_heap};
-ghost use Rattle.clr_sweep.specs.SweptItems.{is_cut, tally_among};
-ghost use Rattle.clr_sweep.specs.SweptSegments.{HasSweptSegment};
+ghost use Rattle.clr_sweep.specs.SweptItems.{is_cut, items_from, tally_among};
+ghost use Rattle.clr_sweep.specs.SweptSegments.{HasSweptSegment, IsParted};
 
 use crate::tally::Tally;
 use clr_heap::{Heap, Item};
-use clr_types::Types;
+use clr_types::{FREE_MT, Types};
 
-/// How far the first place of a segment stands above its base.
-const FIRST_OFFSET: u64 = 0x1000;
-
-/// The method table word of a free item.
-const FREE_MT: u64 = 0x0000_7ff0_0000_0000;
-
-// Where a pass stands, where the run begins of what doesn't stay, where the last item that stays ended, and the counts so far.
+// Where a pass stands, where the run begins of what doesn't stay, where the last item that stays ended, and the counts
+// so far.
 #[derive(Clone, Copy)]
 struct Pass {
     place: u64,
@@ -28,24 +23,29 @@ struct Pass {
     tally: Tally,
 }
 
-// Makes one free item of each run of what doesn't stay in segment `k`, clears the marks of what does, moves the segment's end down
-// to the last item that stays, and adds to the counts.
-pub(crate) fn sweep_segment(heap: &mut Heap, types: &Types, k: usize, tally: Tally) -> Tally
+// Sweeps the part of segment `k` from `from` on: makes one free item of each run of what doesn't stay, clears the marks
+// of what does, moves the segment's end down to the last item that stays, and adds to the counts.
+pub(crate) fn sweep_segment(
+    heap: &mut Heap,
+    types: &Types,
+    k: usize,
+    from: u64,
+    tally: Tally,
+) -> Tally
     requires in_range { k < length heap.old.segments }
-    requires walkable { IsWalkable types.now heap.old k }
+    requires parted { IsParted types.now heap.old k from }
     requires no_contexts { heap.old.rests ≡ no_rests }
-    requires counted { IsAtMost tally (first_of heap.old k) }
-    ensures swept { HasSweptSegment types.now heap.old heap.new k }
-    ensures tally { result ≡ plus tally (tally_among heap.old (listing types.now heap.old k)) }
+    requires counted { IsAtMost tally from }
+    ensures swept { HasSweptSegment types.now heap.old heap.new k from }
+    ensures tally { result ≡ plus tally (tally_among heap.old (items_from types.now heap.old k from)) }
     ensures counted { IsAtMost result (last_of heap.old k) }
 {
-    let _ = heap.segments();
+    heap.lawful();
     let segment = heap.info(k);
-    let first = segment.base + FIRST_OFFSET;
     let mut pass = Pass {
-        place: first,
-        run: first,
-        last: first,
+        place: from,
+        run: from,
+        last: from,
         tally,
     };
     while pass.place < segment.end {
@@ -133,7 +133,8 @@ fn keep(heap: &mut Heap, k: usize, run: u64, place: u64, mt: u64)
     heap.set_word_at(k, place, mt / 2 * 2);
 }
 
-// Ends the run at `next` where a generation begins there, and answers where the run begins that the next item belongs to.
+// Ends the run at `next` where a generation begins there, and answers where the run begins that the next item belongs
+// to.
 #[inline]
 fn end_run(heap: &mut Heap, k: usize, run: u64, next: u64) -> u64
     requires gap { run + 24 ≤ next }

@@ -1,57 +1,90 @@
-// A full sweep of all segments.
-ghost use Rattle.std.specs.Prelude.{◌≡◌, min};
-ghost use Rattle.clr_heap.specs.View.{heap_items, no_rests};
+// A sweep of a generation and of all younger ones.
+ghost use Rattle.std.specs.Prelude.{◌≡◌, ℕ, ◌<◌, ◌≤◌, length};
+ghost use Rattle.clr_heap.specs.View.{frame, heap_items, IsHeap, no_rests, segment_at};
 ghost use Rattle.clr_model.specs.Lawful.{IsLaid};
 ghost use Rattle.clr_model.specs.Machine.{Machine};
-ghost use Rattle.clr_view.specs.View.{IsHeld, tail_of};
-ghost use Rattle.clr_sweep.specs.Swept.{HasSwept, IsMemoryOf, tally_of};
-ghost use Rattle.clr_sweep.specs.SweptItems.{HasSweptItems, tally_among};
+ghost use Rattle.clr_types.specs.Segments.{ephemeral};
+ghost use Rattle.clr_view.specs.View.{IsHeld};
+ghost use Rattle.clr_view.specs.Memory.{IsMemoryOf};
+ghost use Rattle.clr_sweep.specs.Swept.{HasSwept, tally_of};
+ghost use Rattle.clr_sweep.specs.SweptItems.{aged, HasSweptItems, tally_among, young_start};
+ghost use Rattle.clr_sweep.specs.SweptSegments.{HasSweptYoung, IsParted};
 
 use crate::pass::sweep_segment;
 use crate::tally::Tally;
 use clr_heap::Heap;
-use clr_types::Types;
+use clr_types::{FIRST_OFFSET, Types};
 
-/// Sweeps all segments, and counts. What isn't a marked object becomes free: each longest run of it inside one old generation is
-/// one free item, and behind the last marked object the segment ends. Marked objects stay where they are, without their marks.
-/// The head of each free item is written anew, so that no free item carries a mark. Each generation becomes the next older one.
-pub fn sweep(heap: &mut Heap, types: &Types) -> Tally
+/// Sweeps the objects of generation `g` and of all younger ones, and counts them. Those that aren't marked become free:
+/// in the part of the heap where such objects stand, each longest run of what doesn't stay inside one old generation is
+/// one free item, and behind the last marked object the segment ends. Marked objects stay where they are, without their
+/// marks. The head of each new free item is written anew, so that none carries a mark. Each of these generations
+/// becomes the next older one. Nothing else changes: a sweep of generation 0 or 1 goes over the young part of the
+/// ephemeral segment alone.
+pub fn sweep(heap: &mut Heap, types: &Types, g: u8) -> Tally
     requires held { IsHeld types.now heap.old }
     requires no_contexts { heap.old.rests ≡ no_rests }
     requires laid { (m : Machine) × IsMemoryOf types.now heap.old m × IsLaid m }
-    ensures swept { HasSwept types.now heap.old heap.new }
-    ensures tally { result ≡ tally_of types.now heap.old }
+    requires generation { g ≤ 2 }
+    ensures swept { HasSwept types.now heap.old heap.new g }
+    ensures tally { result ≡ tally_of types.now heap.old g }
 {
-    let _ = heap.segments();
-    sweep_segments(heap, types)
+    heap.lawful();
+    if g == 2 {
+        sweep_segments(heap, types)
+    } else {
+        sweep_young(heap, types, g)
+    }
 }
 
-// The same, told by the items of each segment.
+// The same for all generations, told by the items of each segment.
 fn sweep_segments(heap: &mut Heap, types: &Types) -> Tally
     requires held { IsHeld types.now heap.old }
     requires no_contexts { heap.old.rests ≡ no_rests }
     ensures swept { HasSweptItems types.now heap.old heap.new }
     ensures tally { result ≡ tally_among heap.old (heap_items types.now heap.old) }
 {
-    let mut tally = Tally {
-        kept: 0,
-        freed: 0,
-        promoted1: 0,
-        promoted2: 0,
-    };
+    let mut tally = Tally::NONE;
     let count = heap.segments();
     for k in 0..count {
-        tally = sweep_segment(heap, types, k, tally);
+        let from = heap.info(k).base + FIRST_OFFSET;
+        tally = sweep_segment(heap, types, k, from, tally);
     }
-    age(heap);
+    age(heap, 2);
     tally
 }
 
-// What was generation 0 begins where generation 1 ends, and generation 0 begins at the end of the ephemeral segment.
-fn age(heap: &mut Heap)
-    ensures { heap.new ≡ record heap.old { start1 = min heap.old.start0 (tail_of heap.old); start0 = tail_of heap.old } }
+// The same for generation 0 or for the generations 0 and 1, told by the items of the ephemeral segment.
+fn sweep_young(heap: &mut Heap, types: &Types, g: u8) -> Tally
+    requires no_contexts { heap.old.rests ≡ no_rests }
+    requires parted { (k : ℕ) → k < length heap.old.segments → segment_at heap.old k ≡ ephemeral (frame heap.old)
+        → IsParted types.now heap.old k (young_start heap.old g) }
+    ensures swept { HasSweptYoung types.now heap.old heap.new g result }
+    ensures heap { IsHeap heap.new }
+{
+    let k = heap.ephemeral();
+    let from = start_of(heap, g);
+    let tally = sweep_segment(heap, types, k, from, Tally::NONE);
+    age(heap, g);
+    heap.lawful();
+    tally
+}
+
+// Where the part of the ephemeral segment begins that a sweep of generation 0 or 1 goes over.
+fn start_of(heap: &Heap, g: u8) -> u64
+    ensures { result ≡ young_start heap.now g }
+{
+    let (start1, start0) = heap.boundaries();
+    if g == 0 { start0 } else { start1 }
+}
+
+// What was generation 0 begins where generation 1 ends, what was generation 1 is older now, and generation 0 begins at
+// the end of the ephemeral segment.
+fn age(heap: &mut Heap, g: u8)
+    ensures { heap.new ≡ aged heap.old g }
 {
     let tail = heap.info(heap.ephemeral()).end;
-    let (_, start0) = heap.boundaries();
-    heap.set_boundaries(start0.min(tail), tail);
+    let (start1, start0) = heap.boundaries();
+    let old = if g == 0 { start1 } else { start0.min(tail) };
+    heap.set_boundaries(old, tail);
 }

@@ -2,12 +2,15 @@
 ghost use Rattle.std.specs.Prelude.{◌≡◌, ℕ, [], None, Some};
 ghost use Rattle.clr_model.specs.Collection.{Collects};
 ghost use Rattle.clr_model.specs.Lawful.{IsPlaceNamed};
-ghost use Rattle.clr_model.specs.Machine.{Options, Sums};
+ghost use Rattle.clr_model.specs.Lookups.{lowest_in_step};
+ghost use Rattle.clr_model.specs.Machine.{Machine};
+ghost use Rattle.clr_model.specs.Picture.{picture};
+ghost use Rattle.clr_view.specs.Clean.{AreClean};
 ghost use Rattle.clr_view.specs.Marks.{IsUnmarked};
-ghost use Rattle.clr_view.specs.Shown.{shown};
 ghost use Rattle.clr_view.specs.View.{AreFreeHeads, IsHeld};
 ghost use Rattle.clr_ctx.specs.Contexts.{IsIndex};
-ghost use Rattle.clr_collect.specs.Collecting.{collected_sums, HasMarkedReached, KeepsKept};
+ghost use Rattle.clr_collect.specs.Collecting.{HasMarkedKept};
+ghost use Rattle.clr_collect.specs.World.{bare_world, IsWorldOf};
 
 use crate::releasing::release_empty;
 use clr_ctx::Contexts;
@@ -17,13 +20,16 @@ use clr_model::{Collected, How};
 use clr_sweep::sweep;
 use clr_types::Types;
 
-/// A full collection that sweeps: the contexts are given up, exactly the objects that the locals reach stay, where they are, and
-/// all else becomes free. Each object that stays becomes one generation older, up to 2. Segments in which nothing stands any more
-/// are given back, but for the ephemeral one and the first large one.
+/// A full collection that sweeps: the contexts are given up, exactly the objects that the locals reach stay, where they
+/// are, and all else becomes free. Each object that stays becomes one generation older, up to 2. Segments in which
+/// nothing stands any more are given back, but for the ephemeral one and the first large one.
 ///
-/// The answer counts the objects that stay and those that go, and the bytes that went from generation 0 to 1 and from 1 to 2.
-/// Nothing is marked before and after, and afterwards no free item's head is. No word of an object that stays changes, its slots
-/// included. A local is 0 or the place of an object. It takes no memory, and leaves the index of a heap without free items in
+/// It is the collection of every machine that has this memory and these locals, has no handles, finalisation entries
+/// and f-reachable queue, and has no thread between the halves of a step. Sums and options are that machine's own.
+///
+/// The answer counts the objects that stay and those that go, and the bytes that went from generation 0 to 1 and from 1
+/// to 2. Nothing is marked before and after, and afterwards no free item's head is. Headers and padding stay clean. A
+/// local is 0 or the place of an object. It takes no memory, and leaves the index of a heap without free items in
 /// generation 0.
 pub fn collect(
     types: &Types,
@@ -34,22 +40,24 @@ pub fn collect(
 ) -> Collected
     requires held { IsHeld types.now heap.old }
     requires unmarked { IsUnmarked types.now heap.old }
-    requires index { IsIndex types.now heap.old contexts.old }
-    requires sound { (sums : Sums) × (options : Options) × IsPlaceNamed (shown types.now heap.old locals.now sums options) }
-    ensures collected { (sums : Sums) (options : Options) → Collects (shown types.now heap.old locals.now sums options) 2 How.Sweep result (shown types.now heap.new locals.now (collected_sums result) options) }
+    requires world { (m : Machine) × IsWorldOf (bare_world types.now heap.old locals.now) m × IsPlaceNamed m
+        × (lowest_in_step m ≡ None) }
+    ensures collected { (m : Machine) → IsWorldOf (bare_world types.now heap.old locals.now) m → IsPlaceNamed m
+        → lowest_in_step m ≡ None → (after : Machine) × Collects m 2 How.Sweep result after
+        × IsWorldOf (bare_world types.now heap.new locals.now) (picture after) }
     ensures held { IsHeld types.now heap.new }
     ensures unmarked { IsUnmarked types.now heap.new }
     ensures free_heads { AreFreeHeads types.now heap.new }
+    ensures clean { AreClean types.now heap.old → AreClean types.now heap.new }
     ensures forgotten { contexts.new ≡ Some [] }
     ensures index { IsIndex types.now heap.new contexts.new }
     ensures limit { heap.new.limit ≡ heap.old.limit }
-    ensures cells { KeepsKept types.now heap.old heap.new }
     ensures marker { marker.new ≡ record marker.old { stack = []; range = None; oldest = 2 } }
 {
-    let _ = heap.segments();
+    heap.lawful();
     mark_reached(types, heap, marker, contexts, locals);
-    let tally = sweep(heap, types);
-    let _ = heap.segments();
+    let tally = sweep(heap, types, 2);
+    heap.lawful();
     release_empty(heap, types);
     contexts.forget();
     Collected {
@@ -62,7 +70,7 @@ pub fn collect(
     }
 }
 
-// Gives up the contexts, and marks exactly what the locals reach.
+// Gives up the contexts, and marks exactly what a full collection keeps.
 fn mark_reached(
     types: &Types,
     heap: &mut Heap,
@@ -72,15 +80,14 @@ fn mark_reached(
 )
     requires held { IsHeld types.now heap.old }
     requires unmarked { IsUnmarked types.now heap.old }
-    requires index { IsIndex types.now heap.old contexts.old }
-    requires sound { (sums : Sums) × (options : Options) × IsPlaceNamed (shown types.now heap.old locals.now sums options) }
-    ensures marked { HasMarkedReached types.now heap.old heap.new locals.now }
+    requires world { (m : Machine) × IsWorldOf (bare_world types.now heap.old locals.now) m × IsPlaceNamed m }
+    ensures marked { HasMarkedKept (bare_world types.now heap.old locals.now) heap.new 2 }
     ensures marker { marker.new ≡ record marker.old { stack = []; range = None; oldest = 2 } }
 {
-    let _ = heap.segments();
+    heap.lawful();
     contexts.lose();
     contexts.give_up_all(heap, types);
-    let _ = heap.segments();
+    heap.lawful();
     mark_from(marker, heap, types, 2, locals);
-    let _ = heap.segments();
+    heap.lawful();
 }

@@ -1,37 +1,48 @@
-use Rattle.clr_collect.proofs.KeptCells.{kept_cells, none_marked}
 use Rattle.clr_collect.proofs.SegmentsLost.{lost_heads}
-use Rattle.clr_collect.proofs.WholeCollection.{memory_laid, new_index, swept_rests, whole_collected}
+use Rattle.clr_collect.proofs.WholeCollection.{clean_after, memory_laid, new_index, none_given, none_marked}
+use Rattle.clr_collect.proofs.WholeCollection.{whole_collected}
 use Rattle.clr_collect.proofs.collecting.collect.Goals as goal
-use Rattle.std.proofs.Common.{refl}
+use Rattle.std.proofs.Common.{inl, refl}
+
+pub mark_reached-requires-clause-world : goal.mark_reached-requires-clause-world
+mark_reached-requires-clause-world c = let (m, w, named, idle) = c.requires.world in (m, w, named)
 
 pub sweep-tally-requires-clause-laid : goal.sweep-tally-requires-clause-laid
-sweep-tally-requires-clause-laid c = memory_laid c.args.types.now c.args.heap.now c.mark_reached.new.heap c.args.locals.now c.mark_reached.ensures.marked c.requires.sound
+sweep-tally-requires-clause-laid c =
+    memory_laid c.args.types.now c.args.heap.now c.mark_reached.new.heap c.args.locals.now c.mark_reached.ensures.marked
+    c.requires.world
 
 pub release_empty-requires-clause-no_contexts : goal.release_empty-requires-clause-no_contexts
 release_empty-requires-clause-no_contexts c =
-    swept_rests c.args.types.now c.args.heap.now c.mark_reached.new.heap c.args.locals.now c.mark_reached.ensures.marked c.requires.sound c.sweep-tally.new.heap c.segments-2.ensures.heap c.sweep-tally.ensures.swept
+    none_given c.args.types.now c.args.heap.now c.mark_reached.new.heap c.args.locals.now c.mark_reached.ensures.marked
+    c.sweep-tally.new.heap c.lawful-2.ensures c.sweep-tally.ensures.swept c.requires.world
 
 pub returns-clause-collected : goal.returns-clause-collected
 returns-clause-collected c =
-    whole_collected c.args.types.now c.args.heap.now c.mark_reached.new.heap c.args.locals.now c.mark_reached.ensures.marked c.requires.sound c.sweep-tally.new.heap c.segments-2.ensures.heap c.sweep-tally.ensures.swept c.release_empty.new.heap
-    c.release_empty.ensures c.sweep-tally.result c.sweep-tally.ensures.tally _ refl
+    whole_collected c.args.types.now c.args.heap.now c.mark_reached.new.heap c.args.locals.now
+    c.mark_reached.ensures.marked c.sweep-tally.new.heap c.lawful-2.ensures c.sweep-tally.ensures.swept
+    c.release_empty.new.heap c.release_empty.ensures c.sweep-tally.result c.sweep-tally.ensures.tally _ refl
 
 pub returns-clause-unmarked : goal.returns-clause-unmarked
 returns-clause-unmarked c =
-    none_marked c.args.types.now c.args.heap.now c.mark_reached.new.heap c.sweep-tally.new.heap c.release_empty.new.heap c.args.locals.now c.segments.ensures.heap c.requires.held c.mark_reached.ensures.marked c.segments-2.ensures.heap
-    c.sweep-tally.ensures.swept c.release_empty.ensures.lost
+    none_marked c.args.types.now c.args.heap.now c.mark_reached.new.heap c.args.locals.now c.mark_reached.ensures.marked
+    c.sweep-tally.new.heap c.lawful-2.ensures c.sweep-tally.ensures.swept c.release_empty.new.heap
+    c.release_empty.ensures
 
 pub returns-clause-index : goal.returns-clause-index
 returns-clause-index c =
-    new_index c.args.types.now c.args.heap.now c.mark_reached.new.heap c.args.locals.now c.mark_reached.ensures.marked c.requires.sound c.sweep-tally.new.heap c.segments-2.ensures.heap c.sweep-tally.ensures.swept c.release_empty.new.heap
-    c.release_empty.ensures c.forget.new.self c.forget.ensures
+    new_index c.args.types.now c.args.heap.now c.mark_reached.new.heap c.args.locals.now c.mark_reached.ensures.marked
+    c.sweep-tally.new.heap c.lawful-2.ensures c.sweep-tally.ensures.swept c.release_empty.new.heap
+    c.release_empty.ensures c.requires.world c.forget.new.self c.forget.ensures
 
-pub returns-clause-cells : goal.returns-clause-cells
-returns-clause-cells c =
-    kept_cells c.args.types.now c.args.heap.now c.mark_reached.new.heap c.sweep-tally.new.heap c.release_empty.new.heap c.args.locals.now c.segments.ensures.heap c.requires.held c.mark_reached.ensures.marked c.segments-2.ensures.heap
-    c.sweep-tally.ensures.swept c.release_empty.ensures.lost
+pub returns-clause-clean : goal.returns-clause-clean
+returns-clause-clean c =
+    clean_after c.args.types.now c.args.heap.now c.mark_reached.new.heap c.args.locals.now c.mark_reached.ensures.marked
+    c.sweep-tally.new.heap c.lawful-2.ensures c.sweep-tally.ensures.swept c.release_empty.new.heap
+    c.release_empty.ensures
 
 pub returns-clause-free_heads : goal.returns-clause-free_heads
 returns-clause-free_heads c =
     let swept = c.sweep-tally.ensures.swept in
-    lost_heads c.args.types.now c.sweep-tally.new.heap c.release_empty.new.heap c.segments-2.ensures.heap swept.held c.release_empty.ensures.lost swept.free_heads
+    lost_heads c.args.types.now c.sweep-tally.new.heap c.release_empty.new.heap c.lawful-2.ensures swept.held
+    c.release_empty.ensures.lost (swept.free_heads (inl refl))

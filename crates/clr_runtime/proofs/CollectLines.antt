@@ -1,46 +1,127 @@
 -- The line that collects, on what is seen.
-use Rattle.std.proofs.Common.{◌≡◌, ℕ, List, refl, arith, true}
+use Rattle.std.proofs.Common.{◌≡◌, ◌∙◌, ℕ, ◌+◌, List, [], ◌∷◌, map, refl, ap, subst, arith, None}
 use Rattle.clr_types.specs.Types.{TypeRow}
 use Rattle.clr_heap.specs.View.{HeapView}
+use Rattle.clr_view.specs.Clean.{AreClean}
 use Rattle.clr_view.specs.Marks.{IsUnmarked}
 use Rattle.clr_view.specs.Shown.{shown}
-use Rattle.clr_view.specs.View.{AreFreeHeads, IsHeld}
+use Rattle.clr_view.specs.View.{AreFreeHeads, IsHeld, layout_in, objects_in}
 use Rattle.clr_model.specs.declared.Collected.{Collected}
+use Rattle.clr_model.specs.declared.How.{How}
 use Rattle.clr_model.specs.declared.How.TheVariants.{Sweep}
 use Rattle.clr_model.specs.declared.Reply.TheVariants as reply
-use Rattle.clr_model.specs.Collection.{Collects}
+use Rattle.clr_model.specs.Collection.{Collects, sums_after}
 use Rattle.clr_model.specs.Instructions.{collect_heap}
-use Rattle.clr_model.specs.Lookups.{is_thread}
-use Rattle.clr_model.specs.Machine.{Machine, Options, Sums}
+use Rattle.clr_model.specs.Lawful.{IsPlaceNamed}
+use Rattle.clr_model.specs.Lookups.{lowest_in_step, lowest_step_from, place_of}
+use Rattle.clr_model.specs.Machine.{begun_new, begun_store, Machine, no_step, Options, Sums, ThreadStep}
 use Rattle.clr_model.specs.Outcomes.{answered}
+use Rattle.clr_model.specs.Picture.{picture, renamed_step}
 use Rattle.clr_model.specs.Run.{Follows}
-use Rattle.clr_model.proofs.CollectFollows.{sweep_follows}
+use Rattle.clr_model.proofs.CollectFollows.{collect_follows}
 use Rattle.clr_model.proofs.SeenStands.{follows_sound}
-use Rattle.clr_collect.specs.Collecting.{collected_sums}
+use Rattle.clr_collect.specs.World.{bare_world, IsWorldOf, World}
+use Rattle.clr_runtime.specs.Checks.{thread_refusal}
 use Rattle.clr_runtime.specs.RuntimeView.{IsShown}
-use Rattle.clr_runtime.proofs.LocalsSeen.{idle-shown}
 use Rattle.clr_runtime.proofs.NamesChecked.{may_run}
 
-module _ (rows : List TypeRow) (h new : HeapView) (named : List ℕ) (sums : Sums) (options : Options) (t : ℕ) (known : is_thread t ≡ true) (answer : Collected)
-    (collected : Collects (shown rows h named sums options) 2 Sweep answer (shown rows new named (collected_sums answer) options)) where
+-- ---- what a collection leaves of a machine
+
+-- where no thread is in mid-step, other names change nothing of the steps
+still-steps : (to : ℕ → ℕ) (t : ℕ) (steps : List ThreadStep) → lowest_step_from t steps ≡ None
+    → map (renamed_step to) steps ≡ steps
+still-steps to t [] none = refl
+still-steps to t (no_step ∷ steps) none = ap (λ ss. no_step ∷ ss) (still-steps to (t + 1) steps none)
+still-steps to t (begun_store object slot ∷ steps) none = absurd cc
+still-steps to t (begun_new type len local ∷ steps) none = absurd cc
+
+module _ (m : Machine) (g : ℕ) (how : How) (answer : Collected) (after : Machine) (idle : lowest_in_step m ≡ None)
+    (c : Collects m g how answer after) where
+  -- The picture of what a collection leaves, from what it is of memory, locals, handles and queues. Steps, holder and
+  -- options are as before, and the sums are those that the answer gives.
+  pub collected_picture : (w : World) → IsWorldOf w (picture after)
+      → picture after ≡ record m {
+        born = 0;
+        types = w.rows;
+        objects = objects_in w.rows w.heap;
+        layout = layout_in w.rows w.heap;
+        locals = w.locals;
+        handles = w.handles;
+        entries = w.entries;
+        ready = w.ready;
+        sums = sums_after m g answer.promoted1 answer.promoted2;
+      }
+  collected_picture w is =
+      let memory = is.memory in
+      let steps : (picture after).steps ≡ m.steps =
+      ap (map (renamed_step (place_of after.objects))) (ap (λ (n : Machine). n.steps) c.state)
+      ∙ still-steps (place_of after.objects) 1 m.steps idle in
+      λ k. record m {
+        born = 0;
+        types = memory.types k;
+        objects = memory.objects k;
+        layout = memory.layout k;
+        locals = is.locals k;
+        handles = is.handles k;
+        entries = is.entries k;
+        ready = is.ready k;
+        steps = steps k;
+        holder = (c.state k).holder;
+        sums = (c.state k).sums;
+        options = (c.state k).options;
+      }
+
+-- ---- the line
+
+-- the world of a runtime is that of what it shows
+world-seen : {rows : List TypeRow} {h : HeapView} {named : List ℕ} {sums : Sums} {options : Options}
+    → IsWorldOf (bare_world rows h named) (shown rows h named sums options)
+world-seen = record {
+  memory = record { types = refl; objects = refl; layout = refl };
+  locals = refl;
+  handles = refl;
+  entries = refl;
+  ready = refl;
+}
+
+pub whole_world : {rows : List TypeRow} {h : HeapView} {named : List ℕ} {sums : Sums} {options : Options}
+    → IsShown rows h named sums options
+    → (m : Machine) × IsWorldOf (bare_world rows h named) m × IsPlaceNamed m × (lowest_in_step m ≡ None)
+whole_world {rows = rows} {h = h} {named = named} {sums = sums} {options = options} is =
+    (shown rows h named sums options, world-seen, is.sound, refl)
+
+-- the sums after a full collection
+abbrev pub collected_sums : Collected → Sums
+collected_sums answer =
+    record { spent0 = 0; spent_large = 0; promoted1 = answer.promoted1; promoted2 = answer.promoted2 }
+
+module _ {rows : List TypeRow} {h : HeapView} {named : List ℕ} {sums : Sums} {options : Options}
+    (is : IsShown rows h named sums options) (t : ℕ)
+    (passed : thread_refusal (shown rows h named sums options) t ≡ None) (new : HeapView) (answer : Collected)
+    (told : (m : Machine) → IsWorldOf (bare_world rows h named) m → IsPlaceNamed m → lowest_in_step m ≡ None
+    → (after : Machine) × Collects m 2 Sweep answer after × IsWorldOf (bare_world rows new named) (picture after)) where
   abbrev s : Machine
   s = shown rows h named sums options
 
-  abbrev after : Machine
-  after = shown rows new named (collected_sums answer) options
-
   -- the collection is done
-  pub collect_done : Follows s (collect_heap t 2 Sweep) (answered (reply.Collected answer)) after
-  collect_done = sweep_follows s t answer after (may_run s t (idle-shown s refl refl) known) refl collected
+  pub collect_done : Follows (shown rows h named sums options) (collect_heap t 2 Sweep)
+      (answered (reply.Collected answer)) (shown rows new named (collected_sums answer) options)
+  collect_done =
+      let (after, collects, world) = told s world-seen is.sound refl in
+      subst (Follows s (collect_heap t 2 Sweep) (answered (reply.Collected answer)))
+      (collected_picture s 2 Sweep answer after refl collects (bare_world rows new named) world)
+      (collect_follows s t 2 Sweep answer after (omega arith) (may_run s t refl passed) refl collects)
 
   -- what holds of the parts of a runtime still holds
-  pub collect_kept : IsShown rows h named sums options → IsHeld rows new → IsUnmarked rows new → AreFreeHeads rows new → IsShown rows new named (collected_sums answer) options
-  collect_kept is held unmarked heads = record {
+  pub collect_kept : IsHeld rows new → IsUnmarked rows new → AreFreeHeads rows new
+      → (AreClean rows h → AreClean rows new) → IsShown rows new named (collected_sums answer) options
+  collect_kept held unmarked heads clean = record {
     locals = is.locals;
     held = held;
     plain = is.plain;
-    spent = omega arith;
     unmarked = unmarked;
     free_heads = heads;
-    sound = follows_sound s (collect_heap t 2 Sweep) (answered (reply.Collected answer)) after is.sound collect_done;
+    clean = clean is.clean;
+    sound = follows_sound s (collect_heap t 2 Sweep) (answered (reply.Collected answer))
+        (shown rows new named (collected_sums answer) options) is.sound collect_done;
   }

@@ -1,66 +1,162 @@
--- The checks of a line on its thread and its locals, where no thread has begun a step.
-use Rattle.std.proofs.Common.{◌≡◌, ℕ, zero, suc, List, [], ◌∷◌, replicate, refl, ap, ◌∙◌, Bool, true, false, ◌||◌, nat_le, not, Option, Some, None}
-use Rattle.std.specs.Prelude.{slice_get}
+-- The checks on the thread and the locals of a line, on what is seen.
+use Rattle.std.proofs.Common.{◌≡◌, ℕ, ◌++◌, List, [], ◌∷◌, refl, sym, ap, ◌∙◌, Bool, true, false}
+use Rattle.std.proofs.Common.{if◌then◌else◌, ◌&&◌, ◌||◌, ◌==◌, nat_le, not, Option, Some, None}
 use Rattle.std.proofs.lemmas.Bool.{leb-false}
 use Rattle.clr_model.specs.declared.Refusal.{Refusal}
-use Rattle.clr_model.specs.declared.Refusal.TheVariants.{NoSlot, UnknownThread}
-use Rattle.clr_model.specs.Machine.{Machine, no_step}
-use Rattle.clr_model.specs.Lookups.{is_step, is_thread, step_of, step_or_none}
-use Rattle.clr_model.specs.Instructions.{Instruction}
-use Rattle.clr_model.specs.Checks.{first_of_all, refuse_if}
+use Rattle.clr_model.specs.declared.Refusal.TheVariants.{Blocked, MidStep, NoSlot, NotMidStep, UnknownThread}
+use Rattle.clr_model.specs.Machine.{Machine}
+use Rattle.clr_model.specs.Lookups.{is_step, is_thread, step_of}
+use Rattle.clr_model.specs.Instructions.{Instruction, suspend_others}
+use Rattle.clr_model.specs.Picture.{picture}
+use Rattle.clr_model.specs.Checks.{blocked, first_of_all, is_finish, mid_step, not_mid_step, refuse_if, thread_of}
+use Rattle.clr_model.specs.Checks.{unknown_thread, with_some}
 use Rattle.clr_model.specs.Outcomes.{refused}
 use Rattle.clr_model.specs.Run.{Follows}
-use Rattle.clr_model.proofs.Carried.{follows_alike, IsAlike}
-use Rattle.clr_model.proofs.LineChecks.{AreLocals, is_away, IsThreadLine, line_checks, MayRun, obeys_refusal}
-use Rattle.clr_runtime.specs.Checks.{IsIdle, lacks_names}
+use Rattle.clr_model.proofs.Carried.{follows, follows_alike, IsAlike, refusal_carried_by}
+use Rattle.clr_model.proofs.LineChecks.{AreLocals, is_away, is_step-picture, IsThreadLine, MayRun, obeys_refusal}
+use Rattle.clr_runtime.specs.Checks.{names_refusal, thread_refusal}
 
--- that is so where no step was ever begun
-pub no-step : (n i : ℕ) → is_step (step_or_none (slice_get (replicate n no_step) i)) ≡ false
-no-step zero i = refl
-no-step (suc n) zero = refl
-no-step (suc n) (suc i) = no-step n i
+-- ---- the first check that fails
 
-pub may_run : (s : Machine) (t : ℕ) → IsIdle s → is_thread t ≡ true → MayRun s t
-may_run s t idle known = record { thread = known; idle = idle.steps t; unheld = idle.unheld }
+-- one of the first checks fails, or none of them does
+first-some : (checks more : List (Option Refusal)) (r : Refusal) → first_of_all checks ≡ Some r
+    → first_of_all (checks ++ more) ≡ Some r
+first-some [] more r e = absurd cc
+first-some (None ∷ checks) more r e = first-some checks more r e
+first-some (Some q ∷ checks) more r e = e
 
--- what the two checks come to, by what they see
-abbrev lacks_by : Bool → Bool → Option Refusal
-lacks_by known away = first_of_all (refuse_if (not known) UnknownThread ∷ refuse_if away NoSlot ∷ [])
+first-none : (checks more : List (Option Refusal)) → first_of_all checks ≡ None
+    → first_of_all (checks ++ more) ≡ first_of_all more
+first-none [] more e = refl
+first-none (None ∷ checks) more e = first-none checks more e
+first-none (Some q ∷ checks) more e = absurd cc
 
-module _ (i : Instruction) (t : ℕ) (locals : List ℕ) (more : Machine → List (Option Refusal)) (line : IsThreadLine i t locals more) (alike : IsAlike i) (s : Machine) (idle : IsIdle s) where
-  -- the line is refused for the first of them that fails
-  pub names_refused : (r : Refusal) → lacks_names t locals ≡ Some r → Follows s i (refused r) s
-  names_refused r e = follows_alike i alike s (refused r) s (obeys_refusal s i r (line.checks s ∙ go (is_thread t) (is_away locals) e))
-    where
-      go : (known away : Bool) → lacks_by known away ≡ Some r → line_checks t known s.holder (is_step (step_of s t)) away (more s) ≡ Some r
-      go known away e = ap (λ h. line_checks t known h (is_step (step_of s t)) away (more s)) idle.unheld ∙ ap (λ b. line_checks t known None b away (more s)) (idle.steps t) ∙ by known away e
-        where
-          by : (known away : Bool) → lacks_by known away ≡ Some r → line_checks t known None false away (more s) ≡ Some r
-          by false away e = e
-          by true true e = e
-          by true false e = absurd cc
+-- the checks on a thread, as functions of what they see
+abbrev thread_by : ℕ → Bool → Option ℕ → Bool → List (Option Refusal)
+thread_by t known holder stepping =
+    refuse_if (not known) UnknownThread
+    ∷ with_some holder (λ h. refuse_if (not (h == t) && not stepping) (Blocked h))
+    ∷ refuse_if (stepping && true) MidStep
+    ∷ refuse_if (not stepping && false) NotMidStep
+    ∷ []
 
-all_locals : (locals : List ℕ) → is_away locals ≡ false → AreLocals locals
-all_locals [] e = tt
-all_locals (k ∷ ks) e = go (nat_le 64 k) refl e (all_locals ks)
+-- what is seen of a thread in the picture is what is so
+refusal-picture : (m : Machine) (t : ℕ) → thread_refusal (picture m) t ≡ thread_refusal m t
+refusal-picture m t = ap (λ b. first_of_all (thread_by t (is_thread t) m.holder b)) (is_step-picture m t)
+
+-- ---- the answer of all checks
+
+-- a thread that may not go on
+pub names-thread : (s : Machine) (t : ℕ) (locals : List ℕ) (r : Refusal) → thread_refusal s t ≡ Some r
+    → names_refusal s t locals ≡ Some r
+names-thread s t locals r e = first-some (thread_by t (is_thread t) s.holder (is_step (step_of s t))) _ r e
+
+-- one that may, and its locals
+pub names-locals : (s : Machine) (t : ℕ) (locals : List ℕ) (away : Bool) → thread_refusal s t ≡ None
+    → is_away locals ≡ away → names_refusal s t locals ≡ (if away then Some NoSlot else None)
+names-locals s t locals away e is =
+    first-none (thread_by t (is_thread t) s.holder (is_step (step_of s t))) _ e
+    ∙ ap (λ b. first_of_all (refuse_if b NoSlot ∷ [])) is ∙ go away
   where
-    go : (b : Bool) → nat_le 64 k ≡ b → (b || is_away ks) ≡ false → (is_away ks ≡ false → AreLocals ks) → AreLocals (k ∷ ks)
-    go true is e rest = absurd cc
-    go false is e rest = (leb-false 64 k is, rest e)
-
--- where neither fails, there are the thread and the locals
-pub names_passed : (t : ℕ) (locals : List ℕ) → lacks_names t locals ≡ None → (is_thread t ≡ true) × AreLocals locals
-names_passed t locals e = go (is_thread t) (is_away locals) refl refl e
-  where
-    go : (known away : Bool) → is_thread t ≡ known → is_away locals ≡ away → lacks_by known away ≡ None → (is_thread t ≡ true) × AreLocals locals
-    go false away is_known is_away e = absurd cc
-    go true true is_known is_away e = absurd cc
-    go true false is_known is_away e = (is_known, all_locals locals is_away)
+    go : (away : Bool) → first_of_all (refuse_if away NoSlot ∷ []) ≡ (if away then Some NoSlot else None)
+    go true = refl
+    go false = refl
 
 -- a line that names one local twice names one
-pub named-once : (t k : ℕ) → lacks_names t (k ∷ k ∷ []) ≡ lacks_names t (k ∷ [])
-named-once t k = ap (λ b. lacks_by (is_thread t) b) (go (nat_le 64 k))
+pub once : (s : Machine) (t k : ℕ) (r : Option Refusal) → names_refusal s t (k ∷ k ∷ []) ≡ r
+    → names_refusal s t (k ∷ []) ≡ r
+once s t k r e =
+    ap (λ b. first_of_all (thread_by t (is_thread t) s.holder (is_step (step_of s t)) ++ refuse_if b NoSlot ∷ []))
+    (sym (go (nat_le 64 k))) ∙ e
   where
     go : (b : Bool) → (b || (b || false)) ≡ (b || false)
     go true = refl
     go false = refl
+
+-- ---- a line that is refused
+
+-- Each line of a thread that finishes no step is refused for the first check on its thread that fails.
+pub thread_refused : (i : Instruction) (t : ℕ) → thread_of i ≡ Some t → is_finish i ≡ false → (s : Machine)
+    (r : Refusal) → thread_refusal s t ≡ Some r → Follows s i (refused r) s
+thread_refused i t of begins s r e =
+    follows s i (refused r) s
+    (refusal_carried_by i (λ w. thread_refusal w t ≡ Some r) r
+    (λ m named fails. obeys_refusal m i r (first-some (checks m) _ r (same m ∙ sym (refusal-picture m t) ∙ fails))) s e)
+  where
+    checks : Machine → List (Option Refusal)
+    checks m = unknown_thread i ∷ blocked m i ∷ mid_step m i ∷ not_mid_step m i ∷ []
+
+    same : (m : Machine) → first_of_all (checks m) ≡ thread_refusal m t
+    same m = λ k. first_of_all (
+        with_some (of k) (λ u. refuse_if (not (is_thread u)) UnknownThread)
+        ∷ with_some (of k) (λ u.
+        with_some m.holder (λ h. refuse_if (not (h == u) && not (is_step (step_of m u))) (Blocked h)))
+        ∷ with_some (of k) (λ u. refuse_if (is_step (step_of m u) && not (begins k)) MidStep)
+        ∷ with_some (of k) (λ u. refuse_if (not (is_step (step_of m u)) && begins k) NotMidStep)
+        ∷ [])
+
+module _ (i : Instruction) (t : ℕ) (locals : List ℕ) (more : Machine → List (Option Refusal))
+    (line : IsThreadLine i t locals more) (alike : IsAlike i) (s : Machine) where
+  -- and one that names locals is refused for the first check on thread and locals that fails
+  pub names_refused : (r : Refusal) → names_refusal s t locals ≡ Some r → Follows s i (refused r) s
+  names_refused r e =
+      let first = suspend_others t in
+      follows_alike i alike s (refused r) s
+      (obeys_refusal s i r
+      (line.checks s
+      ∙ go (unknown_thread first) (blocked s first) (mid_step s first) (not_mid_step s first)
+      (refuse_if (is_away locals) NoSlot) e))
+    where
+      go : (a b c d x : Option Refusal) → first_of_all (a ∷ b ∷ c ∷ d ∷ x ∷ []) ≡ Some r
+          → first_of_all (a ∷ b ∷ c ∷ d ∷ None ∷ None ∷ None ∷ None ∷ x ∷ more s) ≡ Some r
+      go (Some q) b c d x e = e
+      go None (Some q) c d x e = e
+      go None None (Some q) d x e = e
+      go None None None (Some q) x e = e
+      go None None None None (Some q) e = e
+      go None None None None None e = absurd cc
+
+-- ---- a line that goes on
+
+-- where no check on its thread fails and no thread holds the others, it may run
+pub may_run : (s : Machine) (t : ℕ) → s.holder ≡ None → thread_refusal s t ≡ None → MayRun s t
+may_run s t unheld e = go (is_thread t) (is_step (step_of s t)) refl refl e
+  where
+    go : (known stepping : Bool) → is_thread t ≡ known → is_step (step_of s t) ≡ stepping
+        → first_of_all (thread_by t known s.holder stepping) ≡ None → MayRun s t
+    go known stepping is_known is_stepping e =
+        by known stepping is_known is_stepping (ap (λ h. first_of_all (thread_by t known h stepping)) (sym unheld) ∙ e)
+      where
+        by : (known stepping : Bool) → is_thread t ≡ known → is_step (step_of s t) ≡ stepping
+            → first_of_all (thread_by t known None stepping) ≡ None → MayRun s t
+        by false stepping is_known is_stepping e = absurd cc
+        by true true is_known is_stepping e = absurd cc
+        by true false is_known is_stepping e = record { thread = is_known; idle = is_stepping; unheld = unheld }
+
+all-locals : (locals : List ℕ) → is_away locals ≡ false → AreLocals locals
+all-locals [] e = tt
+all-locals (k ∷ ks) e = go (nat_le 64 k) refl e (all-locals ks)
+  where
+    go : (b : Bool) → nat_le 64 k ≡ b → (b || is_away ks) ≡ false → (is_away ks ≡ false → AreLocals ks)
+        → AreLocals (k ∷ ks)
+    go true is e rest = absurd cc
+    go false is e rest = (leb-false 64 k is, rest e)
+
+-- and where no check on its locals fails, they are there, too
+pub names_passed : (s : Machine) (t : ℕ) (locals : List ℕ) → s.holder ≡ None → names_refusal s t locals ≡ None
+    → MayRun s t × AreLocals locals
+names_passed s t locals unheld e = go (thread_refusal s t) refl
+  where
+    go : (o : Option Refusal) → thread_refusal s t ≡ o → MayRun s t × AreLocals locals
+    go (Some r) is = absurd (none-some r (sym e ∙ names-thread s t locals r is))
+      where
+        none-some : (r : Refusal) → None ≡ Some r → ⊥
+        none-some r e = cc
+    go None is = (may_run s t unheld is, all-locals locals (away (is_away locals) refl))
+      where
+        away : (b : Bool) → is_away locals ≡ b → is_away locals ≡ false
+        away false is_away = is_away
+        away true is_away = absurd (some-none (sym (names-locals s t locals true is is_away) ∙ e))
+          where
+            some-none : Some NoSlot ≡ None → ⊥
+            some-none e = cc

@@ -1,12 +1,15 @@
 -- What a new runtime shows.
-use Rattle.std.proofs.Common.{◌≡◌, ◌∙◌, ℕ, ◌%◌, List, [], length, sym, ap, subst, replicate, arith, false}
+use Rattle.std.proofs.Common.{◌≡◌, ◌∙◌, ℕ, ◌%◌, List, [], length, sym, ap, subst, replicate, false}
 use Rattle.std.specs.List.{AllByRecursion}
 use Rattle.std.proofs.lemmas.List.{length-replicate}
 use Rattle.clr_types.specs.Types.{TypeRow}
 use Rattle.clr_heap.specs.View as heap
 use Rattle.clr_heap.specs.View.{HeapView}
+use Rattle.clr_view.specs.Clean.{AreClean}
 use Rattle.clr_view.specs.Marks.{IsUnmarked}
+use Rattle.clr_view.specs.Shown.{shown}
 use Rattle.clr_view.specs.View.{AreFreeHeads, IsHeld}
+use Rattle.clr_view.proofs.CleanWords.{clean_at_start}
 use Rattle.clr_view.proofs.FreeHeads.{heads_at_start}
 use Rattle.clr_view.proofs.Unmarked.{unmarked_at_start}
 use Rattle.clr_view.proofs.Opening.{held_at_start, layout_at_start, no_objects}
@@ -15,34 +18,42 @@ use Rattle.clr_model.specs.Machine.{Machine, Options, Sums}
 use Rattle.clr_model.specs.Run.{opening, StandsFor}
 use Rattle.clr_model.proofs.Opening.{opening_stands}
 use Rattle.clr_model.proofs.SeenSound.{seen_sound}
-use Rattle.clr_view.specs.Shown.{shown}
 use Rattle.clr_runtime.specs.RuntimeView.{IsShown}
 
 abbrev pub no_sums : Sums
 no_sums = record { spent0 = 0; spent_large = 0; promoted1 = 0; promoted2 = 0 }
 
 -- with null locals and an empty heap the opening state is shown
-opening-shown : (options : Options) (limit : ℕ) → options.segment % 4096 ≡ 0 → shown [] (heap.opening options.segment limit) (replicate 1024 0) no_sums options ≡ opening options
+opening-shown : (options : Options) (limit : ℕ) → options.segment % 4096 ≡ 0
+    → shown [] (heap.opening_heap options.segment limit) (replicate 1024 0) no_sums options ≡ opening options
 unfolding opening
 opening-shown options limit aligned =
     let objects = no_objects [] options.segment limit aligned in
     let layout = layout_at_start [] options.segment limit aligned in
     λ i. record (opening options) { objects = objects i; layout = layout i }
 
-module _ (rows : List TypeRow) (h : HeapView) (named : List ℕ) (options : Options) (limit : ℕ) (lawful : AreLawfulOptions options) (none : rows ≡ []) (empty : h ≡ heap.opening options.segment limit) (null : named ≡ replicate 1024 0) where
+module _ (rows : List TypeRow) (h : HeapView) (named : List ℕ) (options : Options) (limit : ℕ)
+    (lawful : AreLawfulOptions options) (none : rows ≡ []) (empty : h ≡ heap.opening_heap options.segment limit)
+    (null : named ≡ replicate 1024 0) where
   -- it is the opening state
   pub new_stands : StandsFor (shown rows h named no_sums options) (opening options)
   new_stands =
-      subst (λ (s : Machine). StandsFor s (opening options)) (sym ((λ i. shown (none i) (empty i) (null i) no_sums options) ∙ opening-shown options limit lawful.segment_aligned)) (opening_stands options lawful)
+      subst (λ (s : Machine). StandsFor s (opening options))
+      (sym ((λ i. shown (none i) (empty i) (null i) no_sums options)
+      ∙ opening-shown options limit lawful.segment_aligned)) (opening_stands options lawful)
+
+  -- what holds of no types and the first heap
+  at-first : (P : List TypeRow → HeapView → Type 0) → P [] (heap.opening_heap options.segment limit) → P rows h
+  at-first P is = subst (λ (rs : List TypeRow). P rs h) (sym none) (subst (λ (o : HeapView). P [] o) (sym empty) is)
 
   -- and what holds of every runtime holds of it
   pub new_shown : IsShown rows h named no_sums options
   new_shown = record {
     locals = ap length null ∙ length-replicate {A = ℕ} 1024 0;
-    held = subst (λ (rs : List TypeRow). IsHeld rs h) (sym none) (subst (λ (o : HeapView). IsHeld [] o) (sym empty) (held_at_start [] options.segment limit lawful.segment_aligned));
-    plain = subst (λ (rs : List TypeRow). AllByRecursion (λ (row : TypeRow). row.finalizer ≡ false) rs) (sym none) tt;
-    spent = omega arith;
-    unmarked = subst (λ (rs : List TypeRow). IsUnmarked rs h) (sym none) (subst (λ (o : HeapView). IsUnmarked [] o) (sym empty) (unmarked_at_start [] options.segment limit lawful.segment_aligned));
-    free_heads = subst (λ (rs : List TypeRow). AreFreeHeads rs h) (sym none) (subst (λ (o : HeapView). AreFreeHeads [] o) (sym empty) (heads_at_start [] options.segment limit lawful.segment_aligned));
+    held = at-first IsHeld (held_at_start [] options.segment limit lawful.segment_aligned);
+    plain = at-first (λ rs _. AllByRecursion (λ (row : TypeRow). row.finalizer ≡ false) rs) tt;
+    unmarked = at-first IsUnmarked (unmarked_at_start [] options.segment limit lawful.segment_aligned);
+    free_heads = at-first AreFreeHeads (heads_at_start [] options.segment limit lawful.segment_aligned);
+    clean = at-first AreClean (clean_at_start [] options.segment limit lawful.segment_aligned);
     sound = seen_sound (shown rows h named no_sums options) (opening options) new_stands;
   }

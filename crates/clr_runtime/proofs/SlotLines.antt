@@ -1,11 +1,13 @@
 -- The lines that work on a slot, on what is seen.
-use Rattle.std.proofs.Common.{◌≡◌, ℕ, ◌<◌, ◌^◌, List, [], ◌∷◌, refl, sym, ap, subst, ◌∙◌, slice_set, Bool, true, false, Some, None}
+use Rattle.std.proofs.Common.{◌≡◌, ℕ, ◌<◌, ◌^◌, List, [], ◌∷◌, refl, sym, ap, subst, ◌∙◌, slice_set, Bool, true, false}
+use Rattle.std.proofs.Common.{Some, None}
 use Rattle.std.specs.Prelude.{slice_get, Err}
 use Rattle.clr_types.specs.Types.{TypeRow, form_at}
 use Rattle.clr_types.specs.declared.item.Item.{Item}
 use Rattle.clr_types.specs.declared.shape.Slot.{Slot}
 use Rattle.clr_heap.specs.View.{HeapView, word_of}
-use Rattle.clr_view.specs.View.{HasStored, object_in, objects_in, word_value}
+use Rattle.clr_view.specs.Shown.{shown}
+use Rattle.clr_view.specs.View.{HasStored, object_in, word_value}
 use Rattle.clr_view.proofs.SlotReads.{slot-kind}
 use Rattle.clr_model.specs.declared.Refusal.{Refusal}
 use Rattle.clr_model.specs.declared.Reply.TheVariants.{Done, Number, Place}
@@ -16,81 +18,105 @@ use Rattle.clr_model.specs.Outcomes.{answered, refused}
 use Rattle.clr_model.specs.Run.{Follows}
 use Rattle.clr_model.specs.Step.{stored_number}
 use Rattle.clr_model.specs.Updates.{with_slot}
-use Rattle.clr_model.proofs.LineFollows.{get_done, get_of, put_done, put_of, read_done, read_of, set_done, set_of, SlotLine, WorksOn}
-use Rattle.clr_runtime.specs.Checks.{IsIdle, lacks_names}
+use Rattle.clr_model.proofs.LineFollows.{get_done, get_of, put_done, put_of, read_done, read_of, set_done, set_of}
+use Rattle.clr_model.proofs.LineFollows.{SlotLine, WorksOn}
+use Rattle.clr_runtime.specs.Checks.{names_refusal}
 use Rattle.clr_runtime.specs.Slots.{HasItsSlot, IsFound}
-use Rattle.clr_view.specs.Shown.{shown}
 use Rattle.clr_runtime.proofs.LocalLines.{local_written}
-use Rattle.clr_runtime.proofs.LocalsSeen.{idle-shown}
-use Rattle.clr_runtime.proofs.NamesChecked.{may_run, named-once, names_passed}
+use Rattle.clr_runtime.proofs.NamesChecked.{names_passed, once}
 use Rattle.clr_runtime.proofs.SlotsChecked.{slot_refused, works}
 
 -- a value of the kind that is told
-pub value-of : (b : Bool) (v : ℕ) (kind : Bool) → b ≡ kind → word_value b v ≡ word_value kind v
+value-of : (b : Bool) (v : ℕ) (kind : Bool) → b ≡ kind → word_value b v ≡ word_value kind v
 value-of b v kind e = ap (λ k. word_value k v) e
 
-module _ (rows : List TypeRow) (h : HeapView) (s : Machine) (objects : s.objects ≡ objects_in rows h) (idle : IsIdle s) where
-  -- the line is refused for the first check on the object and the slot that fails
-  pub refused_slot : (l : SlotLine) (place : ℕ) → lacks_names l.thread l.locals ≡ None → place ≡ local_of s l.thread l.object → (r : Refusal) → IsFound rows h place l.index l.wants (Err r) → Follows s l.instruction (refused r) s
-  refused_slot l place passed at r fails =
-      let (known, locals) = names_passed l.thread l.locals passed in
-      slot_refused rows h s objects l (may_run s l.thread idle known) locals place at r fails
-
-  module _ (t place index : ℕ) (i : Item) (slot : Slot) (has : HasItsSlot rows h place index i slot) where
-    -- `get`
-    pub got : (to from j v : ℕ) → lacks_names t (to ∷ from ∷ []) ≡ None → place ≡ local_of s t from → slot.reference ≡ true → slice_get (object_in rows (word_of h) i).slots index ≡ Some (word_value slot.reference v)
-        → j ≡ local_index t to → Follows s (get_slot t to from index) (answered (Place v)) (record s { locals = slice_set s.locals j v })
-    got to from j v passed at kind e written =
-        let l = get_of t to from index in
-        let (known, locals) = names_passed t l.locals passed in
-        let on = works rows h s objects l (may_run s t idle known) locals place at i has.some has.object in
-        local_written s (get_slot t to from index) (answered (Place v)) t to v j written
-        (get_done s t to from index (object_in rows (word_of h) i) on v (e ∙ ap (λ (x : Value). Some x) (value-of slot.reference v true kind)))
-
-    -- `read`
-    pub was_read : (from v : ℕ) → lacks_names t (from ∷ from ∷ []) ≡ None → place ≡ local_of s t from → slot.reference ≡ false → slice_get (object_in rows (word_of h) i).slots index ≡ Some (word_value slot.reference v)
-        → Follows s (read_number t from index) (answered (Number v)) s
-    was_read from v passed at kind e =
-        let l = read_of t from index in
-        let (known, locals) = names_passed t l.locals (sym (named-once t from) ∙ passed) in
-        let on = works rows h s objects l (may_run s t idle known) locals place at i has.some has.object in
-        read_done s t from index (object_in rows (word_of h) i) on v (e ∙ ap (λ (x : Value). Some x) (value-of slot.reference v false kind))
-
--- ---- stores
-
--- the machine that a heap shows, with another value in a slot
-pub stored-shown : (rows : List TypeRow) (h new : HeapView) (named : List ℕ) (sums : Sums) (options : Options) (place j : ℕ) (v : Value) → HasStored rows h new place j v → with_slot (shown rows h named sums options) place j v ≡ shown rows new named sums options
-stored-shown rows h new named sums options place j v stored = let objects = stored.objects in let layout = stored.layout in λ k. record (shown rows new named sums options) { objects = sym objects k; layout = sym layout k }
-
-module _ (rows : List TypeRow) (h new : HeapView) (named : List ℕ) (sums : Sums) (options : Options) (t place index : ℕ) (i : Item) (slot : Slot) (has : HasItsSlot rows h place index i slot) where
+module _ (rows : List TypeRow) (h : HeapView) (named : List ℕ) (sums : Sums) (options : Options) where
   abbrev s : Machine
   s = shown rows h named sums options
 
-  on : (l : SlotLine) → lacks_names l.thread l.locals ≡ None → place ≡ local_of s l.thread l.object → WorksOn s l (object_in rows (word_of h) i)
-  on l passed at =
-      let (known, locals) = names_passed l.thread l.locals passed in
-      works rows h s refl l (may_run s l.thread (idle-shown s refl refl) known) locals place at i has.some has.object
+  -- the line is refused for the first check on the object and the slot that fails
+  pub refused_slot : (l : SlotLine) (place : ℕ) → names_refusal s l.thread l.locals ≡ None
+      → place ≡ local_of s l.thread l.object → (r : Refusal) → IsFound rows h place l.index l.wants (Err r)
+      → Follows s l.instruction (refused r) s
+  refused_slot l place passed at r fails =
+      let (run, locals) = names_passed s l.thread l.locals refl passed in
+      slot_refused rows h s refl l run locals place at r fails
 
-  -- the slot is of this kind, whatever it holds
-  kind-held : (kind : Bool) → slot.reference ≡ kind → (v : ℕ) × (slice_get (object_in rows (word_of h) i).slots index ≡ Some (word_value kind v))
-  kind-held kind e = let (v, held) = slot-kind rows (word_of h) i index slot has.slot in (v, held ∙ ap (λ (x : Value). Some x) (value-of slot.reference v kind e))
+  module _ (t place index : ℕ) (i : Item) (slot : Slot) (has : HasItsSlot rows h place index i slot) where
+    -- the line works on the object that has the slot
+    on : (l : SlotLine) → names_refusal s l.thread l.locals ≡ None → place ≡ local_of s l.thread l.object
+        → WorksOn s l (object_in rows (word_of h) i)
+    on l passed at =
+        let (run, locals) = names_passed s l.thread l.locals refl passed in
+        works rows h s refl l run locals place at i has.some has.object
 
-  -- `set`
-  pub was_set : (into from v : ℕ) → lacks_names t (into ∷ from ∷ []) ≡ None → place ≡ local_of s t into → v ≡ local_of s t from → slot.reference ≡ true → HasStored rows h new i.place index (word_value slot.reference v)
-      → Follows s (set_slot t into index from) (answered Done) (shown rows new named sums options)
-  was_set into from v passed at is kind stored =
-      let (name, held) = kind-held true kind in
-      let there = has.object.at ∙ at in
-      let after : with_slot s (local_of s t into) index (ref (local_of s t from)) ≡ shown rows new named sums options =
-      (λ k. with_slot s (sym there k) index (ref (sym is k))) ∙ ap (with_slot s i.place index) (sym (value-of slot.reference v true kind)) ∙ stored-shown rows h new named sums options i.place index (word_value slot.reference v) stored in
-      subst (Follows s (set_slot t into index from) (answered Done)) after (set_done s t into index from (object_in rows (word_of h) i) (on (set_of t into index from) passed at) name held)
+    -- `get`
+    pub got : (to from j v : ℕ) → names_refusal s t (to ∷ from ∷ []) ≡ None → place ≡ local_of s t from
+        → slot.reference ≡ true
+        → slice_get (object_in rows (word_of h) i).slots index ≡ Some (word_value slot.reference v)
+        → j ≡ local_index t to
+        → Follows s (get_slot t to from index) (answered (Place v)) (shown rows h (slice_set named j v) sums options)
+    got to from j v passed at kind e written =
+        local_written s (get_slot t to from index) (answered (Place v)) t to v j written
+        (get_done s t to from index (object_in rows (word_of h) i) (on (get_of t to from index) passed at) v
+        (e ∙ ap (λ (x : Value). Some x) (value-of slot.reference v true kind)))
 
-  -- `put`
-  pub was_put : (into value number : ℕ) → value < 2 ^ 64 → lacks_names t (into ∷ into ∷ []) ≡ None → place ≡ local_of s t into → number ≡ stored_number (form_at rows i.type_id.0) value → slot.reference ≡ false
-      → HasStored rows h new i.place index (word_value slot.reference number) → Follows s (put_number t into index value) (answered Done) (shown rows new named sums options)
-  was_put into value number word passed at is kind stored =
-      let (old, held) = kind-held false kind in
-      let there = has.object.at ∙ at in
-      let after : with_slot s (local_of s t into) index (num (stored_number (form_at rows i.type_id.0) value)) ≡ shown rows new named sums options =
-      (λ k. with_slot s (sym there k) index (num (sym is k))) ∙ ap (with_slot s i.place index) (sym (value-of slot.reference number false kind)) ∙ stored-shown rows h new named sums options i.place index (word_value slot.reference number) stored in
-      subst (Follows s (put_number t into index value) (answered Done)) after (put_done s t into index value word (object_in rows (word_of h) i) (on (put_of t into index value word) (sym (named-once t into) ∙ passed) at) old held)
+    -- `read`
+    pub was_read : (from v : ℕ) → names_refusal s t (from ∷ from ∷ []) ≡ None → place ≡ local_of s t from
+        → slot.reference ≡ false
+        → slice_get (object_in rows (word_of h) i).slots index ≡ Some (word_value slot.reference v)
+        → Follows s (read_number t from index) (answered (Number v)) s
+    was_read from v passed at kind e =
+        read_done s t from index (object_in rows (word_of h) i)
+        (on (read_of t from index) (once s t from None passed) at) v
+        (e ∙ ap (λ (x : Value). Some x) (value-of slot.reference v false kind))
+
+    -- ---- stores
+
+    -- the slot is of this kind, whatever it holds
+    kind-held : (kind : Bool) → slot.reference ≡ kind
+        → (v : ℕ) × (slice_get (object_in rows (word_of h) i).slots index ≡ Some (word_value kind v))
+    kind-held kind e =
+        let (v, held) = slot-kind rows (word_of h) i index slot has.slot in
+        (v, held ∙ ap (λ (x : Value). Some x) (value-of slot.reference v kind e))
+
+    module _ (new : HeapView) where
+      -- the machine that the heap shows, with another value in the slot
+      stored-shown : (name v : ℕ) (kind : Bool) → i.place ≡ name → slot.reference ≡ kind
+          → HasStored rows h new i.place index (word_value slot.reference v)
+          → with_slot s name index (word_value kind v) ≡ shown rows new named sums options
+      stored-shown name v kind there is stored =
+          let objects = stored.objects in
+          let layout = stored.layout in
+          (λ k. with_slot s (sym there k) index (sym (value-of slot.reference v kind is) k))
+          ∙ (λ k. record (shown rows new named sums options) { objects = sym objects k; layout = sym layout k })
+
+      -- `set`
+      pub was_set : (into from v : ℕ) → names_refusal s t (into ∷ from ∷ []) ≡ None → place ≡ local_of s t into
+          → v ≡ local_of s t from → slot.reference ≡ true
+          → HasStored rows h new i.place index (word_value slot.reference v)
+          → Follows s (set_slot t into index from) (answered Done) (shown rows new named sums options)
+      was_set into from v passed at is kind stored =
+          let (name, held) = kind-held true kind in
+          let after : with_slot s (local_of s t into) index (ref (local_of s t from))
+          ≡ shown rows new named sums options =
+          ap (λ n. with_slot s (local_of s t into) index (ref n)) (sym is)
+          ∙ stored-shown (local_of s t into) v true (has.object.at ∙ at) kind stored in
+          subst (Follows s (set_slot t into index from) (answered Done)) after
+          (set_done s t into index from (object_in rows (word_of h) i) (on (set_of t into index from) passed at) name
+          held)
+
+      -- `put`
+      pub was_put : (into value number : ℕ) → value < 2 ^ 64 → names_refusal s t (into ∷ into ∷ []) ≡ None
+          → place ≡ local_of s t into → number ≡ stored_number (form_at rows i.type_id.0) value
+          → slot.reference ≡ false → HasStored rows h new i.place index (word_value slot.reference number)
+          → Follows s (put_number t into index value) (answered Done) (shown rows new named sums options)
+      was_put into value number word passed at is kind stored =
+          let (old, held) = kind-held false kind in
+          let after : with_slot s (local_of s t into) index (num (stored_number (form_at rows i.type_id.0) value))
+          ≡ shown rows new named sums options =
+          ap (λ n. with_slot s (local_of s t into) index (num n)) (sym is)
+          ∙ stored-shown (local_of s t into) number false (has.object.at ∙ at) kind stored in
+          subst (Follows s (put_number t into index value) (answered Done)) after
+          (put_done s t into index value word (object_in rows (word_of h) i)
+          (on (put_of t into index value word) (once s t into None passed) at) old held)

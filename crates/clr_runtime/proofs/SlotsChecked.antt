@@ -25,7 +25,8 @@ pub value-kind : (b : Bool) (v : ℕ) → is_reference_value (word_value b v) �
 value-kind true v = refl
 value-kind false v = refl
 
-module _ (rows : List TypeRow) (h : HeapView) (s : Machine) (objects : s.objects ≡ objects_in rows h) (l : SlotLine) (run : MayRun s l.thread) (all : AreLocals l.locals) (place : ℕ) (at : place ≡ local_of s l.thread l.object) where
+module _ (rows : List TypeRow) (h : HeapView) (s : Machine) (objects : s.objects ≡ objects_in rows h) (l : SlotLine)
+    (run : MayRun s l.thread) (all : AreLocals l.locals) (place : ℕ) (at : place ≡ local_of s l.thread l.object) where
   abbrev object : Item → Object
   object i = object_in rows (word_of h) i
 
@@ -35,7 +36,8 @@ module _ (rows : List TypeRow) (h : HeapView) (s : Machine) (objects : s.objects
     run = run;
     locals = all;
     some = λ null. some (at ∙ null);
-    among = subst (λ (os : List Object). IsIn (object i) os) (sym objects) (IsIn-map (object_in rows (word_of h)) (into_filter is_object (heap_items rows h) there.object there.listed));
+    among = subst (λ (os : List Object). IsIn (object i) os) (sym objects)
+        (IsIn-map (object_in rows (word_of h)) (into_filter is_object (heap_items rows h) there.object there.listed));
     at = there.at ∙ at;
   }
 
@@ -44,19 +46,27 @@ module _ (rows : List TypeRow) (h : HeapView) (s : Machine) (objects : s.objects
   refused_index lacks =
       let count = slots-counted rows (word_of h) lacks.item in
       let beyond = lacks.beyond in
-      slot_follows_index s l (object lacks.item) (works lacks.item lacks.some lacks.object) (subst (λ n. n ≤ l.index) (sym count) beyond)
+      slot_follows_index s l (object lacks.item) (works lacks.item lacks.some lacks.object)
+      (subst (λ n. n ≤ l.index) (sym count) beyond)
 
   -- or it is of the other kind
-  refused_kind : HasOtherKind rows h place l.index l.wants → Follows s l.instruction (refused (if l.wants then NotReference else IsReference)) s
+  refused_kind : HasOtherKind rows h place l.index l.wants
+      → Follows s l.instruction (refused (if l.wants then NotReference else IsReference)) s
   refused_kind other =
       let there = other.there in
       let (v, e) = slot-kind rows (word_of h) other.item l.index other.slot there.slot in
-      slot_follows_kind s l (object other.item) (works other.item there.some there.object) (word_value other.slot.reference v) e (value-kind other.slot.reference v ∙ other.other)
+      slot_follows_kind s l (object other.item) (works other.item there.some there.object)
+      (word_value other.slot.reference v) e (value-kind other.slot.reference v ∙ other.other)
 
   -- the line is refused for the first check that fails
-  pub slot_refused : (r : Refusal) → IsFound rows h place l.index l.wants (Err r) → Follows s l.instruction (refused r) s
+  pub slot_refused : (r : Refusal) → IsFound rows h place l.index l.wants (Err r)
+      → Follows s l.instruction (refused r) s
   slot_refused Null null = slot_follows_null s l run all (sym at ∙ null)
   slot_refused Index lacks = refused_index lacks
-  slot_refused NotReference (is, other) = subst (λ b. Follows s l.instruction (refused (if b then NotReference else IsReference)) s) is (refused_kind other)
-  slot_refused IsReference (is, other) = subst (λ b. Follows s l.instruction (refused (if b then NotReference else IsReference)) s) is (refused_kind other)
+  slot_refused NotReference (is, other) =
+      subst (λ b. Follows s l.instruction (refused (if b then NotReference else IsReference)) s) is
+      (refused_kind other)
+  slot_refused IsReference (is, other) =
+      subst (λ b. Follows s l.instruction (refused (if b then NotReference else IsReference)) s) is
+      (refused_kind other)
   slot_refused _ none = absurd none

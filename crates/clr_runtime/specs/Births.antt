@@ -1,13 +1,14 @@
 -- The checks of a line that makes an object, and the room for it.
-use Rattle.std.specs.Prelude.{◌≡◌, ℕ, ◌<◌, ◌≤◌, List, Bool, true, false, Option, Some, None, is_some, is_none, unwrap_or, length, Result, Ok, Err, if◌then◌else◌, ◌⊎◌}
+use Rattle.std.specs.Prelude.{◌≡◌, ℕ, ◌<◌, ◌≤◌, List, Bool, true, false, Option, Some, None, is_some, is_none}
+use Rattle.std.specs.Prelude.{unwrap_or, length, Result, Ok, Err, if◌then◌else◌, ◌⊎◌}
 use Rattle.clr_types.specs.Types.{TypeRow, form_at, is_array, number_of, size_of}
 use Rattle.clr_types.specs.declared.TypeId.{TypeId}
 use Rattle.clr_heap.specs.View.{frame, HeapView}
 use Rattle.clr_view.specs.View.{HasRefilled, layout_in}
 use Rattle.clr_model.specs.declared.Refusal.{Refusal}
-use Rattle.clr_model.specs.declared.Refusal.TheVariants.{UnknownThread, UnknownType, BadShape, NoSlot, TooBig}
-use Rattle.clr_model.specs.Lookups.{is_thread}
+use Rattle.clr_model.specs.declared.Refusal.TheVariants.{UnknownType, BadShape, NoSlot, TooBig}
 use Rattle.clr_model.specs.Allocation.{has_room, own_fits}
+use Rattle.clr_ctx.specs.Contexts.{refilled}
 
 -- the type of a name that a script defined
 abbrev pub IsDefined : List TypeRow → List ℕ → Option TypeId → Type 0
@@ -21,31 +22,34 @@ suits rows t len = if is_array (form_at rows t) then is_some len else is_none le
 abbrev pub measure_of : List TypeRow → ℕ → Option ℕ → ℕ
 measure_of rows t len = size_of (form_at rows t) (unwrap_or len 0)
 
--- the thread is known, and the name is that of a type
-pub record IsNamed (rows : List TypeRow) (t : ℕ) (name : List ℕ) (type : ℕ) : Type 0 where
-  pub thread : is_thread t ≡ true
+-- the name is that of a type, which may be made with this length
+pub record IsSuited (rows : List TypeRow) (name : List ℕ) (len : Option ℕ) (type : ℕ) : Type 0 where
   pub known : number_of rows name ≡ Some type
+  pub suited : suits rows type len ≡ true
 
 -- a small object of this type and size may be made
-pub record IsMeasured (rows : List TypeRow) (t k : ℕ) (name : List ℕ) (len : Option ℕ) (type size : ℕ) : Type 0 where
-  pub named : IsNamed rows t name type
-  pub suited : suits rows type len ≡ true
+pub record IsMeasured (rows : List TypeRow) (k : ℕ) (name : List ℕ) (len : Option ℕ) (type size : ℕ) : Type 0 where
+  pub suited : IsSuited rows name len type
   pub local : k < 64
   pub is : size ≡ measure_of rows type len
   pub small : size < 85000
 
 -- The first of the checks that fails, or the type and the size.
-abbrev pub Measured : List TypeRow → ℕ → ℕ → List ℕ → Option ℕ → Result (TypeId × ℕ) Refusal → Type 0
-Measured rows thread local name len (Ok made) = IsMeasured rows thread local name len made.0.0 made.1
-Measured rows thread local name len (Err UnknownThread) = is_thread thread ≡ false
-Measured rows thread local name len (Err UnknownType) = (is_thread thread ≡ true) × (number_of rows name ≡ None)
-Measured rows thread local name len (Err BadShape) = (t : ℕ) × IsNamed rows thread name t × (suits rows t len ≡ false)
-Measured rows thread local name len (Err NoSlot) = (t : ℕ) × IsNamed rows thread name t × (suits rows t len ≡ true) × (64 ≤ local)
-Measured rows thread local name len (Err TooBig) = (t : ℕ) × IsNamed rows thread name t × (suits rows t len ≡ true) × (local < 64) × (85000 ≤ measure_of rows t len)
-Measured rows thread local name len (Err _) = ⊥
+abbrev pub Measured : List TypeRow → ℕ → List ℕ → Option ℕ → Result (TypeId × ℕ) Refusal → Type 0
+Measured rows local name len (Ok made) = IsMeasured rows local name len made.0.0 made.1
+Measured rows local name len (Err UnknownType) = number_of rows name ≡ None
+Measured rows local name len (Err BadShape) = (t : ℕ) × (number_of rows name ≡ Some t) × (suits rows t len ≡ false)
+Measured rows local name len (Err NoSlot) = (t : ℕ) × IsSuited rows name len t × (64 ≤ local)
+Measured rows local name len (Err TooBig) =
+    (t : ℕ) × IsSuited rows name len t × (local < 64) × (85000 ≤ measure_of rows t len)
+Measured rows local name len (Err _) = ⊥
 
--- Room at the front of the thread's context: it was there, or a refill made it, or there is none and nothing has changed.
+-- Room at the front of the thread's context: it was there, or a refill made it, which takes the first free item in
+-- which the size fits and else the tail, or there is none and nothing has changed.
 abbrev pub HasRoomMade : List TypeRow → HeapView → HeapView → ℕ → ℕ → Bool → Type 0
 HasRoomMade rows old new thread size true =
-    ((own_fits (frame old) thread size ≡ true) × (new ≡ old)) ⊎ ((own_fits (frame old) thread size ≡ false) × HasRefilled rows old new thread size)
-HasRoomMade rows old new thread size false = (own_fits (frame old) thread size ≡ false) × (has_room (layout_in rows old) size ≡ false) × (new ≡ old)
+    ((own_fits (frame old) thread size ≡ true) × (new ≡ old))
+    ⊎ ((own_fits (frame old) thread size ≡ false) × HasRefilled rows old new thread size
+    × (layout_in rows new ≡ refilled (layout_in rows old) thread size))
+HasRoomMade rows old new thread size false =
+    (own_fits (frame old) thread size ≡ false) × (has_room (layout_in rows old) size ≡ false) × (new ≡ old)

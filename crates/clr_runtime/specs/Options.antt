@@ -4,4 +4,13 @@ use Rattle.clr_runtime.specs.declared.options.Options.{Options}
 
 -- objects of 85,000 bytes and more are large
 abbrev pub options_of : Options → machine.Options
-options_of o = record { limit = o.limit; segment = o.segment; b0 = o.b0; b1 = o.b1; b2 = o.b2; bl = o.bl; compact = o.compact; large = 85000 }
+options_of o = record {
+  limit = o.limit;
+  segment = o.segment;
+  b0 = o.b0;
+  b1 = o.b1;
+  b2 = o.b2;
+  bl = o.bl;
+  compact = o.compact;
+  large = 85000;
+}

@@ -1,13 +1,13 @@
 -- What holds of the parts of a runtime, and the machine that they show.
-use Rattle.std.specs.Prelude.{◌≡◌, ◌≤◌, ℕ, List, length, false, sum_by}
+use Rattle.std.specs.Prelude.{◌≡◌, ℕ, List, length, false}
 use Rattle.std.specs.List.{AllByRecursion}
 use Rattle.clr_types.specs.Types.{TypeRow}
 use Rattle.clr_heap.specs.View.{HeapView}
+use Rattle.clr_view.specs.Clean.{AreClean}
 use Rattle.clr_view.specs.Marks.{IsUnmarked}
 use Rattle.clr_view.specs.Shown.{shown}
-use Rattle.clr_view.specs.View.{AreFreeHeads, IsHeld, objects_in}
+use Rattle.clr_view.specs.View.{AreFreeHeads, IsHeld}
 use Rattle.clr_model.specs.Machine.{Machine, Options, Sums}
-use Rattle.clr_model.specs.Lookups.{object_size}
 use Rattle.clr_model.specs.Lawful.{IsPlaceNamed}
 use Rattle.clr_ctx.specs.Contexts.{IsIndex}
 use Rattle.clr_runtime.specs.Options.{options_of}
@@ -15,27 +15,31 @@ use Rattle.clr_runtime.specs.declared.runtime.Runtime.TheInside.{Inside}
 use Rattle.clr_runtime.specs.declared.sums.Sums as code
 
 abbrev pub sums_of : code.Sums → Sums
-sums_of s = record { spent0 = s.spent0; spent_large = s.spent_large; promoted1 = s.promoted1; promoted2 = s.promoted2 }
+sums_of s = record {
+  spent0 = s.spent0;
+  spent_large = s.spent_large;
+  promoted1 = s.promoted1;
+  promoted2 = s.promoted2;
+}
 
 abbrev pub seen : Inside → Machine
 seen r = shown r.types r.heap r.locals.items (sums_of r.sums) (options_of r.options)
 
--- the bytes of the objects that a heap holds
-abbrev pub object_bytes : List TypeRow → HeapView → ℕ
-object_bytes rows heap = sum_by (object_size rows) (objects_in rows heap)
-
 -- What holds of the parts of a runtime. What is seen is lawful, and its objects are named by their places.
--- No type has a finaliser yet. Between lines no object is marked, and no free item's head is.
-pub record IsShown (rows : List TypeRow) (heap : HeapView) (named : List ℕ) (sums : Sums) (options : Options) : Type 0 where
+-- No type has a finaliser yet. Between lines no object is marked, and no free item's head is. The headers and the
+-- padding of objects say nothing else.
+pub record IsShown (rows : List TypeRow) (heap : HeapView) (named : List ℕ) (sums : Sums) (options : Options)
+    : Type 0 where
   pub locals : length named ≡ 1024
   pub held : IsHeld rows heap
   pub plain : AllByRecursion (λ (row : TypeRow). row.finalizer ≡ false) rows
-  pub spent : sums.spent0 ≤ object_bytes rows heap
   pub unmarked : IsUnmarked rows heap
   pub free_heads : AreFreeHeads rows heap
+  pub clean : AreClean rows heap
   pub sound : IsPlaceNamed (shown rows heap named sums options)
 
--- what holds of each runtime: that, its contexts keep the index of this heap, and segments are limited as the options say
+-- what holds of each runtime: that, its contexts keep the index of this heap, and segments are limited as the options
+-- say
 pub record IsRuntime (r : Inside) : Type 0 where
   pub shown : IsShown r.types r.heap r.locals.items (sums_of r.sums) (options_of r.options)
   pub index : IsIndex r.types r.heap r.contexts

@@ -31,7 +31,8 @@ pub record HasOtherKind (rows : List TypeRow) (h : HeapView) (place j : ℕ) (wa
 
 -- the first of the checks on a local's object and its slot that fails, or the slot
 abbrev pub IsFound : List TypeRow → HeapView → ℕ → ℕ → Bool → Result Found Refusal → Type 0
-IsFound rows h place j wants (Ok found) = HasItsSlot rows h place j found.item found.slot × (found.slot.reference ≡ wants)
+IsFound rows h place j wants (Ok found) =
+    HasItsSlot rows h place j found.item found.slot × (found.slot.reference ≡ wants)
 IsFound rows h place j wants (Err Null) = place ≡ 0
 IsFound rows h place j wants (Err Index) = LacksSlot rows h place j
 IsFound rows h place j wants (Err NotReference) = (wants ≡ true) × HasOtherKind rows h place j wants

@@ -1,11 +1,10 @@
 //! The line that makes an object.
-ghost use Rattle.std.specs.Prelude.{◌≡◌, ◌<◌, ◌≤◌, ◌%◌, ℕ, length, true};
-ghost use Rattle.clr_model.specs.Lookups.{is_thread};
-ghost use Rattle.clr_view.specs.View.{IsHeld, tail_of};
+ghost use Rattle.std.specs.Prelude.{◌≡◌, ◌<◌, ◌≤◌, ◌%◌};
+ghost use Rattle.clr_view.specs.View.{IsHeld};
 ghost use Rattle.clr_ctx.specs.Contexts.{IsIndex};
 ghost use Rattle.clr_runtime.specs.Births.{HasRoomMade, IsDefined, Measured};
 
-use crate::checks::{index_of, is_known};
+use crate::checks::index_of;
 use crate::runtime::{LOCALS_OF_A_THREAD, Runtime};
 use clr_ctx::Contexts;
 use clr_heap::Heap;
@@ -21,11 +20,12 @@ impl Runtime {
     ghost use Rattle.clr_model.specs.Run.{Follows};
     ghost use Rattle.clr_runtime.specs.Outcomes.{place_outcome};
 
-    /// Makes an object of the type of this name, with `len` elements where it is an array, at the front of the context of
-    /// thread `t`, and gives its place, which the local takes.
+    /// Makes an object of the type of this name, with `len` elements where it is an array, at the front of the context
+    /// of thread `t`, and gives its place, which the local takes.
     ///
-    /// It is refused for an unknown thread or type, a length that doesn't suit the type, a local from 64 on, and 85,000 bytes
-    /// and more, in this order; and with `Oom` exactly where neither the context nor the rest of generation 0 has room.
+    /// It is refused for an unknown thread or type, a length that doesn't suit the type, a local from 64 on, and 85,000
+    /// bytes and more, in this order; and with `Oom` exactly where neither the context nor the rest of generation 0 has
+    /// room.
     pub fn new_object(
         &mut self,
         t: u64,
@@ -35,11 +35,14 @@ impl Runtime {
     ) -> Result<u64, Refusal>
         ensures { Follows self.old (new_object t local name.now len) (place_outcome result) self.new }
     {
-        let (type_id, size) = match measure(&self.types, t, local, name, len) {
+        if let Some(refusal) = self.refused_thread(t) {
+            return Err(refusal);
+        }
+        let (type_id, size) = match measure(&self.types, local, name, len) {
             Ok(measured) => measured,
             Err(refusal) => return Err(refusal),
         };
-        let _ = self.heap.segments();
+        self.heap.lawful();
         let thread = t as usize;
         if !make_room(
             &mut self.contexts,
@@ -74,19 +77,15 @@ fn defined(types: &Types, name: &[u8]) -> Option<TypeId>
     }
 }
 
-// The type and the size in bytes of an object that a line would make, or the first of the checks that fails.
+// The type and the size in bytes of an object that a line would make, or the first of the checks on it that fails.
 fn measure(
     types: &Types,
-    t: u64,
     local: u64,
     name: &[u8],
     len: Option<u64>,
 ) -> Result<(TypeId, u64), Refusal>
-    ensures { Measured types.now t local name.now len result }
+    ensures { Measured types.now local name.now len result }
 {
-    if !is_known(t) {
-        return Err(Refusal::UnknownThread);
-    }
     let Some(type_id) = defined(types, name) else {
         return Err(Refusal::UnknownType);
     };
@@ -102,7 +101,8 @@ fn measure(
     }
 }
 
-// Makes room of this size at the front of the thread's context, by a refill where the rest has none, and tells whether there is.
+// Makes room of this size at the front of the thread's context, by a refill where the rest has none, and tells whether
+// there is.
 fn make_room(
     contexts: &mut Contexts,
     heap: &mut Heap,
@@ -112,7 +112,6 @@ fn make_room(
 ) -> bool
     requires held { IsHeld types.now heap.old }
     requires index { IsIndex types.now heap.old contexts.old }
-    requires young { heap.old.start0 ≤ tail_of heap.old }
     requires positive { 0 < thread }
     requires few { thread ≤ 16 }
     requires least { 24 ≤ size }

@@ -1,32 +1,51 @@
 //! The checks that lines share, in their order.
-ghost use Rattle.std.specs.Prelude.{◌≡◌, ◌<◌, ◌∷◌, [], ◌==◌, ◌≤◌, ◌+◌, ◌-◌, ◌*◌, length, slice_index, true, slice_get};
+ghost use Rattle.std.specs.Prelude.{◌≡◌, ◌<◌, ◌∷◌, [], None, true};
 ghost use Rattle.clr_model.specs.Lookups.{is_thread, local_index};
-ghost use Rattle.clr_runtime.specs.Checks.{lacks_names};
 
-use crate::runtime::LOCALS_OF_A_THREAD;
+use crate::runtime::{LOCALS_OF_A_THREAD, Runtime};
 use clr_model::Refusal;
 
 /// There are so many threads, numbered from 1.
 const THREADS: u64 = 16;
 
-/// Whether there is a thread of this number.
-pub fn is_known(t: u64) -> bool
+impl Runtime {
+    ghost use Rattle.clr_runtime.specs.Checks.{names_refusal, thread_refusal};
+
+    // Why a line of a thread is refused before it looks at anything.
+    pub(crate) fn refused_thread(&self, t: u64) -> Option<Refusal>
+        ensures value { result ≡ thread_refusal self.now t }
+        ensures known { result ≡ None → is_thread t ≡ true }
+    {
+        let _ = &self.sums;
+        if is_known(t) {
+            None
+        } else {
+            Some(Refusal::UnknownThread)
+        }
+    }
+
+    // Why a line of a thread that names these two locals is refused before it looks at any object.
+    pub(crate) fn refused_names(&self, t: u64, first: u64, second: u64) -> Option<Refusal>
+        ensures value { result ≡ names_refusal self.now t (first ∷ second ∷ []) }
+        ensures known { result ≡ None → is_thread t ≡ true }
+        ensures locals { result ≡ None → (first < 64) × (second < 64) }
+    {
+        let refusal = self.refused_thread(t);
+        if refusal.is_some() {
+            return refusal;
+        }
+        if first >= LOCALS_OF_A_THREAD || second >= LOCALS_OF_A_THREAD {
+            return Some(Refusal::NoSlot);
+        }
+        None
+    }
+}
+
+// Whether there is a thread of this number.
+fn is_known(t: u64) -> bool
     ensures { result ≡ is_thread t }
 {
     1 <= t && t <= THREADS
-}
-
-/// Why a line of a thread that names these two locals is refused before it looks at anything: no such thread, or no such local.
-pub fn refuse_names(t: u64, first: u64, second: u64) -> Option<Refusal>
-    ensures { result ≡ lacks_names t (first ∷ second ∷ []) }
-{
-    if !is_known(t) {
-        Some(Refusal::UnknownThread)
-    } else if first >= LOCALS_OF_A_THREAD || second >= LOCALS_OF_A_THREAD {
-        Some(Refusal::NoSlot)
-    } else {
-        None
-    }
 }
 
 /// Where local `k` of a thread stands among all locals.

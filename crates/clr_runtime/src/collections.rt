@@ -1,7 +1,6 @@
 //! The line that collects.
 ghost use Rattle.std.specs.Prelude.{◌≡◌};
 
-use crate::checks::is_known;
 use crate::runtime::Runtime;
 use crate::sums::Sums;
 use clr_collect::collect;
@@ -12,11 +11,11 @@ impl Runtime {
     ghost use Rattle.clr_model.specs.Run.{Follows};
     ghost use Rattle.clr_runtime.specs.Outcomes.{collected_outcome};
 
-    /// Collects the whole heap by a sweep, which is the one collection that is built: `g` is 2, and `how` is `Sweep`. Gives how many
-    /// objects were kept and how many freed, and the bytes that went to generations 1 and 2.
+    /// Collects the whole heap by a sweep, which is the one collection that is built: `g` is 2, and `how` is `Sweep`.
+    /// Gives how many objects were kept and how many freed, and the bytes that went to generations 1 and 2.
     ///
-    /// The contexts of all threads are given up. Exactly the objects that the locals reach stay, at their places; each is one
-    /// generation older, up to 2. It is refused for an unknown thread, and takes no memory.
+    /// The contexts of all threads are given up. Exactly the objects that the locals reach stay, at their places; each
+    /// is one generation older, up to 2. It is refused for an unknown thread, and takes no memory.
     pub fn collect(&mut self, t: u64, g: u8, how: How) -> Result<Collected, Refusal>
         requires full { g ≡ 2 }
         requires sweeping { how ≡ How.Sweep }
@@ -24,8 +23,8 @@ impl Runtime {
     {
         prove!(g == 2);
         prove!(matches!(how, How::Sweep));
-        if !is_known(t) {
-            return Err(Refusal::UnknownThread);
+        if let Some(refusal) = self.refused_thread(t) {
+            return Err(refusal);
         }
         let collected = collect(
             &self.types,

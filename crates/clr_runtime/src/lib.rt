@@ -3,6 +3,7 @@
 
 pub use crate::options::Options;
 pub use crate::runtime::Runtime;
+pub use clr_mark::NoMemory;
 
 mod births;
 mod checks;
@@ -13,7 +14,3 @@ mod slots;
 mod sums;
 #[cfg(test)]
 mod tests;
-
-/// There was no memory.
-#[derive(Clone, Copy, Debug, PartialEq, Eq)]
-pub struct NoMemory;

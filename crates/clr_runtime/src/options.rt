@@ -1,7 +1,11 @@
 //! What a runtime is made with.
-ghost use Rattle.std.specs.Prelude.{◌≡◌};
+ghost use Rattle.std.specs.Prelude.{◌≡◌, ◌↔◌, IsTrue};
+ghost use Rattle.clr_model.specs.Lawful.{AreLawfulOptions};
 ghost use Rattle.clr_model.specs.Run.{defaults};
 ghost use Rattle.clr_runtime.specs.Options.{options_of};
+
+/// The most bytes that a limit or a budget may have.
+const GIBIBYTE: u64 = 1_073_741_824;
 
 /// What a runtime is made with: sizes and budgets in bytes, and a percentage.
 #[derive(Clone, Copy, Debug, PartialEq, Eq)]
@@ -36,5 +40,22 @@ impl Options {
             bl: 4_194_304,
             compact: 50,
         }
+    }
+
+    /// Whether a runtime may be made with these: a segment has 256 KiB to 64 MiB in whole pages, the limit takes two of
+    /// them and is at most 1 GiB, as is each budget, and the percentage is at most 100.
+    pub fn is_lawful(&self) -> bool
+        ensures { IsTrue result ↔ AreLawfulOptions (options_of self.now) }
+    {
+        262_144 <= self.segment
+            && self.segment <= 67_108_864
+            && self.segment % 4096 == 0
+            && 2 * self.segment <= self.limit
+            && self.limit <= GIBIBYTE
+            && self.b0 <= GIBIBYTE
+            && self.b1 <= GIBIBYTE
+            && self.b2 <= GIBIBYTE
+            && self.bl <= GIBIBYTE
+            && self.compact <= 100
     }
 }

@@ -1,5 +1,5 @@
 //! The types, the heap and the locals that the lines of a script work on.
-ghost use Rattle.std.specs.Prelude.{◌≡◌, ◌≤◌, IfOk, length, replicate, false};
+ghost use Rattle.std.specs.Prelude.{◌≡◌, ◌≤◌, IfOk, length, replicate, false, true};
 ghost use Rattle.clr_types.specs.Types.{form_of};
 ghost use Rattle.clr_runtime.specs.Options.{options_of};
 ghost use Rattle.clr_runtime.specs.Outcomes.{refusal_of_fault};
@@ -23,8 +23,9 @@ pub(crate) const LOCALS_OF_A_THREAD: u64 = 64;
 
 /// The types, the heap, the contexts, the marker and the locals of a script that runs. Each call is one line.
 ///
-/// Contracts see the machine whose objects are named by their places. After each call the runtime stands for the next state of
-/// each graph machine that it stood for before, and the answer is that step's reply. A refused call leaves the state as it was.
+/// Contracts see the machine whose objects are named by their places. After each call the runtime stands for the next
+/// state of each graph machine that it stood for before, and the answer is that step's reply. A refused call leaves the
+/// state as it was.
 #[derive(Drop)]
 pub struct Runtime {
     pub(crate) types: Types,
@@ -42,7 +43,7 @@ impl Model for Runtime {
     ghost Value = { Machine };
 
     ghost use Rattle.std.specs.Coded.{codes};
-    ghost use Rattle.clr_model.specs.MachineCode.{handles_code};
+    ghost use Rattle.clr_types.specs.HandleCode.{handles_code};
 
     ghost coded = { Prim.hlevel (codes, handles_code) };
 
@@ -56,8 +57,10 @@ impl Model for Runtime {
 impl Runtime {
     ghost use Rattle.clr_model.specs.Instructions.{define_type};
     ghost use Rattle.clr_model.specs.Lawful.{AreLawfulOptions, IsPlaceNamed};
+    ghost use Rattle.clr_model.specs.LineGrammar.{is_name};
     ghost use Rattle.clr_model.specs.Run.{Follows, opening, StandsFor};
     ghost use Rattle.clr_heap.specs.View.{IsHeap};
+    ghost use Rattle.clr_view.specs.Clean.{AreClean};
     ghost use Rattle.clr_view.specs.Marks.{IsUnmarked};
     ghost use Rattle.clr_view.specs.View.{AreFreeHeads, IsHeld, layout_in, objects_in};
     ghost use Rattle.clr_runtime.specs.Outcomes.{mt_outcome};
@@ -70,8 +73,8 @@ impl Runtime {
         Runtime::with_mark_stack(alloc, options, MARK_STACK)
     }
 
-    /// The same, where `capacity` objects, at least one, have room on the stack of a marking. The others are found again by walks,
-    /// so a small stack makes collections slower, and changes no answer.
+    /// The same, where `capacity` objects, at least one, have room on the stack of a marking. The others are found
+    /// again by walks, so a small stack makes collections slower, and changes no answer.
     pub fn with_mark_stack(
         alloc: Global,
         options: Options,
@@ -100,11 +103,13 @@ impl Runtime {
         })
     }
 
-    /// Defines a type, and gives its method table word. No type has a finaliser yet.
+    /// Defines a type, and gives its method table word. The name is one that a line can spell. No type has a finaliser
+    /// yet.
     ///
     /// The refusals are those of `Types::define`, in their order.
     pub fn define(&mut self, name: &[u8], shape: Shape<'_>, finalizer: bool) -> Result<u64, Refusal>
-        requires { finalizer ≡ false }
+        requires named { is_name name.now ≡ true }
+        requires plain { finalizer ≡ false }
         ensures { Follows self.old (define_type name.now (form_of shape.entry) finalizer) (mt_outcome result) self.new }
     {
         match self.types.define(name, shape, finalizer) {
@@ -120,14 +125,16 @@ impl Runtime {
         &self.types
     }
 
-    /// The heap, of which the options limit the segments. No object is marked, and each free item has the head of free space
-    /// without a mark. What is seen is a lawful state whose objects are named by their places.
+    /// The heap, of which the options limit the segments. No object is marked, each free item has the head of free
+    /// space without a mark, and the headers and the padding of objects say nothing else. What is seen is a lawful
+    /// state whose objects are named by their places.
     pub fn heap(&self) -> &Heap
         ensures objects { self.now.objects ≡ objects_in self.now.types result.now }
         ensures layout { self.now.layout ≡ layout_in self.now.types result.now }
         ensures held { IsHeld self.now.types result.now }
         ensures unmarked { IsUnmarked self.now.types result.now }
         ensures free_heads { AreFreeHeads self.now.types result.now }
+        ensures clean { AreClean self.now.types result.now }
         ensures limit { result.now.limit ≡ self.now.options.limit }
         ensures sound { IsPlaceNamed self.now }
     {

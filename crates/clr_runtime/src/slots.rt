@@ -1,12 +1,12 @@
 //! The lines that read and write slots and locals.
-ghost use Rattle.std.specs.Prelude.{◌≡◌, ◌≢◌, ◌≤◌, ◌∷◌, [], length};
+ghost use Rattle.std.specs.Prelude.{◌≡◌, ◌≢◌, ◌≤◌, length};
 ghost use Rattle.clr_types.specs.Types.{form_at};
 ghost use Rattle.clr_model.specs.Step.{stored_number};
 ghost use Rattle.clr_view.specs.View.{IsHeld};
 ghost use Rattle.clr_view.specs.SlotValues.{StandsAt};
 ghost use Rattle.clr_runtime.specs.Slots.{IsFound};
 
-use crate::checks::{index_of, refuse_names};
+use crate::checks::index_of;
 use crate::runtime::Runtime;
 use clr_heap::{Heap, Item};
 use clr_model::Refusal;
@@ -21,28 +21,20 @@ pub struct Found {
 }
 
 impl Runtime {
-    ghost use Rattle.clr_model.specs.Instructions.{clear_local, copy_local, get_slot, put_number, read_number, set_slot};
+    ghost use Rattle.clr_model.specs.Instructions.{clear_local, copy_local, get_slot, put_number, read_number};
+    ghost use Rattle.clr_model.specs.Instructions.{set_slot};
     ghost use Rattle.clr_model.specs.Run.{Follows};
-    ghost use Rattle.clr_runtime.specs.Checks.{IsIdle, lacks_names};
     ghost use Rattle.clr_runtime.specs.Outcomes.{done_outcome, number_outcome, place_outcome};
 
-    // Why a line of a thread that names these two locals is refused before it looks at anything.
-    fn lacks_names(&self, t: u64, first: u64, second: u64) -> Option<Refusal>
-        ensures value { result ≡ lacks_names t (first ∷ second ∷ []) }
-        ensures idle { IsIdle self.now }
-    {
-        let _ = &self.locals;
-        refuse_names(t, first, second)
-    }
-
-    /// Local `to` of thread `t` takes what slot `index` of the object of local `from` names, and the call gives its place, 0 for null.
+    /// Local `to` of thread `t` takes what slot `index` of the object of local `from` names, and the call gives its
+    /// place, 0 for null.
     ///
-    /// It is refused for an unknown thread, a local from 64 on, a null local, an index that no slot of the object has, and a
-    /// slot that holds a number, in this order.
+    /// It is refused for an unknown thread, a local from 64 on, a null local, an index that no slot of the object has,
+    /// and a slot that holds a number, in this order.
     pub fn get(&mut self, t: u64, to: u64, from: u64, index: u64) -> Result<u64, Refusal>
         ensures { Follows self.old (get_slot t to from index) (place_outcome result) self.new }
     {
-        if let Some(refusal) = self.lacks_names(t, to, from) {
+        if let Some(refusal) = self.refused_names(t, to, from) {
             return Err(refusal);
         }
         let place = self.locals[index_of(t, from)];
@@ -61,7 +53,7 @@ impl Runtime {
     pub fn set(&mut self, t: u64, into: u64, index: u64, from: u64) -> Result<(), Refusal>
         ensures { Follows self.old (set_slot t into index from) (done_outcome result) self.new }
     {
-        if let Some(refusal) = self.lacks_names(t, into, from) {
+        if let Some(refusal) = self.refused_names(t, into, from) {
             return Err(refusal);
         }
         let place = self.locals[index_of(t, into)];
@@ -80,7 +72,7 @@ impl Runtime {
     pub fn put(&mut self, t: u64, into: u64, index: u64, value: u64) -> Result<(), Refusal>
         ensures { Follows self.old (put_number t into index value) (done_outcome result) self.new }
     {
-        if let Some(refusal) = self.lacks_names(t, into, into) {
+        if let Some(refusal) = self.refused_names(t, into, into) {
             return Err(refusal);
         }
         let place = self.locals[index_of(t, into)];
@@ -99,7 +91,7 @@ impl Runtime {
     pub fn read(&self, t: u64, from: u64, index: u64) -> Result<u64, Refusal>
         ensures { Follows self.now (read_number t from index) (number_outcome result) self.now }
     {
-        if let Some(refusal) = self.lacks_names(t, from, from) {
+        if let Some(refusal) = self.refused_names(t, from, from) {
             return Err(refusal);
         }
         let place = self.locals[index_of(t, from)];
@@ -115,7 +107,7 @@ impl Runtime {
     pub fn copy(&mut self, t: u64, to: u64, from: u64) -> Result<u64, Refusal>
         ensures { Follows self.old (copy_local t to from) (place_outcome result) self.new }
     {
-        if let Some(refusal) = self.lacks_names(t, to, from) {
+        if let Some(refusal) = self.refused_names(t, to, from) {
             return Err(refusal);
         }
         let held = self.locals[index_of(t, from)];
@@ -129,7 +121,7 @@ impl Runtime {
     pub fn clear(&mut self, t: u64, local: u64) -> Result<(), Refusal>
         ensures { Follows self.old (clear_local t local) (done_outcome result) self.new }
     {
-        if let Some(refusal) = self.lacks_names(t, local, local) {
+        if let Some(refusal) = self.refused_names(t, local, local) {
             return Err(refusal);
         }
         self.locals[index_of(t, local)] = 0;
@@ -137,8 +129,8 @@ impl Runtime {
     }
 }
 
-// Slot `index` of the object at a place, where it holds a reference or a number, as is wanted; else the first of the checks
-// that fails.
+// Slot `index` of the object at a place, where it holds a reference or a number, as is wanted; else the first of the
+// checks that fails.
 fn find_slot(
     heap: &Heap,
     types: &Types,

@@ -1,7 +1,7 @@
 //! The bytes that budgets are compared with.
 
-/// Bytes of small objects that were born since the last collection, of large ones since the last full one, and bytes that
-/// collections promoted to generation 1 and to generation 2.
+/// Bytes of small objects that were born since the last collection, of large ones since the last full one, and bytes
+/// that collections promoted to generation 1 and to generation 2.
 #[derive(Clone, Copy)]
 pub struct Sums {
     pub spent0: u64,

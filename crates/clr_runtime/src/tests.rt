@@ -1,17 +1,21 @@
 // Lines of a script as calls: refusals in their order, slots, contexts that are used up, and want of room.
 
+ghost use Rattle.std.specs.Prelude.{◌≡◌, true};
+ghost use Rattle.clr_model.specs.LineGrammar.{is_name};
+
 mod collections;
+mod options;
 
 use crate::{Options, Runtime};
 use clr_model::{Refusal, Reply};
 use clr_types::Shape;
 use std::alloc::Global;
+use std::process::Abort;
 use std::test::Fail;
 
 /// A line, as a script has it: the thread first.
 #[derive(Clone, Copy)]
 enum Line {
-    Define(&'static [u8], Shape<'static>),
     New(u64, u64, &'static [u8], Option<u64>),
     Get(u64, u64, u64, u64),
     Set(u64, u64, u64, u64),
@@ -24,7 +28,6 @@ enum Line {
 // What a line is answered.
 fn obey(runtime: &mut Runtime, line: Line) -> Result<Reply, Refusal> {
     match line {
-        Line::Define(name, shape) => runtime.define(name, shape, false).map(Reply::Mt),
         Line::New(t, local, name, len) => runtime.new_object(t, local, name, len).map(Reply::Place),
         Line::Get(t, to, from, index) => runtime.get(t, to, from, index).map(Reply::Place),
         Line::Set(t, into, index, from) => runtime.set(t, into, index, from).map(|_| Reply::Done),
@@ -32,6 +35,35 @@ fn obey(runtime: &mut Runtime, line: Line) -> Result<Reply, Refusal> {
         Line::Read(t, from, index) => runtime.read(t, from, index).map(Reply::Number),
         Line::Copy(t, to, from) => runtime.copy(t, to, from).map(Reply::Place),
         Line::Clear(t, local) => runtime.clear(t, local).map(|_| Reply::Done),
+    }
+}
+
+// Defines a type without a finaliser.
+fn define(runtime: &mut Runtime, name: &[u8], shape: Shape<'_>) -> Result<u64, Refusal>
+    requires { is_name name.now ≡ true }
+{
+    runtime.define(name, shape, false)
+}
+
+// Each line is answered as is wanted.
+fn expect_answers(
+    rt: &impl Abort,
+    runtime: &mut Runtime,
+    lines: &[(Line, Result<Reply, Refusal>)],
+) {
+    for (line, want) in lines {
+        assert_eq!(rt; obey(runtime, *line), *want);
+    }
+}
+
+// Each object that is made for local 0 of a thread stands where it is wanted, or the line is refused.
+fn expect_births(
+    rt: &impl Abort,
+    runtime: &mut Runtime,
+    births: &[(u64, &[u8], Option<u64>, Result<u64, Refusal>)],
+) {
+    for (t, name, len, want) in births {
+        assert_eq!(rt; runtime.new_object(*t, 0, name, *len), *want);
     }
 }
 
@@ -47,9 +79,9 @@ fn small_runtime(alloc: Global) -> Result<Runtime, Fail> {
         compact: 50,
     };
     let mut runtime = Runtime::new(alloc, options)?;
-    let _ = runtime.define(b"Pair", Shape::Class(b"rn"), false)?;
-    let _ = runtime.define(b"Refs", Shape::RefArray, false)?;
-    let _ = runtime.define(b"Bytes", Shape::ByteArray, false)?;
+    let _ = define(&mut runtime, b"Pair", Shape::Class(b"rn"))?;
+    let _ = define(&mut runtime, b"Refs", Shape::RefArray)?;
+    let _ = define(&mut runtime, b"Bytes", Shape::ByteArray)?;
     Ok(runtime)
 }
 
@@ -87,18 +119,6 @@ fn lines_are_answered_or_refused(rt: HostRuntime) -> Result<(), Fail> {
         (Line::Get(16, 1, 0, 2), Err(Refusal::Index)),
         (Line::Get(16, 1, 0, 1), Err(Refusal::NotReference)),
         (Line::Put(16, 0, 0, 7), Err(Refusal::IsReference)),
-        (
-            Line::Define(b"Free", Shape::Class(b"x")),
-            Err(Refusal::DuplicateType),
-        ),
-        (
-            Line::Define(b"Text", Shape::Class(b"x")),
-            Err(Refusal::BadShape),
-        ),
-        (
-            Line::Define(b"Text", Shape::StructArray(b"nr")),
-            Ok(Reply::Mt(0x7ff0_0000_0100)),
-        ),
         // a byte keeps a number modulo 256, and its neighbour stays
         (Line::Put(16, 63, 8, 767), Ok(Reply::Done)),
         (Line::Read(16, 63, 8), Ok(Reply::Number(255))),
@@ -111,9 +131,19 @@ fn lines_are_answered_or_refused(rt: HostRuntime) -> Result<(), Fail> {
         (Line::Copy(16, 2, 63), Ok(Reply::Place(0))),
         (Line::Copy(16, 2, 1), Ok(Reply::Place(0x1000_1000))),
     ];
-    for (line, want) in lines {
-        assert_eq!(rt; obey(&mut runtime, line), want);
-    }
+    expect_answers(&rt, &mut runtime, &lines);
+    Ok(())
+}
+
+#[test]
+fn types_are_defined_or_refused(rt: HostRuntime) -> Result<(), Fail> {
+    let mut runtime = small_runtime(rt.alloc())?;
+    let duplicate = define(&mut runtime, b"Free", Shape::Class(b"x"));
+    assert_eq!(rt; duplicate, Err(Refusal::DuplicateType));
+    let bad = define(&mut runtime, b"Text", Shape::Class(b"x"));
+    assert_eq!(rt; bad, Err(Refusal::BadShape));
+    let text = define(&mut runtime, b"Text", Shape::StructArray(b"nr"));
+    assert_eq!(rt; text, Ok(0x7ff0_0000_0100));
     Ok(())
 }
 
@@ -132,10 +162,7 @@ fn contexts_are_used_up_and_refilled(rt: HostRuntime) -> Result<(), Fail> {
         (1, b"Bytes".as_slice(), Some(8120), Ok(0x1000_7000)),
         (3, b"Refs".as_slice(), Some(1), Ok(0x1000_5020)),
     ];
-    for (t, name, len, want) in births {
-        assert_eq!(rt; runtime.new_object(t, 0, name, len), want);
-    }
-    assert_eq!(rt; runtime.copy(1, 1, 0), Ok(0x1000_7000));
+    expect_births(&rt, &mut runtime, &births);
     Ok(())
 }
 
@@ -144,17 +171,16 @@ fn a_smaller_object_fits_where_a_greater_one_does_not(rt: HostRuntime) -> Result
     let mut runtime = small_runtime(rt.alloc())?;
     let births = [
         // three arrays of 84,992 bytes, each in a context of its own, leave 3,072 bytes of the segment
-        (1, 84_968, Ok(0x1000_1000)),
-        (1, 84_968, Ok(0x1001_5c00)),
-        (2, 84_968, Ok(0x1002_a800)),
-        (1, 84_968, Err(Refusal::Oom)),
-        (1, 3049, Err(Refusal::Oom)),
-        (1, 3048, Ok(0x1003_f400)),
-        (1, 0, Err(Refusal::Oom)),
+        (1, b"Bytes".as_slice(), Some(84_968), Ok(0x1000_1000)),
+        (1, b"Bytes".as_slice(), Some(84_968), Ok(0x1001_5c00)),
+        (2, b"Bytes".as_slice(), Some(84_968), Ok(0x1002_a800)),
+        (1, b"Bytes".as_slice(), Some(84_968), Err(Refusal::Oom)),
+        (1, b"Bytes".as_slice(), Some(3049), Err(Refusal::Oom)),
+        (1, b"Bytes".as_slice(), Some(3048), Ok(0x1003_f400)),
+        (1, b"Bytes".as_slice(), Some(0), Err(Refusal::Oom)),
     ];
-    for (t, len, want) in births {
-        assert_eq!(rt; runtime.new_object(t, 0, b"Bytes", Some(len)), want);
-    }
-    assert_eq!(rt; runtime.copy(1, 1, 0), Ok(0x1003_f400));
+    expect_births(&rt, &mut runtime, &births);
+    let copied = obey(&mut runtime, Line::Copy(1, 1, 0));
+    assert_eq!(rt; copied, Ok(Reply::Place(0x1003_f400)));
     Ok(())
 }

@@ -1,6 +1,7 @@
 // Collections of many objects, whatever room the mark stack has.
 ghost use Rattle.std.specs.Prelude.{◌≤◌};
 
+use crate::tests::define;
 use crate::{Options, Runtime};
 use clr_model::{Collected, How, Refusal};
 use clr_types::Shape;
@@ -22,8 +23,8 @@ fn runtime_with_stack(alloc: Global, capacity: usize) -> Result<Runtime, Fail>
         compact: 50,
     };
     let mut runtime = Runtime::with_mark_stack(alloc, options, capacity)?;
-    let _ = runtime.define(b"Link", Shape::Class(b"r"), false)?;
-    let _ = runtime.define(b"Table", Shape::RefArray, false)?;
+    let _ = define(&mut runtime, b"Link", Shape::Class(b"r"))?;
+    let _ = define(&mut runtime, b"Table", Shape::RefArray)?;
     Ok(runtime)
 }
 
@@ -61,7 +62,8 @@ fn make_list(runtime: &mut Runtime, links: u64) -> Result<(), Refusal> {
     Ok(())
 }
 
-// A full collection answers these numbers of objects that are kept and freed, and of bytes that went to generation 1 and 2.
+// A full collection answers these numbers of objects that are kept and freed, and of bytes that went to generation 1
+// and 2.
 fn expect_collected(rt: &impl Abort, runtime: &mut Runtime, want: [u64; 4]) {
     let told = runtime.collect(16, 2, How::Sweep);
     let want = Collected {

@@ -11,23 +11,39 @@ use Rattle.clr_runtime.proofs.runtime.Runtime.define.Goals.{in-Ok, in-Err}
 pub returns : goal.returns
 returns c =
     let r = c.self.inside in
-    let told : IsTold r.types c.args.name.now (form_of c.args.shape) c.args.finalizer c.define.result =
-    record { duplicate = c.define.ensures.duplicate; bad_shape = c.define.ensures.bad_shape; too_many = c.define.ensures.too_many } in
+    let form = form_of c.args.shape in
+    let told : IsTold r.types c.args.name.now form c.args.finalizer c.define.result = record {
+      duplicate = c.define.ensures.duplicate;
+      bad_shape = c.define.ensures.bad_shape;
+      too_many = c.define.ensures.too_many;
+    } in
     rw (← c.self.view_is)
     elim c.match-define.branch [
       | in-Ok w ↦ rw (w.result-is, w.mt.ensures, w.in-Ok.ensures.number, w.in-Ok.ensures.defined)
-          (told-ok r.types c.args.name.now (form_of c.args.shape) c.args.finalizer c.define.result told r.heap r.locals.items (sums_of r.sums) (options_of r.options) w.in-Ok.t w.in-Ok.is c.self.invariant.shown.held)
+          (told-ok r.types c.args.name.now form c.args.finalizer c.define.result told r.heap r.locals.items
+          (sums_of r.sums) (options_of r.options) c.requires.named w.in-Ok.t w.in-Ok.is
+          c.self.invariant.shown.held)
       | in-Err w ↦ rw (w.result-is, w.refusal_of.ensures, w.in-Err.ensures.err)
-          (told-err r.types c.args.name.now (form_of c.args.shape) c.args.finalizer c.define.result told r.heap r.locals.items (sums_of r.sums) (options_of r.options) w.in-Err.fault w.in-Err.is)
+          (told-err r.types c.args.name.now form c.args.finalizer c.define.result told r.heap r.locals.items
+          (sums_of r.sums) (options_of r.options) w.in-Err.fault w.in-Err.is)
     ]
 
 pub invariant_of-self : goal.invariant_of-self
 invariant_of-self c =
     let r = c.self.inside in
+    let form = form_of c.args.shape in
     record {
       shown =
-          defined_kept r.types c.define.new.self r.heap r.locals.items (sums_of r.sums) (options_of r.options) c.args.name.now (form_of c.args.shape) c.args.finalizer c.define.result c.self.invariant.shown c.requires c.define.ensures.defined c.define.ensures.err
-          (record { duplicate = c.define.ensures.duplicate; bad_shape = c.define.ensures.bad_shape; too_many = c.define.ensures.too_many });
-      index = defined_index r.types c.define.new.self r.heap (new_row c.args.name.now (form_of c.args.shape) c.args.finalizer) c.define.result r.contexts c.self.invariant.shown.held c.define.ensures.defined c.define.ensures.err c.self.invariant.index;
+          defined_kept r.types c.define.new.self r.heap r.locals.items (sums_of r.sums) (options_of r.options)
+          c.args.name.now form c.args.finalizer c.define.result c.self.invariant.shown c.requires.named
+          c.requires.plain c.define.ensures.defined c.define.ensures.err
+          (record {
+            duplicate = c.define.ensures.duplicate;
+            bad_shape = c.define.ensures.bad_shape;
+            too_many = c.define.ensures.too_many;
+          });
+      index = defined_index r.types c.define.new.self r.heap
+          (new_row c.args.name.now form c.args.finalizer) c.define.result r.contexts c.self.invariant.shown.held
+          c.define.ensures.defined c.define.ensures.err c.self.invariant.index;
       limit = c.self.invariant.limit;
     }

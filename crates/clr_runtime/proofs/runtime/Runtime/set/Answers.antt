@@ -1,16 +1,14 @@
 -- The slot takes what the local holds.
-use Rattle.std.proofs.Common.{sym, ◌∙◌, refl}
+use Rattle.std.proofs.Common.{sym, ◌∙◌}
 use Rattle.std.proofs.lemmas.Bool.{true≢false}
 use Rattle.clr_view.specs.View.{word_value}
 use Rattle.clr_view.proofs.SlotReads.{reference-word}
 use Rattle.clr_model.specs.Outcomes.{answered}
 use Rattle.clr_model.specs.declared.Reply.TheVariants.{Done}
 use Rattle.clr_model.proofs.LineFollows.{set_of}
-use Rattle.clr_runtime.specs.Options.{options_of}
-use Rattle.clr_runtime.specs.RuntimeView.{seen, sums_of}
 use Rattle.clr_runtime.proofs.IndexKept.{same_index}
-use Rattle.clr_runtime.proofs.LocalsSeen.{idle-shown, local-read, local-stands}
 use Rattle.clr_runtime.proofs.LimitKept.{stored_limit}
+use Rattle.clr_runtime.proofs.LocalsSeen.{local-read, local-stands}
 use Rattle.clr_runtime.proofs.NamesChecked.{names_refused}
 use Rattle.clr_runtime.proofs.RuntimeKept.{store_kept}
 use Rattle.clr_runtime.proofs.SlotLines.{refused_slot, was_set}
@@ -19,46 +17,68 @@ use Rattle.clr_runtime.proofs.runtime.Runtime.set.Goals as goal
 pub returns-in-Some : goal.returns-in-Some
 returns-in-Some c =
     let l = set_of c.args.t c.args.into c.args.index c.args.from in
-    names_refused l.instruction l.thread l.locals _ l.line l.alike c.args.self.now c.lacks_names.ensures.idle c.in-Some.refusal (sym c.lacks_names.ensures.value ∙ c.in-Some.is)
+    names_refused l.instruction l.thread l.locals _ l.line l.alike c.args.self.now c.in-Some.refusal
+    (sym c.refused_names.ensures.value ∙ c.in-Some.is)
 
 pub find_slot-requires-clause-object : goal.find_slot-requires-clause-object
 find_slot-requires-clause-object c =
-    let r = c.self.inside in
-    local-stands r.types r.heap (seen r) refl c.self.invariant.shown.sound c.args.t c.args.into c.index-place.result.now
-    (local-read (seen r) c.args.t c.args.into c.index_of.result c.index-place.result.now c.self.invariant.shown.locals c.index_of.ensures.within c.index_of.ensures.index c.index-place.ensures)
+    local-stands c.self.invariant.shown c.args.t c.args.into c.index-place.result.now
+    (local-read c.self.invariant.shown c.args.t c.args.into c.index_of.result c.index-place.result.now
+    c.index_of.ensures.within c.index_of.ensures.index c.index-place.ensures)
 
 pub returns-in-Err : goal.returns-in-Err
 returns-in-Err c =
     let r = c.self.inside in
+    let passed = rw (← c.self.view_is) at (sym c.refused_names.ensures.value ∙ c.in_default.is) in
     rw (← c.self.view_is)
-    (refused_slot r.types r.heap (seen r) refl (idle-shown (seen r) refl refl) (set_of c.args.t c.args.into c.args.index c.args.from) c.index-place.result.now (sym c.lacks_names.ensures.value ∙ c.in_default.is)
-    (local-read (seen r) c.args.t c.args.into c.index_of.result c.index-place.result.now c.self.invariant.shown.locals c.index_of.ensures.within c.index_of.ensures.index c.index-place.ensures) c.in-Err.refusal c.in-Err.ensures)
+    (refused_slot r.types r.heap r.locals.items _ _ (set_of c.args.t c.args.into c.args.index c.args.from)
+    c.index-place.result.now passed
+    (local-read c.self.invariant.shown c.args.t c.args.into c.index_of.result c.index-place.result.now
+    c.index_of.ensures.within c.index_of.ensures.index c.index-place.ensures) c.in-Err.refusal c.in-Err.ensures)
 
 pub set_slot_value-requires-clause-byte : goal.set_slot_value-requires-clause-byte
 set_slot_value-requires-clause-byte c = λ bytes.
     let (has, kind) = c.in-Ok.ensures in
-    absurd (true≢false (sym bytes ∙ reference-word c.self.inside.types c.in-Ok.found.item c.in-Ok.found.slot (record { number = c.args.index; is = has.slot }) kind))
+    absurd (true≢false
+    (sym bytes ∙ reference-word c.self.inside.types c.in-Ok.found.item c.in-Ok.found.slot
+    (record { number = c.args.index; is = has.slot }) kind))
 
 pub invariant_of-self : goal.invariant_of-self
 invariant_of-self c =
     let r = c.self.inside in
+    let passed = rw (← c.self.view_is) at (sym c.refused_names.ensures.value ∙ c.in_default.is) in
+    let is = c.self.invariant.shown in
     let (has, kind) = c.in-Ok.ensures in
-    let stored = c.set_slot_value.ensures.stored c.args.index has.slot in
+    let done = c.set_slot_value in
+    let stored = done.ensures.stored c.args.index has.slot in
     record {
-      shown =
-          store_kept r.types r.heap r.locals.items (sums_of r.sums) (options_of r.options) c.self.invariant.shown _ (answered Done) c.set_slot_value.new.heap c.in-Ok.found.item.place c.args.index (word_value c.in-Ok.found.slot.reference c.index-name.result.now) stored c.set_slot_value.ensures.unmarked c.set_slot_value.ensures.free_heads
-          (was_set r.types r.heap c.set_slot_value.new.heap r.locals.items (sums_of r.sums) (options_of r.options) c.args.t c.index-place.result.now c.args.index c.in-Ok.found.item c.in-Ok.found.slot has c.args.into c.args.from c.index-name.result.now (sym c.lacks_names.ensures.value ∙ c.in_default.is)
-          (local-read (seen r) c.args.t c.args.into c.index_of.result c.index-place.result.now c.self.invariant.shown.locals c.index_of.ensures.within c.index_of.ensures.index c.index-place.ensures)
-          (local-read (seen r) c.args.t c.args.from c.index_of-2.result c.index-name.result.now c.self.invariant.shown.locals c.index_of-2.ensures.within c.index_of-2.ensures.index c.index-name.ensures) kind stored);
-      index = same_index r.types r.types r.heap c.set_slot_value.new.heap r.contexts stored.layout c.self.invariant.index;
-      limit = stored_limit r.types r.heap c.set_slot_value.new.heap c.in-Ok.found.item c.in-Ok.found.slot c.index-name.result.now c.set_slot_value.ensures.words ∙ c.self.invariant.limit;
+      shown = store_kept is _ (answered Done) done.new.heap c.in-Ok.found.item.place c.args.index
+          (word_value c.in-Ok.found.slot.reference c.index-name.result.now) stored done.ensures.unmarked
+          done.ensures.free_heads done.ensures.clean
+          (was_set r.types r.heap r.locals.items _ _ c.args.t c.index-place.result.now c.args.index c.in-Ok.found.item
+          c.in-Ok.found.slot has done.new.heap c.args.into c.args.from c.index-name.result.now
+          passed
+          (local-read is c.args.t c.args.into c.index_of.result c.index-place.result.now c.index_of.ensures.within
+          c.index_of.ensures.index c.index-place.ensures)
+          (local-read is c.args.t c.args.from c.index_of-2.result c.index-name.result.now
+          c.index_of-2.ensures.within c.index_of-2.ensures.index c.index-name.ensures) kind stored);
+      index = same_index r.types r.types r.heap done.new.heap r.contexts stored.layout c.self.invariant.index;
+      limit = stored_limit r.types r.heap done.new.heap c.in-Ok.found.item c.in-Ok.found.slot
+          c.index-name.result.now done.ensures.words ∙ c.self.invariant.limit;
     }
 
 pub returns : goal.returns
 returns c =
     let r = c.self.inside in
+    let passed = rw (← c.self.view_is) at (sym c.refused_names.ensures.value ∙ c.in_default.is) in
+    let is = c.self.invariant.shown in
     let (has, kind) = c.in-Ok.ensures in
+    let done = c.set_slot_value in
     rw (← c.self.view_is)
-    (was_set r.types r.heap c.set_slot_value.new.heap r.locals.items (sums_of r.sums) (options_of r.options) c.args.t c.index-place.result.now c.args.index c.in-Ok.found.item c.in-Ok.found.slot has c.args.into c.args.from c.index-name.result.now (sym c.lacks_names.ensures.value ∙ c.in_default.is)
-    (local-read (seen r) c.args.t c.args.into c.index_of.result c.index-place.result.now c.self.invariant.shown.locals c.index_of.ensures.within c.index_of.ensures.index c.index-place.ensures)
-    (local-read (seen r) c.args.t c.args.from c.index_of-2.result c.index-name.result.now c.self.invariant.shown.locals c.index_of-2.ensures.within c.index_of-2.ensures.index c.index-name.ensures) kind (c.set_slot_value.ensures.stored c.args.index has.slot))
+    (was_set r.types r.heap r.locals.items _ _ c.args.t c.index-place.result.now c.args.index c.in-Ok.found.item
+    c.in-Ok.found.slot has done.new.heap c.args.into c.args.from c.index-name.result.now
+    passed
+    (local-read is c.args.t c.args.into c.index_of.result c.index-place.result.now c.index_of.ensures.within
+    c.index_of.ensures.index c.index-place.ensures)
+    (local-read is c.args.t c.args.from c.index_of-2.result c.index-name.result.now c.index_of-2.ensures.within
+    c.index_of-2.ensures.index c.index-name.ensures) kind (done.ensures.stored c.args.index has.slot))

@@ -9,11 +9,19 @@ use Rattle.clr_runtime.proofs.Opened.{new_shown, new_stands}
 use Rattle.clr_runtime.proofs.runtime.Runtime.with_mark_stack.Goals as goal
 
 pub returns : goal.returns
-returns c = new_stands c.in-Ok-Ok-Ok-Ok.types c.in-Ok-Ok-Ok-Ok.heap c.in-Ok-Ok-Ok-Ok.locals.items (options_of c.args.options) _ c.requires.lawful c.in-Ok-Ok-Ok-Ok.ensures c.in-Ok-Ok-Ok-Ok.ensures' c.in-Ok-Ok-Ok-Ok.ensures'''
+returns c =
+    let made = c.in-Ok-Ok-Ok-Ok in
+    new_stands made.types made.heap made.locals.items (options_of c.args.options) _ c.requires.lawful made.ensures
+    made.ensures' made.ensures'''
 
 pub invariant_of-result : goal.invariant_of-result
-invariant_of-result c = record {
-  shown = new_shown c.in-Ok-Ok-Ok-Ok.types c.in-Ok-Ok-Ok-Ok.heap c.in-Ok-Ok-Ok-Ok.locals.items (options_of c.args.options) _ c.requires.lawful c.in-Ok-Ok-Ok-Ok.ensures c.in-Ok-Ok-Ok-Ok.ensures' c.in-Ok-Ok-Ok-Ok.ensures''';
-  index = subst (λ (i : Option (List Piece)). IsIndex c.in-Ok-Ok-Ok-Ok.types c.in-Ok-Ok-Ok-Ok.heap i) (sym c.new-4.ensures) (first_index c.in-Ok-Ok-Ok-Ok.types c.in-Ok-Ok-Ok-Ok.heap c.args.options.segment _ c.requires.lawful.segment_aligned c.in-Ok-Ok-Ok-Ok.ensures c.in-Ok-Ok-Ok-Ok.ensures');
-  limit = ap (λ (h : HeapView). h.limit) c.in-Ok-Ok-Ok-Ok.ensures';
-}
+invariant_of-result c =
+    let made = c.in-Ok-Ok-Ok-Ok in
+    record {
+      shown = new_shown made.types made.heap made.locals.items (options_of c.args.options) _ c.requires.lawful
+          made.ensures made.ensures' made.ensures''';
+      index = subst (λ (i : Option (List Piece)). IsIndex made.types made.heap i) (sym c.new-4.ensures)
+          (first_index made.types made.heap c.args.options.segment _ c.requires.lawful.segment_aligned made.ensures
+          made.ensures');
+      limit = ap (λ (h : HeapView). h.limit) made.ensures';
+    }

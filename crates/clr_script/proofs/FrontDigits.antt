@@ -1,5 +1,6 @@
 -- Digits that stand in front of a text.
-use Rattle.std.proofs.Common.{◌≡◌, ℕ, ◌+◌, ◌-◌, ◌*◌, ◌/◌, ◌%◌, ◌<◌, ◌≤◌, ◌^◌, List, ◌∷◌, ◌++◌, append_assoc, decimal, refl, arith}
+use Rattle.std.proofs.Common.{◌≡◌, ℕ, ◌+◌, ◌-◌, ◌*◌, ◌/◌, ◌%◌, ◌<◌, ◌≤◌, ◌^◌, List, ◌∷◌, ◌++◌, append_assoc, decimal}
+use Rattle.std.proofs.Common.{refl, arith}
 use Rattle.std.proofs.lemmas.Fmt.{decimal_digit, decimal_step}
 
 -- the first digit
@@ -10,7 +11,8 @@ first_digit b rest range =
     rw (decimal_digit (b - 48) low, back) refl
 
 -- and one more
-pub further_digit : (n b : ℕ) (rest : List ℕ) → (48 ≤ b) × (b ≤ 57) → (n ≡ 0 → ⊥) → n < 10 ^ 18 → decimal n ++ b ∷ rest ≡ decimal (n * 10 + (b - 48)) ++ rest
+pub further_digit : (n b : ℕ) (rest : List ℕ) → (48 ≤ b) × (b ≤ 57) → (n ≡ 0 → ⊥) → n < 10 ^ 18
+    → decimal n ++ b ∷ rest ≡ decimal (n * 10 + (b - 48)) ++ rest
 further_digit n b rest range some small =
     let (least, most) = range in
     let front : (n * 10 + (b - 48)) / 10 ≡ n = omega arith in

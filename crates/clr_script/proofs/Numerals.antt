@@ -1,5 +1,6 @@
 -- What clr_nums reads of a word is what the word spells.
-use Rattle.std.proofs.Common.{◌≡◌, ◌∙◌, ℕ, ◌+◌, ◌-◌, ◌<◌, ◌≤◌, ◌^◌, true, false, nat_le, List, [], ◌∷◌, arith, refl, sym, ap, Option, Some, None, Ok, Err, IfOk, IfSome, decimal}
+use Rattle.std.proofs.Common.{◌≡◌, ◌∙◌, ℕ, ◌+◌, ◌-◌, ◌<◌, ◌≤◌, ◌^◌, true, false, nat_le, List, [], ◌∷◌, arith, refl}
+use Rattle.std.proofs.Common.{sym, ap, Option, Some, None, Ok, Err, IfOk, IfSome, decimal}
 use Rattle.std.specs.Prelude.{Result}
 use Rattle.std.specs.Result.{result_ok}
 use Rattle.std.specs.Char.{is_ascii_digit}
@@ -9,7 +10,8 @@ use Rattle.clr_nums.specs.Numbers.{hex16}
 use Rattle.clr_model.specs.Parsing.{number_in, address_in}
 use Rattle.clr_model.proofs.WordReaders.{number_reader, address_reader}
 
-pub number_found : {E : Type 0} (word : List ℕ) (read : Result ℕ E) → IfOk read (λ n. word ≡ decimal n) → IfOk read (λ n. n < 2 ^ 64)
+pub number_found : {E : Type 0} (word : List ℕ) (read : Result ℕ E) → IfOk read (λ n. word ≡ decimal n)
+    → IfOk read (λ n. n < 2 ^ 64)
     → ((n : ℕ) → n < 2 ^ 64 → word ≡ decimal n → read ≡ Ok n) → result_ok read ≡ number_in word
 number_found word (Ok n) value bound reads = sym (ap number_in value ∙ number_reader.found n bound)
 number_found {E} word (Err e) value bound reads = go (number_in word) refl
@@ -18,7 +20,8 @@ number_found {E} word (Err e) value bound reads = go (number_in word) refl
     go None is = refl
     go (Some n) is = let p = number_reader.told word n is in absurd (cc (reads n p.1 p.0))
 
-pub address_found : (word : List ℕ) (read : Option ℕ) → IfSome read (λ n. word ≡ hex16 n) → IfSome read (λ n. n < 2 ^ 64)
+pub address_found : (word : List ℕ) (read : Option ℕ) → IfSome read (λ n. word ≡ hex16 n)
+    → IfSome read (λ n. n < 2 ^ 64)
     → ((n : ℕ) → n < 2 ^ 64 → word ≡ hex16 n → read ≡ Some n) → read ≡ address_in word
 address_found word (Some n) value bound reads = sym (ap address_in value ∙ address_reader.found n bound)
 address_found word None value bound reads = go (address_in word) refl

@@ -1,5 +1,6 @@
 -- Words of a line and decimal numbers.
-use Rattle.std.proofs.Common.{◌≡◌, ℕ, ◌+◌, ◌-◌, ◌≤◌, Bool, true, false, cond, not, List, [], ◌∷◌, length, take, drop, Some, None, position, count_by, nat_eq, nat_lt, refl, arith}
+use Rattle.std.proofs.Common.{◌≡◌, ℕ, ◌+◌, ◌-◌, ◌≤◌, Bool, true, false, cond, not, List, [], ◌∷◌, length, take, drop}
+use Rattle.std.proofs.Common.{Some, None, position, count_by, nat_eq, nat_lt, refl, arith}
 use Rattle.std.specs.List.{position_or_len}
 use Rattle.std.proofs.lemmas.Bool.{ltb-true, ltb-false, not-true}
 use Rattle.std.proofs.lemmas.List.{take_rest}
@@ -27,8 +28,10 @@ words_none line e =
 pub words_some : (line : List ℕ) (at : ℕ) → position (λ b. nat_eq b 32) line ≡ Some at →
     words line ≡ take at line ∷ words (take (length line - (at + 1)) (drop (at + 1) line))
 words_some line at e =
-    let h = cond_some (nat_lt (position_or_len (λ b. nat_eq b 32) line) (length line)) (position_or_len (λ b. nat_eq b 32) line) at e in
-    let first : words line ≡ take (position_or_len (λ b. nat_eq b 32) line) line ∷ words (drop (position_or_len (λ b. nat_eq b 32) line + 1) line)
+    let h = cond_some (nat_lt (position_or_len (λ b. nat_eq b 32) line) (length line))
+    (position_or_len (λ b. nat_eq b 32) line) at e in
+    let first : words line ≡ take (position_or_len (λ b. nat_eq b 32) line) line ∷ words
+    (drop (position_or_len (λ b. nat_eq b 32) line + 1) line)
     = slice_split_first (λ b. nat_eq b 32) line 0 (ltb-true _ _ h.0) in
     rw (take_rest, ← h.1) first
 

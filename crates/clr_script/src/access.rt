@@ -1,29 +1,45 @@
 //! The lines on slots and locals, which are most of a script, read in one pass over their bytes.
-ghost use Rattle.std.specs.Prelude.{◌≡◌, ◌<◌, ◌^◌, ◌∷◌, ◌++◌, [], ℕ, IfSome, decimal};
+ghost use Rattle.std.specs.Prelude.{◌≡◌, ◌<◌, ◌^◌, ◌∷◌, ◌++◌, [], ℕ, IfSome, codes, decimal};
 ghost use Rattle.clr_model.specs.LineGrammar.{local_word};
-ghost use Rattle.clr_script.specs.Accesses.{IsAccessLine, behind, further_words, verb_word};
+ghost use Rattle.clr_script.specs.Accesses.{behind, IsAccessLine, SpellsBehind};
 
 use crate::reader::LONGEST;
 
-/// What a line does with slots and locals. `Null` makes a local null.
+/// A line on slots or locals: its thread, and the numbers behind its verb. `Null` makes a local null.
 #[derive(Clone, Copy, Debug, PartialEq, Eq)]
-pub enum Verb {
-    Get,
-    Set,
-    Put,
-    Read,
-    Copy,
-    Null,
-}
-
-/// A line on slots or locals: its thread, its verb, and the numbers behind it in their order, 0 where the verb has none.
-#[derive(Clone, Copy, Debug, PartialEq, Eq)]
-pub struct Access {
-    pub verb: Verb,
-    pub t: u64,
-    pub first: u64,
-    pub second: u64,
-    pub third: u64,
+pub enum Access {
+    Get {
+        t: u64,
+        to: u64,
+        from: u64,
+        index: u64,
+    },
+    Set {
+        t: u64,
+        into: u64,
+        index: u64,
+        from: u64,
+    },
+    Put {
+        t: u64,
+        into: u64,
+        index: u64,
+        value: u64,
+    },
+    Read {
+        t: u64,
+        from: u64,
+        index: u64,
+    },
+    Copy {
+        t: u64,
+        to: u64,
+        from: u64,
+    },
+    Null {
+        t: u64,
+        local: u64,
+    },
 }
 
 /// Below this number one digit more fits 64 bits.
@@ -71,21 +87,6 @@ fn take_local(text: &[u8]) -> Option<(u64, &[u8])>
     }
 }
 
-// The verb of the next word, and what is behind it.
-fn take_verb(text: &[u8]) -> Option<(Verb, &[u8])>
-    ensures { IfSome result (λ p. text.now ≡ (32 ∷ verb_word p.0) ++ p.1.now) }
-{
-    match text {
-        [b' ', b'g', b'e', b't', rest @ ..] => Some((Verb::Get, rest)),
-        [b' ', b's', b'e', b't', rest @ ..] => Some((Verb::Set, rest)),
-        [b' ', b'p', b'u', b't', rest @ ..] => Some((Verb::Put, rest)),
-        [b' ', b'r', b'e', b'a', b'd', rest @ ..] => Some((Verb::Read, rest)),
-        [b' ', b'c', b'o', b'p', b'y', rest @ ..] => Some((Verb::Copy, rest)),
-        [b' ', b'n', b'u', b'l', b'l', rest @ ..] => Some((Verb::Null, rest)),
-        _ => None,
-    }
-}
-
 // The number that is the last word.
 fn last_number(text: &[u8]) -> Option<u64>
     ensures { IfSome result (λ n. (text.now ≡ behind (decimal n ∷ [])) × (n < 2 ^ 64)) }
@@ -102,33 +103,77 @@ fn last_local(text: &[u8]) -> Option<u64>
     if rest.is_empty() { Some(local) } else { None }
 }
 
-// The numbers of the words behind the first local, which end the line.
-fn read_further(verb: Verb, text: &[u8]) -> Option<(u64, u64)>
-    ensures { IfSome result (λ p. (text.now ≡ behind (further_words verb p.0 p.1)) × (p.0 < 2 ^ 64) × (p.1 < 2 ^ 64)) }
+// What is loaded, and whereto.
+fn read_get(t: u64, text: &[u8]) -> Option<Access>
+    ensures { IfSome result (λ access. SpellsBehind t (codes "get") text.now access) }
 {
-    match verb {
-        Verb::Get => {
-            let (second, rest) = take_local(text)?;
-            Some((second, last_number(rest)?))
-        }
-        Verb::Set => {
-            let (second, rest) = take_number(text)?;
-            Some((second, last_local(rest)?))
-        }
-        Verb::Put => {
-            let (second, rest) = take_number(text)?;
-            Some((second, last_number(rest)?))
-        }
-        Verb::Read => Some((last_number(text)?, 0)),
-        Verb::Copy => Some((last_local(text)?, 0)),
-        Verb::Null => { if text.is_empty() { Some((0, 0)) } else { None } }
-    }
+    let (to, rest) = take_local(text)?;
+    let (from, rest) = take_local(rest)?;
+    let index = last_number(rest)?;
+    Some(Access::Get { t, to, from, index })
 }
 
-/// Reads a line on slots or locals. `None` where it is another, too long, or has a number of 20 digits: then `read_line` says
+// Where a reference is stored, and which.
+fn read_set(t: u64, text: &[u8]) -> Option<Access>
+    ensures { IfSome result (λ access. SpellsBehind t (codes "set") text.now access) }
+{
+    let (into, rest) = take_local(text)?;
+    let (index, rest) = take_number(rest)?;
+    let from = last_local(rest)?;
+    Some(Access::Set {
+        t,
+        into,
+        index,
+        from,
+    })
+}
+
+// Where a number is stored, and which.
+fn read_put(t: u64, text: &[u8]) -> Option<Access>
+    ensures { IfSome result (λ access. SpellsBehind t (codes "put") text.now access) }
+{
+    let (into, rest) = take_local(text)?;
+    let (index, rest) = take_number(rest)?;
+    let value = last_number(rest)?;
+    Some(Access::Put {
+        t,
+        into,
+        index,
+        value,
+    })
+}
+
+// Which number is read.
+fn read_slot(t: u64, text: &[u8]) -> Option<Access>
+    ensures { IfSome result (λ access. SpellsBehind t (codes "read") text.now access) }
+{
+    let (from, rest) = take_local(text)?;
+    let index = last_number(rest)?;
+    Some(Access::Read { t, from, index })
+}
+
+// Which local is copied, and whereto.
+fn read_copy(t: u64, text: &[u8]) -> Option<Access>
+    ensures { IfSome result (λ access. SpellsBehind t (codes "copy") text.now access) }
+{
+    let (to, rest) = take_local(text)?;
+    let from = last_local(rest)?;
+    Some(Access::Copy { t, to, from })
+}
+
+// Which local becomes null.
+fn read_null(t: u64, text: &[u8]) -> Option<Access>
+    ensures { IfSome result (λ access. SpellsBehind t (codes "null") text.now access) }
+{
+    let local = last_local(text)?;
+    Some(Access::Null { t, local })
+}
+
+/// Reads a line on slots or locals. `None` where it is another, too long, or has a number of 20 digits: then
+/// `read_line` says
 /// what it is. No clause promises `Some`, since a `None` only costs the time of the general reader.
 pub fn read_access(line: &[u8]) -> Option<Access>
-    ensures { IfSome result (λ a. IsAccessLine line.now a) }
+    ensures { IfSome result (λ access. IsAccessLine line.now access) }
 {
     if line.len() > LONGEST {
         return None;
@@ -137,14 +182,13 @@ pub fn read_access(line: &[u8]) -> Option<Access>
         return None;
     };
     let (t, rest) = take_digits(digits)?;
-    let (verb, rest) = take_verb(rest)?;
-    let (first, rest) = take_local(rest)?;
-    let (second, third) = read_further(verb, rest)?;
-    Some(Access {
-        verb,
-        t,
-        first,
-        second,
-        third,
-    })
+    match rest {
+        [b' ', b'g', b'e', b't', rest @ ..] => read_get(t, rest),
+        [b' ', b's', b'e', b't', rest @ ..] => read_set(t, rest),
+        [b' ', b'p', b'u', b't', rest @ ..] => read_put(t, rest),
+        [b' ', b'r', b'e', b'a', b'd', rest @ ..] => read_slot(t, rest),
+        [b' ', b'c', b'o', b'p', b'y', rest @ ..] => read_copy(t, rest),
+        [b' ', b'n', b'u', b'l', b'l', rest @ ..] => read_null(t, rest),
+        _ => None,
+    }
 }

@@ -1,7 +1,9 @@
 //! What stands behind the verb of a thread's line.
 ghost use Rattle.std.specs.Prelude.{◌≡◌, ℕ};
 ghost use Rattle.std.specs.Option.{option_map};
-ghost use Rattle.clr_model.specs.Parsing.{one_local_in, one_handle_in, address_after_in, locals_in, local_and_number_in, local_and_handle_in, load_in, store_in, number_store_in, length_in, birth_in, how_in, second_in};
+ghost use Rattle.clr_model.specs.Parsing.{one_local_in, one_handle_in, address_after_in, locals_in};
+ghost use Rattle.clr_model.specs.Parsing.{local_and_number_in, local_and_handle_in, load_in, store_in, number_store_in};
+ghost use Rattle.clr_model.specs.Parsing.{length_in, birth_in, how_in, second_in};
 ghost use Rattle.clr_script.specs.Cuts.{words_left};
 
 use crate::cut::{Rest, no_word, one_word, take_word, three_words, two_words};

@@ -4,7 +4,8 @@ ghost use Rattle.std.specs.Option.{option_map};
 ghost use Rattle.std.specs.List.{list_all};
 ghost use Rattle.clr_types.specs.Types.{is_pattern_byte};
 ghost use Rattle.clr_model.specs.LineGrammar.{is_name_start, is_name_byte};
-ghost use Rattle.clr_model.specs.Parsing.{number_in, address_in, numbered_in, thread_in, local_in, handle_in, name_in, pattern_in, kind_in, generation_in};
+ghost use Rattle.clr_model.specs.Parsing.{number_in, address_in, numbered_in, thread_in, local_in, handle_in, name_in};
+ghost use Rattle.clr_model.specs.Parsing.{pattern_in, kind_in, generation_in};
 ghost use Rattle.clr_script.specs.NameBytes.{is_name_sign};
 
 use clr_nums::{read_dec, read_hex};
@@ -132,7 +133,8 @@ fn all_slots(bytes: &[u8]) -> bool
     bytes.iter().all(|b| *b == b'r' || *b == b'n')
 }
 
-/// The pattern that a word stands for, with a byte for each slot: empty for `-`. `None` for any other word than `-` and one or
+/// The pattern that a word stands for, with a byte for each slot: empty for `-`. `None` for any other word than `-` and
+/// one or
 /// more of `r` and `n`.
 #[tactic(auto, unfolding(clr_model::specs::Parsing::pattern_in))]
 pub fn read_pattern(word: &[u8]) -> Option<&[u8]>

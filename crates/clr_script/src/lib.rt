@@ -13,6 +13,6 @@ mod shapes;
 mod tests;
 mod threads;
 
-pub use access::{Access, Verb, read_access};
+pub use access::{Access, read_access};
 pub use reader::{LONGEST, read_line};
 pub use reply::{Line, put_refusal, put_reply};

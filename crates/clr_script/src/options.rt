@@ -2,7 +2,8 @@
 ghost use Rattle.std.specs.Prelude.{◌≡◌, ℕ};
 ghost use Rattle.std.specs.Option.{option_map};
 ghost use Rattle.clr_model.specs.Instructions.{options_of, plain_options};
-ghost use Rattle.clr_model.specs.Parsing.{mode_in, life_in, mt_choice_in, name_choice_in, choice_in, number_then_in, size_in, options_in};
+ghost use Rattle.clr_model.specs.Parsing.{mode_in, life_in, mt_choice_in, name_choice_in, choice_in, number_then_in};
+ghost use Rattle.clr_model.specs.Parsing.{size_in, options_in};
 ghost use Rattle.clr_script.specs.Cuts.{words_left};
 ghost use Rattle.clr_script.specs.Choices.{choice_of};
 

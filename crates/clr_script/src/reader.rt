@@ -104,7 +104,8 @@ fn read_words<'a>(word: &'a [u8], rest: Rest<'a>) -> Option<Command<'a>>
 
 /// Reads a line.
 ///
-/// `Err(TooLong)` comes exactly where it has more than 4,096 bytes, and `Err(Syntax)` where it has no more and is the line of no
+/// `Err(TooLong)` comes exactly where it has more than 4,096 bytes, and `Err(Syntax)` where it has no more and is the
+/// line of no
 /// instruction. There is no other error.
 pub fn read_line(line: &[u8]) -> Result<Command<'_>, Refusal>
     ensures too_long { (result ≡ Err Refusal.TooLong) ↔ (4096 < length line.now) }

@@ -61,7 +61,8 @@ fn read_structs<'a>(name: &'a [u8], rest: Rest<'a>) -> Option<Command<'a>>
 
 // An array of this name and shape, if no word is left.
 fn read_array<'a>(name: &'a [u8], shape: Shape<'a>, rest: Rest<'a>) -> Option<Command<'a>>
-    ensures { Reads result (option_map (λ none. define_type name.now (form_of shape.entry) false) (none_in (words_left rest.entry))) }
+    ensures { Reads result (option_map (λ none. define_type name.now (form_of shape.entry) false)
+        (none_in (words_left rest.entry))) }
 {
     no_word(rest)?;
     Some(Command::Define {

@@ -1,4 +1,4 @@
-use crate::{Access, Line, Verb, put_refusal, put_reply, read_access, read_line};
+use crate::{Line, put_refusal, put_reply, read_line};
 use clr_model::{Collected, Refusal, Reply, Where};
 use std::test::Fail;
 
@@ -214,49 +214,5 @@ fn shows_replies_and_refusals(rt: HostRuntime) {
     ] {
         put_refusal(&refusal, &mut line);
         assert_eq!(rt; line.bytes(), wanted.as_bytes());
-    }
-}
-
-// A line on slots or locals, with its numbers.
-fn access(verb: Verb, t: u64, first: u64, second: u64, third: u64) -> Option<Access> {
-    Some(Access {
-        verb,
-        t,
-        first,
-        second,
-        third,
-    })
-}
-
-#[test]
-fn reads_lines_on_slots_in_one_pass(rt: HostRuntime) {
-    for (line, want) in [
-        ("t1 get l2 l3 4", access(Verb::Get, 1, 2, 3, 4)),
-        ("t10 set l0 63 l64", access(Verb::Set, 10, 0, 63, 64)),
-        ("t1 put l2 3 0", access(Verb::Put, 1, 2, 3, 0)),
-        (
-            "t1 put l2 3 9999999999999999999",
-            access(Verb::Put, 1, 2, 3, 9_999_999_999_999_999_999),
-        ),
-        ("t1 read l2 100", access(Verb::Read, 1, 2, 100, 0)),
-        ("t17 copy l2 l3", access(Verb::Copy, 17, 2, 3, 0)),
-        ("t0 null l2", access(Verb::Null, 0, 2, 0, 0)),
-        // the general reader reads these
-        ("t1 put l2 3 18446744073709551615", None),
-        ("t1 step", None),
-        // and refuses these
-        ("", None),
-        ("t1 get l2 l3", None),
-        ("t1 get l2 l3 l4", None),
-        ("t1 get l2 l3 4 ", None),
-        ("t1 get l2 l3 04", None),
-        ("t1 read l2 1x", None),
-        ("t1  read l2 1", None),
-        ("t1 null l2 l3", None),
-        ("t1 null 2", None),
-        ("l1 null l2", None),
-        ("t1 nul l2", None),
-    ] {
-        assert_eq!(rt; read_access(line.as_bytes()), want, "{line}");
     }
 }

@@ -1,8 +1,14 @@
 //! The lines of threads.
 ghost use Rattle.std.specs.Prelude.{◌≡◌, ℕ};
 ghost use Rattle.std.specs.Option.{option_map};
-ghost use Rattle.clr_model.specs.Instructions.{new_object, get_slot, set_slot, put_number, read_number, copy_local, instruction_of, clear_local, free_handle, take_ready, suppress_object, reregister_object, begin_set, begin_new, fetch_target, fetch_second, finish_step, suspend_others, resume_others};
-ghost use Rattle.clr_model.specs.Parsing.{none_in, one_local_in, one_handle_in, locals_in, local_and_number_in, local_and_handle_in, load_in, store_in, number_store_in, birth_in, new_in, set_in, collect_in, create_in, begin_in, rooted_in, rarely_in, verb_in, threaded_in};
+ghost use Rattle.clr_model.specs.Instructions.{new_object, get_slot, set_slot, put_number, read_number, copy_local};
+ghost use Rattle.clr_model.specs.Instructions.{instruction_of, clear_local, free_handle, take_ready, suppress_object};
+ghost use Rattle.clr_model.specs.Instructions.{reregister_object, begin_set, begin_new, fetch_target, fetch_second};
+ghost use Rattle.clr_model.specs.Instructions.{finish_step, suspend_others, resume_others};
+ghost use Rattle.clr_model.specs.Parsing.{none_in, one_local_in, one_handle_in, locals_in, local_and_number_in};
+ghost use Rattle.clr_model.specs.Parsing.{local_and_handle_in, load_in, store_in, number_store_in, birth_in, new_in};
+ghost use Rattle.clr_model.specs.Parsing.{set_in, collect_in, create_in, begin_in, rooted_in, rarely_in, verb_in};
+ghost use Rattle.clr_model.specs.Parsing.{threaded_in};
 ghost use Rattle.clr_script.specs.Cuts.{words_left};
 ghost use Rattle.clr_script.specs.Readings.{Reads};
 
@@ -26,13 +32,6 @@ fn read_new<'a>(t: u64, rest: Rest<'a>) -> Option<Command<'a>>
     })
 }
 
-fn read_get<'a>(t: u64, rest: Rest<'a>) -> Option<Command<'a>>
-    ensures { Reads result (option_map (λ g. get_slot t g.0 g.1 g.2) (load_in (words_left rest.entry))) }
-{
-    let (to, from, index) = read_load(rest)?;
-    Some(Command::Get { t, to, from, index })
-}
-
 fn read_set<'a>(t: u64, rest: Rest<'a>) -> Option<Command<'a>>
     ensures { Reads result (set_in t (words_left rest.entry)) }
 {
@@ -43,39 +42,6 @@ fn read_set<'a>(t: u64, rest: Rest<'a>) -> Option<Command<'a>>
         index,
         from,
     })
-}
-
-fn read_put<'a>(t: u64, rest: Rest<'a>) -> Option<Command<'a>>
-    ensures { Reads result (option_map (λ p. put_number t p.0 p.1 p.2) (number_store_in (words_left rest.entry))) }
-{
-    let (into, index, value) = read_number_store(rest)?;
-    Some(Command::Put {
-        t,
-        into,
-        index,
-        value,
-    })
-}
-
-fn read_slot<'a>(t: u64, rest: Rest<'a>) -> Option<Command<'a>>
-    ensures { Reads result (option_map (λ r. read_number t r.0 r.1) (local_and_number_in (words_left rest.entry))) }
-{
-    let (from, index) = read_local_and_number(rest)?;
-    Some(Command::Read { t, from, index })
-}
-
-fn read_copy<'a>(t: u64, rest: Rest<'a>) -> Option<Command<'a>>
-    ensures { Reads result (option_map (λ c. copy_local t c.0 c.1) (locals_in (words_left rest.entry))) }
-{
-    let (to, from) = read_locals(rest)?;
-    Some(Command::Copy { t, to, from })
-}
-
-fn read_null<'a>(t: u64, rest: Rest<'a>) -> Option<Command<'a>>
-    ensures { Reads result (option_map (clear_local t) (one_local_in (words_left rest.entry))) }
-{
-    let local = read_one_local(rest)?;
-    Some(Command::Clear { t, local })
 }
 
 #[tactic(auto, unfolding(clr_model::specs::Parsing::collect_in))]
@@ -145,52 +111,11 @@ fn read_begin<'a>(t: u64, rest: Rest<'a>) -> Option<Command<'a>>
 
 /// This command, if no word is left.
 pub fn read_alone<'a>(command: Command<'a>, rest: Rest<'a>) -> Option<Command<'a>>
-    ensures { option_map instruction_of result ≡ option_map (λ none. instruction_of command.entry) (none_in (words_left rest.entry)) }
+    ensures { option_map instruction_of result
+        ≡ option_map (λ none. instruction_of command.entry) (none_in (words_left rest.entry)) }
 {
     no_word(rest)?;
     Some(command)
-}
-
-fn read_fetch<'a>(t: u64, rest: Rest<'a>) -> Option<Command<'a>>
-    ensures { Reads result (option_map (λ p. fetch_target t p.0 p.1) (local_and_handle_in (words_left rest.entry))) }
-{
-    let (to, h) = read_local_and_handle(rest)?;
-    Some(Command::Fetch { t, to, h })
-}
-
-fn read_fetch_second<'a>(t: u64, rest: Rest<'a>) -> Option<Command<'a>>
-    ensures { Reads result (option_map (λ p. fetch_second t p.0 p.1) (local_and_handle_in (words_left rest.entry))) }
-{
-    let (to, h) = read_local_and_handle(rest)?;
-    Some(Command::Second { t, to, h })
-}
-
-fn read_free<'a>(t: u64, rest: Rest<'a>) -> Option<Command<'a>>
-    ensures { Reads result (option_map (free_handle t) (one_handle_in (words_left rest.entry))) }
-{
-    let h = read_one_handle(rest)?;
-    Some(Command::Free { t, h })
-}
-
-fn read_finalizer<'a>(t: u64, rest: Rest<'a>) -> Option<Command<'a>>
-    ensures { Reads result (option_map (take_ready t) (one_local_in (words_left rest.entry))) }
-{
-    let to = read_one_local(rest)?;
-    Some(Command::Finalizer { t, to })
-}
-
-fn read_suppress<'a>(t: u64, rest: Rest<'a>) -> Option<Command<'a>>
-    ensures { Reads result (option_map (suppress_object t) (one_local_in (words_left rest.entry))) }
-{
-    let local = read_one_local(rest)?;
-    Some(Command::Suppress { t, local })
-}
-
-fn read_reregister<'a>(t: u64, rest: Rest<'a>) -> Option<Command<'a>>
-    ensures { Reads result (option_map (reregister_object t) (one_local_in (words_left rest.entry))) }
-{
-    let local = read_one_local(rest)?;
-    Some(Command::Reregister { t, local })
 }
 
 // The lines on handles and finalisers.
@@ -202,29 +127,35 @@ fn read_rooted<'a>(t: u64, verb: &'a [u8], rest: Rest<'a>) -> Option<Command<'a>
         return read_create(t, rest);
     }
     if verb == b"fetch".as_slice() {
-        return read_fetch(t, rest);
+        let (to, h) = read_local_and_handle(rest)?;
+        return Some(Command::Fetch { t, to, h });
     }
     if verb == b"second".as_slice() {
-        return read_fetch_second(t, rest);
+        let (to, h) = read_local_and_handle(rest)?;
+        return Some(Command::Second { t, to, h });
     }
     if verb == b"free".as_slice() {
-        return read_free(t, rest);
+        let h = read_one_handle(rest)?;
+        return Some(Command::Free { t, h });
     }
     if verb == b"finalizer".as_slice() {
-        return read_finalizer(t, rest);
+        let to = read_one_local(rest)?;
+        return Some(Command::Finalizer { t, to });
     }
     if verb == b"suppress".as_slice() {
-        return read_suppress(t, rest);
+        let local = read_one_local(rest)?;
+        return Some(Command::Suppress { t, local });
     }
     if verb == b"reregister".as_slice() {
-        return read_reregister(t, rest);
+        let local = read_one_local(rest)?;
+        return Some(Command::Reregister { t, local });
     }
     None
 }
 
-// The lines on steps, collections and other threads, and those on handles.
+// The lines on steps, collections and other threads, and those on handles and finalisers.
 #[tactic(auto, unfolding(clr_model::specs::Parsing::rarely_in))]
-fn read_rarely<'a>(t: u64, verb: &'a [u8], rest: Rest<'a>) -> Option<Command<'a>>
+fn read_other_verb<'a>(t: u64, verb: &'a [u8], rest: Rest<'a>) -> Option<Command<'a>>
     ensures { Reads result (rarely_in t verb.now (words_left rest.entry)) }
 {
     if verb == b"begin".as_slice() {
@@ -251,27 +182,37 @@ fn read_verb<'a>(t: u64, verb: &'a [u8], rest: Rest<'a>) -> Option<Command<'a>>
     ensures { Reads result (verb_in t verb.now (words_left rest.entry)) }
 {
     if verb == b"get".as_slice() {
-        return read_get(t, rest);
+        let (to, from, index) = read_load(rest)?;
+        return Some(Command::Get { t, to, from, index });
     }
     if verb == b"set".as_slice() {
         return read_set(t, rest);
     }
     if verb == b"put".as_slice() {
-        return read_put(t, rest);
+        let (into, index, value) = read_number_store(rest)?;
+        return Some(Command::Put {
+            t,
+            into,
+            index,
+            value,
+        });
     }
     if verb == b"new".as_slice() {
         return read_new(t, rest);
     }
     if verb == b"read".as_slice() {
-        return read_slot(t, rest);
+        let (from, index) = read_local_and_number(rest)?;
+        return Some(Command::Read { t, from, index });
     }
     if verb == b"copy".as_slice() {
-        return read_copy(t, rest);
+        let (to, from) = read_locals(rest)?;
+        return Some(Command::Copy { t, to, from });
     }
     if verb == b"null".as_slice() {
-        return read_null(t, rest);
+        let local = read_one_local(rest)?;
+        return Some(Command::Clear { t, local });
     }
-    read_rarely(t, verb, rest)
+    read_other_verb(t, verb, rest)
 }
 
 /// What stands behind the word of a thread.

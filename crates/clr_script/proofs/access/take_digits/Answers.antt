@@ -17,5 +17,7 @@ loop-number-preserved c =
     let small = c.if-number-lt-ROOM.true in
     rw c.from.ensures record {
       bound = omega (arith, range.1, small);
-      read = c.loop-number.invariant.read ∙ (ap (λ rest. decimal c.loop-number.number ++ rest) c.in-Some.ensures.cases.0 ∙ further_digit c.loop-number.number c.in-Some.next.now c.in-Some.more.now range c.loop-number-test.true small);
+      read = c.loop-number.invariant.read ∙ (ap (λ rest. decimal c.loop-number.number ++ rest) c.in-Some.ensures.cases.0
+          ∙ further_digit c.loop-number.number c.in-Some.next.now c.in-Some.more.now range c.loop-number-test.true
+          small);
     }

@@ -7,4 +7,5 @@ pub returns-clause-text : goal.returns-clause-text
 returns-clause-text c =
     let told = c.self.told in
     let inside = c.self.invariant in
-    rw (← c.self.view_is) (front_written c.self.inside.bytes c.put_digits-count.new.into _ c.self.inside.len _ c.put_digits-count.result (omega arith) c.put_digits-count.ensures.within c.put_digits-count.ensures.text)
+    rw (← c.self.view_is) (front_written c.self.inside.bytes c.put_digits-count.new.into _ c.self.inside.len _
+    c.put_digits-count.result (omega arith) c.put_digits-count.ensures.within c.put_digits-count.ensures.text)

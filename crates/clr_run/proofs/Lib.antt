@@ -7,4 +7,4 @@ pub mod SessionSteps
 pub mod ScriptLoop
 pub mod HeapListings
 pub mod LineSteps
-pub mod AccessSteps
+pub mod TopGrows

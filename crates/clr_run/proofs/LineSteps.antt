@@ -1,11 +1,13 @@
 -- What a line does, from what its command does.
-use Rattle.std.proofs.Common.{◌≡◌, ◌≢◌, ◌≤◌, ◌<◌, ◌∙◌, ◌&&◌, ℕ, Bool, true, false, List, length, Option, Some, None, IsTrue, refl, sym, ap, subst, inl, inr, codes, arith}
+use Rattle.std.proofs.Common.{◌≡◌, ◌≢◌, ◌≤◌, ◌<◌, ◌∙◌, ◌&&◌, ℕ, Bool, true, false, List, length, Option, Some, None}
+use Rattle.std.proofs.Common.{IsTrue, refl, sym, ap, subst, inl, inr, codes, arith}
 use Rattle.std.specs.Prelude.{is_none}
 use Rattle.std.proofs.lemmas.Bool.{and_parts, both_ways, eqb-true}
 use denote.Ref.{Bor}
 use Rattle.clr_types.specs.declared.shape.Shape.{Shape}
 use Rattle.clr_model.specs.declared.command.Command.{Command}
-use Rattle.clr_model.specs.declared.command.Command.TheVariants.{Define, New, Get, Set, Put, Read, Copy, Clear, Collect, DumpHeap}
+use Rattle.clr_model.specs.declared.command.Command.TheVariants.{Define, New, Get, Set, Put, Read, Copy, Clear, Collect}
+use Rattle.clr_model.specs.declared.command.Command.TheVariants.{DumpHeap}
 use Rattle.clr_model.specs.declared.command.Filter.{Filter}
 use Rattle.clr_model.specs.declared.How.{How}
 use Rattle.clr_model.specs.declared.How.TheVariants.{Decide, Compact, Sweep}
@@ -23,27 +25,49 @@ use Rattle.clr_model.specs.Stage.{is_built, is_full_mode, is_full_sweep, is_plai
 use Rattle.clr_model.specs.Run.{no_syntax, obeyed, too_long, Follows, FollowsLine}
 use Rattle.clr_model.proofs.Carried.{follows}
 use Rattle.clr_model.proofs.UnspacedWords.{one_reading}
+use Rattle.clr_script.specs.declared.access.Access.{Access}
+use Rattle.clr_script.specs.declared.access.Access.TheVariants as access
+use Rattle.clr_script.specs.Accesses.{IsAccessLine, instruction_by}
 use Rattle.clr_script.specs.Readings.{IsNoLine, IsReadAs}
 use Rattle.clr_run.specs.Dumping.{no_options}
 
 -- a line that is read and built does what its instruction does
-pub line_follows : (old new : Machine) (bytes : List ℕ) (i : Instruction) (outcome : Outcome) → length bytes ≤ 4096 → IsLine bytes i → IsTrue (is_built i) → Follows old i outcome new → FollowsLine old bytes outcome new
+pub line_follows : (old new : Machine) (bytes : List ℕ) (i : Instruction) (outcome : Outcome) → length bytes ≤ 4096
+    → IsLine bytes i → IsTrue (is_built i) → Follows old i outcome new → FollowsLine old bytes outcome new
 unfolding Follows FollowsLine
 line_follows old new bytes i outcome short line built steps m stands =
     let step = steps m stands in
     (step.0, obeyed i (record { short = short; line = line; built = built }) step.1, step.2)
 
+-- and so does a line on slots or locals, all of which are built
+pub access_follows : (old new : Machine) (bytes : List ℕ) (a : Access) (outcome : Outcome) → IsAccessLine bytes a
+    → Follows old (instruction_by a) outcome new → FollowsLine old bytes outcome new
+access_follows old new bytes a outcome is steps =
+    line_follows old new bytes (instruction_by a) outcome is.0 is.1 (built a) steps
+  where
+    built : (b : Access) → IsTrue (is_built (instruction_by b))
+    built (access.Get t to from index) = refl
+    built (access.Set t into index from) = refl
+    built (access.Put t into index value) = refl
+    built (access.Read t from index) = refl
+    built (access.Copy t to from) = refl
+    built (access.Null t local) = refl
+
 -- a line that says nothing that is built is refused
-pub nothing_follows : (old : Machine) (bytes : List ℕ) → length bytes ≤ 4096 → ((i : Instruction) → IsLine bytes i → is_built i ≡ false) → FollowsLine old bytes (refused refusal.Syntax) old
+pub nothing_follows : (old : Machine) (bytes : List ℕ) → length bytes ≤ 4096
+    → ((i : Instruction) → IsLine bytes i → is_built i ≡ false) → FollowsLine old bytes (refused refusal.Syntax) old
 unfolding FollowsLine
-nothing_follows old bytes short none m stands = (m, no_syntax short (λ i r. both_ways (is_built i) (none i r.line) r.built) refl refl, stands)
+nothing_follows old bytes short none m stands =
+    (m, no_syntax short (λ i r. both_ways (is_built i) (none i r.line) r.built) refl refl, stands)
 
 -- a line that is no line of the grammar is
-pub unread_follows : (old : Machine) (bytes : List ℕ) → length bytes ≤ 4096 → IsNoLine bytes → FollowsLine old bytes (refused refusal.Syntax) old
+pub unread_follows : (old : Machine) (bytes : List ℕ) → length bytes ≤ 4096 → IsNoLine bytes
+    → FollowsLine old bytes (refused refusal.Syntax) old
 unread_follows old bytes short none = nothing_follows old bytes short (λ i line. absurd (none i line))
 
 -- a line that is too long is refused
-pub long_follows : (old : Machine) (bytes : List ℕ) → 4096 < length bytes → FollowsLine old bytes (refused refusal.TooLong) old
+pub long_follows : (old : Machine) (bytes : List ℕ) → 4096 < length bytes
+    → FollowsLine old bytes (refused refusal.TooLong) old
 unfolding FollowsLine
 long_follows old bytes long m stands = (m, too_long long refl refl, stands)
 
@@ -64,13 +88,18 @@ module _ (bytes : List ℕ) (command : Command) (short : length bytes ≤ 4096) 
   read_line other = let (i, line, e) = read in subst (IsLine bytes) (unplain i (instruction_of command) e other) line
 
   -- one that is built is obeyed
-  pub command_follows : (old new : Machine) (outcome : Outcome) → is_listing (instruction_of command) ≡ false → IsTrue (is_built (instruction_of command)) → Follows old (instruction_of command) outcome new → FollowsLine old bytes outcome new
-  command_follows old new outcome other built steps = line_follows old new bytes (instruction_of command) outcome short (read_line other) built steps
+  pub command_follows : (old new : Machine) (outcome : Outcome) → is_listing (instruction_of command) ≡ false
+      → IsTrue (is_built (instruction_of command)) → Follows old (instruction_of command) outcome new
+      → FollowsLine old bytes outcome new
+  command_follows old new outcome other built steps =
+      line_follows old new bytes (instruction_of command) outcome short (read_line other) built steps
 
   -- and one that isn't is refused
-  pub unbuilt_follows : (old : Machine) → is_listing (instruction_of command) ≡ false → is_built (instruction_of command) ≡ false → FollowsLine old bytes (refused refusal.Syntax) old
+  pub unbuilt_follows : (old : Machine) → is_listing (instruction_of command) ≡ false
+      → is_built (instruction_of command) ≡ false → FollowsLine old bytes (refused refusal.Syntax) old
   unbuilt_follows old other unbuilt =
-      nothing_follows old bytes short (λ i line. ap is_built (one_reading bytes i (instruction_of command) line (read_line other)) ∙ unbuilt)
+      nothing_follows old bytes short (λ i line. ap is_built
+      (one_reading bytes i (instruction_of command) line (read_line other)) ∙ unbuilt)
 
 -- the collection that is built
 pub full_sweep_is : (g : ℕ) (how : How) → is_full_sweep g how ≡ true → (g ≡ 2) × (how ≡ Sweep)
@@ -79,15 +108,26 @@ full_sweep_is g Compact e = absurd (both_ways false refl e)
 full_sweep_is g Sweep e = (eqb-true g 2 e, refl)
 
 -- every other command than these is neither the listing nor built
-pub other_unbuilt : (command : Command) → ((name : Bor (List ℕ)) (shape : Shape) (finalizer : Bool) → command ≡ Define name shape finalizer → ⊥) → ((t local : ℕ) (name : Bor (List ℕ)) (len : Option ℕ) → command ≡ New t local name len → ⊥)
-    → ((t to from index : ℕ) → command ≡ Get t to from index → ⊥) → ((t into index from : ℕ) → command ≡ Set t into index from → ⊥) → ((t into index value : ℕ) → command ≡ Put t into index value → ⊥)
-    → ((t from index : ℕ) → command ≡ Read t from index → ⊥) → ((t to from : ℕ) → command ≡ Copy t to from → ⊥) → ((t local : ℕ) → command ≡ Clear t local → ⊥) → ((t g : ℕ) (how : How) → command ≡ Collect t g how → ⊥) → ((filter : Filter) → command ≡ DumpHeap filter → ⊥)
+pub other_unbuilt : (command : Command)
+    → ((name : Bor (List ℕ)) (shape : Shape) (finalizer : Bool) → command ≡ Define name shape finalizer → ⊥)
+    → ((t local : ℕ) (name : Bor (List ℕ)) (len : Option ℕ) → command ≡ New t local name len → ⊥)
+    → ((t to from index : ℕ) → command ≡ Get t to from index → ⊥)
+    → ((t into index from : ℕ) → command ≡ Set t into index from → ⊥)
+    → ((t into index value : ℕ) → command ≡ Put t into index value → ⊥)
+    → ((t from index : ℕ) → command ≡ Read t from index → ⊥) → ((t to from : ℕ) → command ≡ Copy t to from → ⊥)
+    → ((t local : ℕ) → command ≡ Clear t local → ⊥) → ((t g : ℕ) (how : How) → command ≡ Collect t g how → ⊥)
+    → ((filter : Filter) → command ≡ DumpHeap filter → ⊥)
     → (is_listing (instruction_of command) ≡ false) × (is_built (instruction_of command) ≡ false)
-other_unbuilt (Define name shape finalizer) define new get set put read copy clear collect dump = absurd (define name shape finalizer refl)
-other_unbuilt (New t local name len) define new get set put read copy clear collect dump = absurd (new t local name len refl)
-other_unbuilt (Get t to from index) define new get set put read copy clear collect dump = absurd (get t to from index refl)
-other_unbuilt (Set t into index from) define new get set put read copy clear collect dump = absurd (set t into index from refl)
-other_unbuilt (Put t into index value) define new get set put read copy clear collect dump = absurd (put t into index value refl)
+other_unbuilt (Define name shape finalizer) define new get set put read copy clear collect dump =
+    absurd (define name shape finalizer refl)
+other_unbuilt (New t local name len) define new get set put read copy clear collect dump =
+    absurd (new t local name len refl)
+other_unbuilt (Get t to from index) define new get set put read copy clear collect dump =
+    absurd (get t to from index refl)
+other_unbuilt (Set t into index from) define new get set put read copy clear collect dump =
+    absurd (set t into index from refl)
+other_unbuilt (Put t into index value) define new get set put read copy clear collect dump =
+    absurd (put t into index value refl)
 other_unbuilt (Read t from index) define new get set put read copy clear collect dump = absurd (read t from index refl)
 other_unbuilt (Copy t to from) define new get set put read copy clear collect dump = absurd (copy t to from refl)
 other_unbuilt (Clear t local) define new get set put read copy clear collect dump = absurd (clear t local refl)
@@ -123,28 +163,45 @@ plain_dump o h =
     λ i. record { mode = mode i; life = life i; mt = mt i; name = name i; least = least i; greatest = greatest i }
 
 -- with others it is refused
-pub options_refused : (old : Machine) (bytes : List ℕ) (command : Command) → length bytes ≤ 4096 → IsReadAs bytes command → is_listing (instruction_of command) ≡ true → bytes ≢ codes "dumpheap" → FollowsLine old bytes (refused refusal.Syntax) old
+pub options_refused : (old : Machine) (bytes : List ℕ) (command : Command) → length bytes ≤ 4096
+    → IsReadAs bytes command → is_listing (instruction_of command) ≡ true → bytes ≢ codes "dumpheap"
+    → FollowsLine old bytes (refused refusal.Syntax) old
 options_refused old bytes command short read listing other =
     let (i, line, e) = read in
-    nothing_follows old bytes short (λ j says. ap is_built (one_reading bytes j i says line) ∙ unbuilt i line (ap is_listing (sym e) ∙ listing))
+    nothing_follows old bytes short (λ j says. ap is_built (one_reading bytes j i says line)
+    ∙ unbuilt i line (ap is_listing (sym e) ∙ listing))
   where
     unbuilt : (i : Instruction) → IsLine bytes i → is_listing (plain i) ≡ true → is_built i ≡ false
     unbuilt (dump_heap o) line is = go (is_plain_dump o) refl
       where
         go : (b : Bool) → is_plain_dump o ≡ b → b ≡ false
         go false e = refl
-        go true e = absurd (other (subst (λ (p : DumpOptions). IsLine bytes (dump_heap p)) (plain_dump o e) line).spelled)
+        go true e = absurd (other (subst (λ (p : DumpOptions). IsLine bytes (dump_heap p))
+            (plain_dump o e) line).spelled)
     unbuilt i line is = absurd (both_ways false refl is)
 
 -- without options it shows what there is
-pub listing_follows : (old : Machine) (bytes : List ℕ) (outcome : Outcome) → bytes ≡ codes "dumpheap" → Follows old (dump_heap no_options) outcome old → FollowsLine old bytes outcome old
+pub listing_follows : (old : Machine) (bytes : List ℕ) (outcome : Outcome) → bytes ≡ codes "dumpheap"
+    → Follows old (dump_heap no_options) outcome old → FollowsLine old bytes outcome old
 listing_follows old bytes outcome is steps =
-    line_follows old old bytes (dump_heap no_options) outcome (subst (λ bs. length bs ≤ 4096) (sym is) (omega arith)) (record { formed = record { mt = tt; name = tt; one_type = tt; least = tt; greatest = tt }; spelled = is }) refl steps
+    line_follows old old bytes (dump_heap no_options) outcome (subst (λ bs. length bs ≤ 4096) (sym is) (omega arith))
+    (record { formed = record { mt = tt; name = tt; one_type = tt; least = tt; greatest = tt }; spelled = is })
+    refl steps
 
 -- the listing of what is seen is shown
-pub dump_follows : (old : Machine) (text : List ℕ) → ((live : ℕ → Bool) → text ≡ dumpheap_text old live no_options) → Follows old (dump_heap no_options) (shown text) old
-dump_follows old text is = follows old (dump_heap no_options) _ _ (λ m stands.
-    (m, inl ((λ n. false), tt, ap shown (is (λ n. false) ∙ ap (λ (s : Machine). dumpheap_text s (λ n. false) no_options) (sym stands.seen_is)), refl), stands))
+pub dump_follows : (old : Machine) (text : List ℕ) → ((live : ℕ → Bool) → text ≡ dumpheap_text old live no_options)
+    → Follows old (dump_heap no_options) (shown text) old
+dump_follows old text is = follows old (dump_heap no_options) _ _ (λ m stands. (
+  m,
+  inl (
+    (λ n. false),
+    tt,
+    ap shown (is (λ n. false)
+        ∙ ap (λ (s : Machine). dumpheap_text s (λ n. false) no_options) (sym stands.seen_is)),
+    refl,
+  ),
+  stands,
+))
 
 -- or there is no memory for it
 pub lacking_dump_follows : (old : Machine) → Follows old (dump_heap no_options) (refused refusal.NoMemory) old

@@ -1,5 +1,6 @@
 -- What is written and what waits, one text after another.
-use Rattle.std.proofs.Common.{◌≡◌, ℕ, ◌+◌, List, [], ◌++◌, length, take, Option, Some, None, refl, sym, append_assoc, append-nil}
+use Rattle.std.proofs.Common.{◌≡◌, ℕ, ◌+◌, List, [], ◌++◌, length, take, Option, Some, None, refl, sym, append_assoc}
+use Rattle.std.proofs.Common.{append-nil}
 use Rattle.std.proofs.Math.Seq.{take-append-add}
 use Rattle.clr_run.specs.Faults.{Appended}
 use Rattle.clr_run.specs.Output.{Wrote, WroteSome}
@@ -15,11 +16,13 @@ pub wrote_none : (written : Option (List ℕ)) (waiting : List ℕ) → Wrote wr
 wrote_none written waiting = record { out = []; appended = appended_none written; kept = sym (append-nil waiting) }
 
 -- a text waits behind what did
-pub wrote_later : (written : Option (List ℕ)) (waiting left text : List ℕ) → left ≡ waiting ++ text → Wrote written written waiting left text
+pub wrote_later : (written : Option (List ℕ)) (waiting left text : List ℕ) → left ≡ waiting ++ text
+    → Wrote written written waiting left text
 wrote_later written waiting left text e = record { out = []; appended = appended_none written; kept = e }
 
 -- all that waited was written, and then the text
-pub wrote_all : (before mid after : Option (List ℕ)) (waiting left text : List ℕ) → Appended before mid waiting → left ≡ [] → Appended mid after text → Wrote before after waiting left text
+pub wrote_all : (before mid after : Option (List ℕ)) (waiting left text : List ℕ) → Appended before mid waiting
+    → left ≡ [] → Appended mid after text → Wrote before after waiting left text
 wrote_all before mid after waiting left text first none second = record {
   out = waiting ++ text;
   appended = appended_more before mid after waiting text _ first second refl;
@@ -27,7 +30,9 @@ wrote_all before mid after waiting left text first none second = record {
 }
 
 -- one text after another
-pub wrote_more : (before mid after : Option (List ℕ)) (waiting left last one other : List ℕ) → Wrote before mid waiting left one → Wrote mid after left last other → Wrote before after waiting last (one ++ other)
+pub wrote_more : (before mid after : Option (List ℕ)) (waiting left last one other : List ℕ)
+    → Wrote before mid waiting left one → Wrote mid after left last other
+    → Wrote before after waiting last (one ++ other)
 wrote_more before mid after waiting left last one other a b = record {
   out = a.out ++ b.out;
   appended = appended_more before mid after a.out b.out _ a.appended b.appended refl;
@@ -35,16 +40,21 @@ wrote_more before mid after waiting left last one other a b = record {
 }
 
 -- a text, and then a part of what waits and of another
-pub wrote_some : (before mid after : Option (List ℕ)) (waiting left one other : List ℕ) → Wrote before mid waiting left one → WroteSome mid after (left ++ other) → WroteSome before after (waiting ++ (one ++ other))
+pub wrote_some : (before mid after : Option (List ℕ)) (waiting left one other : List ℕ)
+    → Wrote before mid waiting left one → WroteSome mid after (left ++ other)
+    → WroteSome before after (waiting ++ (one ++ other))
 wrote_some before mid after waiting left one other a b =
-    let whole : waiting ++ (one ++ other) ≡ a.out ++ (left ++ other) = rw (← append_assoc, ← a.kept, append_assoc) refl in
+    let whole : waiting ++ (one ++ other) ≡ a.out ++ (left ++ other) =
+    rw (← append_assoc, ← a.kept, append_assoc) refl in
     record {
       count = length a.out + b.count;
-      appended = rw whole (appended_more before mid after a.out (take b.count (left ++ other)) _ a.appended b.appended (sym (take-append-add a.out (left ++ other) b.count)));
+      appended = rw whole (appended_more before mid after a.out (take b.count (left ++ other)) _ a.appended b.appended
+          (sym (take-append-add a.out (left ++ other) b.count)));
     }
 
 -- all that waited was written, and then a part of the text
-pub wrote_then_some : (before mid after : Option (List ℕ)) (waiting text : List ℕ) (n : ℕ) → Appended before mid waiting → Appended mid after (take n text) → WroteSome before after (waiting ++ text)
+pub wrote_then_some : (before mid after : Option (List ℕ)) (waiting text : List ℕ) (n : ℕ) → Appended before mid waiting
+    → Appended mid after (take n text) → WroteSome before after (waiting ++ text)
 wrote_then_some before mid after waiting text n first second = record {
   count = length waiting + n;
   appended = appended_more before mid after waiting (take n text) _ first second (sym (take-append-add waiting text n));

@@ -12,12 +12,14 @@ abbrev pub no_options : DumpOptions
 no_options = record { mode = Full; life = Any; mt = None; name = None; least = None; greatest = None }
 
 abbrev pub totals_line : ℕ → ℕ → ℕ → List ℕ
-totals_line objects bytes free = line (codes "total" ∷ decimal objects ∷ codes "bytes" ∷ decimal bytes ∷ codes "free" ∷ decimal free ∷ [])
+totals_line objects bytes free = line (codes "total" ∷ decimal objects ∷ codes "bytes" ∷ decimal bytes ∷ codes "free"
+    ∷ decimal free ∷ [])
 
 -- the totals with one item more
 abbrev pub counted : Totals → Item → Totals
 counted t i =
-    if is_free_item i then record { objects = t.objects; bytes = t.bytes; free = t.free + i.size } else record { objects = t.objects + 1; bytes = t.bytes + i.size; free = t.free }
+    if is_free_item i then record { objects = t.objects; bytes = t.bytes; free = t.free + i.size } else
+    record { objects = t.objects + 1; bytes = t.bytes + i.size; free = t.free }
 
 -- the objects among items
 abbrev pub no_free : List Item → List Item

@@ -1,7 +1,8 @@
 -- Sources and sinks in memory, as contracts see them.
 use Rattle.std.specs.Prelude.{ℕ, ◌+◌, ◌-◌, ◌^◌, min, List}
 
--- the bytes that are left, the most that one read takes, the numbers of the reads that fail, and the counts of reads and of faults
+-- the bytes that are left, the most that one read takes, the numbers of the reads that fail, and the counts of reads
+-- and of faults
 pub record SourceState : Type 0 where
   pub left : List ℕ
   pub piece : ℕ
@@ -9,7 +10,8 @@ pub record SourceState : Type 0 where
   pub calls : ℕ
   pub faults : ℕ
 
--- what was written, the most bytes that there is room for and that one write takes, the numbers of the writes that fail, and the counts of writes and of faults
+-- what was written, the most bytes that there is room for and that one write takes, the numbers of the writes that
+-- fail, and the counts of writes and of faults
 pub record SinkState : Type 0 where
   pub bytes : List ℕ
   pub room : ℕ

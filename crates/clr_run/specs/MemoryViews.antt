@@ -5,14 +5,27 @@ use Rattle.clr_run.specs.declared.streams.memory.MemorySource.TheInside as sourc
 use Rattle.clr_run.specs.declared.streams.memory.MemorySink.TheInside as sink
 
 abbrev pub source_state : source.Inside → SourceState
-source_state s = record { left = drop s.at s.bytes.items; piece = s.piece; fails = s.fails.items; calls = s.calls; faults = s.faults }
+source_state s = record {
+  left = drop s.at s.bytes.items;
+  piece = s.piece;
+  fails = s.fails.items;
+  calls = s.calls;
+  faults = s.faults;
+}
 
 pub record IsSource (s : source.Inside) : Type 0 where
   pub within : s.at ≤ length s.bytes.items
   pub some : 0 < s.piece
 
 abbrev pub sink_state : sink.Inside → SinkState
-sink_state s = record { bytes = s.bytes.items; room = s.room; piece = s.piece; fails = s.fails.items; calls = s.calls; faults = s.faults }
+sink_state s = record {
+  bytes = s.bytes.items;
+  room = s.room;
+  piece = s.piece;
+  fails = s.fails.items;
+  calls = s.calls;
+  faults = s.faults;
+}
 
 pub record IsSink (s : sink.Inside) : Type 0 where
   pub within : vec_len s.bytes ≤ s.room

@@ -3,7 +3,7 @@ use Rattle.std.specs.Prelude.{◌≡◌, ◌==◌, ◌≤◌, ℕ, Bool, List, [
 use Rattle.clr_model.specs.Machine.{Machine, Options}
 use Rattle.clr_model.specs.LineGrammar.{script_lines, ended_lines}
 use Rattle.clr_model.specs.Outcomes.{Outcome}
-use Rattle.clr_model.specs.Run.{Run, StandsFor, run_text, opening, defaults}
+use Rattle.clr_model.specs.Run.{Run, StandsFor, run_text, opening}
 use Rattle.clr_run.specs.Faults.{Taken, Appended}
 
 -- a run of the machine over these lines, from the opening state with these options
@@ -19,15 +19,17 @@ abbrev pub begun : List ℕ → List ℕ
 begun [] = []
 begun (b ∷ bytes) = begun_on (b == 10) b (ended_lines bytes) (begun bytes)
 
--- After these bytes the lines that ended have these outcomes, and the line that is begun is kept, as far as a line can go.
-pub record Progress (seen : Machine) (line taken : List ℕ) (outcomes : List Outcome) : Type 0 where
+-- After these bytes the lines that ended have these outcomes, and the line that is begun is kept, as far as a line can
+-- go.
+pub record Progress (options : Options) (seen : Machine) (line taken : List ℕ) (outcomes : List Outcome) : Type 0 where
   pub state : Machine
-  pub run : RunOver defaults (ended_lines taken) outcomes state
+  pub run : RunOver options (ended_lines taken) outcomes state
   pub shown : StandsFor seen state
   pub kept : line ≡ take 4097 (begun taken)
 
 -- a run over the lines of what was read, whose text was written
-pub record Answered (options : Options) (lines_of : List ℕ → List (List ℕ)) (held held_after written written_after : Option (List ℕ)) (taken : List ℕ) : Type 0 where
+pub record Answered (options : Options) (lines_of : List ℕ → List (List ℕ))
+    (held held_after written written_after : Option (List ℕ)) (taken : List ℕ) : Type 0 where
   pub outcomes : List Outcome
   pub last : Machine
   pub run : RunOver options (lines_of taken) outcomes last
@@ -35,7 +37,8 @@ pub record Answered (options : Options) (lines_of : List ℕ → List (List ℕ)
   pub wrote : Appended written written_after (run_text outcomes)
 
 -- a run over the first lines of what was read, at most so many bytes, of whose text a part from the front was written
-pub record CutShort (options : Options) (limit : ℕ) (held held_after written written_after : Option (List ℕ)) : Type 0 where
+pub record CutShort (options : Options) (limit : ℕ)
+    (held held_after written written_after : Option (List ℕ)) : Type 0 where
   pub taken : List ℕ
   pub short : length taken ≤ limit
   pub done : List (List ℕ)

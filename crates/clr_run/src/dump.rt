@@ -98,7 +98,8 @@ fn put_segment(
     requires held { AreWalkable types.now heap.now }
     requires lawful { IsHeap heap.now }
     requires before { AreFew totals.old }
-    ensures text { OnOk result (text.new.items ≡ text.old.items ++ flat_map (item_line types.now) (listing types.now heap.now k)) }
+    ensures text { OnOk result
+        (text.new.items ≡ text.old.items ++ flat_map (item_line types.now) (listing types.now heap.now k)) }
     ensures totals { OnOk result (totals.new ≡ with_totals totals.old (listing types.now heap.now k)) }
 {
     for item in heap.walk(types, k) {
@@ -111,7 +112,9 @@ fn put_segment(
 /// The text of the listing of a heap: a line for each item by rising place, and the line of the totals.
 pub fn listing_text(alloc: Global, types: &Types, heap: &Heap) -> Result<Vec<u8>, AllocError>
     requires held { AreWalkable types.now heap.now }
-    ensures text { IfOk result (λ text. text.items ≡ flat_map (item_line types.now) (heap_items types.now heap.now) ++ total_line (heap_items types.now heap.now)) }
+    ensures text { IfOk result (λ text.
+        text.items ≡ flat_map (item_line types.now) (heap_items types.now heap.now)
+        ++ total_line (heap_items types.now heap.now)) }
     ensures lawful { IsHeap heap.now }
 {
     let segments = heap.segments();

@@ -1,5 +1,5 @@
 //! What a line of bytes does: it is read, and its command is one call of the runtime.
-ghost use Rattle.std.specs.Prelude.{Bool, ◌≡◌, ◌≤◌, ℕ, IfOk, length};
+ghost use Rattle.std.specs.Prelude.{Bool, ◌≡◌, ◌+◌, ◌^◌, ◌≤◌, ℕ, IfOk, length};
 ghost use Rattle.clr_model.specs.Instructions.{dump_heap};
 ghost use Rattle.clr_model.specs.Run.{Follows, FollowsLine};
 ghost use Rattle.clr_model.specs.Sos.{dumpheap_text};
@@ -16,13 +16,18 @@ use clr_runtime::Runtime;
 use clr_script::{read_access, read_line};
 use std::alloc::{AllocError, Global};
 
-/// Does what a line says, and tells its outcome. A line that is refused leaves the state as it was.
+/// Does what a line says, and tells its outcome. A line that is refused leaves the state as it was. The segments
+/// reserve at most 2^30 bytes of addresses more.
 pub fn execute(runtime: &mut Runtime, alloc: Global, line: &[u8]) -> Outcome
+    requires { runtime.old.layout.top ≤ 2 ^ 61 }
     ensures follows { FollowsLine runtime.old line.now (outcome_of result) runtime.new }
     ensures shows { CanShow result }
+    ensures grows { runtime.new.layout.top ≤ runtime.old.layout.top + 2 ^ 30 }
 {
+    // what is seen is sound: it stands for a lawful machine, and a step of that reserves little
+    let _ = runtime.heap();
     if let Some(access) = read_access(line) {
-        return obey_access(runtime, line, access);
+        return obey_access(runtime, access);
     }
     match read_line(line) {
         Ok(command) => obey(runtime, alloc, line, command),
@@ -30,8 +35,8 @@ pub fn execute(runtime: &mut Runtime, alloc: Global, line: &[u8]) -> Outcome
     }
 }
 
-// Does what the command of a line says. A command that isn't built is refused as a line that says nothing, and so is a listing
-// that is written with options, even where they say no more than the plain one.
+// Does what the command of a line says. A command that isn't built is refused as a line that says nothing, and so is a
+// listing that is written with options, even where they say no more than the plain one.
 fn obey(runtime: &mut Runtime, alloc: Global, line: &[u8], command: Command<'_>) -> Outcome
     requires short { length line.now ≤ 4096 }
     requires read { IsReadAs line.now command }
@@ -39,17 +44,6 @@ fn obey(runtime: &mut Runtime, alloc: Global, line: &[u8], command: Command<'_>)
     ensures shows { CanShow result }
 {
     match command {
-        Command::Define {
-            name,
-            shape,
-            finalizer,
-        } if !finalizer => told_mt(runtime.define(name, shape, false)),
-        Command::New {
-            t,
-            local,
-            name,
-            len,
-        } => told_place(runtime.new_object(t, local, name, len)),
         Command::Get { t, to, from, index } => told_place(runtime.get(t, to, from, index)),
         Command::Set {
             t,
@@ -66,6 +60,17 @@ fn obey(runtime: &mut Runtime, alloc: Global, line: &[u8], command: Command<'_>)
         Command::Read { t, from, index } => told_number(runtime.read(t, from, index)),
         Command::Copy { t, to, from } => told_place(runtime.copy(t, to, from)),
         Command::Clear { t, local } => told_done(runtime.clear(t, local)),
+        Command::New {
+            t,
+            local,
+            name,
+            len,
+        } => told_place(runtime.new_object(t, local, name, len)),
+        Command::Define {
+            name,
+            shape,
+            finalizer,
+        } if !finalizer => told_mt(runtime.define(name, shape, false)),
         Command::Collect { t, g, how } if is_full_sweep(g, how) => {
             told_collected(runtime.collect(t, g, how))
         }

@@ -10,7 +10,7 @@ mod status;
 mod streams;
 mod words;
 
-pub use clr_runtime::Runtime;
+pub use clr_runtime::{NoMemory, Runtime};
 pub use script::run::{SCRIPT_LIMIT, run};
 pub use status::Status;
 pub use streams::Failed;
@@ -20,10 +20,6 @@ pub use streams::plain::{PlainSink, PlainSource};
 pub use streams::sink::Sink;
 pub use streams::source::Source;
 pub use words::Words;
-
-/// There was no memory.
-#[derive(Clone, Copy, Debug, PartialEq, Eq)]
-pub struct NoMemory;
 
 #[cfg(test)]
 mod tests;

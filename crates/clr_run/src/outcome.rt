@@ -1,7 +1,8 @@
 //! What a line is answered, and its text.
 ghost use Rattle.std.specs.Prelude.{◌≡◌, ◌++◌, OnOk, OnErr};
 ghost use Rattle.clr_model.specs.Outcomes.{outcome_text};
-ghost use Rattle.clr_runtime.specs.Outcomes.{collected_outcome, done_outcome, mt_outcome, number_outcome, place_outcome};
+ghost use Rattle.clr_runtime.specs.Outcomes.{collected_outcome, done_outcome, mt_outcome, number_outcome};
+ghost use Rattle.clr_runtime.specs.Outcomes.{place_outcome};
 ghost use Rattle.clr_run.specs.Faults.{Rose};
 ghost use Rattle.clr_run.specs.Output.{Wrote, WroteSome};
 ghost use Rattle.clr_run.specs.Outcomes.{outcome_of, CanShow};
@@ -75,8 +76,8 @@ pub fn told_done(told: Result<(), Refusal>) -> Outcome
     }
 }
 
-/// Puts the text of what a line was answered behind what waits to be written. `line` is where a reply is written first; what stood
-/// there is lost.
+/// Puts the text of what a line was answered behind what waits to be written. `line` is where a reply is written first;
+/// what stood there is lost.
 pub fn put_outcome<K: Sink>(
     pending: &mut Pending,
     sink: &mut K,
@@ -84,8 +85,10 @@ pub fn put_outcome<K: Sink>(
     line: &mut Line,
 ) -> Result<(), Failed>
     requires { CanShow outcome.now }
-    ensures wrote { OnOk result (Wrote (K.written sink.old) (K.written sink.new) pending.old pending.new (outcome_text (outcome_of outcome.now))) }
-    ensures part { OnErr result (WroteSome (K.written sink.old) (K.written sink.new) (pending.old ++ outcome_text (outcome_of outcome.now))) }
+    ensures wrote { OnOk result (Wrote (K.written sink.old) (K.written sink.new)
+        pending.old pending.new (outcome_text (outcome_of outcome.now))) }
+    ensures part { OnErr result (WroteSome (K.written sink.old) (K.written sink.new)
+        (pending.old ++ outcome_text (outcome_of outcome.now))) }
     ensures counted { OnOk result (K.faults sink.new ≡ K.faults sink.old) }
     ensures cause { OnErr result (Rose (K.faults sink.old) (K.faults sink.new)) }
 {

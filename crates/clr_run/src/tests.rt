@@ -26,7 +26,8 @@ fn words_of(alloc: Global, texts: &[&str]) -> Result<Words, Fail> {
     Ok(words)
 }
 
-/// How the command of these words ends. It promises nothing, so that what `run` ensures doesn't stand in each test's goals.
+/// How the command of these words ends. It promises nothing, so that what `run` ensures doesn't stand in each test's
+/// goals.
 fn status_of<S: Source, K: Sink>(
     alloc: Global,
     texts: &[&str],

@@ -1,8 +1,9 @@
 //! The top call: a command from its words and its source to its sink.
-ghost use Rattle.std.specs.Prelude.{◌≡◌, ◌≢◌, ◌+◌, ◌<◌, ◌≤◌, ◌∷◌, ◌++◌, [], List, ℕ, Some, None, length, IfOk, IfSome, IsSome, IsSomeAnd, ◌⊎◌, option_map, codes, IsTrue, ◌↔◌};
+ghost use Rattle.std.specs.Prelude.{◌≡◌, ◌≢◌, ◌+◌, ◌*◌, ◌^◌, ◌<◌, ◌≤◌, ◌∷◌, ◌++◌, [], List, ℕ, Some, None, length};
+ghost use Rattle.std.specs.Prelude.{IfOk, IfSome, IsSome, IsSomeAnd, ◌⊎◌, option_map, codes, IsTrue, ◌↔◌};
 ghost use Rattle.clr_model.specs.Machine.{Machine, Options};
 ghost use Rattle.clr_model.specs.LineGrammar.{script_lines, ended_lines};
-ghost use Rattle.clr_model.specs.Run.{IsRunOf, StandsFor, defaults};
+ghost use Rattle.clr_model.specs.Run.{IsRunOf, StandsFor};
 ghost use Rattle.clr_run.specs.Commands.{SaysRun, SaysNothing};
 ghost use Rattle.clr_run.specs.Faults.{Rose, Taken, Appended};
 ghost use Rattle.clr_run.specs.Progress.{Answered, CutShort};
@@ -30,24 +31,30 @@ fn run_script<S: Source, K: Sink>(
     source: &mut S,
     sink: &mut K,
 ) -> Status
-    requires started { IsAt session.old [] [] }
+    requires started { IsAt session.old.runtime.options session.old [] [] }
     requires empty { session.old.pending ≡ [] }
     requires buffer { 0 < length buffer.old }
+    requires room { session.old.runtime.layout.top + 2 ^ 30 * (limit + 1) ≤ 2 ^ 61 }
     ensures done { result ≡ Status.Done → (taken : List ℕ)
-        × (answered : Answered defaults script_lines (S.held source.old) (S.held source.new) (K.written sink.old) (K.written sink.new) taken)
+        × (answered : Answered session.old.runtime.options script_lines
+        (S.held source.old) (S.held source.new) (K.written sink.old) (K.written sink.new) taken)
         × StandsFor session.new.runtime answered.last
         × (length taken ≤ limit) × IfSome (S.held source.new) (λ rest. rest ≡ []) }
     ensures read_before { result ≡ Status.ReadFault → (taken : List ℕ)
-        × Answered defaults ended_lines (S.held source.old) (S.held source.new) (K.written sink.old) (K.written sink.new) taken
+        × Answered session.old.runtime.options ended_lines
+        (S.held source.old) (S.held source.new) (K.written sink.old) (K.written sink.new) taken
         × (length taken ≤ limit) }
     ensures read_fault { result ≡ Status.ReadFault → Rose (S.faults source.old) (S.faults source.new) }
     ensures source_counted { result ≢ Status.ReadFault → S.faults source.new ≡ S.faults source.old }
     ensures write_before { result ≡ Status.WriteFault →
-        CutShort defaults limit (S.held source.old) (S.held source.new) (K.written sink.old) (K.written sink.new) }
+        CutShort session.old.runtime.options limit
+        (S.held source.old) (S.held source.new) (K.written sink.old) (K.written sink.new) }
     ensures write_fault { result ≡ Status.WriteFault → Rose (K.faults sink.old) (K.faults sink.new) }
     ensures sink_counted { result ≢ Status.WriteFault → K.faults sink.new ≡ K.faults sink.old }
     ensures too_much { result ≡ Status.TooMuch → (taken : List ℕ) × (byte : ℕ)
-        × Answered defaults ended_lines (S.held source.old) (option_map (λ rest. byte ∷ rest) (S.held source.new)) (K.written sink.old) (K.written sink.new) taken
+        × Answered session.old.runtime.options ended_lines
+        (S.held source.old) (option_map (λ rest. byte ∷ rest) (S.held source.new))
+        (K.written sink.old) (K.written sink.new) taken
         × (length taken ≡ limit) }
     ensures usage { result ≢ Status.Usage }
     ensures memory { result ≢ Status.Memory }
@@ -99,9 +106,10 @@ pub fn run<S: Source, K: Sink>(
     sink: &mut K,
     end_state: &mut Option<Runtime>,
 ) -> Status
-    // What is written is the text of one run of the machine over all lines of the source, which is read to its end, and the
-    // runtime that ran them stands for the last state of this run.
-    ensures headline { (options : Options) → SaysRun words.now options → result ≡ Status.Done → IfSome (S.held source.old) (λ script. (text : List ℕ) × (last : Machine)
+    // What is written is the text of one run of the machine over all lines of the source, which is read to its end, and
+    // the runtime that ran them stands for the last state of this run.
+    ensures headline { (options : Options) → SaysRun words.now options → result ≡ Status.Done →
+        IfSome (S.held source.old) (λ script. (text : List ℕ) × (last : Machine)
         × IsRunOf options script text last
         × Appended (K.written sink.old) (K.written sink.new) text
         × (S.held source.new ≡ Some [])
@@ -109,7 +117,8 @@ pub fn run<S: Source, K: Sink>(
 
     // The same where the source doesn't tell its bytes, of some bytes.
     ensures done { (options : Options) → SaysRun words.now options → result ≡ Status.Done → (taken : List ℕ)
-        × (answered : Answered options script_lines (S.held source.old) (S.held source.new) (K.written sink.old) (K.written sink.new) taken)
+        × (answered : Answered options script_lines
+        (S.held source.old) (S.held source.new) (K.written sink.old) (K.written sink.new) taken)
         × (length taken ≤ SCRIPT_LIMIT) × IsSomeAnd end_state.new (λ runtime. StandsFor runtime answered.last) }
     ensures no_state { result ≢ Status.Done → end_state.new ≡ None }
 
@@ -117,34 +126,41 @@ pub fn run<S: Source, K: Sink>(
     ensures usage { (result ≡ Status.Usage) ↔ SaysNothing words.now }
     ensures read_fault { result ≡ Status.ReadFault → Rose (S.faults source.old) (S.faults source.new) }
     ensures write_fault { result ≡ Status.WriteFault → Rose (K.faults sink.old) (K.faults sink.new) }
-    ensures too_much { (options : Options) → SaysRun words.now options → result ≡ Status.TooMuch → (taken : List ℕ) × (byte : ℕ)
-        × Answered options ended_lines (S.held source.old) (option_map (λ rest. byte ∷ rest) (S.held source.new)) (K.written sink.old) (K.written sink.new) taken
+    ensures too_much { (options : Options) → SaysRun words.now options → result ≡ Status.TooMuch →
+        (taken : List ℕ) × (byte : ℕ)
+        × Answered options ended_lines (S.held source.old) (option_map (λ rest. byte ∷ rest) (S.held source.new))
+        (K.written sink.old) (K.written sink.new) taken
         × (length taken ≡ SCRIPT_LIMIT) }
     ensures image { result ≢ Status.BadImage }
 
     // A count that rises is answered, and before the first read nothing has changed.
     ensures source_counted { result ≢ Status.ReadFault → S.faults source.new ≡ S.faults source.old }
     ensures sink_counted { result ≢ Status.WriteFault → K.faults sink.new ≡ K.faults sink.old }
-    ensures memory { (options : Options) → SaysRun words.now options → result ≡ Status.Memory → (source.new ≡ source.old) × (sink.new ≡ sink.old) }
+    ensures memory { (options : Options) → SaysRun words.now options → result ≡ Status.Memory →
+        (source.new ≡ source.old) × (sink.new ≡ sink.old) }
     ensures unread { result ≡ Status.Usage → (source.new ≡ source.old) × (sink.new ≡ sink.old) }
 
     // Where the words are right, the script isn't too long and no fault is counted, only memory can be wanting.
-    ensures complete { (options : Options) → SaysRun words.now options → IfSome (S.held source.old) (λ bytes. length bytes ≤ SCRIPT_LIMIT) →
-        IsSome (S.held source.old) → (Rose (S.faults source.old) (S.faults source.new) → ⊥) → (Rose (K.faults sink.old) (K.faults sink.new) → ⊥) →
+    ensures complete { (options : Options) → SaysRun words.now options →
+        IfSome (S.held source.old) (λ bytes. length bytes ≤ SCRIPT_LIMIT) →
+        IsSome (S.held source.old) → (Rose (S.faults source.old) (S.faults source.new) → ⊥) →
+        (Rose (K.faults sink.old) (K.faults sink.new) → ⊥) →
         (result ≡ Status.Done) ⊎ (result ≡ Status.Memory) }
 
     // What was written before a fault.
     ensures read_before { (options : Options) → SaysRun words.now options → result ≡ Status.ReadFault → (taken : List ℕ)
-        × Answered options ended_lines (S.held source.old) (S.held source.new) (K.written sink.old) (K.written sink.new) taken
+        × Answered options ended_lines
+        (S.held source.old) (S.held source.new) (K.written sink.old) (K.written sink.new) taken
         × (length taken ≤ SCRIPT_LIMIT) }
     ensures write_before { (options : Options) → SaysRun words.now options → result ≡ Status.WriteFault →
-        CutShort options SCRIPT_LIMIT (S.held source.old) (S.held source.new) (K.written sink.old) (K.written sink.new) }
+        CutShort options SCRIPT_LIMIT
+        (S.held source.old) (S.held source.new) (K.written sink.old) (K.written sink.new) }
 {
     *end_state = None;
     if !is_run(words) {
         return Status::Usage;
     }
-    let Ok(mut session) = Session::new(alloc) else {
+    let Ok(mut session) = Session::new(alloc, clr_runtime::Options::defaults()) else {
         return Status::Memory;
     };
     let Ok(mut buffer) = make_buffer(alloc, PIECE) else {

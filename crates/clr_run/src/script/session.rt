@@ -1,4 +1,5 @@
-ghost use Rattle.std.specs.Prelude.{◌≡◌, ◌+◌, ◌≤◌, ◌∷◌, ◌++◌, ℕ, List, [], MatchOption, take, OnOk, OnErr, IfOk, vec_len, vec_capacity, ◌<◌};
+ghost use Rattle.std.specs.Prelude.{◌≡◌, ◌+◌, ◌*◌, ◌^◌, ◌≤◌, ◌∷◌, ◌++◌, ℕ, List, [], length, MatchOption, take, OnOk};
+ghost use Rattle.std.specs.Prelude.{OnErr, IfOk, vec_len, vec_capacity, ◌<◌};
 ghost use Rattle.clr_run.specs.Faults.{Rose};
 ghost use Rattle.clr_run.specs.LineStretch.{IsUnfed, IsFirstFeed};
 
@@ -36,7 +37,8 @@ fn keep(line: &mut Vec<u8>, more: &[u8])
     push_all(line, &more[..count]);
 }
 
-/// A script that runs: its core, the line that is begun, the replies that wait to be written, and where each is written first.
+/// A script that runs: its core, the line that is begun, the replies that wait to be written, and where each is written
+/// first.
 #[derive(Drop)]
 pub struct Session {
     alloc: Global,
@@ -51,14 +53,19 @@ pub struct Session {
 impl Session {
     ghost use Rattle.clr_run.specs.Sessions.{IsAt, Goes, GoesWritten, Ends, EndsWritten, Stops, StopsLast};
     ghost use Rattle.clr_run.specs.Outcomes.{outcome_of, CanShow};
+    ghost use Rattle.clr_model.specs.Lawful.{AreLawfulOptions};
     ghost use Rattle.clr_model.specs.Run.{FollowsLine};
+    ghost use Rattle.clr_runtime.specs.Options.{options_of};
 
-    /// A script of which nothing was read yet. Takes the memory of its buffers here.
-    pub fn new(alloc: Global) -> Result<Session, NoMemory>
-        ensures at { IfOk result (λ session. IsAt session [] []) }
+    /// A script of which nothing was read yet, over a runtime with these options. Takes the memory of its buffers here.
+    pub fn new(alloc: Global, options: Options) -> Result<Session, NoMemory>
+        requires { AreLawfulOptions (options_of options) }
+        ensures at { IfOk result (λ session. IsAt (options_of options) session [] []) }
+        ensures made_with { IfOk result (λ session. session.runtime.options ≡ options_of options) }
+        ensures top { IfOk result (λ session. session.runtime.layout.top ≡ 0x10000000 + 2 * options.segment) }
         ensures empty { IfOk result (λ session. session.pending ≡ []) }
     {
-        let Ok(runtime) = Runtime::new(alloc, Options::defaults()) else {
+        let Ok(runtime) = Runtime::new(alloc, options) else {
             return Err(NoMemory);
         };
         let pending = Pending::new(alloc)?;
@@ -76,11 +83,14 @@ impl Session {
 
     // Does what the begun line and the bytes behind it say.
     fn execute(&mut self, rest: &[u8]) -> Outcome
-        requires { IsUnfed rest.now }
+        requires unfed { IsUnfed rest.now }
+        requires room { self.old.runtime.layout.top ≤ 2 ^ 61 }
         ensures shows { CanShow result }
         ensures line { self.new.line.items ≡ [] }
         ensures pending { self.new.pending ≡ self.old.pending }
-        ensures follows { (begun : List ℕ) → self.old.line.items ≡ take 4097 begun → FollowsLine self.old.runtime (begun ++ rest.now) (outcome_of result) self.new.runtime }
+        ensures follows { (begun : List ℕ) → self.old.line.items ≡ take 4097 begun →
+            FollowsLine self.old.runtime (begun ++ rest.now) (outcome_of result) self.new.runtime }
+        ensures grows { self.new.runtime.layout.top ≤ self.old.runtime.layout.top + 2 ^ 30 }
     {
         if self.line.is_empty() {
             return execute(&mut self.runtime, self.alloc, rest);
@@ -93,11 +103,14 @@ impl Session {
 
     // Answers the line that these bytes and a line feed end.
     fn end_line<K: Sink>(&mut self, sink: &mut K, rest: &[u8]) -> Result<(), Failed>
-        requires { IsUnfed rest.now }
-        ensures bytes { OnOk result (Goes self.old self.new (rest.now ++ 10 ∷ []) (K.written sink.old) (K.written sink.new)) }
+        requires unfed { IsUnfed rest.now }
+        requires room { self.old.runtime.layout.top ≤ 2 ^ 61 }
+        ensures bytes { OnOk result
+            (Goes self.old self.new (rest.now ++ 10 ∷ []) (K.written sink.old) (K.written sink.new)) }
         ensures stops { OnErr result (Stops self.old (rest.now ++ 10 ∷ []) (K.written sink.old) (K.written sink.new)) }
         ensures counted { OnOk result (K.faults sink.new ≡ K.faults sink.old) }
         ensures cause { OnErr result (Rose (K.faults sink.old) (K.faults sink.new)) }
+        ensures grows { self.new.runtime.layout.top ≤ self.old.runtime.layout.top + 2 ^ 30 }
     {
         let outcome = self.execute(rest);
         put_outcome(&mut self.pending, sink, &outcome, &mut self.reply)
@@ -105,10 +118,12 @@ impl Session {
 
     // Answers the lines that the next bytes of the script end, and keeps what is behind them.
     fn answer_piece<K: Sink>(&mut self, sink: &mut K, piece: &[u8]) -> Result<(), Failed>
+        requires { self.old.runtime.layout.top + 2 ^ 30 * length piece.now ≤ 2 ^ 61 }
         ensures bytes { OnOk result (Goes self.old self.new piece.now (K.written sink.old) (K.written sink.new)) }
         ensures stops { OnErr result (Stops self.old piece.now (K.written sink.old) (K.written sink.new)) }
         ensures counted { OnOk result (K.faults sink.new ≡ K.faults sink.old) }
         ensures cause { OnErr result (Rose (K.faults sink.old) (K.faults sink.new)) }
+        ensures grows { self.new.runtime.layout.top ≤ self.old.runtime.layout.top + 2 ^ 30 * length piece.now }
     {
         let mut from = 0;
         while let Some(at) = first_feed(&piece[from..]) {
@@ -121,10 +136,12 @@ impl Session {
 
     // Answers the line that is begun where the script ends, if there is one.
     fn answer_end<K: Sink>(&mut self, sink: &mut K) -> Result<(), Failed>
+        requires { self.old.runtime.layout.top ≤ 2 ^ 61 }
         ensures bytes { OnOk result (Ends self.old self.new (K.written sink.old) (K.written sink.new)) }
         ensures stops { OnErr result (StopsLast self.old (K.written sink.old) (K.written sink.new)) }
         ensures counted { OnOk result (K.faults sink.new ≡ K.faults sink.old) }
         ensures cause { OnErr result (Rose (K.faults sink.old) (K.faults sink.new)) }
+        ensures grows { self.new.runtime.layout.top ≤ self.old.runtime.layout.top + 2 ^ 30 }
     {
         if self.line.is_empty() {
             return Ok(());
@@ -135,10 +152,13 @@ impl Session {
 
     /// Takes the next bytes of the script, and writes the replies to the lines that they end.
     pub fn take_piece<K: Sink>(&mut self, sink: &mut K, piece: &[u8]) -> Result<(), Failed>
-        ensures bytes { OnOk result (GoesWritten self.old self.new piece.now (K.written sink.old) (K.written sink.new)) }
+        requires { self.old.runtime.layout.top + 2 ^ 30 * length piece.now ≤ 2 ^ 61 }
+        ensures bytes { OnOk result
+            (GoesWritten self.old self.new piece.now (K.written sink.old) (K.written sink.new)) }
         ensures stops { OnErr result (Stops self.old piece.now (K.written sink.old) (K.written sink.new)) }
         ensures counted { OnOk result (K.faults sink.new ≡ K.faults sink.old) }
         ensures cause { OnErr result (Rose (K.faults sink.old) (K.faults sink.new)) }
+        ensures grows { self.new.runtime.layout.top ≤ self.old.runtime.layout.top + 2 ^ 30 * length piece.now }
     {
         self.answer_piece(sink, piece)?;
         self.pending.flush(sink)
@@ -146,10 +166,12 @@ impl Session {
 
     /// Takes the end of the script: a line that is begun is answered, and all replies are written.
     pub fn take_end<K: Sink>(&mut self, sink: &mut K) -> Result<(), Failed>
+        requires { self.old.runtime.layout.top ≤ 2 ^ 61 }
         ensures bytes { OnOk result (EndsWritten self.old self.new (K.written sink.old) (K.written sink.new)) }
         ensures stops { OnErr result (StopsLast self.old (K.written sink.old) (K.written sink.new)) }
         ensures counted { OnOk result (K.faults sink.new ≡ K.faults sink.old) }
         ensures cause { OnErr result (Rose (K.faults sink.old) (K.faults sink.new)) }
+        ensures grows { self.new.runtime.layout.top ≤ self.old.runtime.layout.top + 2 ^ 30 }
     {
         self.answer_end(sink)?;
         self.pending.flush(sink)

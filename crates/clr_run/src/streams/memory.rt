@@ -1,5 +1,6 @@
 //! Sources and sinks in memory, whose calls fail where they are told to.
-ghost use Rattle.std.specs.Prelude.{vec_len, vec_capacity, ◌≡◌, ◌+◌, ◌-◌, ◌<◌, ◌≤◌, ◌↔◌, ◌⊎◌, ℕ, [], ◌++◌, length, take, drop, Some, IfOk, OnErr, IsErr, Contains, min};
+ghost use Rattle.std.specs.Prelude.{vec_len, vec_capacity, ◌≡◌, ◌+◌, ◌-◌, ◌<◌, ◌≤◌, ◌↔◌, ◌⊎◌, ℕ, [], ◌++◌, length};
+ghost use Rattle.std.specs.Prelude.{take, drop, Some, IfOk, OnErr, IsErr, Contains, min};
 ghost use Rattle.clr_run.specs.Faults.{Rose, Taken, Appended};
 ghost use Rattle.clr_run.specs.Memory.{next_call};
 
@@ -124,7 +125,8 @@ impl MemorySink {
         fails: Vec<u64>,
     ) -> Result<MemorySink, NoMemory>
         requires { 0 < piece }
-        ensures { IfOk result (λ sink. sink ≡ record { bytes = []; room = room; piece = piece; fails = fails.items; calls = 0; faults = 0 }) }
+        ensures { IfOk result (λ sink.
+            sink ≡ record { bytes = []; room = room; piece = piece; fails = fails.items; calls = 0; faults = 0 }) }
     {
         let Ok(bytes) = Vec::with_capacity(alloc, room) else {
             return Err(NoMemory);
@@ -161,10 +163,13 @@ impl Sink for MemorySink {
         ensures cause { OnErr result (Rose self.old.faults self.new.faults) }
 
         // It fails exactly at the chosen calls and where the room is full, and takes at most a piece.
-        ensures chosen { IsErr result ↔ (Contains self.old.fails (next_call self.old.calls) ⊎ ((length self.old.bytes ≡ self.old.room) × (0 < length piece.now))) }
+        ensures chosen { IsErr result ↔ (Contains self.old.fails (next_call self.old.calls)
+            ⊎ ((length self.old.bytes ≡ self.old.room) × (0 < length piece.now))) }
         ensures calls { self.new.calls ≡ next_call self.old.calls }
-        ensures piece { IfOk result (λ n. n ≡ min (min (length piece.now) self.old.piece) (self.old.room - length self.old.bytes)) }
-        ensures same { (self.new.fails ≡ self.old.fails) × (self.new.piece ≡ self.old.piece) × (self.new.room ≡ self.old.room) }
+        ensures piece { IfOk result (λ n.
+            n ≡ min (min (length piece.now) self.old.piece) (self.old.room - length self.old.bytes)) }
+        ensures same { (self.new.fails ≡ self.old.fails) × (self.new.piece ≡ self.old.piece)
+            × (self.new.room ≡ self.old.room) }
     {
         self.calls = self.calls.saturating_add(1);
         let room = self.room - self.bytes.len();

@@ -11,8 +11,8 @@ pub trait Source {
     // how many reads have failed; the count stays at the last value of a u64
     ghost faults: { Self → ℕ };
 
-    /// Reads bytes into the front of `into`, and gives their count. On a buffer that isn't empty, 0 is the end of the input.
-    /// After `Failed` the same bytes are left.
+    /// Reads bytes into the front of `into`, and gives their count. On a buffer that isn't empty, 0 is the end of the
+    /// input. After `Failed` the same bytes are left.
     fn read(&mut self, into: &mut [u8]) -> Result<usize, Failed>
         ensures bound { IfOk result (λ n. n ≤ length into.new) }
         ensures bytes { IfOk result (λ n. Taken (held self.old) (held self.new) (take n into.new)) }

@@ -3,9 +3,7 @@ ghost use Rattle.std.specs.Prelude.{None, ◌<◌};
 
 use super::{EMPTY_HEAP, Trial, bytes_of, outcome_of, status_of};
 use crate::streams::memory::copy_front;
-use crate::{
-    Failed, MemorySink, MemorySource, PlainSink, PlainSource, SCRIPT_LIMIT, Source, Status,
-};
+use crate::{Failed, MemorySink, MemorySource, SCRIPT_LIMIT, Source, Status};
 use std::alloc::Global;
 use std::process::Abort;
 use std::test::Fail;
@@ -15,21 +13,6 @@ const TWO_LINES: &str = "dumpheap\ndumpheap";
 
 /// Their replies.
 const TWO_REPLIES: &str = "total 0 bytes 0 free 0\ntotal 0 bytes 0 free 0\n";
-
-#[test]
-fn gives_each_status_its_code(rt: HostRuntime) {
-    for (status, code) in [
-        (Status::Done, 0),
-        (Status::Usage, 2),
-        (Status::ReadFault, 3),
-        (Status::WriteFault, 4),
-        (Status::Memory, 5),
-        (Status::TooMuch, 6),
-        (Status::BadImage, 7),
-    ] {
-        assert_eq!(rt; status.code(), code);
-    }
-}
 
 /// Wants these words to say no command, so that nothing is read or written: the same source and sink then serve a run.
 fn expect_usage(rt: &impl Abort, alloc: Global, texts: &[&str]) -> Result<(), Fail> {
@@ -61,15 +44,6 @@ fn wants_the_word_run_alone(rt: HostRuntime) -> Result<(), Fail> {
     for texts in wrong {
         expect_usage(&rt, rt.alloc(), texts)?;
     }
-    Ok(())
-}
-
-#[test]
-fn runs_without_faults(rt: HostRuntime) -> Result<(), Fail> {
-    let alloc = rt.alloc();
-    let mut source = PlainSource::new(bytes_of(alloc, b"dumpheap\n")?);
-    let status = status_of(alloc, &["run"], &mut source, &mut PlainSink::new())?;
-    assert_eq!(rt; status, Status::Done);
     Ok(())
 }
 

@@ -37,7 +37,8 @@ fn answers_each_line(rt: HostRuntime) -> Result<(), Fail> {
         ("", ""),
         (
             "type Node class rr\nt1 new l0 Node\ndumpheap\n",
-            "mt 00007ff000000040\n0000000010001000\n0000000010001000 00007ff000000040 32 Node\ntotal 1 bytes 32 free 0\n",
+            "mt 00007ff000000040\n0000000010001000\n0000000010001000 00007ff000000040 32 Node\n\
+            total 1 bytes 32 free 0\n",
         ),
         // the last line needs no line feed
         ("dumpheap", EMPTY_HEAP),
@@ -48,17 +49,21 @@ fn answers_each_line(rt: HostRuntime) -> Result<(), Fail> {
         // the least object has three words, and the next one stands behind it
         (
             "type A class -\nt1 new l0 A\nt1 new l63 A\ndumpheap\n",
-            "mt 00007ff000000040\n0000000010001000\n0000000010001018\n0000000010001000 00007ff000000040 24 A\n0000000010001018 00007ff000000040 24 A\ntotal 2 bytes 48 free 0\n",
+            "mt 00007ff000000040\n0000000010001000\n0000000010001018\n0000000010001000 00007ff000000040 24 A\n\
+            0000000010001018 00007ff000000040 24 A\ntotal 2 bytes 48 free 0\n",
         ),
         // a refused line changes nothing, and a second type has the next method table word
         (
             "type A class -\ntype B class -\nt1 new l0 B\nt1 new l64 A\nt1 new l07 A\nt1 new l7 A\n",
-            "mt 00007ff000000040\nmt 00007ff000000080\n0000000010001000\nrefused no-slot\nrefused syntax\n0000000010001018\n",
+            "mt 00007ff000000040\nmt 00007ff000000080\n0000000010001000\nrefused no-slot\nrefused syntax\n\
+            0000000010001018\n",
         ),
         // a name that is taken, then lines of no form: a wrong pattern, and other than one space between two words
         (
-            "type Free class -\ntype  A class -\ntype A class rx\n type A class -\ntype A class - \ndumpheap x\nDumpheap\ndumpheap\r\n",
-            "refused duplicate-type\nrefused syntax\nrefused syntax\nrefused syntax\nrefused syntax\nrefused syntax\nrefused syntax\nrefused syntax\n",
+            "type Free class -\ntype  A class -\ntype A class rx\n type A class -\ntype A class - \n\
+            dumpheap x\nDumpheap\ndumpheap\r\n",
+            "refused duplicate-type\nrefused syntax\nrefused syntax\nrefused syntax\nrefused syntax\n\
+            refused syntax\nrefused syntax\nrefused syntax\n",
         ),
     ];
     for (script, replies) in cases {

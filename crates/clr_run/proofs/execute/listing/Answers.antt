@@ -6,5 +6,6 @@ use Rattle.clr_run.proofs.execute.listing.Goals as goal
 pub returns : goal.returns
 returns c =
     IfOk-weaker c.listing_text.result _ _
-    (λ text e. dump_shows c.args.runtime.now c.types.result.now c.heap.result.now text.items c.types.ensures c.heap.ensures.objects c.heap.ensures.layout c.listing_text.ensures.lawful c.heap.ensures.held e)
+    (λ text e. dump_shows c.args.runtime.now c.types.result.now c.heap.result.now text.items c.types.ensures
+    c.heap.ensures.objects c.heap.ensures.layout c.listing_text.ensures.lawful c.heap.ensures.held e)
     c.listing_text.ensures.text

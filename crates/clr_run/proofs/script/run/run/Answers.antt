@@ -1,18 +1,21 @@
--- What a run answers, from what its loop does; and the answers that are left where nothing else is wrong.
-use Rattle.std.proofs.Common.{inl, refl}
+-- What a run answers, from what its loop does, with the options that the session was made with; and the answers that
+-- are left where nothing else is wrong.
+use Rattle.std.proofs.Common.{inl, refl, sym, ap, arith, subst, [], ◌∙◌}
+use Rattle.clr_model.specs.Machine.{Options}
 use Rattle.clr_model.specs.Run.{StandsFor}
+use Rattle.clr_run.specs.Sessions.{IsAt}
 use Rattle.clr_run.proofs.ScriptLoop.{status_left, too_long, headline}
 use Rattle.clr_run.proofs.script.run.run.Goals as goal
 
 pub returns-in-Done-clause-headline : goal.returns-in-Done-clause-headline
 returns-in-Done-clause-headline g c = λ options says e.
-    rw says.1
+    rw (says.1 ∙ sym (c.in-Ok.ensures.made_with ∙ c.defaults.ensures))
     (let (taken, answered, stands, short, ended) = c.run_script.ensures.done c.in-Done.is in
     headline _ _ _ _ _ taken answered ended (StandsFor c.into_runtime.result) (rw c.into_runtime.ensures stands))
 
 pub returns-in-Done-clause-done : goal.returns-in-Done-clause-done
 returns-in-Done-clause-done g c = λ options says e.
-    rw says.1
+    rw (says.1 ∙ sym (c.in-Ok.ensures.made_with ∙ c.defaults.ensures))
     (let (taken, answered, stands, short, ended) = c.run_script.ensures.done c.in-Done.is in
     (taken, answered, short, rw c.into_runtime.ensures stands))
 
@@ -26,13 +29,19 @@ pub returns-in_default-run_script-clause-done : goal.returns-in_default-run_scri
 returns-in_default-run_script-clause-done g c = λ options says e. absurd (c.in_default-run_script.not-Done e)
 
 pub returns-in_default-run_script-clause-too_much : goal.returns-in_default-run_script-clause-too_much
-returns-in_default-run_script-clause-too_much g c = λ options says e. rw says.1 (c.run_script.ensures.too_much e)
+returns-in_default-run_script-clause-too_much g c =
+    λ options says e. rw (says.1 ∙ sym (c.in-Ok.ensures.made_with ∙ c.defaults.ensures))
+    (c.run_script.ensures.too_much e)
 
 pub returns-in_default-run_script-clause-read_before : goal.returns-in_default-run_script-clause-read_before
-returns-in_default-run_script-clause-read_before g c = λ options says e. rw says.1 (c.run_script.ensures.read_before e)
+returns-in_default-run_script-clause-read_before g c =
+    λ options says e. rw (says.1 ∙ sym (c.in-Ok.ensures.made_with ∙ c.defaults.ensures))
+    (c.run_script.ensures.read_before e)
 
 pub returns-in_default-run_script-clause-write_before : goal.returns-in_default-run_script-clause-write_before
-returns-in_default-run_script-clause-write_before g c = λ options says e. rw says.1 (c.run_script.ensures.write_before e)
+returns-in_default-run_script-clause-write_before g c =
+    λ options says e. rw (says.1 ∙ sym (c.in-Ok.ensures.made_with ∙ c.defaults.ensures))
+    (c.run_script.ensures.write_before e)
 
 pub returns-in_default-run_script-clause-complete : goal.returns-in_default-run_script-clause-complete
 returns-in_default-run_script-clause-complete g c = λ options says short some unread unwritten.
@@ -41,3 +50,13 @@ returns-in_default-run_script-clause-complete g c = λ options says short some u
     (λ e. unwritten (c.run_script.ensures.write_fault e))
     (λ e. let long = c.run_script.ensures.too_much e in too_long _ _ long.0 long.1 _ long.2.read long.3 some short)
     c.run_script.ensures.image
+
+pub run_script-requires-clause-started : goal.run_script-requires-clause-started
+run_script-requires-clause-started g c =
+    subst (λ (o : Options). IsAt o c.in-Ok.session [] []) (sym c.in-Ok.ensures.made_with) c.in-Ok.ensures.at
+
+pub run_script-requires-clause-room : goal.run_script-requires-clause-room
+run_script-requires-clause-room g c =
+    let segment = ap (λ (o : Options). o.segment) c.defaults.ensures in
+    let top = c.in-Ok.ensures.top in
+    omega (arith, segment, top)

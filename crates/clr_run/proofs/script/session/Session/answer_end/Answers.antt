@@ -7,7 +7,8 @@ use Rattle.clr_run.proofs.SessionSteps.{ends_line, ends_none, stops_last}
 use Rattle.clr_run.proofs.script.session.Session.answer_end.Goals as goal
 
 pub returns-then-is_empty-clause-bytes : goal.returns-then-is_empty-clause-bytes
-returns-then-is_empty-clause-bytes g c = ends_none c.args.self.now _ (let e = eqb-true _ _ (sym c.is_empty.ensures ∙ c.if-is_empty.true) in omega (arith, e, c.args.self.now.line.ok))
+returns-then-is_empty-clause-bytes g c = ends_none c.args.self.now _
+    (let e = eqb-true _ _ (sym c.is_empty.ensures ∙ c.if-is_empty.true) in omega (arith, e, c.args.self.now.line.ok))
 
 pub returns-clause-bytes : goal.returns-clause-bytes
 returns-clause-bytes g c = on_ok_weaker c.put_outcome.result

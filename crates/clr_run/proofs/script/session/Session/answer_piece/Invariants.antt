@@ -1,4 +1,4 @@
-use Rattle.std.proofs.Common.{◌≡◌, ◌≤◌, ◌-◌, length, take}
+use Rattle.std.proofs.Common.{◌≡◌, ◌+◌, ◌*◌, ◌^◌, ◌≤◌, ◌-◌, length, take}
 use Rattle.clr_run.specs.Sessions.{Goes}
 use Rattle.clr_run.proofs.script.session.Session.answer_piece.Given as goal
 
@@ -6,6 +6,7 @@ abbrev pub invariant-loop-at : goal.invariant-loop-at
 invariant-loop-at g l = record {
   within : l.from ≤ length l.piece;
   goes : Goes l.initial.self l.self (take l.from l.piece) (g.K.Sink.written l.initial.sink) (g.K.Sink.written l.sink);
+  grows : l.self.runtime.layout.top ≤ l.initial.self.runtime.layout.top + 2 ^ 30 * l.from;
   counted : g.K.Sink.faults l.sink ≡ g.K.Sink.faults l.initial.sink;
 }
 

@@ -6,12 +6,15 @@ use Rattle.clr_run.proofs.script.session.Session.end_line.Goals as goal
 
 pub returns-clause-bytes : goal.returns-clause-bytes
 returns-clause-bytes g c = on_ok_weaker c.put_outcome.result
-    (λ wrote. goes_line c.args.self.now c.execute-outcome.new.self.runtime c.execute-outcome.new.self.line.items _ c.args.rest.now (outcome_of c.execute-outcome.result) _ _
-    c.requires c.execute-outcome.ensures.follows c.execute-outcome.ensures.line (rw c.execute-outcome.ensures.pending at wrote))
+    (λ wrote. goes_line c.args.self.now c.execute-outcome.new.self.runtime c.execute-outcome.new.self.line.items _
+    c.args.rest.now (outcome_of c.execute-outcome.result) _ _
+    c.requires.unfed c.execute-outcome.ensures.follows c.execute-outcome.ensures.line
+    (rw c.execute-outcome.ensures.pending at wrote))
     c.put_outcome.ensures.wrote
 
 pub returns-clause-stops : goal.returns-clause-stops
 returns-clause-stops g c = on_err_weaker c.put_outcome.result
-    (λ wrote. stops_line c.args.self.now c.execute-outcome.new.self.runtime c.args.rest.now (outcome_of c.execute-outcome.result) _ _
-    c.requires c.execute-outcome.ensures.follows (rw c.execute-outcome.ensures.pending at wrote))
+    (λ wrote. stops_line c.args.self.now c.execute-outcome.new.self.runtime c.args.rest.now
+    (outcome_of c.execute-outcome.result) _ _
+    c.requires.unfed c.execute-outcome.ensures.follows (rw c.execute-outcome.ensures.pending at wrote))
     c.put_outcome.ensures.part

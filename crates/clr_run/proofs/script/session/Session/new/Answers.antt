@@ -1,10 +1,16 @@
 -- Nothing was read yet, and the runtime stands for the opening state.
-use Rattle.std.proofs.Common.{subst}
-use Rattle.clr_model.specs.Machine.{Options}
-use Rattle.clr_model.specs.Run.{opening, StandsFor}
-use Rattle.clr_run.proofs.SessionSteps.{started}
+use Rattle.std.proofs.Common.{ap, sym}
+use Rattle.clr_model.specs.Machine.{Machine}
+use Rattle.clr_run.proofs.SessionSteps.{started, opening_options, opening_top}
+use Rattle.clr_runtime.specs.Options.{options_of}
 use Rattle.clr_run.proofs.script.session.Session.new.Goals as goal
 
 pub returns-clause-at : goal.returns-clause-at
-returns-clause-at c =
-    started c.in-Ok.runtime c.in-Ok-with_capacity.line.items (subst (λ (o : Options). StandsFor c.in-Ok.runtime (opening o)) c.defaults.ensures c.in-Ok.ensures) c.in-Ok-with_capacity.ensures.items
+returns-clause-at c = started (options_of c.args.options) c.in-Ok.runtime c.in-Ok-with_capacity.line.items
+    c.in-Ok.ensures c.in-Ok-with_capacity.ensures.items
+
+pub returns-clause-made_with : goal.returns-clause-made_with
+returns-clause-made_with c = opening_options (options_of c.args.options) c.in-Ok.runtime c.in-Ok.ensures
+
+pub returns-clause-top : goal.returns-clause-top
+returns-clause-top c = opening_top (options_of c.args.options) c.in-Ok.runtime c.in-Ok.ensures

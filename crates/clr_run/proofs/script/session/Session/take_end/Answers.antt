@@ -5,10 +5,12 @@ use Rattle.clr_run.proofs.script.session.Session.take_end.Goals as goal
 
 pub returns-clause-bytes : goal.returns-clause-bytes
 returns-clause-bytes g c = on_ok_weaker c.flush.result
-    (λ wrote. ends_flushed c.args.self.now c.answer_end.new.self _ (g.K.Sink.written c.answer_end.new.sink) _ c.in_ok-answer_end.ensures.bytes wrote)
+    (λ wrote. ends_flushed c.args.self.now c.answer_end.new.self _
+    (g.K.Sink.written c.answer_end.new.sink) _ c.in_ok-answer_end.ensures.bytes wrote)
     c.flush.ensures.wrote
 
 pub returns-clause-stops : goal.returns-clause-stops
 returns-clause-stops g c = on_err_weaker c.flush.result
-    (λ some. stops_last_flushed c.args.self.now c.answer_end.new.self _ (g.K.Sink.written c.answer_end.new.sink) _ c.in_ok-answer_end.ensures.bytes some)
+    (λ some. stops_last_flushed c.args.self.now c.answer_end.new.self _
+    (g.K.Sink.written c.answer_end.new.sink) _ c.in_ok-answer_end.ensures.bytes some)
     c.flush.ensures.part

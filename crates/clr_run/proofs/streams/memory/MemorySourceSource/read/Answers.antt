@@ -6,4 +6,5 @@ use Rattle.clr_run.proofs.streams.memory.MemorySourceSource.read.Goals as goal
 
 pub returns-clause-bytes : goal.returns-clause-bytes
 returns-clause-bytes c =
-    let e = rw (c.as_slice.ensures.value, take_rest) at c.copy_front-count.ensures.copied in rw (← c.self.view_is) (ap Some (held_after _ _ _ _ e))
+    let e = rw (c.as_slice.ensures.value, take_rest) at c.copy_front-count.ensures.copied in
+    rw (← c.self.view_is) (ap Some (held_after _ _ _ _ e))

@@ -5,10 +5,12 @@ use Rattle.clr_run.proofs.streams.pending.Pending.put.Goals as goal
 
 pub returns-clause-wrote : goal.returns-clause-wrote
 returns-clause-wrote g c = on_ok_weaker c.write_all.result
-    (λ wrote. wrote_all _ (g.K.Sink.written c.flush.new.sink) _ c.args.self.now c.flush.new.self c.args.text.now c.in_ok-flush.ensures.wrote c.in_ok-flush.ensures.emptied wrote)
+    (λ wrote. wrote_all _ (g.K.Sink.written c.flush.new.sink) _ c.args.self.now c.flush.new.self c.args.text.now
+    c.in_ok-flush.ensures.wrote c.in_ok-flush.ensures.emptied wrote)
     c.write_all.ensures.bytes
 
 pub returns-clause-part : goal.returns-clause-part
 returns-clause-part g c = on_err_weaker c.write_all.result
-    (λ part. wrote_then_some _ (g.K.Sink.written c.flush.new.sink) _ c.args.self.now c.args.text.now part.0 c.in_ok-flush.ensures.wrote part.1)
+    (λ part. wrote_then_some _ (g.K.Sink.written c.flush.new.sink) _ c.args.self.now c.args.text.now part.0
+    c.in_ok-flush.ensures.wrote part.1)
     c.write_all.ensures.part

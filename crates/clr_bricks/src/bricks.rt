@@ -1,0 +1,187 @@
+// The bricks of all segments.
+ghost use Rattle.std.specs.Prelude.{◌≡◌, ℕ, ◌+◌, ◌/◌, ◌%◌, ◌<◌, ◌≤◌, ◌^◌, ◌==◌, ◌||◌, ◌↔◌, pos, true};
+ghost use Rattle.std.specs.Prelude.{if◌then◌else◌, [], length, get_or, Some, IfSome, IsNone, OnErr, OnOk};
+ghost use Rattle.std.specs.List.{remove};
+ghost use Rattle.clr_covers.specs.Covers.{AreApart, begins, has_unit, is_covered, IsFree, spans, with_cover};
+ghost use Rattle.clr_covers.specs.Covers.{with_value, without_cover};
+ghost use Rattle.clr_bricks.specs.Bricks.{back_entry, entry_at, LeadsNowhere, LeadsToRoot, new_bricks, root_entry};
+ghost use Rattle.clr_bricks.specs.Bricks.{StopsAt};
+
+use crate::NoMemory;
+use crate::search::search;
+use clr_covers::Covers;
+use clr_nums::{Grid, Steps};
+use std::alloc::Global;
+use std::marker::Model;
+use std::sync::ledger::Ledger;
+
+/// An entry for each brick, that is for each 4,096 bytes of what is covered. It is 0, or one more than an offset in the
+/// brick, or negative: how many bricks to go back. Clauses see the covers, by rising address, and each brick by its
+/// number, that of its 4,096 bytes.
+///
+/// The calls look first where an entry was written last. Those that take `near`, a guess of the number of the cover,
+/// look there first.
+#[derive(Drop)]
+pub struct Bricks {
+    covers: Covers<i16>,
+}
+
+impl Model for Bricks {
+    ghost use Rattle.std.specs.Prelude.{ℤ, List};
+    ghost use Rattle.clr_covers.specs.Covers.{CoverView};
+
+    ghost Value = { List (CoverView ℤ) };
+
+    ghost view = { λ b. b.covers };
+}
+
+impl Bricks {
+    /// No bricks. Takes no memory.
+    pub fn new(alloc: Global) -> Bricks
+        ensures { result ≡ [] }
+    {
+        Bricks {
+            covers: Covers::new(alloc),
+        }
+    }
+
+    /// How many covers there are.
+    pub fn covers(&self) -> usize
+        ensures count { result ≡ length self.now }
+        ensures apart { AreApart self.now }
+    {
+        self.covers.len()
+    }
+
+    /// Covers `[base, base + len)`, in bytes, with bricks without entries. No address of it is covered, and all other
+    /// entries stay. `NoMemory` comes where there was no memory for the bricks; nothing has changed then.
+    pub fn add(&mut self, base: u64, len: u64) -> Result<(), NoMemory>
+        requires base_aligned { base % 4096 ≡ 0 }
+        requires len_aligned { len % 4096 ≡ 0 }
+        requires some { 0 < len }
+        requires fits { base + len < 2 ^ 64 }
+        requires free { IsFree self.old (base / 4096) ((base + len) / 4096) }
+        ensures ok { OnOk result (self.new ≡ with_cover (new_bricks base len) self.old) }
+        ensures covered { OnOk result ((i : ℕ) → is_covered self.new i
+            ≡ (has_unit (new_bricks base len) i || is_covered self.old i)) }
+        ensures entries { (i : ℕ) → entry_at self.new i ≡ entry_at self.old i }
+        ensures err { OnErr result (self.new ≡ self.old) }
+    {
+        let count = len / 4096;
+        self.covers
+            .add(Grid::<4096>::index(base), count as usize, 0)
+    }
+
+    /// Ends the cover that begins at the address `base`. All other entries stay.
+    pub fn remove(&mut self, base: u64)
+        requires aligned { base % 4096 ≡ 0 }
+        requires begins { begins self.old (base / 4096) ≡ true }
+        ensures value { self.new ≡ without_cover (base / 4096) self.old }
+        ensures entries { (i : ℕ) → is_covered self.new i ≡ true → entry_at self.new i ≡ entry_at self.old i }
+        ensures spans { (k : ℕ) → k < length self.old → (get_or (spans self.old) k (0, 0)).0 ≡ base / 4096
+            → spans self.new ≡ remove (spans self.old) k }
+    {
+        self.covers.remove(Grid::<4096>::index(base));
+    }
+
+    /// Lets a brick name an offset, in bytes from its first address. All other entries stay.
+    #[inline]
+    pub fn set_root(&mut self, brick: u64, offset: u16)
+        requires covered { is_covered self.old brick ≡ true }
+        requires inside { offset < 4096 }
+        ensures value { self.new ≡ with_value self.old brick (root_entry offset) }
+        ensures entries { (i : ℕ) → entry_at self.new i
+            ≡ (if i == brick then root_entry offset else entry_at self.old i) }
+        ensures spans { spans self.new ≡ spans self.old }
+    {
+        self.put(brick, offset as i16 + 1);
+    }
+
+    /// Lets a brick lead `back` bricks back. All other entries stay.
+    #[inline]
+    pub fn set_back(&mut self, brick: u64, back: u16)
+        requires covered { is_covered self.old brick ≡ true }
+        requires some { 1 ≤ back }
+        requires most { back ≤ 32767 }
+        ensures value { self.new ≡ with_value self.old brick (back_entry back) }
+        ensures entries { (i : ℕ) → entry_at self.new i
+            ≡ (if i == brick then back_entry back else entry_at self.old i) }
+        ensures spans { spans self.new ≡ spans self.old }
+    {
+        self.put(brick, -(back as i16));
+    }
+
+    /// Takes a brick's entry away. All other entries stay.
+    #[inline]
+    pub fn set_none(&mut self, brick: u64)
+        requires { is_covered self.old brick ≡ true }
+        ensures value { self.new ≡ with_value self.old brick (pos 0) }
+        ensures entries { (i : ℕ) → entry_at self.new i ≡ (if i == brick then pos 0 else entry_at self.old i) }
+        ensures spans { spans self.new ≡ spans self.old }
+    {
+        self.put(brick, 0);
+    }
+
+    /// The entry of a brick.
+    #[inline]
+    pub fn entry(&self, brick: u64) -> i16
+        requires { is_covered self.now brick ≡ true }
+        ensures { result ≡ entry_at self.now brick }
+    {
+        self.entry_near(self.covers.recent(), brick)
+    }
+
+    /// The same with a guess.
+    #[inline]
+    pub fn entry_near(&self, near: usize, brick: u64) -> i16
+        requires { is_covered self.now brick ≡ true }
+        ensures { result ≡ entry_at self.now brick }
+    {
+        self.covers.get(near, brick)
+    }
+
+    /// The brick that names an offset, found from the brick of the address `a` on by following back entries. `None`
+    /// comes exactly where a brick without an entry is met, or an entry that leads below the first brick of the cover.
+    /// Each entry that is read counts one step.
+    pub fn find_brick<L: Ledger>(&self, a: u64, steps: &mut Steps<L>) -> Option<u64>
+        requires { is_covered self.now (a / 4096) ≡ true }
+        ensures found { (b : ℕ) → (result ≡ Some b) ↔ LeadsToRoot self.now (a / 4096) b }
+        ensures none { IsNone result ↔ LeadsNowhere self.now (a / 4096) }
+        ensures steps { (b n : ℕ) → StopsAt self.now (a / 4096) b n → steps.new ≡ steps.old + n + 1 }
+        ensures covered { IfSome result (λ b. is_covered self.now b ≡ true) }
+        ensures below { IfSome result (λ b. b ≤ a / 4096) }
+    {
+        self.find_brick_near(self.covers.recent(), a, steps)
+    }
+
+    /// The same with a guess.
+    pub fn find_brick_near<L: Ledger>(
+        &self,
+        near: usize,
+        a: u64,
+        steps: &mut Steps<L>,
+    ) -> Option<u64>
+        requires { is_covered self.now (a / 4096) ≡ true }
+        ensures found { (b : ℕ) → (result ≡ Some b) ↔ LeadsToRoot self.now (a / 4096) b }
+        ensures none { IsNone result ↔ LeadsNowhere self.now (a / 4096) }
+        ensures steps { (b n : ℕ) → StopsAt self.now (a / 4096) b n → steps.new ≡ steps.old + n + 1 }
+        ensures covered { IfSome result (λ b. is_covered self.now b ≡ true) }
+        ensures below { IfSome result (λ b. b ≤ a / 4096) }
+    {
+        let from = Grid::<4096>::index(a);
+        let k = self.covers.locate(near, from);
+        search(&self.covers, k, from, steps)
+    }
+
+    // Gives a brick an entry.
+    #[inline]
+    fn put(&mut self, brick: u64, entry: i16)
+        requires { is_covered self.old brick ≡ true }
+        ensures value { self.new ≡ with_value self.old brick entry }
+        ensures entries { (i : ℕ) → entry_at self.new i ≡ (if i == brick then entry else entry_at self.old i) }
+        ensures spans { spans self.new ≡ spans self.old }
+    {
+        let near = self.covers.recent();
+        self.covers.set(near, brick, entry);
+    }
+}

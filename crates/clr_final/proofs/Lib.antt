@@ -1,0 +1,4 @@
+pub mod PeakSteps
+pub mod JudgeSteps
+pub mod MoveSteps
+pub mod ListLaws

@@ -1,0 +1,10 @@
+pub mod NumberSwaps
+pub mod Lookups
+pub mod RowTables
+pub mod PinnedCounts
+pub mod TopSteps
+pub mod ChangedRows
+pub mod ClearedRows
+pub mod MovedRows
+pub mod NamedRows
+pub mod MapLaws

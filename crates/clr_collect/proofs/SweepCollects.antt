@@ -6,32 +6,33 @@ use Rattle.std.proofs.Common.{ap₂, sym, ◌∙◌, subst, arith}
 use Rattle.std.specs.Prelude.{MatchBool}
 use Rattle.std.specs.List.{list_any}
 use Rattle.std.proofs.lemmas.Bool.{eq-eqb, eqb-true, leb-false, leb-true, ne_eqb}
+use Rattle.std.proofs.lemmas.List.{length-map}
 use Rattle.std.proofs.lemmas.List.Sums.{length-filter}
-use Rattle.clr_types.specs.Rising.{IsIn}
+use Rattle.clr_types.specs.Rising.{IsIn, sorted_by}
 use Rattle.clr_types.specs.Segments.{generation, Layout, stands_in}
 use Rattle.clr_types.specs.Types.{TypeRow}
 use Rattle.clr_types.specs.declared.segment.SegInfo.{SegInfo}
 use Rattle.clr_types.specs.declared.segment.SegKind.TheVariants.{Large}
-use Rattle.clr_types.proofs.ChangedLists.{out_of_filter}
-use Rattle.clr_types.proofs.ListMembers.{filter-on, map-on}
+use Rattle.clr_types.proofs.ChangedLists.{IsIn-map}
+use Rattle.clr_types.proofs.ListMembers.{any-map, filter-map, filter-on, map-map, sum-mapped}
 use Rattle.clr_heap.specs.View.{frame, HeapView, IsHeap}
 use Rattle.clr_model.specs.declared.Collected.{Collected}
 use Rattle.clr_model.specs.declared.How.TheVariants.{Sweep}
-use Rattle.clr_model.specs.Collection.{bytes_promoted, IsCollected, is_dropped, object_after, objects_after, released}
+use Rattle.clr_model.specs.Collection.{bytes_promoted, IsCollected, object_after, objects_after, released}
 use Rattle.clr_model.specs.Collection.{row_after, sums_after}
 use Rattle.clr_model.specs.Lawful.{IsLaid}
 use Rattle.clr_model.specs.Lookups.{object_size}
 use Rattle.clr_model.specs.Machine.{Machine, Object}
 use Rattle.clr_types.specs.Maps.{map_values}
 use Rattle.clr_model.specs.Reach.{starts, StartOf, woken}
-use Rattle.clr_model.specs.Sweep.{is_condemned, Survivor, survivors, swept_kind, swept_small}
+use Rattle.clr_model.specs.Sweep.{is_condemned, Survivor, survivor, survivors, swept_kind, swept_small}
 use Rattle.clr_model.proofs.CollectedAges.{sweep_ages}
 use Rattle.clr_model.proofs.CollectedLayout.{large_ephemeral}
 use Rattle.clr_view.specs.Memory.{is_left, is_marked, is_reached_by, IsMemoryOf, TestsMarks}
 use Rattle.clr_view.specs.View.{layout_in, objects_in}
 use Rattle.clr_sweep.specs.Swept.{HasSwept, is_kept, is_kept_of, swept_layout, tally_of}
 use Rattle.clr_sweep.specs.declared.tally.Tally.{Tally}
-use Rattle.clr_collect.specs.Collecting.{TestsKept}
+use Rattle.clr_collect.specs.Collecting.{objects_unflagged, TestsKept}
 use Rattle.clr_collect.specs.Released.{HasObjects, HasReleased}
 use Rattle.clr_collect.proofs.NeededSegments.{released_layout}
 use Rattle.clr_collect.proofs.SegmentsLost.{lost_objects}
@@ -57,12 +58,11 @@ or-on : (a x y : Bool) → (a ≡ true → x ≡ y) → (a ≡ false → y ≡ t
 or-on true x y same other = same refl
 or-on false x y same other = sym (other refl)
 
-map-still : {X : Type 0} (f : X → X) (xs : List X) → ((x : X) → IsIn x xs → f x ≡ x) → map f xs ≡ xs
-map-still f xs same = map-on f (λ x. x) xs same ∙ map-none xs
-  where
-    map-none : {X : Type 0} (xs : List X) → map (λ x. x) xs ≡ xs
-    map-none [] = refl
-    map-none (x ∷ xs) = ap (λ ys. x ∷ ys) (map-none xs)
+-- how many of the changed pass
+count-map : {X Y : Type 0} (f : X → Y) (s : Y → Bool) (xs : List X) → count_by s (map f xs) ≡ count_by (λ x. s (f x)) xs
+count-map f s xs =
+    sym (length-filter s (map f xs)) ∙ ap length (filter-map f s xs) ∙ length-map (filter (λ x. s (f x)) xs) f
+    ∙ length-filter (λ x. s (f x)) xs
 
 -- ---- the machine
 
@@ -174,7 +174,20 @@ module _ (m : Machine) (h : IsLaid m) (g : ℕ) (least : g ≤ 2) (first kept : 
     promoted2 = tally.promoted2;
   }
 
-  module _ (rows : List TypeRow) (marked : HeapView) (memory : IsMemoryOf rows marked m)
+  -- the machine when objects have lost the flags of entries that are dropped
+  abbrev pub plain : Machine
+  plain = record m { objects = objects_unflagged m first }
+
+  abbrev change : Object → Object
+  change = object_after m first []
+
+  survive-plain : survivors plain g kept ≡ survivors m g kept
+  survive-plain =
+      ap (sorted_by (λ (k : Survivor). k.place))
+      (ap (map (survivor plain)) (filter-map change (λ o. is_condemned m g o && kept o.name) m.objects)
+      ∙ map-map change (survivor plain) (filter (λ o. is_condemned m g o && kept o.name) m.objects))
+
+  module _ (rows : List TypeRow) (marked : HeapView) (memory : IsMemoryOf rows marked plain)
       (marks : TestsMarks rows marked g kept) where
     reached-is : (o : Object) → is_reached_by marked g o.place ≡ is_condemned m g o
     reached-is o = ap (λ (l : Layout). nat_le (generation l o.place) g) (sym memory.layout)
@@ -183,7 +196,8 @@ module _ (m : Machine) (h : IsLaid m) (g : ℕ) (least : g ≤ 2) (first kept : 
     mark-is o i c =
         let young : generation (frame marked) o.place ≤ g =
         leb-true (generation (frame marked) o.place) g (reached-is o ∙ c) in
-        sym (marks o (subst (λ (os : List Object). IsIn o os) memory.objects i) young)
+        sym (marks (change o) (subst (λ (os : List Object). IsIn (change o) os) memory.objects (IsIn-map change i))
+        young)
 
     -- ---- the counts
 
@@ -203,15 +217,19 @@ module _ (m : Machine) (h : IsLaid m) (g : ℕ) (least : g ≤ 2) (first kept : 
     kept-of e o i =
         ap₂ (λ (a b : Bool). a && b) (kept-is o i) (ap (λ (l : Layout). generation l o.place == e) (sym memory.layout))
 
-    counted : (s t : Object → Bool) → ((o : Object) → IsIn o m.objects → s o ≡ t o)
+    counted : (s t : Object → Bool) → ((o : Object) → IsIn o m.objects → s (change o) ≡ t o)
         → count_by s (objects_in rows marked) ≡ count_by t m.objects
-    counted s t same = ap (count_by s) (sym memory.objects) ∙ count-on s t m.objects same
+    counted s t same =
+        ap (count_by s) (sym memory.objects) ∙ count-map change s m.objects
+        ∙ count-on (λ o. s (change o)) t m.objects same
 
     summed : (e : ℕ) → e ≤ 1 → sum_by (object_size rows) (filter (is_kept_of marked g e) (objects_in rows marked))
         ≡ bytes_promoted m laid kept [] e
     summed e low =
         ap₂ (λ (ts : List TypeRow) (os : List Object). sum_by (object_size ts) (filter (is_kept_of marked g e) os))
         (sym memory.types) (sym memory.objects)
+        ∙ ap (sum_by (object_size m.types)) (filter-map change (is_kept_of marked g e) m.objects)
+        ∙ sum-mapped change (object_size m.types) (filter (is_kept_of marked g e) m.objects)
         ∙ ap (sum_by (object_size m.types)) (filter-on _ _ m.objects (kept-of e))
         ∙ sym (bytes e low)
 
@@ -253,14 +271,16 @@ module _ (m : Machine) (h : IsLaid m) (g : ℕ) (least : g ≤ 2) (first kept : 
         ∙ or-on (is_condemned m g o) (is_marked marked o) (kept o.name) (mark-is o i) (old-kept o i)
 
     module _ (swept : HeapView) (s : HasSwept rows marked swept g) where
-      objects-swept : objects_in rows swept ≡ filter (λ o. kept o.name) m.objects
-      objects-swept =
-          s.objects
+      -- of the objects those stay that are kept, without the flags of entries that are dropped
+      objects-after : objects_after m first kept [] ≡ objects_in rows swept
+      objects-after =
+          sym (s.objects
           ∙ ap (filter (is_left marked g)) (sym memory.objects)
-          ∙ filter-on (is_left marked g) (λ o. kept o.name) m.objects left-is
+          ∙ filter-map change (is_left marked g) m.objects
+          ∙ ap (map change) (filter-on (is_left marked g) (λ o. kept o.name) m.objects left-is))
 
       layout-swept : layout_in rows swept ≡ laid
-      layout-swept = s.layout m kept memory marks ∙ laid-is
+      layout-swept = s.layout plain kept memory marks ∙ ap (swept_layout m.layout g) survive-plain ∙ laid-is
 
       -- a sweep gives no context
       pub rests_swept : swept.rests ≡ m.layout.rests
@@ -273,38 +293,31 @@ module _ (m : Machine) (h : IsLaid m) (g : ℕ) (least : g ≤ 2) (first kept : 
       -- after a full sweep a segment that isn't empty has an object
       pub swept_full : g ≡ 2 → HasObjects rows swept
       swept_full two t i l =
+          let is : layout_in rows swept ≡ swept_layout m.layout g (survivors m g kept) =
+          s.layout plain kept memory marks ∙ ap (swept_layout m.layout g) survive-plain in
           let there : IsIn t (swept_layout m.layout 2 (survivors m 2 kept)).segments =
           subst (λ (n : ℕ). IsIn t (swept_layout m.layout n (survivors m n kept)).segments) two
-          (subst (λ (w : Layout). IsIn t w.segments) (s.layout m kept memory marks) i) in
-          ap (list_any (λ (o : Object). stands_in t o.place)) objects-swept ∙ swept_occupied m h kept t there l
+          (subst (λ (w : Layout). IsIn t w.segments) is i) in
+          ap (list_any (λ (o : Object). stands_in t o.place)) (sym objects-after)
+          ∙ any-map change (λ o. stands_in t o.place) (filter (λ o. kept o.name) m.objects)
+          ∙ swept_occupied m h kept t there l
 
-      module _ (plain : (o : Object) → IsIn o m.objects → is_dropped m first o.name ≡ false) where
-        -- no entry is dropped of an object, so that no flag changes
-        objects-after : objects_after m first kept [] ≡ objects_in rows swept
-        objects-after =
-            map-still (object_after m first []) (filter (λ o. kept o.name) m.objects) (λ o i.
-            let known = (out_of_filter (λ (o : Object). kept o.name) o m.objects i).1 in
-            let flag : (o.suppressed && not (is_dropped m first o.name)) ≡ o.suppressed =
-            ap (λ (b : Bool). o.suppressed && not b) (plain o known) ∙ and-true o.suppressed in
-            ap (λ (b : Bool). record o { suppressed = b }) flag)
-            ∙ sym objects-swept
+      module _ (swept_heap : IsHeap swept) (new : HeapView)
+          (ended : MatchBool (g == 2) (HasReleased rows swept new) (new ≡ swept)) where
+        -- what the machine has, the heap holds at the end: a full collection gives back the segments in which nothing
+        -- stands
+        ends : (b : Bool) → (g == 2) ≡ b → MatchBool b (HasReleased rows swept new) (new ≡ swept)
+            → (objects_in rows new ≡ objects_in rows swept)
+            × (layout_in rows new ≡ (if b then released laid (objects_after m first kept []) else laid))
+        ends true e r = (
+          lost_objects rows swept new swept_heap s.held r.lost,
+          released_layout rows swept swept_heap s.held new (swept_full (eqb-true g 2 e)) r
+              ∙ ap₂ released layout-swept (sym objects-after),
+        )
+        ends false e same = (ap (objects_in rows) same, ap (layout_in rows) same ∙ layout-swept)
 
-        module _ (swept_heap : IsHeap swept) (new : HeapView)
-            (ended : MatchBool (g == 2) (HasReleased rows swept new) (new ≡ swept)) where
-          -- what the machine has, the heap holds at the end: a full collection gives back the segments in which nothing
-          -- stands
-          ends : (b : Bool) → (g == 2) ≡ b → MatchBool b (HasReleased rows swept new) (new ≡ swept)
-              → (objects_in rows new ≡ objects_in rows swept)
-              × (layout_in rows new ≡ (if b then released laid (objects_after m first kept []) else laid))
-          ends true e r = (
-            lost_objects rows swept new swept_heap s.held r.lost,
-            released_layout rows swept swept_heap s.held new (swept_full (eqb-true g 2 e)) r
-                ∙ ap₂ released layout-swept (sym objects-after),
-          )
-          ends false e same = (ap (objects_in rows) same, ap (layout_in rows) same ∙ layout-swept)
-
-          -- THE MEMORY of that machine is the heap
-          pub swept_memory : (answer : Collected) → IsMemoryOf rows new (swept_machine answer)
-          swept_memory answer =
-              let (objects, layout) = ends (g == 2) refl ended in
-              record { types = memory.types; objects = objects-after ∙ sym objects; layout = sym layout }
+        -- THE MEMORY of that machine is the heap
+        pub swept_memory : (answer : Collected) → IsMemoryOf rows new (swept_machine answer)
+        swept_memory answer =
+            let (objects, layout) = ends (g == 2) refl ended in
+            record { types = memory.types; objects = objects-after ∙ sym objects; layout = sym layout }

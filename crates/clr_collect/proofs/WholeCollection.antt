@@ -1,31 +1,31 @@
 -- A whole collection: what is marked is what is kept, and the parts make the collection of every machine whose world it
 -- is.
-use Rattle.std.proofs.Common.{◌≡◌, ◌≢◌, ℕ, ◌≤◌, ◌&&◌, ◌==◌, Bool, true, false, not, if◌then◌else◌}
-use Rattle.std.proofs.Common.{List, [], filter, ◌++◌, refl, ap, ap₂, sym, ◌∙◌, subst, arith, None, Option, Some}
-use Rattle.std.specs.List.{list_any}
+use Rattle.std.proofs.Common.{◌≡◌, ◌≢◌, ℕ, ◌≤◌, Bool, true, false, if◌then◌else◌, List, [], ◌++◌, refl, ap, sym}
+use Rattle.std.proofs.Common.{◌∙◌, subst, arith, None, Option, Some, IsSome}
+use Rattle.std.specs.List.{AllByRecursion}
 use Rattle.std.specs.FinMap.{FinMap}
 use Rattle.std.specs.Ordering.{nat_cmp}
-use Rattle.clr_types.specs.Ranges.{Piece}
+use Rattle.clr_types.specs.LawfulLayout.{DoesNotCross, IsTiled}
+use Rattle.clr_types.specs.Ranges.{by_place, Piece}
 use Rattle.clr_types.specs.Rising.{IsIn}
-use Rattle.clr_types.specs.Segments.{Layout}
+use Rattle.clr_types.specs.Segments.{Layout, rest_pieces, segment_of}
 use Rattle.clr_types.specs.Types.{TypeRow}
+use Rattle.clr_types.specs.declared.handle.Handle.{Handle}
 use Rattle.clr_types.specs.declared.item.Item.{Item}
 use Rattle.clr_types.proofs.ChangedLists.{out_of_filter}
+use Rattle.clr_types.proofs.ListMembers.{map-map}
+use Rattle.clr_final.specs.Queues.{Queues}
 use Rattle.clr_heap.specs.Parts.{item_at}
 use Rattle.clr_heap.specs.View.{frame, HeapView, IsHeap, no_rests, word_of}
 use Rattle.clr_model.specs.declared.Collected.{Collected}
 use Rattle.clr_model.specs.declared.How.TheVariants.{Sweep}
-use Rattle.clr_model.specs.Collection.{Collects, is_dropped, row_after}
+use Rattle.clr_model.specs.Collection.{begun, Collects, object_after}
 use Rattle.clr_model.specs.Lawful.{IsLaid, IsPlaceNamed}
-use Rattle.clr_model.specs.Lookups.{lowest_in_step}
-use Rattle.clr_types.specs.declared.handle.Handle.{Handle}
+use Rattle.clr_model.specs.Lookups.{lowest_in_step, object_piece, pieces}
 use Rattle.clr_model.specs.Machine.{Machine, Object}
-use Rattle.clr_types.specs.Maps.{map_values}
 use Rattle.clr_model.specs.Picture.{picture}
-use Rattle.clr_model.specs.Reach.{is_suppressed, woken}
 use Rattle.clr_model.proofs.CollectFollows.{after_sweep_is_sound}
 use Rattle.clr_model.proofs.GivenUp.{given_up_laid}
-use Rattle.clr_types.proofs.MapValues.{map_values-empty}
 use Rattle.clr_model.proofs.LawfulSurvivors.{generation-least}
 use Rattle.clr_model.proofs.SeenStands.{picture_still}
 use Rattle.clr_view.specs.Clean.{AreClean}
@@ -33,105 +33,119 @@ use Rattle.clr_view.specs.Marks.{has_mark, IsUnmarked}
 use Rattle.clr_view.specs.Memory.{is_left, is_left_name, is_reached_by, IsMemoryOf, word_without_mark}
 use Rattle.clr_view.specs.SlotValues.{StandsAt}
 use Rattle.clr_view.specs.View.{layout_in, objects_in, tail_of}
+use Rattle.clr_view.specs.World.{IsWorldOf, World}
+use Rattle.clr_view.proofs.CleanWords.{clean_but_marks}
 use Rattle.clr_view.proofs.ObjectItems.{stands-item}
-use Rattle.clr_ctx.specs.Contexts.{IsIndex}
 use Rattle.clr_view.proofs.Standing.{standing}
-use Rattle.clr_collect.specs.Collecting.{HasMarkedKept}
-use Rattle.clr_model.specs.Collection.{begun}
-use Rattle.clr_collect.specs.Released.{HasReleased}
-use Rattle.clr_collect.specs.World.{bare_world, IsWorldOf}
+use Rattle.clr_ctx.specs.Contexts.{IsIndex}
 use Rattle.clr_sweep.specs.Swept.{HasSwept, tally_of}
 use Rattle.clr_sweep.specs.declared.tally.Tally.{Tally}
 use Rattle.clr_sweep.proofs.ObjectsSwept.{mark-elsewhere}
-use Rattle.clr_view.proofs.CleanWords.{clean_but_marks}
+use Rattle.clr_collect.specs.Collecting.{HasMarkedKept, LeavesKept, objects_unflagged, world_with}
+use Rattle.clr_collect.specs.Released.{HasReleased}
 use Rattle.clr_collect.proofs.SegmentsLost.{lost_objects}
 use Rattle.clr_collect.proofs.SweepCollects.{rests_swept, swept_machine, swept_memory, sweep_collects, told}
 use Rattle.clr_collect.proofs.SweptLayouts.{whole_tail}
 use Rattle.clr_collect.proofs.YoungItems.{none_young}
 
--- where there are no entries, none is dropped
-none-dropped : (m : Machine) → m.entries ≡ [] → (first : ℕ → Bool) (x : ℕ) → is_dropped m first x ≡ false
-none-dropped m none first x =
-    ap (λ (es : List ℕ). list_any (λ e. e == x) es && (not (first x) && is_suppressed m x)) none
+-- The heap of a world before its collection, and before its sweep, with what is kept marked.
+module _ (w : World) (marked : HeapView) (handles : FinMap nat_cmp Handle) (queues : Queues)
+    (k : HasMarkedKept w marked handles queues 2) where
+  abbrev rows : List TypeRow
+  rows = w.rows
 
--- the queue gets nothing
-none-woken : (m : Machine) → m.ready ≡ [] → m.entries ≡ [] → (first : ℕ → Bool) → m.ready ++ woken m first ≡ []
-none-woken m ready entries first =
-    ap₂ (λ (rs es : List ℕ). rs ++ filter (λ e. not (first e) && not (is_suppressed m e)) es) ready entries
-
--- the heap before, and with what is kept marked
-module _ (rows : List TypeRow) (old marked : HeapView) (locals : List ℕ)
-    (k : HasMarkedKept (bare_world rows old locals) marked 2) where
   -- what is left passes
-  abbrev left : ℕ → Bool
-  left = is_left_name rows marked 2
+  abbrev pub left : ℕ → Bool
+  left = is_left_name w.rows marked 2
 
   two : 2 ≤ 2
   two = omega arith
 
   -- ---- one machine when its contexts are given up
 
-  pub begun_laid : (m : Machine) → IsPlaceNamed m → IsLaid (begun m)
+  begun_laid : (m : Machine) → IsPlaceNamed m → IsLaid (begun m)
   begun_laid m named = given_up_laid m named.lawful.laid
 
-  pub begun_memory : (m : Machine) → IsWorldOf (bare_world rows old locals) m → IsMemoryOf rows marked (begun m)
-  begun_memory m w = record {
-    types = w.memory.types;
-    objects = w.memory.objects ∙ sym k.objects;
-    layout = ap (λ (l : Layout). (begun (record m { layout = l })).layout) w.memory.layout ∙ sym k.layout;
+  -- the machine before the sweep: objects have lost the flags of entries that are dropped
+  abbrev pub due : Machine → Machine
+  due m = record (begun m) { objects = objects_unflagged (begun m) k.first }
+
+  due_memory : (m : Machine) → IsWorldOf w m → IsPlaceNamed m → IsMemoryOf w.rows marked (due m)
+  due_memory m is named = record {
+    types = is.memory.types;
+    objects = sym (k.leaves m is named).objects;
+    layout = ap (λ (l : Layout). (begun (record m { layout = l })).layout) is.memory.layout ∙ sym k.layout;
   }
 
   abbrev pub Known : Type 0
-  Known = (m : Machine) × IsWorldOf (bare_world rows old locals) m × IsPlaceNamed m × (lowest_in_step m ≡ None)
+  Known = (m : Machine) × IsWorldOf w m × IsPlaceNamed m × (lowest_in_step m ≡ None)
+
+  due_laid : (m : Machine) → IsPlaceNamed m → IsLaid (due m)
+  due_laid m named =
+      let laid = begun_laid m named in
+      let same : pieces (begun m) ≡ pieces (due m) =
+      ap (λ (ps : List Piece). by_place ((ps ++ (begun m).layout.free) ++ rest_pieces (begun m).layout.rests))
+      (sym (map-map (object_after (begun m) k.first []) (object_piece m.types) m.objects)) in
+      record {
+        layout = laid.layout;
+        housed = subst (AllByRecursion (λ (p : Piece). IsSome (segment_of (begun m).layout p.place))) same laid.housed;
+        tiled = subst (λ ps. AllByRecursion (IsTiled ps) (begun m).layout.segments) same laid.tiled;
+        whole1 = subst (AllByRecursion (DoesNotCross (begun m).layout.start1)) same laid.whole1;
+        whole0 = subst (AllByRecursion (DoesNotCross (begun m).layout.start0)) same laid.whole0;
+      }
 
   -- what the sweep wants to know
-  pub memory_laid : Known → (n : Machine) × IsMemoryOf rows marked n × IsLaid n
-  memory_laid (m, w, named, idle) = (begun m, begun_memory m w, begun_laid m named)
+  pub memory_laid : Known → (n : Machine) × IsMemoryOf w.rows marked n × IsLaid n
+  memory_laid (m, is, named, idle) = (due m, due_memory m is named, due_laid m named)
 
   -- ---- afterwards
 
-  module _ (swept : HeapView) (swept_heap : IsHeap swept) (s : HasSwept rows marked swept 2) where
+  module _ (swept : HeapView) (swept_heap : IsHeap swept) (s : HasSwept w.rows marked swept 2) where
     -- a sweep gives no context
     pub none_given : Known → swept.rests ≡ no_rests
-    none_given (m, w, named, idle) =
-        rests_swept (begun m) (begun_laid m named) 2 two left left (k.tests m w named) rows marked (begun_memory m w)
-        k.marks swept s
-        ∙ ap (λ (l : Layout). l.rests) (begun_memory m w).layout
+    none_given (m, is, named, idle) =
+        rests_swept (begun m) (begun_laid m named) 2 two k.first left (k.leaves m is named).tests w.rows marked
+        (due_memory m is named) k.marks swept s
+        ∙ ap (λ (l : Layout). l.rests) (due_memory m is named).layout
         ∙ k.no_contexts
 
-    module _ (new : HeapView) (r : HasReleased rows swept new) where
+    module _ (new : HeapView) (r : HasReleased w.rows swept new) where
+      abbrev pub world : World
+      world = world_with w.rows new w.locals handles queues
+
       -- ---- one machine
 
-      module _ (m : Machine) (w : IsWorldOf (bare_world rows old locals) m) (named : IsPlaceNamed m) where
+      module _ (m : Machine) (is : IsWorldOf w m) (named : IsPlaceNamed m) where
+        abbrev leaves : LeavesKept (begun m) 2 k.first left (objects_in w.rows marked) handles queues
+        leaves = k.leaves m is named
+
         abbrev after : Collected → Machine
-        after = swept_machine (begun m) (begun_laid m named) 2 two left left (k.tests m w named)
+        after = swept_machine (begun m) (begun_laid m named) 2 two k.first left leaves.tests
 
-        memory-after : (answer : Collected) → IsMemoryOf rows new (after answer)
+        memory-after : (answer : Collected) → IsMemoryOf w.rows new (after answer)
         memory-after =
-            swept_memory (begun m) (begun_laid m named) 2 two left left (k.tests m w named) rows marked
-            (begun_memory m w) k.marks swept s (λ o i. none-dropped (begun m) w.entries left o.name) swept_heap new r
+            swept_memory (begun m) (begun_laid m named) 2 two k.first left leaves.tests w.rows marked
+            (due_memory m is named) k.marks swept s swept_heap new r
 
-        world-after : (answer : Collected) → IsWorldOf (bare_world rows new locals) (after answer)
+        world-after : (answer : Collected) → IsWorldOf world (after answer)
         world-after answer = record {
           memory = memory-after answer;
-          locals = w.locals;
-          handles =
-              ap (λ (hs : FinMap nat_cmp Handle). map_values (row_after left left) hs) w.handles
-              ∙ map_values-empty (row_after left left);
-          entries = ap (filter left) w.entries;
-          ready = none-woken (begun m) w.ready w.entries left;
+          locals = is.locals;
+          handles = sym leaves.handles;
+          entries = sym leaves.entries;
+          ready = sym leaves.ready;
         }
 
-        collects : (tally : Tally) → tally ≡ tally_of rows marked 2 → (answer : Collected)
-            → answer ≡ told (begun m) (begun_laid m named) 2 two left left (k.tests m w named) tally
+        collects : (tally : Tally) → tally ≡ tally_of w.rows marked 2 → (answer : Collected)
+            → answer ≡ told (begun m) (begun_laid m named) 2 two k.first left leaves.tests tally
             → Collects m 2 Sweep answer (after answer)
-        collects tally counted answer is =
-            sweep_collects (begun m) (begun_laid m named) 2 two left left (k.tests m w named) rows marked
-            (begun_memory m w) k.marks answer
-            (is ∙ ap (told (begun m) (begun_laid m named) 2 two left left (k.tests m w named)) counted)
+        collects tally counted answer same =
+            sweep_collects (begun m) (begun_laid m named) 2 two k.first left leaves.tests w.rows marked
+            (due_memory m is named) k.marks answer
+            (same ∙ ap (told (begun m) (begun_laid m named) 2 two k.first left leaves.tests) counted)
 
       -- THE COLLECTION of every machine whose world it is
-      pub whole_collected : (tally : Tally) → tally ≡ tally_of rows marked 2 → (answer : Collected)
+      pub whole_collected : (tally : Tally) → tally ≡ tally_of w.rows marked 2 → (answer : Collected)
           → answer ≡ record {
             generation = 2;
             compacted = false;
@@ -140,41 +154,41 @@ module _ (rows : List TypeRow) (old marked : HeapView) (locals : List ℕ)
             promoted1 = tally.promoted1;
             promoted2 = tally.promoted2;
           }
-          → (m : Machine) → IsWorldOf (bare_world rows old locals) m → IsPlaceNamed m → lowest_in_step m ≡ None
-          → (after : Machine) × Collects m 2 Sweep answer after × IsWorldOf (bare_world rows new locals) (picture after)
-      whole_collected tally counted answer is m w named idle =
-          let c = collects m w named tally counted answer is in
+          → (m : Machine) → IsWorldOf w m → IsPlaceNamed m → lowest_in_step m ≡ None
+          → (after : Machine) × Collects m 2 Sweep answer after × IsWorldOf world (picture after)
+      whole_collected tally counted answer same m is named idle =
+          let c = collects m is named tally counted answer same in
           let still =
-          picture_still (after m w named answer)
-          (after_sweep_is_sound m named idle answer (after m w named answer) c) in (
-            after m w named answer,
+          picture_still (after m is named answer)
+          (after_sweep_is_sound m named idle answer (after m is named answer) c) in (
+            after m is named answer,
             c,
-            subst (IsWorldOf (bare_world rows new locals)) (sym still)
-                (world-after m w named answer),
+            subst (IsWorldOf world) (sym still)
+                (world-after m is named answer),
           )
 
       -- THE INDEX: no free item is of generation 0
-      pub new_index : Known → (index : Option (List Piece)) → index ≡ Some [] → IsIndex rows new index
-      new_index (m, w, named, idle) index none =
+      pub new_index : Known → (index : Option (List Piece)) → index ≡ Some [] → IsIndex w.rows new index
+      new_index (m, is, named, idle) index none =
           let answer : Collected =
           record { generation = 2; compacted = false; kept = 0; freed = 0; promoted1 = 0; promoted2 = 0 } in
-          let layout = (memory-after m w named answer).layout in
+          let layout = (memory-after m is named answer).layout in
           let tail : new.start0 ≡ tail_of new =
-          whole_tail (begun m) (begun_laid m named) 2 two left (after m w named answer).objects (layout_in rows new)
+          whole_tail (begun m) (begun_laid m named) 2 two left (after m is named answer).objects (layout_in w.rows new)
           (sym layout) in
-          subst (IsIndex rows new) (sym none) (sym (none_young rows new r.lost.heap r.lost.held tail))
+          subst (IsIndex w.rows new) (sym none) (sym (none_young w.rows new r.lost.heap r.lost.held tail))
 
       -- ---- marks
 
       -- no mark is left
-      pub none_marked : IsUnmarked rows new
+      pub none_marked : IsUnmarked w.rows new
       none_marked x u =
-          let objects = lost_objects rows swept new swept_heap s.held r.lost in
-          let stands : StandsAt rows swept x = subst (λ (os : List Object). (o : Object) × IsIn o os × (o.place ≡ x))
+          let objects = lost_objects w.rows swept new swept_heap s.held r.lost in
+          let stands : StandsAt w.rows swept x = subst (λ (os : List Object). (o : Object) × IsIn o os × (o.place ≡ x))
           objects u.stands in
-          let i = item_at rows (word_of swept) x in
-          let at = stands-item rows swept swept_heap s.held x stands in
-          let here = standing rows swept swept_heap s.held i at.listed in
+          let i = item_at w.rows (word_of swept) x in
+          let at = stands-item w.rows swept swept_heap s.held x stands in
+          let here = standing w.rows swept swept_heap s.held i at.listed in
           let least = here.least in
           let place = at.at in
           let same : word_of new x ≡ word_of swept x = r.lost.cells i x at.listed (omega arith) (omega arith) in
@@ -185,11 +199,11 @@ module _ (rows : List TypeRow) (old marked : HeapView) (locals : List ℕ)
       -- ---- clean words
 
       -- all that stays was there before, and the sweep clears only marks
-      clean-swept : AreClean rows marked → AreClean rows swept
+      clean-swept : AreClean w.rows marked → AreClean w.rows swept
       clean-swept =
-          clean_but_marks rows marked swept k.heap k.held swept_heap s.held (λ o i.
+          clean_but_marks w.rows marked swept k.heap k.held swept_heap s.held (λ o i.
           let listed = subst (λ (os : List Object). IsIn o os) s.objects i in
-          (out_of_filter (is_left marked 2) o (objects_in rows marked) listed).1)
+          (out_of_filter (is_left marked 2) o (objects_in w.rows marked) listed).1)
           (λ i b was l object aligned low high apart.
           s.cells i b l object aligned low high ∙ unmarked-elsewhere (is_reached_by marked 2 i.place) i b apart)
         where
@@ -198,12 +212,12 @@ module _ (rows : List TypeRow) (old marked : HeapView) (locals : List ℕ)
           unmarked-elsewhere true i b apart = mark-elsewhere marked i b apart
           unmarked-elsewhere false i b apart = refl
 
-      clean-lost : AreClean rows swept → AreClean rows new
+      clean-lost : AreClean w.rows swept → AreClean w.rows new
       clean-lost =
-          clean_but_marks rows swept new swept_heap s.held r.lost.heap r.lost.held
-          (λ o. subst (λ (os : List Object). IsIn o os) (lost_objects rows swept new swept_heap s.held r.lost))
+          clean_but_marks w.rows swept new swept_heap s.held r.lost.heap r.lost.held
+          (λ o. subst (λ (os : List Object). IsIn o os) (lost_objects w.rows swept new swept_heap s.held r.lost))
           (λ i b was l object aligned low high apart. r.lost.cells i b was low high)
 
       -- CLEAN WORDS stay clean
-      pub clean_after : AreClean rows old → AreClean rows new
+      pub clean_after : AreClean w.rows w.heap → AreClean w.rows new
       clean_after clean = clean-lost (clean-swept (k.clean clean))

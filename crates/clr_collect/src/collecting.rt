@@ -1,5 +1,5 @@
 // A collection of all generations that sweeps.
-ghost use Rattle.std.specs.Prelude.{◌≡◌, ℕ, [], None, Some};
+ghost use Rattle.std.specs.Prelude.{◌≡◌, ℕ, ◌≤◌, [], None, Some};
 ghost use Rattle.clr_model.specs.Collection.{Collects};
 ghost use Rattle.clr_model.specs.Lawful.{IsPlaceNamed};
 ghost use Rattle.clr_model.specs.Lookups.{lowest_in_step};
@@ -8,43 +8,56 @@ ghost use Rattle.clr_model.specs.Picture.{picture};
 ghost use Rattle.clr_view.specs.Clean.{AreClean};
 ghost use Rattle.clr_view.specs.Marks.{IsUnmarked};
 ghost use Rattle.clr_view.specs.View.{AreFreeHeads, IsHeld};
+ghost use Rattle.clr_view.specs.World.{IsWorldOf};
 ghost use Rattle.clr_ctx.specs.Contexts.{IsIndex};
-ghost use Rattle.clr_collect.specs.Collecting.{HasMarkedKept};
-ghost use Rattle.clr_collect.specs.World.{bare_world, IsWorldOf};
+ghost use Rattle.clr_mark.specs.Waiting.{IsGray};
+ghost use Rattle.clr_collect.specs.Collecting.{HasMarkedAlive, HasMarkedKept, world_with};
 
+use crate::judging::{clear_long_and_dependent, clear_short, judge_entries};
 use crate::releasing::release_empty;
 use clr_ctx::Contexts;
+use clr_final::Finals;
+use clr_handles::Handles;
 use clr_heap::Heap;
 use clr_mark::{Marker, mark_from};
 use clr_model::{Collected, How};
 use clr_sweep::sweep;
 use clr_types::Types;
 
-/// A full collection that sweeps: the contexts are given up, exactly the objects that the locals reach stay, where they
-/// are, and all else becomes free. Each object that stays becomes one generation older, up to 2. Segments in which
-/// nothing stands any more are given back, but for the ephemeral one and the first large one.
+/// A full collection that sweeps: the contexts are given up, exactly the objects stay that locals, strong and pinned
+/// handles, the f-reachable queue and woken finalisation entries reach, where they are, and all else becomes free. A
+/// dependent handle's second is reached where its primary is. Each object that stays becomes one generation older, up
+/// to 2. Segments in which nothing stands any more are given back, but for the ephemeral one and the first large one.
 ///
-/// It is the collection of every machine that has this memory and these locals, has no handles, finalisation entries
-/// and f-reachable queue, and has no thread between the halves of a step. Sums and options are that machine's own.
+/// An entry whose object nothing but entries reaches is woken, and goes behind the f-reachable queue, or is dropped,
+/// where the object's finaliser is suppressed, which its header then says no more. A short weak handle loses a target
+/// that isn't reached without the woken entries, a long weak one a target that doesn't stay, and a dependent one both
+/// parts where its primary doesn't stay.
 ///
-/// The answer counts the objects that stay and those that go, and the bytes that went from generation 0 to 1 and from 1
-/// to 2. Nothing is marked before and after, and afterwards no free item's head is. Headers and padding stay clean. A
-/// local is 0 or the place of an object. It takes no memory, and leaves the index of a heap without free items in
-/// generation 0.
+/// It is the collection of every lawful machine, its objects named by their places, that has this memory, these
+/// locals and handles, this finalisation queue, and no thread between the halves of a step. Sums and options are that
+/// machine's own.
+///
+/// The answer counts the objects that stay and those that go, and the bytes that went from generation 0 to 1 and from
+/// 1 to 2. Nothing is marked before and after, and afterwards no free item's head is. Headers and padding stay clean,
+/// and the queue has room for as many entries as before. Locals and handles name null or places of objects, entries
+/// and f-reachable places places of objects. It leaves the index of a heap without free items in generation 0.
 pub fn collect(
     types: &Types,
     heap: &mut Heap,
     marker: &mut Marker,
     contexts: &mut Contexts,
+    handles: &mut Handles,
+    finals: &mut Finals,
     locals: &[u64],
 ) -> Collected
     requires held { IsHeld types.now heap.old }
     requires unmarked { IsUnmarked types.now heap.old }
-    requires world { (m : Machine) × IsWorldOf (bare_world types.now heap.old locals.now) m × IsPlaceNamed m
-        × (lowest_in_step m ≡ None) }
-    ensures collected { (m : Machine) → IsWorldOf (bare_world types.now heap.old locals.now) m → IsPlaceNamed m
-        → lowest_in_step m ≡ None → (after : Machine) × Collects m 2 How.Sweep result after
-        × IsWorldOf (bare_world types.now heap.new locals.now) (picture after) }
+    requires world { (m : Machine) × IsWorldOf (world_with types.now heap.old locals.now handles.old finals.old) m
+        × IsPlaceNamed m × (lowest_in_step m ≡ None) }
+    ensures collected { (m : Machine) → IsWorldOf (world_with types.now heap.old locals.now handles.old finals.old) m
+        → IsPlaceNamed m → lowest_in_step m ≡ None → (after : Machine) × Collects m 2 How.Sweep result after
+        × IsWorldOf (world_with types.now heap.new locals.now handles.new finals.new) (picture after) }
     ensures held { IsHeld types.now heap.new }
     ensures unmarked { IsUnmarked types.now heap.new }
     ensures free_heads { AreFreeHeads types.now heap.new }
@@ -53,9 +66,10 @@ pub fn collect(
     ensures index { IsIndex types.now heap.new contexts.new }
     ensures limit { heap.new.limit ≡ heap.old.limit }
     ensures marker { marker.new ≡ record marker.old { stack = []; range = None; oldest = 2 } }
+    ensures spare { finals.old.spare ≤ finals.new.spare }
 {
     heap.lawful();
-    mark_reached(types, heap, marker, contexts, locals);
+    mark_kept(types, heap, marker, contexts, handles, finals, locals);
     let tally = sweep(heap, types, 2);
     heap.lawful();
     release_empty(heap, types);
@@ -70,24 +84,57 @@ pub fn collect(
     }
 }
 
-// Gives up the contexts, and marks exactly what a full collection keeps.
-fn mark_reached(
+// Gives up the contexts, marks exactly what a full collection keeps, and leaves handles and entries as it does.
+fn mark_kept(
     types: &Types,
     heap: &mut Heap,
     marker: &mut Marker,
     contexts: &mut Contexts,
+    handles: &mut Handles,
+    finals: &mut Finals,
     locals: &[u64],
 )
     requires held { IsHeld types.now heap.old }
     requires unmarked { IsUnmarked types.now heap.old }
-    requires world { (m : Machine) × IsWorldOf (bare_world types.now heap.old locals.now) m × IsPlaceNamed m }
-    ensures marked { HasMarkedKept (bare_world types.now heap.old locals.now) heap.new 2 }
+    requires world { (m : Machine) × IsWorldOf (world_with types.now heap.old locals.now handles.old finals.old) m
+        × IsPlaceNamed m }
+    ensures kept { HasMarkedKept (world_with types.now heap.old locals.now handles.old finals.old) heap.new handles.new
+        finals.new 2 }
+    ensures marker { marker.new ≡ record marker.old { stack = []; range = None; oldest = 2 } }
+    ensures spare { finals.old.spare ≤ finals.new.spare }
+{
+    let waiting = finals.ready().len();
+    mark_alive(types, heap, marker, contexts, handles, finals, locals);
+    judge_entries(types, heap, marker, finals);
+    heap.lawful();
+    clear_short(types, heap, marker, handles);
+    marker.mark_more(heap, types, handles, &finals.ready()[waiting..]);
+    heap.lawful();
+    clear_long_and_dependent(types, heap, marker, handles);
+}
+
+// Gives up the contexts, and marks exactly what is alive before finalisation.
+fn mark_alive(
+    types: &Types,
+    heap: &mut Heap,
+    marker: &mut Marker,
+    contexts: &mut Contexts,
+    handles: &Handles,
+    finals: &Finals,
+    locals: &[u64],
+)
+    requires held { IsHeld types.now heap.old }
+    requires unmarked { IsUnmarked types.now heap.old }
+    requires world { (m : Machine) × IsWorldOf (world_with types.now heap.old locals.now handles.now finals.now) m
+        × IsPlaceNamed m }
+    ensures alive { HasMarkedAlive (world_with types.now heap.old locals.now handles.now finals.now) heap.new 2 }
+    ensures gray { IsGray types.now heap.new marker.new }
     ensures marker { marker.new ≡ record marker.old { stack = []; range = None; oldest = 2 } }
 {
     heap.lawful();
     contexts.lose();
     contexts.give_up_all(heap, types);
     heap.lawful();
-    mark_from(marker, heap, types, 2, locals);
+    mark_from(marker, heap, types, 2, handles, locals, finals.ready());
     heap.lawful();
 }

@@ -12,5 +12,12 @@ pub mod Visiting
 pub mod Rescanning
 pub mod Unmarking
 pub mod Rooting
+pub mod ReachParts
+pub mod TiedMarks
+pub mod TargetRoots
+pub mod HandleSteps
+pub mod Tying
+pub mod WholeMarkings
+pub mod LeftObjects
 pub mod Young
 pub mod FoundObjects

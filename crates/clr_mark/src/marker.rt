@@ -5,9 +5,11 @@ ghost use Rattle.clr_types.specs.Rising.{IsIn};
 ghost use Rattle.clr_heap.specs.Memories.{HasWord, memory_index};
 ghost use Rattle.clr_heap.specs.View.{word_of};
 ghost use Rattle.clr_model.specs.Reach.{Reach};
-ghost use Rattle.clr_view.specs.SlotValues.{StandsAt};
 ghost use Rattle.clr_view.specs.Marks.{has_mark, Marked};
-ghost use Rattle.clr_mark.specs.Marks.{is_condemned_place, IsClosed, IsRemarked, LeadsTo, with_mark};
+ghost use Rattle.clr_view.specs.Memory.{is_left_name};
+ghost use Rattle.clr_view.specs.SlotValues.{StandsAt};
+ghost use Rattle.clr_view.specs.View.{IsHeld};
+ghost use Rattle.clr_mark.specs.Marks.{is_condemned_place, is_new, IsClosed, IsRemarked, LeadsTo, with_mark};
 ghost use Rattle.clr_mark.specs.Markings.{HasGrayed};
 ghost use Rattle.clr_mark.specs.Waiting.{IsGray, widened, with_next, with_waiting};
 
@@ -17,13 +19,17 @@ use clr_types::Types;
 use std::alloc::Global;
 use std::marker::Model;
 
+mod ahead;
 mod batch;
 mod gather;
 mod rescan;
 mod scan;
 mod targets;
+mod ties;
 mod unmark;
 mod wide;
+
+pub(crate) use ahead::Ahead;
 
 /// What marking needs: the objects whose slots are still to be followed, on a stack, and the lowest and the highest
 /// place of those that had no room on it.
@@ -96,6 +102,18 @@ impl Marker {
         heap.word(obj) % 2 == 1
     }
 
+    /// Whether a collection leaves the object at `obj`: it isn't condemned, or is marked.
+    #[inline]
+    pub fn is_left(&self, heap: &Heap, types: &Types, obj: u64) -> bool
+        requires held { IsHeld types.now heap.now }
+        requires stands { StandsAt types.now heap.now obj }
+        ensures { result ≡ is_left_name types.now heap.now self.now.oldest obj }
+    {
+        heap.lawful();
+        let _ = types;
+        !self.is_new(heap, obj)
+    }
+
     /// Marks the object at `obj`, where it is condemned. It waits then, where it wasn't marked before.
     ///
     /// All else stays.
@@ -114,10 +132,8 @@ impl Marker {
         self.mark(heap, k, obj);
     }
 
-    /// Marks what the marked objects reach over condemned ones. Nothing waits then.
-    ///
-    /// All else stays.
-    pub fn drain(&mut self, heap: &mut Heap, types: &Types)
+    // Marks what the marked objects reach over condemned ones by slots. Nothing waits then, and all else stays.
+    pub(crate) fn drain_slots(&mut self, heap: &mut Heap, types: &Types)
         requires { IsGray types.now heap.old self.old }
         ensures marker { self.new ≡ record self.old { stack = []; range = None } }
         ensures gray { IsGray types.now heap.new self.new }
@@ -202,6 +218,30 @@ impl Marker {
         ensures { result ≡ is_condemned_place heap.now self.now.oldest obj }
     {
         self.oldest >= 2 || heap.gen_of(obj) <= self.oldest
+    }
+
+    // Whether a mark on the object at `obj` would be new: it is condemned, and not marked.
+    #[inline]
+    fn is_new(&self, heap: &Heap, obj: u64) -> bool
+        requires { HasWord heap.now.memories obj }
+        ensures { result ≡ is_new heap.now self.now.oldest obj }
+    {
+        self.is_condemned(heap, obj) && !self.is_marked(heap, obj)
+    }
+
+    /// Where the condemned objects begin: nothing below is condemned. So a collection of young objects needn't look at
+    /// what names lower ones.
+    pub fn lowest_condemned(&self, heap: &Heap) -> u64
+        ensures youngest { self.now.oldest ≡ 0 → result ≡ heap.now.start0 }
+        ensures young { self.now.oldest ≡ 1 → result ≡ heap.now.start1 }
+        ensures below { (x : ℕ) → is_condemned_place heap.now self.now.oldest x ≡ true → result ≤ x }
+    {
+        let (start1, start0) = heap.boundaries();
+        match self.oldest {
+            0 => start0,
+            1 => start1,
+            _ => 0,
+        }
     }
 
     // Puts `obj` on the stack, or into the range where the stack is full.

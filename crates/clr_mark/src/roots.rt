@@ -1,42 +1,61 @@
-// Marking from a list of roots.
+// Marking from roots: lists of places, and the targets of handles.
 ghost use Rattle.std.specs.Prelude.{◌≡◌, ℕ, ◌/◌, ◌≤◌, ◌↔◌, ◌⊎◌, [], None, length};
-ghost use Rattle.clr_model.specs.Reach.{Reach, SlotNames};
-ghost use Rattle.clr_view.specs.View.{objects_in};
+ghost use Rattle.clr_model.specs.Reach.{Reach};
 ghost use Rattle.clr_view.specs.Marks.{Marked};
+ghost use Rattle.clr_view.specs.World.{HandlesStand};
 ghost use Rattle.clr_mark.specs.Marks.{IsClosed, IsRemarked, LeadsTo};
 ghost use Rattle.clr_mark.specs.Markings.{HasMarked};
-ghost use Rattle.clr_mark.specs.Waiting.{IsGray};
 ghost use Rattle.clr_mark.specs.Roots.{AreObjects, IsCondemnedRoot, IsRoot};
+ghost use Rattle.clr_mark.specs.Ties.{Draws, IsCondemnedStart, IsCondemnedTarget, IsStart, IsTiedToOld, Joins};
+ghost use Rattle.clr_mark.specs.Ties as ties;
+ghost use Rattle.clr_mark.specs.Waiting.{IsGray};
 
 use crate::Marker;
+use crate::marker::Ahead;
+use clr_handles::Handles;
 use clr_heap::Heap;
-use clr_types::Types;
+use clr_types::{Handle, Kind, Types};
 
-/// Marks what roots reach over objects of the generations up to `g`, where nothing is marked before. A root is 0 or the
-/// place of an object. Nothing waits then.
+/// Marks what a collection of the generations up to `g` reaches over objects of these generations, where nothing is
+/// marked before: from locals, from the f-reachable queue, from the targets of strong and pinned handles, and from
+/// what dependent handles tie to older objects. What slots of older objects name is no part of it; the caller marks
+/// from that. A local or an entry of the queue is 0 or the place of an object. Nothing waits then.
 ///
 /// All else stays.
-pub fn mark_from(marker: &mut Marker, heap: &mut Heap, types: &Types, g: u8, roots: &[u64])
+pub fn mark_from(
+    marker: &mut Marker,
+    heap: &mut Heap,
+    types: &Types,
+    g: u8,
+    handles: &Handles,
+    locals: &[u64],
+    ready: &[u64],
+)
     requires known { g ≤ 2 }
     requires closed { IsClosed types.now heap.old }
     requires clear { (x : ℕ) → Marked types.now heap.old x → ⊥ }
-    requires objects { AreObjects types.now heap.old roots.now }
+    requires handles { HandlesStand types.now heap.old handles.now }
+    requires locals { AreObjects types.now heap.old locals.now }
+    requires ready { AreObjects types.now heap.old ready.now }
     ensures marker { marker.new ≡ record marker.old { stack = []; range = None; oldest = g } }
     ensures gray { IsGray types.now heap.new marker.new }
     ensures words { IsRemarked types.now heap.old heap.new }
     ensures marked { (x : ℕ) → Marked types.now heap.new x
-        ↔ Reach (LeadsTo types.now heap.old g) (IsCondemnedRoot roots.now heap.old g) x }
+        ↔ Reach (Draws types.now heap.old handles.now g)
+        (IsCondemnedStart types.now heap.old handles.now g locals.now ready.now) x }
     // In a collection of all generations every object is condemned.
     ensures all { g ≡ 2 → (x : ℕ) → Marked types.now heap.new x
-        ↔ Reach (SlotNames (objects_in types.now heap.old)) (IsRoot roots.now) x }
+        ↔ Reach (Joins types.now heap.old handles.now) (IsStart handles.now locals.now ready.now) x }
 {
     marker.begin(g);
-    marker.roots(heap, types, roots);
+    marker.roots(heap, types, locals);
+    marker.handle_roots(heap, types, handles);
+    marker.mark_more(heap, types, handles, ready);
 }
 
 impl Marker {
-    /// Marks condemned roots, and what they and the marked objects reach over condemned ones. A root is 0 or the place
-    /// of an object. Nothing waits then.
+    /// Marks condemned roots, and what they and the marked objects reach over condemned ones by slots. A root is 0 or
+    /// the place of an object. Nothing waits then.
     ///
     /// All else stays.
     pub fn roots(&mut self, heap: &mut Heap, types: &Types, roots: &[u64])
@@ -55,11 +74,62 @@ impl Marker {
                 self.drain_if_full(heap, types);
             }
         }
-        self.drain(heap, types);
+        self.drain_slots(heap, types);
     }
 
-    /// Drains where at least half of the stack is in use. A caller with many roots, as of handles, calls it after each
-    /// `root`, so that they don't fill the stack. At most half of it is in use then.
+    /// Marks the condemned targets of strong and pinned handles, and what they and the marked objects reach over
+    /// condemned ones by slots. Nothing waits then.
+    ///
+    /// All else stays.
+    pub fn handle_roots(&mut self, heap: &mut Heap, types: &Types, handles: &Handles)
+        requires gray { IsGray types.now heap.old self.old }
+        requires handles { HandlesStand types.now heap.old handles.now }
+        ensures marker { self.new ≡ record self.old { stack = []; range = None } }
+        ensures gray { IsGray types.now heap.new self.new }
+        ensures words { IsRemarked types.now heap.old heap.new }
+        ensures marked { (x : ℕ) → Marked types.now heap.new x
+            ↔ Reach (LeadsTo types.now heap.old self.old.oldest)
+            (λ y. Marked types.now heap.old y ⊎ IsCondemnedTarget handles.now heap.old self.old.oldest y) x }
+    {
+        let low = self.lowest_condemned(heap);
+        let mut ahead = Ahead::From(0);
+        while let Some(handle) = ahead.next(handles, low) {
+            if is_root_handle(&handle) {
+                self.root(heap, types, handle.target);
+                self.drain_if_full(heap, types);
+            }
+        }
+        self.drain_slots(heap, types);
+    }
+
+    /// Goes on with a marking: marks condemned roots, and all that they and the marked objects reach over condemned
+    /// ones, by slots and by dependent handles, as `drain` does. A root is 0 or the place of an object. Nothing waits
+    /// then.
+    ///
+    /// All else stays.
+    pub fn mark_more(&mut self, heap: &mut Heap, types: &Types, handles: &Handles, roots: &[u64])
+        requires gray { IsGray types.now heap.old self.old }
+        requires handles { HandlesStand types.now heap.old handles.now }
+        requires objects { AreObjects types.now heap.old roots.now }
+        ensures marker { self.new ≡ record self.old { stack = []; range = None } }
+        ensures gray { IsGray types.now heap.new self.new }
+        ensures words { IsRemarked types.now heap.old heap.new }
+        ensures marked { (x : ℕ) → Marked types.now heap.new x
+            ↔ Reach (Draws types.now heap.old handles.now self.old.oldest)
+            (λ y. Marked types.now heap.old y
+            ⊎ (IsCondemnedRoot roots.now heap.old self.old.oldest y
+            ⊎ IsTiedToOld types.now heap.old handles.now self.old.oldest y)) x }
+        // In a collection of all generations every object is condemned.
+        ensures all { self.old.oldest ≡ 2 → (x : ℕ) → Marked types.now heap.new x
+            ↔ Reach (Joins types.now heap.old handles.now)
+            (λ y. Marked types.now heap.old y ⊎ IsRoot roots.now y) x }
+    {
+        self.roots(heap, types, roots);
+        self.drain(heap, types, handles);
+    }
+
+    /// Follows slots where at least half of the stack is in use. A caller with many roots, as of cards, calls it after
+    /// each `root`, so that they don't fill the stack. At most half of it is in use then.
     ///
     /// All else stays.
     pub fn drain_if_full(&mut self, heap: &mut Heap, types: &Types)
@@ -71,7 +141,14 @@ impl Marker {
         ensures room { length self.new.stack ≤ self.new.capacity / 2 }
     {
         if self.is_half_full() {
-            self.drain(heap, types);
+            self.drain_slots(heap, types);
         }
     }
+}
+
+// Whether the target of a handle is a root.
+fn is_root_handle(handle: &Handle) -> bool
+    ensures { result ≡ ties.is_root_handle handle.now }
+{
+    matches!(handle.kind, Kind::Strong | Kind::Pinned) && handle.target != 0
 }

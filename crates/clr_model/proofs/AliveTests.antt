@@ -1,11 +1,9 @@
 -- What is alive in a machine, and what stays, is told by tests: a machine's edges and starts are listed.
-use Rattle.std.proofs.Common.{◌≡◌, ℕ, ◌<◌, ◌⊎◌, inl, inr, List, [], ◌∷◌, ◌++◌, map, filter, refl, sym, ap, subst, ◌∙◌}
-use Rattle.std.proofs.Common.{Bool, true, false, if◌then◌else◌, nat_lt, ◌&&◌, Some}
+use Rattle.std.proofs.Common.{◌≡◌, ℕ, ◌<◌, ◌⊎◌, inl, inr, List, [], ◌∷◌, ◌++◌, map, filter, refl, sym, ap, subst}
+use Rattle.std.proofs.Common.{Bool, true, false, if◌then◌else◌, nat_lt, ◌&&◌}
 use Rattle.std.specs.List.{flat_map}
-use Rattle.std.specs.FinMap as finmap
-use Rattle.std.specs.Ordering.{nat_cmp, eq_by_cmp}
 use Rattle.std.proofs.lemmas.Bool.{and_parts, and_from, ltb-true, lt-ltb}
-use Rattle.clr_types.specs.Rising.{IsIn, first, later, Tests}
+use Rattle.clr_types.specs.Rising.{IsIn, first, Tests}
 use Rattle.clr_types.specs.Segments.{generation}
 use Rattle.clr_types.proofs.RisingLists.{in_cons}
 use Rattle.clr_types.proofs.ListMembers.{from-map, in_append, append_right}
@@ -15,28 +13,11 @@ use Rattle.clr_model.specs.Machine.{Value, ref, num, Object, Machine}
 use Rattle.clr_model.specs.Lookups.{handle_rows, is_dependent, is_root_kind}
 use Rattle.clr_model.specs.Reach.{SlotNames, SecondOf, Edge, HeldBy, Roots, Old, StartOf, First, Kept, woken}
 use Rattle.clr_types.proofs.MapValues.{value-in_use}
+use Rattle.clr_model.proofs.HandleTables.{value-among}
 use Rattle.clr_model.proofs.CollectedFree.{from_part, into_parts}
 use Rattle.clr_model.proofs.ReachTests.{Arc, ArcIn, reached_by, Lists, ListsEdges, reached-tests}
 
--- ---- handles
-
-found-among : {X : Type 0} (k : ℕ) (es : List (ℕ × X)) (x : X) → finmap.find nat_cmp k es ≡ Some x
-    → IsIn x (map (λ e. e.1) es)
-found-among k [] x e = absurd cc
-found-among k (f ∷ es) x e = go (eq_by_cmp nat_cmp k f.0) e (found-among k es x)
-  where
-    same : Some f.1 ≡ Some x → f.1 ≡ x
-    same e = cc
-
-    go : (b : Bool) → (if b then Some f.1 else finmap.find nat_cmp k es) ≡ Some x
-        → (finmap.find nat_cmp k es ≡ Some x → IsIn x (map (λ e. e.1) es)) → IsIn x (f.1 ∷ map (λ e. e.1) es)
-    go true e more = subst (λ y. IsIn y (f.1 ∷ map (λ e. e.1) es)) (same e) first
-    go false e more = later (more e)
-
 module _ (m : Machine) where
-  row-among : (k : ℕ) (row : Handle) → finmap.get m.handles k ≡ Some row → IsIn row (handle_rows m)
-  row-among k row e = found-among k (finmap.entries m.handles) row (sym (finmap.get-entries m.handles k) ∙ e)
-
   -- ---- edges
 
   abbrev arc : ℕ → ℕ → Arc
@@ -92,14 +73,14 @@ module _ (m : Machine) where
       into_parts (value_arcs s.object.name) (ref y) a s.object.slots s.slot (value-arc s.object.name y s.not_null) in
       (a, append_left tied_edges (into_parts object_arcs s.object a m.objects s.present of), s.named, refl)
 
-  tied-listed : (x y : ℕ) → SecondOf m x y → ArcIn arcs x y
+  tied-listed : (x y : ℕ) → SecondOf m.handles x y → ArcIn arcs x y
   tied-listed x y s =
       let second : 0 < s.row.second = subst (λ n. 0 < n) (sym s.secondary) s.not_null in
       let passes : nat_lt 0 s.row.second ≡ true = lt-ltb 0 s.row.second second in
       let tied : ties s.row ≡ true =
       and_from (is_dependent s.row.kind) (nat_lt 0 s.row.second) s.dependent passes in
       let among : IsIn s.row (filter ties (handle_rows m)) =
-      into_filter ties (handle_rows m) tied (row-among s.handle s.row s.in_use) in
+      into_filter ties (handle_rows m) tied (value-among m.handles s.handle s.row s.in_use) in
       (row_arc s.row, append_right slot_edges (IsIn-map row_arc among), s.primary, s.secondary)
 
   slot-edge : (a : Arc) → IsIn a slot_edges → SlotNames m.objects a.from a.to
@@ -115,7 +96,7 @@ module _ (m : Machine) where
         not_null = not_null;
       }
 
-  tied-edge : (a : Arc) → IsIn a tied_edges → SecondOf m a.from a.to
+  tied-edge : (a : Arc) → IsIn a tied_edges → SecondOf m.handles a.from a.to
   tied-edge a i =
       let (row, e, j) = from-map row_arc a (filter ties (handle_rows m)) i in
       let (tied, among) = out_of_filter ties row (handle_rows m) j in
@@ -169,14 +150,14 @@ module _ (m : Machine) where
   abbrev start_names : ℕ → List ℕ
   start_names g = root_names ++ old_names g
 
-  held-listed : (x : ℕ) → HeldBy m x → IsIn x held_names
+  held-listed : (x : ℕ) → HeldBy m.handles x → IsIn x held_names
   held-listed x s =
-      let known : IsIn s.row (handle_rows m) = row-among s.handle s.row s.in_use in
+      let known : IsIn s.row (handle_rows m) = value-among m.handles s.handle s.row s.in_use in
       let among : IsIn s.row root_rows =
       into_filter (λ (row : Handle). is_root_kind row.kind) (handle_rows m) s.holds known in
       subst (λ n. IsIn n held_names) s.target (IsIn-map (λ (row : Handle). row.target) among)
 
-  held-is : (x : ℕ) → IsIn x held_names → HeldBy m x
+  held-is : (x : ℕ) → IsIn x held_names → HeldBy m.handles x
   held-is x i =
       let (row, e, j) = from-map (λ (row : Handle). row.target) x root_rows i in
       let (holds, among) = out_of_filter (λ (row : Handle). is_root_kind row.kind) row (handle_rows m) j in
@@ -186,7 +167,7 @@ module _ (m : Machine) where
   roots-listed : (x : ℕ) → Roots m x → IsIn x root_names
   roots-listed x (l, root) = into_filter (λ x. nat_lt 0 x) possible_names (lt-ltb 0 x l) (go root)
     where
-      go : (IsIn x m.locals ⊎ HeldBy m x) ⊎ IsIn x m.ready → IsIn x possible_names
+      go : (IsIn x m.locals ⊎ HeldBy m.handles x) ⊎ IsIn x m.ready → IsIn x possible_names
       go (inl (inl i)) = append_left m.ready (append_left held_names i)
       go (inl (inr s)) = append_left m.ready (append_right m.locals (held-listed x s))
       go (inr i) = append_right (m.locals ++ held_names) i
@@ -196,11 +177,11 @@ module _ (m : Machine) where
       let (l, j) = out_of_filter (λ x. nat_lt 0 x) x possible_names i in
       (ltb-true 0 x l, go (in_append (m.locals ++ held_names) j))
     where
-      early : IsIn x m.locals ⊎ IsIn x held_names → IsIn x m.locals ⊎ HeldBy m x
+      early : IsIn x m.locals ⊎ IsIn x held_names → IsIn x m.locals ⊎ HeldBy m.handles x
       early (inl i) = inl i
       early (inr i) = inr (held-is x i)
 
-      go : IsIn x (m.locals ++ held_names) ⊎ IsIn x m.ready → (IsIn x m.locals ⊎ HeldBy m x) ⊎ IsIn x m.ready
+      go : IsIn x (m.locals ++ held_names) ⊎ IsIn x m.ready → (IsIn x m.locals ⊎ HeldBy m.handles x) ⊎ IsIn x m.ready
       go (inl i) = inl (early (in_append m.locals i))
       go (inr i) = inr i
 

@@ -2,12 +2,12 @@
 use Rattle.std.proofs.Common.{◌≡◌, ℕ, zero, suc, ◌+◌, ◌-◌, ◌<◌, ◌≤◌, ◌⊎◌, List, [], ◌∷◌, refl, sym, arith, subst, Bool}
 use Rattle.std.proofs.Common.{true, false, if◌then◌else◌, Option, Some, None, is_some, is_none, unwrap_or}
 use Rattle.std.specs.Prelude.{slice_get, bytes_eq}
-use Rattle.std.specs.List.{AllByRecursion}
 use Rattle.clr_types.specs.Types.{TypeRow, Form, type_row, form_at, number_from, number_of, has_finalizer, is_array}
 use Rattle.clr_types.specs.Types.{size_of}
 use Rattle.clr_types.specs.Segments.{Layout}
 use Rattle.clr_types.proofs.TailTaken.{size-lawful}
 use Rattle.clr_model.specs.declared.Refusal.TheVariants.{UnknownThread, UnknownType, BadShape, NoSlot, TooBig, Oom}
+use Rattle.clr_model.specs.declared.Refusal.TheVariants.{NoMemory}
 use Rattle.clr_model.specs.declared.Reply.TheVariants.{Place}
 use Rattle.clr_model.specs.Machine.{Machine}
 use Rattle.clr_model.specs.Lookups.{is_thread}
@@ -26,6 +26,7 @@ use Rattle.clr_model.proofs.FrontBirthLawful.{front_lawful}
 use Rattle.clr_model.proofs.FrontBirthSeen.{picture-born}
 use Rattle.clr_model.proofs.BirthLine.{MayBear, suits_form, new_refuses_type, new_refuses_shape, new_refuses_local}
 use Rattle.clr_model.proofs.BirthLine.{new_refuses_size, new_obeys_own, new_obeys_refill, new_refuses_room}
+use Rattle.clr_model.proofs.BirthLine.{new_refuses_memory}
 
 no_length : (array : Bool) (len : Option ℕ) → array ≡ false → (if array then is_some len else is_none len) ≡ true
     → unwrap_or len 0 ≡ 0
@@ -58,25 +59,12 @@ known-there rows name zero e = let (low, there) = there-from 1 rows name zero e 
 known-there rows name (suc t) e = let (low, there) = there-from 1 rows name (suc t) e in
     let same : suc t - 1 ≡ t = omega arith in subst (λ i. is_some (slice_get rows i) ≡ true) same there
 
--- where no type has a finaliser, none of them has
-pub all-plain : (rows : List TypeRow) (type : ℕ) → AllByRecursion (λ (row : TypeRow). row.finalizer ≡ false) rows
-    → has_finalizer (type_row rows type) ≡ false
-all-plain rows zero all = refl
-all-plain rows (suc t) all = go rows t all
-  where
-    go : (rows : List TypeRow) (t : ℕ) → AllByRecursion (λ (row : TypeRow). row.finalizer ≡ false) rows
-        → has_finalizer (slice_get rows t) ≡ false
-    go [] t all = refl
-    go (row ∷ rows) zero all = all.0
-    go (row ∷ rows) (suc t) all = go rows t all.1
-
 module _ (m : Machine) (t k : ℕ) (name : List ℕ) (len : Option ℕ) (type : ℕ) where
   -- what holds of a picture's types, options, steps and holder holds of its machine
   pub may_bear_of-picture : MayBear (picture m) t k name len type → MayBear m t k name len type
   may_bear_of-picture h = record {
     run = may_run_of-picture m t h.run;
     known = h.known;
-    plain = h.plain;
     shape = h.shape;
     local = h.local;
     small = h.small;
@@ -88,7 +76,7 @@ module _ (m : Machine) (t k : ℕ) (name : List ℕ) (len : Option ℕ) (type : 
   may_bear-relaid layout h =
       let run : MayRun (with_layout m layout) t =
       record { thread = h.run.thread; idle = h.run.idle; unheld = h.run.unheld } in
-      record { run = run; known = h.known; plain = h.plain; shape = h.shape; local = h.local; small = h.small }
+      record { run = run; known = h.known; shape = h.shape; local = h.local; small = h.small }
 
   -- an object that may be asked for is born at the front where it fits
   pub front_birth : MayBear m t k name len type → own_fits m.layout t (born_size m type (unwrap_or len 0)) ≡ true
@@ -97,7 +85,6 @@ module _ (m : Machine) (t k : ℕ) (name : List ℕ) (len : Option ℕ) (type : 
     thread = h.run.thread;
     local = h.local;
     typed = known-there m.types name type h.known;
-    plain = h.plain;
     class = λ e. no_length (is_array (form_at m.types type)) len e h.shape;
     small = h.small;
     fits = fits;
@@ -180,6 +167,16 @@ module _ (s : Machine) (t k : ℕ) (name : List ℕ) (len : Option ℕ) where
       (λ m named given. new_refuses_room m t k name len type named
       (may_bear_of-picture m t k name len type given.0) given.1 given.2)
       s (may, own, full))
+
+  -- no memory for the finalisation entry
+  pub new_follows_memory : (type : ℕ) → MayBear s t k name len type → has_finalizer (type_row s.types type) ≡ true
+      → Follows s (new_object t k name len) (refused NoMemory) s
+  new_follows_memory type may final =
+      follows s i _ _
+      (refusal_carried_by i (λ s. MayBear s t k name len type × (has_finalizer (type_row s.types type) ≡ true)) NoMemory
+      (λ m named given. new_refuses_memory m t k name len type named
+      (may_bear_of-picture m t k name len type given.0) given.1)
+      s (may, final))
 
   -- a thread that there is not
   pub new_follows_thread : is_thread t ≡ false → Follows s (new_object t k name len) (refused UnknownThread) s

@@ -8,7 +8,7 @@ use Rattle.clr_types.specs.Types.{type_row, form_at, number_of, is_array, has_fi
 use Rattle.clr_types.specs.Segments.{Layout}
 use Rattle.clr_model.specs.declared.Refusal.{Refusal}
 use Rattle.clr_model.specs.declared.Refusal.TheVariants.{UnknownThread, Blocked, MidStep, NotMidStep, UnknownType}
-use Rattle.clr_model.specs.declared.Refusal.TheVariants.{BadShape, NoSlot, TooBig, Oom}
+use Rattle.clr_model.specs.declared.Refusal.TheVariants.{BadShape, NoSlot, TooBig, Oom, NoMemory}
 use Rattle.clr_model.specs.declared.Reply.TheVariants.{Place}
 use Rattle.clr_model.specs.Machine.{Machine}
 use Rattle.clr_model.specs.Lookups.{lowest_in_step}
@@ -28,11 +28,10 @@ use Rattle.clr_model.proofs.FrontBirth.{born_size}
 abbrev pub suits_form : Machine → ℕ → Option ℕ → Bool
 suits_form m type len = if is_array (form_at m.types type) then is_some len else is_none len
 
--- No check of the line fails: an object of this type, which has no finaliser, may be asked for, and it is small.
+-- No check of the line fails: an object of this type may be asked for, and it is small.
 pub record MayBear (m : Machine) (t k : ℕ) (name : List ℕ) (len : Option ℕ) (type : ℕ) : Type 0 where
   pub run : MayRun m t
   pub known : number_of m.types name ≡ Some type
-  pub plain : has_finalizer (type_row m.types type) ≡ false
   pub shape : suits_form m type len ≡ true
   pub local : k < 64
   pub small : born_size m type (unwrap_or len 0) < m.options.large
@@ -139,13 +138,22 @@ module _ (m : Machine) (t k : ℕ) (name : List ℕ) (len : Option ℕ) where
         MatchBool large (MakesLarge m t k type (unwrap_or len 0) outcome new)
         (MakesSmall m t k type (unwrap_or len 0) outcome new) ⊎ WantsEntry m type outcome new
 
-    obeys_small : (outcome : Outcome) (new : Machine) → MakesSmall m t k type (unwrap_or len 0) outcome new
+    obeys_by : (outcome : Outcome) (new : Machine) → does_by type false outcome new
         → Obeys m (new_object t k name len) outcome new
-    obeys_small outcome new made =
+    obeys_by outcome new does =
         obeys_done m (new_object t k name len) outcome new passes
         (subst (λ n. does_by n (nat_le m.options.large (born_size m n (unwrap_or len 0))) outcome new)
         (sym (number_is type h.known))
-        (subst (λ b. does_by type b outcome new) (sym (lt-leb m.options.large size h.small)) (inl made)))
+        (subst (λ b. does_by type b outcome new) (sym (lt-leb m.options.large size h.small)) does))
+
+    obeys_small : (outcome : Outcome) (new : Machine) → MakesSmall m t k type (unwrap_or len 0) outcome new
+        → Obeys m (new_object t k name len) outcome new
+    obeys_small outcome new made = obeys_by outcome new (inl made)
+
+    -- no memory for the finalisation entry
+    pub new_refuses_memory : has_finalizer (type_row m.types type) ≡ true
+        → Obeys m (new_object t k name len) (refused NoMemory) m
+    new_refuses_memory final = obeys_by (refused NoMemory) m (inr (final, (refl, refl)))
 
     -- the ladder by whether the size fits in the context, and whether there is room
     abbrev room_by : Bool → Bool → Attempt → Machine → Type 0

@@ -17,7 +17,7 @@ use Rattle.clr_model.proofs.CondemnedParts.{pointer-young, start-ephemeral, taki
 use Rattle.clr_model.proofs.LawfulPieces.{HasHome, piece-home, object-in-pieces}
 use Rattle.clr_model.proofs.LawfulSurvivors.{survivor-is}
 use Rattle.clr_model.proofs.PlugsApart.{raised_up}
-use Rattle.clr_model.proofs.CompactedSmall.{placed_up}
+use Rattle.clr_model.proofs.PlacedPlugs.{placed_up}
 use Rattle.clr_model.proofs.MovedPlaces.{moved-is, IsCovered, covered, survivor-covered, is_small-survivor}
 use Rattle.clr_model.proofs.SweptLawful.{sweep_end}
 use Rattle.clr_model.proofs.LayoutLaws.{compaction_generation, object_promotes}

@@ -28,7 +28,8 @@ use Rattle.clr_model.proofs.LawfulSurvivors.{aged}
 use Rattle.clr_model.proofs.SweptTiles.{IsCut, section-gap}
 use Rattle.clr_model.proofs.SweptLawful.{IsSwept, swept-is, sweep_tiles, sweep_end, sweep_below, kept_are, start-cuts}
 use Rattle.clr_model.proofs.SweptLawful.{first-cuts, start1-cuts, start0-cuts, end-cuts}
-use Rattle.clr_model.proofs.CompactedSmall.{AreCondemned, part_raised, part_start0, start1-is, plugs_whole0}
+use Rattle.clr_model.proofs.CondemnedPlugs.{AreCondemned}
+use Rattle.clr_model.proofs.CompactedSmall.{part_raised, part_start0, start1-is, plugs_whole0}
 use Rattle.clr_model.proofs.CompactedSmall.{plugs_whole1, free_whole0, free_whole1}
 use Rattle.clr_model.proofs.MovedPlaces.{ready, moved-is, survivor-covered, is_small-survivor, IsBehind}
 use Rattle.clr_model.proofs.MovedPlaces.{free_before_object}

@@ -30,7 +30,7 @@ use Rattle.clr_model.specs.Lawful.{NamesArePresent}
 use Rattle.clr_model.specs.Laws.{CollectionStaysLawfulLaw, TwoCollectionsNamesLaw}
 use Rattle.clr_types.proofs.MapValues.{entries-map_values, keys-map_values, changed}
 use Rattle.clr_model.proofs.Apart.{AreApart}
-use Rattle.clr_model.proofs.LocalChanged.{shaped_alike}
+use Rattle.clr_model.proofs.RootsChanged.{shaped_alike}
 use Rattle.clr_model.proofs.GivenUp.{no_rests}
 use Rattle.clr_model.proofs.NamedWell.{lawful-named}
 use Rattle.clr_model.proofs.CollectionLaws.{collected_apart, names_dont_matter}

@@ -22,7 +22,8 @@ use Rattle.clr_model.proofs.LawfulPieces.{pieces-apart, places-distinct, object-
 use Rattle.clr_model.proofs.PlugsOf.{survivor_end, longer, AreJoined, plugs-all}
 use Rattle.clr_model.proofs.PlugWalk.{Each, IsLanded, each_from}
 use Rattle.clr_model.proofs.LawfulSurvivors.{IsSurvivor, survivor-is}
-use Rattle.clr_model.proofs.CompactedSmall.{whole_line, whole_rises, walked_whole, source}
+use Rattle.clr_model.proofs.CondemnedPlugs.{line-rises}
+use Rattle.clr_model.proofs.CompactedSmall.{whole_line, walked_whole, source}
 use Rattle.clr_model.proofs.MovedPlaces.{ready, landing, moved-is}
 
 -- moves that begin where rising plugs do rise
@@ -92,7 +93,7 @@ module _ (m : Machine) (h : IsLaid m) (g : ℕ) (least : g ≤ 2) (keeps : ℕ
       (source m.layout g kept moves new c (ready m h g least keeps moves new c))) (λ p v. v.start ≡ p.start)
       (λ p v l. l.start) (whole_line m.layout g kept moves new c (ready m h g least keeps moves new c)) moves
       (walked_whole m.layout g kept moves new c (ready m h g least keeps moves new c)).landed)
-      (whole_rises m.layout g kept moves new c (ready m h g least keeps moves new c))
+      (line-rises m.layout g c.segments c.plugs (ready m h g least keeps moves new c))
 
   -- two moves that cover one place are one
   one_move : (v w : Move) → IsIn v moves → IsIn w moves → (x : ℕ) → Covers v x → Covers w x → v ≡ w

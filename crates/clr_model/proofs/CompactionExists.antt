@@ -1,7 +1,7 @@
 -- A compaction of condemned plugs exists: each plug has a destination, since the pointer stays near the next one.
-use Rattle.std.proofs.Common.{◌≡◌, ℕ, ◌+◌, ◌<◌, ◌≤◌, ◌⊎◌, inl, inr, List, [], ◌∷◌, ◌++◌, refl, sym, subst, ap, arith}
+use Rattle.std.proofs.Common.{◌≡◌, ℕ, ◌+◌, ◌<◌, ◌≤◌, ◌⊎◌, inl, inr, List, [], ◌∷◌, ◌++◌, refl, sym, subst, arith}
 use Rattle.std.proofs.Common.{Bool, true, false, filter, nat_le, if◌then◌else◌, ◌==◌, max, MatchBool}
-use Rattle.std.proofs.lemmas.Bool.{cases_order, cases_lt, leb-true, eqb-true}
+use Rattle.std.proofs.lemmas.Bool.{cases_lt, leb-true}
 use Rattle.std.proofs.lemmas.List.{append-nil}
 use Rattle.std.specs.List.{AllByRecursion, flat_map}
 use Rattle.clr_types.specs.Rising.{IsIn, first, IsRisingBy}
@@ -9,22 +9,23 @@ use Rattle.clr_types.specs.Segments.{Layout, first_place, ephemeral, is_small_or
 use Rattle.clr_types.specs.declared.segment.SegInfo.{SegInfo}
 use Rattle.clr_types.proofs.PieceGaps.{IsGapped}
 use Rattle.clr_types.proofs.ChangedLists.{out_of_filter}
-use Rattle.clr_types.proofs.ListMembers.{rising_append, in_append, filter-rises}
 use Rattle.clr_model.specs.Machine.{Machine}
 use Rattle.clr_model.specs.Lawful.{IsLaid}
 use Rattle.clr_model.specs.Sweep.{Survivor, survivors, part_start, taking_part, free_after, segments_after}
 use Rattle.clr_model.specs.Compaction.{Plug, plug_end, Move, IsDestination, Placed, plugs_of, plugs_of_generation}
 use Rattle.clr_model.specs.Compaction.{raised_past_pins, first_pointer, survivors_in, compacted_end, compacted_free}
 use Rattle.clr_model.specs.Compaction.{IsCompacted}
-use Rattle.clr_model.proofs.PlugRoom.{IsPlug, ArePlugs, IsOutside, one_plug}
+use Rattle.clr_model.proofs.PlugRoom.{ArePlugs, IsOutside}
 use Rattle.clr_model.proofs.PlugPointer.{IsNear, IsEdge, edge-gapped, edge-outside, candidate-outside, candidate-near}
 use Rattle.clr_model.proofs.PlugPointer.{above-outside, near-placed, fits-below}
 use Rattle.clr_model.proofs.PlugWalk.{AreInLine, IsNearFirst}
 use Rattle.clr_model.proofs.PlugsApart.{raised_is}
-use Rattle.clr_model.proofs.PlugLanding.{AreStarts}
-use Rattle.clr_model.proofs.CompactedSmall.{AreCondemned, in_line}
 use Rattle.clr_model.proofs.LawfulSurvivors.{condemned}
 use Rattle.clr_model.proofs.LowestFit.{destination}
+use Rattle.clr_model.proofs.PlacedPlugs.{in_line}
+use Rattle.clr_model.proofs.FirstPointer.{first-near, first-outside}
+use Rattle.clr_model.proofs.CondemnedPlugs.{AreCondemned, of-is, younger_line, line_by_age, younger-is, of-rises}
+use Rattle.clr_model.proofs.CondemnedPlugs.{older-below, younger-rises, in_line_by_age}
 
 -- ---- plugs in line
 
@@ -114,92 +115,11 @@ module _ (segments : List SegInfo) (all : List Plug) (h : ArePlugs segments all)
   all_placed (p ∷ ps) rest line pointer near out =
       one_placed pointer p ps rest (all_placed ps rest line.2) line.0 line.1 near out
 
--- ---- the first pointer
-
-module _ (segments : List SegInfo) (all : List Plug) (h : ArePlugs segments all)
-    (start : SegInfo → ℕ) (pointer : ℕ) (st : AreStarts segments all start pointer)
-  where
-    -- the pointer begins near the first plug
-    begins-near : (ps : List Plug) → ((p : Plug) → IsIn p ps → IsIn p all) → IsNearFirst segments all pointer ps
-    begins-near [] known = tt
-    begins-near (p ∷ ps) known = go (st.each is.home is.among) (st.plugs is.home p is.among (known p first) is.of)
-      where
-        is : IsPlug segments p
-        is = h.each p (known p first)
-
-        far : pointer ≤ first_place is.home → first_place is.home ≤ p.start → IsGapped (first_place is.home) p.start
-            → (pointer < first_place is.home) ⊎ (first_place is.home ≤ pointer) → IsNear segments all pointer p.start
-        far l m g (inl up) = (omega arith, inr (inr (is.home, is.among, up, m)))
-        far l m g (inr down) = (omega arith, inl (subst (λ n. IsGapped n p.start) (omega arith) g))
-
-        go : (start is.home ≡ pointer) ⊎ (start is.home ≡ first_place is.home) → IsGapped (start is.home) p.start
-            → IsNear segments all pointer p.start
-        go (inl e) g = (omega arith, inl (subst (λ n. IsGapped n p.start) e g))
-        go (inr e) g =
-            let l : pointer ≤ start is.home = st.lowest is.home is.among in
-            far (omega arith) (omega arith) (subst (λ n. IsGapped n p.start) e g)
-            (cases_lt pointer (first_place is.home))
-
-    begins-outside : IsOutside all pointer
-    begins-outside p i pinned =
-        let is : IsPlug segments p = h.each p i in
-        let g : IsGapped (start is.home) p.start = st.plugs is.home p is.among i is.of in
-        let l : pointer ≤ start is.home = st.lowest is.home is.among in
-        inl (omega arith)
-
 -- ---- the generations, from the oldest to the youngest
 
 module _ (layout : Layout) (g : ℕ) (parts : List SegInfo) (all : List Plug) (h : AreCondemned layout g parts all) where
   abbrev of : ℕ → List Plug
   of i = plugs_of_generation i all
-
-  of-is : (i : ℕ) (p : Plug) → IsIn p (of i) → (p.generation ≡ i) × IsIn p all
-  of-is i p j = let (t, k) = out_of_filter (λ (p : Plug). p.generation == i) p all j in (eqb-true p.generation i t, k)
-
-  of-rises : (i : ℕ) → IsRisingBy (λ (p : Plug). p.start) (of i)
-  of-rises i = filter-rises (λ (p : Plug). p.generation == i) (λ (p : Plug). p.start) all h.plugs.rise
-
-  -- older plugs stand lower
-  older-below : (p q : Plug) → IsIn p all → IsIn q all → q.generation < p.generation → p.start < q.start
-  older-below p q i j l = go (cases_order p.start q.start)
-    where
-      go : (p.start ≡ q.start) ⊎ ((p.start < q.start) ⊎ (q.start < p.start)) → p.start < q.start
-      go (inl e) =
-          let same : p ≡ q = one_plug parts all h.plugs p q i j e in
-          let age : p.generation ≡ q.generation = ap (λ (w : Plug). w.generation) same in
-          absurd (omega arith)
-      go (inr (inl k)) = k
-      go (inr (inr k)) = let m : p.generation ≤ q.generation = h.older_lower q p j i k in absurd (omega arith)
-
-  abbrev young_line : List Plug
-  young_line = of 1 ++ of 0
-
-  young-is : (p : Plug) → IsIn p young_line → (p.generation ≤ 1) × IsIn p all
-  young-is p i = go (in_append (of 1) i)
-    where
-      go : IsIn p (of 1) ⊎ IsIn p (of 0) → (p.generation ≤ 1) × IsIn p all
-      go (inl j) = let (e, k) = of-is 1 p j in (omega arith, k)
-      go (inr j) = let (e, k) = of-is 0 p j in (omega arith, k)
-
-  line-is : (p : Plug) → IsIn p (of 2 ++ young_line) → IsIn p all
-  line-is p i = go (in_append (of 2) i)
-    where
-      go : IsIn p (of 2) ⊎ IsIn p young_line → IsIn p all
-      go (inl j) = (of-is 2 p j).1
-      go (inr j) = (young-is p j).1
-
-  apart-ages : (i : ℕ) (p q : Plug) → IsIn p (of i) → q.generation < i → IsIn q all → p.start < q.start
-  apart-ages i p q j l k = let (e, known) = of-is i p j in older-below p q known k (omega arith)
-
-  young-rises : IsRisingBy (λ (p : Plug). p.start) young_line
-  young-rises =
-      rising_append (λ (p : Plug). p.start) (of 1) (of 0) (of-rises 1) (of-rises 0)
-      (λ p q i j. let (e, k) = of-is 0 q j in apart-ages 1 p q i (omega arith) k)
-
-  line-rises : IsRisingBy (λ (p : Plug). p.start) (of 2 ++ young_line)
-  line-rises =
-      rising_append (λ (p : Plug). p.start) (of 2) young_line (of-rises 2) young-rises
-      (λ p q i j. let (e, k) = young-is q j in apart-ages 2 p q i (omega arith) k)
 
   in_line_of : (ps : List Plug) → IsRisingBy (λ (p : Plug). p.start) ps → ((p : Plug) → IsIn p ps → IsIn p all)
       → AreInLine all ps
@@ -208,15 +128,17 @@ module _ (layout : Layout) (g : ℕ) (parts : List SegInfo) (all : List Plug) (h
   abbrev pointer : ℕ
   pointer = first_pointer layout g parts
 
-  oldest : ArePlaced parts all pointer (of 2) young_line
+  oldest : ArePlaced parts all pointer (of 2) (younger_line all)
   oldest =
-      all_placed parts all h.plugs (of 2) young_line (in_line_of (of 2 ++ young_line) line-rises line-is) pointer
-      (begins-near parts all h.plugs (part_start layout g) pointer h.starts (of 2 ++ young_line) line-is)
-      (begins-outside parts all h.plugs (part_start layout g) pointer h.starts)
+      let line = in_line_by_age layout g parts all h in
+      all_placed parts all h.plugs (of 2) (younger_line all) line pointer
+      (first-near parts all h.plugs (part_start layout g) pointer h.starts (line_by_age all) line)
+      (first-outside parts all h.plugs (part_start layout g) pointer h.starts)
 
   older : ArePlaced parts all oldest.after (of 1) (of 0)
   older =
-      all_placed parts all h.plugs (of 1) (of 0) (in_line_of young_line young-rises (λ p i. (young-is p i).1))
+      all_placed parts all h.plugs (of 1) (of 0)
+      (in_line_of (younger_line all) (younger-rises layout g parts all h) (λ p i. (younger-is all p i).1))
       oldest.after oldest.near oldest.outside
 
   -- ---- the boundary below generation 0
@@ -245,14 +167,14 @@ module _ (layout : Layout) (g : ℕ) (parts : List SegInfo) (all : List Plug) (h
 
   edge-ready : (place : ℕ) → IsEdge parts all place → ((q : Plug) → IsIn q (of 0) → place ≤ q.start) → IsReady place
   edge-ready place edge above = (
-    edge-near place edge (of 0) (λ q i. ((of-is 0 q i).1, above q i)),
+    edge-near place edge (of 0) (λ q i. ((of-is all 0 q i).1, above q i)),
     edge-outside parts all h.plugs place edge,
   )
 
   front-ready : (place : ℕ) → place ≡ front
       → (older.after < first_place (ephemeral layout)) ⊎ (first_place (ephemeral layout) ≤ older.after) → IsReady place
   front-ready place e (inl l) =
-      edge-ready place (inr (ephemeral layout, h.among, omega arith)) (λ q i. above q (of-is 0 q i))
+      edge-ready place (inr (ephemeral layout, h.among, omega arith)) (λ q i. above q (of-is all 0 q i))
     where
       above : (q : Plug) → (q.generation ≡ 0) × IsIn q all → place ≤ q.start
       above q (z, k) = let low : first_place (ephemeral layout) ≤ q.start = h.young q k z in omega arith
@@ -263,11 +185,12 @@ module _ (layout : Layout) (g : ℕ) (parts : List SegInfo) (all : List Plug) (h
   pin-ready place p i pinned e =
       let (t, known) = out_of_filter (λ (p : Plug). nat_le 1 p.generation) p all i in
       let old : 1 ≤ p.generation = leb-true 1 p.generation t in
-      edge-ready place (inl (p, known, pinned, e)) (λ q j. above known old q (of-is 0 q j))
+      edge-ready place (inl (p, known, pinned, e)) (λ q j. above known old q (of-is all 0 q j))
     where
       above : IsIn p all → 1 ≤ p.generation → (q : Plug) → (q.generation ≡ 0) × IsIn q all → place ≤ q.start
       above known old q (z, k) =
-          let gap : IsGapped (plug_end p) q.start = h.plugs.apart p q known k (older-below p q known k (omega arith)) in
+          let lower : p.start < q.start = older-below layout g parts all h p q known k (omega arith) in
+          let gap : IsGapped (plug_end p) q.start = h.plugs.apart p q known k lower in
           omega arith
 
   raised-ready : IsReady raised
@@ -289,7 +212,8 @@ module _ (layout : Layout) (g : ℕ) (parts : List SegInfo) (all : List Plug) (h
       young : of 0 ++ [] ≡ of 0 → ArePlaced parts all raised (of 0) []
       young e =
           all_placed parts all h.plugs (of 0) []
-          (subst (AreInLine all) (sym e) (in_line_of (of 0) (of-rises 0) (λ p i. (of-is 0 p i).1)))
+          (subst (AreInLine all) (sym e)
+          (in_line_of (of 0) (of-rises layout g parts all h 0) (λ p i. (of-is all 0 p i).1)))
           raised (subst (IsNearFirst parts all raised) (sym e) raised-ready.0) raised-ready.1
 
   -- ---- the layout

@@ -1,7 +1,7 @@
 -- A birth at the front of its thread's context keeps the machine lawful.
 use Rattle.std.proofs.Common.{◌≡◌, ◌≢◌, ℕ, ◌+◌, ◌-◌, ◌^◌, ◌<◌, ◌≤◌, List, [], ◌∷◌, ◌++◌, map, refl, sym, ap, subst, ◌∙◌}
 use Rattle.std.proofs.Common.{arith, Bool, true, false, if◌then◌else◌, ◌==◌, Option, Some, None, IfSome, is_some, inl}
-use Rattle.std.proofs.Common.{inr, append_assoc, true≢false, slice_set}
+use Rattle.std.proofs.Common.{inr, append_assoc, true≢false, slice_set, ne_eqb}
 use Rattle.std.specs.Prelude.{slice_get}
 use Rattle.std.specs.List.{AllByRecursion}
 use Rattle.std.specs.FinMap as finmap
@@ -44,7 +44,9 @@ use Rattle.clr_model.proofs.RestLists.{HasRest, rest-at, all-rests, option-range
 use Rattle.clr_model.proofs.SplitPieces.{unsorted_pieces, FillSegments, front_piece, back_pieces, split_fills}
 use Rattle.clr_model.proofs.ContextChange.{rest-entry, rest_of-other, is-young, young-is, rooms_kept}
 use Rattle.clr_model.proofs.ItemContext.{same_segments}
-use Rattle.clr_model.proofs.FrontBirth.{born_size, IsFrontBirth, front_object, at_front, own-rest, born_small-is}
+use Rattle.clr_model.proofs.FrontBirth.{born_size, IsFrontBirth, front_object, placed_at_front, born_entries, own-rest}
+use Rattle.clr_model.proofs.FrontBirth.{born_small-is}
+use Rattle.clr_model.proofs.RootsChanged.{IsLawfulQueue, lawful_entries, entry_added, with_entries_lawful}
 
 -- ---- the slots of a new object
 
@@ -91,10 +93,18 @@ new-found (p ∷ ps) o = go (p.name == o.name) (new-found ps o)
     go true more = refl
     go false more = more
 
+-- one of a name of its own is what is found
+pub new-found_is : (objects : List Object) (o : Object) → AllByRecursion (λ (p : Object). p.name ≢ o.name) objects
+    → object_named (objects ++ o ∷ []) o.name ≡ Some o
+new-found_is [] o apart = ap (λ b. if b then Some o else None) (eq-eqb o.name o.name refl)
+new-found_is (p ∷ ps) o apart =
+    ap (λ b. if b then Some p else object_named (ps ++ o ∷ []) o.name) (ne_eqb p.name o.name apart.0)
+    ∙ new-found_is ps o apart.1
+
 module _ (m : Machine) (t local type len : ℕ) (named : IsBirthNamed m) (idle : is_step (step_of m t) ≡ false)
     (h : IsFrontBirth m t local type len) where
   abbrev next : Machine
-  next = at_front m t local type len
+  next = placed_at_front m t local type len
 
   abbrev born : Object
   born = front_object m t (m.born + 1) type len
@@ -362,8 +372,8 @@ module _ (m : Machine) (t local type len : ℕ) (named : IsBirthNamed m) (idle :
 
   -- ---- all of it
 
-  pub at_front_lawful : IsBirthNamed next
-  at_front_lawful =
+  placed_lawful : IsBirthNamed next
+  placed_lawful =
       let is = named.lawful in
       let below = all_imply (λ (o : Object). o.name ≤ m.born) (λ (o : Object). o.name < m.born + 1) m.objects
       (λ o l. omega arith) named.born in
@@ -410,6 +420,27 @@ module _ (m : Machine) (t local type len : ℕ) (named : IsBirthNamed m) (idle :
             (λ o l. omega arith) named.born) (omega arith);
       }
 
+  -- ---- the finalisation entries
+
+  pub names_apart : AllByRecursion (λ (o : Object). o.name ≢ m.born + 1) m.objects
+  names_apart = all_imply (λ (o : Object). o.name ≤ m.born) (λ (o : Object). o.name ≢ m.born + 1) m.objects
+      (λ o l e. omega arith) named.born
+
+  born_final : has_finalizer (type_row m.types type) ≡ true → IsFinal next (m.born + 1)
+  born_final is =
+      ap (λ (r : Option Object). has_finalizer (type_row m.types (type_of_object r)))
+      (new-found_is m.objects born names_apart) ∙ is
+
+  queued : IsLawfulQueue next (born_entries m type (m.born + 1))
+  queued = go (has_finalizer (type_row m.types type)) refl
+    where
+      go : (b : Bool) → has_finalizer (type_row m.types type) ≡ b
+          → IsLawfulQueue next (if b then m.entries ++ ((m.born + 1) ∷ []) else m.entries)
+      go true is = entry_added next placed_lawful (m.born + 1) (new-found m.objects born) (born_final is)
+      go false is = lawful_entries next placed_lawful.lawful
+
   -- a lawful machine stays lawful
   pub front_lawful : IsBirthNamed (born_small m t local type len)
-  front_lawful = subst IsBirthNamed (sym (born_small-is m t local type len h.plain)) at_front_lawful
+  front_lawful =
+      subst IsBirthNamed (sym (born_small-is m t local type len))
+      (with_entries_lawful next placed_lawful (born_entries m type (m.born + 1)) queued)

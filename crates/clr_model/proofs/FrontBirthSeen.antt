@@ -1,12 +1,12 @@
 -- What is seen after a birth at the front of its thread's context.
-use Rattle.std.proofs.Common.{◌≡◌, ◌≢◌, ℕ, ◌+◌, ◌<◌, ◌≤◌, ◌⊎◌, List, [], ◌∷◌, ◌++◌, map, refl, sym, ap, ◌∙◌, arith}
-use Rattle.std.proofs.Common.{Bool, true, false, if◌then◌else◌, ◌==◌, Some, None, is_some, slice_set, inl, inr, ne_eqb}
+use Rattle.std.proofs.Common.{◌≡◌, ◌≢◌, ℕ, ◌+◌, ◌<◌, ◌⊎◌, List, [], ◌∷◌, ◌++◌, map, refl, sym, ap, ◌∙◌, arith}
+use Rattle.std.proofs.Common.{Bool, true, false, if◌then◌else◌, ◌==◌, Some, is_some, slice_set, inl, inr, ne_eqb}
 use Rattle.std.proofs.Common.{eq-eqb}
 use Rattle.std.specs.List.{AllByRecursion}
 use Rattle.std.specs.FinMap as finmap
 use Rattle.std.proofs.lemmas.List.{map-append, append-nil}
 use Rattle.clr_types.specs.Rising.{IsIn, sorted_by, insert_by}
-use Rattle.clr_types.specs.Types.{form_at, slot_kinds}
+use Rattle.clr_types.specs.Types.{form_at, has_finalizer, slot_kinds, type_row}
 use Rattle.clr_types.proofs.RisingLists.{all_at, in_cons}
 use Rattle.clr_types.proofs.SortedLists.{out_of_sorted_by, find_by-member}
 use Rattle.clr_types.proofs.ChangedLists.{all_members, all_imply, all-unmap, all-map, map-agree, rising-distinct}
@@ -21,8 +21,9 @@ use Rattle.clr_model.specs.Allocation.{context_front}
 use Rattle.clr_model.specs.Step.{born_small}
 use Rattle.clr_model.specs.Lawful.{IsBirthNamed, IsShaped, IsPresent, IsNullOrPresent, SlotIsPresent, StepIsPresent}
 use Rattle.clr_model.proofs.Naming.{map-slice_set}
-use Rattle.clr_model.proofs.FrontBirth.{IsFrontBirth, front_object, at_front, seen_at_front, born_small-is}
-use Rattle.clr_model.proofs.FrontBirthLawful.{found-pushed, objects_apart}
+use Rattle.clr_model.proofs.FrontBirth.{IsFrontBirth, front_object, born_entries, at_front, seen_at_front}
+use Rattle.clr_model.proofs.FrontBirth.{born_small-is}
+use Rattle.clr_model.proofs.FrontBirthLawful.{found-pushed, new-found_is, names_apart, objects_apart}
 
 empty-renamed : (to : ℕ → ℕ) → to 0 ≡ 0 → (kinds : List Bool)
     → map (renamed_value to) (map empty_value kinds) ≡ map empty_value kinds
@@ -43,14 +44,6 @@ member-present (p ∷ ps) o i = go (p.name == o.name) refl (in_cons i) (member-p
     go false e (inl same) more = let hit : (p.name == o.name)
         ≡ true = eq-eqb p.name o.name (sym (ap (λ (w : Object). w.name) same)) in absurd cc
     go false e (inr j) more = more j
-
--- a new object of a name of its own is found
-new-found_is : (objects : List Object) (o : Object) → AllByRecursion (λ (p : Object). p.name ≢ o.name) objects
-    → object_named (objects ++ o ∷ []) o.name ≡ Some o
-new-found_is [] o apart = ap (λ b. if b then Some o else None) (eq-eqb o.name o.name refl)
-new-found_is (p ∷ ps) o apart =
-    ap (λ b. if b then Some p else object_named (ps ++ o ∷ []) o.name) (ne_eqb p.name o.name apart.0)
-    ∙ new-found_is ps o apart.1
 
 module _ (m : Machine) (t local type len : ℕ) (named : IsBirthNamed m) (idle : is_step (step_of m t) ≡ false)
     (h : IsFrontBirth m t local type len) where
@@ -77,16 +70,12 @@ module _ (m : Machine) (t local type len : ℕ) (named : IsBirthNamed m) (idle :
   name_same name (inl null) = ap after null ∙ sym (ap before null)
   name_same name (inr there) = present_same name there
 
-  names_apart : AllByRecursion (λ (o : Object). o.name ≢ m.born + 1) m.objects
-  names_apart = all_imply (λ (o : Object). o.name ≤ m.born) (λ (o : Object). o.name ≢ m.born + 1) m.objects
-      (λ o l e. omega arith) named.born
-
   -- and the new name has the place of the birth
   new_place : after (m.born + 1) ≡ place
   new_place =
       ap (λ b. if b then 0 else place_or_null (object_named next.objects (m.born + 1)))
       (ne_eqb (m.born + 1) 0 (λ e. omega arith))
-      ∙ ap place_or_null (new-found_is m.objects born names_apart)
+      ∙ ap place_or_null (new-found_is m.objects born (names_apart m t local type len named idle h))
 
   value_same : (v : Value) → SlotIsPresent m v → renamed_value after v ≡ renamed_value before v
   value_same (ref name) there = ap ref (name_same name there)
@@ -191,19 +180,29 @@ module _ (m : Machine) (t local type len : ℕ) (named : IsBirthNamed m) (idle :
       (all_imply (StepIsPresent m) (λ s. renamed_step after s
       ≡ renamed_step before s) m.steps step_same named.lawful.names.steps)
 
+  entries-next : map after (born_entries m type (m.born + 1)) ≡ born_entries (picture m) type place
+  entries-next = go (has_finalizer (type_row m.types type))
+    where
+      old : map after m.entries ≡ map before m.entries
+      old = names_same m.entries named.lawful.names.entries
+
+      go : (b : Bool) → map after (if b then m.entries ++ ((m.born + 1) ∷ []) else m.entries)
+          ≡ (if b then map before m.entries ++ (place ∷ []) else map before m.entries)
+      go true = map-append after m.entries ((m.born + 1) ∷ []) ∙ (λ k. old k ++ (new_place k ∷ []))
+      go false = old
+
   -- the object is seen at its place
-  pub picture-at_front : picture next ≡ seen_at_front (picture m) t local type len
+  picture-at_front : picture next ≡ seen_at_front (picture m) t local type len
   picture-at_front =
-      let entries = names_same m.entries named.lawful.names.entries in
       let ready = names_same m.ready named.lawful.names.ready in
       λ k. record (seen_at_front (picture m) t local type len) {
         objects = by_place-next k;
         locals = locals-next k;
         handles = handles-next k;
-        entries = entries k;
+        entries = entries-next k;
         ready = ready k;
         steps = steps-next k;
       }
 
   pub picture-born : picture (born_small m t local type len) ≡ seen_at_front (picture m) t local type len
-  picture-born = ap picture (born_small-is m t local type len h.plain) ∙ picture-at_front
+  picture-born = ap picture (born_small-is m t local type len) ∙ picture-at_front

@@ -113,8 +113,8 @@ module _ (m : Machine) (h : AreApart m.objects)
 
     -- and so for the secondary of a dependent handle
     pub second-from_picture : (x : Object) → IsIn x m.objects → (z : ℕ)
-        → SecondOf (picture m) (place_of m.objects x.name) z
-        → (y : ℕ) × (z ≡ place_of m.objects y) × SecondOf m x.name y
+        → SecondOf (picture m).handles (place_of m.objects x.name) z
+        → (y : ℕ) × (z ≡ place_of m.objects y) × SecondOf m.handles x.name y
     second-from_picture x i z e =
         let to : ℕ → ℕ = place_of m.objects in
         let (row, found, is) = before_change (renamed_row to) (finmap.get m.handles e.handle) e.row

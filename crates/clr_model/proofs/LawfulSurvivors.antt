@@ -31,7 +31,7 @@ use Rattle.clr_model.specs.Lawful.{IsLaid}
 use Rattle.clr_model.proofs.LawfulPieces.{HasHome, piece-home, piece-tile, pieces-apart, segment-tiled, places-distinct}
 use Rattle.clr_model.proofs.LawfulPieces.{object-in-pieces}
 use Rattle.clr_types.proofs.TilePieces.{IsTile, tiles-cut}
-use Rattle.clr_model.proofs.CompactedSmall.{AreCondemned}
+use Rattle.clr_model.proofs.CondemnedPlugs.{AreCondemned}
 
 -- ---- generations by place
 

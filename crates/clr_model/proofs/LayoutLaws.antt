@@ -19,9 +19,10 @@ use Rattle.clr_types.proofs.SegmentFacts.{ephemeral-in, ephemeral-kind, lawful_s
 use Rattle.clr_model.specs.Lawful.{IsLaid}
 use Rattle.clr_model.proofs.LawfulSurvivors.{compaction_condemned}
 use Rattle.clr_types.proofs.ChangedLists.{out_of_filter}
-use Rattle.clr_model.proofs.CompactedSmall.{AreCondemned, compaction_tiles, ends_in, start0_in, boundaries_rise}
-use Rattle.clr_model.proofs.CompactedSmall.{start1-is, raised, raised-in, raised-source1, start0_source, promoted}
-use Rattle.clr_model.proofs.CompactedSmall.{generation_by}
+use Rattle.clr_model.proofs.CondemnedPlugs.{AreCondemned}
+use Rattle.clr_model.proofs.CompactedSmall.{boundaries_rise, compaction_tiles, ends_in, raised, raised-in}
+use Rattle.clr_model.proofs.CompactedSmall.{raised-source1, start0_in, start0_source, start1-is}
+use Rattle.clr_model.proofs.CompactedAges.{generation_by, promoted}
 use Rattle.clr_model.proofs.MovedPlaces.{moved-is, survivor-covered, IsCovered, covered}
 use Rattle.clr_model.proofs.SweptLawful.{sweep_tiles, sweep_end}
 use Rattle.clr_model.proofs.AfterLayout.{layout_after, generation_after}

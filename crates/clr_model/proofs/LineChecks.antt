@@ -173,6 +173,31 @@ module _ (i : Instruction) (t : ℕ) (locals : List ℕ) (more : Machine
   pub line_passes : MayRun s t → AreLocals locals → first_refusal s i ≡ first_of_all (more s)
   line_passes run all = refusal-by run false (none_away locals all)
 
+  -- such a line is refused in the picture just where it is refused, if the other checks see the same there
+  pub line_alike : more (picture s) ≡ more s → first_refusal (picture s) i ≡ first_refusal s i
+  line_alike same =
+      line.checks (picture s)
+      ∙ (λ j. line_checks t (is_thread t) s.holder (is_step-picture s t j) (is_away locals) (same j))
+      ∙ sym (line.checks s)
+
+  -- where no check fails, none of the others does
+  pub line_passed : first_refusal s i ≡ None → first_of_all (more s) ≡ None
+  line_passed e =
+      others (is_thread t)
+      (with_some s.holder (λ h. refuse_if (not (h == t) && not (is_step (step_of s t))) (Blocked h)))
+      (is_step (step_of s t)) (is_away locals) (sym (line.checks s) ∙ e)
+    where
+      others : (thread : Bool) (c : Option Refusal) (stepping away : Bool)
+          → first_of_all (refuse_if (not thread) UnknownThread ∷ c ∷ refuse_if (stepping && true) MidStep
+          ∷ refuse_if (not stepping && false) NotMidStep ∷ None ∷ None ∷ None ∷ None ∷ refuse_if away NoSlot
+          ∷ more s) ≡ None
+          → first_of_all (more s) ≡ None
+      others false c stepping away e = absurd cc
+      others true (Some r) stepping away e = absurd cc
+      others true None true away e = absurd cc
+      others true None false true e = absurd cc
+      others true None false false e = e
+
 -- ---- lines that work on a slot
 
 module _ (i : Instruction) (t : ℕ) (locals : List ℕ) (object index : ℕ) (wants : Bool)
@@ -231,21 +256,14 @@ module _ (i : Instruction) (t : ℕ) (locals : List ℕ) (object index : ℕ) (w
         decided false = refl
 
 -- where no check fails, the slot is there and is of the kind that is wanted
-passed_by : (thread : Bool) (c : Option Refusal) (stepping away is_null beyond is_reference wants : Bool)
-    → first_of_all (refuse_if (not thread) UnknownThread ∷ c ∷ refuse_if (stepping && true) MidStep
-    ∷ refuse_if (not stepping && false) NotMidStep ∷ None ∷ None ∷ None ∷ None ∷ refuse_if away NoSlot
-    ∷ slot_checks is_null beyond is_reference wants) ≡ None
-    → (beyond ≡ false) × (is_reference ≡ wants)
-passed_by false c stepping away is_null beyond is_reference wants e = absurd cc
-passed_by true (Some r) stepping away is_null beyond is_reference wants e = absurd cc
-passed_by true None true away is_null beyond is_reference wants e = absurd cc
-passed_by true None false true is_null beyond is_reference wants e = absurd cc
-passed_by true None false false true beyond is_reference wants e = absurd cc
-passed_by true None false false false true is_reference wants e = absurd cc
-passed_by true None false false false false true true e = (refl, refl)
-passed_by true None false false false false true false e = absurd cc
-passed_by true None false false false false false true e = absurd cc
-passed_by true None false false false false false false e = (refl, refl)
+passed_by : (is_null beyond is_reference wants : Bool)
+    → first_of_all (slot_checks is_null beyond is_reference wants) ≡ None → (beyond ≡ false) × (is_reference ≡ wants)
+passed_by true beyond is_reference wants e = absurd cc
+passed_by false true is_reference wants e = absurd cc
+passed_by false false true true e = (refl, refl)
+passed_by false false true false e = absurd cc
+passed_by false false false true e = absurd cc
+passed_by false false false false e = (refl, refl)
 
 pub slot_passed : (i : Instruction) (t : ℕ) (locals : List ℕ) (object index : ℕ) (wants : Bool)
     → IsSlotLine i t locals object index wants → (s : Machine) → first_refusal s i ≡ None
@@ -253,10 +271,9 @@ pub slot_passed : (i : Instruction) (t : ℕ) (locals : List ℕ) (object index 
     × (is_reference_slot (slice_get (slots_of_named s (local_of s t object)) index) ≡ wants)
 slot_passed i t locals object index wants line s e =
     let slots = slots_of_named s (local_of s t object) in
-    let (low, kind) = passed_by (is_thread t)
-    (with_some s.holder (λ h. refuse_if (not (h == t) && not (is_step (step_of s t))) (Blocked h)))
-    (is_step (step_of s t)) (is_away locals) (local_of s t object == 0) (nat_le (length slots) index)
-    (is_reference_slot (slice_get slots index)) wants (sym (line.checks s) ∙ e) in
+    let (low, kind) = passed_by (local_of s t object == 0) (nat_le (length slots) index)
+    (is_reference_slot (slice_get slots index)) wants
+    (line_passed i t locals (slot_more t object index wants) line s e) in
     (leb-false (length slots) index low, kind)
 
 -- what is read stands in the list

@@ -1,7 +1,7 @@
 -- Lines that read and write slots and locals: what is to follow from each refusal and from each success, on what is
 -- seen.
 use Rattle.std.proofs.Common.{◌≡◌, ◌≢◌, ℕ, ◌^◌, ◌<◌, ◌≤◌, List, [], ◌∷◌, length, refl, ap, subst, ◌∙◌, Bool, true}
-use Rattle.std.proofs.Common.{false, if◌then◌else◌, not, Some, None}
+use Rattle.std.proofs.Common.{false, if◌then◌else◌, not, Option, Some, None}
 use Rattle.std.specs.Prelude.{slice_get}
 use Rattle.clr_types.specs.Rising.{IsIn}
 use Rattle.clr_types.specs.Types.{form_at}
@@ -13,20 +13,61 @@ use Rattle.clr_model.specs.Lookups.{is_thread, object_named, local_of}
 use Rattle.clr_model.specs.Updates.{with_local, with_slot}
 use Rattle.clr_model.specs.Instructions.{Instruction, get_slot, set_slot, put_number, read_number, copy_local}
 use Rattle.clr_model.specs.Instructions.{clear_local}
-use Rattle.clr_model.specs.Checks.{is_reference_slot}
-use Rattle.clr_model.specs.Outcomes.{answered, refused}
-use Rattle.clr_model.specs.Step.{Obeys, stored_number}
+use Rattle.clr_model.specs.Checks.{is_reference_slot, first_of_all}
+use Rattle.clr_model.specs.Outcomes.{Outcome, answered, refused}
+use Rattle.clr_model.specs.Step.{Obeys, Does, stored_number}
 use Rattle.clr_model.specs.Lawful.{IsPlaceNamed, is_reference_value}
 use Rattle.clr_model.specs.Run.{Follows}
 use Rattle.clr_model.proofs.Carried.{IsAlike, follows_alike, follows_if_stands}
-use Rattle.clr_model.proofs.LineChecks.{MayRun, AreLocals, IsSlotLine, IsLocalLine, slot_more, no_more, get_line}
-use Rattle.clr_model.proofs.LineChecks.{set_line, put_line, read_line, copy_line, clear_line, line_refuses_thread}
+use Rattle.clr_model.proofs.LineChecks.{MayRun, AreLocals, IsSlotLine, IsThreadLine, no_more, get_line, set_line}
+use Rattle.clr_model.proofs.LineChecks.{put_line, read_line, copy_line, clear_line, line_refuses_thread, line_passes}
 use Rattle.clr_model.proofs.LineChecks.{line_refuses_local, slot_refuses_null, slot_refuses_index, slot_refuses_kind}
 use Rattle.clr_model.proofs.LineChecks.{read-within, get_obeys, set_obeys, put_obeys, read_obeys, copy_obeys}
-use Rattle.clr_model.proofs.LineChecks.{clear_obeys}
+use Rattle.clr_model.proofs.LineChecks.{clear_obeys, obeys_refusal, obeys_done}
 use Rattle.clr_model.proofs.SlotLines.{get_alike, set_alike, put_alike, read_alike, copy_alike, clear_alike}
 use Rattle.clr_model.proofs.SlotLines.{get_follows, set_follows, put_follows, read_follows, copy_follows, clear_follows}
 use Rattle.clr_model.proofs.SeenSound.{seen_sound, found-at, place_of-seen, local-seen, slot-seen}
+
+-- ---- lines of a thread
+
+-- a line of a thread, with the locals that it names and what it is then checked by
+pub record ThreadLine : Type 0 where
+  pub instruction : Instruction
+  pub thread : ℕ
+  pub locals : List ℕ
+  pub more : Machine → List (Option Refusal)
+  pub line : IsThreadLine instruction thread locals more
+  pub alike : IsAlike instruction
+
+module _ (s : Machine) (l : ThreadLine) where
+  -- a thread that there is not
+  pub line_follows_thread : is_thread l.thread ≡ false → Follows s l.instruction (refused UnknownThread) s
+  line_follows_thread none =
+      follows_alike l.instruction l.alike s (refused UnknownThread) s
+      (line_refuses_thread l.instruction l.thread l.locals l.more l.line s none)
+
+  -- a local that there is not
+  pub line_follows_local : MayRun s l.thread → (k : ℕ) → IsIn k l.locals → 64 ≤ k
+      → Follows s l.instruction (refused NoSlot) s
+  line_follows_local run k i high =
+      follows_alike l.instruction l.alike s (refused NoSlot) s
+      (line_refuses_local l.instruction l.thread l.locals l.more l.line s run k i high)
+
+  module _ (run : MayRun s l.thread) (all : AreLocals l.locals) where
+    -- another check that fails
+    pub line_follows_check : (r : Refusal) → first_of_all (l.more s) ≡ Some r → Follows s l.instruction (refused r) s
+    line_follows_check r e =
+        follows_alike l.instruction l.alike s (refused r) s
+        (obeys_refusal s l.instruction r
+        (line_passes l.instruction l.thread l.locals l.more l.line s run all ∙ e))
+
+    -- what the line does where none fails
+    pub line_follows_done : first_of_all (l.more s) ≡ None → (outcome : Outcome) (after : Machine)
+        → Does s l.instruction outcome after → Follows s l.instruction outcome after
+    line_follows_done e outcome after does =
+        follows_alike l.instruction l.alike s outcome after
+        (obeys_done s l.instruction outcome after
+        (line_passes l.instruction l.thread l.locals l.more l.line s run all ∙ e) does)
 
 -- ---- lines that work on a slot
 
@@ -101,18 +142,6 @@ pub record WorksOn (s : Machine) (l : SlotLine) (o : Object) : Type 0 where
 module _ (s : Machine) (l : SlotLine) where
   by_checks : (r : Refusal) → Obeys s l.instruction (refused r) s → Follows s l.instruction (refused r) s
   by_checks r = follows_alike l.instruction l.alike s (refused r) s
-
-  -- a thread that there is not
-  pub slot_follows_thread : is_thread l.thread ≡ false → Follows s l.instruction (refused UnknownThread) s
-  slot_follows_thread none = by_checks UnknownThread
-      (line_refuses_thread l.instruction l.thread l.locals (slot_more l.thread l.object l.index l.wants) l.line s none)
-
-  -- a local that there is not
-  pub slot_follows_local : MayRun s l.thread → (k : ℕ) → IsIn k l.locals → 64 ≤ k
-      → Follows s l.instruction (refused NoSlot) s
-  slot_follows_local run k i high =
-      by_checks NoSlot (line_refuses_local l.instruction l.thread l.locals
-      (slot_more l.thread l.object l.index l.wants) l.line s run k i high)
 
   -- a local that is null
   pub slot_follows_null : MayRun s l.thread → AreLocals l.locals → local_of s l.thread l.object ≡ 0
@@ -196,43 +225,25 @@ module _ (s : Machine) (t : ℕ) where
 
 -- ---- lines that work on locals alone
 
-pub record LocalLine : Type 0 where
-  pub instruction : Instruction
-  pub thread : ℕ
-  pub locals : List ℕ
-  pub line : IsLocalLine instruction thread locals
-  pub alike : IsAlike instruction
-
-abbrev pub copy_of : (t to from : ℕ) → LocalLine
+abbrev pub copy_of : (t to from : ℕ) → ThreadLine
 copy_of t to from = record {
   instruction = copy_local t to from;
   thread = t;
   locals = to ∷ from ∷ [];
+  more = λ s. None ∷ None ∷ None ∷ no_more;
   line = copy_line t to from;
   alike = copy_alike t to from;
 }
 
-abbrev pub clear_of : (t local : ℕ) → LocalLine
+abbrev pub clear_of : (t local : ℕ) → ThreadLine
 clear_of t local = record {
   instruction = clear_local t local;
   thread = t;
   locals = local ∷ [];
+  more = λ s. None ∷ None ∷ None ∷ no_more;
   line = clear_line t local;
   alike = clear_alike t local;
 }
-
-module _ (s : Machine) (l : LocalLine) where
-  -- a thread that there is not
-  pub local_follows_thread : is_thread l.thread ≡ false → Follows s l.instruction (refused UnknownThread) s
-  local_follows_thread none = follows_alike l.instruction l.alike s (refused UnknownThread) s
-      (line_refuses_thread l.instruction l.thread l.locals (λ s. None ∷ None ∷ None ∷ no_more) l.line s none)
-
-  -- a local that there is not
-  pub local_follows_local : MayRun s l.thread → (k : ℕ) → IsIn k l.locals → 64 ≤ k
-      → Follows s l.instruction (refused NoSlot) s
-  local_follows_local run k i high =
-      follows_alike l.instruction l.alike s (refused NoSlot) s
-      (line_refuses_local l.instruction l.thread l.locals (λ s. None ∷ None ∷ None ∷ no_more) l.line s run k i high)
 
 module _ (s : Machine) (t : ℕ) (run : MayRun s t) where
   -- a local goes into another, and is the answer

@@ -30,8 +30,9 @@ use Rattle.clr_model.proofs.CondemnedParts.{taking-is}
 use Rattle.clr_model.specs.Lawful.{IsLaid}
 use Rattle.clr_model.proofs.LawfulPieces.{HasHome, piece-home, pieces-apart, places-distinct, object-in-pieces}
 use Rattle.clr_model.proofs.LawfulSurvivors.{aged, IsSurvivor, survivor-is, compaction_condemned}
-use Rattle.clr_model.proofs.CompactedSmall.{AreCondemned, free_before_pin, none_overlap, none_rises, walked_whole}
-use Rattle.clr_model.proofs.CompactedSmall.{whole_line, whole-is, complete, source, landed-above}
+use Rattle.clr_model.proofs.CondemnedPlugs.{AreCondemned, line-is, line-complete}
+use Rattle.clr_model.proofs.CompactedSmall.{free_before_pin, landed-above, none_overlap, none_rises, source}
+use Rattle.clr_model.proofs.CompactedSmall.{walked_whole, whole_line}
 
 -- ---- survivors and their plugs
 
@@ -149,7 +150,7 @@ module _ (m : Machine) (h : IsLaid m) (g : ℕ) (least : g ≤ 2) (keeps : ℕ
       let (p, j, l) = plug_of_move (IsLanded c.segments c.plugs (source m.layout g kept moves new c ready))
       (whole_line m.layout g kept moves new c ready) moves v
       (walked_whole m.layout g kept moves new c ready).landed i in
-      (p, whole-is m.layout g kept moves new c ready p j, l)
+      (p, line-is c.plugs p j, l)
 
   -- a kept condemned object of the small heap is a survivor
   pub is_small-survivor : (o : Object) → IsIn o m.objects → keeps o.name ≡ true → generation m.layout o.place ≤ g
@@ -175,7 +176,7 @@ module _ (m : Machine) (h : IsLaid m) (g : ℕ) (least : g ≤ 2) (keeps : ℕ
       let known : IsIn p c.plugs = subst (IsIn p) (sym c.plugs_are) j in
       let (v, k, l) = move_of_plug (IsLanded c.segments c.plugs (source m.layout g kept moves new c ready))
       (whole_line m.layout g kept moves new c ready) moves p (walked_whole m.layout g kept moves new c ready).landed
-      (complete m.layout g kept moves new c ready p known) in
+      (line-complete m.layout g c.segments c.plugs ready p known) in
       let s : v.start ≡ p.start = l.start in
       let z : v.size ≡ p.size = l.size in
       let t : 24 ≤ (survivor m o).size = (survivor-is m h g least keeps (survivor m o) i).size in

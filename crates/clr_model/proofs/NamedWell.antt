@@ -6,7 +6,6 @@ use Rattle.std.proofs.lemmas.Bool.{eqb-true, eq-eqb, ne_eqb, cases_eq}
 use Rattle.std.specs.Option.{option_map}
 use Rattle.std.specs.List.{AllByRecursion}
 use Rattle.std.specs.FinMap as finmap
-use Rattle.std.specs.Ordering.{nat_cmp, eq_by_cmp}
 use Rattle.clr_types.specs.Rising.{IsIn, first, later, Tests}
 use Rattle.clr_types.proofs.RisingLists.{in_cons, all_at}
 use Rattle.clr_types.proofs.SortedLists.{into_sorted_by, out_of_sorted_by}
@@ -20,6 +19,7 @@ use Rattle.clr_types.specs.Segments.{generation, first_place}
 use Rattle.clr_model.proofs.Reaching.{reach_renamed, reach_from_renamed}
 use Rattle.clr_types.proofs.MapValues.{get-map_values}
 use Rattle.clr_model.proofs.Apart.{AreApart, place_of-member, places_keep_apart, places_keep_null}
+use Rattle.clr_model.proofs.HandleTables.{value_at}
 use Rattle.clr_model.proofs.Naming.{KeepsApart}
 use Rattle.clr_types.proofs.ChangedLists.{IsIn-map, all_members, rising-distinct}
 use Rattle.clr_types.proofs.ListMembers.{from-map}
@@ -49,19 +49,6 @@ found_named (o ∷ os) x e = go (o.name == x) refl e (found_named os x)
     go true f e more = (o, first, eqb-true o.name x f)
     go false f e more = let (p, i, n) = more e in (p, later i, n)
 
-find-entry : {X : Type 0} (k : ℕ) (es : List (ℕ × X)) (x : X) → finmap.find nat_cmp k es ≡ Some x
-    → IsIn x (map (λ e. e.1) es)
-find-entry k [] x e = absurd cc
-find-entry k (f ∷ es) x e = go (eq_by_cmp nat_cmp k f.0) e (find-entry k es x)
-  where
-    same : Some f.1 ≡ Some x → f.1 ≡ x
-    same e = cc
-
-    go : (b : Bool) → (if b then Some f.1 else finmap.find nat_cmp k es) ≡ Some x
-        → (finmap.find nat_cmp k es ≡ Some x → IsIn x (map (λ e. e.1) es)) → IsIn x (f.1 ∷ map (λ e. e.1) es)
-    go true e more = subst (λ y. IsIn y (f.1 ∷ map (λ e. e.1) es)) (same e) first
-    go false e more = later (more e)
-
 -- a lawful machine's names are sound
 pub lawful-named : (m : Machine) → IsLawful m → AreNamed m
 lawful-named m h = record {
@@ -78,8 +65,8 @@ lawful-named m h = record {
       (all_at (λ (o : Object). AllByRecursion (SlotIsPresent m) o.slots) i h.names.slots));
   locals = λ x i. null_or (all_at (IsNullOrPresent m) i h.names.locals);
   handles = λ k row e. let both =
-      all_at (λ (row : Handle). IsNullOrPresent m row.target × IsNullOrPresent m row.second)
-      (find-entry k (finmap.entries m.handles) row (sym (finmap.get-entries m.handles k) ∙ e)) h.names.handles in
+      value_at (λ (row : Handle). IsNullOrPresent m row.target × IsNullOrPresent m row.second) m.handles
+      h.names.handles k row e in
       (null_or both.0, null_or both.1);
   entries = λ x i. found_named m.objects x (all_at (IsPresent m) i h.names.entries);
   ready = λ x i. inr (found_named m.objects x (all_at (IsPresent m) i h.names.ready));
@@ -202,7 +189,8 @@ module _ (m : Machine) (h : AreNamed m) where
           (y, f, inl (subst (λ k. SlotNames m.objects k y) n s))
       go (o, i, n) (inr e) = let (y, f, s) =
           second-from_picture m h.apart (λ k row q. (h.handles k row q).0) o i z
-          (subst (λ k. SecondOf (picture m) (to k) z) (sym n) e) in (y, f, inr (subst (λ k. SecondOf m k y) n s))
+          (subst (λ k. SecondOf (picture m).handles (to k) z) (sym n) e) in
+          (y, f, inr (subst (λ k. SecondOf m.handles k y) n s))
 
   -- tests by place: what the picture reaches from its start
   pub tests-carried : (start start' : ℕ → Type 0) → ((x : ℕ) → start x → HasObject m.objects x)

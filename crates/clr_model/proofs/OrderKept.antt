@@ -23,8 +23,8 @@ use Rattle.clr_model.proofs.PlugWalk.{Each, AreOrdered, IsLanded, each_from, eac
 use Rattle.clr_model.proofs.CondemnedParts.{taking-is, ephemeral-takes, young-only}
 use Rattle.clr_model.proofs.LawfulPieces.{HasHome, piece-home, object-in-pieces}
 use Rattle.clr_model.proofs.LawfulSurvivors.{generation-least, aged}
-use Rattle.clr_model.proofs.CompactedSmall.{AreCondemned, source, whole_line, whole-is, whole_rises, walked_whole}
-use Rattle.clr_model.proofs.CompactedSmall.{order_kept}
+use Rattle.clr_model.proofs.CondemnedPlugs.{AreCondemned, line-is, line-rises}
+use Rattle.clr_model.proofs.CompactedSmall.{order_kept, source, walked_whole, whole_line}
 use Rattle.clr_model.proofs.CollectedObjects.{begun, begun_laid, compacting, small_is, moved_object}
 use Rattle.clr_model.proofs.MovedPlaces.{ready, moved-is, LandsIn, lands-in, IsCovered, covered, survivor-covered}
 use Rattle.clr_model.proofs.MovedPlaces.{is_small-survivor, object_lower, pinned_stays}
@@ -89,7 +89,7 @@ module _ (m : Machine) (h : IsLaid m) (g : ℕ) (least : g ≤ 2) (keeps : ℕ �
     -- the plug of an object that isn't pinned isn't either, and it is the one that starts there
     free-plug : (o : Object) (v : Move) → is_pinned m o.name ≡ false → Covered o v → IsFreeAt line v.start
     free-plug o v unpinned is p i e =
-        let known : IsIn p c.plugs = whole-is m.layout g kept moves new c prepared p i in
+        let known : IsIn p c.plugs = line-is c.plugs p i in
         let same : p ≡ is.plug =
         one_plug c.segments c.plugs prepared.plugs p is.plug known is.known (e ∙ is.landed.start) in
         ap (λ (q : Plug). q.pinned) same ∙ sym is.pinned ∙ unpinned
@@ -102,7 +102,7 @@ module _ (m : Machine) (h : IsLaid m) (g : ℕ) (least : g ≤ 2) (keeps : ℕ �
       where
         order : v.start ≤ w.start → (v ≡ w) ⊎ (v.to + v.size ≤ w.to)
         order l =
-            ordered-moves line moves (whole_rises m.layout g kept moves new c prepared) starts-line
+            ordered-moves line moves (line-rises m.layout g c.segments c.plugs prepared) starts-line
             (order_kept m.layout g kept moves new c prepared) v w i j
             (free-plug a v free_a p) (free-plug b w free_b q) l
 

@@ -1,8 +1,8 @@
 -- Where the plugs of a compaction stand afterwards: apart, each segment's with lawful gaps, and gaps before pins alone.
 use Rattle.std.proofs.Common.{◌≡◌, ℕ, ◌+◌, ◌%◌, ◌<◌, ◌≤◌, ◌⊎◌, inl, inr, List, [], ◌∷◌, ◌++◌, map, refl, sym, ap}
-use Rattle.std.proofs.Common.{subst, ◌∙◌, arith, Bool, true, false, filter, ◌&&◌, nat_le, nat_lt, ◌==◌}
-use Rattle.std.proofs.Common.{max}
-use Rattle.std.proofs.lemmas.Bool.{cases_lt, leb-true, ltb-true, le-leb, lt-ltb, and_parts, and_from, eqb-true, eq-eqb}
+use Rattle.std.proofs.Common.{subst, ◌∙◌, arith, Bool, true, false, filter, ◌&&◌, nat_le, nat_lt, ◌==◌, max}
+use Rattle.std.proofs.lemmas.Bool.{cases_lt, leb-true, ltb-true, le-leb, lt-ltb, and_parts, and_from, eqb-true}
+use Rattle.std.proofs.lemmas.Bool.{eq-eqb}
 use Rattle.clr_types.specs.Rising.{IsIn, first, later, IsRisingBy}
 use Rattle.clr_types.specs.Ranges.{Piece, piece_end, IsLawfulSize, Tiles, gaps, end_of_last, by_place}
 use Rattle.clr_types.proofs.RisingLists.{in_cons, all_at}
@@ -17,11 +17,12 @@ use Rattle.clr_types.proofs.PieceGaps.{IsGapped, IsEnd, IsJoined, AreBlocks, IsG
 use Rattle.clr_types.proofs.PieceGaps.{blocks-and-gaps-tile}
 use Rattle.clr_model.proofs.PlugRoom.{IsPlug, ArePlugs, IsOutside, IsClear, room-clear, fit-between, in_segment}
 use Rattle.clr_types.proofs.SegmentFacts.{AreSeparate}
-use Rattle.clr_model.proofs.PlugPointer.{IsNear, IsEdge, edge-outside}
-use Rattle.clr_model.proofs.PlugWalk.{Walk, AreInLine, IsNearFirst, IsLanded, IsWalked, IsSource}
-use Rattle.clr_model.proofs.PlugWalk.{walked, each_both, plug_of_move, move_of_plug}
+use Rattle.clr_model.proofs.PlugPointer.{IsEdge, edge-outside}
+use Rattle.clr_model.proofs.PlugWalk.{Walk, AreInLine, IsLanded, IsWalked, IsSource, walked, each_both, plug_of_move}
+use Rattle.clr_model.proofs.PlugWalk.{move_of_plug}
 use Rattle.clr_model.proofs.PlugsApart.{AreScattered, landed-scattered, piece_of_move, raised_is, raised_up}
 use Rattle.clr_model.proofs.PlugsApart.{scattered-apart, scattered-distinct}
+use Rattle.clr_model.proofs.FirstPointer.{AreStarts, first-near, first-outside, first-aligned}
 
 -- ---- in one segment
 
@@ -32,19 +33,6 @@ pub record IsBeforePin (all : List Plug) (f : Piece) : Type 0 where
   pub pinned : plug.pinned ≡ true
   pub ends : piece_end f ≡ plug.start
   pub lawful : IsLawfulSize f.size
-
--- where the part of each segment starts, the first of these being where the pointer begins
-pub record AreStarts (segments : List SegInfo) (all : List Plug) (start : SegInfo → ℕ) (pointer : ℕ) : Type 0 where
-  pub base : SegInfo
-  pub among : IsIn base segments
-  pub begins : start base ≡ pointer
-  pub lowest : (s : SegInfo) → IsIn s segments → pointer ≤ start s
-  pub low : (s : SegInfo) → IsIn s segments → first_place s ≤ start s
-  pub high : (s : SegInfo) → IsIn s segments → start s ≤ reserved_end s
-  pub each : (s : SegInfo) → IsIn s segments → (start s ≡ pointer) ⊎ (start s ≡ first_place s)
-  pub plugs : (s : SegInfo) (p : Plug) → IsIn s segments → IsIn p all → p.segment ≡ s.base → IsGapped (start s) p.start
-  pub aligned : (s : SegInfo) → IsIn s segments → (first_place s % 8 ≡ 0) × (start s % 8 ≡ 0)
-  pub whole : (p : Plug) → IsIn p all → (p.start % 8 ≡ 0) × (p.size % 8 ≡ 0)
 
 module _ (segments : List SegInfo) (all : List Plug) (whole : List Move) (pointer : ℕ) where
   -- the end of a plug that was placed
@@ -93,40 +81,10 @@ module _ (segments : List SegInfo) (all : List Plug) (h : ArePlugs segments all)
       );
     }
 
-    -- the pointer begins near the first plug
-    pub first-near : (qs : List Plug) → AreInLine all qs → IsNearFirst segments all pointer qs
-    first-near [] line = tt
-    first-near (p ∷ qs) line = go (st.each is.home is.among) (st.plugs is.home p is.among line.0 is.of)
-      where
-        is : IsPlug segments p
-        is = h.each p line.0
-
-        far : pointer ≤ first_place is.home → first_place is.home ≤ p.start → IsGapped (first_place is.home) p.start
-            → (pointer < first_place is.home) ⊎ (first_place is.home ≤ pointer) → IsNear segments all pointer p.start
-        far l m g (inl up) = (omega arith, inr (inr (is.home, is.among, up, m)))
-        far l m g (inr down) = (omega arith, inl (subst (λ n. IsGapped n p.start) (omega arith) g))
-
-        go : (start is.home ≡ pointer) ⊎ (start is.home ≡ first_place is.home) → IsGapped (start is.home) p.start
-            → IsNear segments all pointer p.start
-        go (inl e) g = (omega arith, inl (subst (λ n. IsGapped n p.start) e g))
-        go (inr e) g = let l : pointer ≤ start is.home = st.lowest is.home is.among in
-            far (omega arith) (omega arith) (subst (λ n. IsGapped n p.start) e g)
-            (cases_lt pointer (first_place is.home))
-
-    pub first-outside : IsOutside all pointer
-    first-outside p i pinned =
-        let is : IsPlug segments p = h.each p i in
-        let g : IsGapped (start is.home) p.start = st.plugs is.home p is.among i is.of in
-        let l : pointer ≤ start is.home = st.lowest is.home is.among in
-        inl (omega arith)
-
-    pub first-aligned : pointer % 8 ≡ 0
-    first-aligned = let (a, b) = st.aligned st.base st.among in let e : start st.base ≡ pointer = st.begins in
-        omega arith
-
     pub done : IsWalked segments all source pointer ps whole after
     done = walked segments all h whole source sources pointer ps whole after walk line
-        (first-near ps line) first-outside (first-aligned, inl refl) (λ v i. i)
+        (first-near segments all h start pointer st ps line) (first-outside segments all h start pointer st)
+        (first-aligned segments all h start pointer st, inl refl) (λ v i. i)
 
     abbrev pub blocks_in : SegInfo → List Piece
     blocks_in s = pieces_in s (moved_pieces whole)

@@ -5,13 +5,15 @@ use Rattle.std.specs.Prelude.{slice_get}
 use Rattle.std.specs.List.{AllByRecursion}
 use Rattle.std.specs.Option.{option_map}
 use Rattle.clr_types.specs.Rising.{IsIn}
+use Rattle.clr_types.specs.Types.{has_finalizer, type_row}
 use Rattle.clr_types.proofs.SortedLists.{find_by-member}
 use Rattle.clr_model.specs.Machine.{Value, ref, num, Object, Machine}
 use Rattle.clr_model.specs.Lookups.{place_of, place_or_null, object_named, local_of, local_index, slots_or_none}
 use Rattle.clr_model.specs.Lookups.{slots_of_named}
 use Rattle.clr_model.specs.Picture.{picture, renamed_value, renamed_object}
 use Rattle.clr_model.specs.Checks.{is_reference_slot}
-use Rattle.clr_model.specs.Lookups.{type_of_object, type_of_named}
+use Rattle.clr_model.specs.Lookups.{type_of_object, type_of_named, object_has_finalizer}
+use Rattle.clr_model.specs.Reach.{is_suppressed, suppressed_or_none}
 use Rattle.clr_model.specs.Step.{name_in, number_in}
 use Rattle.clr_model.specs.Lawful.{IsBirthNamed, IsNullOrPresent, SlotIsPresent}
 use Rattle.clr_model.proofs.Apart.{place_of-member}
@@ -49,6 +51,11 @@ number-renamed to (v ∷ vs) (suc i) = number-renamed to vs i
 type-renamed : (to : ℕ → ℕ) (r : Option Object) → type_of_object (option_map (renamed_object to) r) ≡ type_of_object r
 type-renamed to None = refl
 type-renamed to (Some o) = refl
+
+flag-renamed : (to : ℕ → ℕ) (r : Option Object)
+    → suppressed_or_none (option_map (renamed_object to) r) ≡ suppressed_or_none r
+flag-renamed to None = refl
+flag-renamed to (Some o) = refl
 
 -- ---- names that are present
 
@@ -158,3 +165,14 @@ module _ (m : Machine) (named : IsBirthNamed m) where
         ap (type_of_named (picture m)) (local_of-picture m t k)
         ∙ ap type_of_object (object_named-picture m (local_of m t k) (keeps_apart m names (local_of m t k)))
         ∙ type-renamed to (object_named m.objects (local_of m t k))
+
+    -- whether its type has a finaliser, and whether that is suppressed
+    pub final-seen : object_has_finalizer (picture m) (local_of (picture m) t k)
+        ≡ object_has_finalizer m (local_of m t k)
+    final-seen = ap (λ n. has_finalizer (type_row m.types n)) type-seen
+
+    pub flag-seen : is_suppressed (picture m) (local_of (picture m) t k) ≡ is_suppressed m (local_of m t k)
+    flag-seen =
+        ap (is_suppressed (picture m)) (local_of-picture m t k)
+        ∙ ap suppressed_or_none (object_named-picture m (local_of m t k) (keeps_apart m names (local_of m t k)))
+        ∙ flag-renamed to (object_named m.objects (local_of m t k))

@@ -23,12 +23,13 @@ use Rattle.clr_model.specs.Lawful.{IsBirthNamed, IsFinal, IsPlaceNamed, IsShaped
 use Rattle.clr_model.specs.Lawful.{HasItsRoom, AllFrom, IsPresent, IsNullOrPresent, SlotIsPresent, StepIsPresent}
 use Rattle.clr_model.specs.Lawful.{NamesArePresent, HasItsSecond, is_reference_value}
 use Rattle.clr_model.specs.Run.{StandsFor}
-use Rattle.clr_types.proofs.MapValues.{entries-map_values, keys-map_values, values-map_values, changed}
+use Rattle.clr_types.proofs.MapValues.{keys-map_values, values-map_values}
+use Rattle.clr_model.proofs.HandleTables.{len-map_values}
 use Rattle.clr_model.proofs.BoundedSums.{HaveSameBytes, bounded_alike, bytes_renamed}
 use Rattle.clr_model.proofs.Apart.{place_of-member}
 use Rattle.clr_model.proofs.Naming.{object_named-picture, slots_of_named-picture}
 use Rattle.clr_model.proofs.NamedWell.{AreNamed, lawful-named, keeps_apart, place-above, found_named, HasObject}
-use Rattle.clr_model.proofs.LocalChanged.{slice_get-map}
+use Rattle.clr_model.proofs.ObjectChanged.{slice_get-map}
 use Rattle.clr_model.proofs.SeenNames.{all-slice_index}
 use Rattle.clr_model.proofs.CollectionLaws.{picture_laid, picture_apart}
 
@@ -179,11 +180,6 @@ module _ (m : Machine) (born : IsBirthNamed m) where
   rooms-seen u [] all = tt
   rooms-seen u (s ∷ ss) all = (room u s all.0, rooms-seen (u + 1) ss all.1)
 
-  handle_count-seen : finmap.len seen.handles ≡ finmap.len m.handles
-  handle_count-seen =
-      finmap.len-entries seen.handles ∙ ap length (entries-map_values (renamed_row to) m.handles)
-      ∙ length-map (finmap.entries m.handles) (changed (renamed_row to)) ∙ sym (finmap.len-entries m.handles)
-
   -- The picture of a lawful machine is lawful, and its objects are named by their places.
   pub picture_sound : IsPlaceNamed (picture m)
   picture_sound =
@@ -214,7 +210,7 @@ module _ (m : Machine) (born : IsBirthNamed m) where
           steps = length-map m.steps (renamed_step to) ∙ h.steps;
           rooms = rooms-seen 1 m.steps h.rooms;
           holder = h.holder;
-          handle_count = let same = handle_count-seen in let l = h.handle_count in omega arith;
+          handle_count = let same = len-map_values (renamed_row to) m.handles in let l = h.handle_count in omega arith;
           handle_numbers = keys-map_values (renamed_row to) (λ n. n < 65536) m.handles h.handle_numbers;
           entries = all_names (IsFinal m) (IsFinal seen) m.entries final h.entries;
           ready = all_names (IsFinal m) (IsFinal seen) m.ready final h.ready;
@@ -226,7 +222,7 @@ module _ (m : Machine) (born : IsBirthNamed m) where
 
 -- what stands for a machine is lawful, and its objects are named by their places
 pub seen_sound : (seen m : Machine) → StandsFor seen m → IsPlaceNamed seen
-seen_sound seen m stands = subst IsPlaceNamed stands.seen_is (picture_sound m stands.lawful)
+seen_sound shown m stands = subst IsPlaceNamed stands.seen_is (picture_sound m stands.lawful)
 
 -- ---- what is seen at a name
 

@@ -26,7 +26,7 @@ use Rattle.clr_model.proofs.Joined.{IsNullOrNamed}
 use Rattle.clr_model.proofs.LawfulPieces.{HasHome, piece-home, object-in-pieces}
 use Rattle.clr_model.proofs.Opening.{opening_stands}
 use Rattle.clr_model.proofs.NamedWell.{lawful-named}
-use Rattle.clr_model.proofs.LocalChanged.{shaped_alike}
+use Rattle.clr_model.proofs.RootsChanged.{shaped_alike}
 use Rattle.clr_model.proofs.FrontBirthSeen.{member-present}
 use Rattle.clr_model.proofs.SeenSound.{place_of-seen, seen_sound}
 

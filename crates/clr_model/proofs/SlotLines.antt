@@ -1,12 +1,12 @@
 -- Lines that read and write slots and locals: what they do to what is seen, they do to each machine that is seen so.
-use Rattle.std.proofs.Common.{◌≡◌, ℕ, ◌%◌, ◌^◌, ◌<◌, List, [], ◌∷◌, length, refl, sym, ap, subst, ◌∙◌, arith, Bool}
-use Rattle.std.proofs.Common.{true, false, if◌then◌else◌, nat_le, Some, None, inl}
+use Rattle.std.proofs.Common.{◌≡◌, ℕ, ◌%◌, ◌^◌, ◌<◌, List, [], ◌∷◌, map, length, refl, sym, ap, subst, ◌∙◌, arith}
+use Rattle.std.proofs.Common.{Bool, true, false, if◌then◌else◌, nat_le, Some, None, inl, slice_set}
 use Rattle.std.specs.Prelude.{slice_get}
 use Rattle.clr_types.specs.Rising.{IsIn}
 use Rattle.clr_types.specs.Types.{Form, form_at, is_bytes}
 use Rattle.clr_model.specs.declared.Reply.TheVariants.{Place, Number}
 use Rattle.clr_model.specs.Machine.{ref, num, Object, Machine}
-use Rattle.clr_model.specs.Lookups.{is_thread, place_of, object_named, local_of, slots_or_none, slots_of_named}
+use Rattle.clr_model.specs.Lookups.{place_of, object_named, local_index, local_of, slots_or_none, slots_of_named}
 use Rattle.clr_model.specs.Picture.{picture}
 use Rattle.clr_model.specs.Updates.{with_local, with_slot}
 use Rattle.clr_model.specs.Instructions.{Instruction, get_slot, set_slot, put_number, read_number, copy_local}
@@ -14,16 +14,17 @@ use Rattle.clr_model.specs.Instructions.{clear_local}
 use Rattle.clr_model.specs.Checks.{refusal as first_refusal, is_reference_slot}
 use Rattle.clr_model.specs.Outcomes.{Outcome, answered}
 use Rattle.clr_model.specs.Lookups.{type_of_object, type_of_named}
-use Rattle.clr_model.specs.Step.{Obeys, stored_number, name_in}
-use Rattle.clr_model.specs.Lawful.{IsBirthNamed, NumberFits}
+use Rattle.clr_model.specs.Step.{Obeys, RepliesName, stored_number, name_in}
+use Rattle.clr_model.specs.Lawful.{IsBirthNamed, IsNullOrPresent, NumberFits}
 use Rattle.clr_model.specs.Run.{Follows}
 use Rattle.clr_model.proofs.Carried.{IsAlike, follows_alike}
 use Rattle.clr_model.proofs.Naming.{local_of-picture, picture-with_local, picture-with_slot}
 use Rattle.clr_model.proofs.NamedWell.{lawful-named, keeps_apart}
-use Rattle.clr_model.proofs.LineChecks.{is_step-picture, is_away, line_checks, slot_checks, IsSlotLine, IsLocalLine}
-use Rattle.clr_model.proofs.LineChecks.{no_more, slot_passed, get_line, set_line, put_line, read_line, copy_line}
-use Rattle.clr_model.proofs.LineChecks.{clear_line}
-use Rattle.clr_model.proofs.LocalChanged.{with_local_lawful, TakesValue, with_slot_lawful, reference-is, number-is}
+use Rattle.clr_model.proofs.LineChecks.{slot_checks, slot_more, IsSlotLine, IsLocalLine, line_alike, no_more}
+use Rattle.clr_model.proofs.LineChecks.{slot_passed, get_line, set_line, put_line, read_line, copy_line, clear_line}
+use Rattle.clr_model.proofs.RootsChanged.{IsLawfulQueue, lawful_handles, lawful_entries, lawful_ready, local_written}
+use Rattle.clr_model.proofs.RootsChanged.{with_roots_lawful, with_local_lawful, picture-with_local_ready}
+use Rattle.clr_model.proofs.ObjectChanged.{TakesValue, with_slot_lawful, reference-is, number-is}
 use Rattle.clr_model.proofs.SeenNames.{local-present, slot-present, found-member, place-seen, local_null-seen}
 use Rattle.clr_model.proofs.SeenNames.{count-seen, kind-seen, name-seen, number-seen, type-seen}
 
@@ -37,35 +38,42 @@ slot-alike i t locals object index wants line m named =
     let null = local_null-seen m named t object in
     let count = count-seen m named t object in
     let kind = kind-seen m named t object index in
-    line.checks (picture m)
-    ∙ (λ j. line_checks t (is_thread t) m.holder (is_step-picture m t j) (is_away locals)
-    (slot_checks (null j) (nat_le (count j) index) (kind j) wants))
-    ∙ sym (line.checks m)
+    line_alike i t locals (slot_more t object index wants) line m
+    (λ j. slot_checks (null j) (nat_le (count j) index) (kind j) wants)
 
 -- and so is one that works on locals alone
 local-alike : (i : Instruction) (t : ℕ) (locals : List ℕ) → IsLocalLine i t locals → (m : Machine) → IsBirthNamed m
     → first_refusal (picture m) i ≡ first_refusal m i
-local-alike i t locals line m named =
-    line.checks (picture m) ∙ (λ j. line_checks t (is_thread t) m.holder (is_step-picture m t j) (is_away locals)
-    (None ∷ None ∷ None ∷ no_more)) ∙ sym (line.checks m)
+local-alike i t locals line m named = line_alike i t locals (λ s. None ∷ None ∷ None ∷ no_more) line m refl
 
 -- ---- locals
+
+-- A name goes into a local, and its place is the answer; the f-reachable queue may become another.
+pub name_put : (m : Machine) → IsBirthNamed m → (t k name seen : ℕ) → seen ≡ place_of m.objects name
+    → IsNullOrPresent m name → (ready : List ℕ) → IsLawfulQueue m ready → (outcome : Outcome) (after : Machine)
+    → RepliesName (picture m) outcome seen after
+    (record (with_local (picture m) t k seen) { ready = map (place_of m.objects) ready })
+    → (next : Machine) × RepliesName m outcome name next (record (with_local m t k name) { ready = ready })
+    × IsBirthNamed next × (picture next ≡ after)
+name_put m named t k name seen is there ready queue outcome after (answer, same) = (
+  record (with_local m t k name) { ready = ready },
+  (
+    answer ∙ ap (λ n. answered (Place n))
+        (ap (place_of (picture m).objects) is ∙ place-seen m named name there),
+    refl,
+  ),
+  with_roots_lawful m named (slice_set m.locals (local_index t k) name) m.handles m.entries ready
+      (local_written m named t k name there) (lawful_handles m named.lawful) (lawful_entries m named.lawful) queue,
+  picture-with_local_ready m t k name ready
+      ∙ sym (same ∙ ap (λ n. record (with_local (picture m) t k n) { ready = map (place_of m.objects) ready }) is),
+)
 
 pub copy_alike : (t to from : ℕ) → IsAlike (copy_local t to from)
 copy_alike t to from = record {
   checks = local-alike (copy_local t to from) t (to ∷ from ∷ []) (copy_line t to from);
-  does = λ m named none outcome after (answer, same).
-      let is = local_of-picture m t from in
-      let there = local-present m named t from in (
-        with_local m t to (local_of m t from),
-        (
-          answer ∙ ap (λ n. answered (Place n))
-              (ap (place_of (picture m).objects) is ∙ place-seen m named (local_of m t from) there),
-          refl,
-        ),
-        with_local_lawful m t to (local_of m t from) named there,
-        picture-with_local m t to (local_of m t from) ∙ sym (same ∙ ap (with_local (picture m) t to) is),
-      );
+  does = λ m named none outcome after replies.
+      name_put m named t to (local_of m t from) (local_of (picture m) t from) (local_of-picture m t from)
+      (local-present m named t from) m.ready (lawful_ready m named.lawful) outcome after replies;
 }
 
 pub clear_alike : (t local : ℕ) → IsAlike (clear_local t local)
@@ -74,8 +82,7 @@ clear_alike t local = record {
   does = λ m named none outcome after (answer, same). (
     with_local m t local 0,
     (answer, refl),
-    with_local_lawful m t local 0 named
-        (inl refl),
+    with_local_lawful m named t local 0 (inl refl),
     picture-with_local m t local 0 ∙ sym same,
   );
 }
@@ -85,19 +92,11 @@ clear_alike t local = record {
 pub get_alike : (t to from index : ℕ) → IsAlike (get_slot t to from index)
 get_alike t to from index = record {
   checks = slot-alike (get_slot t to from index) t (to ∷ from ∷ []) from index true (get_line t to from index);
-  does = λ m named none outcome after (answer, same).
-      let name = name_in (slice_get (slots_of_named m (local_of m t from)) index) in
-      let is = name-seen m named t from index in
-      let there = slot-present m named (local_of m t from) index in (
-        with_local m t to name,
-        (
-          answer ∙ ap (λ n. answered (Place n))
-              (ap (place_of (picture m).objects) is ∙ place-seen m named name there),
-          refl,
-        ),
-        with_local_lawful m t to name named there,
-        picture-with_local m t to name ∙ sym (same ∙ ap (with_local (picture m) t to) is),
-      );
+  does = λ m named none outcome after replies.
+      name_put m named t to (name_in (slice_get (slots_of_named m (local_of m t from)) index))
+      (name_in (slice_get (slots_of_named (picture m) (local_of (picture m) t from)) index))
+      (name-seen m named t from index) (slot-present m named (local_of m t from) index) m.ready
+      (lawful_ready m named.lawful) outcome after replies;
 }
 
 pub read_alike : (t from index : ℕ) → IsAlike (read_number t from index)

@@ -1,6 +1,7 @@
 -- What is reached: the least set that holds its start and what each member names.
 use Rattle.std.specs.Prelude.{◌≡◌, ℕ, ◌<◌, List, Option, Some, None, Bool, false, ◌⊎◌, ◌&&◌, not, filter, IsTrue}
 use Rattle.std.specs.FinMap as finmap
+use Rattle.std.specs.Ordering.{nat_cmp}
 use Rattle.clr_types.specs.Rising.{IsIn}
 use Rattle.clr_types.specs.declared.handle.Handle.{Handle}
 use Rattle.clr_model.specs.Machine.{ref, Object, Machine}
@@ -20,11 +21,11 @@ pub record SlotNames (objects : List Object) (x y : ℕ) : Type 0 where
   pub slot : IsIn (ref y) object.slots
   pub not_null : 0 < y
 
--- a dependent handle ties its secondary y to its primary x
-pub record SecondOf (m : Machine) (x y : ℕ) : Type 0 where
+-- a dependent handle of a table ties its secondary y to its primary x
+pub record SecondOf (handles : finmap.FinMap nat_cmp Handle) (x y : ℕ) : Type 0 where
   pub handle : ℕ
   pub row : Handle
-  pub in_use : finmap.get m.handles handle ≡ Some row
+  pub in_use : finmap.get handles handle ≡ Some row
   pub dependent : IsTrue (is_dependent row.kind)
   pub primary : row.target ≡ x
   pub secondary : row.second ≡ y
@@ -32,20 +33,20 @@ pub record SecondOf (m : Machine) (x y : ℕ) : Type 0 where
 
 -- y stays where x does
 abbrev pub Edge : Machine → ℕ → ℕ → Type 0
-Edge m x y = SlotNames m.objects x y ⊎ SecondOf m x y
+Edge m x y = SlotNames m.objects x y ⊎ SecondOf m.handles x y
 
--- x is the target of a strong or pinned handle
-pub record HeldBy (m : Machine) (x : ℕ) : Type 0 where
+-- x is the target of a strong or pinned handle of a table
+pub record HeldBy (handles : finmap.FinMap nat_cmp Handle) (x : ℕ) : Type 0 where
   pub handle : ℕ
   pub row : Handle
-  pub in_use : finmap.get m.handles handle ≡ Some row
+  pub in_use : finmap.get handles handle ≡ Some row
   pub holds : IsTrue (is_root_kind row.kind)
   pub target : row.target ≡ x
 
 -- where reaching starts, besides older objects: what locals name, what strong and pinned handles hold, and the
 -- f-reachable queue
 abbrev pub Roots : Machine → ℕ → Type 0
-Roots m x = (0 < x) × ((IsIn x m.locals ⊎ HeldBy m x) ⊎ IsIn x m.ready)
+Roots m x = (0 < x) × ((IsIn x m.locals ⊎ HeldBy m.handles x) ⊎ IsIn x m.ready)
 
 -- x is an object of a generation above g
 pub record Old (m : Machine) (g x : ℕ) : Type 0 where

@@ -1,5 +1,5 @@
 -- Which lines and which steps of the machine are built: all else speaks of the whole machine.
-use Rattle.std.specs.Prelude.{ℕ, ◌==◌, Bool, true, false, ◌&&◌, not, is_none}
+use Rattle.std.specs.Prelude.{ℕ, ◌==◌, Bool, true, false, ◌&&◌, is_none}
 use Rattle.clr_model.specs.declared.How.{How}
 use Rattle.clr_model.specs.declared.How.TheVariants.{Decide, Compact, Sweep}
 use Rattle.clr_model.specs.declared.Mode.{Mode}
@@ -7,7 +7,9 @@ use Rattle.clr_model.specs.declared.Mode.TheVariants.{Full}
 use Rattle.clr_model.specs.declared.Life.{Life}
 use Rattle.clr_model.specs.declared.Life.TheVariants.{Any}
 use Rattle.clr_model.specs.Instructions.{Instruction, DumpOptions, define_type, new_object, get_slot, set_slot}
-use Rattle.clr_model.specs.Instructions.{put_number, read_number, copy_local, clear_local, collect_heap, dump_heap}
+use Rattle.clr_model.specs.Instructions.{put_number, read_number, copy_local, clear_local, suppress_object}
+use Rattle.clr_model.specs.Instructions.{reregister_object, collect_heap, create_handle, fetch_target, fetch_second}
+use Rattle.clr_model.specs.Instructions.{free_handle, take_ready, dump_heap}
 
 abbrev pub is_full_mode : Mode → Life → Bool
 is_full_mode Full Any = true
@@ -24,10 +26,10 @@ is_full_sweep g Decide = false
 is_full_sweep g Compact = false
 is_full_sweep g Sweep = g == 2
 
--- types without finaliser may be defined, objects of them made, slots and locals read and written, the whole heap
--- swept, and the heap shown
+-- types may be defined, objects of them made, slots and locals read and written, handles made, followed and freed,
+-- finalisers suppressed and asked for again, waiting objects taken, the whole heap swept, and the heap shown
 abbrev pub is_built : Instruction → Bool
-is_built (define_type name form finalizer) = not finalizer
+is_built (define_type name form finalizer) = true
 is_built (new_object t k name len) = true
 is_built (get_slot t to from index) = true
 is_built (set_slot t into index from) = true
@@ -35,7 +37,14 @@ is_built (put_number t into index value) = true
 is_built (read_number t from index) = true
 is_built (copy_local t to from) = true
 is_built (clear_local t local) = true
+is_built (suppress_object t local) = true
+is_built (reregister_object t local) = true
 is_built (collect_heap t g how) = is_full_sweep g how
+is_built (create_handle t kind local second) = true
+is_built (fetch_target t to h) = true
+is_built (fetch_second t to h) = true
+is_built (free_handle t h) = true
+is_built (take_ready t to) = true
 is_built (dump_heap options) = is_plain_dump options
 is_built _ = false
 

@@ -1,13 +1,15 @@
 -- What a line does, from what its command does.
 use Rattle.std.proofs.Common.{◌≡◌, ◌≢◌, ◌≤◌, ◌<◌, ◌∙◌, ◌&&◌, ℕ, Bool, true, false, List, length, Option, Some, None}
-use Rattle.std.proofs.Common.{IsTrue, refl, sym, ap, subst, inl, inr, codes, arith}
+use Rattle.std.proofs.Common.{IsTrue, refl, sym, ap, subst, inl, inr, codes, arith, true≢false}
 use Rattle.std.specs.Prelude.{is_none}
 use Rattle.std.proofs.lemmas.Bool.{and_parts, both_ways, eqb-true}
 use denote.Ref.{Bor}
+use Rattle.clr_types.specs.declared.handle.Kind.{Kind}
 use Rattle.clr_types.specs.declared.shape.Shape.{Shape}
 use Rattle.clr_model.specs.declared.command.Command.{Command}
 use Rattle.clr_model.specs.declared.command.Command.TheVariants.{Define, New, Get, Set, Put, Read, Copy, Clear, Collect}
-use Rattle.clr_model.specs.declared.command.Command.TheVariants.{DumpHeap}
+use Rattle.clr_model.specs.declared.command.Command.TheVariants.{DumpHeap, Fetch, Finalizer, Free, Handle}
+use Rattle.clr_model.specs.declared.command.Command.TheVariants.{Reregister, Second, Suppress}
 use Rattle.clr_model.specs.declared.command.Filter.{Filter}
 use Rattle.clr_model.specs.declared.How.{How}
 use Rattle.clr_model.specs.declared.How.TheVariants.{Decide, Compact, Sweep}
@@ -17,8 +19,8 @@ use Rattle.clr_model.specs.declared.Mode.{Mode}
 use Rattle.clr_model.specs.declared.Mode.TheVariants.{Full, Short, Stat}
 use Rattle.clr_model.specs.declared.Refusal.TheVariants as refusal
 use Rattle.clr_model.specs.Machine.{Machine}
-use Rattle.clr_model.specs.Instructions.{Instruction, DumpOptions, dump_heap, instruction_of, plain}
-use Rattle.clr_model.specs.LineGrammar.{IsLine}
+use Rattle.clr_model.specs.Instructions.{Instruction, DumpOptions, create_handle, dump_heap, instruction_of, plain}
+use Rattle.clr_model.specs.LineGrammar.{IsHandleForm, IsLine}
 use Rattle.clr_model.specs.Outcomes.{Outcome, shown, refused}
 use Rattle.clr_model.specs.Sos.{dumpheap_text}
 use Rattle.clr_model.specs.Stage.{is_built, is_full_mode, is_full_sweep, is_plain_dump}
@@ -30,6 +32,7 @@ use Rattle.clr_script.specs.declared.access.Access.TheVariants as access
 use Rattle.clr_script.specs.Accesses.{IsAccessLine, instruction_by}
 use Rattle.clr_script.specs.Readings.{IsNoLine, IsReadAs}
 use Rattle.clr_run.specs.Dumping.{no_options}
+use Rattle.clr_run.specs.HandleCommands.{is_on_handles}
 
 -- a line that is read and built does what its instruction does
 pub line_follows : (old new : Machine) (bytes : List ℕ) (i : Instruction) (outcome : Outcome) → length bytes ≤ 4096
@@ -101,6 +104,12 @@ module _ (bytes : List ℕ) (command : Command) (short : length bytes ≤ 4096) 
       nothing_follows old bytes short (λ i line. ap is_built
       (one_reading bytes i (instruction_of command) line (read_line other)) ∙ unbuilt)
 
+-- a line that makes a handle has a second local where the handle is dependent
+pub handle_form : (bytes : List ℕ) (t : ℕ) (kind : Kind) (local : ℕ) (second : Option ℕ)
+    → IsReadAs bytes (Handle t kind local second) → IsHandleForm kind second
+handle_form bytes t kind local second (i, line, e) =
+    (subst (λ (j : Instruction). IsLine bytes j) (unplain i (create_handle t kind local second) e refl) line).formed.2
+
 -- the collection that is built
 pub full_sweep_is : (g : ℕ) (how : How) → is_full_sweep g how ≡ true → (g ≡ 2) × (how ≡ Sweep)
 full_sweep_is g Decide e = absurd (both_ways false refl e)
@@ -116,24 +125,53 @@ pub other_unbuilt : (command : Command)
     → ((t into index value : ℕ) → command ≡ Put t into index value → ⊥)
     → ((t from index : ℕ) → command ≡ Read t from index → ⊥) → ((t to from : ℕ) → command ≡ Copy t to from → ⊥)
     → ((t local : ℕ) → command ≡ Clear t local → ⊥) → ((t g : ℕ) (how : How) → command ≡ Collect t g how → ⊥)
-    → ((filter : Filter) → command ≡ DumpHeap filter → ⊥)
+    → (is_on_handles command ≡ true → ⊥) → ((filter : Filter) → command ≡ DumpHeap filter → ⊥)
     → (is_listing (instruction_of command) ≡ false) × (is_built (instruction_of command) ≡ false)
-other_unbuilt (Define name shape finalizer) define new get set put read copy clear collect dump =
+other_unbuilt (Define name shape finalizer) define new get set put read copy clear collect handles dump =
     absurd (define name shape finalizer refl)
-other_unbuilt (New t local name len) define new get set put read copy clear collect dump =
+other_unbuilt (New t local name len) define new get set put read copy clear collect handles dump =
     absurd (new t local name len refl)
-other_unbuilt (Get t to from index) define new get set put read copy clear collect dump =
+other_unbuilt (Get t to from index) define new get set put read copy clear collect handles dump =
     absurd (get t to from index refl)
-other_unbuilt (Set t into index from) define new get set put read copy clear collect dump =
+other_unbuilt (Set t into index from) define new get set put read copy clear collect handles dump =
     absurd (set t into index from refl)
-other_unbuilt (Put t into index value) define new get set put read copy clear collect dump =
+other_unbuilt (Put t into index value) define new get set put read copy clear collect handles dump =
     absurd (put t into index value refl)
-other_unbuilt (Read t from index) define new get set put read copy clear collect dump = absurd (read t from index refl)
-other_unbuilt (Copy t to from) define new get set put read copy clear collect dump = absurd (copy t to from refl)
-other_unbuilt (Clear t local) define new get set put read copy clear collect dump = absurd (clear t local refl)
-other_unbuilt (DumpHeap filter) define new get set put read copy clear collect dump = absurd (dump filter refl)
-other_unbuilt (Collect t g how) define new get set put read copy clear collect dump = absurd (collect t g how refl)
-other_unbuilt command define new get set put read copy clear collect dump = (refl, refl)
+other_unbuilt (Read t from index) define new get set put read copy clear collect handles dump =
+    absurd (read t from index refl)
+other_unbuilt (Copy t to from) define new get set put read copy clear collect handles dump =
+    absurd (copy t to from refl)
+other_unbuilt (Clear t local) define new get set put read copy clear collect handles dump = absurd (clear t local refl)
+other_unbuilt (DumpHeap filter) define new get set put read copy clear collect handles dump = absurd (dump filter refl)
+other_unbuilt (Collect t g how) define new get set put read copy clear collect handles dump =
+    absurd (collect t g how refl)
+other_unbuilt (Handle t kind local second) define new get set put read copy clear collect handles dump =
+    absurd (handles refl)
+other_unbuilt (Fetch t to h) define new get set put read copy clear collect handles dump = absurd (handles refl)
+other_unbuilt (Second t to h) define new get set put read copy clear collect handles dump = absurd (handles refl)
+other_unbuilt (Free t h) define new get set put read copy clear collect handles dump = absurd (handles refl)
+other_unbuilt (Suppress t local) define new get set put read copy clear collect handles dump = absurd (handles refl)
+other_unbuilt (Reregister t local) define new get set put read copy clear collect handles dump = absurd (handles refl)
+other_unbuilt (Finalizer t to) define new get set put read copy clear collect handles dump = absurd (handles refl)
+other_unbuilt command define new get set put read copy clear collect handles dump = (refl, refl)
+
+-- none of them is on handles
+pub not_on_handles : (command : Command)
+    → ((t : ℕ) (kind : Kind) (local : ℕ) (second : Option ℕ) → command ≡ Handle t kind local second → ⊥)
+    → ((t to h : ℕ) → command ≡ Fetch t to h → ⊥) → ((t to h : ℕ) → command ≡ Second t to h → ⊥)
+    → ((t h : ℕ) → command ≡ Free t h → ⊥) → ((t local : ℕ) → command ≡ Suppress t local → ⊥)
+    → ((t local : ℕ) → command ≡ Reregister t local → ⊥) → ((t to : ℕ) → command ≡ Finalizer t to → ⊥)
+    → is_on_handles command ≡ true → ⊥
+not_on_handles (Handle t kind local second) handle fetch second' free suppress reregister finalizer e =
+    handle t kind local second refl
+not_on_handles (Fetch t to h) handle fetch second free suppress reregister finalizer e = fetch t to h refl
+not_on_handles (Second t to h) handle fetch second free suppress reregister finalizer e = second t to h refl
+not_on_handles (Free t h) handle fetch second free suppress reregister finalizer e = free t h refl
+not_on_handles (Suppress t local) handle fetch second free suppress reregister finalizer e = suppress t local refl
+not_on_handles (Reregister t local) handle fetch second free suppress reregister finalizer e =
+    reregister t local refl
+not_on_handles (Finalizer t to) handle fetch second free suppress reregister finalizer e = finalizer t to refl
+not_on_handles command handle fetch second free suppress reregister finalizer e = absurd (true≢false (sym e))
 
 -- ---- the listing
 

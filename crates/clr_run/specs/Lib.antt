@@ -9,3 +9,4 @@ pub mod Dumping
 pub mod Progress
 pub mod Sessions
 pub mod Commands
+pub mod HandleCommands

@@ -10,6 +10,7 @@ ghost use Rattle.clr_run.specs.Outcomes.{outcome_of, CanShow};
 
 use crate::access::obey_access;
 use crate::dump::listing_text;
+use crate::handles::obey_handle;
 use crate::outcome::{Outcome, told_collected, told_done, told_mt, told_number, told_place};
 use clr_model::{Command, How, Refusal};
 use clr_runtime::Runtime;
@@ -70,7 +71,14 @@ fn obey(runtime: &mut Runtime, alloc: Global, line: &[u8], command: Command<'_>)
             name,
             shape,
             finalizer,
-        } if !finalizer => told_mt(runtime.define(name, shape, false)),
+        } => told_mt(runtime.define(name, shape, finalizer)),
+        Command::Handle { .. }
+        | Command::Fetch { .. }
+        | Command::Second { .. }
+        | Command::Free { .. }
+        | Command::Suppress { .. }
+        | Command::Reregister { .. }
+        | Command::Finalizer { .. } => obey_handle(runtime, line, command),
         Command::Collect { t, g, how } if is_full_sweep(g, how) => {
             told_collected(runtime.collect(t, g, how))
         }

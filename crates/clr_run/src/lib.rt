@@ -4,6 +4,7 @@
 mod access;
 mod dump;
 mod execute;
+mod handles;
 mod outcome;
 mod script;
 mod status;
@@ -20,6 +21,3 @@ pub use streams::plain::{PlainSink, PlainSource};
 pub use streams::sink::Sink;
 pub use streams::source::Source;
 pub use words::Words;
-
-#[cfg(test)]
-mod tests;

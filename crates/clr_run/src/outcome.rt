@@ -1,8 +1,8 @@
 //! What a line is answered, and its text.
 ghost use Rattle.std.specs.Prelude.{◌≡◌, ◌++◌, OnOk, OnErr};
 ghost use Rattle.clr_model.specs.Outcomes.{outcome_text};
-ghost use Rattle.clr_runtime.specs.Outcomes.{collected_outcome, done_outcome, mt_outcome, number_outcome};
-ghost use Rattle.clr_runtime.specs.Outcomes.{place_outcome};
+ghost use Rattle.clr_runtime.specs.Outcomes.{collected_outcome, done_outcome, handle_outcome, mt_outcome};
+ghost use Rattle.clr_runtime.specs.Outcomes.{number_outcome, place_outcome};
 ghost use Rattle.clr_run.specs.Faults.{Rose};
 ghost use Rattle.clr_run.specs.Output.{Wrote, WroteSome};
 ghost use Rattle.clr_run.specs.Outcomes.{outcome_of, CanShow};
@@ -50,6 +50,17 @@ pub fn told_number(told: Result<u64, Refusal>) -> Outcome
 {
     match told {
         Ok(number) => Outcome::Reply(Reply::Number(number)),
+        Err(refusal) => Outcome::Refused(refusal),
+    }
+}
+
+/// The outcome of a call that makes a handle.
+pub fn told_handle(told: Result<u64, Refusal>) -> Outcome
+    ensures is { outcome_of result ≡ handle_outcome told }
+    ensures shows { CanShow result }
+{
+    match told {
+        Ok(h) => Outcome::Reply(Reply::HandleNumber(h)),
         Err(refusal) => Outcome::Refused(refusal),
     }
 }

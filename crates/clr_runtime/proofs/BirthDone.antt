@@ -11,7 +11,8 @@ use Rattle.clr_heap.specs.View.{frame, HeapView, IsHeap}
 use Rattle.clr_view.specs.Clean.{AreClean}
 use Rattle.clr_view.specs.Marks.{IsUnmarked}
 use Rattle.clr_view.specs.Shown.{shown}
-use Rattle.clr_view.specs.View.{AreFreeHeads, HasNewborn, HasRefilled, layout_in, newborn_at, objects_in}
+use Rattle.clr_view.specs.View.{AreFreeHeads, HasNewborn, HasRefilled, IsHeld, layout_in, newborn_at, objects_in}
+use Rattle.clr_view.specs.World.{World}
 use Rattle.clr_view.proofs.Unmarked.{unmarked_kept}
 use Rattle.clr_ctx.specs.Contexts.{IsIndex, young_items}
 use Rattle.clr_model.specs.declared.Reply.TheVariants.{Place}
@@ -24,7 +25,7 @@ use Rattle.clr_model.specs.Run.{Follows}
 use Rattle.clr_model.proofs.BirthFollows.{new_follows_own, new_follows_refill}
 use Rattle.clr_model.proofs.BirthLine.{MayBear}
 use Rattle.clr_model.proofs.ContextRefilled.{refill_lawful}
-use Rattle.clr_model.proofs.FrontBirth.{seen_at_front}
+use Rattle.clr_model.proofs.FrontBirth.{born_entries, seen_at_front}
 use Rattle.clr_model.proofs.SeenStands.{follows_sound}
 use Rattle.clr_runtime.specs.Births.{HasRoomMade, IsMeasured}
 use Rattle.clr_runtime.specs.Checks.{thread_refusal}
@@ -52,14 +53,13 @@ module _ (rows : List TypeRow) (h mid : HeapView) (t size : ℕ) (made : HasRoom
       go (inr (own, refilled, first)) = refilled.objects
 
   -- no mark
-  still_unmarked : IsHeap h → {named : List ℕ} {sums : Sums} {options : Options} → IsShown rows h named sums options
-      → IsUnmarked rows mid
-  still_unmarked heap is = go made
+  still_unmarked : IsHeap h → IsHeld rows h → IsUnmarked rows h → IsUnmarked rows mid
+  still_unmarked heap held unmarked = go made
     where
       go : HasRoomMade rows h mid t size true → IsUnmarked rows mid
-      go (inl (own, same)) = subst (IsUnmarked rows) (sym same) is.unmarked
+      go (inl (own, same)) = subst (IsUnmarked rows) (sym same) unmarked
       go (inr (own, refilled, first)) =
-          unmarked_kept rows h heap is.held mid refilled.objects refilled.cells is.unmarked
+          unmarked_kept rows h heap held mid refilled.objects refilled.cells unmarked
 
   -- heads of free items, also where new ones are written
   still_headed : AreFreeHeads rows h → AreFreeHeads rows mid
@@ -79,12 +79,18 @@ module _ (rows : List TypeRow) (h mid : HeapView) (t size : ℕ) (made : HasRoom
 
 -- ---- the birth
 
-module _ {rows : List TypeRow} {h : HeapView} {named : List ℕ} {sums : Sums} {options : Options}
-    (is : IsShown rows h named sums options) (large : options.large ≡ 85000) (t local : ℕ) (name : List ℕ)
-    (len : Option ℕ) (type size : ℕ) (passed : thread_refusal (shown rows h named sums options) t ≡ None)
-    (measured : IsMeasured rows local name len type size) where
+module _ {w : World} {sums : Sums} {options : Options} (is : IsShown w sums options) (large : options.large ≡ 85000)
+    (t local : ℕ) (name : List ℕ) (len : Option ℕ) (type size : ℕ)
+    (passed : thread_refusal (shown w sums options) t ≡ None)
+    (measured : IsMeasured w.rows local name len type size) where
   abbrev s : Machine
-  s = shown rows h named sums options
+  s = shown w sums options
+
+  abbrev rows : List TypeRow
+  rows = w.rows
+
+  abbrev h : HeapView
+  h = w.heap
 
   abbrev n : ℕ
   n = unwrap_or len 0
@@ -105,11 +111,16 @@ module _ {rows : List TypeRow} {h : HeapView} {named : List ℕ} {sums : Sums} {
       (refill_lawful s is.sound.lawful t may.run.thread may.run.idle bytes (size-lawful (form_at rows type) n)
       (layout_in rows mid) (subst (λ b. HasRefilled rows h mid t b) measured.is refilled).layout).1
 
-  module _ (mid new : HeapView) (place j : ℕ) (newborn : HasNewborn rows mid new t type (unwrap_or len 0))
-      (at : place ≡ context_front (frame mid) t) (index : j ≡ local_index t local)
-      (made : HasRoomMade rows h mid t size true) where
+  module _ (mid new : HeapView) (place j : ℕ) (entries ready : List ℕ)
+      (newborn : HasNewborn rows mid new t type (unwrap_or len 0)) (at : place ≡ context_front (frame mid) t)
+      (index : j ≡ local_index t local) (registered : entries ≡ born_entries s type place)
+      (waiting : ready ≡ w.ready) (made : HasRoomMade rows h mid t size true) where
+    -- the world with the object
+    abbrev born_world : World
+    born_world = record w { heap = new; locals = slice_set w.locals j place; entries = entries; ready = ready }
+
     abbrev after : Machine
-    after = shown rows new (slice_set named j place) (spent_more sums size) options
+    after = shown born_world (spent_more sums size) options
 
     -- what is seen with the object, from the heap in which room was made
     born-shown : seen_at_front (with_layout s (layout_in rows mid)) t local type n ≡ after
@@ -118,16 +129,21 @@ module _ {rows : List TypeRow} {h : HeapView} {named : List ℕ} {sums : Sums} {
         let objects : sorted_by (λ (x : Object). x.name) (objects_in rows h ++ o ∷ []) ≡ objects_in rows new =
         sym (newborn.objects ∙ ap (λ (os : List Object). sorted_by (λ (x : Object). x.name) (os ++ o ∷ []))
         (same_objects rows h mid t size made)) in
+        let listed : born_entries s type (context_front (frame mid) t) ≡ entries =
+        ap (born_entries s type) (sym at) ∙ sym registered in
         λ k. record after {
           objects = objects k;
-          locals = slice_set named (sym index k) (sym at k);
+          locals = slice_set w.locals (sym index k) (sym at k);
+          entries = listed k;
+          ready = sym waiting k;
           layout = sym newborn.layout k;
           sums = spent_more sums (sym measured.is k);
         }
 
     -- the object is born
-    pub made_follows : Follows (shown rows h named sums options) (new_object t local name len) (answered (Place place))
-        (shown rows new (slice_set named j place) (spent_more sums size) options)
+    pub made_follows : Follows (shown w sums options) (new_object t local name len) (answered (Place place))
+        (shown (record w { heap = new; locals = slice_set w.locals j place; entries = entries; ready = ready })
+        (spent_more sums size) options)
     made_follows = go made
       where
         go : HasRoomMade rows h mid t size true
@@ -154,12 +170,12 @@ module _ {rows : List TypeRow} {h : HeapView} {named : List ℕ} {sums : Sums} {
     -- and what holds of the parts of a runtime still holds
     pub birth_kept : IsHeap h → (IsUnmarked rows mid → IsUnmarked rows new)
         → (AreFreeHeads rows mid → AreFreeHeads rows new) → (AreClean rows mid → AreClean rows new)
-        → IsShown rows new (slice_set named j place) (spent_more sums size) options
+        → IsShown (record w { heap = new; locals = slice_set w.locals j place; entries = entries; ready = ready })
+        (spent_more sums size) options
     birth_kept heap unmarked heads clean = record {
-      locals = length-slice_set named j place ∙ is.locals;
+      locals = length-slice_set w.locals j place ∙ is.locals;
       held = newborn.held;
-      plain = is.plain;
-      unmarked = unmarked (still_unmarked rows h mid t size made heap is);
+      unmarked = unmarked (still_unmarked rows h mid t size made heap is.held is.unmarked);
       free_heads = heads (still_headed rows h mid t size made is.free_heads);
       clean = clean (still_clean rows h mid t size made is.clean);
       sound = follows_sound s (new_object t local name len) (answered (Place place)) after is.sound made_follows;

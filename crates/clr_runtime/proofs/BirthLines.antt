@@ -3,28 +3,29 @@ use Rattle.std.proofs.Common.{◌≡◌, ◌∙◌, ℕ, ◌%◌, ◌<◌, ◌�
 use Rattle.std.proofs.Common.{subst, arith, Option, Some, None, unwrap_or, if◌then◌else◌, is_some, is_none}
 use Rattle.std.specs.Prelude.{Err}
 use Rattle.std.proofs.lemmas.Bool.{both_ways}
-use Rattle.clr_types.specs.Types.{TypeRow, form_at, is_array, size_of}
+use Rattle.clr_types.specs.Types.{TypeRow, form_at, has_finalizer, is_array, size_of, type_row}
 use Rattle.clr_types.proofs.TailTaken.{size-lawful}
 use Rattle.clr_heap.specs.Parts.{IsMakeable}
 use Rattle.clr_heap.specs.View.{frame, HeapView}
 use Rattle.clr_view.specs.Shown.{shown}
 use Rattle.clr_view.specs.View.{layout_in}
+use Rattle.clr_view.specs.World.{World}
 use Rattle.clr_model.specs.declared.Refusal.{Refusal}
-use Rattle.clr_model.specs.declared.Refusal.TheVariants.{BadShape, NoSlot, Oom, TooBig, UnknownType}
+use Rattle.clr_model.specs.declared.Refusal.TheVariants.{BadShape, NoMemory, NoSlot, Oom, TooBig, UnknownType}
 use Rattle.clr_model.specs.Allocation.{has_room, own_fits}
 use Rattle.clr_model.specs.Instructions.{new_object}
 use Rattle.clr_model.specs.Machine.{Machine, Options, Sums}
 use Rattle.clr_model.specs.Outcomes.{refused}
 use Rattle.clr_model.specs.Run.{Follows}
 use Rattle.clr_model.proofs.BirthFollows.{new_follows_local, new_follows_room, new_follows_shape, new_follows_size}
-use Rattle.clr_model.proofs.BirthFollows.{new_follows_type}
+use Rattle.clr_model.proofs.BirthFollows.{new_follows_memory, new_follows_type}
 use Rattle.clr_model.proofs.BirthLine.{MayBear}
 use Rattle.clr_model.proofs.LineChecks.{MayRun}
 use Rattle.clr_runtime.specs.Births.{HasRoomMade, IsMeasured, Measured}
 use Rattle.clr_runtime.specs.Checks.{thread_refusal}
 use Rattle.clr_runtime.specs.RuntimeView.{IsShown}
 use Rattle.clr_runtime.proofs.NamesChecked.{may_run}
-use Rattle.clr_runtime.proofs.RuntimeKept.{no_finalizer}
+use Rattle.clr_runtime.proofs.RuntimeKept.{room_follows}
 use Rattle.clr_runtime.proofs.TypeNumbers.{number_from-bounds}
 
 -- a class has no length
@@ -73,11 +74,13 @@ module _ (rows : List TypeRow) (local : ℕ) (name : List ℕ) (len : Option ℕ
 
 -- ---- the checks
 
-module _ {rows : List TypeRow} {h : HeapView} {named : List ℕ} {sums : Sums} {options : Options}
-    (is : IsShown rows h named sums options) (large : options.large ≡ 85000) (t local : ℕ) (name : List ℕ)
-    (len : Option ℕ) where
+module _ {w : World} {sums : Sums} {options : Options} (is : IsShown w sums options) (large : options.large ≡ 85000)
+    (t local : ℕ) (name : List ℕ) (len : Option ℕ) where
   abbrev s : Machine
-  s = shown rows h named sums options
+  s = shown w sums options
+
+  abbrev rows : List TypeRow
+  rows = w.rows
 
   module _ (passed : thread_refusal s t ≡ None) where
     run : MayRun s t
@@ -100,19 +103,28 @@ module _ {rows : List TypeRow} {h : HeapView} {named : List ℕ} {sums : Sums} {
       may_bear = record {
         run = run;
         known = measured.suited.known;
-        plain = no_finalizer is type;
         shape = measured.suited.suited;
         local = measured.local;
         small = let same = measured.is in let small = measured.small in omega (arith, large, same, small);
       }
 
+      -- there is no memory for the finalisation entry that the type wants
+      pub lacks_follows : (entries ready : List ℕ) → entries ≡ w.entries → ready ≡ w.ready
+          → has_finalizer (type_row rows type) ≡ true
+          → Follows s (new_object t local name len) (refused NoMemory)
+          (shown (record w { entries = entries; ready = ready }) sums options)
+      lacks_follows entries ready kept waiting final =
+          room_follows is entries ready kept waiting (new_object t local name len) (refused NoMemory)
+          (new_follows_memory s t local name len type may_bear final)
+
       -- there is no room
-      pub full_follows : (new : HeapView) → HasRoomMade rows h new t size false
-          → Follows s (new_object t local name len) (refused Oom) (shown rows new named sums options)
-      full_follows new (own, none, same) =
-          subst
-          (λ (g : HeapView). Follows s (new_object t local name len) (refused Oom) (shown rows g named sums options))
-          (sym same)
+      pub full_follows : (new : HeapView) (entries ready : List ℕ) → entries ≡ w.entries → ready ≡ w.ready
+          → HasRoomMade rows w.heap new t size false
+          → Follows s (new_object t local name len) (refused Oom)
+          (shown (record w { heap = new; entries = entries; ready = ready }) sums options)
+      full_follows new entries ready kept waiting (own, none, same) =
+          subst (λ (v : World). Follows s (new_object t local name len) (refused Oom) (shown v sums options))
+          (λ k. record w { heap = sym same k; entries = sym kept k; ready = sym waiting k })
           (new_follows_room s t local name len type may_bear
-          (subst (λ b. own_fits (frame h) t b ≡ false) measured.is own)
-          (ap (λ b. has_room (layout_in rows h) b) (sym measured.is) ∙ none))
+          (subst (λ b. own_fits (frame w.heap) t b ≡ false) measured.is own)
+          (ap (λ b. has_room (layout_in rows w.heap) b) (sym measured.is) ∙ none))

@@ -1,11 +1,10 @@
 -- The line that collects, on what is seen.
-use Rattle.std.proofs.Common.{◌≡◌, ◌∙◌, ℕ, ◌+◌, List, [], ◌∷◌, map, refl, ap, subst, arith, None}
-use Rattle.clr_types.specs.Types.{TypeRow}
-use Rattle.clr_heap.specs.View.{HeapView}
+use Rattle.std.proofs.Common.{◌≡◌, ◌∙◌, ℕ, ◌+◌, List, [], ◌∷◌, length, map, refl, ap, subst, arith, None}
 use Rattle.clr_view.specs.Clean.{AreClean}
 use Rattle.clr_view.specs.Marks.{IsUnmarked}
 use Rattle.clr_view.specs.Shown.{shown}
 use Rattle.clr_view.specs.View.{AreFreeHeads, IsHeld, layout_in, objects_in}
+use Rattle.clr_view.specs.World.{IsWorldOf, World}
 use Rattle.clr_model.specs.declared.Collected.{Collected}
 use Rattle.clr_model.specs.declared.How.{How}
 use Rattle.clr_model.specs.declared.How.TheVariants.{Sweep}
@@ -20,7 +19,6 @@ use Rattle.clr_model.specs.Picture.{picture, renamed_step}
 use Rattle.clr_model.specs.Run.{Follows}
 use Rattle.clr_model.proofs.CollectFollows.{collect_follows}
 use Rattle.clr_model.proofs.SeenStands.{follows_sound}
-use Rattle.clr_collect.specs.World.{bare_world, IsWorldOf, World}
 use Rattle.clr_runtime.specs.Checks.{thread_refusal}
 use Rattle.clr_runtime.specs.RuntimeView.{IsShown}
 use Rattle.clr_runtime.proofs.NamesChecked.{may_run}
@@ -74,8 +72,7 @@ module _ (m : Machine) (g : ℕ) (how : How) (answer : Collected) (after : Machi
 -- ---- the line
 
 -- the world of a runtime is that of what it shows
-world-seen : {rows : List TypeRow} {h : HeapView} {named : List ℕ} {sums : Sums} {options : Options}
-    → IsWorldOf (bare_world rows h named) (shown rows h named sums options)
+world-seen : {w : World} {sums : Sums} {options : Options} → IsWorldOf w (shown w sums options)
 world-seen = record {
   memory = record { types = refl; objects = refl; layout = refl };
   locals = refl;
@@ -84,44 +81,41 @@ world-seen = record {
   ready = refl;
 }
 
-pub whole_world : {rows : List TypeRow} {h : HeapView} {named : List ℕ} {sums : Sums} {options : Options}
-    → IsShown rows h named sums options
-    → (m : Machine) × IsWorldOf (bare_world rows h named) m × IsPlaceNamed m × (lowest_in_step m ≡ None)
-whole_world {rows = rows} {h = h} {named = named} {sums = sums} {options = options} is =
-    (shown rows h named sums options, world-seen, is.sound, refl)
+pub whole_world : {w : World} {sums : Sums} {options : Options} → IsShown w sums options
+    → (m : Machine) × IsWorldOf w m × IsPlaceNamed m × (lowest_in_step m ≡ None)
+whole_world {w = w} {sums = sums} {options = options} is = (shown w sums options, world-seen, is.sound, refl)
 
 -- the sums after a full collection
 abbrev pub collected_sums : Collected → Sums
 collected_sums answer =
     record { spent0 = 0; spent_large = 0; promoted1 = answer.promoted1; promoted2 = answer.promoted2 }
 
-module _ {rows : List TypeRow} {h : HeapView} {named : List ℕ} {sums : Sums} {options : Options}
-    (is : IsShown rows h named sums options) (t : ℕ)
-    (passed : thread_refusal (shown rows h named sums options) t ≡ None) (new : HeapView) (answer : Collected)
-    (told : (m : Machine) → IsWorldOf (bare_world rows h named) m → IsPlaceNamed m → lowest_in_step m ≡ None
-    → (after : Machine) × Collects m 2 Sweep answer after × IsWorldOf (bare_world rows new named) (picture after)) where
+module _ {w : World} {sums : Sums} {options : Options} (is : IsShown w sums options) (t : ℕ)
+    (passed : thread_refusal (shown w sums options) t ≡ None) (new : World) (answer : Collected)
+    (told : (m : Machine) → IsWorldOf w m → IsPlaceNamed m → lowest_in_step m ≡ None
+    → (after : Machine) × Collects m 2 Sweep answer after × IsWorldOf new (picture after)) where
   abbrev s : Machine
-  s = shown rows h named sums options
+  s = shown w sums options
 
   -- the collection is done
-  pub collect_done : Follows (shown rows h named sums options) (collect_heap t 2 Sweep)
-      (answered (reply.Collected answer)) (shown rows new named (collected_sums answer) options)
+  pub collect_done : Follows (shown w sums options) (collect_heap t 2 Sweep) (answered (reply.Collected answer))
+      (shown new (collected_sums answer) options)
   collect_done =
       let (after, collects, world) = told s world-seen is.sound refl in
       subst (Follows s (collect_heap t 2 Sweep) (answered (reply.Collected answer)))
-      (collected_picture s 2 Sweep answer after refl collects (bare_world rows new named) world)
+      (collected_picture s 2 Sweep answer after refl collects new world)
       (collect_follows s t 2 Sweep answer after (omega arith) (may_run s t refl passed) refl collects)
 
   -- what holds of the parts of a runtime still holds
-  pub collect_kept : IsHeld rows new → IsUnmarked rows new → AreFreeHeads rows new
-      → (AreClean rows h → AreClean rows new) → IsShown rows new named (collected_sums answer) options
-  collect_kept held unmarked heads clean = record {
-    locals = is.locals;
+  pub collect_kept : length new.locals ≡ 1024 → IsHeld new.rows new.heap → IsUnmarked new.rows new.heap
+      → AreFreeHeads new.rows new.heap → AreClean new.rows new.heap
+      → IsShown new (collected_sums answer) options
+  collect_kept count held unmarked heads clean = record {
+    locals = count;
     held = held;
-    plain = is.plain;
     unmarked = unmarked;
     free_heads = heads;
-    clean = clean is.clean;
+    clean = clean;
     sound = follows_sound s (collect_heap t 2 Sweep) (answered (reply.Collected answer))
-        (shown rows new named (collected_sums answer) options) is.sound collect_done;
+        (shown new (collected_sums answer) options) is.sound collect_done;
   }

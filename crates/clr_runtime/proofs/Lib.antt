@@ -12,3 +12,5 @@ pub mod LimitKept
 pub mod TypeNumbers
 pub mod BirthLines
 pub mod BirthDone
+pub mod HandleLines
+pub mod FinalizerLines

@@ -1,8 +1,7 @@
 -- The lines that work on locals, on what is seen.
-use Rattle.std.proofs.Common.{◌≡◌, ℕ, List, [], ◌∷◌, refl, sym, subst, slice_set, None}
-use Rattle.clr_types.specs.Types.{TypeRow}
-use Rattle.clr_heap.specs.View.{HeapView}
+use Rattle.std.proofs.Common.{◌≡◌, ℕ, [], ◌∷◌, refl, sym, subst, slice_set, None}
 use Rattle.clr_view.specs.Shown.{shown}
+use Rattle.clr_view.specs.World.{World}
 use Rattle.clr_model.specs.declared.Reply.TheVariants.{Done, Place}
 use Rattle.clr_model.specs.Instructions.{clear_local, copy_local, Instruction}
 use Rattle.clr_model.specs.Lookups.{local_index, local_of}
@@ -20,13 +19,14 @@ pub local_written : (s : Machine) (i : Instruction) (outcome : Outcome) (t k v j
 local_written s i outcome t k v j at follows =
     subst (λ n. Follows s i outcome (record s { locals = slice_set s.locals n v })) (sym at) follows
 
-module _ (rows : List TypeRow) (h : HeapView) (named : List ℕ) (sums : Sums) (options : Options) (t : ℕ) where
+module _ (w : World) (sums : Sums) (options : Options) (t : ℕ) where
   abbrev s : Machine
-  s = shown rows h named sums options
+  s = shown w sums options
 
   -- `null`
   pub cleared : (k j : ℕ) → names_refusal s t (k ∷ k ∷ []) ≡ None → j ≡ local_index t k
-      → Follows s (clear_local t k) (answered Done) (shown rows h (slice_set named j 0) sums options)
+      → Follows s (clear_local t k) (answered Done)
+      (shown (record w { locals = slice_set w.locals j 0 }) sums options)
   cleared k j passed at =
       let (run, locals) = names_passed s t (k ∷ []) refl (once s t k None passed) in
       local_written s (clear_local t k) (answered Done) t k 0 j at (clear_done s t run k locals.0)
@@ -34,7 +34,8 @@ module _ (rows : List TypeRow) (h : HeapView) (named : List ℕ) (sums : Sums) (
   -- `copy`
   pub copied : (to from j v : ℕ) → names_refusal s t (to ∷ from ∷ []) ≡ None → j ≡ local_index t to
       → v ≡ local_of s t from
-      → Follows s (copy_local t to from) (answered (Place v)) (shown rows h (slice_set named j v) sums options)
+      → Follows s (copy_local t to from) (answered (Place v))
+      (shown (record w { locals = slice_set w.locals j v }) sums options)
   copied to from j v passed at is =
       let (run, locals) = names_passed s t (to ∷ from ∷ []) refl passed in
       local_written s (copy_local t to from) (answered (Place v)) t to v j at

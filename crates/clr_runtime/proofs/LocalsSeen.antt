@@ -10,6 +10,7 @@ use Rattle.clr_heap.specs.View.{heap_items, HeapView, word_of}
 use Rattle.clr_view.specs.Shown.{shown}
 use Rattle.clr_view.specs.View.{is_object, object_in, objects_in}
 use Rattle.clr_view.specs.SlotValues.{StandsAt}
+use Rattle.clr_view.specs.World.{World}
 use Rattle.clr_model.specs.Lawful.{IsNullOrPresent}
 use Rattle.clr_model.specs.Lookups.{local_index, local_of, object_named}
 use Rattle.clr_model.specs.Machine.{Machine, Object, Options, Sums}
@@ -31,22 +32,21 @@ present-stands rows h place there =
     let (o, i, n) = found_named (objects_in rows h) place there in
     (o, i, sym (named-by-place rows (word_of h) (filter is_object (heap_items rows h)) o i) ∙ n)
 
-module _ {rows : List TypeRow} {h : HeapView} {named : List ℕ} {sums : Sums} {options : Options}
-    (is : IsShown rows h named sums options) where
+module _ {w : World} {sums : Sums} {options : Options} (is : IsShown w sums options) where
   abbrev s : Machine
-  s = shown rows h named sums options
+  s = shown w sums options
 
   -- what is read of the locals
-  pub local-read : (t k j v : ℕ) → j < 1024 → j ≡ local_index t k → v ≡ get_or named j v → v ≡ local_of s t k
+  pub local-read : (t k j v : ℕ) → j < 1024 → j ≡ local_index t k → v ≡ get_or w.locals j v → v ≡ local_of s t k
   local-read t k j v within at e =
       let count = is.locals in
-      e ∙ get_or_default_zero named j v (omega (arith, count, within)) ∙ ap (slice_index named) at
+      e ∙ get_or_default_zero w.locals j v (omega (arith, count, within)) ∙ ap (slice_index w.locals) at
 
   -- the object of a local that isn't null
-  pub local-stands : (t k place : ℕ) → place ≡ local_of s t k → place ≢ 0 → StandsAt rows h place
+  pub local-stands : (t k place : ℕ) → place ≡ local_of s t k → place ≢ 0 → StandsAt w.rows w.heap place
   local-stands t k place at some =
-      present-stands rows h place (present (subst (IsNullOrPresent s) (sym at) (local-seen s is.sound t k)))
+      present-stands w.rows w.heap place (present (subst (IsNullOrPresent s) (sym at) (local-seen s is.sound t k)))
     where
-      present : IsNullOrPresent s place → is_some (object_named (objects_in rows h) place) ≡ true
+      present : IsNullOrPresent s place → is_some (object_named (objects_in w.rows w.heap) place) ≡ true
       present (inl null) = absurd (some null)
       present (inr there) = there

@@ -1,6 +1,6 @@
 -- What a new runtime shows.
-use Rattle.std.proofs.Common.{◌≡◌, ◌∙◌, ℕ, ◌%◌, List, [], length, sym, ap, subst, replicate, false}
-use Rattle.std.specs.List.{AllByRecursion}
+use Rattle.std.proofs.Common.{◌≡◌, ◌∙◌, ℕ, ◌%◌, List, [], length, sym, ap, subst, replicate}
+use Rattle.std.specs.FinMap as finmap
 use Rattle.std.proofs.lemmas.List.{length-replicate}
 use Rattle.clr_types.specs.Types.{TypeRow}
 use Rattle.clr_heap.specs.View as heap
@@ -9,6 +9,7 @@ use Rattle.clr_view.specs.Clean.{AreClean}
 use Rattle.clr_view.specs.Marks.{IsUnmarked}
 use Rattle.clr_view.specs.Shown.{shown}
 use Rattle.clr_view.specs.View.{AreFreeHeads, IsHeld}
+use Rattle.clr_view.specs.World.{bare_world, World}
 use Rattle.clr_view.proofs.CleanWords.{clean_at_start}
 use Rattle.clr_view.proofs.FreeHeads.{heads_at_start}
 use Rattle.clr_view.proofs.Unmarked.{unmarked_at_start}
@@ -25,35 +26,54 @@ no_sums = record { spent0 = 0; spent_large = 0; promoted1 = 0; promoted2 = 0 }
 
 -- with null locals and an empty heap the opening state is shown
 opening-shown : (options : Options) (limit : ℕ) → options.segment % 4096 ≡ 0
-    → shown [] (heap.opening_heap options.segment limit) (replicate 1024 0) no_sums options ≡ opening options
+    → shown (bare_world [] (heap.opening_heap options.segment limit) (replicate 1024 0)) no_sums options
+    ≡ opening options
 unfolding opening
 opening-shown options limit aligned =
     let objects = no_objects [] options.segment limit aligned in
     let layout = layout_at_start [] options.segment limit aligned in
     λ i. record (opening options) { objects = objects i; layout = layout i }
 
-module _ (rows : List TypeRow) (h : HeapView) (named : List ℕ) (options : Options) (limit : ℕ)
-    (lawful : AreLawfulOptions options) (none : rows ≡ []) (empty : h ≡ heap.opening_heap options.segment limit)
-    (null : named ≡ replicate 1024 0) where
-  -- it is the opening state
-  pub new_stands : StandsFor (shown rows h named no_sums options) (opening options)
+-- A world in which nothing was made: no types, an empty heap, null locals, no handles and no finalisation entries.
+pub record IsFirst (w : World) (segment limit : ℕ) : Type 0 where
+  pub rows : w.rows ≡ []
+  pub heap : w.heap ≡ heap.opening_heap segment limit
+  pub locals : w.locals ≡ replicate 1024 0
+  pub handles : w.handles ≡ finmap.empty
+  pub entries : w.entries ≡ []
+  pub ready : w.ready ≡ []
+
+module _ (w : World) (options : Options) (limit : ℕ) (lawful : AreLawfulOptions options)
+    (is : IsFirst w options.segment limit) where
+  first-world : w ≡ bare_world [] (heap.opening_heap options.segment limit) (replicate 1024 0)
+  first-world = λ i. record {
+    rows = is.rows i;
+    heap = is.heap i;
+    locals = is.locals i;
+    handles = is.handles i;
+    entries = is.entries i;
+    ready = is.ready i;
+  }
+
+  -- it shows the opening state
+  pub new_stands : StandsFor (shown w no_sums options) (opening options)
   new_stands =
       subst (λ (s : Machine). StandsFor s (opening options))
-      (sym ((λ i. shown (none i) (empty i) (null i) no_sums options)
+      (sym (ap (λ (v : World). shown v no_sums options) first-world
       ∙ opening-shown options limit lawful.segment_aligned)) (opening_stands options lawful)
 
   -- what holds of no types and the first heap
-  at-first : (P : List TypeRow → HeapView → Type 0) → P [] (heap.opening_heap options.segment limit) → P rows h
-  at-first P is = subst (λ (rs : List TypeRow). P rs h) (sym none) (subst (λ (o : HeapView). P [] o) (sym empty) is)
+  at-first : (P : List TypeRow → HeapView → Type 0) → P [] (heap.opening_heap options.segment limit)
+      → P w.rows w.heap
+  at-first P first = subst (λ (v : World). P v.rows v.heap) (sym first-world) first
 
   -- and what holds of every runtime holds of it
-  pub new_shown : IsShown rows h named no_sums options
+  pub new_shown : IsShown w no_sums options
   new_shown = record {
-    locals = ap length null ∙ length-replicate {A = ℕ} 1024 0;
+    locals = ap length is.locals ∙ length-replicate {A = ℕ} 1024 0;
     held = at-first IsHeld (held_at_start [] options.segment limit lawful.segment_aligned);
-    plain = at-first (λ rs _. AllByRecursion (λ (row : TypeRow). row.finalizer ≡ false) rs) tt;
     unmarked = at-first IsUnmarked (unmarked_at_start [] options.segment limit lawful.segment_aligned);
     free_heads = at-first AreFreeHeads (heads_at_start [] options.segment limit lawful.segment_aligned);
     clean = at-first AreClean (clean_at_start [] options.segment limit lawful.segment_aligned);
-    sound = seen_sound (shown rows h named no_sums options) (opening options) new_stands;
+    sound = seen_sound (shown w no_sums options) (opening options) new_stands;
   }

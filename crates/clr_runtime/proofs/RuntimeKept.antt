@@ -1,29 +1,26 @@
--- What holds of the parts of a runtime, and what of them after a line that writes a local or a slot.
-use Rattle.std.proofs.Common.{◌≡◌, ◌∙◌, ℕ, ◌+◌, ◌<◌, ◌^◌, List, false, slice_set, arith}
-use Rattle.clr_types.specs.Types.{TypeRow, has_finalizer, type_row}
+-- What holds of the parts of a runtime, and what of them after a line.
+use Rattle.std.proofs.Common.{◌≡◌, ◌∙◌, ℕ, ◌+◌, ◌<◌, ◌^◌, List, length, slice_set, subst, sym, arith}
+use Rattle.std.specs.FinMap.{FinMap}
+use Rattle.std.specs.Ordering.{nat_cmp}
+use Rattle.clr_types.specs.declared.handle.Handle.{Handle}
 use Rattle.clr_types.proofs.ChangedLists.{length-slice_set}
 use Rattle.clr_heap.specs.View.{HeapView}
 use Rattle.clr_view.specs.Clean.{AreClean}
 use Rattle.clr_view.specs.Marks.{IsUnmarked}
 use Rattle.clr_view.specs.Shown.{shown}
-use Rattle.clr_view.specs.View.{AreFreeHeads, HasStored}
+use Rattle.clr_view.specs.View.{AreFreeHeads, IsHeld}
+use Rattle.clr_view.specs.World.{World}
 use Rattle.clr_model.specs.Instructions.{Instruction}
-use Rattle.clr_model.specs.Machine.{Machine, Options, Sums, Value}
+use Rattle.clr_model.specs.Machine.{Machine, Options, Sums}
 use Rattle.clr_model.specs.Outcomes.{Outcome}
 use Rattle.clr_model.specs.Run.{Follows}
-use Rattle.clr_model.proofs.BirthFollows.{all-plain}
 use Rattle.clr_model.proofs.PieceBytes.{sums_bounded}
 use Rattle.clr_model.proofs.SeenStands.{follows_sound}
 use Rattle.clr_runtime.specs.RuntimeView.{IsShown}
 
-module _ {rows : List TypeRow} {heap : HeapView} {named : List ℕ} {sums : Sums} {options : Options}
-    (is : IsShown rows heap named sums options) where
+module _ {w : World} {sums : Sums} {options : Options} (is : IsShown w sums options) where
   abbrev s : Machine
-  s = shown rows heap named sums options
-
-  -- no type has a finaliser yet
-  pub no_finalizer : (type : ℕ) → has_finalizer (type_row rows type) ≡ false
-  no_finalizer type = all-plain rows type is.plain
+  s = shown w sums options
 
   -- the bytes that were born stay a word: they are within the limit
   pub spent_fits : (size : ℕ) → size < 85000 → sums.spent0 + size < 2 ^ 64
@@ -32,31 +29,52 @@ module _ {rows : List TypeRow} {heap : HeapView} {named : List ℕ} {sums : Sums
       let limit = is.sound.lawful.options.limit_greatest in
       omega (arith, within, limit, small)
 
-  -- a local was written
-  pub local_kept : (i : Instruction) (outcome : Outcome) (j v : ℕ)
-      → Follows s i outcome (shown rows heap (slice_set named j v) sums options)
-      → IsShown rows heap (slice_set named j v) sums options
-  local_kept i outcome j v follows = record {
-    locals = length-slice_set named j v ∙ is.locals;
+  -- whatever names objects has changed, and the heap stayed
+  pub names_kept : (i : Instruction) (outcome : Outcome) (locals : List ℕ) (handles : FinMap nat_cmp Handle)
+      (entries ready : List ℕ) → length locals ≡ 1024
+      → Follows s i outcome
+      (shown (record w { locals = locals; handles = handles; entries = entries; ready = ready }) sums options)
+      → IsShown (record w { locals = locals; handles = handles; entries = entries; ready = ready }) sums options
+  names_kept i outcome locals handles entries ready count follows = record {
+    locals = count;
     held = is.held;
-    plain = is.plain;
     unmarked = is.unmarked;
     free_heads = is.free_heads;
     clean = is.clean;
-    sound = follows_sound s i outcome (shown rows heap (slice_set named j v) sums options) is.sound follows;
+    sound = follows_sound s i outcome _ is.sound follows;
   }
 
-  -- a slot was written
-  pub store_kept : (i : Instruction) (outcome : Outcome) (new : HeapView) (place j : ℕ) (v : Value)
-      → HasStored rows heap new place j v → (IsUnmarked rows heap → IsUnmarked rows new)
-      → (AreFreeHeads rows heap → AreFreeHeads rows new) → (AreClean rows heap → AreClean rows new)
-      → Follows s i outcome (shown rows new named sums options) → IsShown rows new named sums options
-  store_kept i outcome new place j v stored unmarked heads clean follows = record {
+  -- a local was written
+  pub local_kept : (i : Instruction) (outcome : Outcome) (j v : ℕ)
+      → Follows s i outcome (shown (record w { locals = slice_set w.locals j v }) sums options)
+      → IsShown (record w { locals = slice_set w.locals j v }) sums options
+  local_kept i outcome j v =
+      names_kept i outcome (slice_set w.locals j v) w.handles w.entries w.ready
+      (length-slice_set w.locals j v ∙ is.locals)
+
+  -- room was made in the finalisation queue, whose places stayed
+  module _ (entries ready : List ℕ) (same : entries ≡ w.entries) (waiting : ready ≡ w.ready) where
+    same-world : w ≡ record w { entries = entries; ready = ready }
+    same-world = λ k. record w { entries = sym same k; ready = sym waiting k }
+
+    pub room_follows : (i : Instruction) (outcome : Outcome) → Follows s i outcome (shown w sums options)
+        → Follows s i outcome (shown (record w { entries = entries; ready = ready }) sums options)
+    room_follows i outcome = subst (λ (v : World). Follows s i outcome (shown v sums options)) same-world
+
+    pub room_kept : IsShown (record w { entries = entries; ready = ready }) sums options
+    room_kept = subst (λ (v : World). IsShown v sums options) same-world is
+
+  -- words of objects were written
+  pub heap_kept : (i : Instruction) (outcome : Outcome) (new : HeapView) → IsHeld w.rows new
+      → (IsUnmarked w.rows w.heap → IsUnmarked w.rows new) → (AreFreeHeads w.rows w.heap → AreFreeHeads w.rows new)
+      → (AreClean w.rows w.heap → AreClean w.rows new)
+      → Follows s i outcome (shown (record w { heap = new }) sums options)
+      → IsShown (record w { heap = new }) sums options
+  heap_kept i outcome new held unmarked heads clean follows = record {
     locals = is.locals;
-    held = stored.held;
-    plain = is.plain;
+    held = held;
     unmarked = unmarked is.unmarked;
     free_heads = heads is.free_heads;
     clean = clean is.clean;
-    sound = follows_sound s i outcome (shown rows new named sums options) is.sound follows;
+    sound = follows_sound s i outcome (shown (record w { heap = new }) sums options) is.sound follows;
   }

@@ -1,13 +1,14 @@
 -- The lines that work on a slot, on what is seen.
-use Rattle.std.proofs.Common.{◌≡◌, ℕ, ◌<◌, ◌^◌, List, [], ◌∷◌, refl, sym, ap, subst, ◌∙◌, slice_set, Bool, true, false}
+use Rattle.std.proofs.Common.{◌≡◌, ℕ, ◌<◌, ◌^◌, [], ◌∷◌, refl, sym, ap, subst, ◌∙◌, slice_set, Bool, true, false}
 use Rattle.std.proofs.Common.{Some, None}
 use Rattle.std.specs.Prelude.{slice_get, Err}
-use Rattle.clr_types.specs.Types.{TypeRow, form_at}
+use Rattle.clr_types.specs.Types.{form_at}
 use Rattle.clr_types.specs.declared.item.Item.{Item}
 use Rattle.clr_types.specs.declared.shape.Slot.{Slot}
 use Rattle.clr_heap.specs.View.{HeapView, word_of}
 use Rattle.clr_view.specs.Shown.{shown}
 use Rattle.clr_view.specs.View.{HasStored, object_in, word_value}
+use Rattle.clr_view.specs.World.{World}
 use Rattle.clr_view.proofs.SlotReads.{slot-kind}
 use Rattle.clr_model.specs.declared.Refusal.{Refusal}
 use Rattle.clr_model.specs.declared.Reply.TheVariants.{Done, Number, Place}
@@ -30,44 +31,45 @@ use Rattle.clr_runtime.proofs.SlotsChecked.{slot_refused, works}
 value-of : (b : Bool) (v : ℕ) (kind : Bool) → b ≡ kind → word_value b v ≡ word_value kind v
 value-of b v kind e = ap (λ k. word_value k v) e
 
-module _ (rows : List TypeRow) (h : HeapView) (named : List ℕ) (sums : Sums) (options : Options) where
+module _ (w : World) (sums : Sums) (options : Options) where
   abbrev s : Machine
-  s = shown rows h named sums options
+  s = shown w sums options
 
   -- the line is refused for the first check on the object and the slot that fails
   pub refused_slot : (l : SlotLine) (place : ℕ) → names_refusal s l.thread l.locals ≡ None
-      → place ≡ local_of s l.thread l.object → (r : Refusal) → IsFound rows h place l.index l.wants (Err r)
+      → place ≡ local_of s l.thread l.object → (r : Refusal) → IsFound w.rows w.heap place l.index l.wants (Err r)
       → Follows s l.instruction (refused r) s
   refused_slot l place passed at r fails =
       let (run, locals) = names_passed s l.thread l.locals refl passed in
-      slot_refused rows h s refl l run locals place at r fails
+      slot_refused w.rows w.heap s refl l run locals place at r fails
 
-  module _ (t place index : ℕ) (i : Item) (slot : Slot) (has : HasItsSlot rows h place index i slot) where
+  module _ (t place index : ℕ) (i : Item) (slot : Slot) (has : HasItsSlot w.rows w.heap place index i slot) where
     -- the line works on the object that has the slot
     on : (l : SlotLine) → names_refusal s l.thread l.locals ≡ None → place ≡ local_of s l.thread l.object
-        → WorksOn s l (object_in rows (word_of h) i)
+        → WorksOn s l (object_in w.rows (word_of w.heap) i)
     on l passed at =
         let (run, locals) = names_passed s l.thread l.locals refl passed in
-        works rows h s refl l run locals place at i has.some has.object
+        works w.rows w.heap s refl l run locals place at i has.some has.object
 
     -- `get`
     pub got : (to from j v : ℕ) → names_refusal s t (to ∷ from ∷ []) ≡ None → place ≡ local_of s t from
         → slot.reference ≡ true
-        → slice_get (object_in rows (word_of h) i).slots index ≡ Some (word_value slot.reference v)
+        → slice_get (object_in w.rows (word_of w.heap) i).slots index ≡ Some (word_value slot.reference v)
         → j ≡ local_index t to
-        → Follows s (get_slot t to from index) (answered (Place v)) (shown rows h (slice_set named j v) sums options)
+        → Follows s (get_slot t to from index) (answered (Place v))
+        (shown (record w { locals = slice_set w.locals j v }) sums options)
     got to from j v passed at kind e written =
         local_written s (get_slot t to from index) (answered (Place v)) t to v j written
-        (get_done s t to from index (object_in rows (word_of h) i) (on (get_of t to from index) passed at) v
+        (get_done s t to from index (object_in w.rows (word_of w.heap) i) (on (get_of t to from index) passed at) v
         (e ∙ ap (λ (x : Value). Some x) (value-of slot.reference v true kind)))
 
     -- `read`
     pub was_read : (from v : ℕ) → names_refusal s t (from ∷ from ∷ []) ≡ None → place ≡ local_of s t from
         → slot.reference ≡ false
-        → slice_get (object_in rows (word_of h) i).slots index ≡ Some (word_value slot.reference v)
+        → slice_get (object_in w.rows (word_of w.heap) i).slots index ≡ Some (word_value slot.reference v)
         → Follows s (read_number t from index) (answered (Number v)) s
     was_read from v passed at kind e =
-        read_done s t from index (object_in rows (word_of h) i)
+        read_done s t from index (object_in w.rows (word_of w.heap) i)
         (on (read_of t from index) (once s t from None passed) at) v
         (e ∙ ap (λ (x : Value). Some x) (value-of slot.reference v false kind))
 
@@ -75,48 +77,51 @@ module _ (rows : List TypeRow) (h : HeapView) (named : List ℕ) (sums : Sums) (
 
     -- the slot is of this kind, whatever it holds
     kind-held : (kind : Bool) → slot.reference ≡ kind
-        → (v : ℕ) × (slice_get (object_in rows (word_of h) i).slots index ≡ Some (word_value kind v))
+        → (v : ℕ) × (slice_get (object_in w.rows (word_of w.heap) i).slots index ≡ Some (word_value kind v))
     kind-held kind e =
-        let (v, held) = slot-kind rows (word_of h) i index slot has.slot in
+        let (v, held) = slot-kind w.rows (word_of w.heap) i index slot has.slot in
         (v, held ∙ ap (λ (x : Value). Some x) (value-of slot.reference v kind e))
 
     module _ (new : HeapView) where
       -- the machine that the heap shows, with another value in the slot
       stored-shown : (name v : ℕ) (kind : Bool) → i.place ≡ name → slot.reference ≡ kind
-          → HasStored rows h new i.place index (word_value slot.reference v)
-          → with_slot s name index (word_value kind v) ≡ shown rows new named sums options
+          → HasStored w.rows w.heap new i.place index (word_value slot.reference v)
+          → with_slot s name index (word_value kind v) ≡ shown (record w { heap = new }) sums options
       stored-shown name v kind there is stored =
           let objects = stored.objects in
           let layout = stored.layout in
           (λ k. with_slot s (sym there k) index (sym (value-of slot.reference v kind is) k))
-          ∙ (λ k. record (shown rows new named sums options) { objects = sym objects k; layout = sym layout k })
+          ∙ (λ k. record (shown (record w { heap = new }) sums options) {
+            objects = sym objects k;
+            layout = sym layout k;
+          })
 
       -- `set`
       pub was_set : (into from v : ℕ) → names_refusal s t (into ∷ from ∷ []) ≡ None → place ≡ local_of s t into
           → v ≡ local_of s t from → slot.reference ≡ true
-          → HasStored rows h new i.place index (word_value slot.reference v)
-          → Follows s (set_slot t into index from) (answered Done) (shown rows new named sums options)
+          → HasStored w.rows w.heap new i.place index (word_value slot.reference v)
+          → Follows s (set_slot t into index from) (answered Done) (shown (record w { heap = new }) sums options)
       was_set into from v passed at is kind stored =
           let (name, held) = kind-held true kind in
           let after : with_slot s (local_of s t into) index (ref (local_of s t from))
-          ≡ shown rows new named sums options =
+          ≡ shown (record w { heap = new }) sums options =
           ap (λ n. with_slot s (local_of s t into) index (ref n)) (sym is)
           ∙ stored-shown (local_of s t into) v true (has.object.at ∙ at) kind stored in
           subst (Follows s (set_slot t into index from) (answered Done)) after
-          (set_done s t into index from (object_in rows (word_of h) i) (on (set_of t into index from) passed at) name
-          held)
+          (set_done s t into index from (object_in w.rows (word_of w.heap) i)
+          (on (set_of t into index from) passed at) name held)
 
       -- `put`
       pub was_put : (into value number : ℕ) → value < 2 ^ 64 → names_refusal s t (into ∷ into ∷ []) ≡ None
-          → place ≡ local_of s t into → number ≡ stored_number (form_at rows i.type_id.0) value
-          → slot.reference ≡ false → HasStored rows h new i.place index (word_value slot.reference number)
-          → Follows s (put_number t into index value) (answered Done) (shown rows new named sums options)
+          → place ≡ local_of s t into → number ≡ stored_number (form_at w.rows i.type_id.0) value
+          → slot.reference ≡ false → HasStored w.rows w.heap new i.place index (word_value slot.reference number)
+          → Follows s (put_number t into index value) (answered Done) (shown (record w { heap = new }) sums options)
       was_put into value number word passed at is kind stored =
           let (old, held) = kind-held false kind in
-          let after : with_slot s (local_of s t into) index (num (stored_number (form_at rows i.type_id.0) value))
-          ≡ shown rows new named sums options =
+          let after : with_slot s (local_of s t into) index (num (stored_number (form_at w.rows i.type_id.0) value))
+          ≡ shown (record w { heap = new }) sums options =
           ap (λ n. with_slot s (local_of s t into) index (num n)) (sym is)
           ∙ stored-shown (local_of s t into) number false (has.object.at ∙ at) kind stored in
           subst (Follows s (put_number t into index value) (answered Done)) after
-          (put_done s t into index value word (object_in rows (word_of h) i)
+          (put_done s t into index value word (object_in w.rows (word_of w.heap) i)
           (on (put_of t into index value word) (once s t into None passed) at) old held)

@@ -4,3 +4,4 @@ pub mod Outcomes
 pub mod Checks
 pub mod Births
 pub mod Slots
+pub mod Handles

@@ -1,11 +1,13 @@
 -- What the results of a runtime's calls say.
 use Rattle.std.specs.Prelude.{ℕ, Result, Ok, Err}
 use Rattle.clr_model.specs.declared.Collected as code
-use Rattle.clr_model.specs.declared.Reply.TheVariants.{Collected, Done, Mt, Number, Place}
+use Rattle.clr_model.specs.declared.Reply.TheVariants.{Collected, Done, HandleNumber, Mt, Number, Place}
 use Rattle.clr_model.specs.declared.Refusal.{Refusal}
 use Rattle.clr_model.specs.declared.Refusal.TheVariants as refusal
 use Rattle.clr_types.specs.declared.fault.DefineFault.{DefineFault}
 use Rattle.clr_types.specs.declared.fault.DefineFault.TheVariants as fault
+use Rattle.clr_handles.specs.declared.fault.CreateFault.{CreateFault}
+use Rattle.clr_handles.specs.declared.fault.CreateFault.TheVariants as creation
 use Rattle.clr_model.specs.Outcomes as model
 
 -- what a call tells that gives a method table word
@@ -23,6 +25,11 @@ abbrev pub number_outcome : Result ℕ Refusal → model.Outcome
 number_outcome (Ok number) = model.answered (Number number)
 number_outcome (Err refusal) = model.refused refusal
 
+-- what a call tells that gives the number of a handle
+abbrev pub handle_outcome : Result ℕ Refusal → model.Outcome
+handle_outcome (Ok h) = model.answered (HandleNumber h)
+handle_outcome (Err refusal) = model.refused refusal
+
 -- what a call tells that collects
 abbrev pub collected_outcome : Result code.Collected Refusal → model.Outcome
 collected_outcome (Ok collected) = model.answered (Collected collected)
@@ -39,3 +46,8 @@ refusal_of_fault fault.Duplicate = refusal.DuplicateType
 refusal_of_fault fault.BadShape = refusal.BadShape
 refusal_of_fault fault.TooManyTypes = refusal.TooManyTypes
 refusal_of_fault fault.NoMemory = refusal.NoMemory
+
+-- how a refusal of the table of handles is told
+abbrev pub refusal_of_create : CreateFault → Refusal
+refusal_of_create creation.TooManyHandles = refusal.TooManyHandles
+refusal_of_create creation.NoMemory = refusal.NoMemory

@@ -1,12 +1,10 @@
 -- What holds of the parts of a runtime, and the machine that they show.
-use Rattle.std.specs.Prelude.{◌≡◌, ℕ, List, length, false}
-use Rattle.std.specs.List.{AllByRecursion}
-use Rattle.clr_types.specs.Types.{TypeRow}
-use Rattle.clr_heap.specs.View.{HeapView}
+use Rattle.std.specs.Prelude.{◌≡◌, length}
 use Rattle.clr_view.specs.Clean.{AreClean}
 use Rattle.clr_view.specs.Marks.{IsUnmarked}
 use Rattle.clr_view.specs.Shown.{shown}
 use Rattle.clr_view.specs.View.{AreFreeHeads, IsHeld}
+use Rattle.clr_view.specs.World.{World}
 use Rattle.clr_model.specs.Machine.{Machine, Options, Sums}
 use Rattle.clr_model.specs.Lawful.{IsPlaceNamed}
 use Rattle.clr_ctx.specs.Contexts.{IsIndex}
@@ -22,25 +20,33 @@ sums_of s = record {
   promoted2 = s.promoted2;
 }
 
-abbrev pub seen : Inside → Machine
-seen r = shown r.types r.heap r.locals.items (sums_of r.sums) (options_of r.options)
+-- the types, the heap, and all that names objects from outside of it
+abbrev pub world_of : Inside → World
+world_of r = record {
+  rows = r.types;
+  heap = r.heap;
+  locals = r.locals.items;
+  handles = r.handles;
+  entries = r.finals.entries;
+  ready = r.finals.ready;
+}
 
--- What holds of the parts of a runtime. What is seen is lawful, and its objects are named by their places.
--- No type has a finaliser yet. Between lines no object is marked, and no free item's head is. The headers and the
--- padding of objects say nothing else.
-pub record IsShown (rows : List TypeRow) (heap : HeapView) (named : List ℕ) (sums : Sums) (options : Options)
-    : Type 0 where
-  pub locals : length named ≡ 1024
-  pub held : IsHeld rows heap
-  pub plain : AllByRecursion (λ (row : TypeRow). row.finalizer ≡ false) rows
-  pub unmarked : IsUnmarked rows heap
-  pub free_heads : AreFreeHeads rows heap
-  pub clean : AreClean rows heap
-  pub sound : IsPlaceNamed (shown rows heap named sums options)
+abbrev pub seen : Inside → Machine
+seen r = shown (world_of r) (sums_of r.sums) (options_of r.options)
+
+-- What holds of the parts of a runtime. What is seen is lawful, and its objects are named by their places. Between
+-- lines no object is marked, and no free item's head is. The headers and the padding of objects say nothing else.
+pub record IsShown (w : World) (sums : Sums) (options : Options) : Type 0 where
+  pub locals : length w.locals ≡ 1024
+  pub held : IsHeld w.rows w.heap
+  pub unmarked : IsUnmarked w.rows w.heap
+  pub free_heads : AreFreeHeads w.rows w.heap
+  pub clean : AreClean w.rows w.heap
+  pub sound : IsPlaceNamed (shown w sums options)
 
 -- what holds of each runtime: that, its contexts keep the index of this heap, and segments are limited as the options
 -- say
 pub record IsRuntime (r : Inside) : Type 0 where
-  pub shown : IsShown r.types r.heap r.locals.items (sums_of r.sums) (options_of r.options)
+  pub shown : IsShown (world_of r) (sums_of r.sums) (options_of r.options)
   pub index : IsIndex r.types r.heap r.contexts
   pub limit : r.heap.limit ≡ r.options.limit

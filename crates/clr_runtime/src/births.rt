@@ -1,12 +1,14 @@
 //! The line that makes an object.
-ghost use Rattle.std.specs.Prelude.{◌≡◌, ◌<◌, ◌≤◌, ◌%◌};
+ghost use Rattle.std.specs.Prelude.{◌≡◌, ◌<◌, ◌≤◌, ◌%◌, ◌++◌, [], ◌∷◌, OnErr, OnOk, true, if◌then◌else◌};
 ghost use Rattle.clr_view.specs.View.{IsHeld};
 ghost use Rattle.clr_ctx.specs.Contexts.{IsIndex};
 ghost use Rattle.clr_runtime.specs.Births.{HasRoomMade, IsDefined, Measured};
 
+use crate::NoMemory;
 use crate::checks::index_of;
 use crate::runtime::{LOCALS_OF_A_THREAD, Runtime};
 use clr_ctx::Contexts;
+use clr_final::Finals;
 use clr_heap::Heap;
 use clr_model::Refusal;
 use clr_types::{TypeId, Types};
@@ -23,9 +25,12 @@ impl Runtime {
     /// Makes an object of the type of this name, with `len` elements where it is an array, at the front of the context
     /// of thread `t`, and gives its place, which the local takes.
     ///
+    /// Where the type has a finaliser, the object is put among those that are to be finalised.
+    ///
     /// It is refused for an unknown thread or type, a length that doesn't suit the type, a local from 64 on, and 85,000
-    /// bytes and more, in this order; and with `Oom` exactly where neither the context nor the rest of generation 0 has
-    /// room.
+    /// bytes and more, in this order; then with `NoMemory` where a finalisation entry is wanted and there is no memory
+    /// for it; and with `Oom` exactly where neither the context nor the rest of generation 0 has room. A refused line
+    /// changes nothing.
     pub fn new_object(
         &mut self,
         t: u64,
@@ -41,6 +46,10 @@ impl Runtime {
         let (type_id, size) = match measure(&self.types, local, name, len) {
             Ok(measured) => measured,
             Err(refusal) => return Err(refusal),
+        };
+        let finalizer = self.types.finalizer(type_id);
+        let Ok(()) = reserve_entry(&mut self.finals, finalizer) else {
+            return Err(Refusal::NoMemory);
         };
         self.heap.lawful();
         let thread = t as usize;
@@ -60,6 +69,7 @@ impl Runtime {
             type_id,
             len.unwrap_or(0),
         );
+        register_entry(&mut self.finals, finalizer, place);
         self.locals[index_of(t, local)] = place;
         self.sums.spent0 += size;
         Ok(place)
@@ -122,4 +132,26 @@ fn make_room(
     ensures index { IsIndex types.now heap.new contexts.new }
 {
     contexts.fits(heap, thread, size) || contexts.refill(heap, types, thread, size).is_some()
+}
+
+// Makes room for an entry, where one is wanted.
+fn reserve_entry(finals: &mut Finals, wanted: bool) -> Result<(), NoMemory>
+    ensures ok { OnOk result (wanted ≡ true → 1 ≤ finals.new.spare) }
+    ensures err { OnErr result (wanted ≡ true) }
+    ensures entries { finals.new.entries ≡ finals.old.entries }
+    ensures ready { finals.new.ready ≡ finals.old.ready }
+{
+    if wanted { finals.reserve(1) } else { Ok(()) }
+}
+
+// Adds an entry for the object at a place, where one is wanted.
+fn register_entry(finals: &mut Finals, wanted: bool, place: u64)
+    requires { wanted ≡ true → 1 ≤ finals.old.spare }
+    ensures entries { finals.new.entries
+        ≡ (if wanted then finals.old.entries ++ place ∷ [] else finals.old.entries) }
+    ensures ready { finals.new.ready ≡ finals.old.ready }
+{
+    if wanted {
+        finals.register(place);
+    }
 }

@@ -14,8 +14,11 @@ impl Runtime {
     /// Collects the whole heap by a sweep, which is the one collection that is built: `g` is 2, and `how` is `Sweep`.
     /// Gives how many objects were kept and how many freed, and the bytes that went to generations 1 and 2.
     ///
-    /// The contexts of all threads are given up. Exactly the objects that the locals reach stay, at their places; each
-    /// is one generation older, up to 2. It is refused for an unknown thread, and takes no memory.
+    /// The contexts of all threads are given up. Exactly the objects stay that locals, strong and pinned handles, the
+    /// f-reachable queue and woken entries reach, by slots and by dependent handles, at their places; each is one
+    /// generation older, up to 2. Entries of objects that only finalisation would reach are woken, or dropped where the
+    /// finaliser is suppressed, and weak and dependent handles lose what goes. It is refused for an unknown thread, and
+    /// takes no memory.
     pub fn collect(&mut self, t: u64, g: u8, how: How) -> Result<Collected, Refusal>
         requires full { g ≡ 2 }
         requires sweeping { how ≡ How.Sweep }
@@ -31,6 +34,8 @@ impl Runtime {
             &mut self.heap,
             &mut self.marker,
             &mut self.contexts,
+            &mut self.handles,
+            &mut self.finals,
             &self.locals,
         );
         self.sums = Sums {

@@ -8,9 +8,9 @@ pub use clr_mark::NoMemory;
 mod births;
 mod checks;
 mod collections;
+mod finalizers;
+mod handles;
 mod options;
 mod runtime;
 mod slots;
 mod sums;
-#[cfg(test)]
-mod tests;

@@ -1,5 +1,5 @@
-//! The types, the heap and the locals that the lines of a script work on.
-ghost use Rattle.std.specs.Prelude.{◌≡◌, ◌≤◌, IfOk, length, replicate, false, true};
+//! What the lines of a script work on: types, heap, locals, handles, and the finalisation queue.
+ghost use Rattle.std.specs.Prelude.{◌≡◌, ◌≤◌, IfOk, length, replicate, true};
 ghost use Rattle.clr_types.specs.Types.{form_of};
 ghost use Rattle.clr_runtime.specs.Options.{options_of};
 ghost use Rattle.clr_runtime.specs.Outcomes.{refusal_of_fault};
@@ -8,6 +8,8 @@ use crate::NoMemory;
 use crate::options::Options;
 use crate::sums::Sums;
 use clr_ctx::Contexts;
+use clr_final::Finals;
+use clr_handles::Handles;
 use clr_heap::Heap;
 use clr_mark::Marker;
 use clr_model::Refusal;
@@ -21,7 +23,8 @@ const MARK_STACK: usize = 1024;
 /// So many locals has each of the 16 threads.
 pub(crate) const LOCALS_OF_A_THREAD: u64 = 64;
 
-/// The types, the heap, the contexts, the marker and the locals of a script that runs. Each call is one line.
+/// The types, the heap, the contexts, the marker, the locals, the handles and the finalisation queue of a script that
+/// runs. Each call is one line.
 ///
 /// Contracts see the machine whose objects are named by their places. After each call the runtime stands for the next
 /// state of each graph machine that it stood for before, and the answer is that step's reply. A refused call leaves the
@@ -33,6 +36,8 @@ pub struct Runtime {
     pub(crate) contexts: Contexts,
     pub(crate) marker: Marker,
     pub(crate) locals: Vec<u64>,
+    pub(crate) handles: Handles,
+    pub(crate) finals: Finals,
     pub(crate) sums: Sums,
     pub(crate) options: Options,
 }
@@ -65,7 +70,7 @@ impl Runtime {
     ghost use Rattle.clr_view.specs.View.{AreFreeHeads, IsHeld, layout_in, objects_in};
     ghost use Rattle.clr_runtime.specs.Outcomes.{mt_outcome};
 
-    /// No types, no objects, and every local is null.
+    /// No types, no objects, no handles, and every local is null.
     pub fn new(alloc: Global, options: Options) -> Result<Runtime, NoMemory>
         requires { AreLawfulOptions (options_of options) }
         ensures { IfOk result (λ runtime. StandsFor runtime (opening (options_of options))) }
@@ -98,18 +103,19 @@ impl Runtime {
             contexts: Contexts::new(alloc),
             marker,
             locals,
+            handles: Handles::new(alloc),
+            finals: Finals::new(alloc),
             sums: Sums::NONE,
             options,
         })
     }
 
-    /// Defines a type, and gives its method table word. The name is one that a line can spell. No type has a finaliser
-    /// yet.
+    /// Defines a type, and gives its method table word. The name is one that a line can spell. With `finalizer` its
+    /// objects are finalised once they die.
     ///
     /// The refusals are those of `Types::define`, in their order.
     pub fn define(&mut self, name: &[u8], shape: Shape<'_>, finalizer: bool) -> Result<u64, Refusal>
-        requires named { is_name name.now ≡ true }
-        requires plain { finalizer ≡ false }
+        requires { is_name name.now ≡ true }
         ensures { Follows self.old (define_type name.now (form_of shape.entry) finalizer) (mt_outcome result) self.new }
     {
         match self.types.define(name, shape, finalizer) {

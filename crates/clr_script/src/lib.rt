@@ -9,8 +9,6 @@ mod options;
 mod reader;
 mod reply;
 mod shapes;
-#[cfg(test)]
-mod tests;
 mod threads;
 
 pub use access::{Access, read_access};

@@ -16,13 +16,13 @@ use Rattle.clr_heap.specs.Parts.{item_at}
 use Rattle.clr_heap.specs.View.{frame, heap_items, HeapView, IsHeap, opening_heap, placed, stored, word_of}
 use Rattle.clr_heap.proofs.Placing.{Placed, placed_leaves}
 use Rattle.clr_model.specs.Allocation.{context_front}
-use Rattle.clr_model.specs.Machine.{Object, Value}
+use Rattle.clr_model.specs.Machine.{Object}
 use Rattle.clr_view.specs.Clean.{AreClean, AreZero, HasCleanWords, IsCleanHeader, slots_end}
 use Rattle.clr_view.specs.Memory.{word_without_mark}
 use Rattle.clr_view.specs.SlotValues.{StandsAt}
-use Rattle.clr_view.specs.View.{HasStored, IsHeld, is_object, KeepsObjects, newborn_at, object_in, objects_in}
+use Rattle.clr_view.specs.View.{IsHeld, is_object, KeepsObjects, newborn_at, object_in, objects_in}
 use Rattle.clr_view.proofs.Bearing.{born-listed, born-stands, IsBirth}
-use Rattle.clr_view.proofs.FreeHeads.{listed_room, outside-heads}
+use Rattle.clr_view.proofs.FreeHeads.{listed_room, outside-header}
 use Rattle.clr_view.proofs.Items.{stacked-apart}
 use Rattle.clr_view.proofs.Listed.{in_append, listed-above, listed-item, listed-sized}
 use Rattle.clr_view.proofs.Listings.{heap-rise, heap-stacked}
@@ -30,8 +30,9 @@ use Rattle.clr_view.proofs.ObjectItems.{in_map, stands-head, stands-item}
 use Rattle.clr_view.proofs.Opening.{items-none}
 use Rattle.clr_view.proofs.Padding.{clean-clear, clean-stays, padding-word}
 use Rattle.clr_view.proofs.Rises.{objects-rise}
-use Rattle.clr_view.proofs.Stores.{below, elsewhere, IsCellWord, there-now}
-use Rattle.clr_view.proofs.TypeMore.{form-stays, item-known, items-stay, row-stays}
+use Rattle.clr_view.proofs.Stores.{elsewhere, IsCellWord, items-stay, there-now}
+use Rattle.clr_view.proofs.TypeMore as more
+use Rattle.clr_view.proofs.TypeMore.{form-stays, item-known, row-stays}
 
 -- ---- objects that stay
 
@@ -214,8 +215,8 @@ module _ (rows : List TypeRow) (h : HeapView) (i : Item) (a v : ℕ) (heap : IsH
       let here = padding-word (form_at rows x.type_id.0) x.len x.place p own.aligned low (omega arith) in
       let above = here.above in
       let under = here.below in
-      let up = slot.cell.above in
-      let down = below rows h i a v heap held slot in
+      let up = slot.low in
+      let down = slot.high in
       elim (cases_eq x.place i.place) [
         | inl same ↦ rising_same (λ (y : Item). y.place) (heap_items rows h) x i (heap-rise rows h held.walkable heap)
             listed slot.listed same
@@ -226,17 +227,43 @@ module _ (rows : List TypeRow) (h : HeapView) (i : Item) (a v : ℕ) (heap : IsH
             ]
       ]
 
-  -- A STORE into a slot leaves all words clean
-  pub clean_stored : (place j : ℕ) (value : Value) → HasStored rows h (stored h a v) place j value → LeavesPadding
-      → AreClean rows h → AreClean rows (stored h a v)
-  clean_stored place j value has leaves clean x listed object =
-      let there = subst (IsIn x) has.items listed in
-      let z = (listed_room rows h heap held x there).0 in
+  -- the item's header comes to be a clean one
+  abbrev pub LeavesHeader : Type 0
+  LeavesHeader = IsCleanHeader rows i.type_id.0 (word_of h (i.place - 8))
+      → IsCleanHeader rows i.type_id.0 (word_of (stored h a v) (i.place - 8))
+
+  -- a word behind the head is no header
+  pub behind-header : i.place + 8 ≤ a → LeavesHeader
+  behind-header above was =
+      let z = (listed_room rows h heap held i slot.listed).0 in
+      let stays = elsewhere rows h i a v heap held slot (i.place - 8) (omega arith)
+      (outside-header rows h i a v heap held slot i slot.listed (inr above)) in
+      subst (IsCleanHeader rows i.type_id.0) (sym stays) was
+
+  header-stored : LeavesHeader → (x : Item) → IsIn x (heap_items rows h)
+      → IsCleanHeader rows x.type_id.0 (word_of h (x.place - 8))
+      → IsCleanHeader rows x.type_id.0 (word_of (stored h a v) (x.place - 8))
+  header-stored own x listed was = elim (cases_eq x.place i.place) [
+    | inl same ↦
+        let one : i ≡ x = rising_same (λ (y : Item). y.place) (heap_items rows h) i x
+        (heap-rise rows h held.walkable heap) slot.listed listed (sym same) in
+        subst (λ (y : Item). IsCleanHeader rows y.type_id.0 (word_of h (y.place - 8))
+        → IsCleanHeader rows y.type_id.0 (word_of (stored h a v) (y.place - 8))) one own was
+    | inr other ↦
+        let z = (listed_room rows h heap held x listed).0 in
+        let stays = elsewhere rows h i a v heap held slot (x.place - 8) (omega arith)
+        (outside-header rows h i a v heap held slot x listed (inl other)) in
+        subst (IsCleanHeader rows x.type_id.0) (sym stays) was
+  ]
+
+  -- A STORE into an object's cell leaves all words clean
+  pub clean_stored : LeavesHeader → LeavesPadding → AreClean rows h → AreClean rows (stored h a v)
+  clean_stored own leaves clean x listed object =
+      let there = subst (IsIn x) (items-stay rows h i a v heap held slot) listed in
       let was = clean x there object in
       let stays = elsewhere rows h i a v heap held slot in
-      let header = stays (x.place - 8) (omega arith) (outside-heads rows h i a v heap held slot x there).1 in
       record {
-        header = subst (IsCleanHeader rows x.type_id.0) (sym header) was.header;
+        header = header-stored own x there was.header;
         padding = λ p low high. elim (cases_eq (word_address p) a) [
           | inl at ↦
               let same = own-padding x there p low high at in
@@ -258,7 +285,7 @@ module _ (rows : List TypeRow) (h : HeapView) (i : Item) (a v : ℕ) (heap : IsH
 pub clean_with_type : (rows : List TypeRow) (row : TypeRow) (h : HeapView) → IsHeld rows h → AreClean rows h
     → AreClean (rows ++ row ∷ []) h
 clean_with_type rows row h held clean i listed object =
-    let there = subst (IsIn i) (items-stay rows row h held.walkable) listed in
+    let there = subst (IsIn i) (more.items-stay rows row h held.walkable) listed in
     let was = clean i there object in
     let known = item-known rows row h held.walkable i there in
     let word = word_of h in

@@ -16,16 +16,15 @@ use Rattle.clr_heap.specs.Parts.{item_at, item_piece}
 use Rattle.clr_heap.specs.View.{frame, HeapView, heap_items, IsHeap, opening_heap, placed, stored, word_of}
 use Rattle.clr_heap.proofs.Placing.{Placed, placed_leaves}
 use Rattle.clr_model.specs.Allocation.{context_front}
-use Rattle.clr_model.specs.Machine.{Value}
-use Rattle.clr_view.specs.View.{AreFreeHeads, free_in, HaveFreeHeads, HasStored, is_free, IsFreeHead, IsHeld, is_object}
+use Rattle.clr_view.specs.View.{AreFreeHeads, free_in, HaveFreeHeads, is_free, IsFreeHead, IsHeld, is_object}
 use Rattle.clr_view.proofs.Bearing.{born-stands, IsBirth}
 use Rattle.clr_view.proofs.Items.{stacked-apart}
 use Rattle.clr_view.proofs.Listed.{in_append, listed-head, listed-spelled}
 use Rattle.clr_view.proofs.Listings.{heap-rise, heap-stacked}
 use Rattle.clr_view.proofs.ObjectItems.{stands-head, stands-item}
 use Rattle.clr_view.proofs.Opening.{items-none}
-use Rattle.clr_view.proofs.Stores.{below, elsewhere, IsCellWord}
-use Rattle.clr_view.proofs.TypeMore.{items-stay}
+use Rattle.clr_view.proofs.Stores.{elsewhere, IsCellWord, items-stay}
+use Rattle.clr_view.proofs.TypeMore as more
 
 -- a free head whose two words stay
 pub head_stays : (old new : ℕ → ℕ) (place : ℕ) → new (place - 8) ≡ old (place - 8) → new place ≡ old place
@@ -135,31 +134,51 @@ module _ (rows : List TypeRow) (old new : HeapView) (thread t n : ℕ) (birth : 
 
 module _ (rows : List TypeRow) (h : HeapView) (i : Item) (a v : ℕ) (heap : IsHeap h) (held : IsHeld rows h)
     (slot : IsCellWord rows h i a) where
-  -- the word stands in no item's head
-  pub outside-heads : (x : Item) → IsIn x (heap_items rows h) → (x.place ≢ a) × (x.place - 8 ≢ a)
-  outside-heads x listed =
-      let up = slot.cell.above in
-      let down = below rows h i a v heap held slot in
-      let room = listed_room rows h heap held x listed in
+  -- the word is no item's method table word
+  pub outside-mt : (x : Item) → IsIn x (heap_items rows h) → x.place ≢ a
+  outside-mt x listed =
+      let low = slot.low in
+      let high = slot.high in
+      let no_mt = slot.no_mt in
+      let least = (listed_room rows h heap held x listed).1 in
       elim (cases_eq x.place i.place) [
-        | inl own ↦ (λ e. omega arith, λ e. omega arith)
+        | inl own ↦ λ e. no_mt (sym e ∙ own)
         | inr other ↦ elim (stacked-apart (heap_items rows h) x i (heap-stacked rows h held.walkable heap) listed
-            slot.listed other) [
-              | inl under ↦ (λ e. omega arith, λ e. omega arith)
-              | inr over ↦ (λ e. omega arith, λ e. omega arith)
-            ]
+            slot.listed other) [ inl under ↦ λ e. omega arith | inr over ↦ λ e. omega arith ]
       ]
 
-  -- A STORE into a slot changes no free item's head
-  pub heads_stored : (place j : ℕ) (value : Value) → HasStored rows h (stored h a v) place j value → AreFreeHeads rows h
-      → AreFreeHeads rows (stored h a v)
-  heads_stored place j value has heads x listed free =
-      let there = subst (IsIn x) has.items listed in
+  -- and no other item's header
+  pub outside-header : (x : Item) → IsIn x (heap_items rows h) → x.place ≢ i.place ⊎ (i.place + 8 ≤ a)
+      → x.place - 8 ≢ a
+  outside-header x listed apart =
+      let low = slot.low in
+      let high = slot.high in
+      let room = listed_room rows h heap held x listed in
+      elim (cases_eq x.place i.place) [
+        | inl own ↦ elim apart [ inl other ↦ absurd (other own) | inr above ↦ λ e. omega arith ]
+        | inr other ↦ elim (stacked-apart (heap_items rows h) x i (heap-stacked rows h held.walkable heap) listed
+            slot.listed other) [ inl under ↦ λ e. omega arith | inr over ↦ λ e. omega arith ]
+      ]
+
+  -- A STORE into an object's cell, or behind a head, changes no free item's head
+  pub heads_stored : is_object i ≡ true ⊎ (i.place + 8 ≤ a) → AreFreeHeads rows h → AreFreeHeads rows (stored h a v)
+  heads_stored own heads x listed free =
+      let there = subst (IsIn x) (items-stay rows h i a v heap held slot) listed in
       let z = (listed_room rows h heap held x there).0 in
-      let (mt, header) = outside-heads x there in
       let stays = elsewhere rows h i a v heap held slot in
-      head_stays (word_of h) (word_of (stored h a v)) x.place (stays (x.place - 8) (omega arith) header)
-      (stays x.place z mt) (heads x there free)
+      head_stays (word_of h) (word_of (stored h a v)) x.place
+      (stays (x.place - 8) (omega arith) (outside-header x there (elim own [
+        | inl object ↦ inl (λ same. apart object (sym free) same there)
+        | inr above ↦ inr above
+      ]))) (stays x.place z (outside-mt x there)) (heads x there free)
+    where
+      apart : is_object i ≡ true → true ≡ is_free x → x.place ≡ i.place → IsIn x (heap_items rows h) → ⊥
+      apart object free same there =
+          let distinct =
+          rising-distinct (λ (y : Item). y.place) (heap_items rows h) (heap-rise rows h held.walkable heap) in
+          let one : i ≡ x = same_by_key (λ (y : Item). y.place) (heap_items rows h) i x distinct slot.listed there
+          (sym same) in
+          true≢false (sym object ∙ ap is_object one ∙ ap not (sym free))
 
 -- ---- types
 
@@ -167,7 +186,7 @@ module _ (rows : List TypeRow) (h : HeapView) (i : Item) (a v : ℕ) (heap : IsH
 pub heads_with_type : (rows : List TypeRow) (row : TypeRow) (h : HeapView) → IsHeld rows h → AreFreeHeads rows h
     → AreFreeHeads (rows ++ row ∷ []) h
 heads_with_type rows row h held heads i listed free =
-    heads i (subst (IsIn i) (items-stay rows row h held.walkable) listed) free
+    heads i (subst (IsIn i) (more.items-stay rows row h held.walkable) listed) free
 
 -- ---- the opening_heap
 

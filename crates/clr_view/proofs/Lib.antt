@@ -24,3 +24,5 @@ pub mod CleanWords
 pub mod LeftNames
 pub mod Among
 pub mod Standing
+pub mod Headers
+pub mod Worlds

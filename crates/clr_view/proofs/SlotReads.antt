@@ -21,13 +21,14 @@ use Rattle.clr_view.specs.View.{slot_value, word_value}
 use Rattle.clr_view.specs.Clean.{AreClean, slots_end}
 use Rattle.clr_view.specs.Marks.{IsUnmarked}
 use Rattle.clr_view.specs.SlotValues.{HasSlot, IsSlot, with_value, with_value_at}
-use Rattle.clr_view.proofs.CleanWords.{clean_stored, LeavesPadding}
+use Rattle.clr_view.proofs.CleanWords.{behind-header, clean_stored, LeavesPadding}
 use Rattle.clr_view.proofs.FreeHeads.{heads_stored}
 use Rattle.clr_view.proofs.Listed.{listed-head, listed-item, listed-low, listed-sized}
 use Rattle.clr_view.proofs.Padding.{slot-below-padding}
 use Rattle.clr_view.proofs.Slots.{slot_word, slot-inside}
 use Rattle.clr_view.proofs.StoredSlots.{bytes-form, kind-there, value-is}
-use Rattle.clr_view.proofs.Stores.{byte_slot_stored, byte_slot_word, cell_has_word, slot_stored, word_slot}
+use Rattle.clr_view.proofs.Stores.{byte_slot_above, byte_slot_stored, byte_slot_word, cell_has_word, slot_stored}
+use Rattle.clr_view.proofs.Stores.{word_slot, word_slot_above}
 use Rattle.clr_view.proofs.Unmarked.{unmarked_stored}
 
 -- ---- slots by number
@@ -215,7 +216,7 @@ module _ (rows : List TypeRow) (h : HeapView) (i : Item) (slot : Slot) (heap : I
       let same = ap (λ b. stored h b v) (address-is j has.is) ∙ sym new_is in
       subst (IsUnmarked rows) same
       (unmarked_stored rows h i (slot_address rows i j) v heap held (word_slot rows h i j v heap held slot.reference is)
-      i.place j (word_value slot.reference v) (slot_stored rows h i j v heap held slot.reference is) clear)
+      clear)
 
   -- nor does it change a free item's head
   pub word-heads : (new : HeapView) (v : ℕ) → is_bytes form ≡ false → new ≡ stored h a v → HasSlot rows i slot
@@ -226,7 +227,7 @@ module _ (rows : List TypeRow) (h : HeapView) (i : Item) (slot : Slot) (heap : I
       let same = ap (λ b. stored h b v) (address-is j has.is) ∙ sym new_is in
       subst (AreFreeHeads rows) same
       (heads_stored rows h i (slot_address rows i j) v heap held (word_slot rows h i j v heap held slot.reference is)
-      i.place j (word_value slot.reference v) (slot_stored rows h i j v heap held slot.reference is) heads)
+      (inr (word_slot_above rows h i j v heap held slot.reference is)) heads)
 
   -- or a header or padding
   pub word-clean : (new : HeapView) (v : ℕ) → is_bytes form ≡ false → new ≡ stored h a v → HasSlot rows i slot
@@ -238,13 +239,14 @@ module _ (rows : List TypeRow) (h : HeapView) (i : Item) (slot : Slot) (heap : I
       let same = ap (λ b. stored h b v) (address-is j has.is) ∙ sym new_is in
       let z = (listed-item rows h i heap held listed).aligned in
       let inside = kind-there (slot_kinds form i.len) j slot.reference is.kind in
-      let leaves : LeavesPadding rows h i at v heap held (word_slot rows h i j v heap held slot.reference is) =
-      λ p low here.
+      let cell = word_slot rows h i j v heap held slot.reference is in
+      let leaves : LeavesPadding rows h i at v heap held cell = λ p low here.
       let ends = slot-below-padding form i.len i.place j p z words inside low in
       absurd (omega arith) in
       subst (AreClean rows) same
-      (clean_stored rows h i at v heap held (word_slot rows h i j v heap held slot.reference is) i.place j
-      (word_value slot.reference v) (slot_stored rows h i j v heap held slot.reference is) leaves clean)
+      (clean_stored rows h i at v heap held cell
+      (behind-header rows h i at v heap held cell (word_slot_above rows h i j v heap held slot.reference is)) leaves
+      clean)
 
   -- and so with the byte there
   pub byte-stored-there : (new : HeapView) (v : ℕ) → is_bytes form ≡ true → v < 256
@@ -270,8 +272,7 @@ module _ (rows : List TypeRow) (h : HeapView) (i : Item) (slot : Slot) (heap : I
       let same = ap (λ b. stored h (word_address b) (with_byte (word_of h (word_address b)) (b % 8) v))
       (address-is j has.is) ∙ sym new_is in
       subst (IsUnmarked rows) same
-      (unmarked_stored rows h i (word_address at) w heap held (byte_slot_word rows h i j v heap held is small) i.place j
-      (num v) (byte_slot_stored rows h i j v heap held is small) clear)
+      (unmarked_stored rows h i (word_address at) w heap held (byte_slot_word rows h i j v heap held is small) clear)
 
   pub byte-heads : (new : HeapView) (v : ℕ) → is_bytes form ≡ true → v < 256
       → new ≡ stored h (word_address a) (with_byte (word_of h (word_address a)) (a % 8) v) → HasSlot rows i slot
@@ -284,8 +285,8 @@ module _ (rows : List TypeRow) (h : HeapView) (i : Item) (slot : Slot) (heap : I
       let same = ap (λ b. stored h (word_address b) (with_byte (word_of h (word_address b)) (b % 8) v))
       (address-is j has.is) ∙ sym new_is in
       subst (AreFreeHeads rows) same
-      (heads_stored rows h i (word_address at) w heap held (byte_slot_word rows h i j v heap held is small) i.place j
-      (num v) (byte_slot_stored rows h i j v heap held is small) heads)
+      (heads_stored rows h i (word_address at) w heap held (byte_slot_word rows h i j v heap held is small)
+      (inr (byte_slot_above rows h i j v heap held is small)) heads)
 
   pub byte-clean : (new : HeapView) (v : ℕ) → is_bytes form ≡ true → v < 256
       → new ≡ stored h (word_address a) (with_byte (word_of h (word_address a)) (a % 8) v) → HasSlot rows i slot
@@ -301,13 +302,13 @@ module _ (rows : List TypeRow) (h : HeapView) (i : Item) (slot : Slot) (heap : I
       let inside = is.inside in
       let offset : slot_offset form j ≡ 16 + j = ap (λ (f : Form). slot_offset f j) form_is in
       let end : slots_end form i.len ≡ 16 + i.len = ap (λ (f : Form). slots_end f i.len) form_is in
-      let leaves : LeavesPadding rows h i (word_address at) w heap held
-      (byte_slot_word rows h i j v heap held is small) = λ p low here.
+      let cell = byte_slot_word rows h i j v heap held is small in
+      let leaves : LeavesPadding rows h i (word_address at) w heap held cell = λ p low here.
       byte_of-with_byte_other (word_of h (word_address at)) (at % 8) (p % 8) v small (λ digit. omega arith) in
       subst (AreClean rows) same
-      (clean_stored rows h i (word_address at) w heap held (byte_slot_word rows h i j v heap held is small) i.place j
-      (num v)
-      (byte_slot_stored rows h i j v heap held is small) leaves clean)
+      (clean_stored rows h i (word_address at) w heap held cell
+      (behind-header rows h i (word_address at) w heap held cell (byte_slot_above rows h i j v heap held is small))
+      leaves clean)
 
   -- which heap that is
   pub word-written : (new : HeapView) (v : ℕ) → is_bytes form ≡ false → new ≡ stored h a v

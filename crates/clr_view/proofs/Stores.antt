@@ -1,4 +1,4 @@
--- A word that is written into a slot of an object: that slot changes, and all else that the heap holds stays.
+-- A word that is written into an object's cell: its header or a slot changes, and all else that the heap holds stays.
 use Rattle.std.proofs.Common.{if◌then◌else◌, ◌==◌, ◌≡◌, ◌≢◌, ◌⊎◌, ℕ, ◌+◌, ◌-◌, ◌%◌, ◌<◌, ◌≤◌, Bool, true, false, List}
 use Rattle.std.proofs.Common.{[], ◌∷◌, filter, length, map, refl, ap, sym, ◌∙◌, subst, arith, inl, inr, slice_set}
 use Rattle.std.proofs.lemmas.Bool.{cases_eq, eq-eqb, ne_eqb}
@@ -11,7 +11,7 @@ use Rattle.clr_types.proofs.RisingLists.{all_at}
 use Rattle.clr_types.proofs.ChangedLists.{all_imply, rising-distinct}
 use Rattle.clr_types.proofs.SortedLists.{same_by_key}
 use Rattle.clr_heap.specs.Memories.{HasWord, word_address}
-use Rattle.clr_heap.specs.Parts.{Among, item_part, items_in, rest_part, type_number}
+use Rattle.clr_heap.specs.Parts.{Among, item_part, items_in, rest_part}
 use Rattle.clr_heap.specs.View.{first_of, frame, heap_items, HeapView, IsHeap, last_of, listing, parts_of, PartsAre}
 use Rattle.clr_heap.specs.View.{segment_at, sight, stored, word_of}
 use Rattle.clr_heap.proofs.Addresses.{has_word}
@@ -26,9 +26,10 @@ use Rattle.clr_mem.proofs.Digits.{byte_of-with_byte_other, byte_of-with_byte_sam
 use Rattle.std.proofs.lemmas.List.{length-replicate}
 use Rattle.clr_model.specs.Updates.{with_slot_of}
 use Rattle.clr_view.specs.View.{free_among, HasStored, IsContext, IsHeld, is_object, has_suppressed_bit, IsByteSlot}
-use Rattle.clr_view.specs.View.{IsWordSlot, object_in, objects_among, slot_address, slot_value, word_value}
+use Rattle.clr_view.specs.View.{IsWordSlot, layout_in, object_in, objects_among, objects_in, slot_address, slot_value}
+use Rattle.clr_view.specs.View.{word_value}
 use Rattle.clr_view.proofs.Items.{CellsStay, IsItem, object-stays, stacked-apart}
-use Rattle.clr_view.proofs.Listed.{listed-in, part-among, type-named}
+use Rattle.clr_view.proofs.Listed.{listed-in, listed-sized, part-among, type-named}
 use Rattle.clr_view.proofs.Listings.{heap-rise, heap-stacked, listing-are, listings-agree, listings-all}
 use Rattle.clr_view.proofs.Cuts.{parts-apart}
 use Rattle.clr_view.proofs.Slots.{above-length, IsSlotWord, slot-inside, slot_word}
@@ -68,11 +69,31 @@ module _ (rows : List TypeRow) (old new : ℕ → ℕ) (place : ℕ) (change : O
 
 -- ---- a word in a cell
 
--- a word above the head of an item of the heap
+-- a word of the cell of an item of the heap by which the item isn't told: its header, or a word behind its head
 pub record IsCellWord (rows : List TypeRow) (h : HeapView) (i : Item) (a : ℕ) : Type 0 where
   pub listed : IsIn i (heap_items rows h)
-  pub cell : IsSlotWord (form_at rows i.type_id.0) i.len i.place a
-  pub long : is_array (form_at rows i.type_id.0) ≡ true → i.place + 16 ≤ a
+  pub aligned : a % 8 ≡ 0
+  pub low : i.place ≤ a + 8
+  pub high : a + 16 ≤ i.place + i.size
+  pub no_mt : a ≢ i.place
+  pub no_length : is_array (form_at rows i.type_id.0) ≡ true → a ≢ i.place + 8
+
+-- a word behind the head is one
+behind-head : (rows : List TypeRow) (h : HeapView) (i : Item) (a : ℕ) → IsHeap h → IsHeld rows h
+    → IsIn i (heap_items rows h) → IsSlotWord (form_at rows i.type_id.0) i.len i.place a
+    → (is_array (form_at rows i.type_id.0) ≡ true → i.place + 16 ≤ a) → IsCellWord rows h i a
+behind-head rows h i a heap held listed cell long =
+    let sized = listed-sized rows h i heap held listed in
+    let above = cell.above in
+    let below = cell.below in
+    record {
+      listed = listed;
+      aligned = cell.aligned;
+      low = omega arith;
+      high = omega arith;
+      no_mt = λ same. omega arith;
+      no_length = λ array same. let l = long array in omega arith;
+    }
 
 module _ (rows : List TypeRow) (h : HeapView) (i : Item) (a v : ℕ) (heap : IsHeap h) (held : IsHeld rows h)
     (slot : IsCellWord rows h i a) where
@@ -95,19 +116,13 @@ module _ (rows : List TypeRow) (h : HeapView) (i : Item) (a v : ℕ) (heap : IsH
   item-is : IsItem rows (first_of h k) (last_of h k) i
   item-is = all_at (IsItem rows (first_of h k) (last_of h k)) home.2 (listing-are rows h held.walkable k in_range)
 
-  -- the word stands in the item's cell, which ends within its segment
-  pub below : a + 16 ≤ i.place + i.size
-  below = let b = slot.cell.below in let s = item-is.sized in omega arith
-
-  within : (first_of h k ≤ i.place) × (a + 16 ≤ last_of h k)
-  within = let b = below in let up = item-is.above in let end = item-is.below in (omega arith, omega arith)
-
+  -- the item's cell ends within its segment
   reserved : ((segment_at h k).base ≤ a) × (a + 16 ≤ reserved_end (segment_at h k))
   reserved =
-      let w = within in
-      let low = w.0 in
-      let high = w.1 in
-      let up = slot.cell.above in
+      let above = item-is.above in
+      let below = item-is.below in
+      let low = slot.low in
+      let high = slot.high in
       let lawful = lawful_at h k heap in_range in
       let end = lawful.high in
       (omega arith, omega arith)
@@ -115,14 +130,14 @@ module _ (rows : List TypeRow) (h : HeapView) (i : Item) (a v : ℕ) (heap : IsH
   -- the word can be read and written
   pub cell_has_word : HasWord h.memories a
   cell_has_word = let r = reserved in let low = r.0 in let high = r.1 in
-      has_word h k a heap in_range low slot.cell.aligned (omega arith)
+      has_word h k a heap in_range low slot.aligned (omega arith)
 
   -- it is the value, and all others stay
   pub there-now : word_of after a ≡ v
   there-now = word_in-store_in_same h.memories a v cell_has_word.inside
 
   pub elsewhere : (b : ℕ) → b % 8 ≡ 0 → b ≢ a → word_of after b ≡ word_of h b
-  elsewhere b z ne = word_in-store_in_other h.memories a v b slot.cell.aligned z ne
+  elsewhere b z ne = word_in-store_in_other h.memories a v b slot.aligned z ne
 
   -- ---- the parts of each segment
 
@@ -130,16 +145,12 @@ module _ (rows : List TypeRow) (h : HeapView) (i : Item) (a v : ℕ) (heap : IsH
   parts-after m l = elim (cases_eq m k) [
     | inl same ↦
         let w = held.walkable k in_range in
-        let up = slot.cell.above in
-        let b = below in
-        let z = item-is.aligned in
         let number = type-named (sight rows h k) (parts_of rows h k) i (first_of h k) (last_of h k) w.spelled home.2 in
         let P = λ (n : ℕ). PartsAre rows after n (parts_of rows h n) in
-        let long : is_array (form_at rows (type_number (word_of h i.place))) ≡ true → a ≢ i.place + 8 = λ array is.
-        let at = slot.long (ap (λ t. is_array (form_at rows t)) (sym number) ∙ array) in
-        absurd (omega arith) in
-        let has = stored_in_item rows h k i a v w (part-among (parts_of rows h k) i home.2) slot.cell.aligned
-        (omega arith) (omega arith) (λ is. omega arith) long in
+        let high = slot.high in
+        let has = stored_in_item rows h k i a v w (part-among (parts_of rows h k) i home.2) slot.aligned slot.low
+        (omega arith) slot.no_mt
+        (λ array. slot.no_length (ap (λ t. is_array (form_at rows t)) (sym number) ∙ array)) in
         subst P (sym same) (record { walkable = has.walkable; parts = has.parts })
     | inr other ↦
         let r = reserved in
@@ -148,7 +159,7 @@ module _ (rows : List TypeRow) (h : HeapView) (i : Item) (a v : ℕ) (heap : IsH
         let lawful = lawful_at h m heap l in
         let end = lawful.high in
         let out = outside_other h k m a heap in_range l (λ same. other (sym same)) low (omega arith) in
-        let has = stored_elsewhere rows h m a v (held.walkable m l) slot.cell.aligned
+        let has = stored_elsewhere rows h m a v (held.walkable m l) slot.aligned
         (elim out [ inl under ↦ inl (omega arith) | inr over ↦ inr (omega arith) ]) in
         record { walkable = has.walkable; parts = has.parts }
   ]
@@ -161,8 +172,8 @@ module _ (rows : List TypeRow) (h : HeapView) (i : Item) (a v : ℕ) (heap : IsH
       let l = found.1.in_range in
       let w = held.walkable e l in
       let rest = context.among e l (kind-young h e heap found.1) in
-      let b = below in
-      let up = slot.cell.above in
+      let cell_low = slot.low in
+      let cell_high = slot.high in
       elim (cases_eq k e) [
         | inl same ↦
             let item = part-among (parts_of rows h k) i home.2 in
@@ -187,7 +198,7 @@ module _ (rows : List TypeRow) (h : HeapView) (i : Item) (a v : ℕ) (heap : IsH
             ]
       ]
 
-  items-stay : heap_items rows after ≡ heap_items rows h
+  pub items-stay : heap_items rows after ≡ heap_items rows h
   items-stay =
       listings-agree rows rows h after 0 (length h.segments)
       (λ m low high. ap items_in (parts-after m (omega arith)).parts)
@@ -218,62 +229,69 @@ module _ (rows : List TypeRow) (h : HeapView) (i : Item) (a v : ℕ) (heap : IsH
       → object_in rows (word_of after) x ≡ object_in rows (word_of h) x
   same-elsewhere x l ne =
       let own = own-bounds x l in
-      let up = slot.cell.above in
-      let b = below in
+      let cell_low = slot.low in
+      let cell_high = slot.high in
       let cells : CellsStay (word_of h) (word_of after) x.place (x.place + x.size) = λ c z low high.
       elsewhere c z
       (λ same. elim (stacked-apart (heap_items rows h) x i (heap-stacked rows h held.walkable heap) l slot.listed
       ne) [ inl under ↦ omega arith | inr over ↦ omega arith ]) in
       object-stays rows (word_of h) (word_of after) x.place (x.place + x.size) x own.1 cells own.0
 
-  -- where the word is that of slot j, that slot of that object has another value, and all else that the heap holds
-  -- stays
-  module _ (j : ℕ) (value : Value)
-      (slots : map (slot_value form (word_of after) i.place) (slots_of form i.len)
-      ≡ slice_set (map (slot_value form (word_of h) i.place) (slots_of form i.len)) j value) where
-    changed-here : object_in rows (word_of after) i ≡ with_slot_of j value (object_in rows (word_of h) i)
-    changed-here =
-        let z = item-is.aligned in
-        let up = slot.cell.above in
-        let low = item-is.above in
-        let header : has_suppressed_bit (word_of after (i.place - 8)) ≡ has_suppressed_bit (word_of h (i.place - 8)) =
-        ap has_suppressed_bit (elsewhere (i.place - 8) (omega arith) (λ same. omega arith)) in
-        λ n. record (object_in rows (word_of h) i) { slots = slots n; suppressed = header n }
+  -- what isn't told by items stays, and so do contexts
+  pub layout-stays : layout_in rows after ≡ layout_in rows h
+  layout-stays = ap (λ (is : List Item). record (frame h) { free = free_among is }) items-stay
 
-    changes : (x : Item) → IsIn x (heap_items rows h)
-        → ChangesAt rows (word_of h) (word_of after) i.place (with_slot_of j value) x
+  pub held-stays : IsHeld rows after
+  held-stays = record {
+    walkable = λ m l. (parts-after m l).walkable;
+    contexts = λ c r e.
+        let context = held.contexts c r e in
+        record {
+          among = λ m l young. subst (λ ps. Among ps (rest_part r.place (piece_end r))) (sym (parts-after m l).parts)
+              (context.among m l young);
+          young = context.young;
+          clear = λ b z low high.
+              elsewhere b z (λ same. elim (outside-rest r context) [ inl l ↦ omega arith | inr l ↦ omega arith ])
+              ∙ context.clear b z low high;
+        };
+    apart = held.apart;
+    young = held.young;
+  }
+
+  -- where the item's object is changed, it alone is
+  module _ (change : Object → Object)
+      (here : object_in rows (word_of after) i ≡ change (object_in rows (word_of h) i)) where
+    changes : (x : Item) → IsIn x (heap_items rows h) → ChangesAt rows (word_of h) (word_of after) i.place change x
     changes x l =
         let distinct =
         rising-distinct (λ (y : Item). y.place) (heap_items rows h) (heap-rise rows h held.walkable heap) in (
-          λ same. subst (λ (y : Item). object_in rows (word_of after) y
-              ≡ with_slot_of j value (object_in rows (word_of h) y))
-              (same_by_key (λ (y : Item). y.place) (heap_items rows h) i x distinct slot.listed l (sym same))
-              changed-here,
+          λ same. subst (λ (y : Item). object_in rows (word_of after) y ≡ change (object_in rows (word_of h) y))
+              (same_by_key (λ (y : Item). y.place) (heap_items rows h) i x distinct slot.listed l (sym same)) here,
           same-elsewhere x l,
         )
 
-    pub cell_stored : HasStored rows h after i.place j value
-    cell_stored = record {
-      objects = ap (objects_among rows (word_of after)) items-stay
-          ∙ objects-changed rows (word_of h) (word_of after) i.place (with_slot_of j value) (heap_items rows h) changes;
-      items = items-stay;
-      layout = ap (λ (is : List Item). record (frame h) { free = free_among is }) items-stay;
-      held = record {
-        walkable = λ m l. (parts-after m l).walkable;
-        contexts = λ c r e.
-            let context = held.contexts c r e in
-            record {
-              among = λ m l young. subst (λ ps. Among ps (rest_part r.place (piece_end r)))
-                  (sym (parts-after m l).parts) (context.among m l young);
-              young = context.young;
-              clear = λ b z low high.
-                  elsewhere b z (λ same. elim (outside-rest r context) [ inl l ↦ omega arith | inr l ↦ omega arith ])
-                  ∙ context.clear b z low high;
-            };
-        apart = held.apart;
-        young = held.young;
-      };
-    }
+    pub objects-written : objects_in rows after ≡ changed_by (λ o. o.name) i.place change (objects_in rows h)
+    objects-written = ap (objects_among rows (word_of after)) items-stay
+        ∙ objects-changed rows (word_of h) (word_of after) i.place change (heap_items rows h) changes
+
+  -- where the word is that of slot j, that slot of that object has another value, and all else that the heap holds
+  -- stays
+  pub cell_stored : (j : ℕ) (value : Value) → i.place + 8 ≤ a
+      → map (slot_value form (word_of after) i.place) (slots_of form i.len)
+      ≡ slice_set (map (slot_value form (word_of h) i.place) (slots_of form i.len)) j value
+      → HasStored rows h after i.place j value
+  cell_stored j value above slots =
+      let z = item-is.aligned in
+      let up = item-is.above in
+      let header : has_suppressed_bit (word_of after (i.place - 8)) ≡ has_suppressed_bit (word_of h (i.place - 8)) =
+      ap has_suppressed_bit (elsewhere (i.place - 8) (omega arith) (λ same. omega arith)) in
+      record {
+        objects = objects-written (with_slot_of j value)
+            (λ n. record (object_in rows (word_of h) i) { slots = slots n; suppressed = header n });
+        items = items-stay;
+        layout = layout-stays;
+        held = held-stays;
+      }
 
 -- ---- slots
 
@@ -292,16 +310,18 @@ module _ (rows : List TypeRow) (h : HeapView) (i : Item) (j v : ℕ) (heap : IsH
     abbrev a : ℕ
     a = slot_address rows i j
 
+    there : IsSlotWord form_of_item i.len i.place a
+    there = slot-there form_of_item i.len i.place j slot.words (item-aligned slot.listed)
+        (kind-there (slot_kinds form_of_item i.len) j reference slot.kind)
+
     pub word_slot : IsCellWord rows h i a
-    word_slot =
-        let z = item-aligned slot.listed in
-        let inside = kind-there (slot_kinds form_of_item i.len) j reference slot.kind in
-        record {
-          listed = slot.listed;
-          cell = slot-there form_of_item i.len i.place j slot.words z inside;
-          long = λ array. let at = above-length form_of_item i.place j z array in
-              let word : slot_word form_of_item a ≡ a = slot-word-is form_of_item a slot.words in omega arith;
-        }
+    word_slot = behind-head rows h i a heap held slot.listed there (λ array.
+        let at = above-length form_of_item i.place j (item-aligned slot.listed) array in
+        let word : slot_word form_of_item a ≡ a = slot-word-is form_of_item a slot.words in
+        omega arith)
+
+    pub word_slot_above : i.place + 8 ≤ a
+    word_slot_above = there.above
 
     -- A SLOT STORED: that slot of that object has the value, and all else that the heap holds stays
     pub slot_stored : HasStored rows h (stored h a v) i.place j (word_value reference v)
@@ -313,7 +333,7 @@ module _ (rows : List TypeRow) (h : HeapView) (i : Item) (j v : ℕ) (heap : IsH
         let apart = offset-apart form_of_item m j slot.words ne in
         elsewhere rows h i a v heap held word_slot (i.place + slot_offset form_of_item m) at.aligned
         (λ same. apart (omega arith))) (there-now rows h i a v heap held word_slot) in
-        cell_stored rows h i a v heap held word_slot j (word_value reference v) slots
+        cell_stored rows h i a v heap held word_slot j (word_value reference v) word_slot_above slots
 
   module _ (slot : IsByteSlot rows h i j) (small : v < 256) where
     abbrev b : ℕ
@@ -331,19 +351,21 @@ module _ (rows : List TypeRow) (h : HeapView) (i : Item) (j v : ℕ) (heap : IsH
     b-is : b ≡ at
     b-is = ap (λ (form : Form). i.place + slot_offset form j) form-is
 
-    pub byte_slot_word : IsCellWord rows h i (word_address b)
-    byte_slot_word =
-        let z = item-aligned slot.listed in
+    byte-there : IsSlotWord form_of_item i.len i.place (word_address b)
+    byte-there =
         let count = length-replicate {A = Bool} i.len false in
         let l = slot.inside in
-        let cell = slot-inside bytes_form i.len i.place j z (omega arith) in
+        subst (λ (form : Form). IsSlotWord form i.len i.place (word_address (i.place + slot_offset form j)))
+        (sym form-is) (slot-inside bytes_form i.len i.place j (item-aligned slot.listed) (omega arith))
+
+    pub byte_slot_word : IsCellWord rows h i (word_address b)
+    byte_slot_word = behind-head rows h i (word_address b) heap held slot.listed byte-there (λ array.
+        let z = item-aligned slot.listed in
         let e = b-is in
-        record {
-          listed = slot.listed;
-          cell = subst (λ (form : Form). IsSlotWord form i.len i.place (word_address (i.place + slot_offset form j)))
-              (sym form-is) cell;
-          long = λ array. omega arith;
-        }
+        omega arith)
+
+    pub byte_slot_above : i.place + 8 ≤ word_address b
+    byte_slot_above = byte-there.above
 
     -- A BYTE STORED: the same for a slot of an array of bytes
     pub byte_slot_stored : HasStored rows h (stored h (word_address b) w) i.place j (num v)
@@ -373,4 +395,5 @@ module _ (rows : List TypeRow) (h : HeapView) (i : Item) (j v : ℕ) (heap : IsH
         let P : Form → Type 0 =
         λ form. map (slot_value form (word_of new) i.place) (slots_of form i.len)
         ≡ slice_set (map (slot_value form (word_of h) i.place) (slots_of form i.len)) j (num v) in
-        cell_stored rows h i (word_address b) w heap held byte_slot_word j (num v) (subst P (sym form-is) slots)
+        cell_stored rows h i (word_address b) w heap held byte_slot_word j (num v) byte_slot_above
+        (subst P (sym form-is) slots)

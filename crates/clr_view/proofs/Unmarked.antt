@@ -1,30 +1,30 @@
 -- No object comes to be marked where the words of the old ones stay, and a new one is born without a mark.
-use Rattle.std.proofs.Common.{◌≡◌, ◌≢◌, ◌⊎◌, inl, inr, ℕ, ◌+◌, ◌%◌, ◌≤◌, false, List, [], ◌∷◌, ◌++◌, refl, ap, sym, ◌∙◌}
-use Rattle.std.proofs.Common.{subst, arith}
+use Rattle.std.proofs.Common.{◌≡◌, ◌≢◌, ◌⊎◌, ◌↔◌, inl, inr, ℕ, ◌+◌, ◌%◌, ◌≤◌, false, List, [], ◌∷◌, ◌++◌, filter}
+use Rattle.std.proofs.Common.{ap, sym, ◌∙◌, subst, arith}
 use Rattle.std.proofs.lemmas.Bool.{cases_eq, ne_eqb, true≢false}
 use Rattle.clr_types.specs.Rising.{IsIn}
 use Rattle.clr_types.specs.Types.{TypeRow, mt_of}
 use Rattle.clr_types.specs.declared.item.Item.{Item}
-use Rattle.clr_types.proofs.ChangedLists.{all-changed_same, all_members}
-use Rattle.clr_types.proofs.RisingLists.{all_at, in_cons}
+use Rattle.clr_types.proofs.ChangedLists.{IsIn-map}
+use Rattle.clr_types.proofs.RisingLists.{in_cons}
 use Rattle.clr_types.proofs.SortedLists.{out_of_sorted_by}
 use Rattle.clr_heap.specs.Parts.{item_at}
 use Rattle.clr_heap.specs.View.{frame, HeapView, heap_items, IsHeap, opening_heap, placed, stored, word_of}
 use Rattle.clr_heap.proofs.Placing.{Placed, placed_leaves}
 use Rattle.clr_model.specs.Allocation.{context_front}
-use Rattle.clr_model.specs.Machine.{Object, Value}
-use Rattle.clr_model.specs.Updates.{with_slot_of}
-use Rattle.clr_view.specs.Marks.{has_mark, IsUnmarked}
+use Rattle.clr_model.specs.Machine.{Object}
+use Rattle.clr_view.specs.Marks.{has_mark, IsUnmarked, Marked}
 use Rattle.clr_view.specs.SlotValues.{StandsAt}
-use Rattle.clr_view.specs.View.{HasStored, IsHeld, KeepsObjects, newborn_at, objects_in}
+use Rattle.clr_view.specs.View.{IsHeld, is_object, KeepsObjects, newborn_at, object_in, objects_in}
 use Rattle.clr_view.proofs.Bearing.{born-stands, IsBirth}
+use Rattle.clr_view.proofs.FreeHeads.{outside-mt}
 use Rattle.clr_view.proofs.Items.{stacked-apart}
 use Rattle.clr_view.proofs.Listed.{in_append}
 use Rattle.clr_view.proofs.Listings.{heap-stacked}
 use Rattle.clr_view.proofs.Opening.{no_objects}
 use Rattle.clr_view.proofs.TypeMore.{objects_with_type}
-use Rattle.clr_view.proofs.ObjectItems.{stands-head, stands-item}
-use Rattle.clr_view.proofs.Stores.{below, elsewhere, IsCellWord}
+use Rattle.clr_view.proofs.ObjectItems.{in_map, stands-head, stands-item}
+use Rattle.clr_view.proofs.Stores.{elsewhere, IsCellWord, items-stay}
 
 module _ (rows : List TypeRow) (h : HeapView) (heap : IsHeap h) (held : IsHeld rows h) where
   -- objects at two places keep 24 bytes apart
@@ -103,41 +103,44 @@ module _ (rows : List TypeRow) (old new : HeapView) (thread t n : ℕ) (birth : 
 
 -- ---- stores
 
--- a store into a slot leaves objects at their places
-stored-stands : (rows : List TypeRow) (old new : HeapView) (place j : ℕ) (value : Value)
-    → HasStored rows old new place j value → (x : ℕ) → StandsAt rows new x → StandsAt rows old x
-stored-stands rows old new place j value stored x (o, among, at) =
-    let P : Object → Type 0 = λ o. StandsAt rows old o.place in
-    let here = all_members P (objects_in rows old) (λ o i. (o, i, refl)) in
-    subst (StandsAt rows old) at
-    (all_at P (subst (IsIn o) stored.objects among)
-    (all-changed_same (λ (o : Object). o.name) place (with_slot_of j value) P (λ o s. s) (objects_in rows old) here))
+-- where the items stay, objects stand where they did
+pub stands-kept : (rows : List TypeRow) (old new : HeapView) → heap_items rows new ≡ heap_items rows old → (x : ℕ)
+    → StandsAt rows old x → StandsAt rows new x
+stands-kept rows old new items x (o, among, at) =
+    let (i, passed, same) = in_map (object_in rows (word_of old)) o (filter is_object (heap_items rows old)) among in (
+      object_in rows (word_of new) i,
+      IsIn-map (object_in rows (word_of new))
+          (subst (λ (is : List Item). IsIn i (filter is_object is)) (sym items) passed),
+      ap (λ (p : Object). p.place) same ∙ at,
+    )
 
 module _ (rows : List TypeRow) (h : HeapView) (i : Item) (a v : ℕ) (heap : IsHeap h) (held : IsHeld rows h)
     (slot : IsCellWord rows h i a) where
-  -- A STORE into a slot marks nothing
-  pub unmarked_stored : (place j : ℕ) (value : Value) → HasStored rows h (stored h a v) place j value
-      → IsUnmarked rows h → IsUnmarked rows (stored h a v)
-  unmarked_stored place j value has clear x marked =
-      let stands = stored-stands rows h (stored h a v) place j value has x marked.stands in
+  abbrev after : HeapView
+  after = stored h a v
+
+  -- the method table word of an object is no such word
+  mt_stays : (x : ℕ) → StandsAt rows h x → word_of after x ≡ word_of h x
+  mt_stays x stands =
       let this = stands-item rows h heap held x stands in
-      let at = this.at in
-      let up = slot.cell.above in
-      let down = below rows h i a v heap held slot in
-      let apart : x ≢ a = λ e. elim (cases_eq x i.place) [
-        | inl own ↦ omega arith
-        | inr other ↦ elim (stacked-apart (heap_items rows h) (item_at rows (word_of h) x) i
-            (heap-stacked rows h held.walkable heap) this.listed slot.listed (λ s. other (sym at ∙ s))) [
-              | inl under ↦ let least = (stands-head rows h heap held x stands).names.least in omega arith
-              | inr over ↦ omega arith
-            ]
-      ] in
-      clear x (record {
-        stands = stands;
-        mark = ap has_mark
-            (sym (elsewhere rows h i a v heap held slot x (stands-aligned rows h heap held x stands) apart))
-            ∙ marked.mark;
-      })
+      elsewhere rows h i a v heap held slot x (stands-aligned rows h heap held x stands)
+      (λ same. outside-mt rows h i a v heap held slot (item_at rows (word_of h) x) this.listed (this.at ∙ same))
+
+  -- A STORE into an object's cell marks nothing, and takes no mark away
+  pub marks_stored : (x : ℕ) → Marked rows after x ↔ Marked rows h x
+  marks_stored x =
+      let items = items-stay rows h i a v heap held slot in (
+        λ marked.
+            let stands = stands-kept rows after h (sym items) x marked.stands in
+            record { stands = stands; mark = ap has_mark (sym (mt_stays x stands)) ∙ marked.mark },
+        λ marked. record {
+          stands = stands-kept rows h after items x marked.stands;
+          mark = ap has_mark (mt_stays x marked.stands) ∙ marked.mark;
+        },
+      )
+
+  pub unmarked_stored : IsUnmarked rows h → IsUnmarked rows after
+  unmarked_stored clear x marked = clear x ((marks_stored x).0 marked)
 
 -- ---- types
 

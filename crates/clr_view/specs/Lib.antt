@@ -3,7 +3,9 @@ pub mod View
 pub mod Births
 pub mod SlotValues
 pub mod Marks
+pub mod World
 pub mod Shown
+pub mod Flags
 pub mod Memory
 pub mod Clean
 pub mod Among

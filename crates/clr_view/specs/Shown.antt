@@ -1,24 +1,22 @@
--- The machine that types, a heap and locals show, each object named by its place.
-use Rattle.std.specs.Prelude.{ℕ, List, [], None, replicate}
-use Rattle.std.specs.FinMap as finmap
-use Rattle.clr_types.specs.Types.{TypeRow}
-use Rattle.clr_heap.specs.View.{HeapView}
+-- The machine that a world shows, each object named by its place.
+use Rattle.std.specs.Prelude.{None, replicate}
 use Rattle.clr_model.specs.Machine.{Machine, Options, Sums, no_step}
 use Rattle.clr_view.specs.View.{layout_in, objects_in}
+use Rattle.clr_view.specs.World.{World}
 
--- the machine of these types, the words of this heap, these locals, sums and options
-abbrev pub shown : List TypeRow → HeapView → List ℕ → Sums → Options → Machine
-shown rows heap locals sums options = record {
-  types = rows;
+-- the machine of this world, these sums and these options, in which no thread has begun a step
+abbrev pub shown : World → Sums → Options → Machine
+shown w sums options = record {
+  types = w.rows;
   born = 0;
-  objects = objects_in rows heap;
-  locals = locals;
-  handles = finmap.empty;
-  entries = [];
-  ready = [];
+  objects = objects_in w.rows w.heap;
+  locals = w.locals;
+  handles = w.handles;
+  entries = w.entries;
+  ready = w.ready;
   steps = replicate 16 no_step;
   holder = None;
-  layout = layout_in rows heap;
+  layout = layout_in w.rows w.heap;
   sums = sums;
   options = options;
 }

@@ -2,9 +2,11 @@
 #![tactic(auto)]
 
 pub use crate::births::bear;
+pub use crate::flags::{is_final, is_suppressed, set_suppressed};
 pub use crate::slot_values::{object_item, set_slot_value, slot_value};
 
 mod births;
+mod flags;
 mod slot_values;
 #[cfg(test)]
 mod tests;

@@ -1,4 +1,4 @@
-// Objects that are born in a context, and slots that are written and read back.
+// Objects that are born in a context, and slots and flags that are written and read back.
 ghost use Rattle.std.specs.Prelude.{◌≡◌, ◌+◌, ◌-◌, ◌%◌, ◌<◌, ◌≤◌, ◌^◌, [], ◌∷◌, codes, false, true, length, IfOk};
 ghost use Rattle.clr_types.specs.Types.{bytes_form, class_form, form_at, references_form, size_of};
 ghost use Rattle.clr_heap.specs.Parts.{IsMakeable};
@@ -7,7 +7,9 @@ ghost use Rattle.clr_model.specs.Allocation.{own_fits};
 ghost use Rattle.clr_view.specs.View.{IsHeld};
 ghost use Rattle.clr_view.specs.SlotValues.{StandsAt};
 
-use crate::{bear, object_item, set_slot_value, slot_value};
+use crate::{
+    bear, is_final, is_suppressed, object_item, set_slot_value, set_suppressed, slot_value,
+};
 use clr_heap::Heap;
 use clr_types::{Shape, TypeId, Types};
 use std::alloc::Global;
@@ -25,6 +27,16 @@ fn sample_types(alloc: Global) -> Result<Types, Fail>
     let _ = types.define(b"Pair", Shape::Class(b"rn"), false)?;
     let _ = types.define(b"Refs", Shape::RefArray, false)?;
     let _ = types.define(b"Bytes", Shape::ByteArray, false)?;
+    Ok(types)
+}
+
+// A class of a reference and a number, whose objects have a finaliser.
+fn final_types(alloc: Global) -> Result<Types, Fail>
+    ensures { IfOk result (λ types. types ≡
+        record { name = codes "File"; form = class_form (codes "rn"); finalizer = true } ∷ []) }
+{
+    let mut types = Types::new(alloc)?;
+    let _ = types.define(b"File", Shape::Class(b"rn"), true)?;
     Ok(types)
 }
 
@@ -85,7 +97,8 @@ fn store(
     requires held { IsHeld types.now heap.old }
     requires stands { StandsAt types.now heap.old place }
     requires small { value < 256 }
-    ensures { IsHeld types.now heap.new }
+    ensures held { IsHeld types.now heap.new }
+    ensures stands { StandsAt types.now heap.new place }
 {
     let item = object_item(heap, types, place);
     assert!(rt; i < types.slot_count(item.type_id, item.len));
@@ -93,6 +106,18 @@ fn store(
     let before = slot_value(heap, types, &item, slot);
     set_slot_value(heap, types, &item, slot, value);
     (before, slot_value(heap, types, &item, slot))
+}
+
+// Says whether the finaliser of the object at a place is suppressed, and answers whether it was before, and is now.
+fn suppress(heap: &mut Heap, types: &Types, place: u64, flag: bool) -> (bool, bool)
+    requires held { IsHeld types.now heap.old }
+    requires stands { StandsAt types.now heap.old place }
+    ensures held { IsHeld types.now heap.new }
+    ensures stands { StandsAt types.now heap.new place }
+{
+    let before = is_suppressed(heap, types, place);
+    set_suppressed(heap, types, place, flag);
+    (before, is_suppressed(heap, types, place))
 }
 
 #[test]
@@ -129,5 +154,20 @@ fn objects_are_born_in_a_context(rt: HostRuntime) -> Result<(), Fail> {
         }
     }
     assert_eq!(rt; number, 3);
+    Ok(())
+}
+
+#[test]
+fn finalisers_are_suppressed_and_slots_stay(rt: HostRuntime) -> Result<(), Fail> {
+    let types = final_types(rt.alloc())?;
+    let mut heap = Heap::new(rt.alloc(), 262_144, 1_048_576)?;
+    open_context(&rt, &mut heap, &types, 1, 32);
+    let file = birth(&rt, &mut heap, &types, 1, TypeId(1), 0);
+    assert!(rt; is_final(&heap, &types, file));
+    assert_eq!(rt; store(&rt, &mut heap, &types, file, 1, 77), (0, 77));
+    assert_eq!(rt; suppress(&mut heap, &types, file, true), (false, true));
+    assert_eq!(rt; suppress(&mut heap, &types, file, true), (true, true));
+    assert_eq!(rt; suppress(&mut heap, &types, file, false), (true, false));
+    assert_eq!(rt; store(&rt, &mut heap, &types, file, 1, 5), (77, 5));
     Ok(())
 }

@@ -6,20 +6,16 @@ use Rattle.clr_model.specs.declared.command.Command.{Command}
 use Rattle.clr_model.specs.declared.command.Command.TheVariants.{Define, New, Get, Set, Put, Read, Copy, Clear, Collect}
 use Rattle.clr_script.specs.Readings.{IsReadAs}
 use Rattle.clr_run.proofs.LineSteps.{command_follows, full_sweep_is, is_listing, listing_follows, options_refused}
-use Rattle.clr_run.proofs.LineSteps.{other_unbuilt, unbuilt_follows}
+use Rattle.clr_run.proofs.LineSteps.{not_on_handles, other_unbuilt, unbuilt_follows}
 use Rattle.clr_run.proofs.execute.obey.Goals.{in_default-via-in-Collect+else-is_full_sweep}
-use Rattle.clr_run.proofs.execute.obey.Goals.{in_default-via-in-Define+else-not-finalizer}
 use Rattle.clr_run.proofs.execute.obey.Goals.{in_default-via-in-DumpHeap+else-eq, in_default-via-in_default}
 use Rattle.clr_run.proofs.execute.obey.Goals as goal
 
 pub returns-in-Define-clause-follows : goal.returns-in-Define-clause-follows
 returns-in-Define-clause-follows c =
-    let d = c.in-Define in
     rw c.told_mt.ensures.is
-    (command_follows c.args.line.now (Define d.name d.shape false) c.requires.short
-    (subst (λ b. IsReadAs c.args.line.now (Define d.name d.shape b)) c.if-not-finalizer.true
-    (rw d.is at c.requires.read)) c.args.runtime.now c.define.new.self _ refl refl
-    c.define.ensures)
+    (command_follows c.args.line.now (Define c.in-Define.name c.in-Define.shape c.in-Define.finalizer) c.requires.short
+    (rw c.in-Define.is at c.requires.read) c.args.runtime.now c.define.new.self _ refl refl c.define.ensures)
 
 pub returns-in-New-clause-follows : goal.returns-in-New-clause-follows
 returns-in-New-clause-follows c =
@@ -87,11 +83,6 @@ returns-in-DumpHeap-clause-follows c = listing_follows c.args.runtime.now c.args
 pub returns-in_default-clause-follows : goal.returns-in_default-clause-follows
 returns-in_default-clause-follows c =
     elim c.in_default.branch [
-      | in_default-via-in-Define+else-not-finalizer w ↦
-          let d = w.in-Define in
-          unbuilt_follows c.args.line.now (Define d.name d.shape true) c.requires.short
-          (subst (λ b. IsReadAs c.args.line.now (Define d.name d.shape b)) w.if-not-finalizer.false
-          (rw d.is at c.requires.read)) c.args.runtime.now refl refl
       | in_default-via-in-Collect+else-is_full_sweep w ↦
           let d = w.in-Collect in
           unbuilt_follows c.args.line.now (Collect d.t d.g d.how) c.requires.short
@@ -104,7 +95,10 @@ returns-in_default-clause-follows c =
       | in_default-via-in_default w ↦
           let d = w.in_default in
           let (other, unbuilt) = other_unbuilt c.args.command d.not-Define d.not-New d.not-Get d.not-Set d.not-Put
-          d.not-Read d.not-Copy d.not-Clear d.not-Collect d.not-DumpHeap in
+          d.not-Read d.not-Copy d.not-Clear d.not-Collect
+          (not_on_handles c.args.command d.not-Handle d.not-Fetch d.not-Second d.not-Free d.not-Suppress
+          d.not-Reregister
+          d.not-Finalizer) d.not-DumpHeap in
           unbuilt_follows c.args.line.now c.args.command c.requires.short c.requires.read c.args.runtime.now other
           unbuilt
     ]

@@ -3,6 +3,7 @@ use Rattle.std.proofs.Common.{sym, ◌∙◌}
 use Rattle.clr_model.specs.Outcomes.{answered}
 use Rattle.clr_model.specs.declared.Reply.TheVariants.{Done}
 use Rattle.clr_model.proofs.LineFollows.{clear_of}
+use Rattle.clr_runtime.specs.RuntimeView.{world_of}
 use Rattle.clr_runtime.proofs.LocalLines.{cleared}
 use Rattle.clr_runtime.proofs.NamesChecked.{names_refused, once}
 use Rattle.clr_runtime.proofs.RuntimeKept.{local_kept}
@@ -20,7 +21,7 @@ invariant_of-self c =
     let passed = rw (← c.self.view_is) at (sym c.refused_names.ensures.value ∙ c.in_default.is) in
     record {
       shown = local_kept c.self.invariant.shown _ (answered Done) c.index_of.result 0
-          (cleared r.types r.heap r.locals.items _ _ c.args.t c.args.local c.index_of.result
+          (cleared (world_of r) _ _ c.args.t c.args.local c.index_of.result
           passed c.index_of.ensures.index);
       index = c.self.invariant.index;
       limit = c.self.invariant.limit;
@@ -31,5 +32,5 @@ returns c =
     let r = c.self.inside in
     let passed = rw (← c.self.view_is) at (sym c.refused_names.ensures.value ∙ c.in_default.is) in
     rw (← c.self.view_is)
-    (cleared r.types r.heap r.locals.items _ _ c.args.t c.args.local c.index_of.result
+    (cleared (world_of r) _ _ c.args.t c.args.local c.index_of.result
     passed c.index_of.ensures.index)

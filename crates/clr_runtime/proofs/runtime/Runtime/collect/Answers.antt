@@ -1,6 +1,7 @@
 -- The collection is done, or the thread is refused.
 use Rattle.std.proofs.Common.{◌∙◌, sym, refl}
 use Rattle.clr_model.specs.Instructions.{collect_heap}
+use Rattle.clr_collect.specs.Collecting.{world_with}
 use Rattle.clr_runtime.proofs.CollectLines.{collect_done, collect_kept, whole_world}
 use Rattle.clr_runtime.proofs.NamesChecked.{thread_refused}
 use Rattle.clr_runtime.proofs.runtime.Runtime.collect.Goals as goal
@@ -15,20 +16,24 @@ collect-collected-requires-clause-world c = rw c.deref.ensures.value (whole_worl
 
 pub invariant_of-self : goal.invariant_of-self
 invariant_of-self c =
+    let r = c.self.inside in
     let done = c.collect-collected in
     let passed = rw (← c.self.view_is) at (sym c.refused_thread.ensures.value ∙ c.in_default-refused_thread.is) in
     record {
-      shown = collect_kept c.self.invariant.shown c.args.t passed done.new.heap done.result
-          (rw c.deref.ensures.value at done.ensures.collected) done.ensures.held done.ensures.unmarked
-          done.ensures.free_heads done.ensures.clean;
+      shown = collect_kept c.self.invariant.shown c.args.t passed
+          (world_with r.types done.new.heap r.locals.items done.new.handles done.new.finals) done.result
+          (rw c.deref.ensures.value at done.ensures.collected) c.self.invariant.shown.locals done.ensures.held
+          done.ensures.unmarked done.ensures.free_heads (done.ensures.clean c.self.invariant.shown.clean);
       index = done.ensures.index;
       limit = done.ensures.limit ∙ c.self.invariant.limit;
     }
 
 pub returns : goal.returns
 returns c =
+    let r = c.self.inside in
     let done = c.collect-collected in
     let passed = rw (← c.self.view_is) at (sym c.refused_thread.ensures.value ∙ c.in_default-refused_thread.is) in
     rw (c.requires.full, c.requires.sweeping, ← c.self.view_is)
-    (collect_done c.self.invariant.shown c.args.t passed done.new.heap done.result
+    (collect_done c.self.invariant.shown c.args.t passed
+    (world_with r.types done.new.heap r.locals.items done.new.handles done.new.finals) done.result
     (rw c.deref.ensures.value at done.ensures.collected))

@@ -3,6 +3,7 @@ use Rattle.std.proofs.Common.{sym, ◌∙◌}
 use Rattle.clr_model.specs.Outcomes.{answered}
 use Rattle.clr_model.specs.declared.Reply.TheVariants.{Place}
 use Rattle.clr_model.proofs.LineFollows.{copy_of}
+use Rattle.clr_runtime.specs.RuntimeView.{world_of}
 use Rattle.clr_runtime.proofs.LocalLines.{copied}
 use Rattle.clr_runtime.proofs.LocalsSeen.{local-read}
 use Rattle.clr_runtime.proofs.NamesChecked.{names_refused}
@@ -22,7 +23,7 @@ invariant_of-self c =
     let is = c.self.invariant.shown in
     record {
       shown = local_kept is _ (answered (Place c.index-held.result.now)) c.index_of-2.result c.index-held.result.now
-          (copied r.types r.heap r.locals.items _ _ c.args.t c.args.to c.args.from c.index_of-2.result
+          (copied (world_of r) _ _ c.args.t c.args.to c.args.from c.index_of-2.result
           c.index-held.result.now passed c.index_of-2.ensures.index
           (local-read is c.args.t c.args.from c.index_of.result c.index-held.result.now c.index_of.ensures.within
           c.index_of.ensures.index c.index-held.ensures));
@@ -35,7 +36,7 @@ returns c =
     let r = c.self.inside in
     let passed = rw (← c.self.view_is) at (sym c.refused_names.ensures.value ∙ c.in_default.is) in
     rw (← c.self.view_is)
-    (copied r.types r.heap r.locals.items _ _ c.args.t c.args.to c.args.from c.index_of-2.result
+    (copied (world_of r) _ _ c.args.t c.args.to c.args.from c.index_of-2.result
     c.index-held.result.now passed c.index_of-2.ensures.index
     (local-read c.self.invariant.shown c.args.t c.args.from c.index_of.result c.index-held.result.now
     c.index_of.ensures.within c.index_of.ensures.index c.index-held.ensures))

@@ -1,7 +1,7 @@
 -- The table has the type, or it is refused for the first reason that fits.
 use Rattle.clr_types.specs.Types.{form_of}
 use Rattle.clr_runtime.specs.Options.{options_of}
-use Rattle.clr_runtime.specs.RuntimeView.{sums_of}
+use Rattle.clr_runtime.specs.RuntimeView.{sums_of, world_of}
 use Rattle.clr_model.specs.Step.{new_row}
 use Rattle.clr_runtime.proofs.IndexKept.{defined_index}
 use Rattle.clr_runtime.proofs.TypeLines.{defined_kept, IsTold, told-err, told-ok}
@@ -20,12 +20,11 @@ returns c =
     rw (← c.self.view_is)
     elim c.match-define.branch [
       | in-Ok w ↦ rw (w.result-is, w.mt.ensures, w.in-Ok.ensures.number, w.in-Ok.ensures.defined)
-          (told-ok r.types c.args.name.now form c.args.finalizer c.define.result told r.heap r.locals.items
-          (sums_of r.sums) (options_of r.options) c.requires.named w.in-Ok.t w.in-Ok.is
-          c.self.invariant.shown.held)
+          (told-ok (world_of r) c.args.name.now form c.args.finalizer c.define.result told (sums_of r.sums)
+          (options_of r.options) c.requires w.in-Ok.t w.in-Ok.is c.self.invariant.shown.held)
       | in-Err w ↦ rw (w.result-is, w.refusal_of.ensures, w.in-Err.ensures.err)
-          (told-err r.types c.args.name.now form c.args.finalizer c.define.result told r.heap r.locals.items
-          (sums_of r.sums) (options_of r.options) w.in-Err.fault w.in-Err.is)
+          (told-err (world_of r) c.args.name.now form c.args.finalizer c.define.result told (sums_of r.sums)
+          (options_of r.options) w.in-Err.fault w.in-Err.is)
     ]
 
 pub invariant_of-self : goal.invariant_of-self
@@ -34,9 +33,9 @@ invariant_of-self c =
     let form = form_of c.args.shape in
     record {
       shown =
-          defined_kept r.types c.define.new.self r.heap r.locals.items (sums_of r.sums) (options_of r.options)
-          c.args.name.now form c.args.finalizer c.define.result c.self.invariant.shown c.requires.named
-          c.requires.plain c.define.ensures.defined c.define.ensures.err
+          defined_kept (world_of r) c.define.new.self (sums_of r.sums) (options_of r.options) c.args.name.now form
+          c.args.finalizer c.define.result c.self.invariant.shown c.requires c.define.ensures.defined
+          c.define.ensures.err
           (record {
             duplicate = c.define.ensures.duplicate;
             bad_shape = c.define.ensures.bad_shape;

@@ -3,6 +3,7 @@ use Rattle.std.proofs.Common.{sym, ◌∙◌}
 use Rattle.clr_model.specs.Outcomes.{answered}
 use Rattle.clr_model.specs.declared.Reply.TheVariants.{Place}
 use Rattle.clr_model.proofs.LineFollows.{get_of}
+use Rattle.clr_runtime.specs.RuntimeView.{world_of}
 use Rattle.clr_runtime.proofs.LocalsSeen.{local-read, local-stands}
 use Rattle.clr_runtime.proofs.NamesChecked.{names_refused}
 use Rattle.clr_runtime.proofs.RuntimeKept.{local_kept}
@@ -26,7 +27,7 @@ returns-in-Err c =
     let r = c.self.inside in
     let passed = rw (← c.self.view_is) at (sym c.refused_names.ensures.value ∙ c.in_default.is) in
     rw (← c.self.view_is)
-    (refused_slot r.types r.heap r.locals.items _ _ (get_of c.args.t c.args.to c.args.from c.args.index)
+    (refused_slot (world_of r) _ _ (get_of c.args.t c.args.to c.args.from c.args.index)
     c.index-place.result.now passed
     (local-read c.self.invariant.shown c.args.t c.args.from c.index_of.result c.index-place.result.now
     c.index_of.ensures.within c.index_of.ensures.index c.index-place.ensures) c.in-Err.refusal c.in-Err.ensures)
@@ -40,7 +41,7 @@ invariant_of-self c =
     let name = c.slot_value-name in
     record {
       shown = local_kept is _ (answered (Place name.result)) c.index_of-2.result name.result
-          (got r.types r.heap r.locals.items _ _ c.args.t c.index-place.result.now c.args.index c.in-Ok.found.item
+          (got (world_of r) _ _ c.args.t c.index-place.result.now c.args.index c.in-Ok.found.item
           c.in-Ok.found.slot has c.args.to c.args.from c.index_of-2.result name.result
           passed
           (local-read is c.args.t c.args.from c.index_of.result c.index-place.result.now c.index_of.ensures.within
@@ -57,7 +58,7 @@ returns c =
     let (has, kind) = c.in-Ok.ensures in
     let name = c.slot_value-name in
     rw (← c.self.view_is)
-    (got r.types r.heap r.locals.items _ _ c.args.t c.index-place.result.now c.args.index c.in-Ok.found.item
+    (got (world_of r) _ _ c.args.t c.index-place.result.now c.args.index c.in-Ok.found.item
     c.in-Ok.found.slot has c.args.to c.args.from c.index_of-2.result name.result
     passed
     (local-read c.self.invariant.shown c.args.t c.args.from c.index_of.result c.index-place.result.now

@@ -1,15 +1,14 @@
 -- The slot takes the number.
 use Rattle.std.proofs.Common.{sym, ◌∙◌}
-use Rattle.clr_view.specs.View.{word_value}
 use Rattle.clr_model.specs.Outcomes.{answered}
 use Rattle.clr_model.specs.declared.Reply.TheVariants.{Done}
 use Rattle.clr_model.proofs.LineFollows.{put_of}
-use Rattle.clr_runtime.specs.RuntimeView.{seen}
+use Rattle.clr_runtime.specs.RuntimeView.{seen, world_of}
 use Rattle.clr_runtime.proofs.IndexKept.{same_index}
 use Rattle.clr_runtime.proofs.LimitKept.{stored_limit}
 use Rattle.clr_runtime.proofs.LocalsSeen.{local-read, local-stands}
 use Rattle.clr_runtime.proofs.NamesChecked.{names_refused, once}
-use Rattle.clr_runtime.proofs.RuntimeKept.{store_kept}
+use Rattle.clr_runtime.proofs.RuntimeKept.{heap_kept}
 use Rattle.clr_runtime.proofs.SlotLines.{refused_slot, was_put}
 use Rattle.clr_runtime.proofs.runtime.Runtime.put.Goals as goal
 
@@ -30,7 +29,7 @@ returns-in-Err c =
     let r = c.self.inside in
     let passed = rw (← c.self.view_is) at (sym c.refused_names.ensures.value ∙ c.in_default.is) in
     rw (← c.self.view_is)
-    (refused_slot r.types r.heap r.locals.items _ _
+    (refused_slot (world_of r) _ _
     (put_of c.args.t c.args.into c.args.index c.args.value c.ranges.value.fits) c.index-place.result.now
     (once (seen r) c.args.t c.args.into _ passed)
     (local-read c.self.invariant.shown c.args.t c.args.into c.index_of.result c.index-place.result.now
@@ -46,10 +45,9 @@ invariant_of-self c =
     let number = c.narrowed-number in
     let stored = done.ensures.stored c.args.index has.slot in
     record {
-      shown = store_kept is _ (answered Done) done.new.heap c.in-Ok.found.item.place c.args.index
-          (word_value c.in-Ok.found.slot.reference number.result) stored done.ensures.unmarked
+      shown = heap_kept is _ (answered Done) done.new.heap stored.held done.ensures.unmarked
           done.ensures.free_heads done.ensures.clean
-          (was_put r.types r.heap r.locals.items _ _ c.args.t c.index-place.result.now c.args.index c.in-Ok.found.item
+          (was_put (world_of r) _ _ c.args.t c.index-place.result.now c.args.index c.in-Ok.found.item
           c.in-Ok.found.slot has done.new.heap c.args.into c.args.value number.result c.ranges.value.fits
           passed
           (local-read is c.args.t c.args.into c.index_of.result c.index-place.result.now c.index_of.ensures.within
@@ -67,7 +65,7 @@ returns c =
     let done = c.set_slot_value in
     let number = c.narrowed-number in
     rw (← c.self.view_is)
-    (was_put r.types r.heap r.locals.items _ _ c.args.t c.index-place.result.now c.args.index c.in-Ok.found.item
+    (was_put (world_of r) _ _ c.args.t c.index-place.result.now c.args.index c.in-Ok.found.item
     c.in-Ok.found.slot has done.new.heap c.args.into c.args.value number.result c.ranges.value.fits
     passed
     (local-read c.self.invariant.shown c.args.t c.args.into c.index_of.result c.index-place.result.now

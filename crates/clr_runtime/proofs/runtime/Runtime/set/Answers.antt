@@ -1,16 +1,16 @@
 -- The slot takes what the local holds.
 use Rattle.std.proofs.Common.{sym, ◌∙◌}
 use Rattle.std.proofs.lemmas.Bool.{true≢false}
-use Rattle.clr_view.specs.View.{word_value}
 use Rattle.clr_view.proofs.SlotReads.{reference-word}
 use Rattle.clr_model.specs.Outcomes.{answered}
 use Rattle.clr_model.specs.declared.Reply.TheVariants.{Done}
 use Rattle.clr_model.proofs.LineFollows.{set_of}
+use Rattle.clr_runtime.specs.RuntimeView.{world_of}
 use Rattle.clr_runtime.proofs.IndexKept.{same_index}
 use Rattle.clr_runtime.proofs.LimitKept.{stored_limit}
 use Rattle.clr_runtime.proofs.LocalsSeen.{local-read, local-stands}
 use Rattle.clr_runtime.proofs.NamesChecked.{names_refused}
-use Rattle.clr_runtime.proofs.RuntimeKept.{store_kept}
+use Rattle.clr_runtime.proofs.RuntimeKept.{heap_kept}
 use Rattle.clr_runtime.proofs.SlotLines.{refused_slot, was_set}
 use Rattle.clr_runtime.proofs.runtime.Runtime.set.Goals as goal
 
@@ -31,7 +31,7 @@ returns-in-Err c =
     let r = c.self.inside in
     let passed = rw (← c.self.view_is) at (sym c.refused_names.ensures.value ∙ c.in_default.is) in
     rw (← c.self.view_is)
-    (refused_slot r.types r.heap r.locals.items _ _ (set_of c.args.t c.args.into c.args.index c.args.from)
+    (refused_slot (world_of r) _ _ (set_of c.args.t c.args.into c.args.index c.args.from)
     c.index-place.result.now passed
     (local-read c.self.invariant.shown c.args.t c.args.into c.index_of.result c.index-place.result.now
     c.index_of.ensures.within c.index_of.ensures.index c.index-place.ensures) c.in-Err.refusal c.in-Err.ensures)
@@ -52,10 +52,9 @@ invariant_of-self c =
     let done = c.set_slot_value in
     let stored = done.ensures.stored c.args.index has.slot in
     record {
-      shown = store_kept is _ (answered Done) done.new.heap c.in-Ok.found.item.place c.args.index
-          (word_value c.in-Ok.found.slot.reference c.index-name.result.now) stored done.ensures.unmarked
+      shown = heap_kept is _ (answered Done) done.new.heap stored.held done.ensures.unmarked
           done.ensures.free_heads done.ensures.clean
-          (was_set r.types r.heap r.locals.items _ _ c.args.t c.index-place.result.now c.args.index c.in-Ok.found.item
+          (was_set (world_of r) _ _ c.args.t c.index-place.result.now c.args.index c.in-Ok.found.item
           c.in-Ok.found.slot has done.new.heap c.args.into c.args.from c.index-name.result.now
           passed
           (local-read is c.args.t c.args.into c.index_of.result c.index-place.result.now c.index_of.ensures.within
@@ -75,7 +74,7 @@ returns c =
     let (has, kind) = c.in-Ok.ensures in
     let done = c.set_slot_value in
     rw (← c.self.view_is)
-    (was_set r.types r.heap r.locals.items _ _ c.args.t c.index-place.result.now c.args.index c.in-Ok.found.item
+    (was_set (world_of r) _ _ c.args.t c.index-place.result.now c.args.index c.in-Ok.found.item
     c.in-Ok.found.slot has done.new.heap c.args.into c.args.from c.index-name.result.now
     passed
     (local-read is c.args.t c.args.into c.index_of.result c.index-place.result.now c.index_of.ensures.within

@@ -2,24 +2,48 @@
 use Rattle.std.proofs.Common.{List, Option, ap, subst, sym}
 use Rattle.clr_types.specs.Ranges.{Piece}
 use Rattle.clr_heap.specs.View.{HeapView}
+use Rattle.clr_final.specs.Queues.{Queues}
+use Rattle.clr_view.specs.World.{World}
 use Rattle.clr_ctx.specs.Contexts.{IsIndex}
 use Rattle.clr_runtime.specs.Options.{options_of}
 use Rattle.clr_runtime.proofs.IndexKept.{first_index}
-use Rattle.clr_runtime.proofs.Opened.{new_shown, new_stands}
+use Rattle.clr_runtime.proofs.Opened.{IsFirst, new_shown, new_stands}
 use Rattle.clr_runtime.proofs.runtime.Runtime.with_mark_stack.Goals as goal
+use Rattle.clr_runtime.proofs.runtime.Runtime.with_mark_stack.Goals.{After-new-6}
+
+-- its world
+abbrev made_world : After-new-6 → World
+made_world c =
+    let made = c.in-Ok-Ok-Ok-Ok in
+    record {
+      rows = made.types;
+      heap = made.heap;
+      locals = made.locals.items;
+      handles = c.new-5.result;
+      entries = c.new-6.result.entries;
+      ready = c.new-6.result.ready;
+    }
+
+first : (c : After-new-6) → IsFirst (made_world c) c.args.options.segment c.args.options.limit
+first c =
+    let made = c.in-Ok-Ok-Ok-Ok in
+    record {
+      rows = made.ensures;
+      heap = made.ensures';
+      locals = made.ensures''';
+      handles = c.new-5.ensures;
+      entries = ap (λ (q : Queues). q.entries) c.new-6.ensures;
+      ready = ap (λ (q : Queues). q.ready) c.new-6.ensures;
+    }
 
 pub returns : goal.returns
-returns c =
-    let made = c.in-Ok-Ok-Ok-Ok in
-    new_stands made.types made.heap made.locals.items (options_of c.args.options) _ c.requires.lawful made.ensures
-    made.ensures' made.ensures'''
+returns c = new_stands (made_world c) (options_of c.args.options) _ c.requires.lawful (first c)
 
 pub invariant_of-result : goal.invariant_of-result
 invariant_of-result c =
     let made = c.in-Ok-Ok-Ok-Ok in
     record {
-      shown = new_shown made.types made.heap made.locals.items (options_of c.args.options) _ c.requires.lawful
-          made.ensures made.ensures' made.ensures''';
+      shown = new_shown (made_world c) (options_of c.args.options) _ c.requires.lawful (first c);
       index = subst (λ (i : Option (List Piece)). IsIndex made.types made.heap i) (sym c.new-4.ensures)
           (first_index made.types made.heap c.args.options.segment _ c.requires.lawful.segment_aligned made.ensures
           made.ensures');

@@ -1,0 +1,274 @@
+-- What is kept: from marks of what is alive, judged entries and cleared handles, to what a collection leaves of handles
+-- and queues before its sweep.
+use Rattle.std.proofs.Common.{◌≡◌, ◌↔◌, ◌⊎◌, inl, inr, ℕ, ◌%◌, ◌<◌, ◌==◌, ◌&&◌, Bool, true, false, not, List, [], ◌++◌}
+use Rattle.std.proofs.Common.{filter, map, drop, length, refl, ap, sym, ◌∙◌, subst}
+use Rattle.std.specs.List.{list_any}
+use Rattle.std.specs.FinMap.{FinMap}
+use Rattle.std.specs.Ordering.{nat_cmp}
+use Rattle.std.proofs.Math.Seq.{drop-append_seam}
+use Rattle.clr_types.specs.Maps.{map_values}
+use Rattle.clr_types.specs.Rising.{IsIn, Tests}
+use Rattle.clr_types.specs.Types.{TypeRow}
+use Rattle.clr_types.specs.declared.handle.Handle.{Handle}
+use Rattle.clr_types.specs.declared.handle.Kind.TheVariants.{Dependent, Weak, WeakLong}
+use Rattle.clr_types.proofs.ChangedLists.{IsIn-map, out_of_filter}
+use Rattle.clr_types.proofs.ListMembers.{filter-on, from-map, map-on}
+use Rattle.clr_types.proofs.RisingLists.{all_at}
+use Rattle.clr_final.specs.Queues.{Queues}
+use Rattle.clr_handles.specs.Laws.{cleared}
+use Rattle.clr_heap.specs.View.{frame, HeapView, IsHeap, word_of}
+use Rattle.clr_model.specs.Collection.{begun, object_after, row_after}
+use Rattle.clr_model.specs.Lawful.{IsPlaceNamed}
+use Rattle.clr_model.specs.Lookups.{object_named}
+use Rattle.clr_model.specs.Machine.{Machine, Object, ref}
+use Rattle.clr_model.specs.Reach.{Edge, is_suppressed, Kept, Reach, SecondOf, SlotNames, starts, StartOf}
+use Rattle.clr_model.specs.Reach.{suppressed_or_none, woken}
+use Rattle.clr_model.proofs.LawfulSurvivors.{generation-least}
+use Rattle.clr_model.proofs.NamedWell.{lawful-named, name-above}
+use Rattle.clr_model.proofs.SeenSound.{found-at}
+use Rattle.clr_view.specs.Flags.{is_suppressed_at}
+use Rattle.clr_view.specs.Marks.{Marked}
+use Rattle.clr_view.specs.Memory.{is_left_name}
+use Rattle.clr_view.specs.SlotValues.{StandsAt}
+use Rattle.clr_view.specs.View.{IsHeld, objects_in}
+use Rattle.clr_view.specs.World.{HandlesStand, IsWorldOf, World}
+use Rattle.clr_view.proofs.CleanWords.{clean_remarked}
+use Rattle.clr_view.proofs.LeftNames.{left-marked, marked-left, tests_marks}
+use Rattle.clr_mark.specs.Marks.{IsRemarked}
+use Rattle.clr_mark.specs.Roots.{IsRoot}
+use Rattle.clr_mark.specs.Ties.{Joins}
+use Rattle.clr_mark.proofs.Graying.{reach_bind}
+use Rattle.clr_mark.proofs.Remarking.{keeps_layout, keeps_objects}
+use Rattle.clr_collect.specs.Collecting.{HasMarkedAlive, HasMarkedKept, HasUnflagged, HaveBeenJudged, is_woken_at}
+use Rattle.clr_collect.specs.Collecting.{LeavesKept, objects_unflagged, unflagged, world_with}
+use Rattle.clr_collect.proofs.HandlesAfter.{rows_after, second_cleared, second_was}
+
+-- two answers that are true together are one
+both_true : (a b : Bool) → (a ≡ true → b ≡ true) → (b ≡ true → a ≡ true) → a ≡ b
+both_true true b there back = sym (there refl)
+both_true false true there back = back refl
+both_true false false there back = refl
+
+-- ---- flags
+
+-- a flag that goes where an entry is dropped, is one that goes where the object has an entry and isn't left
+flag-goes : (s in_use left : Bool) → (s && not (in_use && not left)) ≡ (s && not (in_use && (not left && s)))
+flag-goes false in_use left = refl
+flag-goes true true true = refl
+flag-goes true true false = refl
+flag-goes true false left = refl
+
+module _ (m : Machine) (first : ℕ → Bool) where
+  -- without the flags of those that aren't left, objects are what they are when entries were dropped
+  unflagged-after : ((o : Object) → IsIn o m.objects → is_suppressed m o.name ≡ o.suppressed)
+      → map (unflagged first m.entries) m.objects ≡ objects_unflagged m first
+  unflagged-after known =
+      map-on (unflagged first m.entries) (object_after m first []) m.objects (λ o i.
+      let listed = list_any (λ e. e == o.name) m.entries in
+      let flag = flag-goes o.suppressed listed (first o.name)
+      ∙ ap (λ (b : Bool). o.suppressed && not (listed && (not (first o.name) && b))) (sym (known o i)) in
+      ap (λ (b : Bool). record o { suppressed = b }) flag)
+
+-- ---- edges where flags alone changed
+
+module _ (left : ℕ → Bool) (entries : List ℕ) (objects : List Object) where
+  pub edge-unflagged : (x y : ℕ) → SlotNames objects x y → SlotNames (map (unflagged left entries) objects) x y
+  edge-unflagged x y e = record {
+    object = unflagged left entries e.object;
+    present = IsIn-map (unflagged left entries) e.present;
+    named = e.named;
+    slot = e.slot;
+    not_null = e.not_null;
+  }
+
+  pub edge-was : (x y : ℕ) → SlotNames (map (unflagged left entries) objects) x y → SlotNames objects x y
+  edge-was x y e =
+      let (o, same, i) = from-map (unflagged left entries) e.object objects e.present in
+      record {
+        object = o;
+        present = i;
+        named = sym (ap (λ (q : Object). q.name) same) ∙ e.named;
+        slot = subst (λ (q : Object). IsIn (ref y) q.slots) same e.slot;
+        not_null = e.not_null;
+      }
+
+-- ---- the heap
+
+-- Before the collection, with what is alive marked, and with entries judged and flags cleared.
+module _ (rows : List TypeRow) (old : HeapView) (locals : List ℕ) (handles : FinMap nat_cmp Handle) (queues : Queues)
+    (alive : HeapView) (a : HasMarkedAlive (world_with rows old locals handles queues) alive 2)
+    (judged : Queues) (j : HaveBeenJudged rows alive 2 queues judged)
+    (flat : HeapView) (flat_heap : IsHeap flat) (f : HasUnflagged rows alive flat 2 queues.entries) where
+  abbrev w : World
+  w = world_with rows old locals handles queues
+
+  abbrev pub first : ℕ → Bool
+  first = is_left_name rows alive 2
+
+  -- the f-reachable places that are new
+  abbrev pub woken_now : List ℕ
+  woken_now = drop (length queues.ready) judged.ready
+
+  -- clearing flags leaves the same names
+  left-flat : (x : ℕ) → is_left_name rows flat 2 x ≡ first x
+  left-flat x = both_true (is_left_name rows flat 2 x) (first x)
+      (λ e. marked-left rows alive 2 x ((f.marks x).0 (left-marked rows flat 2 x (generation-least (frame flat) x) e)))
+      (λ e. marked-left rows flat 2 x ((f.marks x).1 (left-marked rows alive 2 x (generation-least (frame alive) x) e)))
+
+  -- ---- for one machine
+
+  module _ (m : Machine) (is : IsWorldOf w m) (named : IsPlaceNamed m) where
+    objects-alive : objects_in rows alive ≡ m.objects
+    objects-alive = a.objects ∙ sym is.memory.objects
+
+    suppressed-is : (x : ℕ) → is_suppressed_at rows alive x ≡ is_suppressed m x
+    suppressed-is x = ap (λ (os : List Object). suppressed_or_none (object_named os x)) objects-alive
+
+    -- the woken entries are the machine's
+    woken-is : filter (is_woken_at rows alive 2) queues.entries ≡ woken (begun m) first
+    woken-is =
+        ap (filter (is_woken_at rows alive 2)) (sym is.entries)
+        ∙ filter-on (is_woken_at rows alive 2) (λ e. not (first e) && not (is_suppressed m e)) m.entries
+        (λ e i. ap (λ (b : Bool). not (first e) && not b) (suppressed-is e))
+
+    known-flag : (o : Object) → IsIn o m.objects → is_suppressed m o.name ≡ o.suppressed
+    known-flag o i = ap suppressed_or_none
+        (found-at m named o i o.name (sym (all_at (λ (q : Object). q.name ≡ q.place) i named.places)))
+
+    objects-flat : objects_in rows flat ≡ objects_unflagged (begun m) first
+    objects-flat =
+        f.objects
+        ∙ ap (λ (os : List Object). map (unflagged first queues.entries) os) objects-alive
+        ∙ ap (λ (es : List ℕ). map (unflagged first es) m.objects) (sym is.entries)
+        ∙ unflagged-after (begun m) first known-flag
+
+    -- ---- what is marked after the woken ones were roots
+
+    module _ (short : FinMap nat_cmp Handle)
+        (short_is : short ≡ map_values (cleared Weak (is_left_name rows flat 2)) handles) (new : HeapView)
+        (marked : (x : ℕ) → Marked rows new x ↔ Reach (Joins rows flat short)
+        (λ y. Marked rows flat y ⊎ IsRoot (woken_now) y) x) where
+      abbrev edge : ℕ → ℕ → Type 0
+      edge = Edge (begun m)
+
+      abbrev start : ℕ → Type 0
+      start y = StartOf (begun m) 2 y ⊎ IsIn y (woken (begun m) first)
+
+      waiting-is : woken_now ≡ woken (begun m) first
+      waiting-is =
+          ap (drop (length queues.ready)) j.ready
+          ∙ drop-append_seam queues.ready (filter (is_woken_at rows alive 2) queues.entries) ∙ woken-is
+
+      woken-above : (y : ℕ) → IsIn y (woken (begun m) first) → 0 < y
+      woken-above y i =
+          let names = lawful-named m named.lawful in
+          let entry = out_of_filter (λ e. not (first e) && not (is_suppressed m e)) y m.entries i in
+          let (o, there, at) = names.entries y entry.1 in
+          subst (λ n. 0 < n) at (name-above m names o there)
+
+      edge-there : (x y : ℕ) → edge x y → Joins rows flat short x y
+      edge-there x y (inl e) =
+          inl (subst (λ (os : List Object). SlotNames os x y) (sym f.objects)
+          (edge-unflagged first queues.entries (objects_in rows alive) x y
+          (subst (λ (os : List Object). SlotNames os x y) (sym objects-alive) e)))
+      edge-there x y (inr e) =
+          inr (subst (λ (hs : FinMap nat_cmp Handle). SecondOf hs x y) (sym short_is)
+          (second_cleared (is_left_name rows flat 2) handles x y
+          (subst (λ (hs : FinMap nat_cmp Handle). SecondOf hs x y) is.handles e)))
+
+      edge-here : (x y : ℕ) → Joins rows flat short x y → edge x y
+      edge-here x y (inl e) =
+          inl (subst (λ (os : List Object). SlotNames os x y) objects-alive
+          (edge-was first queues.entries (objects_in rows alive) x y
+          (subst (λ (os : List Object). SlotNames os x y) f.objects e)))
+      edge-here x y (inr e) =
+          inr (subst (λ (hs : FinMap nat_cmp Handle). SecondOf hs x y) (sym is.handles)
+          (second_was (is_left_name rows flat 2) handles x y
+          (subst (λ (hs : FinMap nat_cmp Handle). SecondOf hs x y) short_is e)))
+
+      -- what is marked before is alive
+      marked-alive : (y : ℕ) → Marked rows flat y → Reach edge start y
+      marked-alive y u =
+          reach_bind edge edge start (StartOf (begun m) 2) y (λ p q e. e) (λ p s. starts (inl s))
+          ((a.alive m is named y).0 (marked-left rows alive 2 y ((f.marks y).0 u)))
+
+      begins-there : (y : ℕ) → Marked rows flat y ⊎ IsRoot (woken_now) y
+          → Reach edge start y
+      begins-there y (inl u) = marked-alive y u
+      begins-there y (inr r) = starts (inr (subst (IsIn y) waiting-is r.listed))
+
+      begins-here : (y : ℕ) → start y
+          → Marked rows flat y ⊎ IsRoot (woken_now) y
+      begins-here y (inl s) =
+          inl ((f.marks y).1 (left-marked rows alive 2 y (generation-least (frame alive) y)
+          ((a.alive m is named y).1 (starts s))))
+      begins-here y (inr i) =
+          inr (record {
+            listed = subst (IsIn y) (sym waiting-is) i;
+            not_null = woken-above y i;
+          })
+
+      -- THE KEPT SET: what is left at the end
+      kept-is : Tests (is_left_name rows new 2) (Kept (begun m) (StartOf (begun m) 2) first)
+      kept-is x = (
+        λ e. reach_bind edge (Joins rows flat short) start
+            (λ y. Marked rows flat y ⊎ IsRoot (woken_now) y) x edge-here begins-there
+            ((marked x).0 (left-marked rows new 2 x (generation-least (frame new) x) e)),
+        λ r. marked-left rows new 2 x ((marked x).1
+            (reach_bind (Joins rows flat short) edge
+            (λ y. Marked rows flat y ⊎ IsRoot (woken_now) y) start x edge-there
+            (λ y s. starts (begins-here y s)) r)),
+      )
+
+      leaves-kept : (after : FinMap nat_cmp Handle) → HandlesStand rows flat handles
+          → after ≡ map_values (cleared Dependent (is_left_name rows new 2))
+          (map_values (cleared WeakLong (is_left_name rows new 2)) short)
+          → objects_in rows new ≡ objects_in rows flat
+          → LeavesKept (begun m) 2 first (is_left_name rows new 2) (objects_in rows new) after judged
+      leaves-kept after stand cleared_is same = record {
+        tests = record { first_is = a.alive m is named; kept_is = kept-is };
+        objects = same ∙ objects-flat;
+        handles =
+            cleared_is
+            ∙ ap (λ (hs : FinMap nat_cmp Handle). map_values (cleared Dependent (is_left_name rows new 2))
+            (map_values (cleared WeakLong (is_left_name rows new 2)) hs)) (short_is ∙ short-first)
+            ∙ rows_after first (is_left_name rows new 2) rows flat handles stand
+            ∙ ap (map_values (row_after first (is_left_name rows new 2))) (sym is.handles);
+        entries = j.entries ∙ ap (filter first) (sym is.entries);
+        ready = j.ready ∙ (λ k. sym is.ready k ++ woken-is k);
+      }
+        where
+          short-first : map_values (cleared Weak (is_left_name rows flat 2)) handles
+              ≡ map_values (cleared Weak first) handles
+          short-first = ap (λ (test : ℕ → Bool). map_values (cleared Weak test) handles) (λ k x. left-flat x k)
+
+  -- WHAT IS KEPT is marked, and handles and queue are as the collection leaves them
+  pub kept_marked : (short : FinMap nat_cmp Handle)
+      → short ≡ map_values (cleared Weak (is_left_name rows flat 2)) handles
+      → HandlesStand rows flat handles
+      → (new : HeapView) → IsRemarked rows flat new → IsHeap new → IsHeld rows new
+      → ((x : ℕ) → Marked rows new x ↔ Reach (Joins rows flat short) (λ y. Marked rows flat y ⊎ IsRoot woken_now y) x)
+      → (after : FinMap nat_cmp Handle) → after ≡ map_values (cleared Dependent (is_left_name rows new 2))
+      (map_values (cleared WeakLong (is_left_name rows new 2)) short)
+      → HasMarkedKept (world_with rows old locals handles queues) new after judged 2
+  kept_marked short short_is stand new words now now_held marked after after_is = record {
+    heap = now;
+    held = now_held;
+    layout = keeps_layout rows flat new flat_heap f.held words ∙ f.layout ∙ a.layout;
+    no_contexts = ap (λ (g : HeapView). g.rests) words.shape.others ∙ f.rests ∙ a.no_contexts;
+    first = first;
+    leaves = λ m is named. leaves-kept m is named short short_is new marked after stand after_is objects;
+    marks = tests_marks rows new 2;
+    clean = λ c.
+        clean_remarked rows flat new flat_heap f.held now now_held objects remarked (f.clean (a.clean c));
+    limit = ap (λ (g : HeapView). g.limit) words.shape.others ∙ f.limit ∙ a.limit;
+  }
+    where
+      objects : objects_in rows new ≡ objects_in rows flat
+      objects = keeps_objects rows flat new flat_heap f.held words
+
+      remarked : (b : ℕ) → b % 8 ≡ 0 → (word_of new b ≡ word_of flat b) ⊎ StandsAt rows flat b
+      remarked b z = elim (words.words b z) [
+        | inl same ↦ inl same
+        | inr other ↦ inr other.0
+      ]

@@ -1,0 +1,51 @@
+-- The contexts are given up, and what is alive is marked.
+use Rattle.std.proofs.Common.{◌↔◌, ℕ, List, refl, subst, sym}
+use Rattle.clr_model.specs.Reach.{Reach}
+use Rattle.clr_view.specs.Marks.{Marked}
+use Rattle.clr_mark.specs.Roots.{AreObjects}
+use Rattle.clr_mark.specs.Ties.{IsStart, Joins}
+use Rattle.clr_collect.specs.Collecting.{world_with}
+use Rattle.clr_collect.proofs.ReachedMarks.{given_clear, given_closed, given_handles, given_locals, given_ready}
+use Rattle.clr_collect.proofs.ReachedMarks.{reached_marked}
+use Rattle.clr_collect.proofs.collecting.mark_alive.Goals as goal
+
+pub mark_from-requires-clause-closed : goal.mark_from-requires-clause-closed
+mark_from-requires-clause-closed c =
+    given_closed (world_with c.args.types.now c.args.heap.now c.args.locals.now c.args.handles.now c.args.finals.now)
+    c.give_up_all.new.heap c.lawful.ensures c.requires.held c.requires.unmarked c.give_up_all.ensures.given
+    c.requires.world c.lawful-2.ensures
+
+pub mark_from-requires-clause-clear : goal.mark_from-requires-clause-clear
+mark_from-requires-clause-clear c =
+    given_clear (world_with c.args.types.now c.args.heap.now c.args.locals.now c.args.handles.now c.args.finals.now)
+    c.give_up_all.new.heap c.lawful.ensures c.requires.held c.requires.unmarked c.give_up_all.ensures.given
+
+pub mark_from-requires-clause-handles : goal.mark_from-requires-clause-handles
+mark_from-requires-clause-handles c =
+    given_handles (world_with c.args.types.now c.args.heap.now c.args.locals.now c.args.handles.now c.args.finals.now)
+    c.give_up_all.new.heap c.lawful.ensures c.requires.held c.requires.unmarked c.give_up_all.ensures.given
+    c.requires.world
+
+pub mark_from-requires-clause-locals : goal.mark_from-requires-clause-locals
+mark_from-requires-clause-locals c =
+    given_locals (world_with c.args.types.now c.args.heap.now c.args.locals.now c.args.handles.now c.args.finals.now)
+    c.give_up_all.new.heap c.lawful.ensures c.requires.held c.requires.unmarked c.give_up_all.ensures.given
+    c.requires.world
+
+pub mark_from-requires-clause-ready : goal.mark_from-requires-clause-ready
+mark_from-requires-clause-ready c =
+    subst (AreObjects c.args.types.now c.give_up_all.new.heap) (sym c.ready.ensures)
+    (given_ready (world_with c.args.types.now c.args.heap.now c.args.locals.now c.args.handles.now c.args.finals.now)
+    c.give_up_all.new.heap c.lawful.ensures c.requires.held c.requires.unmarked c.give_up_all.ensures.given
+    c.requires.world)
+
+pub returns-clause-alive : goal.returns-clause-alive
+returns-clause-alive c =
+    reached_marked
+    (world_with c.args.types.now c.args.heap.now c.args.locals.now c.args.handles.now c.args.finals.now)
+    c.give_up_all.new.heap c.lawful.ensures c.requires.held c.requires.unmarked c.give_up_all.ensures.given
+    c.mark_from.new.heap c.lawful-2.ensures c.mark_from.ensures.words c.lawful-3.ensures
+    c.mark_from.ensures.gray.closed.held
+    (subst (λ (rs : List ℕ). (x : ℕ) → Marked c.args.types.now c.mark_from.new.heap x
+    ↔ Reach (Joins c.args.types.now c.give_up_all.new.heap c.args.handles.now)
+    (IsStart c.args.handles.now c.args.locals.now rs) x) c.ready.ensures (c.mark_from.ensures.all refl))

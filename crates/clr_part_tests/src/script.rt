@@ -1,0 +1,218 @@
+use clr_model::{Collected, Refusal, Reply, Where};
+use clr_script::{Line, put_refusal, put_reply, read_line};
+use std::test::Fail;
+
+// Each form of line, and the command that it is. The name `N` is the byte 78, and `rn` the bytes 114 and 110.
+const LINES: [(&str, &str); 39] = [
+    (
+        "type N class -",
+        "Define { name: [78], shape: Class([]), finalizer: false }",
+    ),
+    (
+        "type N class rn final",
+        "Define { name: [78], shape: Class([114, 110]), finalizer: true }",
+    ),
+    (
+        "type N refs",
+        "Define { name: [78], shape: RefArray, finalizer: false }",
+    ),
+    (
+        "type N bytes",
+        "Define { name: [78], shape: ByteArray, finalizer: false }",
+    ),
+    (
+        "type N structs rn",
+        "Define { name: [78], shape: StructArray([114, 110]), finalizer: false }",
+    ),
+    (
+        "t1 new l12 N",
+        "New { t: 1, local: 12, name: [78], len: None }",
+    ),
+    (
+        "t0 new l64 N 40",
+        "New { t: 0, local: 64, name: [78], len: Some(40) }",
+    ),
+    ("t1 get l2 l3 4", "Get { t: 1, to: 2, from: 3, index: 4 }"),
+    ("t1 set l2 3 l4", "Set { t: 1, into: 2, index: 3, from: 4 }"),
+    (
+        "t1 put l2 3 18446744073709551615",
+        "Put { t: 1, into: 2, index: 3, value: 18446744073709551615 }",
+    ),
+    ("t1 read l2 3", "Read { t: 1, from: 2, index: 3 }"),
+    ("t17 copy l2 l3", "Copy { t: 17, to: 2, from: 3 }"),
+    ("t1 null l2", "Clear { t: 1, local: 2 }"),
+    ("t1 suppress l2", "Suppress { t: 1, local: 2 }"),
+    ("t1 reregister l2", "Reregister { t: 1, local: 2 }"),
+    ("t1 collect 0", "Collect { t: 1, g: 0, how: Decide }"),
+    (
+        "t1 collect 1 compacting",
+        "Collect { t: 1, g: 1, how: Compact }",
+    ),
+    (
+        "t1 collect 2 sweeping",
+        "Collect { t: 1, g: 2, how: Sweep }",
+    ),
+    ("t1 suspend", "Suspend { t: 1 }"),
+    ("t1 resume", "Resume { t: 1 }"),
+    (
+        "t1 begin set l2 3 l4",
+        "BeginSet { t: 1, into: 2, index: 3, from: 4 }",
+    ),
+    (
+        "t1 begin new l2 N 3",
+        "BeginNew { t: 1, local: 2, name: [78], len: Some(3) }",
+    ),
+    ("t1 step", "Step { t: 1 }"),
+    (
+        "t1 handle weaklong l2",
+        "Handle { t: 1, kind: WeakLong, local: 2, second: None }",
+    ),
+    (
+        "t1 handle dependent l2 l3",
+        "Handle { t: 1, kind: Dependent, local: 2, second: Some(3) }",
+    ),
+    ("t1 fetch l2 h3", "Fetch { t: 1, to: 2, h: 3 }"),
+    ("t1 second l2 h3", "Second { t: 1, to: 2, h: 3 }"),
+    ("t1 free h2", "Free { t: 1, h: 2 }"),
+    ("t1 finalizer l2", "Finalizer { t: 1, to: 2 }"),
+    (
+        "dumpheap",
+        "DumpHeap { filter: Filter { mode: Full, life: Any, mt: None, name: None, min: 0, max: 18446744073709551615 } }",
+    ),
+    (
+        "dumpheap -stat -live -type N -min 2 -max 3",
+        "DumpHeap { filter: Filter { mode: Stat, life: Live, mt: None, name: Some([78]), min: 2, max: 3 } }",
+    ),
+    (
+        "dumpheap -short -dead -mt 00000000000000ff",
+        "DumpHeap { filter: Filter { mode: Short, life: Dead, mt: Some(255), name: None, min: 0, max: 18446744073709551615 } }",
+    ),
+    ("dumpobj 00000000000000ff", "DumpObj { a: 255 }"),
+    ("gcroot 00000000000000ff", "GcRoot { a: 255 }"),
+    ("eeheap -gc", "EeHeap"),
+    ("verifyheap", "VerifyHeap"),
+    ("gchandles", "GcHandles"),
+    ("finalizequeue", "FinalizeQueue"),
+    ("gcwhere 00000000000000ff", "GcWhere { a: 255 }"),
+];
+
+#[test]
+fn reads_each_form(rt: HostRuntime) -> Result<(), Fail> {
+    for (line, wanted) in LINES {
+        match read_line(line.as_bytes()) {
+            Ok(command) => {
+                let text = format!(in rt.alloc(); "{command:?}")?;
+                assert_eq!(rt; text.as_str(), wanted);
+            }
+            Err(refusal) => assert!(rt; false, "{line}: {refusal:?}"),
+        }
+    }
+    Ok(())
+}
+
+#[test]
+fn refuses_other_lines(rt: HostRuntime) {
+    for line in [
+        "",
+        " ",
+        "t",
+        "t1",
+        "t1 ",
+        " t1 null l2",
+        "t1  null l2",
+        "t1 null  l2",
+        "t1 null l2 ",
+        "t1 null l2 l3",
+        "t1 null l02",
+        "t01 null l2",
+        "t1 null L2",
+        "t1 null l18446744073709551616",
+        "t1 new l2",
+        "t1 new l2 9N",
+        "t1 new l2 N +3",
+        "t1 set l2 l3 4",
+        "t1 collect 3",
+        "t1 collect 0 both",
+        "t1 handle strong l2 l3",
+        "t1 handle dependent l2",
+        "t1 begin get l2 l3 4",
+        "t1 step step",
+        "T1 null l2",
+        "type N refs final",
+        "type N class",
+        "type N class rx",
+        "type N class -r",
+        "dumpheap -live -stat",
+        "dumpheap -mt 00000000000000ff -type N",
+        "dumpheap -max 3 -min 2",
+        "dumpheap -min",
+        "dumpobj 00000000000000FF",
+        "dumpobj ff",
+        "eeheap",
+        "verifyheap -gc",
+    ] {
+        assert_eq!(rt;
+            read_line(line.as_bytes()).err(),
+            Some(Refusal::Syntax),
+            "at {line:?}"
+        );
+    }
+}
+
+#[test]
+fn reads_as_many_bytes_as_a_line_may_have(rt: HostRuntime) -> Result<(), Fail> {
+    let mut line = Vec::from_slice(rt.alloc(), b"type N class ")?;
+    line.resize(4096, b'r')?;
+    assert!(rt; read_line(&line).is_ok());
+    line.push(b'r')?;
+    assert_eq!(rt; read_line(&line).err(), Some(Refusal::TooLong));
+    Ok(())
+}
+
+#[test]
+fn shows_replies_and_refusals(rt: HostRuntime) {
+    let mut line = Line::new();
+    for (reply, wanted) in [
+        (Reply::Done, "ok"),
+        (Reply::Place(0), "null"),
+        (Reply::Place(0x1000_1018), "0000000010001018"),
+        (Reply::Number(10_203), "10203"),
+        (Reply::Mt(0x7ff0_0000_0040), "mt 00007ff000000040"),
+        (Reply::HandleNumber(7), "h7"),
+        (
+            Reply::Collected(Collected {
+                generation: 1,
+                compacted: true,
+                kept: 2,
+                freed: 3,
+                promoted1: 4,
+                promoted2: 5,
+            }),
+            "collected 1 compact kept 2 freed 3",
+        ),
+        (Reply::Clean, "clean"),
+    ] {
+        put_reply(&reply, &mut line);
+        assert_eq!(rt; line.bytes(), wanted.as_bytes());
+    }
+    let found = Where {
+        generation: 2,
+        kind: 1,
+        base: 0x1000_1000,
+        size: 24,
+    };
+    put_reply(&Reply::Where(found), &mut line);
+    line.end();
+    assert_eq!(rt;
+        line.bytes(),
+        b"gen 2 ephemeral 0000000010001000 size 24\n".as_slice()
+    );
+    for (refusal, wanted) in [
+        (Refusal::TooLong, "refused too-long"),
+        (Refusal::Blocked(3), "refused blocked 3"),
+        (Refusal::NoMemory, "refused nomem"),
+    ] {
+        put_refusal(&refusal, &mut line);
+        assert_eq!(rt; line.bytes(), wanted.as_bytes());
+    }
+}

@@ -1,0 +1,99 @@
+// Types that are defined or refused, contexts that are used up, and want of room.
+
+ghost use Rattle.std.specs.Prelude.{◌≡◌, true};
+ghost use Rattle.clr_model.specs.LineGrammar.{is_name};
+
+mod collections;
+mod options;
+
+use clr_model::Refusal;
+use clr_runtime::{Options, Runtime};
+use clr_types::Shape;
+use std::alloc::Global;
+use std::process::Abort;
+use std::test::Fail;
+
+// Defines a type without a finaliser.
+fn define(runtime: &mut Runtime, name: &[u8], shape: Shape<'_>) -> Result<u64, Refusal>
+    requires { is_name name.now ≡ true }
+{
+    runtime.define(name, shape, false)
+}
+
+// Each object that is made for local 0 of a thread stands where it is wanted, or the line is refused.
+fn expect_births(
+    rt: &impl Abort,
+    runtime: &mut Runtime,
+    births: &[(u64, &[u8], Option<u64>, Result<u64, Refusal>)],
+) {
+    for (t, name, len, want) in births {
+        assert_eq!(rt; runtime.new_object(*t, 0, name, *len), *want);
+    }
+}
+
+// A runtime of two segments, with a class of a reference and a number, arrays of references, and arrays of bytes.
+fn small_runtime(alloc: Global) -> Result<Runtime, Fail> {
+    let options = Options {
+        limit: 524_288,
+        segment: 262_144,
+        b0: 262_144,
+        b1: 1_048_576,
+        b2: 4_194_304,
+        bl: 4_194_304,
+        compact: 50,
+    };
+    let mut runtime = Runtime::new(alloc, options)?;
+    let _ = define(&mut runtime, b"Pair", Shape::Class(b"rn"))?;
+    let _ = define(&mut runtime, b"Refs", Shape::RefArray)?;
+    let _ = define(&mut runtime, b"Bytes", Shape::ByteArray)?;
+    Ok(runtime)
+}
+
+#[test]
+fn types_are_defined_or_refused(rt: HostRuntime) -> Result<(), Fail> {
+    let mut runtime = small_runtime(rt.alloc())?;
+    let duplicate = define(&mut runtime, b"Free", Shape::Class(b"x"));
+    assert_eq!(rt; duplicate, Err(Refusal::DuplicateType));
+    let bad = define(&mut runtime, b"Text", Shape::Class(b"x"));
+    assert_eq!(rt; bad, Err(Refusal::BadShape));
+    let text = define(&mut runtime, b"Text", Shape::StructArray(b"nr"));
+    assert_eq!(rt; text, Ok(0x7ff0_0000_0100));
+    Ok(())
+}
+
+#[test]
+fn contexts_are_used_up_and_refilled(rt: HostRuntime) -> Result<(), Fail> {
+    let mut runtime = small_runtime(rt.alloc())?;
+    let births = [
+        // four arrays of 2,048 bytes fill a context of 8,192, and the next thread's context lies behind it
+        (1, b"Bytes".as_slice(), Some(2024), Ok(0x1000_1000)),
+        (1, b"Bytes".as_slice(), Some(2024), Ok(0x1000_1800)),
+        (2, b"Pair".as_slice(), None, Ok(0x1000_3000)),
+        (1, b"Bytes".as_slice(), Some(2024), Ok(0x1000_2000)),
+        (1, b"Bytes".as_slice(), Some(2024), Ok(0x1000_2800)),
+        (1, b"Pair".as_slice(), None, Ok(0x1000_5000)),
+        // 8,160 bytes are left of it, of which 8,144 would leave 16: it is given up, and another thread finds it
+        (1, b"Bytes".as_slice(), Some(8120), Ok(0x1000_7000)),
+        (3, b"Refs".as_slice(), Some(1), Ok(0x1000_5020)),
+    ];
+    expect_births(&rt, &mut runtime, &births);
+    Ok(())
+}
+
+#[test]
+fn a_smaller_object_fits_where_a_greater_one_does_not(rt: HostRuntime) -> Result<(), Fail> {
+    let mut runtime = small_runtime(rt.alloc())?;
+    let births = [
+        // three arrays of 84,992 bytes, each in a context of its own, leave 3,072 bytes of the segment
+        (1, b"Bytes".as_slice(), Some(84_968), Ok(0x1000_1000)),
+        (1, b"Bytes".as_slice(), Some(84_968), Ok(0x1001_5c00)),
+        (2, b"Bytes".as_slice(), Some(84_968), Ok(0x1002_a800)),
+        (1, b"Bytes".as_slice(), Some(84_968), Err(Refusal::Oom)),
+        (1, b"Bytes".as_slice(), Some(3049), Err(Refusal::Oom)),
+        (1, b"Bytes".as_slice(), Some(3048), Ok(0x1003_f400)),
+        (1, b"Bytes".as_slice(), Some(0), Err(Refusal::Oom)),
+    ];
+    expect_births(&rt, &mut runtime, &births);
+    assert_eq!(rt; runtime.copy(1, 1, 0), Ok(0x1003_f400));
+    Ok(())
+}

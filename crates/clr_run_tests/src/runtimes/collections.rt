@@ -1,0 +1,109 @@
+// Collections of many objects, whatever room the mark stack has.
+ghost use Rattle.std.specs.Prelude.{◌≤◌};
+
+use super::define;
+use clr_model::{Collected, How, Refusal};
+use clr_runtime::{Options, Runtime};
+use clr_types::Shape;
+use std::alloc::Global;
+use std::process::Abort;
+use std::test::Fail;
+
+// A runtime whose mark stack has room for so many objects, with a class of one reference and arrays of references.
+fn runtime_with_stack(alloc: Global, capacity: usize) -> Result<Runtime, Fail>
+    requires { 1 ≤ capacity }
+{
+    let options = Options {
+        limit: 33_554_432,
+        segment: 16_777_216,
+        b0: 262_144,
+        b1: 1_048_576,
+        b2: 4_194_304,
+        bl: 4_194_304,
+        compact: 50,
+    };
+    let mut runtime = Runtime::with_mark_stack(alloc, options, capacity)?;
+    let _ = define(&mut runtime, b"Link", Shape::Class(b"r"))?;
+    let _ = define(&mut runtime, b"Table", Shape::RefArray)?;
+    Ok(runtime)
+}
+
+// Makes two objects, of which the first refers to the second, and puts the first into slot `i` of the table of local 0.
+fn put_pair(runtime: &mut Runtime, i: u64) -> Result<(), Refusal> {
+    let _ = runtime.new_object(1, 1, b"Link", None)?;
+    let _ = runtime.new_object(1, 2, b"Link", None)?;
+    runtime.set(1, 1, 0, 2)?;
+    runtime.set(1, 0, i, 1)
+}
+
+// Makes a table of such pairs, which local 0 alone reaches.
+fn make_table(runtime: &mut Runtime, pairs: u64) -> Result<(), Refusal> {
+    let _ = runtime.new_object(1, 0, b"Table", Some(pairs))?;
+    for i in 0..pairs {
+        put_pair(runtime, i)?;
+    }
+    runtime.clear(1, 1)?;
+    runtime.clear(1, 2)
+}
+
+// Puts one more object before the list of local 0.
+fn put_before(runtime: &mut Runtime) -> Result<(), Refusal> {
+    let _ = runtime.new_object(1, 1, b"Link", None)?;
+    runtime.set(1, 1, 0, 0)?;
+    let _ = runtime.copy(1, 0, 1)?;
+    Ok(())
+}
+
+// Makes a list that locals 0 and 1 reach.
+fn make_list(runtime: &mut Runtime, links: u64) -> Result<(), Refusal> {
+    for _ in 0..links {
+        put_before(runtime)?;
+    }
+    Ok(())
+}
+
+// A full collection answers these numbers of objects that are kept and freed, and of bytes that went to generation 1
+// and 2.
+fn expect_collected(rt: &impl Abort, runtime: &mut Runtime, want: [u64; 4]) {
+    let told = runtime.collect(16, 2, How::Sweep);
+    let want = Collected {
+        generation: 2,
+        compacted: false,
+        kept: want[0],
+        freed: want[1],
+        promoted1: want[2],
+        promoted2: want[3],
+    };
+    assert_eq!(rt; told, Ok(want));
+}
+
+// Collects a table of 10,000 pairs, first with it and then without it.
+fn collect_table(rt: &impl Abort, runtime: &mut Runtime) {
+    assert_eq!(rt; make_table(runtime, 10_000), Ok(()));
+    expect_collected(rt, runtime, [20_001, 0, 560_024, 0]);
+    assert_eq!(rt; runtime.clear(1, 0), Ok(()));
+    expect_collected(rt, runtime, [0, 20_001, 0, 0]);
+}
+
+#[test]
+fn a_stack_for_one_object_serves(rt: HostRuntime) -> Result<(), Fail> {
+    let mut runtime = runtime_with_stack(rt.alloc(), 1)?;
+    collect_table(&rt, &mut runtime);
+    Ok(())
+}
+
+#[test]
+fn a_table_is_wider_than_the_stack(rt: HostRuntime) -> Result<(), Fail> {
+    let mut runtime = runtime_with_stack(rt.alloc(), 1024)?;
+    collect_table(&rt, &mut runtime);
+    Ok(())
+}
+
+#[test]
+fn a_long_list_is_kept(rt: HostRuntime) -> Result<(), Fail> {
+    let mut runtime = runtime_with_stack(rt.alloc(), 1024)?;
+    assert_eq!(rt; make_list(&mut runtime, 200_000), Ok(()));
+    expect_collected(&rt, &mut runtime, [200_000, 0, 4_800_000, 0]);
+    expect_collected(&rt, &mut runtime, [200_000, 0, 0, 4_800_000]);
+    Ok(())
+}

@@ -1,0 +1,42 @@
+-- The local takes the target of the handle.
+use Rattle.std.proofs.Common.{sym, ◌∙◌}
+use Rattle.clr_model.specs.Outcomes.{answered}
+use Rattle.clr_model.specs.declared.Reply.TheVariants.{Place}
+use Rattle.clr_model.proofs.HandleFollows.{fetch_of}
+use Rattle.clr_runtime.specs.RuntimeView.{world_of}
+use Rattle.clr_runtime.proofs.HandleLines.{fetch_missing, fetched}
+use Rattle.clr_runtime.proofs.NamesChecked.{names_refused, once}
+use Rattle.clr_runtime.proofs.RuntimeKept.{local_kept}
+use Rattle.clr_runtime.proofs.runtime.Runtime.fetch.Goals as goal
+
+pub returns-in-Some : goal.returns-in-Some
+returns-in-Some c =
+    let l = fetch_of c.args.t c.args.to c.args.h in
+    names_refused l.instruction l.thread l.locals l.more l.line l.alike c.args.self.now c.in-Some.refusal
+    (once c.args.self.now c.args.t c.args.to _ (sym c.refused_names.ensures.value ∙ c.in-Some.is))
+
+pub returns-in_default-get : goal.returns-in_default-get
+returns-in_default-get c =
+    let passed = rw (← c.self.view_is) at (sym c.refused_names.ensures.value ∙ c.in_default.is) in
+    rw (← c.self.view_is)
+    (fetch_missing (world_of c.self.inside) _ _ c.args.t c.args.to c.args.h passed
+    (sym c.get.ensures.value ∙ c.in_default-get.is))
+
+pub invariant_of-self : goal.invariant_of-self
+invariant_of-self c =
+    let passed = rw (← c.self.view_is) at (sym c.refused_names.ensures.value ∙ c.in_default.is) in
+    let row = c.in-Some-get.handle in
+    record {
+      shown = local_kept c.self.invariant.shown _ (answered (Place row.target)) c.index_of.result row.target
+          (fetched (world_of c.self.inside) _ _ c.args.t c.args.to c.args.h passed row
+          (sym c.get.ensures.value ∙ c.in-Some-get.is) c.index_of.result c.index_of.ensures.index);
+      index = c.self.invariant.index;
+      limit = c.self.invariant.limit;
+    }
+
+pub returns : goal.returns
+returns c =
+    let passed = rw (← c.self.view_is) at (sym c.refused_names.ensures.value ∙ c.in_default.is) in
+    rw (← c.self.view_is)
+    (fetched (world_of c.self.inside) _ _ c.args.t c.args.to c.args.h passed c.in-Some-get.handle
+    (sym c.get.ensures.value ∙ c.in-Some-get.is) c.index_of.result c.index_of.ensures.index)

@@ -1,0 +1,64 @@
+-- The handle is taken out of use.
+use Rattle.std.proofs.Common.{refl, sym, ◌∙◌}
+use Rattle.clr_model.specs.Instructions.{free_handle}
+use Rattle.clr_model.specs.declared.Refusal.TheVariants.{NoHandle}
+use Rattle.clr_model.specs.declared.Reply.TheVariants.{Done}
+use Rattle.clr_model.specs.Outcomes.{answered, refused}
+use Rattle.clr_model.specs.Run.{Follows}
+use Rattle.clr_view.specs.Shown.{shown}
+use Rattle.clr_runtime.specs.Options.{options_of}
+use Rattle.clr_runtime.specs.RuntimeView.{seen, sums_of, world_of}
+use Rattle.clr_runtime.proofs.HandleLines.{free_missing, freed}
+use Rattle.clr_runtime.proofs.NamesChecked.{thread_refused}
+use Rattle.clr_runtime.proofs.RuntimeKept.{names_kept}
+use Rattle.clr_runtime.proofs.runtime.Runtime.free.Goals as goal
+use Rattle.clr_runtime.proofs.runtime.Runtime.free.Goals.{In_default-free, In-Ok}
+
+pub returns-in-Some : goal.returns-in-Some
+returns-in-Some c =
+    thread_refused (free_handle c.args.t c.args.h) c.args.t refl refl c.args.self.now c.in-Some.refusal
+    (sym c.refused_thread.ensures.value ∙ c.in-Some.is)
+
+-- a number that isn't in use
+missing : (c : In_default-free) → Follows (seen c.self.inside) (free_handle c.args.t c.args.h) (refused NoHandle)
+    (shown (record (world_of c.self.inside) { handles = c.free.new.self }) (sums_of c.self.inside.sums)
+    (options_of c.self.inside.options))
+missing c =
+    let passed = rw (← c.self.view_is) at (sym c.refused_thread.ensures.value ∙ c.in_default.is) in
+    free_missing (world_of c.self.inside) _ _ c.args.t c.args.h passed c.free.new.self c.free.ensures.table
+    c.in_default-free.ensures.err
+
+pub invariant_of-self : goal.invariant_of-self
+invariant_of-self c =
+    let r = c.self.inside in
+    let is = c.self.invariant.shown in
+    record {
+      shown = names_kept is _ _ r.locals.items c.free.new.self r.finals.entries r.finals.ready is.locals (missing c);
+      index = c.self.invariant.index;
+      limit = c.self.invariant.limit;
+    }
+
+pub returns-in_default-free : goal.returns-in_default-free
+returns-in_default-free c = rw (← c.self.view_is) (missing c)
+
+-- the handle is freed
+done : (c : In-Ok) → Follows (seen c.self.inside) (free_handle c.args.t c.args.h) (answered Done)
+    (shown (record (world_of c.self.inside) { handles = c.free.new.self }) (sums_of c.self.inside.sums)
+    (options_of c.self.inside.options))
+done c =
+    let passed = rw (← c.self.view_is) at (sym c.refused_thread.ensures.value ∙ c.in_default.is) in
+    freed (world_of c.self.inside) _ _ c.args.t c.args.h passed c.free.new.self c.free.ensures.table c.in-Ok.field-0
+    c.in-Ok.ensures.freed
+
+pub invariant_of-self-2 : goal.invariant_of-self-2
+invariant_of-self-2 c =
+    let r = c.self.inside in
+    let is = c.self.invariant.shown in
+    record {
+      shown = names_kept is _ _ r.locals.items c.free.new.self r.finals.entries r.finals.ready is.locals (done c);
+      index = c.self.invariant.index;
+      limit = c.self.invariant.limit;
+    }
+
+pub returns : goal.returns
+returns c = rw (← c.self.view_is) (done c)

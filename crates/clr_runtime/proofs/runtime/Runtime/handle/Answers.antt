@@ -1,0 +1,97 @@
+-- The handle is made, or the line is refused for the first check that fails.
+use Rattle.std.proofs.Common.{◌≡◌, ◌≢◌, [], ◌∷◌, inl, inr, true, None, unwrap_or, sym, ap, ◌∙◌}
+use Rattle.std.proofs.lemmas.Bool.{both_ways}
+use Rattle.clr_view.specs.Shown.{shown}
+use Rattle.clr_model.specs.Instructions.{create_handle}
+use Rattle.clr_model.specs.Lookups.{is_dependent, local_of}
+use Rattle.clr_model.specs.Run.{Follows}
+use Rattle.clr_model.proofs.HandleFollows.{create_of}
+use Rattle.clr_runtime.specs.Checks.{names_refusal}
+use Rattle.clr_runtime.specs.Options.{options_of}
+use Rattle.clr_runtime.specs.Outcomes.{handle_outcome}
+use Rattle.clr_runtime.specs.RuntimeView.{seen, sums_of, world_of}
+use Rattle.clr_runtime.proofs.HandleLines.{create_null, create_refused, created, IsCreated, named_once}
+use Rattle.clr_runtime.proofs.LocalsSeen.{local-read}
+use Rattle.clr_runtime.proofs.NamesChecked.{names_refused}
+use Rattle.clr_runtime.proofs.RuntimeKept.{names_kept}
+use Rattle.clr_runtime.proofs.runtime.Runtime.handle.Goals as goal
+use Rattle.clr_runtime.proofs.runtime.Runtime.handle.Goals.{After-has_second, In_default, in-Err, in-Ok, Joined-create}
+
+pub returns-in-Some : goal.returns-in-Some
+returns-in-Some c =
+    let l = create_of c.args.t c.args.kind c.args.local c.args.second c.requires.form in
+    let twice = ap (λ n. names_refusal c.args.self.now c.args.t (c.args.local ∷ n ∷ [])) c.unwrap_or.ensures in
+    names_refused l.instruction l.thread l.locals l.more l.line l.alike c.args.self.now c.in-Some.refusal
+    (named_once c.args.self.now c.args.t c.args.local c.args.second _
+    (sym (c.refused_names.ensures.value ∙ twice) ∙ c.in-Some.is))
+
+-- the locals are there
+passed : (c : In_default) → names_refusal (seen c.self.inside) c.args.t
+    (c.args.local ∷ unwrap_or c.args.second c.args.local ∷ []) ≡ None
+passed c =
+    let twice = ap (λ n. names_refusal c.args.self.now c.args.t (c.args.local ∷ n ∷ [])) c.unwrap_or.ensures in
+    rw (← c.self.view_is) at (sym (c.refused_names.ensures.value ∙ twice) ∙ c.in_default.is)
+
+-- and this is the first one's object
+target-is : (c : After-has_second) → c.index-target.result.now ≡ local_of (seen c.self.inside) c.args.t c.args.local
+target-is c =
+    local-read c.self.invariant.shown c.args.t c.args.local c.index_of.result c.index-target.result.now
+    c.index_of.ensures.within c.index_of.ensures.index c.index-target.ensures
+
+pub returns-then-target-eq0 : goal.returns-then-target-eq0
+returns-then-target-eq0 c =
+    let at = goal.at.returns-then-target-eq0 c in
+    rw (← c.self.view_is)
+    (create_null (world_of c.self.inside) _ _ c.args.t c.args.kind c.args.local c.args.second c.requires.form
+    (passed at.In_default) c.index-target.result.now (target-is at.After-has_second)
+    (sym c.has_second.ensures ∙ c.if-has_second.true) c.if-target-eq0.true)
+
+-- what the table answers is told
+followed : (c : Joined-create) → Follows (seen c.self.inside)
+    (create_handle c.args.t c.args.kind c.args.local c.args.second) (handle_outcome c.match-create.result)
+    (shown (record (world_of c.self.inside) { handles = c.create.new.self }) (sums_of c.self.inside.sums)
+    (options_of c.self.inside.options))
+followed c =
+    let r = c.self.inside in
+    let at = goal.at.returns c in
+    let some : is_dependent c.args.kind ≡ true → c.index-target.result.now ≢ 0 = λ dependent.
+    elim c.else-has_second.either [
+      | inl primary ↦ primary.1
+      | inr none ↦ absurd (both_ways c.has_second.result none (c.has_second.ensures ∙ dependent))
+    ] in
+    let told : IsCreated r.handles c.create.new.self (record {
+      kind = c.args.kind;
+      target = c.index-target.result.now;
+      second = c.held_by-other.result;
+    }) c.create.result = record {
+      free = c.create.ensures.free;
+      below = c.create.ensures.below;
+      created = c.create.ensures.created;
+      too_many = c.create.ensures.too_many;
+      err = c.create.ensures.err;
+    } in
+    elim c.match-create.branch [
+      | in-Ok w ↦ rw w.result-is
+          (created (world_of r) _ _ c.args.t c.args.kind c.args.local c.args.second c.requires.form
+          (passed at.In_default) c.index-target.result.now (target-is at.After-has_second) some c.held_by-other.result
+          (rw c.deref.ensures.value at c.held_by-other.ensures) c.create.new.self c.create.result told w.in-Ok.h
+          w.in-Ok.is)
+      | in-Err w ↦ rw (w.result-is, w.refusal_of.ensures)
+          (create_refused (world_of r) _ _ c.args.t c.args.kind c.args.local c.args.second c.requires.form
+          (passed at.In_default) c.index-target.result.now (target-is at.After-has_second) some c.held_by-other.result
+          (rw c.deref.ensures.value at c.held_by-other.ensures) c.create.new.self c.create.result told w.in-Err.fault
+          w.in-Err.is)
+    ]
+
+pub invariant_of-self : goal.invariant_of-self
+invariant_of-self c =
+    let r = c.self.inside in
+    let is = c.self.invariant.shown in
+    record {
+      shown = names_kept is _ _ r.locals.items c.create.new.self r.finals.entries r.finals.ready is.locals (followed c);
+      index = c.self.invariant.index;
+      limit = c.self.invariant.limit;
+    }
+
+pub returns : goal.returns
+returns c = rw (← c.self.view_is) (followed c)

@@ -1,0 +1,51 @@
+-- The local takes the second object of the handle.
+use Rattle.std.proofs.Common.{sym, ◌∙◌}
+use Rattle.clr_model.specs.Outcomes.{answered}
+use Rattle.clr_model.specs.declared.Reply.TheVariants.{Place}
+use Rattle.clr_model.proofs.HandleFollows.{second_from}
+use Rattle.clr_runtime.specs.RuntimeView.{world_of}
+use Rattle.clr_runtime.proofs.HandleLines.{second_fetched, second_missing, second_other}
+use Rattle.clr_runtime.proofs.NamesChecked.{names_refused, once}
+use Rattle.clr_runtime.proofs.RuntimeKept.{local_kept}
+use Rattle.clr_runtime.proofs.runtime.Runtime.second.Goals as goal
+
+pub returns-in-Some : goal.returns-in-Some
+returns-in-Some c =
+    let l = second_from c.args.t c.args.to c.args.h in
+    names_refused l.instruction l.thread l.locals l.more l.line l.alike c.args.self.now c.in-Some.refusal
+    (once c.args.self.now c.args.t c.args.to _ (sym c.refused_names.ensures.value ∙ c.in-Some.is))
+
+pub returns-in_default-get : goal.returns-in_default-get
+returns-in_default-get c =
+    let passed = rw (← c.self.view_is) at (sym c.refused_names.ensures.value ∙ c.in_default.is) in
+    rw (← c.self.view_is)
+    (second_missing (world_of c.self.inside) _ _ c.args.t c.args.to c.args.h passed
+    (sym c.get.ensures.value ∙ c.in_default-get.is))
+
+pub returns-then-not-has_second : goal.returns-then-not-has_second
+returns-then-not-has_second c =
+    let passed = rw (← c.self.view_is) at (sym c.refused_names.ensures.value ∙ c.in_default.is) in
+    rw (← c.self.view_is)
+    (second_other (world_of c.self.inside) _ _ c.args.t c.args.to c.args.h passed c.in-Some-get.handle
+    (sym c.get.ensures.value ∙ c.in-Some-get.is) (sym c.has_second.ensures ∙ c.if-not-has_second.true))
+
+pub invariant_of-self : goal.invariant_of-self
+invariant_of-self c =
+    let passed = rw (← c.self.view_is) at (sym c.refused_names.ensures.value ∙ c.in_default.is) in
+    let row = c.in-Some-get.handle in
+    record {
+      shown = local_kept c.self.invariant.shown _ (answered (Place row.second)) c.index_of.result row.second
+          (second_fetched (world_of c.self.inside) _ _ c.args.t c.args.to c.args.h passed row
+          (sym c.get.ensures.value ∙ c.in-Some-get.is) (sym c.has_second.ensures ∙ c.if-not-has_second.false)
+          c.index_of.result c.index_of.ensures.index);
+      index = c.self.invariant.index;
+      limit = c.self.invariant.limit;
+    }
+
+pub returns : goal.returns
+returns c =
+    let passed = rw (← c.self.view_is) at (sym c.refused_names.ensures.value ∙ c.in_default.is) in
+    rw (← c.self.view_is)
+    (second_fetched (world_of c.self.inside) _ _ c.args.t c.args.to c.args.h passed c.in-Some-get.handle
+    (sym c.get.ensures.value ∙ c.in-Some-get.is) (sym c.has_second.ensures ∙ c.if-not-has_second.false)
+    c.index_of.result c.index_of.ensures.index)

@@ -1,0 +1,88 @@
+-- The object's finaliser is suppressed, where there is one.
+use Rattle.std.proofs.Common.{◌≡◌, [], ◌∷◌, None, sym, ap, ◌∙◌}
+use Rattle.clr_heap.specs.View.{HeapView}
+use Rattle.clr_view.specs.Shown.{shown}
+use Rattle.clr_model.specs.Instructions.{suppress_object}
+use Rattle.clr_model.specs.Lookups.{local_of}
+use Rattle.clr_model.specs.Outcomes.{answered}
+use Rattle.clr_model.specs.Run.{Follows}
+use Rattle.clr_model.specs.declared.Reply.TheVariants.{Done}
+use Rattle.clr_model.proofs.FinalFollows.{suppress_of}
+use Rattle.clr_runtime.specs.Checks.{names_refusal}
+use Rattle.clr_runtime.specs.Options.{options_of}
+use Rattle.clr_runtime.specs.RuntimeView.{seen, sums_of, world_of}
+use Rattle.clr_runtime.proofs.FinalizerLines.{suppress_null, suppress_plain, suppressed}
+use Rattle.clr_runtime.proofs.IndexKept.{same_index}
+use Rattle.clr_runtime.proofs.LocalsSeen.{local-read, local-stands}
+use Rattle.clr_runtime.proofs.NamesChecked.{names_refused, once}
+use Rattle.clr_runtime.proofs.RuntimeKept.{heap_kept}
+use Rattle.clr_runtime.proofs.runtime.Runtime.suppress.Goals as goal
+use Rattle.clr_runtime.proofs.runtime.Runtime.suppress.Goals.{After-index-place, After-set_suppressed}
+
+pub returns-in-Some : goal.returns-in-Some
+returns-in-Some c =
+    let l = suppress_of c.args.t c.args.local in
+    names_refused l.instruction l.thread l.locals l.more l.line l.alike c.args.self.now c.in-Some.refusal
+    (once c.args.self.now c.args.t c.args.local _ (sym c.refused_names.ensures.value ∙ c.in-Some.is))
+
+-- the local is there, and this is its object
+passed : (c : After-index-place)
+    → names_refusal (seen c.self.inside) c.args.t (c.args.local ∷ c.args.local ∷ []) ≡ None
+passed c = rw (← c.self.view_is) at (sym c.refused_names.ensures.value ∙ c.in_default.is)
+
+place-is : (c : After-index-place) → c.index-place.result.now ≡ local_of (seen c.self.inside) c.args.t c.args.local
+place-is c =
+    local-read c.self.invariant.shown c.args.t c.args.local c.index_of.result c.index-place.result.now
+    c.index_of.ensures.within c.index_of.ensures.index c.index-place.ensures
+
+pub returns-then-place-eq0 : goal.returns-then-place-eq0
+returns-then-place-eq0 c =
+    let at = (goal.at.returns-then-place-eq0 c).After-index-place in
+    rw (← c.self.view_is)
+    (suppress_null (world_of c.self.inside) _ _ c.args.t c.args.local (passed at) c.index-place.result.now (place-is at)
+    c.if-place-eq0.true)
+
+pub is_final-requires-clause-stands : goal.is_final-requires-clause-stands
+is_final-requires-clause-stands c =
+    let at = (goal.at.is_final-requires-clause-stands c).After-index-place in
+    local-stands c.self.invariant.shown c.args.t c.args.local c.index-place.result.now (place-is at)
+    c.if-place-eq0.false
+
+-- no finaliser
+pub returns-then-not-is_final : goal.returns-then-not-is_final
+returns-then-not-is_final c =
+    let at = (goal.at.returns-then-not-is_final c).After-index-place in
+    rw (← c.self.view_is)
+    (suppress_plain (world_of c.self.inside) _ _ c.args.t c.args.local (passed at) c.index-place.result.now
+    (place-is at) c.if-place-eq0.false (sym c.is_final.ensures ∙ c.if-not-is_final.true))
+
+pub set_suppressed-requires-clause-stands : goal.set_suppressed-requires-clause-stands
+set_suppressed-requires-clause-stands c =
+    let at = (goal.at.set_suppressed-requires-clause-stands c).After-index-place in
+    local-stands c.self.invariant.shown c.args.t c.args.local c.index-place.result.now (place-is at)
+    c.if-place-eq0.false
+
+-- one that is suppressed now
+done : (c : After-set_suppressed) → Follows (seen c.self.inside) (suppress_object c.args.t c.args.local) (answered Done)
+    (shown (record (world_of c.self.inside) { heap = c.set_suppressed.new.heap }) (sums_of c.self.inside.sums)
+    (options_of c.self.inside.options))
+done c =
+    let at = (goal.at.returns c).After-index-place in
+    suppressed (world_of c.self.inside) _ _ c.args.t c.args.local (passed at) c.index-place.result.now (place-is at)
+    c.if-place-eq0.false (sym c.is_final.ensures ∙ c.if-not-is_final.false) c.set_suppressed.new.heap
+    c.set_suppressed.ensures.flagged
+
+pub invariant_of-self : goal.invariant_of-self
+invariant_of-self c =
+    let r = c.self.inside in
+    let new = c.set_suppressed.new.heap in
+    let set = c.set_suppressed.ensures in
+    record {
+      shown = heap_kept c.self.invariant.shown _ _ new set.flagged.held set.unmarked set.free_heads
+          (set.clean (λ _. sym c.is_final.ensures ∙ c.if-not-is_final.false)) (done c);
+      index = same_index r.types r.types r.heap new r.contexts set.flagged.layout c.self.invariant.index;
+      limit = ap (λ (h : HeapView). h.limit) set.words ∙ c.self.invariant.limit;
+    }
+
+pub returns : goal.returns
+returns c = rw (← c.self.view_is) (done c)

@@ -1,0 +1,128 @@
+//! The lines that make, follow and free handles.
+ghost use Rattle.std.specs.Prelude.{◌≡◌, ◌<◌, IfSome, length, true};
+ghost use Rattle.clr_model.specs.Lookups.{is_dependent, is_thread};
+ghost use Rattle.clr_runtime.specs.Handles.{held_in};
+ghost use Rattle.clr_runtime.specs.Outcomes.{refusal_of_create};
+
+use crate::checks::index_of;
+use crate::runtime::Runtime;
+use clr_handles::{CreateFault, Kind};
+use clr_model::Refusal;
+
+impl Runtime {
+    ghost use Rattle.clr_model.specs.Instructions.{create_handle, fetch_second, fetch_target, free_handle};
+    ghost use Rattle.clr_model.specs.LineGrammar.{IsHandleForm};
+    ghost use Rattle.clr_model.specs.Run.{Follows};
+    ghost use Rattle.clr_runtime.specs.Outcomes.{done_outcome, handle_outcome, place_outcome};
+
+    /// Makes a handle whose target is what the local of thread `t` holds, and gives its number, one below 65,536 that
+    /// wasn't in use. A dependent one also takes what local `second` holds; the other kinds have no second local.
+    ///
+    /// It is refused for an unknown thread, a local from 64 on, a null `local` where the kind is dependent (what
+    /// `second` holds may be null), and where 65,536 handles are in use, in this order; then with `NoMemory` where
+    /// there is no memory for it.
+    pub fn handle(
+        &mut self,
+        t: u64,
+        kind: Kind,
+        local: u64,
+        second: Option<u64>,
+    ) -> Result<u64, Refusal>
+        requires form { IsHandleForm kind second }
+        ensures { Follows self.old (create_handle t kind local second) (handle_outcome result) self.new }
+    {
+        if let Some(refusal) = self.refused_names(t, local, second.unwrap_or(local)) {
+            return Err(refusal);
+        }
+        let target = self.locals[index_of(t, local)];
+        if has_second(kind) && target == 0 {
+            return Err(Refusal::Null);
+        }
+        let other = held_by(&self.locals, t, second);
+        match self.handles.create(kind, target, other) {
+            Ok(h) => Ok(h),
+            Err(fault) => Err(refusal_of(fault)),
+        }
+    }
+
+    /// Local `to` of thread `t` takes the target of handle `h`, and the call gives its place, 0 for null.
+    ///
+    /// It is refused for an unknown thread, a local from 64 on, and a number that isn't in use, in this order.
+    pub fn fetch(&mut self, t: u64, to: u64, h: u64) -> Result<u64, Refusal>
+        ensures { Follows self.old (fetch_target t to h) (place_outcome result) self.new }
+    {
+        if let Some(refusal) = self.refused_names(t, to, to) {
+            return Err(refusal);
+        }
+        let Some(handle) = self.handles.get(h) else {
+            return Err(Refusal::NoHandle);
+        };
+        self.locals[index_of(t, to)] = handle.target;
+        Ok(handle.target)
+    }
+
+    /// Local `to` of thread `t` takes the second object of dependent handle `h`, and the call gives its place, 0 for
+    /// null.
+    ///
+    /// It is refused as `fetch` is, and last for a handle of another kind.
+    pub fn second(&mut self, t: u64, to: u64, h: u64) -> Result<u64, Refusal>
+        ensures { Follows self.old (fetch_second t to h) (place_outcome result) self.new }
+    {
+        if let Some(refusal) = self.refused_names(t, to, to) {
+            return Err(refusal);
+        }
+        let Some(handle) = self.handles.get(h) else {
+            return Err(Refusal::NoHandle);
+        };
+        if !has_second(handle.kind) {
+            return Err(Refusal::HandleKind);
+        }
+        self.locals[index_of(t, to)] = handle.second;
+        Ok(handle.second)
+    }
+
+    /// Takes handle `h` out of use.
+    ///
+    /// It is refused for an unknown thread, and a number that isn't in use, in this order.
+    pub fn free(&mut self, t: u64, h: u64) -> Result<(), Refusal>
+        ensures { Follows self.old (free_handle t h) (done_outcome result) self.new }
+    {
+        if let Some(refusal) = self.refused_thread(t) {
+            return Err(refusal);
+        }
+        let Ok(_) = self.handles.free(h) else {
+            return Err(Refusal::NoHandle);
+        };
+        Ok(())
+    }
+}
+
+// Whether handles of a kind have a second object.
+fn has_second(kind: Kind) -> bool
+    ensures { result ≡ is_dependent kind }
+{
+    matches!(kind, Kind::Dependent)
+}
+
+// How a refusal of the table of handles is told.
+fn refusal_of(fault: CreateFault) -> Refusal
+    ensures { result ≡ refusal_of_create fault }
+{
+    match fault {
+        CreateFault::TooManyHandles => Refusal::TooManyHandles,
+        CreateFault::NoMemory => Refusal::NoMemory,
+    }
+}
+
+// What a local of a thread holds, and null where none is named.
+fn held_by(locals: &[u64], t: u64, local: Option<u64>) -> u64
+    requires count { length locals.now ≡ 1024 }
+    requires thread { is_thread t ≡ true }
+    requires local { IfSome local (λ k. k < 64) }
+    ensures { result ≡ held_in locals.now t local }
+{
+    match local {
+        Some(k) => locals[index_of(t, k)],
+        None => 0,
+    }
+}

@@ -1,0 +1,73 @@
+// Whether objects have finalisers, and whether these are suppressed.
+ghost use Rattle.std.specs.Prelude.{◌≡◌, true};
+ghost use Rattle.clr_view.specs.Clean.{AreClean};
+ghost use Rattle.clr_view.specs.Flags.{flagged, HasFlagged, is_final_at, is_suppressed_at, with_flag_at};
+ghost use Rattle.clr_view.specs.Marks.{IsUnmarked};
+ghost use Rattle.clr_view.specs.SlotValues.{StandsAt};
+ghost use Rattle.clr_view.specs.View.{AreFreeHeads, has_suppressed_bit, IsHeld};
+
+use crate::object_item;
+use clr_heap::Heap;
+use clr_types::Types;
+
+/// The bit of an object's header that says that its finaliser is suppressed.
+const SUPPRESSED: u64 = 0x4000_0000;
+
+/// Whether the object at a place is of a type that has a finaliser.
+pub fn is_final(heap: &Heap, types: &Types, place: u64) -> bool
+    requires held { IsHeld types.now heap.now }
+    requires stands { StandsAt types.now heap.now place }
+    ensures { result ≡ is_final_at types.now heap.now place }
+{
+    let item = object_item(heap, types, place);
+    types.finalizer(item.type_id)
+}
+
+/// Whether the finaliser of the object at a place is suppressed.
+pub fn is_suppressed(heap: &Heap, types: &Types, place: u64) -> bool
+    requires held { IsHeld types.now heap.now }
+    requires stands { StandsAt types.now heap.now place }
+    ensures { result ≡ is_suppressed_at types.now heap.now place }
+{
+    heap.lawful();
+    says_suppressed(heap.word(place - 8))
+}
+
+/// Says in the header of the object at a place whether its finaliser is suppressed.
+///
+/// All else stays: the other bits of the header, all slots and marks, the free items and the layout. It changes no head
+/// of a free item, and leaves headers and padding clean where the type of an object that is to be suppressed has a
+/// finaliser.
+pub fn set_suppressed(heap: &mut Heap, types: &Types, place: u64, flag: bool)
+    requires held { IsHeld types.now heap.old }
+    requires stands { StandsAt types.now heap.old place }
+    ensures flagged { HasFlagged types.now heap.old heap.new place flag }
+    ensures words { heap.new ≡ with_flag_at heap.old place flag }
+    ensures unmarked { IsUnmarked types.now heap.old → IsUnmarked types.now heap.new }
+    ensures free_heads { AreFreeHeads types.now heap.old → AreFreeHeads types.now heap.new }
+    ensures clean { (flag ≡ true → is_final_at types.now heap.old place ≡ true) →
+        AreClean types.now heap.old → AreClean types.now heap.new }
+{
+    heap.lawful();
+    let at = place - 8;
+    let header = heap.word(at);
+    heap.set_word(at, with_flag(header, flag));
+}
+
+// Whether a header says that the object's finaliser is suppressed.
+fn says_suppressed(header: u64) -> bool
+    ensures { result ≡ has_suppressed_bit header }
+{
+    header / SUPPRESSED % 2 == 1
+}
+
+// The header with this in its bit.
+fn with_flag(header: u64, flag: bool) -> u64
+    ensures { result ≡ flagged flag header }
+{
+    match (flag, says_suppressed(header)) {
+        (true, false) => header + SUPPRESSED,
+        (false, true) => header - SUPPRESSED,
+        (true, true) | (false, false) => header,
+    }
+}

@@ -1,0 +1,53 @@
+#!/usr/bin/env bash
+# Scripts that are too long to be stored, and their replies: `long.sh NAME script` and `long.sh NAME replies`.
+set -eu
+
+# So many handles fit in the table, and so many links has a chain.
+readonly MOST=65536
+
+# The place of object number $1 of 24 bytes: 340 of them stand in each context of 8,192 bytes.
+place_of() {
+    printf -v place '%016x' $((0x10001000 + $1 / 340 * 8192 + $1 % 340 * 24))
+}
+
+# The table of handles is full, and a number that was freed is given again.
+full_table_script() {
+    printf 't1 handle weak l0\n%.0s' $(seq $MOST)
+    printf '%s\n' 't1 handle weak l0' 't1 free h7' 't1 handle strong l0' 't1 handle weak l0'
+}
+
+full_table_replies() {
+    printf 'h%d\n' $(seq 0 $((MOST - 1)))
+    printf '%s\n' 'refused too-many-handles' 'ok' 'h7' 'refused too-many-handles'
+}
+
+# A chain of objects, each tied to the next one by a dependent handle, which is line $1, is collected with the object
+# that keeps all others, and without it. That object is taken by line $2.
+chain_script() {
+    printf '%s\n' 'type N class r' 't1 new l1 N' 't1 copy l0 l1'
+    printf "t1 new l2 N\n$1\nt1 copy l1 l2\n%.0s" $(seq $MOST)
+    printf '%s\n' "$2" 't1 null l1' 't1 null l2' 't1 collect 2 sweeping' 't1 null l0' 't1 collect 2 sweeping'
+}
+
+# Its replies, where the object that keeps the others has the number $1.
+chain_replies() {
+    place_of 0
+    printf '%s\n' 'mt 00007ff000000040' $place $place
+    for ((i = 0; i < MOST; i++)); do
+        place_of $((i + 1))
+        printf '%s\nh%d\n%s\n' $place $i $place
+    done
+    place_of "$1"
+    printf '%s\n' $place 'ok' 'ok' "collected 2 sweep kept $((MOST + 1)) freed 0"
+    printf '%s\n' 'ok' "collected 2 sweep kept 0 freed $((MOST + 1))"
+}
+
+case "$1 $2" in
+    'full-table script') full_table_script ;;
+    'full-table replies') full_table_replies ;;
+    'rising-chain script') chain_script 't1 handle dependent l1 l2' 't1 copy l0 l0' ;;
+    'rising-chain replies') chain_replies 0 ;;
+    'falling-chain script') chain_script 't1 handle dependent l2 l1' 't1 copy l0 l1' ;;
+    'falling-chain replies') chain_replies $MOST ;;
+    *) exit 2 ;;
+esac

@@ -10,7 +10,8 @@ use Rattle.clr_types.specs.declared.handle.Handle.{Handle}
 use Rattle.clr_handles.specs.Tables.{Table}
 use Rattle.clr_handles.specs.Places.{IsKept, IsCleared, nulled, nulled_of}
 use Rattle.clr_handles.specs.Changes.{Becomes, BecomesAt, BecomesWithin}
-use Rattle.clr_handles.specs.Tops.{AreTops, is_dependent_kind, is_pinned_kind, IsTop, pinned_in, reach}
+use Rattle.clr_types.specs.Kinds.{is_dependent, is_pinned_kind}
+use Rattle.clr_handles.specs.Tops.{AreTops, IsTop, pinned_in, reach}
 use Rattle.clr_handles.proofs.PinnedCounts.{pinned-replaced, weight}
 use Rattle.clr_handles.proofs.ChangedRows.{at-changed, was-before, within-kept}
 
@@ -26,8 +27,8 @@ height false true target second = max target second
 height false false target second = highest
 
 reach-is : (row : Handle)
-    → reach row ≡ height (eqb row.second 0) (is_dependent_kind row.kind && not (eqb row.target 0)) row.target row.second
-reach-is row = go (eqb row.second 0) (is_dependent_kind row.kind && not (eqb row.target 0))
+    → reach row ≡ height (eqb row.second 0) (is_dependent row.kind && not (eqb row.target 0)) row.target row.second
+reach-is row = go (eqb row.second 0) (is_dependent row.kind && not (eqb row.target 0))
   where
     go : (a b : Bool) → cond a row.target (cond b (max row.target row.second) highest)
         ≡ height a b row.target row.second
@@ -43,10 +44,10 @@ pub record IsBelow (low : ℕ) (row : Handle) : Type 0 where
 
 pub below-reach : (row : Handle) (low : ℕ) → low ≤ highest → reach row < low → IsBelow low row
 below-reach row low fits less =
-    go (eqb row.second 0) (is_dependent_kind row.kind && not (eqb row.target 0)) refl refl
+    go (eqb row.second 0) (is_dependent row.kind && not (eqb row.target 0)) refl refl
     (subst (λ n. n < low) (reach-is row) less)
   where
-    go : (a b : Bool) → eqb row.second 0 ≡ a → (is_dependent_kind row.kind && not (eqb row.target 0)) ≡ b
+    go : (a b : Bool) → eqb row.second 0 ≡ a → (is_dependent row.kind && not (eqb row.target 0)) ≡ b
         → height a b row.target row.second < low → IsBelow low row
     go true b none allowed h =
         let zero-second : row.second ≡ 0 = eqb-true row.second 0 none in
@@ -54,7 +55,7 @@ below-reach row low fits less =
     go false true some allowed h =
         let there =
         eqb-false row.target 0
-        (not-true (eqb row.target 0) (and_parts (is_dependent_kind row.kind) (not (eqb row.target 0)) allowed).1) in
+        (not-true (eqb row.target 0) (and_parts (is_dependent row.kind) (not (eqb row.target 0)) allowed).1) in
         record { target = omega arith; second = omega arith; whole = λ e. absurd (there e) }
     go false false some allowed h = absurd (omega (arith, fits, h))
 
@@ -112,24 +113,24 @@ low-height false false target second e = omega arith
 pub reach-nulled : (row : Handle) → reach (nulled row) ≤ reach row
 reach-nulled row = go row.kind refl
   where
-    plain : is_dependent_kind row.kind ≡ false → reach (record row { target = 0 }) ≤ reach row
+    plain : is_dependent row.kind ≡ false → reach (record row { target = 0 }) ≤ reach row
     plain undependent =
-        let off : (is_dependent_kind row.kind && not (eqb 0 0)) ≡ false = ap (λ b. b && not (eqb 0 0)) undependent in
-        let was : (is_dependent_kind row.kind && not (eqb row.target 0)) ≡ false =
+        let off : (is_dependent row.kind && not (eqb 0 0)) ≡ false = ap (λ b. b && not (eqb 0 0)) undependent in
+        let was : (is_dependent row.kind && not (eqb row.target 0)) ≡ false =
         ap (λ b. b && not (eqb row.target 0)) undependent in
         let now : reach (record row { target = 0 }) ≡ height (eqb row.second 0) false 0 row.second =
         reach-is (record row { target = 0 }) ∙ ap (λ b. height (eqb row.second 0) b 0 row.second) off in
         let low =
-        low-height (eqb row.second 0) (is_dependent_kind row.kind && not (eqb row.target 0)) row.target
+        low-height (eqb row.second 0) (is_dependent row.kind && not (eqb row.target 0)) row.target
         row.second was in
         let before = reach-is row in
         omega (arith, now, low, before)
 
     go : (k : Kind) → row.kind ≡ k → reach (nulled_of k row) ≤ reach row
-    go Strong e = plain (ap is_dependent_kind e)
-    go Pinned e = plain (ap is_dependent_kind e)
-    go Weak e = plain (ap is_dependent_kind e)
-    go WeakLong e = plain (ap is_dependent_kind e)
+    go Strong e = plain (ap is_dependent e)
+    go Pinned e = plain (ap is_dependent e)
+    go Weak e = plain (ap is_dependent e)
+    go WeakLong e = plain (ap is_dependent e)
     go Dependent e = omega arith
 
 -- ---- kinds are told apart

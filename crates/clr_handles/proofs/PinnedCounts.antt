@@ -8,7 +8,8 @@ use Rattle.std.specs.FinMap as finmap
 use Rattle.std.specs.FinMap.Entries.{by_order}
 use Rattle.clr_types.specs.declared.handle.Handle.{Handle}
 use Rattle.clr_handles.specs.Tables.{Table}
-use Rattle.clr_handles.specs.Tops.{is_pinned_kind, pinned_in}
+use Rattle.clr_types.specs.Kinds.{is_pinned_kind}
+use Rattle.clr_handles.specs.Tops.{pinned_in}
 use Rattle.clr_handles.proofs.Lookups.{get-removed, get-remove_other, get-inserted, get-insert_other, is-insert}
 
 -- 1 for a pinned handle, 0 for any other

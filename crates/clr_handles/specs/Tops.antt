@@ -1,30 +1,21 @@
 -- What the table keeps beside the handles: how many are pinned, and how high the places are that each chunk of 64
 -- numbers names.
-use Rattle.std.specs.Prelude.{◌≡◌, ℕ, ◌+◌, ◌*◌, ◌/◌, ◌<◌, ◌≤◌, ◌==◌, Bool, true, false, List, length, slice_index, Some}
+use Rattle.std.specs.Prelude.{◌≡◌, ℕ, ◌+◌, ◌*◌, ◌/◌, ◌<◌, ◌≤◌, ◌==◌, List, length, slice_index, Some}
 use Rattle.std.specs.Prelude.{count_by, if◌then◌else◌, max, ◌&&◌, not}
 use Rattle.std.specs.FinMap as finmap
-use Rattle.clr_types.specs.declared.handle.Kind.{Kind}
-use Rattle.clr_types.specs.declared.handle.Kind.TheVariants.{Pinned, Dependent}
+use Rattle.clr_types.specs.Kinds.{is_dependent, is_pinned_kind}
 use Rattle.clr_types.specs.declared.handle.Handle.{Handle}
 use Rattle.clr_handles.specs.Tables.{Table}
-
-abbrev pub is_pinned_kind : Kind → Bool
-is_pinned_kind Pinned = true
-is_pinned_kind _ = false
 
 -- how many handles are pinned
 abbrev pub pinned_in : Table → ℕ
 pinned_in table = count_by (λ (row : Handle). is_pinned_kind row.kind) (finmap.values table)
 
-abbrev pub is_dependent_kind : Kind → Bool
-is_dependent_kind Dependent = true
-is_dependent_kind _ = false
-
 -- The greater place that a handle names. One with a second that it shouldn't have is to be looked at in any case.
 abbrev pub reach : Handle → ℕ
 reach row =
     if row.second == 0 then row.target
-    else (if is_dependent_kind row.kind && not (row.target == 0) then max row.target row.second
+    else (if is_dependent row.kind && not (row.target == 0) then max row.target row.second
     else 18446744073709551615)
 
 -- each handle reaches no higher than the top of its chunk

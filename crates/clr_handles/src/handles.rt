@@ -3,7 +3,8 @@ ghost use Rattle.std.specs.Prelude.{◌≡◌, ℕ, ◌<◌, ◌↔◌, ◌≤�
 ghost use Rattle.std.specs.Prelude.{if◌then◌else◌};
 ghost use Rattle.std.specs.FinMap as finmap;
 ghost use Rattle.clr_types.specs.declared.handle.Handle.{Handle as Row};
-ghost use Rattle.clr_handles.specs.Tops.{is_pinned_kind, pinned_in};
+ghost use Rattle.clr_handles.specs.Tops.{pinned_in};
+ghost use Rattle.clr_types.specs.Kinds.{is_pinned_kind};
 
 use crate::numbering::MOST_HANDLES;
 use crate::rows::Rows;
@@ -133,8 +134,5 @@ impl Handles {
 fn pinned_weight(kind: Kind) -> usize
     ensures { result ≡ (if is_pinned_kind kind then 1 else 0) }
 {
-    match kind {
-        Kind::Pinned => 1,
-        _ => 0,
-    }
+    if kind.is_pinned() { 1 } else { 0 }
 }

@@ -10,7 +10,7 @@ use Rattle.clr_types.specs.declared.handle.Handle.{Handle}
 use Rattle.clr_heap.specs.View.{HeapView}
 use Rattle.clr_handles.specs.Places.{names_from}
 use Rattle.clr_handles.specs.Tables.{Table}
-use Rattle.clr_model.specs.Lookups.{is_root_kind}
+use Rattle.clr_types.specs.Kinds.{is_root_kind}
 use Rattle.clr_view.specs.SlotValues.{StandsAt}
 use Rattle.clr_view.specs.World.{HandlesStand}
 use Rattle.clr_mark.specs.declared.marker.ahead.Ahead.{Ahead}

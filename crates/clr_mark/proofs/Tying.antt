@@ -9,7 +9,7 @@ use Rattle.clr_types.specs.declared.handle.Handle.{Handle}
 use Rattle.clr_handles.specs.Places.{names_from}
 use Rattle.clr_handles.specs.Tables.{Table}
 use Rattle.clr_heap.specs.View.{HeapView, IsHeap, word_of}
-use Rattle.clr_model.specs.Lookups.{is_dependent}
+use Rattle.clr_types.specs.Kinds.{is_dependent}
 use Rattle.clr_model.specs.Reach.{follows, Reach, SecondOf, starts}
 use Rattle.clr_view.specs.Marks.{has_mark, Marked}
 use Rattle.clr_view.specs.SlotValues.{StandsAt}

@@ -6,7 +6,7 @@ use Rattle.std.specs.Ordering.{nat_cmp}
 use Rattle.clr_types.specs.Types.{TypeRow}
 use Rattle.clr_types.specs.declared.handle.Handle.{Handle}
 use Rattle.clr_heap.specs.View.{HeapView}
-use Rattle.clr_model.specs.Lookups.{is_dependent, is_root_kind}
+use Rattle.clr_types.specs.Kinds.{is_dependent, is_root_kind}
 use Rattle.clr_model.specs.Reach.{HeldBy, SecondOf, SlotNames}
 use Rattle.clr_view.specs.Marks.{Marked}
 use Rattle.clr_view.specs.SlotValues.{StandsAt}

@@ -2,7 +2,6 @@
 #![tactic(auto)]
 
 pub use crate::marker::Marker;
-pub use crate::roots::mark_from;
 pub use clr_mem::NoMemory;
 
 mod marker;

@@ -132,8 +132,10 @@ impl Marker {
         self.mark(heap, k, obj);
     }
 
-    // Marks what the marked objects reach over condemned ones by slots. Nothing waits then, and all else stays.
-    pub(crate) fn drain_slots(&mut self, heap: &mut Heap, types: &Types)
+    /// Marks what the marked objects reach over condemned ones by slots. Nothing waits then.
+    ///
+    /// All else stays.
+    pub fn drain_slots(&mut self, heap: &mut Heap, types: &Types)
         requires { IsGray types.now heap.old self.old }
         ensures marker { self.new ≡ record self.old { stack = []; range = None } }
         ensures gray { IsGray types.now heap.new self.new }

@@ -14,44 +14,7 @@ use crate::Marker;
 use crate::marker::Ahead;
 use clr_handles::Handles;
 use clr_heap::Heap;
-use clr_types::{Handle, Kind, Types};
-
-/// Marks what a collection of the generations up to `g` reaches over objects of these generations, where nothing is
-/// marked before: from locals, from the f-reachable queue, from the targets of strong and pinned handles, and from
-/// what dependent handles tie to older objects. What slots of older objects name is no part of it; the caller marks
-/// from that. A local or an entry of the queue is 0 or the place of an object. Nothing waits then.
-///
-/// All else stays.
-pub fn mark_from(
-    marker: &mut Marker,
-    heap: &mut Heap,
-    types: &Types,
-    g: u8,
-    handles: &Handles,
-    locals: &[u64],
-    ready: &[u64],
-)
-    requires known { g ≤ 2 }
-    requires closed { IsClosed types.now heap.old }
-    requires clear { (x : ℕ) → Marked types.now heap.old x → ⊥ }
-    requires handles { HandlesStand types.now heap.old handles.now }
-    requires locals { AreObjects types.now heap.old locals.now }
-    requires ready { AreObjects types.now heap.old ready.now }
-    ensures marker { marker.new ≡ record marker.old { stack = []; range = None; oldest = g } }
-    ensures gray { IsGray types.now heap.new marker.new }
-    ensures words { IsRemarked types.now heap.old heap.new }
-    ensures marked { (x : ℕ) → Marked types.now heap.new x
-        ↔ Reach (Draws types.now heap.old handles.now g)
-        (IsCondemnedStart types.now heap.old handles.now g locals.now ready.now) x }
-    // In a collection of all generations every object is condemned.
-    ensures all { g ≡ 2 → (x : ℕ) → Marked types.now heap.new x
-        ↔ Reach (Joins types.now heap.old handles.now) (IsStart handles.now locals.now ready.now) x }
-{
-    marker.begin(g);
-    marker.roots(heap, types, locals);
-    marker.handle_roots(heap, types, handles);
-    marker.mark_more(heap, types, handles, ready);
-}
+use clr_types::{Handle, Types};
 
 impl Marker {
     /// Marks condemned roots, and what they and the marked objects reach over condemned ones by slots. A root is 0 or
@@ -150,5 +113,5 @@ impl Marker {
 fn is_root_handle(handle: &Handle) -> bool
     ensures { result ≡ ties.is_root_handle handle.now }
 {
-    matches!(handle.kind, Kind::Strong | Kind::Pinned) && handle.target != 0
+    handle.kind.is_root() && handle.target != 0
 }

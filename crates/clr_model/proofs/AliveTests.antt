@@ -10,7 +10,8 @@ use Rattle.clr_types.proofs.ListMembers.{from-map, in_append, append_right}
 use Rattle.clr_types.proofs.ChangedLists.{into_filter, out_of_filter, append_left, IsIn-map}
 use Rattle.clr_types.specs.declared.handle.Handle.{Handle}
 use Rattle.clr_model.specs.Machine.{Value, ref, num, Object, Machine}
-use Rattle.clr_model.specs.Lookups.{handle_rows, is_dependent, is_root_kind}
+use Rattle.clr_model.specs.Lookups.{handle_rows}
+use Rattle.clr_types.specs.Kinds.{is_dependent, is_root_kind}
 use Rattle.clr_model.specs.Reach.{SlotNames, SecondOf, Edge, HeldBy, Roots, Old, StartOf, First, Kept, woken}
 use Rattle.clr_types.proofs.MapValues.{value-in_use}
 use Rattle.clr_model.proofs.HandleTables.{value-among}

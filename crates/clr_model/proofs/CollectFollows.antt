@@ -1,5 +1,5 @@
 -- The line that collects: what is to follow from each outcome, on what is seen.
-use Rattle.std.proofs.Common.{◌≡◌, ℕ, ◌+◌, ◌≤◌, List, [], ◌∷◌, map, refl, sym, ap, subst, ◌∙◌, arith, false, Option}
+use Rattle.std.proofs.Common.{◌≡◌, ℕ, ◌+◌, ◌≤◌, List, [], ◌∷◌, map, refl, sym, ap, subst, ◌∙◌, false, Option}
 use Rattle.std.proofs.Common.{None, MatchOption, inl, ◌⊎◌}
 use Rattle.clr_types.proofs.RisingLists.{all_at}
 use Rattle.clr_model.specs.declared.How.{How}
@@ -20,11 +20,9 @@ use Rattle.clr_model.specs.Lawful.{IsPlaceNamed}
 use Rattle.clr_model.specs.Run.{Follows}
 use Rattle.clr_model.proofs.LineChecks.{MayRun, may_run_of-picture, IsThreadLine, no_more, line_passes}
 use Rattle.clr_model.proofs.LineChecks.{line_refuses_thread, obeys_done}
-use Rattle.clr_model.proofs.Carried.{follows, follows_if_stands, refusal_carried_by}
+use Rattle.clr_model.proofs.Carried.{follows, refusal_carried_by}
 use Rattle.clr_model.proofs.CollectionLaws.{names_dont_matter}
 use Rattle.clr_model.proofs.CollectedLawful.{stays_lawful, stays_birth_named, objects_left}
-use Rattle.clr_model.proofs.SeenSound.{seen_sound}
-use Rattle.clr_model.proofs.SeenStands.{picture_still}
 
 -- ---- what is seen of threads in mid-step
 
@@ -90,29 +88,16 @@ collect_follows_thread s t g how none =
     (λ m born none. line_refuses_thread (collect_heap t g how) t [] (λ s. None ∷ None ∷ None ∷ no_more)
     (collect_line t g how) m none) s none)
 
--- ---- a sweep of the whole heap
-
-two : 2 ≤ 2
-two = omega arith
+-- ---- sweeps
 
 -- A sweep moves nothing, so objects that are named by their places still are.
-pub after_sweep_is_sound : (s : Machine) → IsPlaceNamed s → lowest_in_step s ≡ None
-    → (answer : Collected) (after : Machine) → Collects s 2 Sweep answer after → IsPlaceNamed after
-after_sweep_is_sound s h idle answer after c = record {
-  lawful = stays_lawful s h.lawful idle 2 two Sweep answer after c;
+pub after_sweep_is_sound : (s : Machine) → IsPlaceNamed s → lowest_in_step s ≡ None → (g : ℕ) → g ≤ 2
+    → (answer : Collected) (after : Machine) → Collects s g Sweep answer after → IsPlaceNamed after
+after_sweep_is_sound s h idle g least answer after c = record {
+  lawful = stays_lawful s h.lawful idle g least Sweep answer after c;
   places =
-      objects_left s h.lawful idle 2 two Sweep answer after c (λ (o : Object). o.name ≡ o.place)
+      objects_left s h.lawful idle g least Sweep answer after c (λ (o : Object). o.name ≡ o.place)
       (λ q i. all_at (λ (o : Object). o.name ≡ o.place) i h.places
       ∙ sym (ap (λ vs. moved_by vs q.place) c.small_laid.0));
   uncounted = ap (λ (w : Machine). w.born) c.state ∙ h.uncounted;
 }
-
--- What a sweep of the whole heap does to what is seen, follows.
-pub sweep_follows : (s : Machine) (t : ℕ) (answer : Collected) (after : Machine) → MayRun s t → lowest_in_step s ≡ None
-    → Collects s 2 Sweep answer after → Follows s (collect_heap t 2 Sweep) (answered (reply.Collected answer)) after
-sweep_follows s t answer after run idle c =
-    follows_if_stands s (collect_heap t 2 Sweep) (answered (reply.Collected answer)) after
-    (λ m stands.
-    subst (Follows s (collect_heap t 2 Sweep) (answered (reply.Collected answer)))
-    (picture_still after (after_sweep_is_sound s (seen_sound s m stands) idle answer after c))
-    (collect_follows s t 2 Sweep answer after two run idle c))

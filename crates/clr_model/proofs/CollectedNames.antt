@@ -13,7 +13,8 @@ use Rattle.clr_types.specs.Rising.{IsIn, first, later, sorted_by}
 use Rattle.clr_types.proofs.SortedLists.{IsDistinctBy}
 use Rattle.clr_types.specs.declared.handle.Handle.{Handle}
 use Rattle.clr_model.specs.Machine.{Value, ref, num, Object, ThreadStep, no_step, begun_store, begun_new, Machine}
-use Rattle.clr_model.specs.Lookups.{place_of, place_or_null, object_named, object_size, is_pinned, is_pinned_kind}
+use Rattle.clr_model.specs.Lookups.{place_of, place_or_null, object_named, object_size, is_pinned}
+use Rattle.clr_types.specs.Kinds.{is_pinned_kind}
 use Rattle.clr_model.specs.Lookups.{handle_rows}
 use Rattle.clr_types.specs.Maps.{map_values}
 use Rattle.clr_model.specs.Picture.{picture, renamed_object, renamed_value, renamed_row, renamed_step}

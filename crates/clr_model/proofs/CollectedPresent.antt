@@ -14,7 +14,8 @@ use Rattle.clr_types.proofs.ChangedLists.{all_members, IsIn-map, into_filter, ou
 use Rattle.clr_types.proofs.ListMembers.{from-map, in_append}
 use Rattle.clr_types.specs.declared.handle.Handle.{Handle}
 use Rattle.clr_model.specs.Machine.{Value, ref, num, Object, ThreadStep, no_step, begun_store, begun_new, Sums, Machine}
-use Rattle.clr_model.specs.Lookups.{is_dependent, is_root_kind, lowest_step_from, object_named, type_of_object}
+use Rattle.clr_model.specs.Lookups.{lowest_step_from, object_named, type_of_object}
+use Rattle.clr_types.specs.Kinds.{is_dependent, is_root_kind}
 use Rattle.clr_types.specs.Maps.{map_values}
 use Rattle.clr_model.specs.Reach.{starts, follows, Edge, StartOf, First, Kept, woken, is_suppressed}
 use Rattle.clr_model.specs.Compaction.{Move}

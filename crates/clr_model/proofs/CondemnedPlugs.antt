@@ -1,5 +1,5 @@
 -- The plugs of condemned parts, from the oldest to the youngest.
-use Rattle.std.proofs.Common.{◌≡◌, ℕ, ◌+◌, ◌<◌, ◌≤◌, ◌⊎◌, inl, inr, List, ◌++◌, ap, arith, true, ◌==◌}
+use Rattle.std.proofs.Common.{◌≡◌, ℕ, ◌<◌, ◌≤◌, ◌⊎◌, inl, inr, List, ◌++◌, ap, arith, true, ◌==◌}
 use Rattle.std.proofs.lemmas.Bool.{cases_order, eqb-true, eq-eqb}
 use Rattle.clr_types.specs.Rising.{IsIn, IsRisingBy}
 use Rattle.clr_model.specs.Sweep.{part_start}

@@ -9,7 +9,8 @@ use Rattle.clr_model.specs.declared.Refusal.{Refusal}
 use Rattle.clr_model.specs.declared.Refusal.TheVariants.{Null, NoHandle, HandleKind, TooManyHandles, NoMemory}
 use Rattle.clr_model.specs.declared.Reply.TheVariants.{Place, Done, HandleNumber}
 use Rattle.clr_model.specs.Machine.{Machine}
-use Rattle.clr_model.specs.Lookups.{is_dependent, local_of, place_of}
+use Rattle.clr_model.specs.Lookups.{local_of, place_of}
+use Rattle.clr_types.specs.Kinds.{is_dependent}
 use Rattle.clr_model.specs.Updates.{with_local, with_handle, without_handle}
 use Rattle.clr_model.specs.Instructions.{create_handle, fetch_target, fetch_second, free_handle}
 use Rattle.clr_model.specs.LineGrammar.{IsHandleForm}

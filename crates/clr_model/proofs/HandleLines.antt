@@ -11,7 +11,8 @@ use Rattle.clr_types.specs.declared.handle.Kind.TheVariants.{Strong, Pinned, Wea
 use Rattle.clr_model.specs.declared.Refusal.{Refusal}
 use Rattle.clr_model.specs.declared.Refusal.TheVariants.{Null, NoHandle, HandleKind, TooManyHandles}
 use Rattle.clr_model.specs.Machine.{Machine}
-use Rattle.clr_model.specs.Lookups.{is_dependent, is_step, is_thread, local_of, place_of, step_of}
+use Rattle.clr_model.specs.Lookups.{is_step, is_thread, local_of, place_of, step_of}
+use Rattle.clr_types.specs.Kinds.{is_dependent}
 use Rattle.clr_model.specs.Picture.{picture, renamed_row}
 use Rattle.clr_model.specs.Updates.{with_handle, without_handle}
 use Rattle.clr_model.specs.Instructions.{create_handle, fetch_target, fetch_second, free_handle}

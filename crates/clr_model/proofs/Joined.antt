@@ -8,7 +8,8 @@ use Rattle.clr_types.proofs.RisingLists.{all_at}
 use Rattle.clr_types.proofs.SortedLists.{into_sorted_by, out_of_sorted_by, same_by_key}
 use Rattle.clr_types.specs.declared.handle.Handle.{Handle}
 use Rattle.clr_model.specs.Machine.{Value, ref, num, Object, Machine}
-use Rattle.clr_model.specs.Lookups.{place_of, is_dependent}
+use Rattle.clr_model.specs.Lookups.{place_of}
+use Rattle.clr_types.specs.Kinds.{is_dependent}
 use Rattle.clr_model.specs.Picture.{picture, renamed_object, renamed_value, renamed_row}
 use Rattle.clr_model.specs.Lawful.{is_reference_value}
 use Rattle.clr_model.specs.Reach.{SlotNames, SecondOf, Edge}

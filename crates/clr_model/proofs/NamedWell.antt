@@ -11,7 +11,8 @@ use Rattle.clr_types.proofs.RisingLists.{in_cons, all_at}
 use Rattle.clr_types.proofs.SortedLists.{into_sorted_by, out_of_sorted_by}
 use Rattle.clr_types.specs.declared.handle.Handle.{Handle}
 use Rattle.clr_model.specs.Machine.{ref, Object, Machine}
-use Rattle.clr_model.specs.Lookups.{place_of, place_or_null, object_named, is_root_kind, object_piece}
+use Rattle.clr_model.specs.Lookups.{place_of, place_or_null, object_named, object_piece}
+use Rattle.clr_types.specs.Kinds.{is_root_kind}
 use Rattle.clr_model.specs.Picture.{picture, renamed_object, renamed_row}
 use Rattle.clr_model.specs.Reach.{Reach, starts, follows, SlotNames, SecondOf, Edge, Roots, StartOf}
 use Rattle.clr_model.specs.Lawful.{IsLawful, IsPresent, IsNullOrPresent, SlotIsPresent, IsShaped}

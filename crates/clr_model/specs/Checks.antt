@@ -13,7 +13,8 @@ use Rattle.clr_model.specs.declared.Refusal.TheVariants.{NotReference, IsReferen
 use Rattle.clr_model.specs.declared.Refusal.TheVariants.{TooManyHandles, TooBig, NoObject, Empty}
 use Rattle.clr_types.specs.declared.handle.Handle.{Handle}
 use Rattle.clr_model.specs.Machine.{Value, ref, num, Machine}
-use Rattle.clr_model.specs.Lookups.{object_at, slots_of_named, is_thread, local_of, step_of, is_step, is_dependent}
+use Rattle.clr_model.specs.Lookups.{object_at, slots_of_named, is_thread, local_of, step_of, is_step}
+use Rattle.clr_types.specs.Kinds.{is_dependent}
 use Rattle.clr_model.specs.Instructions.{Instruction, define_type, new_object, get_slot, set_slot, put_number}
 use Rattle.clr_model.specs.Instructions.{read_number, copy_local, clear_local, suppress_object, reregister_object}
 use Rattle.clr_model.specs.Instructions.{collect_heap, suspend_others, resume_others, begin_set, begin_new, finish_step}

@@ -11,7 +11,8 @@ use Rattle.clr_types.specs.declared.handle.Handle.{Handle}
 use Rattle.clr_model.specs.Machine.{Value, ref, num, Object, ThreadStep, no_step, begun_store, begun_new, Options}
 use Rattle.clr_model.specs.Machine.{Machine}
 use Rattle.clr_model.specs.Lookups.{object_size, object_named, object_has_finalizer, slots_of_named, is_thread}
-use Rattle.clr_model.specs.Lookups.{is_dependent, pieces, bytes_of, bytes_where, bytes_up_to}
+use Rattle.clr_model.specs.Lookups.{pieces, bytes_of, bytes_where, bytes_up_to}
+use Rattle.clr_types.specs.Kinds.{is_dependent}
 use Rattle.clr_model.specs.LineGrammar.{is_name}
 use Rattle.clr_types.specs.Table.{IsLawfulRow, HasDistinctNames}
 use Rattle.clr_types.specs.LawfulLayout.{IsLawfulLayout, IsTiled, DoesNotCross}

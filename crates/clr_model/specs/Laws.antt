@@ -85,10 +85,10 @@ abbrev pub CollectionStaysLawfulLaw : Type 0
 CollectionStaysLawfulLaw = (m : Machine) (g : ℕ) (how : How) (answer : Collected) (new : Machine) → IsLawful m
     → lowest_in_step m ≡ None → g ≤ 2 → Collects m g how answer new → IsLawful new
 
--- where objects are named by their places, a sweep of the whole heap leaves them so
+-- where objects are named by their places, a sweep leaves them so
 abbrev pub SweepNamesLaw : Type 0
-SweepNamesLaw = (m : Machine) (answer : Collected) (new : Machine) → IsPlaceNamed m → lowest_in_step m ≡ None
-    → Collects m 2 Sweep answer new → IsPlaceNamed new
+SweepNamesLaw = (m : Machine) (g : ℕ) (answer : Collected) (new : Machine) → IsPlaceNamed m
+    → lowest_in_step m ≡ None → g ≤ 2 → Collects m g Sweep answer new → IsPlaceNamed new
 
 -- ---- the objects that a collection leaves
 

@@ -3,8 +3,7 @@ use Rattle.std.specs.Prelude.{ℕ, ◌+◌, ◌-◌, ◌*◌, List, [], ◌∷�
 use Rattle.std.specs.Prelude.{nat_le, Bool, true, false, ◌&&◌, filter, slice_get, slice_index, sum_by}
 use Rattle.std.specs.List.{list_any}
 use Rattle.std.specs.FinMap as finmap
-use Rattle.clr_types.specs.declared.handle.Kind.{Kind}
-use Rattle.clr_types.specs.declared.handle.Kind.TheVariants.{Strong, Pinned, Weak, WeakLong, Dependent}
+use Rattle.clr_types.specs.Kinds.{is_pinned_kind}
 use Rattle.clr_types.specs.Rising.{find_by}
 use Rattle.clr_types.specs.Ranges.{Piece, by_place}
 use Rattle.clr_types.specs.Types.{TypeRow, form_at, has_finalizer, size_of, type_row}
@@ -83,28 +82,6 @@ abbrev pub lowest_in_step : Machine → Option ℕ
 lowest_in_step m = lowest_step_from 1 m.steps
 
 -- ---- handles
-
-abbrev pub is_dependent : Kind → Bool
-is_dependent Dependent = true
-is_dependent Strong = false
-is_dependent Pinned = false
-is_dependent Weak = false
-is_dependent WeakLong = false
-
-abbrev pub is_pinned_kind : Kind → Bool
-is_pinned_kind Pinned = true
-is_pinned_kind Strong = false
-is_pinned_kind Dependent = false
-is_pinned_kind Weak = false
-is_pinned_kind WeakLong = false
-
--- strong and pinned handles are roots
-abbrev pub is_root_kind : Kind → Bool
-is_root_kind Strong = true
-is_root_kind Pinned = true
-is_root_kind Weak = false
-is_root_kind WeakLong = false
-is_root_kind Dependent = false
 
 abbrev pub handle_rows : Machine → List Handle
 handle_rows m = finmap.values m.handles

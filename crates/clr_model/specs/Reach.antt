@@ -5,7 +5,8 @@ use Rattle.std.specs.Ordering.{nat_cmp}
 use Rattle.clr_types.specs.Rising.{IsIn}
 use Rattle.clr_types.specs.declared.handle.Handle.{Handle}
 use Rattle.clr_model.specs.Machine.{ref, Object, Machine}
-use Rattle.clr_model.specs.Lookups.{is_dependent, is_root_kind, object_named}
+use Rattle.clr_model.specs.Lookups.{object_named}
+use Rattle.clr_types.specs.Kinds.{is_dependent, is_root_kind}
 use Rattle.clr_types.specs.Segments.{generation}
 
 -- the least set that holds the start and each node to which an edge leads from a member

@@ -13,7 +13,8 @@ use Rattle.clr_model.specs.declared.Life.TheVariants.{Any, Live, Dead}
 use Rattle.clr_model.specs.declared.Where.{Where}
 use Rattle.clr_types.specs.declared.handle.Handle.{Handle}
 use Rattle.clr_model.specs.Machine.{Value, ref, num, Object, Machine}
-use Rattle.clr_model.specs.Lookups.{object_size, object_at, is_dependent, is_root_kind, local_index, is_thread}
+use Rattle.clr_model.specs.Lookups.{object_size, object_at, local_index, is_thread}
+use Rattle.clr_types.specs.Kinds.{is_dependent, is_root_kind}
 use Rattle.clr_model.specs.Reach.{Edge}
 use Rattle.clr_model.specs.Listing.{listing}
 use Rattle.clr_model.specs.Instructions.{DumpOptions, least_of, greatest_of}

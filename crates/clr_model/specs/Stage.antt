@@ -1,5 +1,5 @@
 -- Which lines and which steps of the machine are built: all else speaks of the whole machine.
-use Rattle.std.specs.Prelude.{ℕ, ◌==◌, Bool, true, false, ◌&&◌, is_none}
+use Rattle.std.specs.Prelude.{ℕ, nat_le, Bool, true, false, ◌&&◌, is_none}
 use Rattle.clr_model.specs.declared.How.{How}
 use Rattle.clr_model.specs.declared.How.TheVariants.{Decide, Compact, Sweep}
 use Rattle.clr_model.specs.declared.Mode.{Mode}
@@ -20,14 +20,14 @@ abbrev pub is_plain_dump : DumpOptions → Bool
 is_plain_dump o = is_full_mode o.mode o.life &&
     ((is_none o.mt && is_none o.name) && (is_none o.least && is_none o.greatest))
 
--- a sweep of the whole heap
-abbrev pub is_full_sweep : ℕ → How → Bool
-is_full_sweep g Decide = false
-is_full_sweep g Compact = false
-is_full_sweep g Sweep = g == 2
+-- a sweep of one of the three generations
+abbrev pub is_sweep : ℕ → How → Bool
+is_sweep g Decide = false
+is_sweep g Compact = false
+is_sweep g Sweep = nat_le g 2
 
 -- types may be defined, objects of them made, slots and locals read and written, handles made, followed and freed,
--- finalisers suppressed and asked for again, waiting objects taken, the whole heap swept, and the heap shown
+-- finalisers suppressed and asked for again, waiting objects taken, each generation swept, and the heap shown
 abbrev pub is_built : Instruction → Bool
 is_built (define_type name form finalizer) = true
 is_built (new_object t k name len) = true
@@ -39,7 +39,7 @@ is_built (copy_local t to from) = true
 is_built (clear_local t local) = true
 is_built (suppress_object t local) = true
 is_built (reregister_object t local) = true
-is_built (collect_heap t g how) = is_full_sweep g how
+is_built (collect_heap t g how) = is_sweep g how
 is_built (create_handle t kind local second) = true
 is_built (fetch_target t to h) = true
 is_built (fetch_second t to h) = true

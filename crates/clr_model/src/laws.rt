@@ -61,7 +61,7 @@ pub fn a_collection_stays_lawful()
     ensures { CollectionStaysLawfulLaw }
 {}
 
-/// A sweep of the whole heap moves nothing: objects that are named by their places still are.
+/// A sweep moves nothing: objects that are named by their places still are.
 pub fn a_sweep_keeps_names_of_places()
     ensures { SweepNamesLaw }
 {}

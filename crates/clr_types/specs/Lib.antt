@@ -12,3 +12,4 @@ pub mod ReferenceRuns
 pub mod Cursors
 pub mod Maps
 pub mod HandleCode
+pub mod Kinds

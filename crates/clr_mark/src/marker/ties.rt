@@ -15,7 +15,7 @@ use super::Marker;
 use super::ahead::Ahead;
 use clr_handles::{Handles, MOST_HANDLES};
 use clr_heap::Heap;
-use clr_types::{Handle, Kind, Types};
+use clr_types::{Handle, Types};
 
 impl Marker {
     /// Marks all that the marked objects reach over condemned ones, by slots and by dependent handles: the second of
@@ -101,7 +101,7 @@ impl Marker {
             × HasWord heap.now.memories handle.now.second }
         ensures { result ≡ ties.is_tie_due heap.now self.now.oldest handle.now }
     {
-        matches!(handle.kind, Kind::Dependent)
+        handle.kind.is_dependent()
             && handle.second != 0
             && self.is_new(heap, handle.second)
             && !self.is_new(heap, handle.target)

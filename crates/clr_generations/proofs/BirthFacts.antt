@@ -1,0 +1,364 @@
+-- What a birth leaves of objects, bounds and references, and the laws after it.
+use Rattle.std.proofs.Common.{◌≡◌, ◌≢◌, ◌⊎◌, inl, inr, ℕ, zero, suc, ◌+◌, ◌-◌, ◌/◌, ◌<◌, ◌≤◌, Bool, true, false}
+use Rattle.std.proofs.Common.{if◌then◌else◌, ◌&&◌, List, [], ◌∷◌, ◌++◌, filter, map, get_or, refl, ap, sym, ◌∙◌}
+use Rattle.std.proofs.Common.{subst, arith, leb, ltb, ℤ, Option, None, Some}
+use Rattle.std.specs.Prelude.{slice_get}
+use Rattle.std.proofs.lemmas.Bool.{le-leb, le-ltb, leb-true, lt-ltb, ltb-true}
+use Rattle.std.proofs.lemmas.Option.{slice_get-get_or}
+use Rattle.clr_types.specs.Ranges.{Piece, piece_end}
+use Rattle.clr_types.specs.Rising.{first, IsIn, later}
+use Rattle.clr_types.specs.Segments.{empty_segment, ephemeral, flat_option, generation, Layout}
+use Rattle.clr_types.specs.Segments.{reserved_end, rest_of, stands_in}
+use Rattle.clr_types.specs.Types.{form_at, size_of, slot_kinds, TypeRow}
+use Rattle.clr_types.specs.declared.segment.SegInfo.{SegInfo}
+use Rattle.clr_types.proofs.ChangedLists.{append_left, out_of_filter, rising-distinct}
+use Rattle.clr_types.proofs.ListMembers.{append_right, distinct_of_sorted, in_append}
+use Rattle.clr_types.proofs.RisingLists.{all_at, in_cons}
+use Rattle.clr_types.proofs.SortedLists.{into_sorted_by, IsDistinctBy, out_of_sorted_by}
+use Rattle.clr_covers.specs.Covers.{CoverView, is_covered}
+use Rattle.clr_heap.specs.Parts.{item_at}
+use Rattle.clr_heap.specs.View.{frame, heap_items, HeapView, IsHeap, segment_at, sight, word_of}
+use Rattle.clr_heap.specs.View.{first_of, last_of, parts_of}
+use Rattle.clr_heap.proofs.Framing.{lawful_at}
+use Rattle.clr_heap.proofs.Holes.{hole_among}
+use Rattle.clr_heap.proofs.Spelling.{Among-bounds}
+use Rattle.clr_model.specs.Allocation.{context_front, front_of, own_fits, rest_fits}
+use Rattle.clr_model.specs.Lookups.{object_size}
+use Rattle.clr_model.specs.Machine.{Object, ref}
+use Rattle.clr_model.specs.Updates.{empty_value}
+use Rattle.clr_view.specs.Among.{AreClosedAmong}
+use Rattle.clr_view.specs.View.{HasNewborn, IsHeld, is_object, newborn_at, object_in, objects_in}
+use Rattle.clr_view.proofs.Bearing.{born-stands}
+use Rattle.clr_view.proofs.Items.{stacked-apart}
+use Rattle.clr_view.proofs.Listed.{listed-sized}
+use Rattle.clr_view.proofs.Listings.{heap-rise, heap-stacked}
+use Rattle.clr_view.proofs.ObjectItems.{in_map, stands-item}
+use Rattle.clr_view.proofs.Rises.{objects-rise}
+use Rattle.clr_view.proofs.Standing.{high_up, standing}
+use Rattle.clr_view.proofs.Tails.{found-young, kind-young}
+use Rattle.clr_bricks.specs.Bricks.{entry_at}
+use Rattle.clr_generations.specs.Born.{with_place}
+use Rattle.clr_generations.specs.Laws.{BrickLaw, CardLaw, IsBrickOf}
+use Rattle.clr_generations.specs.Tables.{AreBricksOf}
+use Rattle.clr_generations.proofs.BarrierLaw.{named-by-place}
+use Rattle.clr_generations.proofs.BirthLaws.{brick_law-born, IsYoungBirth}
+use Rattle.clr_generations.proofs.Covered.{brick-covered}
+use Rattle.clr_generations.proofs.FoundItems.{in-at}
+use Rattle.clr_generations.proofs.KeptTables.{bounds-from}
+use Rattle.clr_generations.proofs.SameBounds.{generation-same, HasSameBounds, units-same}
+
+-- ---- lists
+
+-- the last of elements without equal keys is none of those before
+apart-last : {X : Type 0} (key : X → ℕ) (xs : List X) (x y : X) → IsDistinctBy key (xs ++ x ∷ []) → IsIn y xs
+    → key y ≢ key x
+apart-last key [] x y d i = elim i [ ]
+apart-last key (z ∷ xs) x y d first = all_at (λ w. key z ≢ key w) (append_right xs first) d.0
+apart-last key (z ∷ xs) x y d (later i) = apart-last key xs x y d.1 i
+
+-- what is read in a list stands in it
+in-got : {X : Type 0} (xs : List X) (j : ℕ) (x : X) → slice_get xs j ≡ Some x → IsIn x xs
+in-got [] j x e = absurd cc
+in-got (y ∷ xs) zero x e = let same : y ≡ x = cc in subst (λ z. IsIn z (y ∷ xs)) same first
+in-got (y ∷ xs) (suc j) x e = later (in-got xs j x e)
+
+-- a new slot names nothing
+names-nothing : (kinds : List Bool) (j n : ℕ) → slice_get (map empty_value kinds) j ≡ Some (ref n) → n ≡ 0
+names-nothing [] j n e = absurd cc
+names-nothing (true ∷ kinds) zero n e = cc
+names-nothing (false ∷ kinds) zero n e = absurd cc
+names-nothing (kind ∷ kinds) (suc j) n e = names-nothing kinds j n e
+
+-- ---- generations
+
+-- a place of the ephemeral segment that isn't of generation 0 is below a boundary
+below-boundary : (layout : Layout) (p : ℕ) → stands_in (ephemeral layout) p ≡ true → 0 < generation layout p
+    → (p < layout.start1) ⊎ (p < layout.start0)
+below-boundary layout p e aged =
+    go (ltb p layout.start1) (ltb p layout.start0) refl refl
+    (subst (λ (b : Bool). 0 < (if b then (if ltb p layout.start1 then 2
+    else (if ltb p layout.start0 then 1 else 0)) else 2)) e aged)
+  where
+    go : (b c : Bool) → ltb p layout.start1 ≡ b → ltb p layout.start0 ≡ c
+        → 0 < (if b then 2 else (if c then 1 else 0)) → (p < layout.start1) ⊎ (p < layout.start0)
+    go true c is other l = inl (ltb-true p layout.start1 is)
+    go false true is other l = inr (ltb-true p layout.start0 other)
+    go false false is other l = absurd (omega arith)
+
+-- and one that is in it and below none is of generation 0
+at-youngest : (layout : Layout) (p : ℕ) → stands_in (ephemeral layout) p ≡ true → layout.start1 ≤ p → layout.start0 ≤ p
+    → generation layout p ≡ 0
+at-youngest layout p e one none =
+    let past_one = le-ltb p layout.start1 one in
+    let past_none = le-ltb p layout.start0 none in
+    λ i. if e i then (if past_one i then 2 else (if past_none i then 1 else 0)) else 2
+
+-- ---- the birth
+
+-- an object was born where the thread's context began
+pub record IsBornIn (rows : List TypeRow) (old new : HeapView) (thread t n : ℕ) : Type 0 where
+  pub before : IsHeap old
+  pub after : IsHeap new
+  pub held : IsHeld rows old
+  pub positive : 0 < thread
+  pub few : thread ≤ 16
+  pub room : own_fits (frame old) thread (size_of (form_at rows t) n) ≡ true
+  pub born : HasNewborn rows old new thread t n
+
+module _ (rows : List TypeRow) (old new : HeapView) (thread t n : ℕ) (f : IsBornIn rows old new thread t n) where
+  abbrev place : ℕ
+  place = context_front (frame old) thread
+
+  abbrev newborn : Object
+  newborn = newborn_at rows place t n
+
+  abbrev name : Object → ℕ
+  name o = o.name
+
+  -- ---- objects
+
+  came : (o : Object) → IsIn o (objects_in rows new) → (o ≡ newborn) ⊎ IsIn o (objects_in rows old)
+  came o i =
+      elim (in_append (objects_in rows old)
+      (out_of_sorted_by name o (objects_in rows old ++ newborn ∷ []) (subst (IsIn o) f.born.objects i))) [
+        | inl was ↦ inr was
+        | inr last ↦ elim (in_cons last) [ inl new_one ↦ inl new_one | inr none ↦ elim none [ ] ]
+      ]
+
+  stays : (o : Object) → IsIn o (objects_in rows old) → IsIn o (objects_in rows new)
+  stays o i =
+      subst (IsIn o) (sym f.born.objects)
+      (into_sorted_by name o (objects_in rows old ++ newborn ∷ []) (append_left (newborn ∷ []) i))
+
+  -- the objects after the birth have names of their own
+  distinct : IsDistinctBy name (objects_in rows old ++ newborn ∷ [])
+  distinct =
+      distinct_of_sorted name (objects_in rows old ++ newborn ∷ [])
+      (subst (IsDistinctBy name) f.born.objects
+      (rising-distinct name (objects_in rows new)
+      (objects-rise rows (word_of new) (heap_items rows new) (heap-rise rows new f.born.held.walkable f.after))))
+
+  -- no object stood there
+  was-free : (o : Object) → IsIn o (objects_in rows old) → o.place ≢ place
+  was-free o i at =
+      apart-last name (objects_in rows old) newborn o distinct i
+      (named-by-place rows old f.before f.held o i ∙ at)
+
+  -- no cell of another object has the place
+  apart : (o : Object) → IsIn o (objects_in rows old) → (o.place + object_size rows o ≤ place) ⊎ (place < o.place)
+  apart o i =
+      let held = f.born.held in
+      let found = in_map (object_in rows (word_of new)) o (filter is_object (heap_items rows new)) (stays o i) in
+      let passed = out_of_filter is_object found.0 (heap_items rows new) found.1 in
+      let there = stands-item rows new f.after held place (born-stands rows old new thread t n f.born) in
+      let j = item_at rows (word_of new) place in
+      let here = ap (λ (p : Object). p.place) found.2 in
+      let at = there.at in
+      let size : found.0.size ≡ object_size rows o =
+      listed-sized rows new found.0 f.after held passed.1 ∙ ap (object_size rows) found.2 in
+      let least = (standing rows new f.after held j there.listed).least in
+      elim (stacked-apart (heap_items rows new) found.0 j (heap-stacked rows new held.walkable f.after) passed.1
+      there.listed (λ same. was-free o i (sym here ∙ same ∙ at))) [
+        | inl before ↦ inl (omega arith)
+        | inr after ↦ inr (omega arith)
+      ]
+
+  -- ---- where it stands
+
+  bounds : HasSameBounds (frame old) (frame new)
+  bounds = bounds-from (frame old) (frame new) (ap (λ (l : Layout). l.segments) f.born.layout)
+      (ap (λ (l : Layout). l.start1) f.born.layout) (ap (λ (l : Layout). l.start0) f.born.layout)
+
+  -- the thread's context
+  context : (r : Piece) × (get_or old.rests (thread - 1) None ≡ Some r) × (place ≡ r.place)
+  context =
+      let pos = f.positive in
+      let few = f.few in
+      let count = f.before.threads in
+      let is = ap flat_option (slice_get-get_or old.rests (thread - 1) None (omega arith)) in
+      go (get_or old.rests (thread - 1) None) refl is
+    where
+      go : (o : Option Piece) → get_or old.rests (thread - 1) None ≡ o → rest_of (frame old) thread
+          ≡ get_or old.rests (thread - 1) None → (r : Piece) × (get_or old.rests (thread - 1) None ≡ Some r)
+          × (place ≡ r.place)
+      go None e is =
+          let none : rest_fits None (size_of (form_at rows t) n) ≡ true =
+          ap (λ o. rest_fits o (size_of (form_at rows t) n)) (sym (is ∙ e)) ∙ f.room in
+          absurd cc
+      go (Some r) e is = (r, e, ap front_of (is ∙ e))
+
+  -- what is known of the place
+  record StandsYoung : Type 0 where
+    low : old.start0 ≤ place
+    inside : stands_in (ephemeral (frame old)) place ≡ true
+
+  stands-young : StandsYoung
+  stands-young =
+      let r = context.0 in
+      let own = f.held.contexts (thread - 1) r context.1 in
+      let young = found-young old f.before in
+      let k = young.0 in
+      let among = own.among k young.1.in_range (kind-young old k f.before young.1) in
+      let spelled = (f.held.walkable k young.1.in_range).spelled in
+      let in_parts = Among-bounds (sight rows old k) (parts_of rows old k) _ (first_of old k) (last_of old k) spelled
+      among in
+      let hole = hole_among (sight rows old k) (parts_of rows old k) r.place (piece_end r) (first_of old k)
+      (last_of old k) spelled among in
+      let least = hole.least in
+      let end = (lawful_at old k f.before young.1.in_range).high in
+      let at = context.2 in
+      let above = in_parts.0 in
+      let below = in_parts.1 in
+      let starts = own.young in
+      let s = segment_at old k in
+      let from : first_of old k ≤ place = omega arith in
+      let to : place < reserved_end s = omega arith in
+      let from_is = le-leb (first_of old k) place from in
+      let to_is = lt-ltb place (reserved_end s) to in
+      record {
+        low = omega arith;
+        inside = ap (λ (q : SegInfo). stands_in q place) (sym young.1.is) ∙ λ i. from_is i && to_is i;
+      }
+
+  home : (o : Object) → IsIn o (objects_in rows old)
+      → (s : SegInfo) × IsIn s old.segments × (stands_in s o.place ≡ true) × IsBrickOf s (o.place / 4096)
+  home o i =
+      let found = in_map (object_in rows (word_of old)) o (filter is_object (heap_items rows old)) i in
+      let passed = out_of_filter is_object found.0 (heap_items rows old) found.1 in
+      let at = ap (λ (p : Object). p.place) found.2 in
+      let there = standing rows old f.before f.held found.0 passed.1 in
+      let k = there.segment in
+      let s = segment_at old k in
+      let lawful = lawful_at old k f.before there.in_range in
+      let base = lawful.base in
+      let reserved = lawful.reserved in
+      let above = there.above in
+      let below = there.below in
+      let least = there.least in
+      let all = there.reserved in
+      let from : first_of old k ≤ o.place = omega arith in
+      let to : o.place < reserved_end s = omega arith in
+      let from_is = le-leb (first_of old k) o.place from in
+      let to_is = lt-ltb o.place (reserved_end s) to in
+      (s, in-at old.segments k empty_segment there.in_range, (λ j. from_is j && to_is j), (omega arith, omega arith))
+
+  near : old.start1 ≤ old.start0 → (p : ℕ) → p / 4096 ≡ place / 4096 → 0 < generation (frame old) p → p < place
+  near order p e aged =
+      let young = found-young old f.before in
+      let k = young.0 in
+      let s = segment_at old k in
+      let lawful = lawful_at old k f.before young.1.in_range in
+      let base = lawful.base in
+      let reserved = lawful.reserved in
+      let inside : stands_in s place ≡ true =
+      ap (λ (q : SegInfo). stands_in q place) young.1.is ∙ stands-young.inside in
+      let both = both-true (leb (first_of old k) place) (ltb place (reserved_end s)) inside in
+      let from = leb-true (first_of old k) place both.0 in
+      let to = ltb-true place (reserved_end s) both.1 in
+      let up : first_of old k ≤ p = omega arith in
+      let down : p < reserved_end s = omega arith in
+      let from_is = le-leb (first_of old k) p up in
+      let to_is = lt-ltb p (reserved_end s) down in
+      let there : stands_in (ephemeral (frame old)) p ≡ true =
+      ap (λ (q : SegInfo). stands_in q p) (sym young.1.is) ∙ λ i. from_is i && to_is i in
+      let low = stands-young.low in
+      elim (below-boundary (frame old) p there aged) [ inl one ↦ omega arith | inr none ↦ omega arith ]
+    where
+      both-true : (a b : Bool) → (a && b) ≡ true → (a ≡ true) × (b ≡ true)
+      both-true true true e = (refl, refl)
+      both-true true false e = absurd cc
+      both-true false b e = absurd cc
+
+  young-birth : old.start1 ≤ old.start0
+      → IsYoungBirth rows (frame old) (frame new) (objects_in rows old) (objects_in rows new) place
+  young-birth order = record {
+    same = bounds;
+    came = λ o i. elim (came o i) [ inl new_one ↦ inl (ap (λ (p : Object). p.place) new_one) | inr was ↦ inr was ];
+    stays = stays;
+    there = born-stands rows old new thread t n f.born;
+    young = at-youngest (frame old) place stands-young.inside (let low = stands-young.low in omega arith)
+        stands-young.low;
+    low = stands-young.low;
+    apart = apart;
+    near = near order;
+    homes = home;
+  }
+
+  -- ---- for the caller
+
+  -- the brick of the place is there
+  pub newborn-covered : (bricks : List (CoverView ℤ)) → AreBricksOf (frame old) bricks
+      → is_covered bricks (place / 4096) ≡ true
+  newborn-covered bricks e =
+      let there = stands-item rows new f.after f.born.held place (born-stands rows old new thread t n f.born) in
+      let home_is = standing rows new f.after f.born.held (item_at rows (word_of new) place) there.listed in
+      let at = there.at in
+      let above = home_is.above in
+      let below = home_is.below in
+      let least = home_is.least in
+      let all = home_is.reserved in
+      brick-covered new home_is.segment place f.after home_is.in_range (omega arith) (omega arith) bricks
+      (e ∙ sym (units-same (frame old) (frame new) bounds 4096))
+
+  -- THE BRICK LAW is kept
+  pub bricks-born : old.start1 ≤ old.start0 → (bricks after : List (CoverView ℤ))
+      → ((i : ℕ) → entry_at after i ≡ with_place (frame new) (entry_at bricks) place i)
+      → BrickLaw rows (frame old) (objects_in rows old) (entry_at bricks)
+      → BrickLaw rows (frame new) (objects_in rows new) (entry_at after)
+  bricks-born order bricks after told law =
+      subst (BrickLaw rows (frame new) (objects_in rows new)) (λ i brick. sym (told brick) i)
+      (brick_law-born rows (frame old) (frame new) (objects_in rows old) (objects_in rows new) place
+      (young-birth order) (entry_at bricks) law)
+
+  -- no object is named 0
+  no-null : (o : Object) → IsIn o (objects_in rows new) → o.name ≡ 0 → ⊥
+  no-null o i null =
+      let found = in_map (object_in rows (word_of new)) o (filter is_object (heap_items rows new)) i in
+      let passed = out_of_filter is_object found.0 (heap_items rows new) found.1 in
+      let at = ap (λ (p : Object). p.name) found.2 in
+      let high = high_up rows new f.after f.born.held found.0 passed.1 in
+      omega arith
+
+  positive-place : 0 < place
+  positive-place =
+      let there = stands-item rows new f.after f.born.held place (born-stands rows old new thread t n f.born) in
+      let at = there.at in
+      let high = high_up rows new f.after f.born.held (item_at rows (word_of new) place) there.listed in
+      omega arith
+
+  -- THE CARD LAW is kept, where what is named stands
+  pub cards-born : AreClosedAmong rows (word_of old) (heap_items rows old) → (is_set : ℕ → Bool)
+      → CardLaw rows (frame old) (objects_in rows old) is_set → CardLaw rows (frame new) (objects_in rows new) is_set
+  cards-born closed is_set law a y = elim (came y.object y.present) [
+    | inl new_one ↦
+        let names : y.target.name ≡ 0 =
+        names-nothing (slot_kinds (form_at rows t) n) y.slot y.target.name
+        (ap (λ (o : Object). slice_get o.slots y.slot) (sym new_one) ∙ y.named) in
+        absurd (no-null y.target y.target_present names)
+    | inr was ↦ elim (came y.target y.target_present) [
+      | inl target_new ↦
+          let at : y.target.name ≡ place = ap name target_new in
+          let stands = closed y.object.name place (record {
+            object = y.object;
+            present = was;
+            named = refl;
+            slot = in-got y.object.slots y.slot (ref place) (y.named ∙ ap (λ (k : ℕ). Some (ref k)) at);
+            not_null = positive-place;
+          }) in
+          absurd (was-free stands.0 stands.1 stands.2)
+      | inr target_was ↦
+          let low = generation-same (frame old) (frame new) bounds y.target.place in
+          let high = generation-same (frame old) (frame new) bounds y.object.place in
+          let younger = y.younger in
+          law a (record {
+            object = y.object;
+            present = was;
+            slot = y.slot;
+            target = y.target;
+            target_present = target_was;
+            named = y.named;
+            address = y.address;
+            younger = omega (arith, low, high, younger);
+          })
+    ]
+  ]

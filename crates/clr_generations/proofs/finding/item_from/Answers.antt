@@ -1,0 +1,56 @@
+use Rattle.std.proofs.Common.{ℕ, ◌+◌, Some, inr, sym, ap, ◌∙◌, subst}
+use Rattle.clr_types.specs.declared.segment.SegInfo.{SegInfo}
+use Rattle.clr_types.specs.declared.item.Item.{Item}
+use Rattle.clr_heap.specs.View.{CanWalk, item_with_place, items_between, sight}
+use Rattle.clr_heap.proofs.Walking.{walk_hole, walk_item}
+use Rattle.clr_generations.proofs.FoundItems.{item-here, item-past, none-past}
+use Rattle.clr_generations.proofs.finding.item_from.Goals as goal
+
+pub loop-place-preserved-in-Some : goal.loop-place-preserved-in-Some
+loop-place-preserved-in-Some c =
+    let step = walk_hole (sight c.args.types.now c.args.heap.now c.args.k) c.args.heap.now.memories c.loop-place.place
+    c.in-Some.high c.info-end.result.end c.loop-place.invariant.walk c.loop-place-test.true
+    (sym c.hole_end.ensures ∙ c.in-Some.is) in
+    record {
+      walk = step.walk;
+      found = ap (λ items. item_with_place items c.args.a) (sym step.items) ∙ c.loop-place.invariant.found;
+    }
+
+pub item-found-requires : goal.item-found-requires
+item-found-requires c =
+    let step = walk_item (sight c.args.types.now c.args.heap.now c.args.k) c.args.heap.now.memories c.loop-place.place
+    c.info-end.result.end c.loop-place.invariant.walk c.loop-place-test.true (sym c.hole_end.ensures ∙ c.in-None.is) in
+    record { names = step.names; mt = step.mt; len = step.len }
+
+pub returns-then-place-a-2 : goal.returns-then-place-a-2
+returns-then-place-a-2 c =
+    let s = sight c.args.types.now c.args.heap.now c.args.k in
+    let last = ap (λ (s : SegInfo). s.end) c.info-end.ensures.value in
+    let here = item-here s c.args.heap.now.memories c.loop-place.place c.info-end.result.end c.args.a
+    c.loop-place.invariant.walk c.loop-place-test.true (sym c.hole_end.ensures ∙ c.in-None.is) c.if-place-a-2.true in
+    ap (λ (i : Item). Some i) c.item-found.ensures ∙ sym here ∙ c.loop-place.invariant.found
+    ∙ ap (λ (n : ℕ). item_with_place (items_between s c.args.start n) c.args.a) last
+
+pub loop-place-preserved : goal.loop-place-preserved
+loop-place-preserved c =
+    let s = sight c.args.types.now c.args.heap.now c.args.k in
+    let none = sym c.hole_end.ensures ∙ c.in-None.is in
+    let step = walk_item s c.args.heap.now.memories c.loop-place.place c.info-end.result.end
+    c.loop-place.invariant.walk c.loop-place-test.true none in
+    let past = item-past s c.args.heap.now.memories c.loop-place.place c.info-end.result.end c.args.a
+    c.loop-place.invariant.walk c.loop-place-test.true none c.if-place-a-2.false in
+    let size = ap (λ (i : Item). c.loop-place.place + i.size) c.item-found.ensures in
+    record {
+      walk = subst (λ n. CanWalk s c.args.heap.now.memories n c.info-end.result.end) (sym size) step.walk;
+      found = ap (λ (n : ℕ). item_with_place (items_between s n c.info-end.result.end) c.args.a) size
+          ∙ past ∙ c.loop-place.invariant.found;
+    }
+
+pub returns-else-place-a : goal.returns-else-place-a
+returns-else-place-a c =
+    let s = sight c.args.types.now c.args.heap.now c.args.k in
+    let last = ap (λ (s : SegInfo). s.end) c.info-end.ensures.value in
+    let none = none-past s c.args.heap.now.memories c.loop-place.place c.info-end.result.end c.args.a
+    c.loop-place.invariant.walk (inr c.if-place-a.false) in
+    sym none ∙ c.loop-place.invariant.found
+    ∙ ap (λ (n : ℕ). item_with_place (items_between s c.args.start n) c.args.a) last

@@ -1,0 +1,13 @@
+use Rattle.std.proofs.Common.{◌≡◌, ◌-◌}
+use Rattle.clr_heap.specs.View.{CanWalk, item_with_place, items_between, sight}
+use Rattle.clr_generations.proofs.finding.item_from.Given as goal
+
+abbrev pub invariant-loop-place : goal.invariant-loop-place
+invariant-loop-place l = record {
+  walk : CanWalk (sight l.types l.heap l.k) l.heap.memories l.place l.end;
+  found : item_with_place (items_between (sight l.types l.heap l.k) l.place l.end) l.a
+      ≡ item_with_place (items_between (sight l.types l.heap l.k) l.start l.end) l.a;
+}
+
+abbrev pub decreases-loop-place : goal.decreases-loop-place
+decreases-loop-place l = l.end - l.place

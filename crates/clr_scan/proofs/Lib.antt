@@ -1,0 +1,11 @@
+pub mod CardScans
+pub mod SlotScans
+pub mod WordScans
+pub mod Cursors
+pub mod StretchScans
+pub mod CardRuns
+pub mod RunScans
+pub mod SegmentScans
+pub mod AllCards
+pub mod TableLaws
+pub mod WholeScans

@@ -1,0 +1,122 @@
+-- A scan of the words of an item whose references are one run.
+use Rattle.std.proofs.Common.{◌≡◌, inl, inr, ℕ, zero, suc, ◌+◌, ◌*◌, ◌<◌, ◌≤◌, Bool, true, false, List, refl, ap, sym}
+use Rattle.std.proofs.Common.{◌∙◌, subst, arith}
+use Rattle.std.proofs.lemmas.Bool.{cases_eq, cases_lt}
+use Rattle.clr_types.specs.Descriptors.{offsets_from}
+use Rattle.clr_types.specs.Rising.{IsIn}
+use Rattle.clr_types.specs.Segments.{generation}
+use Rattle.clr_types.specs.Types.{TypeRow}
+use Rattle.clr_types.specs.declared.item.Item.{Item}
+use Rattle.clr_types.proofs.RisingLists.{in_cons}
+use Rattle.clr_heap.specs.View.{frame, heap_items, HeapView, word_of}
+use Rattle.clr_view.specs.View.{is_object}
+use Rattle.clr_scan.specs.References.{IsQuiet, IsReferenceOf}
+use Rattle.clr_scan.specs.Scans.{HasScanned, IsTraced}
+use Rattle.clr_mark.specs.Marks.{IsClosed}
+use Rattle.clr_mark.specs.Markings.{item_references}
+use Rattle.clr_mark.specs.Waiting.{IsGray, MarkerView}
+use Rattle.clr_scan.proofs.CardScans.{ref_word, same-age, scanned-refl, scanned-trans, traced-from, traced-on}
+use Rattle.clr_mark.proofs.RunReferences.{run_listed}
+
+-- an offset of a run by its number
+run_number : (offset count o : ℕ) → IsIn o (offsets_from offset count) → (n : ℕ) × (n < count) × (o ≡ offset + 8 * n)
+run_number offset zero o l = elim l [ ]
+run_number offset (suc count) o l = elim (in_cons l) [
+  | inl here ↦ (0, omega arith, omega (arith, here))
+  | inr more ↦ let (n, below, at) = run_number (offset + 8) count o more in (suc n, omega arith, omega (arith, at))
+]
+
+-- word j of the run is a reference
+pub word_reference : (rows : List TypeRow) (i : Item) (offset count j : ℕ) → is_object i ≡ true
+    → item_references rows i ≡ offsets_from offset count → j < count → IsReferenceOf rows i (i.place + offset + 8 * j)
+word_reference rows i offset count j object all l = record {
+  object = object;
+  offset = offset + 8 * j;
+  reference = subst (λ (os : List ℕ). IsIn (offset + 8 * j) os) (sym all) (run_listed offset count j l);
+  address = omega arith;
+}
+
+-- the words from number `from` up to j, of which the first stands at `base`, are followed
+pub record IsWordScan (rows : List TypeRow) (h now : HeapView) (m n : MarkerView) (base age from j : ℕ)
+    (younger : Bool) : Type 0 where
+  pub gray : IsGray rows now n
+  pub scanned : HasScanned rows h now m n
+  pub traced : (s : ℕ) → from ≤ s → s < j → IsTraced h rows now m.oldest (base + 8 * s)
+  pub clear : younger ≡ false → (s : ℕ) → from ≤ s → s < j → IsQuiet h age (base + 8 * s)
+  pub silent : ((s : ℕ) → from ≤ s → s < j → IsQuiet h age (base + 8 * s)) → younger ≡ false
+
+pub word_scan_starts : (rows : List TypeRow) (h : HeapView) (m : MarkerView) (base age from : ℕ) → IsGray rows h m
+    → IsWordScan rows h h m m base age from from false
+word_scan_starts rows h m base age from g =
+    record {
+      gray = g;
+      scanned = scanned-refl rows h m;
+      traced = λ s l b. absurd (omega arith);
+      clear = λ e s l b.
+          absurd (omega arith);
+      silent = λ _. refl;
+    }
+
+module _ (rows : List TypeRow) (h now : HeapView) (m n : MarkerView) (i : Item) (base age from j : ℕ) (younger : Bool)
+    (closed : IsClosed rows h) (listed : IsIn i (heap_items rows h))
+    (s : IsWordScan rows h now m n base age from j younger) where
+  -- the next word was followed
+  module _ (r : IsReferenceOf rows i (base + 8 * j)) where
+    same : word_of now (base + 8 * j) ≡ word_of h (base + 8 * j)
+    same = ref_word rows h closed i listed (base + 8 * j) r now s.scanned.remarked
+
+    pub word_followed : (new : HeapView) (o : MarkerView) (below next : Bool) → IsGray rows new o
+        → HasScanned rows now new n o → IsTraced now rows new n.oldest (base + 8 * j)
+        → (below ≡ false → IsQuiet now age (base + 8 * j)) → (IsQuiet now age (base + 8 * j) → below ≡ false) → from ≤ j
+        → (next ≡ false → (younger ≡ false) × (below ≡ false)) → (younger ≡ false → below ≡ false → next ≡ false)
+        → IsWordScan rows h new m o base age from (j + 1) next
+    word_followed new o below next gray q traced clear silent low parts joined =
+        let here : IsTraced h rows new m.oldest (base + 8 * j) =
+        traced-from h rows now new m n (base + 8 * j) s.scanned same traced in
+        let w = ap (generation (frame now)) same in
+        let a = same-age rows h now (word_of h (base + 8 * j)) s.scanned.remarked in
+        record {
+          gray = gray;
+          scanned = scanned-trans rows h now new m n o closed.heap closed.held s.scanned q;
+          traced = λ t l b. elim (cases_eq t j) [
+            | inl is ↦ subst (λ k. IsTraced h rows new m.oldest (base + 8 * k)) (sym is) here
+            | inr ne ↦ traced-on h rows now new m.oldest (base + 8 * t) q.kept (s.traced t l (omega arith))
+          ];
+          clear = λ none t l b. elim (cases_eq t j) [
+            | inl is ↦ subst (λ k. IsQuiet h age (base + 8 * k)) (sym is)
+                (λ ne less. clear (parts none).1 (λ e. ne (sym same ∙ e)) (omega (arith, w, a, less)))
+            | inr ne ↦ s.clear (parts none).0 t l (omega arith)
+          ];
+          silent = λ all. joined (s.silent (λ t l b. all t l (omega arith)))
+              (silent (λ ne less. all j low (omega arith) (λ e. ne (same ∙ e)) (omega (arith, w, a, less))));
+        }
+
+  -- at the end each reference on the stretch is followed
+  module _ (offset count to lo hi : ℕ) (all : item_references rows i ≡ offsets_from offset count)
+      (at : base ≡ i.place + offset) (past : to ≤ j)
+      (before : (t : ℕ) → t < from → base + 8 * t < lo) (after : (t : ℕ) → to ≤ t → t < count → hi ≤ base + 8 * t) where
+    number : (a : ℕ) → IsReferenceOf rows i a → lo ≤ a → a < hi → (t : ℕ) × (from ≤ t) × (t < j) × (a ≡ base + 8 * t)
+    number a r low high =
+        let (t, below, is) = run_number offset count r.offset
+        (subst (λ (os : List ℕ). IsIn r.offset os) all r.reference) in
+        let address = r.address in
+        let here : a ≡ base + 8 * t = omega (arith, address, is, at) in
+        let above : from ≤ t = elim (cases_lt t from)
+        [ inl l ↦ let b = before t l in absurd (omega (arith, here, low, b)) | inr l ↦ l ] in
+        let under : t < to = elim (cases_lt t to)
+        [ inl l ↦ l | inr l ↦ let b = after t l below in absurd (omega (arith, here, high, b)) ] in
+        (t, above, omega arith, here)
+
+    pub words_traced : (a : ℕ) → IsReferenceOf rows i a → lo ≤ a → a < hi → IsTraced h rows now m.oldest a
+    words_traced a r low high = let (t, above, under, here) = number a r low high in
+        subst (IsTraced h rows now m.oldest) (sym here) (s.traced t above under)
+
+    pub words_clear : younger ≡ false → (a : ℕ) → IsReferenceOf rows i a → lo ≤ a → a < hi → IsQuiet h age a
+    words_clear none a r low high = let (t, above, under, here) = number a r low high in
+        subst (IsQuiet h age) (sym here) (s.clear none t above under)
+
+-- an empty run has no references
+pub no_words : (rows : List TypeRow) (i : Item) (offset count a : ℕ)
+    → item_references rows i ≡ offsets_from offset count → count ≡ 0 → IsReferenceOf rows i a → ⊥
+no_words rows i offset count a all none r = let (n, below, at) =
+    run_number offset count r.offset (subst (λ (os : List ℕ). IsIn r.offset os) all r.reference) in omega arith

@@ -1,0 +1,5 @@
+pub mod References
+pub mod OldParts
+pub mod SetCards
+pub mod Entries
+pub mod Scans

@@ -1,26 +1,26 @@
 -- Flags that are cleared, one after the other, where what is left stays the same.
-use Rattle.std.proofs.Common.{◌≡◌, ◌↔◌, ◌⊎◌, inl, inr, ℕ, zero, suc, ◌+◌, ◌<◌, ◌≤◌, ◌==◌, ◌&&◌, ◌||◌, ◌++◌, ◌∷◌, Bool}
-use Rattle.std.proofs.Common.{true, false, not, List, [], filter, map, drop, length, if◌then◌else◌, nat_le, slice_index}
+use Rattle.std.proofs.Common.{◌≡◌, ◌↔◌, ◌⊎◌, inl, inr, ℕ, zero, suc, ◌<◌, ◌==◌, ◌&&◌, ◌||◌, ◌++◌, ◌∷◌, Bool}
+use Rattle.std.proofs.Common.{true, false, not, List, [], filter, map, drop, if◌then◌else◌, nat_le, slice_index}
 use Rattle.std.proofs.Common.{refl, ap}
 use Rattle.std.proofs.Common.{ap₂, sym, ◌∙◌, subst, arith}
 use Rattle.std.specs.List.{list_any}
-use Rattle.std.proofs.lemmas.Bool.{and_from, and_parts, both_ways, cases_Bool, eq-eqb, eqb-true}
-use Rattle.clr_types.specs.Rising.{changed_by, first, IsIn, later}
+use Rattle.std.proofs.lemmas.Bool.{both_ways, eq-eqb, eqb-true}
+use Rattle.clr_types.specs.Rising.{changed_by, IsIn, later}
 use Rattle.clr_types.specs.Segments.{generation, Layout}
 use Rattle.clr_types.specs.Types.{TypeRow}
 use Rattle.clr_types.proofs.ChangedLists.{into_filter, IsIn-map, out_of_filter}
-use Rattle.clr_types.proofs.ListMembers.{any-from, any-in, any-map, any-on, from-map, map-on}
+use Rattle.clr_types.proofs.ListMembers.{any-from, any-in, any-map, any-on, map-on}
 use Rattle.clr_types.proofs.RisingLists.{in_cons}
-use Rattle.clr_heap.specs.View.{frame, HeapView, word_of}
+use Rattle.clr_heap.specs.View.{HeapView}
 use Rattle.clr_model.specs.Machine.{Object}
 use Rattle.clr_model.specs.Updates.{with_flag_of}
 use Rattle.clr_model.proofs.NamedWell.{eqb_sym}
 use Rattle.clr_view.specs.Clean.{AreClean}
 use Rattle.clr_view.specs.Flags.{HasFlagged}
-use Rattle.clr_view.specs.Marks.{has_mark, Marked}
-use Rattle.clr_view.specs.Memory.{is_left, is_left_name, is_marked, is_reached_by}
+use Rattle.clr_view.specs.Marks.{Marked}
+use Rattle.clr_view.specs.Memory.{is_left, is_left_name, is_marked}
 use Rattle.clr_view.specs.SlotValues.{StandsAt}
-use Rattle.clr_view.specs.View.{IsHeld, layout_in, objects_in}
+use Rattle.clr_view.specs.View.{AreFreeHeads, IsHeld, layout_in, objects_in}
 use Rattle.clr_collect.specs.Collecting.{HasUnflagged, unflagged}
 
 -- ---- Booleans
@@ -176,6 +176,7 @@ module _ (rows : List TypeRow) (old : HeapView) (g : ℕ) where
     layout = refl;
     marks = λ x. (λ m. m, λ m. m);
     clean = λ c. c;
+    free_heads = λ c. c;
     limit = refl;
     rests = refl;
   }
@@ -199,6 +200,7 @@ module _ (rows : List TypeRow) (old : HeapView) (g : ℕ) where
     layout = u.layout;
     marks = u.marks;
     clean = u.clean;
+    free_heads = u.free_heads;
     limit = u.limit;
     rests = u.rests;
   }
@@ -206,8 +208,9 @@ module _ (rows : List TypeRow) (old : HeapView) (g : ℕ) where
   -- another one's flag is cleared
   pub unflagged_more : (now new : HeapView) (done : List ℕ) (p : ℕ) → HasUnflagged rows old now g done
       → is_left_name rows now g p ≡ false → HasFlagged rows now new p false → (AreClean rows now → AreClean rows new)
-      → new.limit ≡ now.limit → new.rests ≡ now.rests → HasUnflagged rows old new g (done ++ p ∷ [])
-  unflagged_more now new done p u gone f clean limit rests = record {
+      → (AreFreeHeads rows now → AreFreeHeads rows new) → new.limit ≡ now.limit → new.rests ≡ now.rests
+      → HasUnflagged rows old new g (done ++ p ∷ [])
+  unflagged_more now new done p u gone f clean free_heads limit rests = record {
     held = f.held;
     objects =
         f.objects
@@ -216,6 +219,7 @@ module _ (rows : List TypeRow) (old : HeapView) (g : ℕ) where
     layout = f.layout ∙ u.layout;
     marks = λ x. (λ m. (u.marks x).0 ((f.marks x).0 m), λ m. (f.marks x).1 ((u.marks x).1 m));
     clean = λ c. clean (u.clean c);
+    free_heads = λ c. free_heads (u.free_heads c);
     limit = limit ∙ u.limit;
     rests = rests ∙ u.rests;
   }

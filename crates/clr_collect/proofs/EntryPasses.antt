@@ -1,7 +1,7 @@
 -- Entries between the two passes that judge them: from what each pass answers to what both leave.
-use Rattle.std.proofs.Common.{◌≡◌, inl, inr, ℕ, ◌<◌, ◌≤◌, ◌++◌, ◌||◌, not, ◌&&◌, List, filter, map, drop, length}
+use Rattle.std.proofs.Common.{◌≡◌, ℕ, ◌<◌, ◌≤◌, ◌++◌, ◌||◌, List, filter, map, drop, length}
 use Rattle.std.proofs.Common.{slice_index}
-use Rattle.std.proofs.Common.{if◌then◌else◌, Bool, true, refl, ap, sym, ◌∙◌, subst, arith}
+use Rattle.std.proofs.Common.{if◌then◌else◌, Bool, true, ap, ◌∙◌, subst, arith}
 use Rattle.clr_types.specs.Rising.{IsIn}
 use Rattle.clr_types.specs.Types.{TypeRow}
 use Rattle.clr_types.proofs.ChangedLists.{out_of_filter, rising-distinct}
@@ -15,13 +15,12 @@ use Rattle.clr_model.specs.Machine.{Object}
 use Rattle.clr_model.specs.Reach.{suppressed_or_none}
 use Rattle.clr_view.specs.Flags.{is_suppressed_at}
 use Rattle.clr_view.specs.Memory.{is_left_name}
-use Rattle.clr_view.specs.SlotValues.{StandsAt}
 use Rattle.clr_view.specs.View.{IsHeld, objects_in}
 use Rattle.clr_view.proofs.Listings.{heap-rise}
 use Rattle.clr_view.proofs.Rises.{objects-rise}
 use Rattle.clr_mark.specs.Marks.{is_condemned_place}
 use Rattle.clr_mark.proofs.Rooting.{at_in}
-use Rattle.clr_collect.specs.Collecting.{AllStand, drops_at, HasUnflagged, HaveBeenJudged, unflagged, wakes, wakes_at}
+use Rattle.clr_collect.specs.Collecting.{AllStand, drops_at, HasUnflagged, HaveBeenJudged, unflagged, wakes_at}
 use Rattle.clr_collect.proofs.ClearedFlags.{left_unflagged, stands_unflagged, unflagged_all}
 use Rattle.clr_collect.proofs.JudgedEntries.{entries_after, ready_after, sorted_by_verdict, wakes-alive}
 use Rattle.clr_collect.proofs.LeftBelow.{left_below}
@@ -92,6 +91,7 @@ module _ (rows : List TypeRow) (h : HeapView) (heap : IsHeap h) (held : IsHeld r
         layout = u.layout;
         marks = u.marks;
         clean = u.clean;
+        free_heads = u.free_heads;
         limit = u.limit;
         rests = u.rests;
       }

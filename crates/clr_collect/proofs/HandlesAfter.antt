@@ -1,6 +1,6 @@
 -- Handles whose targets aren't left: clearing the three kinds in turn makes of each handle what a collection makes of
 -- it.
-use Rattle.std.proofs.Common.{◌≡◌, inl, inr, ℕ, ◌==◌, ◌&&◌, Bool, true, false, not, if◌then◌else◌, refl, ap, sym, ◌∙◌}
+use Rattle.std.proofs.Common.{◌≡◌, inl, ℕ, ◌==◌, ◌&&◌, Bool, true, false, not, if◌then◌else◌, refl, ap, sym, ◌∙◌}
 use Rattle.std.proofs.Common.{subst, List, Option, Some, None}
 use Rattle.std.specs.Option.{option_map}
 use Rattle.std.specs.FinMap as finmap
@@ -17,8 +17,7 @@ use Rattle.clr_handles.specs.Laws.{cleared, is_kind}
 use Rattle.clr_handles.specs.Places.{nulled_of}
 use Rattle.clr_heap.specs.View.{HeapView}
 use Rattle.clr_model.specs.Collection.{row_after}
-use Rattle.clr_model.specs.Lawful.{HasItsSecond}
-use Rattle.clr_model.specs.Lookups.{is_dependent}
+use Rattle.clr_types.specs.Kinds.{is_dependent}
 use Rattle.clr_model.specs.Reach.{SecondOf}
 use Rattle.clr_model.proofs.Joined.{before_change}
 use Rattle.clr_view.specs.World.{HandlesStand, HandleStands}

@@ -1,18 +1,14 @@
 -- Entries that are judged: first the woken ones go behind the f-reachable places, then flags are cleared, and then the
 -- dropped ones go.
-use Rattle.std.proofs.Common.{◌≡◌, ◌⊎◌, inl, inr, ℕ, ◌<◌, ◌≤◌, ◌==◌, ◌&&◌, ◌||◌, ◌++◌, ◌∷◌, Bool, true, false, not}
+use Rattle.std.proofs.Common.{◌≡◌, ℕ, ◌<◌, ◌&&◌, ◌||◌, ◌++◌, ◌∷◌, Bool, true, false, not}
 use Rattle.std.proofs.Common.{List}
-use Rattle.std.proofs.Common.{[], filter, map, drop, length, if◌then◌else◌, nat_lt, slice_index, get_or, refl, ap, sym}
-use Rattle.std.proofs.Common.{◌∙◌, subst, arith}
-use Rattle.std.specs.List.{list_any}
-use Rattle.std.proofs.lemmas.Bool.{and_from, and_parts, both_ways, cases_Bool, le-ltb, lt-ltb, ltb-true}
+use Rattle.std.proofs.Common.{[], filter, if◌then◌else◌, nat_lt, get_or, refl, ap, sym}
+use Rattle.std.proofs.Common.{◌∙◌}
+use Rattle.std.proofs.lemmas.Bool.{both_ways, le-ltb, lt-ltb, ltb-true}
 use Rattle.std.proofs.lemmas.List.{append-nil}
-use Rattle.clr_types.specs.Rising.{first, IsIn, later}
 use Rattle.clr_types.specs.Types.{TypeRow}
-use Rattle.clr_types.proofs.ChangedLists.{into_filter, out_of_filter}
-use Rattle.clr_types.proofs.ListMembers.{any-from, any-in, filter-on}
-use Rattle.clr_types.proofs.RisingLists.{in_cons}
-use Rattle.clr_final.specs.Queues.{ArePlacesJudged, is_alive, is_woken, Queues}
+use Rattle.clr_types.proofs.ListMembers.{filter-on}
+use Rattle.clr_final.specs.Queues.{ArePlacesJudged, is_alive, is_woken}
 use Rattle.clr_final.specs.declared.verdict.Verdict.{Verdict}
 use Rattle.clr_final.specs.declared.verdict.Verdict.TheVariants.{Alive, Dropped, Woken}
 use Rattle.clr_final.proofs.ListLaws.{judged-is_filter}

@@ -1,5 +1,5 @@
 -- What names objects still does while a collection marks: entries, handles and woken places.
-use Rattle.std.proofs.Common.{◌≡◌, ℕ, ◌++◌, ◌&&◌, not, List, drop, filter, length, ap, sym, ◌∙◌, subst}
+use Rattle.std.proofs.Common.{◌≡◌, ℕ, List, drop, filter, length, ap, sym, ◌∙◌, subst}
 use Rattle.std.specs.FinMap.{FinMap}
 use Rattle.std.specs.Ordering.{nat_cmp}
 use Rattle.std.proofs.Math.Seq.{drop-append_seam}
@@ -28,7 +28,7 @@ use Rattle.clr_collect.proofs.WorldNames.{entries_stand, handles_stand}
 
 module _ (rows : List TypeRow) (old : HeapView) (locals : List ℕ) (handles : FinMap nat_cmp Handle) (queues : Queues)
     (some : (m : Machine) × IsWorldOf (world_with rows old locals handles queues) m × IsPlaceNamed m)
-    (alive : HeapView) (a : HasMarkedAlive (world_with rows old locals handles queues) alive 2) where
+    (g : ℕ) (alive : HeapView) (a : HasMarkedAlive (world_with rows old locals handles queues) alive g) where
   stands-alive : (x : ℕ) → StandsAt rows old x → StandsAt rows alive x
   stands-alive x s = subst (λ (os : List Object). (o : Object) × IsIn o os × (o.place ≡ x)) (sym a.objects) s
 
@@ -36,29 +36,29 @@ module _ (rows : List TypeRow) (old : HeapView) (locals : List ℕ) (handles : F
   alive_entries x i =
       stands-alive x (entries_stand (world_with rows old locals handles queues) some.0 some.1 some.2 x i)
 
-  module _ (flat : HeapView) (f : HasUnflagged rows alive flat 2 queues.entries) where
+  module _ (flat : HeapView) (f : HasUnflagged rows alive flat g queues.entries) where
     stands-flat : (x : ℕ) → StandsAt rows old x → StandsAt rows flat x
-    stands-flat x s = stands_unflagged rows alive flat 2 queues.entries f x (stands-alive x s)
+    stands-flat x s = stands_unflagged rows alive flat g queues.entries f x (stands-alive x s)
 
     pub flat_handles : HandlesStand rows flat handles
     flat_handles = still_stand rows rows old flat stands-flat handles
         (handles_stand (world_with rows old locals handles queues) some.0 some.1 some.2)
 
     -- the woken places are entries
-    pub woken_stand : (judged : Queues) → HaveBeenJudged rows alive 2 queues judged
+    pub woken_stand : (judged : Queues) → HaveBeenJudged rows alive g queues judged
         → AreObjects rows flat (drop (length queues.ready) judged.ready)
     woken_stand judged j x r =
-        let among : IsIn x (filter (is_woken_at rows alive 2) queues.entries) =
+        let among : IsIn x (filter (is_woken_at rows alive g) queues.entries) =
         subst (IsIn x) (ap (drop (length queues.ready)) j.ready
-        ∙ drop-append_seam queues.ready (filter (is_woken_at rows alive 2) queues.entries)) r.listed in
-        let entry = out_of_filter (is_woken_at rows alive 2) x queues.entries among in
-        stands_unflagged rows alive flat 2 queues.entries f x (alive_entries x entry.1)
+        ∙ drop-append_seam queues.ready (filter (is_woken_at rows alive g) queues.entries)) r.listed in
+        let entry = out_of_filter (is_woken_at rows alive g) x queues.entries among in
+        stands_unflagged rows alive flat g queues.entries f x (alive_entries x entry.1)
 
     module _ (short : FinMap nat_cmp Handle)
-        (is : short ≡ map_values (cleared Weak (is_left_name rows flat 2)) handles) where
+        (is : short ≡ map_values (cleared Weak (is_left_name rows flat g)) handles) where
       pub short_handles : HandlesStand rows flat short
       short_handles = subst (HandlesStand rows flat) (sym is)
-          (cleared_stand rows flat Weak (is_left_name rows flat 2) handles flat_handles)
+          (cleared_stand rows flat Weak (is_left_name rows flat g) handles flat_handles)
 
       pub new_handles : (new : HeapView) → objects_in rows new ≡ objects_in rows flat → HandlesStand rows new short
       new_handles new same = still_stand rows rows flat new

@@ -1,7 +1,7 @@
 -- A collection that sweeps, for every generation and every machine: from tests of what it keeps, and the marks that
 -- agree with them.
 use Rattle.std.proofs.Common.{◌≡◌, inl, inr, ℕ, ◌+◌, ◌≤◌, ◌==◌, ◌&&◌, ◌||◌, Bool, true, false, not, if◌then◌else◌}
-use Rattle.std.proofs.Common.{nat_le, nat_lt, List, [], ◌∷◌, ◌++◌, filter, map, count_by, sum_by, length, refl, ap}
+use Rattle.std.proofs.Common.{nat_le, nat_lt, List, [], ◌++◌, filter, map, count_by, sum_by, length, refl, ap}
 use Rattle.std.proofs.Common.{ap₂, sym, ◌∙◌, subst, arith}
 use Rattle.std.specs.Prelude.{MatchBool}
 use Rattle.std.specs.List.{list_any}
@@ -96,7 +96,7 @@ module _ (m : Machine) (h : IsLaid m) (g : ℕ) (least : g ≤ 2) (first kept : 
       go false e = refl
 
   -- sweeping the large heap changes no generation
-  laid-generation : (place : ℕ) → generation laid place ≡ generation small place
+  pub laid-generation : (place : ℕ) → generation laid place ≡ generation small place
   laid-generation place = go (g == 2) refl
     where
       swept : ℕ → Layout
@@ -272,14 +272,14 @@ module _ (m : Machine) (h : IsLaid m) (g : ℕ) (least : g ≤ 2) (first kept : 
 
     module _ (swept : HeapView) (s : HasSwept rows marked swept g) where
       -- of the objects those stay that are kept, without the flags of entries that are dropped
-      objects-after : objects_after m first kept [] ≡ objects_in rows swept
+      pub objects-after : objects_after m first kept [] ≡ objects_in rows swept
       objects-after =
           sym (s.objects
           ∙ ap (filter (is_left marked g)) (sym memory.objects)
           ∙ filter-map change (is_left marked g) m.objects
           ∙ ap (map change) (filter-on (is_left marked g) (λ o. kept o.name) m.objects left-is))
 
-      layout-swept : layout_in rows swept ≡ laid
+      pub layout-swept : layout_in rows swept ≡ laid
       layout-swept = s.layout plain kept memory marks ∙ ap (swept_layout m.layout g) survive-plain ∙ laid-is
 
       -- a sweep gives no context

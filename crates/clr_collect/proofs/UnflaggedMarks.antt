@@ -5,7 +5,6 @@ use Rattle.clr_types.specs.Types.{TypeRow}
 use Rattle.clr_heap.specs.View.{HeapView, IsHeap}
 use Rattle.clr_model.specs.Machine.{Object}
 use Rattle.clr_model.specs.Reach.{SlotNames}
-use Rattle.clr_view.specs.Marks.{Marked}
 use Rattle.clr_view.specs.Memory.{is_left_name}
 use Rattle.clr_view.specs.View.{objects_in}
 use Rattle.clr_mark.specs.Marks.{is_condemned_place, LeadsTo}
@@ -13,7 +12,7 @@ use Rattle.clr_mark.specs.Waiting.{IsGray, IsSettled, MarkerView}
 use Rattle.clr_collect.specs.Collecting.{HasUnflagged}
 use Rattle.clr_collect.proofs.ClearedFlags.{stands_unflagged}
 use Rattle.clr_collect.proofs.KeptMarks.{edge-was}
-use Rattle.clr_collect.proofs.LeftBelow.{condemned-is}
+use Rattle.clr_collect.proofs.LeftCases.{condemned-is}
 
 module _ (rows : List TypeRow) (old new : HeapView) (g : ℕ) (entries : List ℕ)
     (u : HasUnflagged rows old new g entries) where

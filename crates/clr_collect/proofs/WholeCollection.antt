@@ -1,14 +1,16 @@
 -- A whole collection: what is marked is what is kept, and the parts make the collection of every machine whose world it
 -- is.
 use Rattle.std.proofs.Common.{◌≡◌, ◌≢◌, ℕ, ◌≤◌, Bool, true, false, if◌then◌else◌, List, [], ◌++◌, refl, ap, sym}
-use Rattle.std.proofs.Common.{◌∙◌, subst, arith, None, Option, Some, IsSome}
+use Rattle.std.proofs.Common.{◌∙◌, subst, arith, None, Option, Some, IsSome, inr, ◌%◌, ◌<◌, ◌==◌, true≢false}
+use Rattle.std.specs.Prelude.{MatchBool}
+use Rattle.std.proofs.lemmas.Bool.{lt-leb}
 use Rattle.std.specs.List.{AllByRecursion}
 use Rattle.std.specs.FinMap.{FinMap}
 use Rattle.std.specs.Ordering.{nat_cmp}
 use Rattle.clr_types.specs.LawfulLayout.{DoesNotCross, IsTiled}
 use Rattle.clr_types.specs.Ranges.{by_place, Piece}
 use Rattle.clr_types.specs.Rising.{IsIn}
-use Rattle.clr_types.specs.Segments.{Layout, rest_pieces, segment_of}
+use Rattle.clr_types.specs.Segments.{generation, Layout, rest_pieces, segment_of}
 use Rattle.clr_types.specs.Types.{TypeRow}
 use Rattle.clr_types.specs.declared.handle.Handle.{Handle}
 use Rattle.clr_types.specs.declared.item.Item.{Item}
@@ -26,40 +28,43 @@ use Rattle.clr_model.specs.Machine.{Machine, Object}
 use Rattle.clr_model.specs.Picture.{picture}
 use Rattle.clr_model.proofs.CollectFollows.{after_sweep_is_sound}
 use Rattle.clr_model.proofs.GivenUp.{given_up_laid}
-use Rattle.clr_model.proofs.LawfulSurvivors.{generation-least}
 use Rattle.clr_model.proofs.SeenStands.{picture_still}
 use Rattle.clr_view.specs.Clean.{AreClean}
-use Rattle.clr_view.specs.Marks.{has_mark, IsUnmarked}
+use Rattle.clr_view.specs.Marks.{has_mark, IsUnmarked, Marked}
 use Rattle.clr_view.specs.Memory.{is_left, is_left_name, is_reached_by, IsMemoryOf, word_without_mark}
 use Rattle.clr_view.specs.SlotValues.{StandsAt}
-use Rattle.clr_view.specs.View.{layout_in, objects_in, tail_of}
+use Rattle.clr_view.specs.View.{AreFreeHeads, layout_in, objects_in, tail_of}
 use Rattle.clr_view.specs.World.{IsWorldOf, World}
 use Rattle.clr_view.proofs.CleanWords.{clean_but_marks}
 use Rattle.clr_view.proofs.ObjectItems.{stands-item}
 use Rattle.clr_view.proofs.Standing.{standing}
 use Rattle.clr_ctx.specs.Contexts.{IsIndex}
+use Rattle.clr_covers.specs.Covers.{CoverView, spans}
+use Rattle.clr_bricks.specs.Bricks.{entry_at}
+use Rattle.clr_generations.specs.Laws.{BrickLaw}
+use Rattle.clr_generations.specs.Tables.{AreTablesOf}
+use Rattle.std.specs.Prelude.{ℤ}
+use Rattle.clr_collect.proofs.SweptCards.{tables_swept}
 use Rattle.clr_sweep.specs.Swept.{HasSwept, tally_of}
 use Rattle.clr_sweep.specs.declared.tally.Tally.{Tally}
 use Rattle.clr_sweep.proofs.ObjectsSwept.{mark-elsewhere}
 use Rattle.clr_collect.specs.Collecting.{HasMarkedKept, LeavesKept, objects_unflagged, world_with}
-use Rattle.clr_collect.specs.Released.{HasReleased}
-use Rattle.clr_collect.proofs.SegmentsLost.{lost_objects}
+use Rattle.clr_collect.specs.Released.{HasLost, HasReleased}
+use Rattle.clr_collect.proofs.LeftCases.{condemned-is}
+use Rattle.clr_collect.proofs.SegmentsLost.{lost-refl, lost_heads, lost_objects}
 use Rattle.clr_collect.proofs.SweepCollects.{rests_swept, swept_machine, swept_memory, sweep_collects, told}
 use Rattle.clr_collect.proofs.SweptLayouts.{whole_tail}
 use Rattle.clr_collect.proofs.YoungItems.{none_young}
 
 -- The heap of a world before its collection, and before its sweep, with what is kept marked.
 module _ (w : World) (marked : HeapView) (handles : FinMap nat_cmp Handle) (queues : Queues)
-    (k : HasMarkedKept w marked handles queues 2) where
+    (g : ℕ) (least : g ≤ 2) (k : HasMarkedKept w marked handles queues g) where
   abbrev rows : List TypeRow
   rows = w.rows
 
   -- what is left passes
   abbrev pub left : ℕ → Bool
-  left = is_left_name w.rows marked 2
-
-  two : 2 ≤ 2
-  two = omega arith
+  left = is_left_name w.rows marked g
 
   -- ---- one machine when its contexts are given up
 
@@ -100,32 +105,52 @@ module _ (w : World) (marked : HeapView) (handles : FinMap nat_cmp Handle) (queu
 
   -- ---- afterwards
 
-  module _ (swept : HeapView) (swept_heap : IsHeap swept) (s : HasSwept w.rows marked swept 2) where
+  module _ (swept : HeapView) (swept_heap : IsHeap swept) (s : HasSwept w.rows marked swept g) where
     -- a sweep gives no context
     pub none_given : Known → swept.rests ≡ no_rests
     none_given (m, is, named, idle) =
-        rests_swept (begun m) (begun_laid m named) 2 two k.first left (k.leaves m is named).tests w.rows marked
+        rests_swept (begun m) (begun_laid m named) g least k.first left (k.leaves m is named).tests w.rows marked
         (due_memory m is named) k.marks swept s
         ∙ ap (λ (l : Layout). l.rests) (due_memory m is named).layout
         ∙ k.no_contexts
 
-    module _ (new : HeapView) (r : HasReleased w.rows swept new) where
+    -- cards and bricks of the swept heap
+    pub whole_tables : Known → (cards : List (CoverView ℕ)) (was bricks : List (CoverView ℤ))
+        → AreTablesOf w.rows marked cards was → spans bricks ≡ spans was
+        → BrickLaw w.rows (frame swept) (objects_in w.rows swept) (entry_at bricks)
+        → AreTablesOf w.rows swept cards bricks
+    whole_tables (m, is, named, idle) =
+        tables_swept (begun m) (begun_laid m named) g least k.first left (k.leaves m is named).tests w.rows marked
+        (due_memory m is named) k.marks swept s
+
+    module _ (new : HeapView) (ended : MatchBool (g == 2) (HasReleased w.rows swept new) (new ≡ swept)) where
+      -- whether or not segments were given back, all items stay
+      pub lost : HasLost w.rows swept new
+      lost = go (g == 2) ended
+        where
+          go : (b : Bool) → MatchBool b (HasReleased w.rows swept new) (new ≡ swept) → HasLost w.rows swept new
+          go true r = r.lost
+          go false same = subst (HasLost w.rows swept) (sym same) (lost-refl w.rows swept swept_heap s.held)
+
       abbrev pub world : World
       world = world_with w.rows new w.locals handles queues
+
+      pub limit_after : new.limit ≡ w.heap.limit
+      limit_after = ap (λ (h : HeapView). h.limit) lost.others ∙ s.limit ∙ k.limit
 
       -- ---- one machine
 
       module _ (m : Machine) (is : IsWorldOf w m) (named : IsPlaceNamed m) where
-        abbrev leaves : LeavesKept (begun m) 2 k.first left (objects_in w.rows marked) handles queues
+        abbrev leaves : LeavesKept (begun m) g k.first left (objects_in w.rows marked) handles queues
         leaves = k.leaves m is named
 
         abbrev after : Collected → Machine
-        after = swept_machine (begun m) (begun_laid m named) 2 two k.first left leaves.tests
+        after = swept_machine (begun m) (begun_laid m named) g least k.first left leaves.tests
 
         memory-after : (answer : Collected) → IsMemoryOf w.rows new (after answer)
         memory-after =
-            swept_memory (begun m) (begun_laid m named) 2 two k.first left leaves.tests w.rows marked
-            (due_memory m is named) k.marks swept s swept_heap new r
+            swept_memory (begun m) (begun_laid m named) g least k.first left leaves.tests w.rows marked
+            (due_memory m is named) k.marks swept s swept_heap new ended
 
         world-after : (answer : Collected) → IsWorldOf world (after answer)
         world-after answer = record {
@@ -136,18 +161,18 @@ module _ (w : World) (marked : HeapView) (handles : FinMap nat_cmp Handle) (queu
           ready = sym leaves.ready;
         }
 
-        collects : (tally : Tally) → tally ≡ tally_of w.rows marked 2 → (answer : Collected)
-            → answer ≡ told (begun m) (begun_laid m named) 2 two k.first left leaves.tests tally
-            → Collects m 2 Sweep answer (after answer)
+        collects : (tally : Tally) → tally ≡ tally_of w.rows marked g → (answer : Collected)
+            → answer ≡ told (begun m) (begun_laid m named) g least k.first left leaves.tests tally
+            → Collects m g Sweep answer (after answer)
         collects tally counted answer same =
-            sweep_collects (begun m) (begun_laid m named) 2 two k.first left leaves.tests w.rows marked
+            sweep_collects (begun m) (begun_laid m named) g least k.first left leaves.tests w.rows marked
             (due_memory m is named) k.marks answer
-            (same ∙ ap (told (begun m) (begun_laid m named) 2 two k.first left leaves.tests) counted)
+            (same ∙ ap (told (begun m) (begun_laid m named) g least k.first left leaves.tests) counted)
 
       -- THE COLLECTION of every machine whose world it is
-      pub whole_collected : (tally : Tally) → tally ≡ tally_of w.rows marked 2 → (answer : Collected)
+      pub whole_collected : (tally : Tally) → tally ≡ tally_of w.rows marked g → (answer : Collected)
           → answer ≡ record {
-            generation = 2;
+            generation = g;
             compacted = false;
             kept = tally.kept;
             freed = tally.freed;
@@ -155,12 +180,12 @@ module _ (w : World) (marked : HeapView) (handles : FinMap nat_cmp Handle) (queu
             promoted2 = tally.promoted2;
           }
           → (m : Machine) → IsWorldOf w m → IsPlaceNamed m → lowest_in_step m ≡ None
-          → (after : Machine) × Collects m 2 Sweep answer after × IsWorldOf world (picture after)
+          → (after : Machine) × Collects m g Sweep answer after × IsWorldOf world (picture after)
       whole_collected tally counted answer same m is named idle =
           let c = collects m is named tally counted answer same in
           let still =
           picture_still (after m is named answer)
-          (after_sweep_is_sound m named idle answer (after m is named answer) c) in (
+          (after_sweep_is_sound m named idle g least answer (after m is named answer) c) in (
             after m is named answer,
             c,
             subst (IsWorldOf world) (sym still)
@@ -171,19 +196,53 @@ module _ (w : World) (marked : HeapView) (handles : FinMap nat_cmp Handle) (queu
       pub new_index : Known → (index : Option (List Piece)) → index ≡ Some [] → IsIndex w.rows new index
       new_index (m, is, named, idle) index none =
           let answer : Collected =
-          record { generation = 2; compacted = false; kept = 0; freed = 0; promoted1 = 0; promoted2 = 0 } in
+          record { generation = g; compacted = false; kept = 0; freed = 0; promoted1 = 0; promoted2 = 0 } in
           let layout = (memory-after m is named answer).layout in
           let tail : new.start0 ≡ tail_of new =
-          whole_tail (begun m) (begun_laid m named) 2 two left (after m is named answer).objects (layout_in w.rows new)
+          whole_tail (begun m) (begun_laid m named) g least left (after m is named answer).objects
+          (layout_in w.rows new)
           (sym layout) in
-          subst (IsIndex w.rows new) (sym none) (sym (none_young w.rows new r.lost.heap r.lost.held tail))
+          subst (IsIndex w.rows new) (sym none) (sym (none_young w.rows new lost.heap lost.held tail))
 
       -- ---- marks
 
-      -- no mark is left
+      -- an object of the swept heap that isn't condemned has the word that it had before
+      older-word : (x : ℕ) → StandsAt w.rows swept x → g < generation (frame marked) x
+          → word_of swept x ≡ word_of marked x
+      older-word x stands above =
+          let i = item_at w.rows (word_of swept) x in
+          let at = stands-item w.rows swept swept_heap s.held x stands in
+          let here = standing w.rows swept swept_heap s.held i at.listed in
+          let least = here.least in
+          let place = at.at in
+          let z : x % 8 ≡ 0 = subst (λ (p : ℕ). p % 8 ≡ 0) at.at here.aligned in
+          let old : is_reached_by marked g i.place ≡ false =
+          ap (is_reached_by marked g) at.at ∙ lt-leb (generation (frame marked) x) g above in
+          s.cells i x at.listed at.object z (omega arith) (omega arith)
+          ∙ ap (λ (b : Bool). if b then word_without_mark marked i x else word_of marked x) old
+
+      stands-marked : (x : ℕ) → StandsAt w.rows swept x → StandsAt w.rows marked x
+      stands-marked x (o, i, at) = (
+        o,
+        (out_of_filter (is_left marked g) o (objects_in w.rows marked)
+            (subst (λ (os : List Object). IsIn o os) s.objects i)).1,
+        at,
+      )
+
+      -- no mark is left in the swept heap, since no older object had one
+      swept-unmarked : IsUnmarked w.rows swept
+      swept-unmarked x u =
+          let above = s.unmarked x u in
+          let was : Marked w.rows marked x = record {
+            stands = stands-marked x u.stands;
+            mark = sym (ap has_mark (older-word x u.stands above)) ∙ u.mark;
+          } in
+          true≢false (sym (k.young x was) ∙ condemned-is marked g x ∙ lt-leb (generation (frame marked) x) g above)
+
+      -- nor in what is left of it
       pub none_marked : IsUnmarked w.rows new
       none_marked x u =
-          let objects = lost_objects w.rows swept new swept_heap s.held r.lost in
+          let objects = lost_objects w.rows swept new swept_heap s.held lost in
           let stands : StandsAt w.rows swept x = subst (λ (os : List Object). (o : Object) × IsIn o os × (o.place ≡ x))
           objects u.stands in
           let i = item_at w.rows (word_of swept) x in
@@ -191,10 +250,14 @@ module _ (w : World) (marked : HeapView) (handles : FinMap nat_cmp Handle) (queu
           let here = standing w.rows swept swept_heap s.held i at.listed in
           let least = here.least in
           let place = at.at in
-          let same : word_of new x ≡ word_of swept x = r.lost.cells i x at.listed (omega arith) (omega arith) in
-          let old = s.unmarked x (record { stands = stands; mark = sym (ap has_mark same) ∙ u.mark }) in
-          let most = generation-least (frame marked) x in
-          absurd (omega arith)
+          let same : word_of new x ≡ word_of swept x = lost.cells i x at.listed (omega arith) (omega arith) in
+          swept-unmarked x (record { stands = stands; mark = sym (ap has_mark same) ∙ u.mark })
+
+      -- ---- free heads
+
+      pub heads_after : AreFreeHeads w.rows w.heap → AreFreeHeads w.rows new
+      heads_after heads =
+          lost_heads w.rows swept new swept_heap s.held lost (s.free_heads (inr (k.free_heads heads)))
 
       -- ---- clean words
 
@@ -203,9 +266,9 @@ module _ (w : World) (marked : HeapView) (handles : FinMap nat_cmp Handle) (queu
       clean-swept =
           clean_but_marks w.rows marked swept k.heap k.held swept_heap s.held (λ o i.
           let listed = subst (λ (os : List Object). IsIn o os) s.objects i in
-          (out_of_filter (is_left marked 2) o (objects_in w.rows marked) listed).1)
+          (out_of_filter (is_left marked g) o (objects_in w.rows marked) listed).1)
           (λ i b was l object aligned low high apart.
-          s.cells i b l object aligned low high ∙ unmarked-elsewhere (is_reached_by marked 2 i.place) i b apart)
+          s.cells i b l object aligned low high ∙ unmarked-elsewhere (is_reached_by marked g i.place) i b apart)
         where
           unmarked-elsewhere : (t : Bool) (i : Item) (b : ℕ) → b ≢ i.place
               → (if t then word_without_mark marked i b else word_of marked b) ≡ word_of marked b
@@ -214,9 +277,9 @@ module _ (w : World) (marked : HeapView) (handles : FinMap nat_cmp Handle) (queu
 
       clean-lost : AreClean w.rows swept → AreClean w.rows new
       clean-lost =
-          clean_but_marks w.rows swept new swept_heap s.held r.lost.heap r.lost.held
-          (λ o. subst (λ (os : List Object). IsIn o os) (lost_objects w.rows swept new swept_heap s.held r.lost))
-          (λ i b was l object aligned low high apart. r.lost.cells i b was low high)
+          clean_but_marks w.rows swept new swept_heap s.held lost.heap lost.held
+          (λ o. subst (λ (os : List Object). IsIn o os) (lost_objects w.rows swept new swept_heap s.held lost))
+          (λ i b was l object aligned low high apart. lost.cells i b was low high)
 
       -- CLEAN WORDS stay clean
       pub clean_after : AreClean w.rows w.heap → AreClean w.rows new

@@ -1,6 +1,6 @@
 -- What names objects in a sound world: an object stands wherever a slot, a local, a handle, an entry or the f-reachable
 -- queue says.
-use Rattle.std.proofs.Common.{◌≡◌, ◌⊎◌, inl, inr, ℕ, ◌<◌, List, refl, sym, ◌∙◌, ap, subst, arith, Some}
+use Rattle.std.proofs.Common.{◌≡◌, inl, inr, ℕ, ◌<◌, List, sym, ◌∙◌, subst, arith, Some}
 use Rattle.std.specs.FinMap as finmap
 use Rattle.std.specs.FinMap.{FinMap}
 use Rattle.std.specs.Ordering.{nat_cmp}
@@ -18,7 +18,7 @@ use Rattle.clr_model.proofs.NamedWell.{AreNamed, HasObject, lawful-named}
 use Rattle.clr_view.specs.SlotValues.{StandsAt}
 use Rattle.clr_view.specs.View.{objects_in}
 use Rattle.clr_view.specs.World.{HandlesStand, IsNullOrStands, IsWorldOf, World}
-use Rattle.clr_mark.specs.Roots.{AreObjects, IsRoot}
+use Rattle.clr_mark.specs.Roots.{AreObjects}
 use Rattle.clr_collect.specs.Collecting.{AllStand}
 
 module _ (w : World) (m : Machine) (is : IsWorldOf w m) (named : IsPlaceNamed m) where

@@ -79,7 +79,7 @@ fn obey(runtime: &mut Runtime, alloc: Global, line: &[u8], command: Command<'_>)
         | Command::Suppress { .. }
         | Command::Reregister { .. }
         | Command::Finalizer { .. } => obey_handle(runtime, line, command),
-        Command::Collect { t, g, how } if is_full_sweep(g, how) => {
+        Command::Collect { t, g, how } if is_sweep(g, how) => {
             told_collected(runtime.collect(t, g, how))
         }
         Command::DumpHeap { filter: _ } if line == b"dumpheap".as_slice() => dump(alloc, runtime),
@@ -87,12 +87,12 @@ fn obey(runtime: &mut Runtime, alloc: Global, line: &[u8], command: Command<'_>)
     }
 }
 
-// Whether a collection is the one that is built.
-fn is_full_sweep(g: u8, how: How) -> bool
-    ensures { result ≡ stage.is_full_sweep g how }
+// Whether a collection is one of those that are built.
+fn is_sweep(g: u8, how: How) -> bool
+    ensures { result ≡ stage.is_sweep g how }
 {
     match how {
-        How::Sweep => g == 2,
+        How::Sweep => g <= 2,
         How::Decide | How::Compact => false,
     }
 }

@@ -45,7 +45,7 @@ born_index rows mid new t type n (Some ps) newborn is = is ∙ sym (ap young_ite
 -- ---- what a heap in which room was made still has
 
 module _ (rows : List TypeRow) (h mid : HeapView) (t size : ℕ) (made : HasRoomMade rows h mid t size true) where
-  same_objects : objects_in rows mid ≡ objects_in rows h
+  pub same_objects : objects_in rows mid ≡ objects_in rows h
   same_objects = go made
     where
       go : HasRoomMade rows h mid t size true → objects_in rows mid ≡ objects_in rows h

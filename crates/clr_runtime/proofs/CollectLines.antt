@@ -1,5 +1,7 @@
 -- The line that collects, on what is seen.
-use Rattle.std.proofs.Common.{◌≡◌, ◌∙◌, ℕ, ◌+◌, List, [], ◌∷◌, length, map, refl, ap, subst, arith, None}
+use Rattle.std.proofs.Common.{◌≡◌, ◌≢◌, ◌∙◌, ℕ, ◌+◌, ◌^◌, ◌<◌, ◌≤◌, ◌==◌, if◌then◌else◌, Bool, List, [], ◌∷◌, length, map, refl, ap}
+use Rattle.std.proofs.Common.{subst, arith, None}
+use Rattle.std.proofs.lemmas.Bool.{ne_eqb}
 use Rattle.clr_view.specs.Clean.{AreClean}
 use Rattle.clr_view.specs.Marks.{IsUnmarked}
 use Rattle.clr_view.specs.Shown.{shown}
@@ -18,9 +20,10 @@ use Rattle.clr_model.specs.Outcomes.{answered}
 use Rattle.clr_model.specs.Picture.{picture, renamed_step}
 use Rattle.clr_model.specs.Run.{Follows}
 use Rattle.clr_model.proofs.CollectFollows.{collect_follows}
+use Rattle.clr_model.proofs.PieceBytes.{sums_bounded}
 use Rattle.clr_model.proofs.SeenStands.{follows_sound}
 use Rattle.clr_runtime.specs.Checks.{thread_refusal}
-use Rattle.clr_runtime.specs.RuntimeView.{IsShown}
+use Rattle.clr_runtime.specs.RuntimeView.{collected_sums, IsShown}
 use Rattle.clr_runtime.proofs.NamesChecked.{may_run}
 
 -- ---- what a collection leaves of a machine
@@ -71,6 +74,11 @@ module _ (m : Machine) (g : ℕ) (how : How) (answer : Collected) (after : Machi
 
 -- ---- the line
 
+-- both sums of promoted bytes are words
+record HaveSmallSums (sums : Sums) : Type 0 where
+  first : sums.promoted1 < 2 ^ 64
+  second : sums.promoted2 < 2 ^ 64
+
 -- the world of a runtime is that of what it shows
 world-seen : {w : World} {sums : Sums} {options : Options} → IsWorldOf w (shown w sums options)
 world-seen = record {
@@ -85,37 +93,58 @@ pub whole_world : {w : World} {sums : Sums} {options : Options} → IsShown w su
     → (m : Machine) × IsWorldOf w m × IsPlaceNamed m × (lowest_in_step m ≡ None)
 whole_world {w = w} {sums = sums} {options = options} is = (shown w sums options, world-seen, is.sound, refl)
 
--- the sums after a full collection
-abbrev pub collected_sums : Collected → Sums
-collected_sums answer =
-    record { spent0 = 0; spent_large = 0; promoted1 = answer.promoted1; promoted2 = answer.promoted2 }
-
-module _ {w : World} {sums : Sums} {options : Options} (is : IsShown w sums options) (t : ℕ)
+module _ {w : World} {sums : Sums} {options : Options} (is : IsShown w sums options) (t g : ℕ) (least : g ≤ 2)
     (passed : thread_refusal (shown w sums options) t ≡ None) (new : World) (answer : Collected)
     (told : (m : Machine) → IsWorldOf w m → IsPlaceNamed m → lowest_in_step m ≡ None
-    → (after : Machine) × Collects m 2 Sweep answer after × IsWorldOf new (picture after)) where
+    → (after : Machine) × Collects m g Sweep answer after × IsWorldOf new (picture after)) where
   abbrev s : Machine
   s = shown w sums options
 
+  -- the sums afterwards
+  abbrev after_sums : Sums
+  after_sums = collected_sums sums g answer.promoted1 answer.promoted2
+
   -- the collection is done
-  pub collect_done : Follows (shown w sums options) (collect_heap t 2 Sweep) (answered (reply.Collected answer))
-      (shown new (collected_sums answer) options)
+  pub collect_done : Follows (shown w sums options) (collect_heap t g Sweep) (answered (reply.Collected answer))
+      (shown new (collected_sums sums g answer.promoted1 answer.promoted2) options)
   collect_done =
       let (after, collects, world) = told s world-seen is.sound refl in
-      subst (Follows s (collect_heap t 2 Sweep) (answered (reply.Collected answer)))
-      (collected_picture s 2 Sweep answer after refl collects new world)
-      (collect_follows s t 2 Sweep answer after (omega arith) (may_run s t refl passed) refl collects)
+      subst (Follows s (collect_heap t g Sweep) (answered (reply.Collected answer)))
+      (collected_picture s g Sweep answer after refl collects new world)
+      (collect_follows s t g Sweep answer after least (may_run s t refl passed) refl collects)
+
+  sound-after : IsPlaceNamed (shown new after_sums options)
+  sound-after = follows_sound s (collect_heap t g Sweep) (answered (reply.Collected answer))
+      (shown new after_sums options) is.sound collect_done
+
+  bounded-after : HaveSmallSums after_sums
+  bounded-after =
+      let bounds = sums_bounded (shown new after_sums options) sound-after.lawful in
+      let limit = sound-after.lawful.options.limit_greatest in
+      let first = bounds.promoted1 in
+      let second = bounds.promoted2 in
+      record { first = omega arith; second = omega arith }
+
+  -- the sums stay words: the bytes that they count are within the limit
+  pub first_fits : g ≡ 0 → sums.promoted1 + answer.promoted1 < 2 ^ 64
+  first_fits zero =
+      subst (λ (n : ℕ). (if n == 0 then sums.promoted1 + answer.promoted1 else answer.promoted1) < 2 ^ 64) zero
+      bounded-after.first
+
+  pub second_fits : g ≢ 2 → sums.promoted2 + answer.promoted2 < 2 ^ 64
+  second_fits other =
+      subst (λ (b : Bool). (if b then answer.promoted2 else sums.promoted2 + answer.promoted2) < 2 ^ 64)
+      (ne_eqb g 2 other) bounded-after.second
 
   -- what holds of the parts of a runtime still holds
   pub collect_kept : length new.locals ≡ 1024 → IsHeld new.rows new.heap → IsUnmarked new.rows new.heap
       → AreFreeHeads new.rows new.heap → AreClean new.rows new.heap
-      → IsShown new (collected_sums answer) options
+      → IsShown new (collected_sums sums g answer.promoted1 answer.promoted2) options
   collect_kept count held unmarked heads clean = record {
     locals = count;
     held = held;
     unmarked = unmarked;
     free_heads = heads;
     clean = clean;
-    sound = follows_sound s (collect_heap t 2 Sweep) (answered (reply.Collected answer))
-        (shown new (collected_sums answer) options) is.sound collect_done;
+    sound = sound-after;
   }

@@ -20,7 +20,8 @@ use Rattle.clr_model.specs.declared.Reply.TheVariants.{Done, HandleNumber, Place
 use Rattle.clr_model.specs.Checks.{list_of}
 use Rattle.clr_model.specs.Instructions.{create_handle, fetch_second, fetch_target, free_handle}
 use Rattle.clr_model.specs.LineGrammar.{IsHandleForm}
-use Rattle.clr_model.specs.Lookups.{is_dependent, local_index, local_of}
+use Rattle.clr_model.specs.Lookups.{local_index, local_of}
+use Rattle.clr_types.specs.Kinds.{is_dependent}
 use Rattle.clr_model.specs.Machine.{Machine, Options, Sums}
 use Rattle.clr_model.specs.Outcomes.{answered, refused}
 use Rattle.clr_model.specs.Run.{Follows}

@@ -14,3 +14,4 @@ pub mod BirthLines
 pub mod BirthDone
 pub mod HandleLines
 pub mod FinalizerLines
+pub mod TablesKept

@@ -1,5 +1,5 @@
 -- What holds of the parts of a runtime, and the machine that they show.
-use Rattle.std.specs.Prelude.{◌≡◌, length}
+use Rattle.std.specs.Prelude.{◌≡◌, ℕ, ◌+◌, ◌==◌, if◌then◌else◌, length}
 use Rattle.clr_view.specs.Clean.{AreClean}
 use Rattle.clr_view.specs.Marks.{IsUnmarked}
 use Rattle.clr_view.specs.Shown.{shown}
@@ -8,6 +8,7 @@ use Rattle.clr_view.specs.World.{World}
 use Rattle.clr_model.specs.Machine.{Machine, Options, Sums}
 use Rattle.clr_model.specs.Lawful.{IsPlaceNamed}
 use Rattle.clr_ctx.specs.Contexts.{IsIndex}
+use Rattle.clr_generations.specs.Tables.{AreTablesOf}
 use Rattle.clr_runtime.specs.Options.{options_of}
 use Rattle.clr_runtime.specs.declared.runtime.Runtime.TheInside.{Inside}
 use Rattle.clr_runtime.specs.declared.sums.Sums as code
@@ -18,6 +19,15 @@ sums_of s = record {
   spent_large = s.spent_large;
   promoted1 = s.promoted1;
   promoted2 = s.promoted2;
+}
+
+-- the sums after a collection of generation g that promoted so many bytes to generations 1 and 2
+abbrev pub collected_sums : Sums → ℕ → ℕ → ℕ → Sums
+collected_sums s g promoted1 promoted2 = record {
+  spent0 = 0;
+  spent_large = if g == 2 then 0 else s.spent_large;
+  promoted1 = if g == 0 then s.promoted1 + promoted1 else promoted1;
+  promoted2 = if g == 2 then promoted2 else s.promoted2 + promoted2;
 }
 
 -- the types, the heap, and all that names objects from outside of it
@@ -44,9 +54,10 @@ pub record IsShown (w : World) (sums : Sums) (options : Options) : Type 0 where
   pub clean : AreClean w.rows w.heap
   pub sound : IsPlaceNamed (shown w sums options)
 
--- what holds of each runtime: that, its contexts keep the index of this heap, and segments are limited as the options
--- say
+-- what holds of each runtime: that, its cards and bricks are those of its heap, its contexts keep the index of this
+-- heap, and segments are limited as the options say
 pub record IsRuntime (r : Inside) : Type 0 where
   pub shown : IsShown (world_of r) (sums_of r.sums) (options_of r.options)
+  pub tables : AreTablesOf r.types r.heap r.cards r.bricks
   pub index : IsIndex r.types r.heap r.contexts
   pub limit : r.heap.limit ≡ r.options.limit

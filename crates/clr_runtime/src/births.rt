@@ -9,10 +9,10 @@ use crate::checks::index_of;
 use crate::runtime::{LOCALS_OF_A_THREAD, Runtime};
 use clr_ctx::Contexts;
 use clr_final::Finals;
+use clr_generations::bear;
 use clr_heap::Heap;
 use clr_model::Refusal;
 use clr_types::{TypeId, Types};
-use clr_view::bear;
 
 /// Objects of this many bytes and more are large.
 const LARGE: u64 = 85_000;
@@ -65,6 +65,7 @@ impl Runtime {
         let place = bear(
             &mut self.heap,
             &self.types,
+            &mut self.bricks,
             thread,
             type_id,
             len.unwrap_or(0),

@@ -1,6 +1,7 @@
 //! The lines that make, follow and free handles.
 ghost use Rattle.std.specs.Prelude.{◌≡◌, ◌<◌, IfSome, length, true};
-ghost use Rattle.clr_model.specs.Lookups.{is_dependent, is_thread};
+ghost use Rattle.clr_model.specs.Lookups.{is_thread};
+ghost use Rattle.clr_types.specs.Kinds.{is_dependent};
 ghost use Rattle.clr_runtime.specs.Handles.{held_in};
 ghost use Rattle.clr_runtime.specs.Outcomes.{refusal_of_create};
 
@@ -35,7 +36,7 @@ impl Runtime {
             return Err(refusal);
         }
         let target = self.locals[index_of(t, local)];
-        if has_second(kind) && target == 0 {
+        if kind.is_dependent() && target == 0 {
             return Err(Refusal::Null);
         }
         let other = held_by(&self.locals, t, second);
@@ -74,7 +75,7 @@ impl Runtime {
         let Some(handle) = self.handles.get(h) else {
             return Err(Refusal::NoHandle);
         };
-        if !has_second(handle.kind) {
+        if !handle.kind.is_dependent() {
             return Err(Refusal::HandleKind);
         }
         self.locals[index_of(t, to)] = handle.second;
@@ -95,13 +96,6 @@ impl Runtime {
         };
         Ok(())
     }
-}
-
-// Whether handles of a kind have a second object.
-fn has_second(kind: Kind) -> bool
-    ensures { result ≡ is_dependent kind }
-{
-    matches!(kind, Kind::Dependent)
 }
 
 // How a refusal of the table of handles is told.

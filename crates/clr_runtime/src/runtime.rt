@@ -7,8 +7,11 @@ ghost use Rattle.clr_runtime.specs.Outcomes.{refusal_of_fault};
 use crate::NoMemory;
 use crate::options::Options;
 use crate::sums::Sums;
+use clr_bricks::Bricks;
+use clr_cards::Cards;
 use clr_ctx::Contexts;
 use clr_final::Finals;
+use clr_generations::cover_segments;
 use clr_handles::Handles;
 use clr_heap::Heap;
 use clr_mark::Marker;
@@ -23,7 +26,7 @@ const MARK_STACK: usize = 1024;
 /// So many locals has each of the 16 threads.
 pub(crate) const LOCALS_OF_A_THREAD: u64 = 64;
 
-/// The types, the heap, the contexts, the marker, the locals, the handles and the finalisation queue of a script that
+/// The types, the heap with its cards and bricks, the contexts, the marker, the locals, the handles and the finalisation queue of a script that
 /// runs. Each call is one line.
 ///
 /// Contracts see the machine whose objects are named by their places. After each call the runtime stands for the next
@@ -33,6 +36,8 @@ pub(crate) const LOCALS_OF_A_THREAD: u64 = 64;
 pub struct Runtime {
     pub(crate) types: Types,
     pub(crate) heap: Heap,
+    pub(crate) cards: Cards,
+    pub(crate) bricks: Bricks,
     pub(crate) contexts: Contexts,
     pub(crate) marker: Marker,
     pub(crate) locals: Vec<u64>,
@@ -68,6 +73,10 @@ impl Runtime {
     ghost use Rattle.clr_view.specs.Clean.{AreClean};
     ghost use Rattle.clr_view.specs.Marks.{IsUnmarked};
     ghost use Rattle.clr_view.specs.View.{AreFreeHeads, IsHeld, layout_in, objects_in};
+    ghost use Rattle.clr_bricks.specs.Bricks.{entry_at};
+    ghost use Rattle.clr_cards.specs.Cards.{is_card_set};
+    ghost use Rattle.clr_generations.specs.Laws.{BrickLaw, CardLaw};
+    ghost use Rattle.clr_generations.specs.Tables.{AreBricksOf, AreCardsOf};
     ghost use Rattle.clr_runtime.specs.Outcomes.{mt_outcome};
 
     /// No types, no objects, no handles, and every local is null.
@@ -97,9 +106,13 @@ impl Runtime {
         ) else {
             return Err(NoMemory);
         };
+        let (mut cards, mut bricks) = (Cards::new(alloc), Bricks::new(alloc));
+        cover_segments(&heap, &mut cards, &mut bricks)?;
         Ok(Runtime {
             types,
             heap,
+            cards,
+            bricks,
             contexts: Contexts::new(alloc),
             marker,
             locals,
@@ -145,6 +158,25 @@ impl Runtime {
         ensures sound { IsPlaceNamed self.now }
     {
         &self.heap
+    }
+
+    /// The cards of the heap: each segment has cards for all that it reserves. Where a slot of an object names an object
+    /// of a lower generation, the card of the slot's address is set.
+    pub fn cards(&self) -> &Cards
+        ensures covers { AreCardsOf self.now.layout result.now }
+        ensures law { CardLaw self.now.types self.now.layout self.now.objects (is_card_set result.now) }
+    {
+        &self.cards
+    }
+
+    /// The bricks of the heap: each segment has bricks for all that it reserves. A brick names the first object that
+    /// starts in it, or nothing; where an object of generation 1 or 2 reaches into one in which none starts, back
+    /// entries lead to the nearest one below in which an object starts.
+    pub fn bricks(&self) -> &Bricks
+        ensures covers { AreBricksOf self.now.layout result.now }
+        ensures law { BrickLaw self.now.types self.now.layout self.now.objects (entry_at result.now) }
+    {
+        &self.bricks
     }
 
     /// The locals, 64 for each of 16 threads, by thread. Null is 0.

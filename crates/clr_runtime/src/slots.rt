@@ -8,6 +8,7 @@ ghost use Rattle.clr_runtime.specs.Slots.{IsFound};
 
 use crate::checks::index_of;
 use crate::runtime::Runtime;
+use clr_generations::set_reference;
 use clr_heap::{Heap, Item};
 use clr_model::Refusal;
 use clr_types::{Shape, Slot, TypeId, Types};
@@ -62,7 +63,14 @@ impl Runtime {
             Err(refusal) => return Err(refusal),
         };
         let name = self.locals[index_of(t, from)];
-        set_slot_value(&mut self.heap, &self.types, &found.item, found.slot, name);
+        set_reference(
+            &mut self.heap,
+            &self.types,
+            &mut self.cards,
+            &found.item,
+            found.slot,
+            name,
+        );
         Ok(())
     }
 

@@ -18,3 +18,6 @@ pub mod YoungSurvivors
 pub mod YoungSwept
 pub mod YoungLayout
 pub mod YoungWhole
+pub mod WholeBricks
+pub mod YoungBricks
+pub mod YoungTables

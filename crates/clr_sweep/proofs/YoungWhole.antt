@@ -22,7 +22,7 @@ use Rattle.clr_sweep.proofs.YoungSwept.{young-outside, young-unmarked}
 module _ (rows : List TypeRow) (old : HeapView) (heap : IsHeap old) (held : IsHeld rows old) (none : old.rests
     ≡ no_rests) (laid : (base : Machine) × IsMemoryOf rows old base × IsLaid base) (g : ℕ) (young : g ≤ 1) where
   -- the heap is laid
-  as-seen : IsLaid (seen rows old laid.0)
+  pub as-seen : IsLaid (seen rows old laid.0)
   as-seen = subst IsLaid (memory-seen rows old laid.0 laid.1) laid.2
 
   -- the young part can be swept

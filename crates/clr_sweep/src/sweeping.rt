@@ -1,10 +1,14 @@
 // A sweep of a generation and of all younger ones.
 ghost use Rattle.std.specs.Prelude.{◌≡◌, ℕ, ◌<◌, ◌≤◌, length};
+ghost use Rattle.clr_bricks.specs.Bricks.{entry_at};
+ghost use Rattle.clr_covers.specs.Covers.{spans};
+ghost use Rattle.clr_generations.specs.Laws.{BrickLaw};
+ghost use Rattle.clr_generations.specs.Tables.{AreBricksOf};
 ghost use Rattle.clr_heap.specs.View.{frame, heap_items, IsHeap, no_rests, segment_at};
 ghost use Rattle.clr_model.specs.Lawful.{IsLaid};
 ghost use Rattle.clr_model.specs.Machine.{Machine};
 ghost use Rattle.clr_types.specs.Segments.{ephemeral};
-ghost use Rattle.clr_view.specs.View.{IsHeld};
+ghost use Rattle.clr_view.specs.View.{IsHeld, objects_in};
 ghost use Rattle.clr_view.specs.Memory.{IsMemoryOf};
 ghost use Rattle.clr_sweep.specs.Swept.{HasSwept, tally_of};
 ghost use Rattle.clr_sweep.specs.SweptItems.{aged, HasSweptItems, tally_among, young_start};
@@ -12,6 +16,8 @@ ghost use Rattle.clr_sweep.specs.SweptSegments.{HasSweptYoung, IsParted};
 
 use crate::pass::sweep_segment;
 use crate::tally::Tally;
+use clr_bricks::Bricks;
+use clr_generations::{enter_all_bricks, enter_bricks, forget_all_bricks, forget_bricks};
 use clr_heap::Heap;
 use clr_types::{FIRST_OFFSET, Types};
 
@@ -20,24 +26,68 @@ use clr_types::{FIRST_OFFSET, Types};
 /// one free item, and behind the last marked object the segment ends. Marked objects stay where they are, without their
 /// marks. The head of each new free item is written anew, so that none carries a mark. Each of these generations
 /// becomes the next older one. Nothing else changes: a sweep of generation 0 or 1 goes over the young part of the
-/// ephemeral segment alone.
-pub fn sweep(heap: &mut Heap, types: &Types, g: u8) -> Tally
+/// ephemeral segment alone. The bricks of these parts are entered anew.
+pub fn sweep(heap: &mut Heap, types: &Types, bricks: &mut Bricks, g: u8) -> Tally
     requires held { IsHeld types.now heap.old }
     requires no_contexts { heap.old.rests ≡ no_rests }
     requires laid { (m : Machine) × IsMemoryOf types.now heap.old m × IsLaid m }
     requires generation { g ≤ 2 }
+    requires bricks { AreBricksOf (frame heap.old) bricks.old }
+    requires brick_law { BrickLaw types.now (frame heap.old) (objects_in types.now heap.old) (entry_at bricks.old) }
     ensures swept { HasSwept types.now heap.old heap.new g }
     ensures tally { result ≡ tally_of types.now heap.old g }
+    ensures brick_law { BrickLaw types.now (frame heap.new) (objects_in types.now heap.new) (entry_at bricks.new) }
+    ensures spans { spans bricks.new ≡ spans bricks.old }
 {
     heap.lawful();
     if g == 2 {
-        sweep_segments(heap, types)
+        sweep_whole(heap, types, bricks)
     } else {
-        sweep_young(heap, types, g)
+        sweep_part(heap, types, bricks, g)
     }
 }
 
 // The same for all generations, told by the items of each segment.
+fn sweep_whole(heap: &mut Heap, types: &Types, bricks: &mut Bricks) -> Tally
+    requires held { IsHeld types.now heap.old }
+    requires no_contexts { heap.old.rests ≡ no_rests }
+    requires bricks { AreBricksOf (frame heap.old) bricks.old }
+    requires brick_law { BrickLaw types.now (frame heap.old) (objects_in types.now heap.old) (entry_at bricks.old) }
+    ensures swept { HasSweptItems types.now heap.old heap.new }
+    ensures tally { result ≡ tally_among heap.old (heap_items types.now heap.old) }
+    ensures brick_law { BrickLaw types.now (frame heap.new) (objects_in types.now heap.new) (entry_at bricks.new) }
+    ensures spans { spans bricks.new ≡ spans bricks.old }
+{
+    heap.lawful();
+    forget_all_bricks(heap, bricks);
+    let tally = sweep_segments(heap, types);
+    heap.lawful();
+    enter_all_bricks(heap, types, bricks);
+    tally
+}
+
+// The same for generation 0 or for the generations 0 and 1, told by the items of the ephemeral segment.
+fn sweep_part(heap: &mut Heap, types: &Types, bricks: &mut Bricks, g: u8) -> Tally
+    requires held { IsHeld types.now heap.old }
+    requires no_contexts { heap.old.rests ≡ no_rests }
+    requires laid { (m : Machine) × IsMemoryOf types.now heap.old m × IsLaid m }
+    requires generation { g ≤ 1 }
+    requires bricks { AreBricksOf (frame heap.old) bricks.old }
+    requires brick_law { BrickLaw types.now (frame heap.old) (objects_in types.now heap.old) (entry_at bricks.old) }
+    ensures swept { HasSweptYoung types.now heap.old heap.new g result }
+    ensures heap { IsHeap heap.new }
+    ensures brick_law { BrickLaw types.now (frame heap.new) (objects_in types.now heap.new) (entry_at bricks.new) }
+    ensures spans { spans bricks.new ≡ spans bricks.old }
+{
+    let k = heap.ephemeral();
+    let start = start_of(heap, g);
+    forget_bricks(heap, bricks, k, start);
+    let tally = sweep_young(heap, types, g);
+    enter_bricks(heap, types, bricks, k, start);
+    tally
+}
+
+// Sweeps each segment, whatever the bricks say.
 fn sweep_segments(heap: &mut Heap, types: &Types) -> Tally
     requires held { IsHeld types.now heap.old }
     requires no_contexts { heap.old.rests ≡ no_rests }
@@ -54,7 +104,7 @@ fn sweep_segments(heap: &mut Heap, types: &Types) -> Tally
     tally
 }
 
-// The same for generation 0 or for the generations 0 and 1, told by the items of the ephemeral segment.
+// Sweeps the young part of the ephemeral segment, whatever the bricks say.
 fn sweep_young(heap: &mut Heap, types: &Types, g: u8) -> Tally
     requires no_contexts { heap.old.rests ≡ no_rests }
     requires parted { (k : ℕ) → k < length heap.old.segments → segment_at heap.old k ≡ ephemeral (frame heap.old)

@@ -41,7 +41,7 @@ loop-place-preserved c =
           subst (λ (h : HeapView). HasUnflagged rows c.args.heap.now h g (done ++ p ∷ [])) (sym w.heap-is)
           (unflagged_more rows c.args.heap.now g c.loop-place.heap w.set_suppressed.new.heap done p
           c.loop-place.invariant (sym c.is_left.ensures ∙ w.if-not-is_left.true) w.set_suppressed.ensures.flagged
-          (w.set_suppressed.ensures.clean (λ e. absurd (true≢false (sym e))))
+          (w.set_suppressed.ensures.clean (λ e. absurd (true≢false (sym e)))) w.set_suppressed.ensures.free_heads
           (ap (λ (h : HeapView). h.limit) w.set_suppressed.ensures.words)
           (ap (λ (h : HeapView). h.rests) w.set_suppressed.ensures.words))
       | else-not-is_left w ↦

@@ -2,37 +2,35 @@ use Rattle.std.proofs.Common.{◌≡◌, inl, inr, ℕ, ◌≤◌, ap, sym, ◌�
 use Rattle.std.proofs.lemmas.Bool.{cases_lt}
 use Rattle.clr_sweep.specs.Swept.{HasSwept, tally_of}
 use Rattle.clr_sweep.proofs.WholeSwept.{has_counted, has_swept}
-use Rattle.clr_sweep.proofs.YoungWhole.{has_counted_young, has_swept_young, part_parted}
+use Rattle.clr_sweep.proofs.YoungWhole.{has_counted_young, has_swept_young}
 use Rattle.clr_sweep.proofs.sweeping.sweep.Goals as goal
 
 below_two : (g : ℕ) → g ≤ 2 → (g ≡ 2 → ⊥) → g ≤ 1
 below_two g most ne = elim (cases_lt g 2) [ inl l ↦ omega arith | inr l ↦ absurd (ne (omega arith)) ]
 
-pub sweep_young-requires-clause-parted : goal.sweep_young-requires-clause-parted
-sweep_young-requires-clause-parted c = part_parted c.args.types.now c.args.heap.now c.lawful.ensures
-    c.requires.held c.requires.no_contexts c.requires.laid c.args.g (below_two c.args.g c.requires.generation
-    c.if-g-eq2.false)
+pub sweep_part-requires-clause-generation : goal.sweep_part-requires-clause-generation
+sweep_part-requires-clause-generation c = below_two c.args.g c.requires.generation c.if-g-eq2.false
 
 pub returns-then-g-eq2-clause-swept : goal.returns-then-g-eq2-clause-swept
 returns-then-g-eq2-clause-swept c =
-    subst (λ n. HasSwept c.args.types.now c.args.heap.now c.sweep_segments.new.heap n) (sym c.if-g-eq2.true)
-    (has_swept c.args.types.now c.args.heap.now c.sweep_segments.new.heap c.sweep_segments.ensures.swept
+    subst (λ n. HasSwept c.args.types.now c.args.heap.now c.sweep_whole.new.heap n) (sym c.if-g-eq2.true)
+    (has_swept c.args.types.now c.args.heap.now c.sweep_whole.new.heap c.sweep_whole.ensures.swept
     c.lawful.ensures c.requires.held c.requires.no_contexts c.requires.laid)
 
 pub returns-then-g-eq2-clause-tally : goal.returns-then-g-eq2-clause-tally
 returns-then-g-eq2-clause-tally c =
-    c.sweep_segments.ensures.tally ∙ has_counted c.args.types.now c.args.heap.now c.sweep_segments.new.heap
-    c.sweep_segments.ensures.swept c.lawful.ensures c.requires.held c.requires.no_contexts
+    c.sweep_whole.ensures.tally ∙ has_counted c.args.types.now c.args.heap.now c.sweep_whole.new.heap
+    c.sweep_whole.ensures.swept c.lawful.ensures c.requires.held c.requires.no_contexts
     ∙ ap (tally_of c.args.types.now c.args.heap.now) (sym c.if-g-eq2.true)
 
 pub returns-else-g-eq2-clause-swept : goal.returns-else-g-eq2-clause-swept
 returns-else-g-eq2-clause-swept c =
     has_swept_young c.args.types.now c.args.heap.now c.lawful.ensures c.requires.held c.requires.no_contexts
     c.requires.laid c.args.g (below_two c.args.g c.requires.generation c.if-g-eq2.false)
-    c.sweep_young.new.heap c.sweep_young.result c.sweep_young.ensures.swept c.sweep_young.ensures.heap
+    c.sweep_part.new.heap c.sweep_part.result c.sweep_part.ensures.swept c.sweep_part.ensures.heap
 
 pub returns-else-g-eq2-clause-tally : goal.returns-else-g-eq2-clause-tally
 returns-else-g-eq2-clause-tally c =
     has_counted_young c.args.types.now c.args.heap.now c.lawful.ensures c.requires.held c.requires.no_contexts
     c.requires.laid c.args.g (below_two c.args.g c.requires.generation c.if-g-eq2.false)
-    c.sweep_young.new.heap c.sweep_young.result c.sweep_young.ensures.swept c.sweep_young.ensures.heap
+    c.sweep_part.new.heap c.sweep_part.result c.sweep_part.ensures.swept c.sweep_part.ensures.heap

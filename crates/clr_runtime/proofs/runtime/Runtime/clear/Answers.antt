@@ -23,6 +23,7 @@ invariant_of-self c =
       shown = local_kept c.self.invariant.shown _ (answered Done) c.index_of.result 0
           (cleared (world_of r) _ _ c.args.t c.args.local c.index_of.result
           passed c.index_of.ensures.index);
+      tables = c.self.invariant.tables;
       index = c.self.invariant.index;
       limit = c.self.invariant.limit;
     }

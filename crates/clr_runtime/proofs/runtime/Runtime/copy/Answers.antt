@@ -27,6 +27,7 @@ invariant_of-self c =
           c.index-held.result.now passed c.index_of-2.ensures.index
           (local-read is c.args.t c.args.from c.index_of.result c.index-held.result.now c.index_of.ensures.within
           c.index_of.ensures.index c.index-held.ensures));
+      tables = c.self.invariant.tables;
       index = c.self.invariant.index;
       limit = c.self.invariant.limit;
     }

@@ -4,6 +4,7 @@ use Rattle.clr_runtime.specs.Options.{options_of}
 use Rattle.clr_runtime.specs.RuntimeView.{sums_of, world_of}
 use Rattle.clr_model.specs.Step.{new_row}
 use Rattle.clr_runtime.proofs.IndexKept.{defined_index}
+use Rattle.clr_runtime.proofs.TablesKept.{defined_tables}
 use Rattle.clr_runtime.proofs.TypeLines.{defined_kept, IsTold, told-err, told-ok}
 use Rattle.clr_runtime.proofs.runtime.Runtime.define.Goals as goal
 use Rattle.clr_runtime.proofs.runtime.Runtime.define.Goals.{in-Ok, in-Err}
@@ -41,6 +42,9 @@ invariant_of-self c =
             bad_shape = c.define.ensures.bad_shape;
             too_many = c.define.ensures.too_many;
           });
+      tables = defined_tables r.cards r.bricks r.types c.define.new.self r.heap
+          (new_row c.args.name.now form c.args.finalizer) c.define.result c.self.invariant.shown.held
+          c.define.ensures.defined c.define.ensures.err c.self.invariant.tables;
       index = defined_index r.types c.define.new.self r.heap
           (new_row c.args.name.now form c.args.finalizer) c.define.result r.contexts c.self.invariant.shown.held
           c.define.ensures.defined c.define.ensures.err c.self.invariant.index;

@@ -30,6 +30,7 @@ invariant_of-self c =
       shown = local_kept c.self.invariant.shown _ (answered (Place row.target)) c.index_of.result row.target
           (fetched (world_of c.self.inside) _ _ c.args.t c.args.to c.args.h passed row
           (sym c.get.ensures.value ∙ c.in-Some-get.is) c.index_of.result c.index_of.ensures.index);
+      tables = c.self.invariant.tables;
       index = c.self.invariant.index;
       limit = c.self.invariant.limit;
     }

@@ -55,6 +55,7 @@ invariant_of-self-2 c =
           finals.entries finals.ready
           (length-slice_set r.locals.items c.index_of.result c.in-Some-next.place ∙ is.locals)
           (done (goal.at.invariant_of-self-2 c).After-index_of);
+      tables = c.self.invariant.tables;
       index = c.self.invariant.index;
       limit = c.self.invariant.limit;
     }

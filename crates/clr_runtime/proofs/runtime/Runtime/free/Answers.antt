@@ -34,6 +34,7 @@ invariant_of-self c =
     let is = c.self.invariant.shown in
     record {
       shown = names_kept is _ _ r.locals.items c.free.new.self r.finals.entries r.finals.ready is.locals (missing c);
+      tables = c.self.invariant.tables;
       index = c.self.invariant.index;
       limit = c.self.invariant.limit;
     }
@@ -56,6 +57,7 @@ invariant_of-self-2 c =
     let is = c.self.invariant.shown in
     record {
       shown = names_kept is _ _ r.locals.items c.free.new.self r.finals.entries r.finals.ready is.locals (done c);
+      tables = c.self.invariant.tables;
       index = c.self.invariant.index;
       limit = c.self.invariant.limit;
     }

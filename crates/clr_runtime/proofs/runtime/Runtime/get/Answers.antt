@@ -47,6 +47,7 @@ invariant_of-self c =
           (local-read is c.args.t c.args.from c.index_of.result c.index-place.result.now c.index_of.ensures.within
           c.index_of.ensures.index c.index-place.ensures) kind (name.ensures c.args.index has.slot)
           c.index_of-2.ensures.index);
+      tables = c.self.invariant.tables;
       index = c.self.invariant.index;
       limit = c.self.invariant.limit;
     }

@@ -3,7 +3,8 @@ use Rattle.std.proofs.Common.{◌≡◌, ◌≢◌, [], ◌∷◌, inl, inr, tru
 use Rattle.std.proofs.lemmas.Bool.{both_ways}
 use Rattle.clr_view.specs.Shown.{shown}
 use Rattle.clr_model.specs.Instructions.{create_handle}
-use Rattle.clr_model.specs.Lookups.{is_dependent, local_of}
+use Rattle.clr_model.specs.Lookups.{local_of}
+use Rattle.clr_types.specs.Kinds.{is_dependent}
 use Rattle.clr_model.specs.Run.{Follows}
 use Rattle.clr_model.proofs.HandleFollows.{create_of}
 use Rattle.clr_runtime.specs.Checks.{names_refusal}
@@ -15,7 +16,7 @@ use Rattle.clr_runtime.proofs.LocalsSeen.{local-read}
 use Rattle.clr_runtime.proofs.NamesChecked.{names_refused}
 use Rattle.clr_runtime.proofs.RuntimeKept.{names_kept}
 use Rattle.clr_runtime.proofs.runtime.Runtime.handle.Goals as goal
-use Rattle.clr_runtime.proofs.runtime.Runtime.handle.Goals.{After-has_second, In_default, in-Err, in-Ok, Joined-create}
+use Rattle.clr_runtime.proofs.runtime.Runtime.handle.Goals.{After-is_dependent, In_default, in-Err, in-Ok, Joined-create}
 
 pub returns-in-Some : goal.returns-in-Some
 returns-in-Some c =
@@ -33,7 +34,7 @@ passed c =
     rw (← c.self.view_is) at (sym (c.refused_names.ensures.value ∙ twice) ∙ c.in_default.is)
 
 -- and this is the first one's object
-target-is : (c : After-has_second) → c.index-target.result.now ≡ local_of (seen c.self.inside) c.args.t c.args.local
+target-is : (c : After-is_dependent) → c.index-target.result.now ≡ local_of (seen c.self.inside) c.args.t c.args.local
 target-is c =
     local-read c.self.invariant.shown c.args.t c.args.local c.index_of.result c.index-target.result.now
     c.index_of.ensures.within c.index_of.ensures.index c.index-target.ensures
@@ -43,8 +44,8 @@ returns-then-target-eq0 c =
     let at = goal.at.returns-then-target-eq0 c in
     rw (← c.self.view_is)
     (create_null (world_of c.self.inside) _ _ c.args.t c.args.kind c.args.local c.args.second c.requires.form
-    (passed at.In_default) c.index-target.result.now (target-is at.After-has_second)
-    (sym c.has_second.ensures ∙ c.if-has_second.true) c.if-target-eq0.true)
+    (passed at.In_default) c.index-target.result.now (target-is at.After-is_dependent)
+    (sym c.is_dependent.ensures ∙ c.if-is_dependent.true) c.if-target-eq0.true)
 
 -- what the table answers is told
 followed : (c : Joined-create) → Follows (seen c.self.inside)
@@ -55,9 +56,9 @@ followed c =
     let r = c.self.inside in
     let at = goal.at.returns c in
     let some : is_dependent c.args.kind ≡ true → c.index-target.result.now ≢ 0 = λ dependent.
-    elim c.else-has_second.either [
+    elim c.else-is_dependent.either [
       | inl primary ↦ primary.1
-      | inr none ↦ absurd (both_ways c.has_second.result none (c.has_second.ensures ∙ dependent))
+      | inr none ↦ absurd (both_ways c.is_dependent.result none (c.is_dependent.ensures ∙ dependent))
     ] in
     let told : IsCreated r.handles c.create.new.self (record {
       kind = c.args.kind;
@@ -73,12 +74,12 @@ followed c =
     elim c.match-create.branch [
       | in-Ok w ↦ rw w.result-is
           (created (world_of r) _ _ c.args.t c.args.kind c.args.local c.args.second c.requires.form
-          (passed at.In_default) c.index-target.result.now (target-is at.After-has_second) some c.held_by-other.result
+          (passed at.In_default) c.index-target.result.now (target-is at.After-is_dependent) some c.held_by-other.result
           (rw c.deref.ensures.value at c.held_by-other.ensures) c.create.new.self c.create.result told w.in-Ok.h
           w.in-Ok.is)
       | in-Err w ↦ rw (w.result-is, w.refusal_of.ensures)
           (create_refused (world_of r) _ _ c.args.t c.args.kind c.args.local c.args.second c.requires.form
-          (passed at.In_default) c.index-target.result.now (target-is at.After-has_second) some c.held_by-other.result
+          (passed at.In_default) c.index-target.result.now (target-is at.After-is_dependent) some c.held_by-other.result
           (rw c.deref.ensures.value at c.held_by-other.ensures) c.create.new.self c.create.result told w.in-Err.fault
           w.in-Err.is)
     ]
@@ -89,6 +90,7 @@ invariant_of-self c =
     let is = c.self.invariant.shown in
     record {
       shown = names_kept is _ _ r.locals.items c.create.new.self r.finals.entries r.finals.ready is.locals (followed c);
+      tables = c.self.invariant.tables;
       index = c.self.invariant.index;
       limit = c.self.invariant.limit;
     }

@@ -8,6 +8,7 @@ use Rattle.clr_runtime.proofs.BirthLines.{full_follows, known, lacks_follows, ma
 use Rattle.clr_runtime.proofs.LimitKept.{birth_limit}
 use Rattle.clr_runtime.proofs.NamesChecked.{thread_refused}
 use Rattle.clr_runtime.proofs.RuntimeKept.{room_kept, spent_fits}
+use Rattle.clr_runtime.proofs.TablesKept.{birth_tables, room_tables}
 use Rattle.clr_runtime.proofs.runtime.Runtime.new_object.Goals as goal
 use Rattle.clr_runtime.proofs.runtime.Runtime.new_object.Goals.{After-register_entry}
 
@@ -35,6 +36,7 @@ invariant_of-self c =
     record {
       shown = room_kept c.self.invariant.shown finals.entries finals.ready c.reserve_entry.ensures.entries
           c.reserve_entry.ensures.ready;
+      tables = c.self.invariant.tables;
       index = c.self.invariant.index;
       limit = c.self.invariant.limit;
     }
@@ -59,6 +61,12 @@ returns-then-not-make_room c =
     (full_follows c.self.invariant.shown refl c.args.t c.args.local c.args.name.now c.args.len passed made.0.0 made.1
     c.in-Ok.ensures c.make_room.new.heap finals.entries finals.ready c.reserve_entry.ensures.entries
     c.reserve_entry.ensures.ready c.if-not-make_room.ensures.room)
+
+pub bear-place-requires-clause-bricks : goal.bear-place-requires-clause-bricks
+bear-place-requires-clause-bricks c =
+    let r = c.self.inside in
+    (room_tables r.cards r.bricks r.types r.heap c.make_room.new.heap c.args.t c.in-Ok.measured.1
+    c.if-not-make_room.ensures.room c.self.invariant.tables).bricks
 
 pub bear-place-requires-clause-item : goal.bear-place-requires-clause-item
 bear-place-requires-clause-item c =
@@ -111,6 +119,9 @@ invariant_of-self-2 c =
           (registered (goal.at.invariant_of-self-2 c).After-register_entry)
           (c.register_entry.ensures.ready ∙ c.reserve_entry.ensures.ready) room c.lawful.ensures born.ensures.unmarked
           born.ensures.free_heads born.ensures.clean;
+      tables = birth_tables c.self.invariant.shown c.make_room.new.heap c.args.t made.1 room born.new.heap made.0.0 n
+          r.cards r.bricks born.new.bricks newborn born.ensures.spans born.ensures.bricks born.ensures.cards
+          c.self.invariant.tables;
       index = born_index r.types c.make_room.new.heap born.new.heap c.args.t made.0.0 n c.make_room.new.contexts
           newborn c.make_room.ensures.index;
       limit = birth_limit r.types r.heap c.make_room.new.heap born.new.heap c.args.t made.0.0 n made.1 room

@@ -3,6 +3,7 @@ use Rattle.std.proofs.Common.{sym, ◌∙◌}
 use Rattle.clr_model.specs.Outcomes.{answered}
 use Rattle.clr_model.specs.declared.Reply.TheVariants.{Done}
 use Rattle.clr_model.proofs.LineFollows.{put_of}
+use Rattle.clr_generations.proofs.KeptTables.{tables-number}
 use Rattle.clr_runtime.specs.RuntimeView.{seen, world_of}
 use Rattle.clr_runtime.proofs.IndexKept.{same_index}
 use Rattle.clr_runtime.proofs.LimitKept.{stored_limit}
@@ -52,6 +53,9 @@ invariant_of-self c =
           passed
           (local-read is c.args.t c.args.into c.index_of.result c.index-place.result.now c.index_of.ensures.within
           c.index_of.ensures.index c.index-place.ensures) number.ensures kind stored);
+      tables = tables-number r.cards r.bricks r.types r.heap done.new.heap c.in-Ok.found.item c.in-Ok.found.slot
+          number.result (record { number = c.args.index; is = has.slot }) kind done.ensures.stored
+          c.self.invariant.tables;
       index = same_index r.types r.types r.heap done.new.heap r.contexts stored.layout c.self.invariant.index;
       limit = stored_limit r.types r.heap done.new.heap c.in-Ok.found.item c.in-Ok.found.slot number.result
           done.ensures.words ∙ c.self.invariant.limit;

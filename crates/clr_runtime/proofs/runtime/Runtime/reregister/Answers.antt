@@ -10,6 +10,7 @@ use Rattle.clr_model.specs.declared.Reply.TheVariants.{Done}
 use Rattle.clr_model.proofs.FinalFollows.{reregister_of}
 use Rattle.clr_runtime.specs.Checks.{names_refusal}
 use Rattle.clr_runtime.specs.Options.{options_of}
+use Rattle.clr_generations.proofs.KeptTables.{tables-flagged}
 use Rattle.clr_runtime.specs.RuntimeView.{seen, sums_of, world_of}
 use Rattle.clr_runtime.proofs.FinalizerLines.{allowed, reregister_lacks, reregister_null, reregister_plain}
 use Rattle.clr_runtime.proofs.FinalizerLines.{reregistered}
@@ -87,6 +88,7 @@ invariant_of-self c =
     record {
       shown = heap_kept c.self.invariant.shown _ _ new set.flagged.held set.unmarked set.free_heads
           (set.clean (λ never. absurd (true≢false (sym never)))) (freed c);
+      tables = tables-flagged r.cards r.bricks r.types r.heap new _ _ set.flagged c.self.invariant.tables;
       index = same_index r.types r.types r.heap new r.contexts set.flagged.layout c.self.invariant.index;
       limit = ap (λ (h : HeapView). h.limit) set.words ∙ c.self.invariant.limit;
     }
@@ -127,6 +129,7 @@ invariant_of-self-2 c =
     let finals = c.register.new.self in
     record {
       shown = names_kept is _ _ r.locals.items r.handles finals.entries finals.ready is.locals (entered c);
+      tables = c.self.invariant.tables;
       index = c.self.invariant.index;
       limit = c.self.invariant.limit;
     }

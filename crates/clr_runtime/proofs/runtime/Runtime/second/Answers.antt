@@ -22,12 +22,12 @@ returns-in_default-get c =
     (second_missing (world_of c.self.inside) _ _ c.args.t c.args.to c.args.h passed
     (sym c.get.ensures.value ∙ c.in_default-get.is))
 
-pub returns-then-not-has_second : goal.returns-then-not-has_second
-returns-then-not-has_second c =
+pub returns-then-not-is_dependent : goal.returns-then-not-is_dependent
+returns-then-not-is_dependent c =
     let passed = rw (← c.self.view_is) at (sym c.refused_names.ensures.value ∙ c.in_default.is) in
     rw (← c.self.view_is)
     (second_other (world_of c.self.inside) _ _ c.args.t c.args.to c.args.h passed c.in-Some-get.handle
-    (sym c.get.ensures.value ∙ c.in-Some-get.is) (sym c.has_second.ensures ∙ c.if-not-has_second.true))
+    (sym c.get.ensures.value ∙ c.in-Some-get.is) (sym c.is_dependent.ensures ∙ c.if-not-is_dependent.true))
 
 pub invariant_of-self : goal.invariant_of-self
 invariant_of-self c =
@@ -36,8 +36,9 @@ invariant_of-self c =
     record {
       shown = local_kept c.self.invariant.shown _ (answered (Place row.second)) c.index_of.result row.second
           (second_fetched (world_of c.self.inside) _ _ c.args.t c.args.to c.args.h passed row
-          (sym c.get.ensures.value ∙ c.in-Some-get.is) (sym c.has_second.ensures ∙ c.if-not-has_second.false)
+          (sym c.get.ensures.value ∙ c.in-Some-get.is) (sym c.is_dependent.ensures ∙ c.if-not-is_dependent.false)
           c.index_of.result c.index_of.ensures.index);
+      tables = c.self.invariant.tables;
       index = c.self.invariant.index;
       limit = c.self.invariant.limit;
     }
@@ -47,5 +48,5 @@ returns c =
     let passed = rw (← c.self.view_is) at (sym c.refused_names.ensures.value ∙ c.in_default.is) in
     rw (← c.self.view_is)
     (second_fetched (world_of c.self.inside) _ _ c.args.t c.args.to c.args.h passed c.in-Some-get.handle
-    (sym c.get.ensures.value ∙ c.in-Some-get.is) (sym c.has_second.ensures ∙ c.if-not-has_second.false)
+    (sym c.get.ensures.value ∙ c.in-Some-get.is) (sym c.is_dependent.ensures ∙ c.if-not-is_dependent.false)
     c.index_of.result c.index_of.ensures.index)

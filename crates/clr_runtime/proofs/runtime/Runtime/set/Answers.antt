@@ -1,10 +1,9 @@
 -- The slot takes what the local holds.
 use Rattle.std.proofs.Common.{sym, ◌∙◌}
-use Rattle.std.proofs.lemmas.Bool.{true≢false}
-use Rattle.clr_view.proofs.SlotReads.{reference-word}
 use Rattle.clr_model.specs.Outcomes.{answered}
 use Rattle.clr_model.specs.declared.Reply.TheVariants.{Done}
 use Rattle.clr_model.proofs.LineFollows.{set_of}
+use Rattle.clr_generations.proofs.KeptTables.{tables-referred}
 use Rattle.clr_runtime.specs.RuntimeView.{world_of}
 use Rattle.clr_runtime.proofs.IndexKept.{same_index}
 use Rattle.clr_runtime.proofs.LimitKept.{stored_limit}
@@ -36,20 +35,13 @@ returns-in-Err c =
     (local-read c.self.invariant.shown c.args.t c.args.into c.index_of.result c.index-place.result.now
     c.index_of.ensures.within c.index_of.ensures.index c.index-place.ensures) c.in-Err.refusal c.in-Err.ensures)
 
-pub set_slot_value-requires-clause-byte : goal.set_slot_value-requires-clause-byte
-set_slot_value-requires-clause-byte c = λ bytes.
-    let (has, kind) = c.in-Ok.ensures in
-    absurd (true≢false
-    (sym bytes ∙ reference-word c.self.inside.types c.in-Ok.found.item c.in-Ok.found.slot
-    (record { number = c.args.index; is = has.slot }) kind))
-
 pub invariant_of-self : goal.invariant_of-self
 invariant_of-self c =
     let r = c.self.inside in
     let passed = rw (← c.self.view_is) at (sym c.refused_names.ensures.value ∙ c.in_default.is) in
     let is = c.self.invariant.shown in
     let (has, kind) = c.in-Ok.ensures in
-    let done = c.set_slot_value in
+    let done = c.set_reference in
     let stored = done.ensures.stored c.args.index has.slot in
     record {
       shown = heap_kept is _ (answered Done) done.new.heap stored.held done.ensures.unmarked
@@ -61,6 +53,9 @@ invariant_of-self c =
           c.index_of.ensures.index c.index-place.ensures)
           (local-read is c.args.t c.args.from c.index_of-2.result c.index-name.result.now
           c.index_of-2.ensures.within c.index_of-2.ensures.index c.index-name.ensures) kind stored);
+      tables = tables-referred r.cards r.bricks r.types r.heap done.new.heap c.in-Ok.found.item c.in-Ok.found.slot
+          c.index-name.result.now (record { number = c.args.index; is = has.slot }) done.ensures.stored
+          done.new.cards done.ensures.spans done.ensures.law c.self.invariant.tables;
       index = same_index r.types r.types r.heap done.new.heap r.contexts stored.layout c.self.invariant.index;
       limit = stored_limit r.types r.heap done.new.heap c.in-Ok.found.item c.in-Ok.found.slot
           c.index-name.result.now done.ensures.words ∙ c.self.invariant.limit;
@@ -72,7 +67,7 @@ returns c =
     let passed = rw (← c.self.view_is) at (sym c.refused_names.ensures.value ∙ c.in_default.is) in
     let is = c.self.invariant.shown in
     let (has, kind) = c.in-Ok.ensures in
-    let done = c.set_slot_value in
+    let done = c.set_reference in
     rw (← c.self.view_is)
     (was_set (world_of r) _ _ c.args.t c.index-place.result.now c.args.index c.in-Ok.found.item
     c.in-Ok.found.slot has done.new.heap c.args.into c.args.from c.index-name.result.now

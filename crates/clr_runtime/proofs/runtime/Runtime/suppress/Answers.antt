@@ -10,6 +10,7 @@ use Rattle.clr_model.specs.declared.Reply.TheVariants.{Done}
 use Rattle.clr_model.proofs.FinalFollows.{suppress_of}
 use Rattle.clr_runtime.specs.Checks.{names_refusal}
 use Rattle.clr_runtime.specs.Options.{options_of}
+use Rattle.clr_generations.proofs.KeptTables.{tables-flagged}
 use Rattle.clr_runtime.specs.RuntimeView.{seen, sums_of, world_of}
 use Rattle.clr_runtime.proofs.FinalizerLines.{suppress_null, suppress_plain, suppressed}
 use Rattle.clr_runtime.proofs.IndexKept.{same_index}
@@ -80,6 +81,7 @@ invariant_of-self c =
     record {
       shown = heap_kept c.self.invariant.shown _ _ new set.flagged.held set.unmarked set.free_heads
           (set.clean (λ _. sym c.is_final.ensures ∙ c.if-not-is_final.false)) (done c);
+      tables = tables-flagged r.cards r.bricks r.types r.heap new _ _ set.flagged c.self.invariant.tables;
       index = same_index r.types r.types r.heap new r.contexts set.flagged.layout c.self.invariant.index;
       limit = ap (λ (h : HeapView). h.limit) set.words ∙ c.self.invariant.limit;
     }

@@ -1,10 +1,12 @@
 -- A new runtime shows the opening state.
 use Rattle.std.proofs.Common.{List, Option, ap, subst, sym}
 use Rattle.clr_types.specs.Ranges.{Piece}
-use Rattle.clr_heap.specs.View.{HeapView}
+use Rattle.clr_heap.specs.View.{frame, HeapView}
 use Rattle.clr_final.specs.Queues.{Queues}
 use Rattle.clr_view.specs.World.{World}
 use Rattle.clr_ctx.specs.Contexts.{IsIndex}
+use Rattle.clr_generations.specs.Tables.{AreBricksOf, AreCardsOf, AreTablesOf}
+use Rattle.clr_generations.proofs.OpeningTables.{tables-opening}
 use Rattle.clr_runtime.specs.Options.{options_of}
 use Rattle.clr_runtime.proofs.IndexKept.{first_index}
 use Rattle.clr_runtime.proofs.Opened.{IsFirst, new_shown, new_stands}
@@ -42,8 +44,15 @@ returns c = new_stands (made_world c) (options_of c.args.options) _ c.requires.l
 pub invariant_of-result : goal.invariant_of-result
 invariant_of-result c =
     let made = c.in-Ok-Ok-Ok-Ok in
+    let covered = c.cover_segments.new in
+    let told = c.in_ok-cover_segments.ensures in
     record {
       shown = new_shown (made_world c) (options_of c.args.options) _ c.requires.lawful (first c);
+      tables = subst (λ (h : HeapView). AreTablesOf made.types h covered.cards covered.bricks) (sym made.ensures')
+          (tables-opening made.types c.args.options.segment c.args.options.limit c.requires.lawful.segment_aligned
+          covered.cards covered.bricks told.unnamed
+          (subst (λ (h : HeapView). AreCardsOf (frame h) covered.cards) made.ensures' told.cards)
+          (subst (λ (h : HeapView). AreBricksOf (frame h) covered.bricks) made.ensures' told.bricks));
       index = subst (λ (i : Option (List Piece)). IsIndex made.types made.heap i) (sym c.new-4.ensures)
           (first_index made.types made.heap c.args.options.segment _ c.requires.lawful.segment_aligned made.ensures
           made.ensures');

@@ -1,6 +1,4 @@
 -- Nothing was read yet, and the runtime stands for the opening state.
-use Rattle.std.proofs.Common.{ap, sym}
-use Rattle.clr_model.specs.Machine.{Machine}
 use Rattle.clr_run.proofs.SessionSteps.{started, opening_options, opening_top}
 use Rattle.clr_runtime.specs.Options.{options_of}
 use Rattle.clr_run.proofs.script.session.Session.new.Goals as goal

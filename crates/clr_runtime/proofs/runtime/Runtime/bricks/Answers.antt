@@ -1,0 +1,20 @@
+-- The law of bricks holds of what is seen, whose layout tells free items too.
+use Rattle.std.proofs.Common.{List, refl}
+use Rattle.clr_bricks.specs.Bricks.{entry_at}
+use Rattle.clr_heap.specs.View.{frame}
+use Rattle.clr_model.specs.Machine.{Object}
+use Rattle.clr_view.specs.View.{layout_in, objects_in}
+use Rattle.clr_generations.proofs.ChangedObjects.{same-objects}
+use Rattle.clr_generations.proofs.KeptLaws.{brick_law-kept, same-places}
+use Rattle.clr_generations.proofs.KeptTables.{bounds-from}
+use Rattle.clr_runtime.proofs.runtime.Runtime.bricks.Goals as goal
+
+pub returns-clause-law : goal.returns-clause-law
+returns-clause-law c =
+    let r = c.self.inside in
+    let objects : List Object = objects_in r.types r.heap in
+    rw (← c.self.view_is)
+    (brick_law-kept r.types r.types (frame r.heap) (layout_in r.types r.heap) objects objects
+    (bounds-from (frame r.heap) (layout_in r.types r.heap) refl refl refl)
+    (same-places r.types r.types objects objects (same-objects r.types objects)) (entry_at r.bricks)
+    c.self.invariant.tables.brick_law)

@@ -1,5 +1,5 @@
 // A collection of a generation and of all younger ones that sweeps.
-ghost use Rattle.std.specs.Prelude.{◌≡◌, ℕ, ◌≤◌, ◌==◌, [], None, Some, MatchBool};
+ghost use Rattle.std.specs.Prelude.{◌≡◌, ℕ, ◌≤◌, ◌==◌, [], None, Some, MatchBool, true};
 ghost use Rattle.clr_model.specs.Collection.{Collects};
 ghost use Rattle.clr_model.specs.Lawful.{IsPlaceNamed};
 ghost use Rattle.clr_model.specs.Lookups.{lowest_in_step};
@@ -10,6 +10,7 @@ ghost use Rattle.clr_view.specs.Clean.{AreClean};
 ghost use Rattle.clr_view.specs.Marks.{IsUnmarked};
 ghost use Rattle.clr_view.specs.View.{AreFreeHeads, IsHeld};
 ghost use Rattle.clr_view.specs.World.{IsWorldOf};
+ghost use Rattle.clr_cards.specs.Cards.{is_card_set};
 ghost use Rattle.clr_ctx.specs.Contexts.{IsIndex};
 ghost use Rattle.clr_generations.specs.Tables.{AreTablesOf};
 ghost use Rattle.clr_mark.specs.Waiting.{IsGray};
@@ -50,7 +51,7 @@ use clr_types::Types;
 /// 1 to 2. Nothing is marked before and after, and no free item's head is. Headers and padding stay clean, and the
 /// queue has room for as many entries as before. Locals and handles name null or places of objects, entries and
 /// f-reachable places places of objects. It leaves the index of a heap without free items in generation 0. Cards and
-/// bricks obey their laws before and after.
+/// bricks obey their laws before and after, and no card is set.
 pub fn collect(
     types: &Types,
     heap: &mut Heap,
@@ -83,6 +84,7 @@ pub fn collect(
     ensures marker { marker.new ≡ record marker.old { stack = []; range = None; oldest = g } }
     ensures spare { finals.old.spare ≤ finals.new.spare }
     ensures tables { AreTablesOf types.now heap.new cards.new bricks.new }
+    ensures cards { (i : ℕ) → is_card_set cards.new i ≡ true → is_card_set cards.old i ≡ true }
 {
     heap.lawful();
     mark_kept(
@@ -109,6 +111,7 @@ fn release_after(heap: &mut Heap, types: &Types, cards: &mut Cards, bricks: &mut
     requires tables { AreTablesOf types.now heap.old cards.old bricks.old }
     ensures released { MatchBool (g == 2) (HasReleased types.now heap.old heap.new) (heap.new ≡ heap.old) }
     ensures tables { AreTablesOf types.now heap.new cards.new bricks.new }
+    ensures cards { (i : ℕ) → is_card_set cards.new i ≡ true → is_card_set cards.old i ≡ true }
 {
     if g == 2 {
         release_empty(heap, types, cards, bricks);
@@ -140,6 +143,7 @@ fn mark_kept(
     ensures marker { marker.new ≡ record marker.old { stack = []; range = None; oldest = g } }
     ensures spare { finals.old.spare ≤ finals.new.spare }
     ensures tables { AreTablesOf types.now heap.new cards.new bricks.now }
+    ensures cards { (i : ℕ) → is_card_set cards.new i ≡ true → is_card_set cards.old i ≡ true }
 {
     let waiting = finals.ready().len();
     mark_alive(
@@ -176,6 +180,7 @@ fn mark_alive(
     ensures gray { IsGray types.now heap.new marker.new }
     ensures marker { marker.new ≡ record marker.old { stack = []; range = None; oldest = g } }
     ensures tables { AreTablesOf types.now heap.new cards.new bricks.now }
+    ensures cards { (i : ℕ) → is_card_set cards.new i ≡ true → is_card_set cards.old i ≡ true }
 {
     heap.lawful();
     contexts.lose();

@@ -3,14 +3,14 @@ use Rattle.std.proofs.Common.{◌≡◌, ◌⊎◌, inl, inr, ℕ, zero, suc, �
 use Rattle.std.proofs.Common.{◌||◌, List, refl, ap, sym, ◌∙◌, subst, arith, leb, ltb, cond, ℤ, pos, negsuc}
 use Rattle.std.proofs.lemmas.Bool.{cases_Bool, cases_lt, leb-true, ltb-true, or_cases, lt-ltb}
 use Rattle.clr_types.specs.Rising.{IsIn}
-use Rattle.clr_types.specs.Segments.{ended_at, first_place, generation, Layout, reserved_end, stands_in}
+use Rattle.clr_types.specs.Segments.{ended_at, generation, Layout, reserved_end, stands_in}
 use Rattle.clr_types.specs.Types.{TypeRow}
 use Rattle.clr_types.specs.declared.segment.SegInfo.{SegInfo}
 use Rattle.clr_types.proofs.SegmentFacts.{stands-between}
 use Rattle.clr_bricks.specs.Bricks.{LeadsBack, root_entry}
 use Rattle.clr_model.specs.Lookups.{object_size}
 use Rattle.clr_model.specs.Machine.{Object}
-use Rattle.clr_generations.specs.Entered.{AreEnteredBelow, forgotten, kept_below}
+use Rattle.clr_generations.proofs.Entered.{AreEnteredBelow, forgotten, kept_below}
 use Rattle.clr_generations.specs.Laws.{AreEntered, IsBrickOf, LeadsBrick, LeadsToNearest, may_lead, ReachesInto, Stands}
 use Rattle.clr_generations.proofs.Homes.{brick-of, HaveHomes, stands-home}
 
@@ -94,11 +94,19 @@ root-kept from brick offset e root below =
     ∙ ap (λ (b : Bool). cond b (pos (suc offset)) (pos 0)) (lt-ltb (4096 * brick + offset) from below)
     ∙ sym same
 
-root-forgotten : (entry : ℕ → ℤ) (from end brick offset : ℕ) → entry brick ≡ root_entry offset
+pub root-forgotten : (entry : ℕ → ℤ) (from end brick offset : ℕ) → entry brick ≡ root_entry offset
     → 4096 * brick + offset < from → forgotten entry from end brick ≡ root_entry offset
 root-forgotten entry from end brick offset root below = elim (forgotten-cases entry from end brick) [
   | inl kept ↦ kept.1 ∙ root
   | inr lost ↦ lost ∙ root-kept from brick offset (entry brick) root below
+]
+
+-- what is left names what it did
+pub forgotten-root : (entry : ℕ → ℤ) (from end brick offset : ℕ) → forgotten entry from end brick ≡ root_entry offset
+    → entry brick ≡ root_entry offset
+forgotten-root entry from end brick offset root = elim (forgotten-cases entry from end brick) [
+  | inl kept ↦ sym kept.1 ∙ root
+  | inr lost ↦ (kept-root from brick offset (entry brick) (sym lost ∙ root)).0
 ]
 
 -- ---- what bricks say of objects alike
@@ -230,28 +238,6 @@ module _ (rows : List TypeRow) (layout new : Layout) (objects others : List Obje
         ]);
   }
 
--- what stands in the segment is alike below its first place
-alike-first : (rows : List TypeRow) (layout new : Layout) (objects others : List Object) (s : SegInfo)
-    → AreAlike rows layout new objects others s (first_place s)
-alike-first rows layout new objects others s = record {
-  there = λ o l in_s below. none o.place in_s below;
-  back = λ q l in_s below. none q.place in_s below;
-  leads = λ place in_s below. none place in_s below;
-  old = λ place in_s below. none place in_s below;
-}
-  where
-    none : {A : Type 0} (place : ℕ) → stands_in s place ≡ true → place < first_place s → A
-    none place in_s below = let between = stands-between s place in_s in let low = between.0 in absurd (omega arith)
-
--- no entry is left from a segment's first place on, whatever its objects become
-pub entered_first : (rows : List TypeRow) (layout new : Layout) (objects others : List Object) (s : SegInfo) (end : ℕ)
-    (entry : ℕ → ℤ) → HaveHomes rows objects s → HaveHomes rows others (ended_at end s)
-    → AreEntered rows layout objects entry s
-    → AreEnteredBelow rows new others (forgotten entry (first_place s) s.end) (ended_at end s) (first_place s)
-entered_first rows layout new objects others s end entry homes homes' e =
-    entered_below rows layout new objects others s end (first_place s) homes homes'
-    (alike-first rows layout new objects others s) entry e
-
 -- the objects of a list are alike themselves
 pub alike-self : (rows : List TypeRow) (layout : Layout) (objects : List Object) (s : SegInfo) (from : ℕ)
     → AreAlike rows layout layout objects objects s from
@@ -260,22 +246,6 @@ alike-self rows layout objects s from = record {
   back = λ q l in_s below. (q, l, refl, refl);
   leads = λ place in_s below. refl;
   old = λ place in_s below old. old;
-}
-
--- what is left of the bricks is so for other entries that agree on the segment's bricks
-pub below_same : (rows : List TypeRow) (layout : Layout) (objects : List Object) (s : SegInfo) (from : ℕ)
-    (entry other : ℕ → ℤ) → HaveHomes rows objects s → ((b : ℕ) → IsBrickOf s b → other b ≡ entry b)
-    → AreEnteredBelow rows layout objects entry s from → AreEnteredBelow rows layout objects other s from
-below_same rows layout objects s from entry other homes same e = record {
-  named = λ brick offset of root. e.named brick offset of (sym (same brick of) ∙ root);
-  starts = λ place stands in_s below may.
-      (let root = e.starts place stands in_s below may in
-      (root.0, same (place / 4096) (brick-of s place homes.bricks in_s) ∙ root.1));
-  reached = λ brick of low r. elim (e.reached brick of low r) [
-    | inl root ↦ inl (root.0, same brick of ∙ root.1)
-    | inr n ↦ inr (nearest-alike rows layout layout objects objects s s.end from homes homes
-        (alike-self rows layout objects s from) entry other brick of (omega arith) r (λ b of' down. same b of') n)
-  ];
 }
 
 -- THE BRICKS OF A SEGMENT where nothing happens: its objects, and the entries of its bricks, are alike

@@ -1,20 +1,21 @@
--- A walk that enters the bricks of a segment: what holds as far as it has come.
+-- A pass over the bricks of a segment that lets each name the first of these objects: what holds as far as it has come.
+-- Each of the objects may be named by its brick.
 use Rattle.std.proofs.Common.{◌≡◌, ◌≢◌, ◌⊎◌, inl, inr, ℕ, zero, suc, ◌+◌, ◌-◌, ◌*◌, ◌/◌, ◌%◌, ◌<◌, ◌≤◌, true}
-use Rattle.std.proofs.Common.{List, refl, ap, sym, ◌∙◌, subst, arith, ℤ}
+use Rattle.std.proofs.Common.{List, refl, ap, sym, ◌∙◌, subst, arith, ℤ, MatchOption, Option, Some, None}
 use Rattle.std.proofs.lemmas.Bool.{cases_eq, cases_lt}
-use Rattle.std.proofs.lemmas.Bool.{le-leb, le-ltb, lt-leb, lt-ltb}
+use Rattle.std.proofs.lemmas.Bool.{eq-eqb, le-leb, le-ltb, lt-leb, lt-ltb, ne_eqb}
 use Rattle.clr_types.specs.Rising.{IsIn}
-use Rattle.clr_types.specs.Segments.{ephemeral, first_place, generation, Layout, reserved_end, stands_in}
+use Rattle.clr_types.specs.Segments.{first_place, generation, Layout, reserved_end, stands_in}
 use Rattle.clr_types.specs.Types.{TypeRow}
 use Rattle.clr_types.specs.declared.segment.SegInfo.{SegInfo}
 use Rattle.clr_bricks.specs.Bricks.{back_entry, IsRoot, LeadsBack, root_entry}
 use Rattle.clr_model.specs.Lookups.{object_size}
 use Rattle.clr_model.specs.Machine.{Object}
-use Rattle.clr_generations.specs.Entered.{AreEnteredBelow}
-use Rattle.clr_generations.specs.Entering.{hop, led_back}
+use Rattle.clr_generations.proofs.Entered.{AreEnteredBelow}
+use Rattle.clr_generations.specs.Renewing.{hop, led_back, named_after, next_after}
 use Rattle.clr_generations.specs.Laws.{AreEntered, IsBrickOf, LeadsBrick, LeadsToNearest, may_lead, ReachesInto, Stands}
 use Rattle.clr_generations.proofs.Alike.{path-down, path-same}
-use Rattle.clr_generations.proofs.Homes.{brick-of, HasWholeBricks, HaveHomes, may_lead-lower, old-may_lead, stands-home}
+use Rattle.clr_generations.proofs.Homes.{brick-of, HaveHomes, old-may_lead, stands-home}
 
 -- ---- back entries that are written
 
@@ -28,7 +29,7 @@ leads-on (LeadsBack.back k e l rest) more =
     let on = leads-on rest more in
     (suc on.0, LeadsBack.back {n = on.0} k e l on.1)
 
-led-inside : (entry : ℕ → ℤ) (next to brick : ℕ) → next ≤ brick → brick < to
+pub led-inside : (entry : ℕ → ℤ) (next to brick : ℕ) → next ≤ brick → brick < to
     → led_back entry next to brick ≡ back_entry (hop (brick + 1 - next))
 led-inside entry next to brick low high = rw (le-leb next brick low, lt-ltb brick to high) refl
 
@@ -64,6 +65,14 @@ hops entry next to (suc fuel) brick some low high under = elim (cases_lt brick n
       let k = hop (brick + 1 - next) - 1 in
       let rest = hops entry next to fuel (brick - suc k) some (omega arith) (omega arith) (omega arith) in
       (suc rest.0, LeadsBack.back {n = rest.0} k (led-inside entry next to brick above under) (omega arith) rest.1)
+]
+
+-- what is led back depends on the entries below alone
+pub led-alike : (entry other : ℕ → ℤ) (next to b : ℕ) → ((c : ℕ) → c < next → other c ≡ entry c) → b < to
+    → led_back other next to b ≡ led_back entry next to b
+led-alike entry other next to b same under = elim (cases_lt b next) [
+  | inl low ↦ led-below other next to b low ∙ same b low ∙ sym (led-below entry next to b low)
+  | inr up ↦ led-inside other next to b up under ∙ sym (led-inside entry next to b up under)
 ]
 
 -- what leads back is no root
@@ -102,8 +111,16 @@ pub record IsEntering (rows : List TypeRow) (layout : Layout) (objects : List Ob
   pub here : place / 4096 < next → IsRoot (entry (place / 4096))
   pub above : s.base / 4096 < next
 
+-- the first object of the brick stands at the place, in the segment
+pub record IsFirstOf (objects : List Object) (s : SegInfo) (brick place : ℕ) : Type 0 where
+  pub stands : Stands objects place
+  pub in_segment : stands_in s place ≡ true
+  pub inside : place / 4096 ≡ brick
+  pub first : (x : ℕ) → Stands objects x → x / 4096 ≡ brick → place ≤ x
+
 module _ (rows : List TypeRow) (layout : Layout) (objects : List Object) (s : SegInfo)
-    (homes : HaveHomes rows objects s) (young : HasWholeBricks (ephemeral layout)) where
+    (homes : HaveHomes rows objects s)
+    (may : (q : ℕ) → Stands objects q → stands_in s q ≡ true → may_lead layout q ≡ true) where
   -- no object starts between a root that isn't below the start of one and a brick that this one reaches into
   none_between : (o : Object) (low brick q : ℕ) → IsIn o objects → o.place / 4096 ≤ low
       → 4096 * brick < o.place + object_size rows o → Stands objects q → low < q / 4096 → q / 4096 < brick → ⊥
@@ -187,7 +204,7 @@ module _ (rows : List TypeRow) (layout : Layout) (objects : List Object) (s : Se
     -- and else it isn't
     pub starts_open : from ≤ reserved_end s
         → (IsBrickOf s (from / 4096) → IsRoot (entry (from / 4096)) → ⊥)
-        → IsEntering rows layout objects entry s from (from / 4096)
+        → IsEntering rows layout objects entry s (4096 * (from / 4096)) (from / 4096)
     starts_open high none =
         let base = homes.bricks.base in
         let reserved = homes.bricks.reserved in
@@ -201,17 +218,11 @@ module _ (rows : List TypeRow) (layout : Layout) (objects : List Object) (s : Se
                   | inr ne ↦ omega arith
                 ] in
                 (n.0, lower));
-            starts = e.starts;
+            starts = λ x stands in_s below. e.starts x stands in_s (omega arith);
             reached = e.reached;
           };
           carried = λ o l in_s below old reach.
-              (let less : o.place / 4096 < from / 4096 = elim (cases_eq (o.place / 4096) (from / 4096)) [
-                | inl at ↦ absurd (none (subst (λ (b : ℕ). IsBrickOf s b) at (brick-of s o.place homes.bricks in_s))
-                    (subst (λ (b : ℕ). IsRoot (entry b)) at (e.starts o.place (o, l, refl) in_s below
-                    (old-may_lead layout o.place old))))
-                | inr ne ↦ omega arith
-              ] in
-              carried-on o l in_s below old less reach (omega arith, omega arith));
+              carried-on o l in_s (omega arith) old (omega arith) reach (omega arith, omega arith);
           near = omega arith;
           here = λ under. absurd (omega arith);
           above = omega arith;
@@ -246,11 +257,11 @@ module _ (rows : List TypeRow) (layout : Layout) (objects : List Object) (s : Se
           let u = w.carried r.object r.present in_s (met r.object.place (r.object, r.present, refl) in_s (omega arith))
           r.old (omega arith) in
           let least = u.above in
-          let down = path-down u.path.1 in
+          let down = path-down {to = u.to} {n = u.path.0} u.path.1 in
           let n = w.entered.named u.to u.root.0 (omega arith, omega arith) u.root.1 in
           let way = hops entry next to (brick + 1) brick (omega arith) (omega arith) (omega arith) high in
-          let up = path-same u.path.1 (λ b lo hi. led-below entry next to b (omega arith)) in
-          let path = leads-on {n = way.0} way.1 (u.path.0, up) in
+          let up = path-same {to = u.to} {n = u.path.0} u.path.1 (λ b lo hi. led-below entry next to b (omega arith)) in
+          let path = leads-on {c = u.to} {n = way.0} way.1 (u.path.0, up) in
           record {
             below = u.to;
             lower = omega arith;
@@ -288,33 +299,29 @@ module _ (rows : List TypeRow) (layout : Layout) (objects : List Object) (s : Se
         ];
       }
 
-    -- an item is passed that no brick from `next` on is to name
+    -- a part is passed in which no brick from `next` on is to name an object
     pub passed : (after : ℕ) → place ≤ after → ((x : ℕ) → Stands objects x → stands_in s x ≡ true → x < after
-        → (x < place) ⊎ ((x ≡ place) × (may_lead layout place ≡ true → place / 4096 < next)))
+        → (x < place) ⊎ ((x / 4096 ≡ place / 4096) × (place / 4096 < next)))
         → IsEntering rows layout objects entry s after next
     passed after up step =
         let near = w.near in
         record {
           entered = record {
             named = w.entered.named;
-            starts = λ x stands in_s below may. elim (step x stands in_s below) [
-              | inl under ↦ w.entered.starts x stands in_s under may
-              | inr (at, settled) ↦
-                  let may' = subst (λ (p : ℕ). may_lead layout p ≡ true) at may in
-                  subst (λ (p : ℕ). IsRoot (entry (p / 4096))) (sym at) (w.here (settled may'))
+            starts = λ x stands in_s below may'. elim (step x stands in_s below) [
+              | inl under ↦ w.entered.starts x stands in_s under may'
+              | inr (at, settled) ↦ subst (λ (b : ℕ). IsRoot (entry b)) (sym at) (w.here settled)
             ];
             reached = w.entered.reached;
           };
           carried = λ o l in_s below old reach. elim (step o.place (o, l, refl) in_s below) [
             | inl under ↦ w.carried o l in_s under old reach
             | inr (at, settled) ↦
-                let may = subst (λ (p : ℕ). may_lead layout p ≡ true) at (old-may_lead layout o.place old) in
-                let under = settled may in
                 let same : place / 4096 ≡ next - 1 = omega arith in
                 record {
                   to = next - 1;
                   path = (0, LeadsBack.here);
-                  root = subst (λ (b : ℕ). IsRoot (entry b)) same (w.here under);
+                  root = subst (λ (b : ℕ). IsRoot (entry b)) same (w.here settled);
                   above = omega arith;
                 }
           ];
@@ -328,8 +335,7 @@ module _ (rows : List TypeRow) (layout : Layout) (objects : List Object) (s : Se
   -- the first object of a brick is named
   module _ (entry other : ℕ → ℤ) (place after : ℕ)
       (w : AreEnteredTo rows layout objects entry s place (place / 4096)) (stands : Stands objects place)
-      (in_s : stands_in s place ≡ true) (may : may_lead layout place ≡ true) (up : place ≤ after)
-      (step : (x : ℕ) → Stands objects x → stands_in s x ≡ true → x < after → x ≤ place)
+      (in_s : stands_in s place ≡ true) (up : place ≤ after) (within : after ≤ 4096 * (place / 4096 + 1))
       (root : other (place / 4096) ≡ root_entry (place % 4096))
       (same : (b : ℕ) → b ≢ place / 4096 → other b ≡ entry b) where
     rooted-first : (q : ℕ) → Stands objects q → q / 4096 ≡ place / 4096 → place ≤ q
@@ -337,8 +343,7 @@ module _ (rows : List TypeRow) (layout : Layout) (objects : List Object) (s : Se
       | inl less ↦
           let brick = brick-of s place homes.bricks in_s in
           let in_q = stands-home rows objects s q homes stands' (subst (λ (b : ℕ). IsBrickOf s b) (sym at) brick) in
-          let may' = may_lead-lower layout place q young at (omega arith) may in
-          let r = w.starts q stands' in_q less may' in
+          let r = w.starts q stands' in_q less (may q stands' in_q) in
           let n = w.named (q / 4096) r.0 (brick-of s q homes.bricks in_q) r.1 in
           let under = n.1 in
           absurd (omega arith)
@@ -356,7 +361,7 @@ module _ (rows : List TypeRow) (layout : Layout) (objects : List Object) (s : Se
               stands = stands;
               inside = sym at;
               first = λ q stands' at'. rooted-first q stands' (at' ∙ at);
-              may = may;
+              may = may place stands in_s;
             }),
             omega arith,
           )
@@ -371,7 +376,6 @@ module _ (rows : List TypeRow) (layout : Layout) (objects : List Object) (s : Se
     rooted-starts x stands' in_x below may' = elim (cases_eq (x / 4096) (place / 4096)) [
       | inl at ↦ (place % 4096, ap other at ∙ root)
       | inr ne ↦
-          let most = step x stands' in_x below in
           let r = w.starts x stands' in_x (omega arith) may' in
           (r.0, same (x / 4096) ne ∙ r.1)
     ]
@@ -401,14 +405,12 @@ module _ (rows : List TypeRow) (layout : Layout) (objects : List Object) (s : Se
         let last : place / 4096 ≡ place / 4096 + 1 - 1 = omega arith in
         record {
           entered = record { named = rooted-named; starts = rooted-starts; reached = rooted-reached };
-          carried = λ o l in_o below old reach.
-              (let most = step o.place (o, l, refl) in_o below in
-              record {
-                to = place / 4096;
-                path = subst (λ (b : ℕ). Leads other b (place / 4096)) last (0, LeadsBack.here);
-                root = root';
-                above = omega arith;
-              });
+          carried = λ o l in_o below old reach. record {
+            to = place / 4096;
+            path = subst (λ (b : ℕ). Leads other b (place / 4096)) last (0, LeadsBack.here);
+            root = root';
+            above = omega arith;
+          };
           near = omega arith;
           here = λ under.
               (let at : place / 4096 ≡ after / 4096 = omega arith in
@@ -416,21 +418,73 @@ module _ (rows : List TypeRow) (layout : Layout) (objects : List Object) (s : Se
           above = omega arith;
         }
 
+  -- ---- a brick
+
+  -- THE NEXT BRICK, where this is its first object
+  pub stepped : (seen other : ℕ → ℤ) (brick next : ℕ) (first : Option ℕ)
+      → IsEntering rows layout objects seen s (4096 * brick) next → next ≤ brick
+      → MatchOption first ((x : ℕ) → Stands objects x → x / 4096 ≡ brick → ⊥) (IsFirstOf objects s brick)
+      → ((b : ℕ) → other b ≡ named_after first seen brick next b)
+      → IsEntering rows layout objects other s (4096 * (brick + 1)) (next_after first brick next)
+  stepped seen other brick next None w order never same =
+      let all : seen ≡ other = λ k b. sym (same b) k in
+      subst (λ (f : ℕ → ℤ). IsEntering rows layout objects f s (4096 * (brick + 1)) next) all
+      (passed seen (4096 * brick) next w (4096 * (brick + 1)) (omega arith)
+      (λ x stands in_s below. elim (cases_lt x (4096 * brick)) [
+        | inl less ↦ inl less
+        | inr more ↦ absurd (never x stands (omega arith))
+      ]))
+  stepped seen other brick next (Some place) w order is same =
+      let inside = is.inside in
+      let to = passed seen (4096 * brick) next w place (omega arith)
+      (λ x stands in_s below. elim (cases_lt x (4096 * brick)) [
+        | inl less ↦ inl less
+        | inr more ↦ let least = is.first x stands (omega arith) in absurd (omega arith)
+      ]) in
+      let back = led seen place next to brick order (λ x stands in_s below. omega arith) in
+      let B : ℕ → Type 0 = λ b. AreEnteredTo rows layout objects (led_back seen next brick) s place b in
+      let N : ℕ → Type 0 = λ b. IsEntering rows layout objects other s (4096 * (brick + 1)) (b + 1) in
+      let P : ℕ → Type 0 = λ b. other b ≡ root_entry (place % 4096) in
+      subst N inside (rooted (led_back seen next brick) other place (4096 * (brick + 1)) (subst B (sym inside) back)
+      is.stands is.in_segment (omega arith) (omega arith)
+      (subst P (sym inside) (same brick ∙ rw (eq-eqb brick brick refl) refl))
+      (λ b ne. same b ∙ rw (ne_eqb b brick (λ at. ne (at ∙ sym inside))) refl))
+
   -- ---- the end
 
-  pub all_entered : (entry : ℕ → ℤ) (place to : ℕ) → AreEnteredTo rows layout objects entry s place to → s.end ≤ place
-      → s.end ≤ 4096 * to → AreEntered rows layout objects entry s
-  all_entered entry place to w past most = record {
-    named = λ brick offset of is. (w.named brick offset of is).0;
-    starts = λ x stands in_s may.
+  -- The entries that were seen to tell the objects, and those that stand: the same below `to`, and from there on none
+  -- names a place.
+  pub all_entered : (seen now : ℕ → ℤ) (place to : ℕ) → AreEnteredTo rows layout objects seen s place to
+      → s.end ≤ place → s.end ≤ 4096 * to → ((b : ℕ) → b < to → now b ≡ seen b)
+      → ((b offset : ℕ) → IsBrickOf s b → to ≤ b → now b ≡ root_entry offset → ⊥)
+      → AreEntered rows layout objects now s
+  all_entered seen now place to w past most same none = record {
+    named = λ brick offset of is. elim (cases_lt brick to) [
+      | inl low ↦ (w.named brick offset of (sym (same brick low) ∙ is)).0
+      | inr high ↦ absurd (none brick offset of high is)
+    ];
+    starts = λ x stands in_s may'.
         (let at = stands.2 in
         let within = homes.within stands.0 stands.1 (subst (λ (p : ℕ). stands_in s p ≡ true) (sym at) in_s) in
         let least = homes.least stands.0 stands.1 in
-        w.starts x stands in_s (omega arith) may);
+        let root = w.starts x stands in_s (omega arith) may' in
+        (root.0, same (x / 4096) (omega arith) ∙ root.1));
     reached = λ brick of r.
         (let from = r.from in
         let reach = r.to in
         let in_s = homes.home r.object brick r.present of (omega arith) reach in
         let within = homes.within r.object r.present in_s in
-        w.reached brick of (omega arith) r);
+        let low : brick < to = omega arith in
+        elim (w.reached brick of low r) [
+          | inl root ↦ inl (root.0, same brick low ∙ root.1)
+          | inr n ↦ inr (record {
+            below = n.below;
+            lower = n.lower;
+            place = n.place;
+            leader = n.leader;
+            count = n.count;
+            path = path-same n.path (λ b lo hi. same b (omega arith));
+            nearest = n.nearest;
+          })
+        ]);
   }

@@ -1,21 +1,20 @@
 -- What is left of the bricks of a heap in which ends moved and objects went.
-use Rattle.std.proofs.Common.{◌≡◌, ℕ, ◌/◌, ◌<◌, Bool, true, List, [], ◌∷◌, length, map, filter, refl, ap, sym, ◌∙◌}
-use Rattle.std.proofs.Common.{subst, ℤ}
+use Rattle.std.proofs.Common.{◌≡◌, inl, inr, ℕ, ◌<◌, Bool, true, List, length, filter, refl, ap, sym, ◌∙◌, subst}
+use Rattle.std.proofs.Common.{arith, ℤ}
+use Rattle.std.proofs.lemmas.Bool.{cases_Bool}
 use Rattle.clr_types.specs.Rising.{IsIn}
-use Rattle.clr_types.specs.Segments.{ended_at, first_place, generation, Layout, reserved_end, stands_in}
+use Rattle.clr_types.specs.Segments.{ended_at, ephemeral, generation, Layout, reserved_end, stands_in}
 use Rattle.clr_types.specs.Types.{TypeRow}
 use Rattle.clr_types.specs.declared.segment.SegInfo.{SegInfo}
 use Rattle.clr_types.proofs.ChangedLists.{into_filter, out_of_filter}
-use Rattle.clr_covers.specs.Covers.{CoverView, spans}
-use Rattle.clr_heap.specs.View.{extents, first_of, frame, HeapView, IsHeap, last_of, segment_at}
+use Rattle.clr_heap.specs.View.{frame, HeapView, IsHeap, segment_at}
+use Rattle.clr_heap.proofs.Young.{young_number}
 use Rattle.clr_model.specs.Machine.{Object}
-use Rattle.clr_view.specs.View.{IsHeld, objects_in}
-use Rattle.clr_generations.specs.Entered.{AreEnteredBelow, forgotten}
+use Rattle.clr_view.specs.View.{IsHeld, objects_in, tail_of}
 use Rattle.clr_generations.specs.Laws.{AreEntered, IsBrickOf}
-use Rattle.clr_generations.specs.Tables.{AreBricksOf, units_of}
-use Rattle.clr_generations.proofs.Alike.{AreAlike, below_same, entered_alike, entered_below, entered_first}
+use Rattle.clr_generations.proofs.Alike.{AreAlike, entered_alike}
 use Rattle.clr_generations.proofs.HeapHomes.{heap_homes}
-use Rattle.clr_generations.proofs.Homes.{HaveHomes, old-may_lead}
+use Rattle.clr_generations.proofs.Homes.{HaveHomes, old-away, old-before, old-may_lead}
 
 -- what is of generation 1 or 2 before and after, and isn't among the objects that went, is alike
 pub alike-left : (rows : List TypeRow) (layout new : Layout) (objects others : List Object) (s : SegInfo) (from : ℕ)
@@ -37,52 +36,8 @@ alike-left rows layout new objects others s from left is stays old = record {
   old = λ place in_s below aged. (old place in_s below).0;
 }
 
--- where segments begin and how much they reserve tells their bricks
-units-told : (ss : List SegInfo) → map (units_of 4096) ss ≡ map (λ (p : ℕ × ℕ). (p.0 / 4096, p.1 / 4096)) (extents ss)
-units-told [] = refl
-units-told (s ∷ ss) = ap (λ (us : List (ℕ × ℕ)). units_of 4096 s ∷ us) (units-told ss)
-
--- the bricks are still those of the segments, which stay but for their ends
-pub bricks_stay : (old new : HeapView) (bricks now : List (CoverView ℤ)) → extents new.segments ≡ extents old.segments
-    → AreBricksOf (frame old) bricks → spans now ≡ spans bricks → AreBricksOf (frame new) now
-bricks_stay old new bricks now same has stay =
-    stay ∙ has ∙ units-told old.segments
-    ∙ ap (map (λ (p : ℕ × ℕ). (p.0 / 4096, p.1 / 4096))) (sym same) ∙ sym (units-told new.segments)
-
 module _ (rows : List TypeRow) (old new : HeapView) (heap : IsHeap old) (held : IsHeld rows old)
     (heap' : IsHeap new) (held' : IsHeld rows new) where
-  module _ (k end : ℕ) (inside : k < length old.segments) (inside' : k < length new.segments)
-      (this : segment_at new k ≡ ended_at end (segment_at old k)) (entry now : ℕ → ℤ)
-      (law : AreEntered rows (frame old) (objects_in rows old) entry (segment_at old k)) where
-    abbrev s : SegInfo
-    s = segment_at old k
-
-    homes' : HaveHomes rows (objects_in rows new) (ended_at end (segment_at old k))
-    homes' = subst (HaveHomes rows (objects_in rows new)) this (heap_homes rows new heap' held' k inside')
-
-    -- from a place on, where the objects below are alike
-    pub part_left : (from : ℕ)
-        → AreAlike rows (frame old) (frame new) (objects_in rows old) (objects_in rows new) (segment_at old k) from
-        → ((b : ℕ) → IsBrickOf (segment_at old k) b → now b ≡ forgotten entry from (last_of old k) b)
-        → AreEnteredBelow rows (frame new) (objects_in rows new) now (segment_at new k) from
-    part_left from alike same =
-        subst (λ (t : SegInfo). AreEnteredBelow rows (frame new) (objects_in rows new) now t from) (sym this)
-        (below_same rows (frame new) (objects_in rows new) (ended_at end s) from (forgotten entry from s.end) now homes'
-        same
-        (entered_below rows (frame old) (frame new) (objects_in rows old) (objects_in rows new) s end from
-        (heap_homes rows old heap held k inside) homes' alike entry law))
-
-    -- from the first place on, whatever the objects are
-    pub first_left : ((b : ℕ) → IsBrickOf (segment_at old k) b
-        → now b ≡ forgotten entry (first_of old k) (last_of old k) b)
-        → AreEnteredBelow rows (frame new) (objects_in rows new) now (segment_at new k) (first_of new k)
-    first_left same =
-        subst (λ (t : SegInfo). AreEnteredBelow rows (frame new) (objects_in rows new) now t (first_place t)) (sym this)
-        (below_same rows (frame new) (objects_in rows new) (ended_at end s) (first_place s)
-        (forgotten entry (first_place s) s.end) now homes' same
-        (entered_first rows (frame old) (frame new) (objects_in rows old) (objects_in rows new) s end entry
-        (heap_homes rows old heap held k inside) homes' law))
-
   -- a segment that stays as it was, with its objects and the entries of its bricks
   pub kept_elsewhere : (j : ℕ) (entry now : ℕ → ℤ) → j < length old.segments → j < length new.segments
       → segment_at new j ≡ segment_at old j
@@ -95,3 +50,26 @@ module _ (rows : List TypeRow) (old new : HeapView) (heap : IsHeap old) (held : 
       (entered_alike rows (frame old) (frame new) (objects_in rows old) (objects_in rows new) (segment_at old j) entry
       now (heap_homes rows old heap held j inside)
       (subst (HaveHomes rows (objects_in rows new)) this (heap_homes rows new heap' held' j inside')) alike same law)
+
+-- what bricks say doesn't depend on where the segment ends
+pub ended_entered : (rows : List TypeRow) (layout : Layout) (objects : List Object) (entry : ℕ → ℤ) (s : SegInfo)
+    (end : ℕ) → AreEntered rows layout objects entry s → AreEntered rows layout objects entry (ended_at end s)
+ended_entered rows layout objects entry s end e = record { named = e.named; starts = e.starts; reached = e.reached }
+
+-- where generation 0 begins at the end of the ephemeral segment, no object is of that generation
+pub all-old : (rows : List TypeRow) (h : HeapView) → IsHeap h → IsHeld rows h → h.start0 ≡ tail_of h → (o : Object)
+    → IsIn o (objects_in rows h) → 0 < generation (frame h) o.place
+all-old rows h heap held none o l =
+    let one = heap.one_ephemeral in
+    let found = young_number h.segments (omega arith) in
+    let eph : segment_at h found.0 ≡ ephemeral (frame h) = found.2 in
+    let homes = heap_homes rows h heap held found.0 found.1 in
+    let end = ap (λ (s : SegInfo). s.end) eph in
+    elim (cases_Bool (stands_in (ephemeral (frame h)) o.place)) [
+      | inl inside ↦
+          let in_s = ap (λ (s : SegInfo). stands_in s o.place) eph ∙ inside in
+          let within = homes.within o l in_s in
+          let least = homes.least o l in
+          old-before (frame h) o.place (omega arith)
+      | inr away ↦ old-away (frame h) o.place away
+    ]

@@ -77,7 +77,7 @@ pub record IsWalkTo (rows : List TypeRow) (h : HeapView) (k a start : ℕ) : Typ
 module _ (rows : List TypeRow) (h : HeapView) (heap : IsHeap h) (held : IsHeld rows h) (k a : ℕ)
     (l : k < length h.segments) where
   -- segment k is the only one with a place of it
-  only-segment : (j : ℕ) → j < length h.segments → first_of h k ≤ a → a < last_of h k → first_of h j ≤ a
+  pub only-segment : (j : ℕ) → j < length h.segments → first_of h k ≤ a → a < last_of h k → first_of h j ≤ a
       → a < last_of h j → j ≡ k
   only-segment j m low high from to =
       let this = (lawful_at h k heap l).high in

@@ -9,11 +9,12 @@ pub mod BirthLaws
 pub mod BirthFacts
 pub mod CoveredSegments
 pub mod OpeningTables
+pub mod Entered
 pub mod Alike
 pub mod AllBricks
 pub mod BrickSteps
-pub mod BrickWalks
+pub mod FirstMarked
+pub mod Renewed
 pub mod Collected
-pub mod Forgetting
 pub mod HeapHomes
 pub mod Homes

@@ -40,7 +40,7 @@ abbrev pub IsBrickOf : SegInfo → ℕ → Type 0
 IsBrickOf s brick = (s.base / 4096 ≤ brick) × (brick < reserved_end s / 4096)
 
 -- Whether a brick may name what stands at a place in it: the place is of generation 1 or 2, or no place of the brick
--- is. So where generation 0 begins in a brick, the brick names none of its objects.
+-- is. So where generation 0 begins inside a brick, and not at its first address, the brick names none of its objects.
 abbrev pub may_lead : Layout → ℕ → Bool
 may_lead layout place = nat_lt 0 (generation layout place) || nat_le layout.start0 (4096 * (place / 4096))
 

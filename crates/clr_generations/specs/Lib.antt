@@ -1,7 +1,6 @@
 pub mod Laws
-pub mod Entered
 pub mod Tables
 pub mod Barrier
 pub mod Born
 pub mod Finding
-pub mod Entering
+pub mod Renewing

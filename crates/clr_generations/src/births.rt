@@ -46,6 +46,8 @@ pub fn bear(
     ensures unmarked { IsUnmarked types.now heap.old → IsUnmarked types.now heap.new }
     ensures free_heads { AreFreeHeads types.now heap.old → AreFreeHeads types.now heap.new }
     ensures clean { AreClean types.now heap.old → AreClean types.now heap.new }
+    ensures entries { (i : ℕ) → entry_at bricks.new i
+        ≡ with_place (frame heap.old) (entry_at bricks.old) result i }
     ensures spans { spans bricks.new ≡ spans bricks.old }
     ensures bricks { heap.old.start1 ≤ heap.old.start0
         → BrickLaw types.now (frame heap.old) (objects_in types.now heap.old) (entry_at bricks.old)

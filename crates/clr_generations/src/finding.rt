@@ -77,7 +77,7 @@ fn walk_start(heap: &Heap, types: &Types, bricks: &Bricks, k: usize, a: u64) -> 
 }
 
 // The offset that an entry names.
-fn offset_of(entry: i16) -> u64
+pub(crate) fn offset_of(entry: i16) -> u64
     requires { pos 0 <ℤ entry }
     ensures named { entry ≡ root_entry result }
     ensures small { result < 2 ^ 15 }

@@ -1,6 +1,7 @@
 // The heap: its segments, their words, the boundaries of the generations and the rests of contexts.
 ghost use Rattle.std.specs.Prelude.{◌≡◌, ℕ, ◌+◌, ◌*◌, ◌%◌, ◌<◌, ◌≤◌, ◌^◌, [], ◌∷◌, length, set, IfOk};
-ghost use Rattle.clr_types.specs.Segments.{ended_at, ephemeral, first_place, generation, opening_segment, reserved_end, stands_in};
+ghost use Rattle.clr_types.specs.Segments.{ended_at, ephemeral, first_place, generation, opening_segment, reserved_end};
+ghost use Rattle.clr_types.specs.Segments.{stands_in};
 ghost use Rattle.clr_types.specs.LawfulLayout.{IsLawfulSegment};
 ghost use Rattle.clr_heap.specs.Memories.{first_memory};
 ghost use Rattle.clr_heap.specs.View.{no_rests};

@@ -21,8 +21,8 @@ impl Sums {
         promoted2: 0,
     };
 
-    /// The sums after a collection of generation `g` that promoted so many bytes to generations 1 and 2. Each sum begins
-    /// anew where the generation is one that it counts up to.
+    /// The sums after a collection of generation `g` that promoted so many bytes to generations 1 and 2. A sum begins
+    /// anew where the collection is one since which it counts.
     pub fn collected(self, g: u8, promoted1: u64, promoted2: u64) -> Sums
         requires first { g ≡ 0 → self.promoted1 + promoted1 < 2 ^ 64 }
         requires second { g ≢ 2 → self.promoted2 + promoted2 < 2 ^ 64 }

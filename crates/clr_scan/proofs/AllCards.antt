@@ -131,10 +131,13 @@ module _ (rows : List TypeRow) (h now : HeapView) (m n : MarkerView) (old cards 
         cleared = λ j below l. elim (cases_eq j k) [
           | inl same ↦ subst (λ i. AreCleared rows h (is_card_set after) i (first_of h i) (old_end h m.oldest i))
               (sym same)
-              (λ c low high all. cleared c (omega (arith, first, low)) (omega (arith, end, high))
+              (λ c low high whole all. cleared c (omega (arith, first, low)) (omega (arith, end, high)) (elim whole [
+                | inl w ↦ inl (omega (arith, end, w))
+                | inr e ↦ inr (end ∙ e ∙ sym (ap (λ (v : HeapView). last_of v k) r.shape.others))
+              ])
               (quiet-on rows h now closed r k inside (2048 * c) (2048 * c + 2048) all))
-          | inr ne ↦ λ c low high all. still-clear (is_card_set cards) (is_card_set after) settled.kept c
-              (s.cleared j (omega arith) l c low high all)
+          | inr ne ↦ λ c low high whole all. still-clear (is_card_set cards) (is_card_set after) settled.kept c
+              (s.cleared j (omega arith) l c low high whole all)
         ];
       }
 

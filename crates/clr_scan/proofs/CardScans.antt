@@ -1,7 +1,7 @@
 -- Parts of a marking that follow what older objects name.
 use Rattle.std.proofs.Common.{◌≡◌, ◌≢◌, ◌⊎◌, ◌↔◌, inl, inr, ℕ, ◌^◌, ◌<◌, ◌≤◌, true, false, List, refl, ap, sym, ◌∙◌}
 use Rattle.std.proofs.Common.{subst, arith}
-use Rattle.std.proofs.lemmas.Bool.{cases_lt, le-leb, leb-true, true≢false}
+use Rattle.std.proofs.lemmas.Bool.{cases_lt, le-leb, leb-true, lt-leb, true≢false}
 use Rattle.clr_types.specs.Rising.{IsIn}
 use Rattle.clr_types.specs.Segments.{generation, Layout}
 use Rattle.clr_types.specs.Types.{TypeRow}
@@ -14,7 +14,7 @@ use Rattle.clr_view.specs.SlotValues.{IsObjectAt, StandsAt}
 use Rattle.clr_view.specs.Marks.{Marked}
 use Rattle.clr_view.proofs.Listed.{listed-known, listed-small}
 use Rattle.clr_view.proofs.ObjectItems.{object-told}
-use Rattle.clr_scan.specs.References.{IsNamedByOlder, IsReferenceOf}
+use Rattle.clr_scan.specs.References.{IsNamedByOlder, IsQuiet, IsReferenceOf}
 use Rattle.clr_scan.specs.Scans.{HasScanned, IsTraced}
 use Rattle.clr_mark.specs.Marks.{is_condemned_place, IsClosed, IsRemarked, LeadsTo}
 use Rattle.clr_mark.specs.Markings.{HasMarked}
@@ -36,6 +36,16 @@ pub older-above : (h : HeapView) (g x : ℕ) → is_condemned_place h g x ≡ fa
 unfolding is_condemned_place
 older-above h g x e = elim (cases_lt g (generation (frame h) x))
     [ inl l ↦ l | inr m ↦ absurd (true≢false (sym (le-leb (generation (frame h) x) g m) ∙ e)) ]
+
+pub spared-above : (h : HeapView) (g x : ℕ) → g < generation (frame h) x → is_condemned_place h g x ≡ false
+unfolding is_condemned_place
+spared-above h g x l = lt-leb (generation (frame h) x) g l
+
+-- what is of no lower generation than an older object, isn't condemned
+pub quiet-spared : (h : HeapView) (g age a : ℕ) → g < age → IsQuiet h age a → word_of h a ≢ 0
+    → is_condemned_place h g (word_of h a) ≡ false
+quiet-spared h g age a order quiet ne = elim (cases_lt (generation (frame h) (word_of h a)) age)
+    [ inl less ↦ absurd (quiet ne less) | inr more ↦ spared-above h g (word_of h a) (omega arith) ]
 
 -- ---- a reference
 

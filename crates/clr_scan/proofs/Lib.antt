@@ -1,3 +1,4 @@
+pub mod Bounds
 pub mod CardScans
 pub mod SlotScans
 pub mod WordScans

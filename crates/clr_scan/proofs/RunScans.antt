@@ -254,8 +254,8 @@ module _ (rows : List TypeRow) (h now : HeapView) (m n : MarkerView) (old cards 
     }
 
     all_cleared : AreCleared rows h (is_card_set after) k lo next
-    all_cleared c low high all = elim (cases_lt (2048 * c + 2047) at) [
-      | inl early ↦ settled.others c (λ e. omega (arith, e, early)) ∙ s.cleared c low (omega arith) all
+    all_cleared c low high whole all = elim (cases_lt (2048 * c + 2047) at) [
+      | inl early ↦ settled.others c (λ e. omega (arith, e, early)) ∙ s.cleared c low (omega arith) (inl (omega arith)) all
       | inr late ↦
           let is : c ≡ at / 2048 = omega (arith, late, high, near) in
           let aligned : at % 2048 ≡ 0 = elim s.grid [
@@ -263,10 +263,14 @@ module _ (rows : List TypeRow) (h now : HeapView) (m n : MarkerView) (old cards 
             | inr more ↦ elim more [ inl z ↦ z | inr end ↦ absurd (omega arith) ]
           ] in
           let from : 2048 * c ≡ at = omega (arith, is, aligned) in
-          let to : 2048 * c + 2048 ≡ next = omega (arith, is, aligned, high, near) in
+          let over : next ≤ 2048 * c + 2048 = omega (arith, is, near) in
+          let stop : (next % 2048 ≡ 0) ⊎ (next ≡ last_of h k) = elim whole [
+            | inl w ↦ inl (omega (arith, over, w))
+            | inr e ↦ inr e
+          ] in
           ap (is_card_set after) is
           ∙ settled.cleared (silent (quiet-on rows h now closed r k inside at next
-          (λ i a l ref lo hi. all i a l ref (omega arith) (omega arith)))) aligned (omega (arith, to))
+          (λ i a l ref lo hi. all i a l ref (omega (arith, from, lo)) (omega (arith, over, hi))))) aligned stop
     ]
 
     -- THE NEXT CARD

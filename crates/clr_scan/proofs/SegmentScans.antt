@@ -28,7 +28,7 @@ use Rattle.clr_mark.specs.Marks.{IsClosed, IsRemarked}
 use Rattle.clr_mark.specs.Waiting.{IsGray, MarkerView}
 use Rattle.clr_scan.proofs.CardScans.{condemned-most, older-above, scanned-refl, scanned-trans, traced-on}
 use Rattle.clr_mark.proofs.Held.{remarked_back}
-use Rattle.clr_scan.proofs.RunScans.{cursor-on, inside-on, law-on, quiet-on, traced-back}
+use Rattle.clr_scan.proofs.RunScans.{last-on, cursor-on, inside-on, law-on, quiet-on, traced-back}
 use Rattle.clr_view.proofs.Standing.{listed_from, standing}
 
 module _ (rows : List TypeRow) (h : HeapView) (closed : IsClosed rows h) (k : ℕ) (inside : k < length h.segments) where
@@ -193,10 +193,13 @@ module _ (rows : List TypeRow) (h now : HeapView) (m n : MarkerView) (old cards 
       ]
 
       pub segment_cleared : AreCleared rows h (is_card_set cards) k (first_of h k) end
-      segment_cleared c low high all = elim (cases_lt (2048 * c + 2047) at) [
-        | inl early ↦ s.cleared c low (omega arith) all
+      segment_cleared c low high whole all = elim (cases_lt (2048 * c + 2047) at) [
+        | inl early ↦ s.cleared c low (omega arith) (inl (omega arith)) all
         | inr late ↦ elim s.grid [
-          | inl past ↦ absurd (omega arith)
+          | inl past ↦ s.cleared c low (omega (arith, past, high)) (elim whole [
+            | inl w ↦ inl (omega (arith, past, w))
+            | inr e ↦ inr (past ∙ e)
+          ]) all
           | inr z ↦ let e : 2048 * c / 2048 ≡ c = omega arith in ap (is_card_set cards) (sym e)
               ∙ clear (2048 * c) (omega arith) (omega arith)
         ]
@@ -210,9 +213,9 @@ module _ (rows : List TypeRow) (h now : HeapView) (m n : MarkerView) (old cards 
           (place : IsCursor rows now k next hi) (settled : AreSettled rows now cards after)
           (cleared : AreCleared rows now (is_card_set after) k lo hi) where
         more_cleared : AreCleared rows h (is_card_set after) k (first_of h k) hi
-        more_cleared c low high all = elim (cases_lt (2048 * c + 2047) at) [
+        more_cleared c low high whole all = elim (cases_lt (2048 * c + 2047) at) [
           | inl early ↦ still-clear (is_card_set cards) (is_card_set after) settled.kept c
-              (s.cleared c low (omega arith) all)
+              (s.cleared c low (omega arith) (inl (omega arith)) all)
           | inr late ↦ elim s.grid [
             | inl past ↦ absurd (omega arith)
             | inr z ↦ elim (cases_lt (2048 * c) lo) [
@@ -220,7 +223,10 @@ module _ (rows : List TypeRow) (h now : HeapView) (m n : MarkerView) (old cards 
                   let e : 2048 * c / 2048 ≡ c = omega arith in
                   still-clear (is_card_set cards) (is_card_set after) settled.kept c (ap (is_card_set cards) (sym e)
                   ∙ clear (2048 * c) (omega arith) before)
-              | inr within ↦ cleared c within high
+              | inr within ↦ cleared c within high (elim whole [
+                | inl w ↦ inl w
+                | inr e ↦ inr (e ∙ sym (last-on rows h now closed r k inside))
+              ])
                   (quiet-on rows h now closed r k inside (2048 * c) (2048 * c + 2048) all)
             ]
           ]

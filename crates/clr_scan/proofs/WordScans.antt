@@ -1,13 +1,14 @@
 -- A scan of the words of an item whose references are one run.
-use Rattle.std.proofs.Common.{◌≡◌, inl, inr, ℕ, zero, suc, ◌+◌, ◌*◌, ◌<◌, ◌≤◌, Bool, true, false, List, refl, ap, sym}
-use Rattle.std.proofs.Common.{◌∙◌, subst, arith}
-use Rattle.std.proofs.lemmas.Bool.{cases_eq, cases_lt}
+use Rattle.std.proofs.Common.{◌≡◌, inl, inr, ℕ, zero, suc, ◌+◌, ◌*◌, ◌^◌, ◌<◌, ◌≤◌, Bool, true, false, List, refl}
+use Rattle.std.proofs.Common.{if◌then◌else◌, ap, sym, ◌∙◌, subst, arith}
+use Rattle.std.proofs.lemmas.Bool.{cases_eq, cases_lt, true≢false}
 use Rattle.clr_types.specs.Descriptors.{offsets_from}
 use Rattle.clr_types.specs.Rising.{IsIn}
 use Rattle.clr_types.specs.Segments.{generation}
 use Rattle.clr_types.specs.Types.{TypeRow}
 use Rattle.clr_types.specs.declared.item.Item.{Item}
 use Rattle.clr_types.proofs.RisingLists.{in_cons}
+use Rattle.clr_heap.specs.Memories.{HasWord, memory_index}
 use Rattle.clr_heap.specs.View.{frame, heap_items, HeapView, word_of}
 use Rattle.clr_view.specs.View.{is_object}
 use Rattle.clr_scan.specs.References.{IsQuiet, IsReferenceOf}
@@ -15,7 +16,8 @@ use Rattle.clr_scan.specs.Scans.{HasScanned, IsTraced}
 use Rattle.clr_mark.specs.Marks.{IsClosed}
 use Rattle.clr_mark.specs.Markings.{item_references}
 use Rattle.clr_mark.specs.Waiting.{IsGray, MarkerView}
-use Rattle.clr_scan.proofs.CardScans.{ref_word, same-age, scanned-refl, scanned-trans, traced-from, traced-on}
+use Rattle.clr_scan.proofs.CardScans.{quiet-spared, ref_has, ref_index, ref_low, ref_word, same-age}
+use Rattle.clr_scan.proofs.CardScans.{scanned-refl, scanned-trans, traced-from, traced-on}
 use Rattle.clr_mark.proofs.RunReferences.{run_listed}
 
 -- an offset of a run by its number
@@ -35,6 +37,23 @@ word_reference rows i offset count j object all l = record {
   reference = subst (λ (os : List ℕ). IsIn (offset + 8 * j) os) (sym all) (run_listed offset count j l);
   address = omega arith;
 }
+
+-- the words of the run can be read
+module _ (rows : List TypeRow) (h : HeapView) (closed : IsClosed rows h) (i : Item)
+    (listed : IsIn i (heap_items rows h)) (offset count : ℕ) (object : is_object i ≡ true)
+    (all : item_references rows i ≡ offsets_from offset count)
+    (j : ℕ) (below : j < count) where
+  reference : IsReferenceOf rows i (i.place + offset + 8 * j)
+  reference = word_reference rows i offset count j object all below
+
+  pub word_has : HasWord h.memories (i.place + offset + 8 * j)
+  word_has = ref_has rows h closed i listed (i.place + offset + 8 * j) reference
+
+  pub word_index : memory_index h.memories i.place ≡ memory_index h.memories (i.place + offset + 8 * j)
+  word_index = ref_index rows h closed i listed (i.place + offset + 8 * j) reference
+
+  pub word_low : i.place + offset + 8 * j < 2 ^ 64
+  word_low = ref_low rows h closed i listed (i.place + offset + 8 * j) reference
 
 -- the words from number `from` up to j, of which the first stands at `base`, are followed
 pub record IsWordScan (rows : List TypeRow) (h now : HeapView) (m n : MarkerView) (base age from j : ℕ)
@@ -91,6 +110,41 @@ module _ (rows : List TypeRow) (h now : HeapView) (m n : MarkerView) (i : Item) 
               (silent (λ ne less. all j low (omega arith) (λ e. ne (same ∙ e)) (omega (arith, w, a, less))));
         }
 
+  -- words were passed that name nothing that the scan still looks for
+  pub words_passed : (met to bound : ℕ) → bound ≡ (if younger then n.oldest + 1 else age) → n.oldest < bound
+      → ((t : ℕ) → j ≤ t → t < to → IsReferenceOf rows i (base + 8 * t))
+      → ((t : ℕ) → j ≤ t → t < met → IsQuiet now bound (base + 8 * t)) → j ≤ met → met ≤ to
+      → IsWordScan rows h now m n base age from met younger
+  words_passed met to bound is above reference quiet up top =
+      record {
+        gray = s.gray;
+        scanned = s.scanned;
+        traced = λ t l b. elim (cases_lt t j) [
+          | inl before ↦ s.traced t l before
+          | inr here ↦ traced-from h rows now now m n (base + 8 * t) s.scanned
+              (same t (reference t here (omega arith)))
+              (λ ne near. absurd (true≢false (sym near
+              ∙ quiet-spared now n.oldest bound (base + 8 * t) above (quiet t here b) ne)))
+        ];
+        clear = λ none t l b. elim (cases_lt t j) [
+          | inl before ↦ s.clear none t l before
+          | inr here ↦ quiet_back t (reference t here (omega arith))
+              (subst (λ g. IsQuiet now g (base + 8 * t)) (is ∙ (λ k. if none k then n.oldest + 1 else age))
+              (quiet t here b))
+        ];
+        silent = λ all. s.silent (λ t l b. all t l (omega arith));
+      }
+    where
+      same : (t : ℕ) → IsReferenceOf rows i (base + 8 * t) → word_of now (base + 8 * t) ≡ word_of h (base + 8 * t)
+      same t r = ref_word rows h closed i listed (base + 8 * t) r now s.scanned.remarked
+
+      quiet_back : (t : ℕ) → IsReferenceOf rows i (base + 8 * t) → IsQuiet now age (base + 8 * t)
+          → IsQuiet h age (base + 8 * t)
+      quiet_back t r quiet ne less =
+          let w = ap (generation (frame now)) (same t r) in
+          let a = same-age rows h now (word_of h (base + 8 * t)) s.scanned.remarked in
+          quiet (λ e. ne (sym (same t r) ∙ e)) (omega (arith, w, a, less))
+
   -- at the end each reference on the stretch is followed
   module _ (offset count to lo hi : ℕ) (all : item_references rows i ≡ offsets_from offset count)
       (at : base ≡ i.place + offset) (past : to ≤ j)
@@ -114,6 +168,15 @@ module _ (rows : List TypeRow) (h now : HeapView) (m n : MarkerView) (i : Item) 
     pub words_clear : younger ≡ false → (a : ℕ) → IsReferenceOf rows i a → lo ≤ a → a < hi → IsQuiet h age a
     words_clear none a r low high = let (t, above, under, here) = number a r low high in
         subst (IsQuiet h age) (sym here) (s.clear none t above under)
+
+-- one word more is passed
+pub quiet_next : (h : HeapView) (age base from j : ℕ)
+    → ((s : ℕ) → from ≤ s → s < j → IsQuiet h age (base + 8 * s)) → IsQuiet h age (base + 8 * j) → (s : ℕ) → from ≤ s
+    → s < j + 1 → IsQuiet h age (base + 8 * s)
+quiet_next h age base from j all here s low below = elim (cases_eq s j) [
+  | inl is ↦ subst (λ k. IsQuiet h age (base + 8 * k)) (sym is) here
+  | inr ne ↦ all s low (omega arith)
+]
 
 -- an empty run has no references
 pub no_words : (rows : List TypeRow) (i : Item) (offset count a : ℕ)

@@ -4,7 +4,7 @@ use Rattle.clr_types.specs.Segments.{reserved_end}
 use Rattle.clr_types.specs.Types.{TypeRow}
 use Rattle.clr_cards.specs.Cards.{is_card_set}
 use Rattle.clr_covers.specs.Covers.{CoverView, HasAll, spans}
-use Rattle.clr_heap.specs.View.{HeapView, segment_at}
+use Rattle.clr_heap.specs.View.{HeapView, last_of, segment_at}
 use Rattle.clr_scan.specs.References.{AreQuiet, RefersDown}
 
 -- where a reference names an object of a lower generation, the card of its address is set
@@ -25,7 +25,7 @@ AreClear is_set lo hi = (a : ℕ) → lo ≤ a → a < hi → is_set (a / 2048) 
 -- generation are clear.
 abbrev pub AreCleared : List TypeRow → HeapView → (ℕ → Bool) → ℕ → ℕ → ℕ → Type 0
 AreCleared rows h is_set k lo hi =
-    (c : ℕ) → lo ≤ 2048 * c → 2048 * c + 2048 ≤ hi → AreQuiet rows h k (2048 * c) (2048 * c + 2048)
+    (c : ℕ) → lo ≤ 2048 * c → 2048 * c < hi → (2048 * c + 2048 ≤ hi) ⊎ (hi ≡ last_of h k) → AreQuiet rows h k (2048 * c) (2048 * c + 2048)
     → is_set c ≡ false
 
 -- cards were cleared at most, and they still tell all that names an object of a lower generation
@@ -40,4 +40,4 @@ pub record IsCardSettled (old new : ℕ → Bool) (at next end : ℕ) (younger :
   pub kept : new (at / 2048) ≡ true → old (at / 2048) ≡ true
   pub reason : new (at / 2048) ≡ false → (old (at / 2048) ≡ false)
       ⊎ ((younger ≡ false) × (at % 2048 ≡ 0) × ((next % 2048 ≡ 0) ⊎ (next ≡ end)))
-  pub cleared : younger ≡ false → at % 2048 ≡ 0 → next % 2048 ≡ 0 → new (at / 2048) ≡ false
+  pub cleared : younger ≡ false → at % 2048 ≡ 0 → (next % 2048 ≡ 0) ⊎ (next ≡ end) → new (at / 2048) ≡ false

@@ -22,17 +22,16 @@ use clr_cards::Cards;
 use clr_heap::Heap;
 use clr_mark::Marker;
 use clr_nums::Grid;
-use clr_types::{SegKind, Types};
-
-/// How far the first place of a segment stands above its base.
-const FIRST_OFFSET: u64 = 0x1000;
+use clr_types::{FIRST_OFFSET, SegKind, Types};
 
 /// Marks the condemned objects that slots of older ones name, and what they and the marked objects reach over condemned
 /// ones, in a collection of generation 0 or of 0 and 1. Nothing waits then.
 ///
 /// It looks at the older objects on set cards alone, which are all that name an object of a lower generation. A card on
-/// which none does is cleared, so cards and bricks still obey their laws, and no card stays set for no reason. All else
-/// stays.
+/// which none does is cleared where it lies whole in an older part, or is the last one of a segment that is old to its
+/// end. Cards and bricks still obey their laws. All else stays.
+///
+/// All contexts are given up, no item reaches over a boundary of generations, and cards and bricks obey their laws.
 pub fn scan_cards(
     marker: &mut Marker,
     heap: &mut Heap,

@@ -1,7 +1,7 @@
 // Marking for a collection of any generation.
-ghost use Rattle.std.specs.Prelude.{◌≡◌, ℕ, ◌≤◌, ◌↔◌, ◌⊎◌, true, [], None};
+ghost use Rattle.std.specs.Prelude.{◌≡◌, ℕ, ◌<◌, ◌≤◌, ◌↔◌, ◌⊎◌, true, [], length, None};
 ghost use Rattle.clr_cards.specs.Cards.{is_card_set};
-ghost use Rattle.clr_heap.specs.View.{no_rests};
+ghost use Rattle.clr_heap.specs.View.{first_of, no_rests};
 ghost use Rattle.clr_model.specs.Reach.{Reach};
 ghost use Rattle.clr_view.specs.Marks.{Marked};
 ghost use Rattle.clr_view.specs.World.{HandlesStand};
@@ -10,8 +10,9 @@ ghost use Rattle.clr_mark.specs.Roots.{AreObjects};
 ghost use Rattle.clr_mark.specs.Ties.{Draws, IsCondemnedStart};
 ghost use Rattle.clr_mark.specs.Waiting.{IsGray, IsIdle};
 ghost use Rattle.clr_generations.specs.Tables.{AreTablesOf};
-ghost use Rattle.clr_scan.specs.OldParts.{HaveOldParts};
+ghost use Rattle.clr_scan.specs.OldParts.{HaveOldParts, old_end};
 ghost use Rattle.clr_scan.specs.References.{IsNamedByOlder};
+ghost use Rattle.clr_scan.specs.SetCards.{AreCleared};
 
 use crate::cards::scan_cards;
 use clr_bricks::Bricks;
@@ -27,7 +28,9 @@ use clr_types::Types;
 /// is 0 or the place of an object. Nothing waits then.
 ///
 /// Of older objects it looks at those on set cards alone, and clears cards on which none names an object of a lower
-/// generation. Cards and bricks still obey their laws. All else stays.
+/// generation, as `scan_cards` does. Cards and bricks still obey their laws. All else stays.
+///
+/// All contexts are given up, no item reaches over a boundary of generations, and cards and bricks obey their laws.
 pub fn mark_from(
     marker: &mut Marker,
     heap: &mut Heap,
@@ -57,6 +60,8 @@ pub fn mark_from(
         ⊎ IsNamedByOlder types.now heap.old g y) x }
     ensures tables { AreTablesOf types.now heap.new cards.new bricks.now }
     ensures kept { (i : ℕ) → is_card_set cards.new i ≡ true → is_card_set cards.old i ≡ true }
+    ensures cleared { g ≤ 1 → (k : ℕ) → k < length heap.old.segments → AreCleared types.now heap.old
+        (is_card_set cards.new) k (first_of heap.old k) (old_end heap.old g k) }
 {
     marker.begin(g);
     marker.roots(heap, types, locals);
@@ -87,6 +92,8 @@ fn mark_from_older(
         (λ y. Marked types.now heap.old y ⊎ IsNamedByOlder types.now heap.old marker.old.oldest y) x }
     ensures tables { AreTablesOf types.now heap.new cards.new bricks.now }
     ensures kept { (i : ℕ) → is_card_set cards.new i ≡ true → is_card_set cards.old i ≡ true }
+    ensures cleared { marker.old.oldest ≤ 1 → (k : ℕ) → k < length heap.old.segments → AreCleared types.now heap.old
+        (is_card_set cards.new) k (first_of heap.old k) (old_end heap.old marker.old.oldest k) }
 {
     let is_young = marker.oldest() < 2;
     if is_young {

@@ -1,16 +1,19 @@
 // Marking what the slots of an older object name.
-ghost use Rattle.std.specs.Prelude.{◌≡◌, ℕ, ◌+◌, ◌*◌, ◌<◌, ◌≤◌, ◌^◌, not, ◌&&◌, ◌==◌, nat_lt, true, false, length};
+ghost use Rattle.std.specs.Prelude.{◌≡◌, ℕ, ◌+◌, ◌*◌, ◌<◌, ◌≤◌, ◌^◌, not, ◌&&◌, ◌==◌, nat_le, nat_lt, true, false};
+ghost use Rattle.std.specs.Prelude.{length, if◌then◌else◌};
 ghost use Rattle.clr_types.specs.Descriptors.{offsets_from};
 ghost use Rattle.clr_types.specs.Rising.{IsIn};
-ghost use Rattle.clr_types.specs.Segments.{generation};
+ghost use Rattle.clr_types.specs.Segments.{ephemeral, generation, stands_in};
 ghost use Rattle.clr_types.specs.Types.{form_at, is_bytes, size_of, slot_kinds, slot_offset};
-ghost use Rattle.clr_heap.specs.Memories.{memory_index};
+ghost use Rattle.clr_heap.specs.Memories.{HasWord, memory_index};
 ghost use Rattle.clr_heap.specs.View.{frame, heap_items, word_of};
+ghost use Rattle.clr_view.specs.Marks.{Marked};
+ghost use Rattle.clr_view.specs.SlotValues.{StandsAt};
 ghost use Rattle.clr_view.specs.View.{is_object};
 ghost use Rattle.clr_mark.specs.Marks.{is_condemned_place};
 ghost use Rattle.clr_mark.specs.Markings.{item_references};
 ghost use Rattle.clr_mark.specs.Waiting.{IsGray};
-ghost use Rattle.clr_scan.specs.References.{IsQuiet, IsReferenceOf};
+ghost use Rattle.clr_scan.specs.References.{IsNamedByOlder, IsQuiet, IsReferenceOf};
 ghost use Rattle.clr_scan.specs.Scans.{HasScanned, IsTraced};
 
 use clr_heap::{Heap, Item};
@@ -72,7 +75,9 @@ pub(crate) fn scan_slots(
     younger
 }
 
-// The same where the references are one run of words.
+// The same where the references are one run of words. It stands apart, so that its loops have the registers to
+// themselves.
+#[inline(never)]
 fn scan_words(
     marker: &mut Marker,
     heap: &mut Heap,
@@ -109,11 +114,79 @@ fn scan_words(
     let to = words_to(first, hi).min(run.count);
     let from = words_to(first, lo).min(to);
     let mut younger = false;
-    for j in from..to {
-        let below = scan_slot(marker, heap, types, k, found, age, first + 8 * j);
+    let mut at = from;
+    while at < to {
+        let bound = looked_for(younger, age, marker.oldest());
+        let met = pass_words(heap, k, first, at, to, bound);
+        if met == to {
+            return younger;
+        }
+        let below = scan_slot(marker, heap, types, k, found, age, first + 8 * met);
         younger |= below;
+        at = met + 1;
     }
     younger
+}
+
+// Below which generation a target must be that the scan still looks for: below that of the object, until one is found,
+// and then condemned.
+#[inline]
+fn looked_for(younger: bool, age: u8, oldest: u8) -> u8
+    requires { oldest < age }
+    ensures bound { result ≡ (if younger then oldest + 1 else age) }
+    ensures above { oldest < result }
+    ensures most { result ≤ age }
+{
+    if younger { oldest + 1 } else { age }
+}
+
+// Passes over words that name no object of a generation below `age`, from number `from` on, of the words up to `to` of
+// which the first stands at `first`. It answers the number of the next word. It only reads, so that its loop does no
+// more than that.
+#[inline]
+fn pass_words(heap: &Heap, k: usize, first: u64, from: u64, to: u64, age: u8) -> u64
+    requires order { from ≤ to }
+    requires some { 1 ≤ age }
+    requires most { age ≤ 2 }
+    requires fits { (j : ℕ) → j < to → first + 8 * j < 2 ^ 64 }
+    requires words { (j : ℕ) → j < to → HasWord heap.now.memories (first + 8 * j) }
+    requires segment { (j : ℕ) → j < to → k ≡ memory_index heap.now.memories (first + 8 * j) }
+    ensures from { from ≤ result }
+    ensures within { result ≤ to }
+    ensures quiet { (j : ℕ) → from ≤ j → j < result → IsQuiet heap.now age (first + 8 * j) }
+{
+    let low = lowest_below(heap, age);
+    for j in from..to {
+        let target = heap.word_at(k, first + 8 * j);
+        if names_from(heap, target, low) {
+            return j;
+        }
+    }
+    to
+}
+
+// The place from which on all places of the ephemeral segment are of a generation below `age`, which is 1 or 2. No
+// other place is.
+#[inline]
+fn lowest_below(heap: &Heap, age: u8) -> u64
+    requires some { 1 ≤ age }
+    requires most { age ≤ 2 }
+    ensures { (x : ℕ) → nat_lt (generation (frame heap.now) x) age
+        ≡ (stands_in (ephemeral (frame heap.now)) x && nat_le result x) }
+{
+    let (start1, start0) = heap.boundaries();
+    if age == 2 {
+        return start1;
+    }
+    start1.max(start0)
+}
+
+// Whether a word names a place of the ephemeral segment from `low` on.
+#[inline]
+fn names_from(heap: &Heap, target: u64, low: u64) -> bool
+    ensures { result ≡ (stands_in (ephemeral (frame heap.now)) target && nat_le low target) }
+{
+    low <= target && heap.is_ephemeral(target)
 }
 
 // Marks what the reference at `a` of an older object names, where that is condemned. It answers whether that is of a
@@ -141,15 +214,34 @@ fn scan_slot(
         (generation (frame heap.old) (word_of heap.old a)) age) }
 {
     let target = heap.word_at(k, a);
+    let generation = heap.gen_of(target);
+    if generation >= age {
+        return false;
+    }
     if target == 0 {
         return false;
     }
-    if heap.gen_of(target) >= age {
-        return false;
+    if generation > marker.oldest() {
+        return true;
     }
+    mark_target(marker, heap, types, target);
+    true
+}
+
+// Marks the object at `target`, which an older one names, where it is condemned, and follows what waits where the stack
+// is half full. It stands apart, so that the loops over references stay small.
+#[inline(never)]
+fn mark_target(marker: &mut Marker, heap: &mut Heap, types: &Types, target: u64)
+    requires gray { IsGray types.now heap.old marker.old }
+    requires object { StandsAt types.now heap.old target }
+    requires named { is_condemned_place heap.old marker.old.oldest target ≡ true
+        → IsNamedByOlder types.now heap.old marker.old.oldest target }
+    ensures gray { IsGray types.now heap.new marker.new }
+    ensures scanned { HasScanned types.now heap.old heap.new marker.old marker.new }
+    ensures marked { is_condemned_place heap.old marker.old.oldest target ≡ true → Marked types.now heap.new target }
+{
     marker.root(heap, types, target);
     marker.drain_if_full(heap, types);
-    true
 }
 
 // The numbers of the slots of an item that stand on `[lo, hi)`: the first of them, and one past the last. It has

@@ -1,34 +1,56 @@
 -- The bricks after a sweep of each segment's items.
-use Rattle.std.proofs.Common.{◌≡◌, ℕ, ◌<◌, length, sym, ◌∙◌, List, ℤ, arith}
-use Rattle.clr_types.specs.Segments.{empty_segment}
+use Rattle.std.proofs.Common.{◌≡◌, ℕ, ◌<◌, true, Bool, length, refl, sym, subst, arith, List, ℤ}
+use Rattle.clr_types.specs.Rising.{IsIn}
+use Rattle.clr_types.specs.Segments.{Layout, stands_in}
 use Rattle.clr_types.specs.Types.{TypeRow}
-use Rattle.clr_bricks.specs.Bricks.{entry_at}
-use Rattle.clr_covers.specs.Covers.{CoverView, spans}
-use Rattle.clr_generations.specs.Entered.{AreEnteredBelow, forgotten}
-use Rattle.clr_generations.specs.Laws.{BrickLaw, IsBrickOf}
-use Rattle.clr_generations.specs.Tables.{AreBricksOf}
-use Rattle.clr_generations.proofs.Collected.{bricks_stay, first_left}
-use Rattle.clr_heap.specs.View.{first_of, frame, HeapView, IsHeap, last_of, segment_at}
+use Rattle.clr_types.specs.declared.segment.SegInfo.{SegInfo}
+use Rattle.clr_types.proofs.ChangedLists.{into_filter}
+use Rattle.clr_types.proofs.SegmentFacts.{stands-between}
+use Rattle.clr_generations.specs.Laws.{AreEntered, BrickLaw}
+use Rattle.clr_generations.specs.Renewing.{AreLeft, left_in}
+use Rattle.clr_generations.proofs.AllBricks.{number-of}
+use Rattle.clr_generations.proofs.Collected.{all-old, ended_entered}
+use Rattle.clr_generations.proofs.Homes.{old-may_lead}
+use Rattle.clr_heap.specs.View.{first_of, frame, HeapView, IsHeap, no_rests, segment_at}
+use Rattle.clr_model.specs.Machine.{Object}
+use Rattle.clr_view.specs.Memory.{is_marked}
 use Rattle.clr_view.specs.View.{IsHeld, objects_in}
 use Rattle.clr_sweep.specs.SweptItems.{HasSweptItems, swept_last}
-use Rattle.clr_sweep.proofs.SurvivorsSwept.{at-in}
+use Rattle.clr_sweep.proofs.ObjectsSwept.{swept_held, swept_objects}
 
 module _ (rows : List TypeRow) (old new : HeapView) (swept : HasSweptItems rows old new) (heap : IsHeap old)
-    (held : IsHeld rows old) (heap' : IsHeap new) (held' : IsHeld rows new) (bricks now : List (CoverView ℤ)) where
-  -- they are still those of the segments
-  pub whole-bricks : AreBricksOf (frame old) bricks → spans now ≡ spans bricks → AreBricksOf (frame new) now
-  whole-bricks has stay =
-      bricks_stay old new bricks now (sym heap'.memories ∙ swept.memories ∙ heap.memories) has stay
+    (held : IsHeld rows old) (none : old.rests ≡ no_rests) (heap' : IsHeap new) where
+  objects-left : objects_in rows new ≡ left_in rows old (is_marked old)
+  objects-left = swept_objects rows old new swept heap held
 
-  -- and where the entries were taken away before, none names an object
-  pub whole-below : BrickLaw rows (frame old) (objects_in rows old) (entry_at bricks)
-      → ((k b : ℕ) → k < length old.segments → IsBrickOf (segment_at old k) b
-      → entry_at now b ≡ forgotten (entry_at bricks) (first_of old k) (last_of old k) b)
-      → (k : ℕ) → k < length new.segments
-      → AreEnteredBelow rows (frame new) (objects_in rows new) (entry_at now) (segment_at new k) (first_of new k)
-  whole-below law same k inside' =
+  -- the marked objects of each segment are left
+  whole-left : (k : ℕ) → AreLeft rows old k (first_of old k) (frame new) (is_marked old)
+  whole-left k = record {
+    below = λ o l in_s below. absurd (not-below o.place in_s below);
+    above = λ o l in_s above. refl;
+    old = λ p in_s below. absurd (not-below p in_s below);
+    may = λ o l in_s keep. old-may_lead (frame new) o.place
+        (all-old rows new heap' (swept_held rows old new swept heap held none) swept.start0 o
+        (subst (IsIn o) (sym objects-left) (into_filter (is_marked old) (objects_in rows old) keep l)));
+  }
+    where
+      not-below : (p : ℕ) → stands_in (segment_at old k) p ≡ true → p < first_of old k → ⊥
+      not-below p in_s below = let low = (stands-between (segment_at old k) p in_s).0 in omega arith
+
+  -- THE LAW OF BRICKS holds where they were renewed before
+  pub whole-law : (entry : ℕ → ℤ)
+      → ((k : ℕ) (layout : Layout) (keep : Object → Bool) → k < length old.segments
+      → AreLeft rows old k (first_of old k) layout keep
+      → AreEntered rows layout (left_in rows old keep) entry (segment_at old k))
+      → BrickLaw rows (frame new) (objects_in rows new) entry
+  whole-law entry renewed s l =
+      let found = number-of new.segments s l in
+      let k = found.0 in
       let count = swept.count in
-      let inside : k < length old.segments = omega arith in
-      first_left rows old new heap held heap' held' k (swept_last rows old k) inside inside' (swept.segments k inside)
-      (entry_at bricks) (entry_at now) (law (segment_at old k) (at-in old.segments k empty_segment inside))
-      (λ b of. same k b inside of)
+      let inside : k < length old.segments = let n = found.1 in omega arith in
+      let this = renewed k (frame new) (is_marked old) inside (whole-left k) in
+      subst (AreEntered rows (frame new) (objects_in rows new) entry) found.2
+      (subst (λ (t : SegInfo). AreEntered rows (frame new) (objects_in rows new) entry t)
+      (sym (swept.segments k inside))
+      (ended_entered rows (frame new) (objects_in rows new) entry (segment_at old k) (swept_last rows old k)
+      (subst (λ (os : List Object). AreEntered rows (frame new) os entry (segment_at old k)) (sym objects-left) this)))

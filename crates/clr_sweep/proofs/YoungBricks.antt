@@ -1,10 +1,10 @@
 -- The bricks after a sweep of the young part of the ephemeral segment.
-use Rattle.std.proofs.Common.{◌≡◌, ◌≢◌, inl, inr, ℕ, ◌+◌, ◌-◌, ◌<◌, ◌≤◌, Bool, true, false, not, ◌||◌, List, [], ◌∷◌}
-use Rattle.std.proofs.Common.{◌++◌, filter, length, if◌then◌else◌, refl, ap, sym, ◌∙◌, subst, arith, ltb, cond, ℤ}
-use Rattle.std.proofs.lemmas.Bool.{cases_Bool, cases_eq, cases_order, lt-ltb}
+use Rattle.std.proofs.Common.{◌≡◌, ◌≢◌, inl, inr, ℕ, ◌+◌, ◌<◌, ◌≤◌, Bool, true, false, not, ◌||◌, List, [], ◌∷◌}
+use Rattle.std.proofs.Common.{filter, length, if◌then◌else◌, refl, ap, sym, ◌∙◌, subst, arith, ℤ}
+use Rattle.std.proofs.lemmas.Bool.{cases_eq, cases_order}
 use Rattle.clr_types.specs.Rising.{first, IsIn, later}
-use Rattle.clr_types.specs.Segments.{empty_segment, ended_at, ephemeral, first_place, generation, Layout, reserved_end}
-use Rattle.clr_types.specs.Segments.{same_kind, segments_of, stands_in}
+use Rattle.clr_types.specs.Segments.{empty_segment, ended_at, ephemeral, generation, reserved_end, same_kind}
+use Rattle.clr_types.specs.Segments.{segments_of, stands_in}
 use Rattle.clr_types.specs.Types.{TypeRow}
 use Rattle.clr_types.specs.declared.item.Item.{Item}
 use Rattle.clr_types.specs.declared.segment.SegInfo.{SegInfo}
@@ -13,87 +13,26 @@ use Rattle.clr_types.proofs.ChangedLists.{into_filter}
 use Rattle.clr_types.proofs.RisingLists.{in_cons}
 use Rattle.clr_types.proofs.SegmentFacts.{one_alone, stands-between}
 use Rattle.clr_bricks.specs.Bricks.{entry_at}
-use Rattle.clr_covers.specs.Covers.{CoverView, spans}
-use Rattle.clr_generations.specs.Entered.{AreEnteredBelow, forgotten}
+use Rattle.clr_covers.specs.Covers.{CoverView}
 use Rattle.clr_generations.specs.Laws.{AreEntered, BrickLaw, IsBrickOf}
-use Rattle.clr_generations.specs.Tables.{AreBricksOf}
+use Rattle.clr_generations.specs.Renewing.{AreLeft, left_in}
 use Rattle.clr_generations.proofs.Alike.{AreAlike}
-use Rattle.clr_generations.proofs.AllBricks.{bricks-apart, forgotten-away, number-of}
-use Rattle.clr_generations.proofs.Collected.{alike-left, bricks_stay, kept_elsewhere, part_left}
-use Rattle.clr_heap.specs.View.{CanWalk, first_of, frame, HeapView, IsHeap, last_of, no_rests, segment_at}
-use Rattle.clr_heap.specs.Parts.{free_item}
-use Rattle.clr_heap.specs.View.{sight, word_of}
+use Rattle.clr_generations.proofs.AllBricks.{bricks-apart, number-of}
+use Rattle.clr_generations.proofs.Collected.{alike-left, all-old, ended_entered, kept_elsewhere}
+use Rattle.clr_generations.proofs.Homes.{old-away, old-before, old-may_lead}
+use Rattle.clr_heap.specs.View.{first_of, frame, HeapView, IsHeap, no_rests, segment_at, word_of}
 use Rattle.clr_heap.proofs.Framing.{lawful_at}
 use Rattle.clr_heap.proofs.Staying.{outside_other, segment_order}
 use Rattle.clr_model.specs.Lawful.{IsLaid}
 use Rattle.clr_model.specs.Machine.{Machine, Object}
 use Rattle.clr_view.specs.Memory.{is_left, is_marked}
 use Rattle.clr_view.specs.View.{IsHeld, objects_in}
-use Rattle.clr_view.proofs.Listed.{in_append}
-use Rattle.clr_sweep.specs.SweptItems.{aged, gap, items_below, last_end, part_last, swept_from, swept_part, young_start}
-use Rattle.clr_sweep.specs.SweptItems.{is_cut, items_from, stays}
+use Rattle.clr_sweep.specs.SweptItems.{aged, items_from, last_end, part_last, stays, young_start}
 use Rattle.clr_sweep.specs.SweptSegments.{HasSweptSegment}
-use Rattle.clr_sweep.proofs.ObjectsSwept.{no-holes}
-use Rattle.clr_sweep.proofs.Parting.{IsWalkedAt, walked_at}
 use Rattle.clr_sweep.proofs.SurvivorsSwept.{at-in, seen}
-use Rattle.clr_sweep.proofs.YoungPart.{below-is, from-is, old-below, old-elsewhere, swept-off, young-kind, young-low}
-use Rattle.clr_sweep.proofs.YoungPart.{young-parted}
-use Rattle.clr_sweep.proofs.YoungSwept.{young-count, young-held, young-objects, young-other, young-rests, young-this}
-
--- ---- what a sweep of a part leaves stands in it
-
--- free space from a place on begins there
-gap-at : (a p : ℕ) (j : Item) → IsIn j (gap a p) → j.place ≡ a
-gap-at a p j l = go (ltb a p) l
-  where
-    go : (b : Bool) → IsIn j (if b then free_item a (p - a) ∷ [] else []) → j.place ≡ a
-    go true m = elim (in_cons m) [ inl here ↦ ap (λ (i : Item). i.place) here | inr more ↦ elim more [ ] ]
-    go false m = elim m [ ]
-
-swept-above : (keep : Item → Bool) (cut : ℕ → Bool) (low : ℕ) (pending : List Item) (a p : ℕ) (is : List Item)
-    → ((j : Item) → IsIn j pending → low ≤ j.place) → low ≤ a → low ≤ p
-    → ((j : Item) → IsIn j is → low ≤ j.place) → (j : Item) → IsIn j (swept_from keep cut pending a p is)
-    → low ≤ j.place
-swept-above keep cut low pending a p [] w la lp l j m = elim m [ ]
-swept-above keep cut low pending a p (i ∷ is) w la lp l j m =
-    go (keep i) (cut (p + i.size))
-    (swept-above keep cut low [] (p + i.size) (p + i.size) is (λ k n. elim n [ ]) (omega arith) (omega arith) rest j)
-    (swept-above keep cut low (pending ++ gap a (p + i.size)) (p + i.size) (p + i.size) is both (omega arith)
-    (omega arith) rest j)
-    (swept-above keep cut low pending a (p + i.size) is w la (omega arith) rest j) m
-  where
-    rest : (k : Item) → IsIn k is → low ≤ k.place
-    rest k n = l k (later n)
-
-    in-gap : (q : ℕ) (k : Item) → IsIn k (gap a q) → low ≤ k.place
-    in-gap q k n = let at = gap-at a q k n in omega arith
-
-    both : (k : Item) → IsIn k (pending ++ gap a (p + i.size)) → low ≤ k.place
-    both k n = elim (in_append k pending (gap a (p + i.size)) n) [
-      | inl x ↦ w k x
-      | inr y ↦ in-gap (p + i.size) k y
-    ]
-
-    go : (b c : Bool)
-        → (IsIn j (swept_from keep cut [] (p + i.size) (p + i.size) is) → low ≤ j.place)
-        → (IsIn j (swept_from keep cut (pending ++ gap a (p + i.size)) (p + i.size) (p + i.size) is) → low ≤ j.place)
-        → (IsIn j (swept_from keep cut pending a (p + i.size) is) → low ≤ j.place)
-        → IsIn j (if b then pending ++ (gap a p ++ i ∷ swept_from keep cut [] (p + i.size) (p + i.size) is)
-        else if c then swept_from keep cut (pending ++ gap a (p + i.size)) (p + i.size) (p + i.size) is
-        else swept_from keep cut pending a (p + i.size) is) → low ≤ j.place
-    go true c kept ended over n =
-        elim (in_append j pending (gap a p ++ i ∷ swept_from keep cut [] (p + i.size) (p + i.size) is) n) [
-          | inl x ↦ w j x
-          | inr y ↦ elim (in_append j (gap a p) (i ∷ swept_from keep cut [] (p + i.size) (p + i.size) is) y) [
-            | inl z ↦ in-gap p j z
-            | inr v ↦ elim (in_cons v) [
-              | inl here ↦ subst (λ (k : Item). low ≤ k.place) (sym here) (l i first)
-              | inr more ↦ kept more
-            ]
-          ]
-        ]
-    go false true kept ended over n = ended n
-    go false false kept ended over n = over n
+use Rattle.clr_sweep.proofs.YoungPart.{from-is, old-below, old-elsewhere, swept-off, swept-on, young-in, young-kind}
+use Rattle.clr_sweep.proofs.YoungPart.{young-low}
+use Rattle.clr_sweep.proofs.YoungSwept.{young-count, young-held, young-objects, young-other, young-this}
 
 -- the last item that stays doesn't end below the part
 last_end_ge : (keep : Item → Bool) (low end : ℕ) (is : List Item) → low ≤ end
@@ -105,23 +44,6 @@ last_end_ge keep low end (i ∷ is) l above =
     go : (b : Bool) → low ≤ (if b then i.place + i.size else end)
     go true = let up = above i first in omega arith
     go false = l
-
--- ---- generations
-
--- what stands below generation 0 is of generation 1 or 2
-gen-below : (layout : Layout) (p : ℕ) → p < layout.start0 → 0 < generation layout p
-gen-below layout p below = go (stands_in (ephemeral layout) p)
-  where
-    go : (b : Bool) → 0 < cond b (cond (ltb p layout.start1) 2 (cond (ltb p layout.start0) 1 0)) 2
-    go true = elim (cases_Bool (ltb p layout.start1)) [
-      | inl one ↦ rw one (omega arith)
-      | inr two ↦ rw (two, lt-ltb p layout.start0 below) (omega arith)
-    ]
-    go false = omega arith
-
--- so is what doesn't stand in the ephemeral segment
-gen-away : (layout : Layout) (p : ℕ) → stands_in (ephemeral layout) p ≡ false → 0 < generation layout p
-gen-away layout p away = rw away (omega arith)
 
 -- a segment of a heap that is ephemeral is the one
 one-ephemeral : (h : HeapView) (k : ℕ) → IsHeap h → k < length h.segments
@@ -170,14 +92,8 @@ module _ (rows : List TypeRow) (old : HeapView) (base : Machine) (heap : IsHeap 
   inside' : k < length new.segments
   inside' = let c = count in omega arith
 
-  pub new-count : k < length (aged now g).segments
-  new-count = inside'
-
-  pub new-held : IsHeld rows (aged now g)
+  new-held : IsHeld rows (aged now g)
   new-held = young-held rows old base heap held none laid g young k inside eph now w
-
-  pub new-rests : (aged now g).rests ≡ no_rests
-  new-rests = young-rests rows old base heap held none laid g young k inside eph now w
 
   low : first_of old k ≤ from
   low = young-low rows old base heap held none laid g young k inside eph
@@ -186,33 +102,6 @@ module _ (rows : List TypeRow) (old : HeapView) (base : Machine) (heap : IsHeap 
   last-above : from ≤ last
   last-above = last_end_ge (stays (word_of old)) from from (items_from rows old k from) (omega arith)
       (λ i l. (from-is rows old base heap held none laid g young k inside eph i l).above)
-
-  -- ---- where a walk can begin
-
-  pub new-low : first_of (aged now g) k ≤ young_start old g
-  new-low = let at = ap first_place this in let l = low in omega arith
-
-  home : IsWalkedAt (sight rows new k) new.memories (first_of new k) from (last_of new k)
-  home =
-      let end = ap (λ (s : SegInfo). s.end) this in
-      let up = last-above in
-      let parted = young-parted rows old base heap held none laid g young k inside eph in
-      walked_at (sight rows new k) new.memories (first_of new k) from (last_of new k) w.walkable parted.above.start
-      new-low (omega arith) (λ q. no-holes new k q new-rests)
-      (λ i l. elim (in_append i (items_below rows old k from) (swept_part rows old k from)
-      (subst (IsIn i) w.items l)) [
-        | inl below ↦ inr (below-is rows old base heap held none laid g young k inside eph i below).below
-        | inr above ↦ inl (swept-above (stays (word_of old)) (is_cut old) from [] from from (items_from rows old k from)
-            (λ j m. elim m [ ]) (omega arith) (omega arith)
-            (λ j m. (from-is rows old base heap held none laid g young k inside eph j m).above) i above)
-      ])
-
-  pub new-below : CanWalk (sight rows (aged now g) k) (aged now g).memories (first_of (aged now g) k)
-      (young_start old g)
-  new-below = home.below
-
-  pub new-above : CanWalk (sight rows (aged now g) k) (aged now g).memories (young_start old g) (last_of (aged now g) k)
-  new-above = home.above
 
   -- ---- objects and generations
 
@@ -232,14 +121,19 @@ module _ (rows : List TypeRow) (old : HeapView) (base : Machine) (heap : IsHeap 
   objects-left : objects_in rows new ≡ filter (is_left old g) (objects_in rows old)
   objects-left = young-objects rows old base heap held none laid g young k inside eph now w
 
-  alike-part : AreAlike rows (frame old) (frame new) (objects_in rows old) (objects_in rows new) (segment_at old k) from
-  alike-part =
-      let tail = tail-above in
-      let older : (p : ℕ) → stands_in (segment_at old k) p ≡ true → p < from → g < generation (frame old) p =
-      λ p in_s below. old-below rows old base heap held none laid g young k inside eph p in_s below in
-      alike-left rows (frame old) (frame new) (objects_in rows old) (objects_in rows new) (segment_at old k) from
-      (is_left old g) objects-left (λ o l in_s below. left-off o (older o.place in_s below))
-      (λ p in_s below. (let age = older p in_s below in (omega arith, gen-below (frame new) p (omega arith))))
+  -- THE PART keeps what it should
+  pub part-left : AreLeft rows old k (young_start old g) (frame (aged now g)) (is_left old g)
+  part-left = record {
+    below = λ o l in_s below. left-off o
+        (old-below rows old base heap held none laid g young k inside eph o.place in_s below);
+    above = λ o l in_s above. ap (λ (b : Bool). not b || is_marked old o)
+        (swept-on rows old base heap held none laid g young k inside eph o.place
+        (young-in rows old base heap held none laid g young k inside eph o.place in_s above));
+    old = λ p in_s below. (let tail = tail-above in old-before (frame new) p (omega arith));
+    may = λ o l in_s keep. old-may_lead (frame new) o.place
+        (all-old rows new new_heap new-held refl o
+        (subst (IsIn o) (sym objects-left) (into_filter (is_left old g) (objects_in rows old) keep l)));
+  }
 
   -- a place of another segment doesn't stand in the ephemeral one
   away : (j p : ℕ) → j < length old.segments → j ≢ k → stands_in (segment_at old j) p ≡ true
@@ -267,32 +161,26 @@ module _ (rows : List TypeRow) (old : HeapView) (base : Machine) (heap : IsHeap 
       (λ o l in_s below. left-off o (older o.place in_s))
       (λ p in_s below. (let age = older p in_s in (
         omega arith,
-        gen-away (frame new) p (ap (λ (s : SegInfo). stands_in s p) young-is ∙ away j p in_j ne in_s),
+        old-away (frame new) p (ap (λ (s : SegInfo). stands_in s p) young-is ∙ away j p in_j ne in_s),
       )))
 
   -- ---- the bricks
 
-  module _ (bricks between : List (CoverView ℤ))
+  module _ (bricks after : List (CoverView ℤ))
       (law : BrickLaw rows (frame old) (objects_in rows old) (entry_at bricks))
-      (lost : (i : ℕ) → entry_at between i ≡ forgotten (entry_at bricks) (young_start old g) (last_of old k) i) where
-    law-at : (j : ℕ) → j < length old.segments
-        → AreEntered rows (frame old) (objects_in rows old) (entry_at bricks) (segment_at old j)
-    law-at j in_j = law (segment_at old j) (at-in old.segments j empty_segment in_j)
+      (here : AreEntered rows (frame (aged now g)) (left_in rows old (is_left old g)) (entry_at after)
+      (segment_at old k))
+      (others : (b : ℕ) → (IsBrickOf (segment_at old k) b → ⊥) → entry_at after b ≡ entry_at bricks b) where
+    part-again : AreEntered rows (frame new) (objects_in rows new) (entry_at after) (segment_at new k)
+    part-again =
+        subst (λ (t : SegInfo). AreEntered rows (frame new) (objects_in rows new) (entry_at after) t) (sym this)
+        (ended_entered rows (frame new) (objects_in rows new) (entry_at after) (segment_at old k) last
+        (subst (λ (os : List Object). AreEntered rows (frame new) os (entry_at after) (segment_at old k))
+        (sym objects-left) here))
 
-    -- below the part they say what they did
-    pub part-below : AreEnteredBelow rows (frame (aged now g)) (objects_in rows (aged now g)) (entry_at between)
-        (segment_at (aged now g) k) (young_start old g)
-    part-below =
-        part_left rows old new heap held new_heap new-held k last inside inside' this (entry_at bricks)
-        (entry_at between) (law-at k inside) from alike-part (λ b of. lost b)
-
-    -- THE LAW OF BRICKS holds again when the part's are entered
-    pub law-again : (after : List (CoverView ℤ))
-        → AreEntered rows (frame (aged now g)) (objects_in rows (aged now g)) (entry_at after)
-        (segment_at (aged now g) k)
-        → ((b : ℕ) → (IsBrickOf (segment_at (aged now g) k) b → ⊥) → entry_at after b ≡ entry_at between b)
-        → BrickLaw rows (frame (aged now g)) (objects_in rows (aged now g)) (entry_at after)
-    law-again after here others s l =
+    -- THE LAW OF BRICKS holds after the sweep where the part's were renewed before it
+    pub law-again : BrickLaw rows (frame (aged now g)) (objects_in rows (aged now g)) (entry_at after)
+    law-again s l =
         let found = number-of new.segments s l in
         let c = count in
         let in_j : found.0 < length old.segments = let n = found.1 in omega arith in
@@ -300,19 +188,10 @@ module _ (rows : List TypeRow) (old : HeapView) (base : Machine) (heap : IsHeap 
         (elim (cases_eq found.0 k) [
           | inl at ↦
               subst (λ (j : ℕ). AreEntered rows (frame new) (objects_in rows new) (entry_at after) (segment_at new j))
-              (sym at) here
+              (sym at) part-again
           | inr ne ↦
               kept_elsewhere rows old new heap held new_heap new-held found.0 (entry_at bricks) (entry_at after) in_j
               found.1 (other found.0 ne) (alike-other found.0 in_j ne)
-              (λ b of.
-              let out : IsBrickOf (segment_at old k) b → ⊥ = bricks-apart old found.0 k b heap in_j inside ne of in
-              others b (λ of_k. out (subst (λ (t : SegInfo). IsBrickOf t b) this of_k)) ∙ lost b
-              ∙ forgotten-away old k from b (entry_at bricks) heap inside low out)
-              (law-at found.0 in_j)
+              (λ b of. others b (bricks-apart old found.0 k b heap in_j inside ne of))
+              (law (segment_at old found.0) (at-in old.segments found.0 empty_segment in_j))
         ])
-
-  -- they are still those of the segments
-  pub young-tables : (bricks after : List (CoverView ℤ)) → AreBricksOf (frame old) bricks → spans after ≡ spans bricks
-      → AreBricksOf (frame (aged now g)) after
-  young-tables bricks after has stay =
-      bricks_stay old new bricks after (sym new_heap.memories ∙ w.memories ∙ heap.memories) has stay

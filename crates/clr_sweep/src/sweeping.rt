@@ -17,7 +17,7 @@ ghost use Rattle.clr_sweep.specs.SweptSegments.{HasSweptYoung, IsParted};
 use crate::pass::sweep_segment;
 use crate::tally::Tally;
 use clr_bricks::Bricks;
-use clr_generations::{enter_all_bricks, enter_bricks, forget_all_bricks, forget_bricks};
+use clr_generations::{renew_all_bricks, renew_bricks};
 use clr_heap::Heap;
 use clr_types::{FIRST_OFFSET, Types};
 
@@ -26,7 +26,9 @@ use clr_types::{FIRST_OFFSET, Types};
 /// one free item, and behind the last marked object the segment ends. Marked objects stay where they are, without their
 /// marks. The head of each new free item is written anew, so that none carries a mark. Each of these generations
 /// becomes the next older one. Nothing else changes: a sweep of generation 0 or 1 goes over the young part of the
-/// ephemeral segment alone. The bricks of these parts are entered anew.
+/// ephemeral segment alone. The bricks of these parts are renewed before, while the marks stand, and obey their law again.
+///
+/// The heap is that of a lawful machine whose contexts are given up.
 pub fn sweep(heap: &mut Heap, types: &Types, bricks: &mut Bricks, g: u8) -> Tally
     requires held { IsHeld types.now heap.old }
     requires no_contexts { heap.old.rests ≡ no_rests }
@@ -51,6 +53,7 @@ pub fn sweep(heap: &mut Heap, types: &Types, bricks: &mut Bricks, g: u8) -> Tall
 fn sweep_whole(heap: &mut Heap, types: &Types, bricks: &mut Bricks) -> Tally
     requires held { IsHeld types.now heap.old }
     requires no_contexts { heap.old.rests ≡ no_rests }
+    requires laid { (m : Machine) × IsMemoryOf types.now heap.old m × IsLaid m }
     requires bricks { AreBricksOf (frame heap.old) bricks.old }
     requires brick_law { BrickLaw types.now (frame heap.old) (objects_in types.now heap.old) (entry_at bricks.old) }
     ensures swept { HasSweptItems types.now heap.old heap.new }
@@ -59,10 +62,9 @@ fn sweep_whole(heap: &mut Heap, types: &Types, bricks: &mut Bricks) -> Tally
     ensures spans { spans bricks.new ≡ spans bricks.old }
 {
     heap.lawful();
-    forget_all_bricks(heap, bricks);
+    renew_all_bricks(heap, types, bricks);
     let tally = sweep_segments(heap, types);
     heap.lawful();
-    enter_all_bricks(heap, types, bricks);
     tally
 }
 
@@ -81,10 +83,8 @@ fn sweep_part(heap: &mut Heap, types: &Types, bricks: &mut Bricks, g: u8) -> Tal
 {
     let k = heap.ephemeral();
     let start = start_of(heap, g);
-    forget_bricks(heap, bricks, k, start);
-    let tally = sweep_young(heap, types, g);
-    enter_bricks(heap, types, bricks, k, start);
-    tally
+    renew_bricks(heap, types, bricks, k, start);
+    sweep_young(heap, types, g)
 }
 
 // Sweeps each segment, whatever the bricks say.

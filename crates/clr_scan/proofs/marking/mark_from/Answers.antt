@@ -1,10 +1,14 @@
-use Rattle.std.proofs.Common.{ℕ, ap, arith, ◌∙◌, subst, sym}
+use Rattle.std.proofs.Common.{ℕ, ◌+◌, ◌*◌, ap, arith, ◌∙◌, subst, sym, inl, inr, length}
+use Rattle.clr_heap.specs.View.{first_of, HeapView, last_of}
+use Rattle.clr_scan.specs.OldParts.{old_end}
+use Rattle.clr_scan.proofs.RunScans.{quiet-on}
+use Rattle.clr_mark.proofs.Remarking.{same_segments}
 use Rattle.clr_mark.specs.Marks.{IsRemarked}
 use Rattle.clr_mark.specs.Waiting.{MarkerView}
 use Rattle.clr_mark.proofs.Held.{remarked-trans}
 use Rattle.clr_mark.proofs.TiedMarks.{handles_on, roots_on}
 use Rattle.clr_scan.specs.OldParts.{HaveOldParts}
-use Rattle.clr_scan.proofs.AllCards.{parts-on}
+use Rattle.clr_scan.proofs.AllCards.{old_end-on, parts-on}
 use Rattle.clr_scan.proofs.TableLaws.{tables_remarked}
 use Rattle.clr_scan.proofs.WholeScans.{marked_with_older}
 use Rattle.clr_scan.proofs.marking.mark_from.Goals.{After-handle_roots, After-mark_from_older}
@@ -82,3 +86,20 @@ returns-clause-tables c =
     tables_remarked c.args.types.now c.mark_from_older.new.heap c.mark_from_older.ensures.gray.closed
     c.mark_more.new.heap c.mark_from_older.new.cards c.args.bricks.now c.mark_more.ensures.words
     c.mark_from_older.ensures.tables
+
+pub returns-clause-cleared : goal.returns-clause-cleared
+returns-clause-cleared c few k inside i low high whole all =
+    let oldest = λ (m : MarkerView). m.oldest in
+    let third = ap oldest c.handle_roots.ensures.marker ∙ ap oldest c.roots.ensures.marker ∙ ap oldest c.begin.ensures in
+    let rows = c.args.types.now in
+    let h = c.args.heap.now in
+    let now = c.handle_roots.new.heap in
+    let r = by_targets (goal.at.returns-clause-cleared c).After-handle_roots in
+    let first = ap (λ (v : HeapView). first_of v k) r.shape.others in
+    let end = ap (λ (g : ℕ). old_end now g k) third ∙ old_end-on rows h now c.requires.closed r c.args.g k inside in
+    let n = same_segments h now r.shape in
+    c.mark_from_older.ensures.cleared (omega (arith, third, few)) k (omega (arith, n, inside)) i
+    (omega (arith, first, low)) (omega (arith, end, high)) (elim whole [
+      | inl w ↦ inl (omega (arith, end, w))
+      | inr e ↦ inr (end ∙ e ∙ sym (ap (λ (v : HeapView). last_of v k) r.shape.others))
+    ]) (quiet-on rows h now c.requires.closed r k inside (2048 * i) (2048 * i + 2048) all)

@@ -1,13 +1,15 @@
-use Rattle.std.proofs.Common.{ℕ, ◌+◌, ◌*◌, ◌||◌, refl, ap, sym, ◌∙◌, arith}
+use Rattle.std.proofs.Common.{ℕ, ◌+◌, ◌*◌, ◌||◌, if◌then◌else◌, refl, ap, sym, ◌∙◌, arith}
 use Rattle.clr_types.specs.Segments.{generation}
 use Rattle.clr_heap.specs.View.{frame, word_of}
 use Rattle.clr_heap.proofs.Storing.{memory_index-shapes}
+use Rattle.clr_generations.proofs.BarrierLaw.{generation-most}
 use Rattle.clr_mark.specs.Marks.{is_condemned_place}
-use Rattle.clr_scan.proofs.CardScans.{listed-on, ref_low, scanned-refl}
+use Rattle.clr_scan.proofs.CardScans.{listed-on, older-above, ref_low, scanned-refl}
 use Rattle.clr_mark.proofs.Graying.{same_condemned}
 use Rattle.clr_scan.proofs.SlotScans.{slot_clear, slot_silent, younger_joined, younger_parts}
-use Rattle.clr_scan.proofs.WordScans.{no_words, word_followed, word_reference, word_scan_starts, words_clear}
-use Rattle.clr_scan.proofs.WordScans.{words_traced}
+use Rattle.clr_scan.proofs.WordScans.{IsWordScan, no_words, word_followed, word_reference, word_scan_starts}
+use Rattle.clr_scan.proofs.WordScans.{words_clear}
+use Rattle.clr_scan.proofs.WordScans.{word_has, word_index, word_low, words_passed, words_traced}
 use Rattle.clr_scan.proofs.slots.scan_words.Goals as goal
 
 pub returns-then-run-eq0-clause-scanned : goal.returns-then-run-eq0-clause-scanned
@@ -31,66 +33,188 @@ overflow_add-first c =
     (c.args.found.place + c.args.run.offset + 8 * 0) r in
     omega (arith, low)
 
-pub loop-j-init : goal.loop-j-init
-loop-j-init c = word_scan_starts c.args.types.now c.args.heap.now c.args.marker.now
-    (c.args.found.place + c.args.run.offset) c.args.age _ c.requires.gray
+pub loop-at-init : goal.loop-at-init
+loop-at-init c = (
+  word_scan_starts c.args.types.now c.args.heap.now c.args.marker.now (c.args.found.place + c.args.run.offset)
+      c.args.age c.min-from.result c.requires.gray,
+  omega arith,
+  let from = c.min-from.ensures in omega (arith, from),
+)
 
-pub overflow_mul-j : goal.overflow_mul-j
-overflow_mul-j c =
-    let r = word_reference c.args.types.now c.args.found c.args.run.offset c.args.run.count c.loop-j.j
-    c.requires.object c.requires.run
-    (let top = c.min-to.ensures in let test = c.loop-j-test.true in omega (arith, top, test)) in
-    let low = ref_low c.args.types.now c.args.heap.now c.requires.gray.closed c.args.found c.requires.listed
-    (c.args.found.place + c.args.run.offset + 8 * c.loop-j.j) r in
+pub looked_for-bound-requires : goal.looked_for-bound-requires
+looked_for-bound-requires c =
+    let above = older-above c.args.heap.now c.args.marker.now.oldest c.args.found.place c.requires.older in
+    let oldest = c.loop-at.invariant.0.scanned.oldest in
+    let read = c.oldest.ensures in
+    let age = c.requires.age in
+    omega (arith, above, oldest, read, age)
+
+pub pass_words-met-requires-clause-some : goal.pass_words-met-requires-clause-some
+pass_words-met-requires-clause-some c = let above = c.looked_for-bound.ensures.above in omega (arith, above)
+
+pub pass_words-met-requires-clause-most : goal.pass_words-met-requires-clause-most
+pass_words-met-requires-clause-most c =
+    let most = generation-most (frame c.args.heap.now) c.args.found.place in
+    let age = c.requires.age in
+    let below = c.looked_for-bound.ensures.most in
+    omega (arith, most, age, below)
+
+pub pass_words-met-requires-clause-fits : goal.pass_words-met-requires-clause-fits
+pass_words-met-requires-clause-fits c j l =
+    let top = c.min-to.ensures in
+    word_low c.args.types.now c.args.heap.now c.requires.gray.closed c.args.found c.requires.listed c.args.run.offset
+    c.args.run.count c.requires.object c.requires.run j (omega (arith, top, l))
+
+pub pass_words-met-requires-clause-words : goal.pass_words-met-requires-clause-words
+pass_words-met-requires-clause-words c j l =
+    let inv = c.loop-at.invariant.0 in
+    let top = c.min-to.ensures in
+    word_has c.args.types.now c.loop-at.heap inv.gray.closed c.args.found
+    (listed-on c.args.types.now c.args.heap.now c.loop-at.heap c.args.found c.requires.gray.closed.heap
+    c.requires.gray.closed.held inv.scanned.remarked c.requires.listed)
+    c.args.run.offset c.args.run.count c.requires.object c.requires.run j (omega (arith, top, l))
+
+pub pass_words-met-requires-clause-segment : goal.pass_words-met-requires-clause-segment
+pass_words-met-requires-clause-segment c j l =
+    let inv = c.loop-at.invariant.0 in
+    let top = c.min-to.ensures in
+    c.requires.segment
+    ∙ sym (memory_index-shapes c.loop-at.heap.memories c.args.heap.now.memories c.args.found.place
+    inv.scanned.remarked.shape.memories)
+    ∙ word_index c.args.types.now c.loop-at.heap inv.gray.closed c.args.found
+    (listed-on c.args.types.now c.args.heap.now c.loop-at.heap c.args.found c.requires.gray.closed.heap
+    c.requires.gray.closed.held inv.scanned.remarked c.requires.listed)
+    c.args.run.offset c.args.run.count c.requires.object c.requires.run j (omega (arith, top, l))
+
+pub overflow_mul-met : goal.overflow_mul-met
+overflow_mul-met c =
+    let top = c.min-to.ensures in
+    let within = c.pass_words-met.ensures.within in
+    let ne = c.if-met-to.false in
+    let low = word_low c.args.types.now c.args.heap.now c.requires.gray.closed c.args.found c.requires.listed
+    c.args.run.offset c.args.run.count c.requires.object c.requires.run c.pass_words-met.result
+    (omega (arith, top, within, ne)) in
     omega (arith, low)
 
 pub scan_slot-below-requires-clause-listed : goal.scan_slot-below-requires-clause-listed
 scan_slot-below-requires-clause-listed c =
-    listed-on c.args.types.now c.args.heap.now c.loop-j.heap c.args.found c.requires.gray.closed.heap
-    c.requires.gray.closed.held c.loop-j.invariant.scanned.remarked c.requires.listed
+    listed-on c.args.types.now c.args.heap.now c.loop-at.heap c.args.found c.requires.gray.closed.heap
+    c.requires.gray.closed.held c.loop-at.invariant.0.scanned.remarked c.requires.listed
 
 pub scan_slot-below-requires-clause-reference : goal.scan_slot-below-requires-clause-reference
 scan_slot-below-requires-clause-reference c =
-    word_reference c.args.types.now c.args.found c.args.run.offset c.args.run.count c.loop-j.j c.requires.object
-    c.requires.run (let top = c.min-to.ensures in let test = c.loop-j-test.true in omega (arith, top, test))
+    word_reference c.args.types.now c.args.found c.args.run.offset c.args.run.count c.pass_words-met.result
+    c.requires.object c.requires.run
+    (let top = c.min-to.ensures in let within = c.pass_words-met.ensures.within in let ne = c.if-met-to.false in
+    omega (arith, top, within, ne))
 
 pub scan_slot-below-requires-clause-segment : goal.scan_slot-below-requires-clause-segment
 scan_slot-below-requires-clause-segment c = c.requires.segment
-    ∙ sym (memory_index-shapes c.loop-j.heap.memories c.args.heap.now.memories c.args.found.place
-    c.loop-j.invariant.scanned.remarked.shape.memories)
+    ∙ sym (memory_index-shapes c.loop-at.heap.memories c.args.heap.now.memories c.args.found.place
+    c.loop-at.invariant.0.scanned.remarked.shape.memories)
 
 pub scan_slot-below-requires-clause-older : goal.scan_slot-below-requires-clause-older
 scan_slot-below-requires-clause-older c =
-    ap (λ (g : ℕ). is_condemned_place c.loop-j.heap g c.args.found.place) c.loop-j.invariant.scanned.oldest
-    ∙ same_condemned c.args.types.now c.args.heap.now c.loop-j.heap c.args.marker.now.oldest c.args.found.place
-    c.loop-j.invariant.scanned.remarked ∙ c.requires.older
+    ap (λ (g : ℕ). is_condemned_place c.loop-at.heap g c.args.found.place) c.loop-at.invariant.0.scanned.oldest
+    ∙ same_condemned c.args.types.now c.args.heap.now c.loop-at.heap c.args.marker.now.oldest c.args.found.place
+    c.loop-at.invariant.0.scanned.remarked ∙ c.requires.older
 
-pub loop-j-preserved : goal.loop-j-preserved
-loop-j-preserved c =
+-- the words before the one that was met are passed
+met_scan : (c : goal.After-scan_slot-below)
+    → IsWordScan c.args.types.now c.args.heap.now c.loop-at.heap c.args.marker.now c.loop-at.marker
+    (c.args.found.place + c.args.run.offset) c.args.age c.min-from.result c.pass_words-met.result
+    c.loop-at.younger
+met_scan c =
+    words_passed c.args.types.now c.args.heap.now c.loop-at.heap c.args.marker.now c.loop-at.marker c.args.found
+    (c.args.found.place + c.args.run.offset) c.args.age c.min-from.result c.loop-at.at c.loop-at.younger
+    c.requires.gray.closed c.requires.listed c.loop-at.invariant.0 c.pass_words-met.result c.min-to.result
+    c.looked_for-bound.result (c.looked_for-bound.ensures.bound
+    ∙ ap (λ (g : ℕ). if c.loop-at.younger then g + 1 else c.args.age) c.oldest.ensures)
+    (let above = c.looked_for-bound.ensures.above in let oldest = c.oldest.ensures in omega (arith, above, oldest))
+    (λ t here below. word_reference c.args.types.now c.args.found c.args.run.offset c.args.run.count t
+    c.requires.object c.requires.run (let top = c.min-to.ensures in omega (arith, top, below)))
+    c.pass_words-met.ensures.quiet c.pass_words-met.ensures.from c.pass_words-met.ensures.within
+
+pub loop-at-preserved : goal.loop-at-preserved
+loop-at-preserved c =
     let scan = c.scan_slot-below.ensures in
-    word_followed c.args.types.now c.args.heap.now c.loop-j.heap c.args.marker.now c.loop-j.marker c.args.found
-    (c.args.found.place + c.args.run.offset) c.args.age c.min-from.result c.loop-j.j c.loop-j.younger
-    c.requires.gray.closed c.requires.listed c.loop-j.invariant
-    (word_reference c.args.types.now c.args.found c.args.run.offset c.args.run.count c.loop-j.j c.requires.object
-    c.requires.run (let top = c.min-to.ensures in let test = c.loop-j-test.true in omega (arith, top, test)))
-    c.scan_slot-below.new.heap c.scan_slot-below.new.marker c.scan_slot-below.result
-    (c.loop-j.younger || c.scan_slot-below.result) scan.gray scan.scanned scan.traced
-    (slot_clear (word_of c.loop-j.heap (c.args.found.place + c.args.run.offset + 8 * c.loop-j.j)) c.args.age
-    (generation (frame c.loop-j.heap)
-    (word_of c.loop-j.heap (c.args.found.place + c.args.run.offset + 8 * c.loop-j.j))) c.scan_slot-below.result
-    c.scan_slot-below.ensures.younger)
-    (slot_silent (word_of c.loop-j.heap (c.args.found.place + c.args.run.offset + 8 * c.loop-j.j)) c.args.age
-    (generation (frame c.loop-j.heap)
-    (word_of c.loop-j.heap (c.args.found.place + c.args.run.offset + 8 * c.loop-j.j))) c.scan_slot-below.result
-    c.scan_slot-below.ensures.younger) c.loop-j.auto.j
-    (younger_parts c.loop-j.younger c.scan_slot-below.result) (younger_joined c.loop-j.younger c.scan_slot-below.result)
+    let a = c.args.found.place + c.args.run.offset + 8 * c.pass_words-met.result in
+    let word = word_of c.loop-at.heap a in
+    let low = c.loop-at.invariant.1 in
+    let from = c.pass_words-met.ensures.from in
+    let within = c.pass_words-met.ensures.within in
+    let ne = c.if-met-to.false in (
+      word_followed c.args.types.now c.args.heap.now c.loop-at.heap c.args.marker.now c.loop-at.marker c.args.found
+          (c.args.found.place + c.args.run.offset) c.args.age c.min-from.result c.pass_words-met.result
+          c.loop-at.younger c.requires.gray.closed c.requires.listed (met_scan c)
+          (word_reference c.args.types.now c.args.found c.args.run.offset c.args.run.count c.pass_words-met.result
+          c.requires.object c.requires.run
+          (let top = c.min-to.ensures in let within = c.pass_words-met.ensures.within in let ne = c.if-met-to.false in
+          omega (arith, top, within, ne)))
+          c.scan_slot-below.new.heap c.scan_slot-below.new.marker c.scan_slot-below.result
+          (c.loop-at.younger || c.scan_slot-below.result) scan.gray scan.scanned scan.traced
+          (slot_clear word c.args.age (generation (frame c.loop-at.heap) word) c.scan_slot-below.result scan.younger)
+          (slot_silent word c.args.age (generation (frame c.loop-at.heap) word) c.scan_slot-below.result scan.younger)
+          (omega (arith, low, from)) (younger_parts c.loop-at.younger c.scan_slot-below.result)
+          (younger_joined c.loop-at.younger c.scan_slot-below.result),
+      omega (arith, low, from),
+      omega (arith, within, ne),
+    )
+
+-- all words are passed
+whole_scan : (c : goal.Then-met-to)
+    → IsWordScan c.args.types.now c.args.heap.now c.loop-at.heap c.args.marker.now c.loop-at.marker
+    (c.args.found.place + c.args.run.offset) c.args.age c.min-from.result c.pass_words-met.result
+    c.loop-at.younger
+whole_scan c =
+    words_passed c.args.types.now c.args.heap.now c.loop-at.heap c.args.marker.now c.loop-at.marker c.args.found
+    (c.args.found.place + c.args.run.offset) c.args.age c.min-from.result c.loop-at.at c.loop-at.younger
+    c.requires.gray.closed c.requires.listed c.loop-at.invariant.0 c.pass_words-met.result c.min-to.result
+    c.looked_for-bound.result (c.looked_for-bound.ensures.bound
+    ∙ ap (λ (g : ℕ). if c.loop-at.younger then g + 1 else c.args.age) c.oldest.ensures)
+    (let above = c.looked_for-bound.ensures.above in let oldest = c.oldest.ensures in omega (arith, above, oldest))
+    (λ t here below. word_reference c.args.types.now c.args.found c.args.run.offset c.args.run.count t
+    c.requires.object c.requires.run (let top = c.min-to.ensures in omega (arith, top, below)))
+    c.pass_words-met.ensures.quiet c.pass_words-met.ensures.from c.pass_words-met.ensures.within
+
+pub returns-then-met-to-clause-traced : goal.returns-then-met-to-clause-traced
+returns-then-met-to-clause-traced c =
+    words_traced c.args.types.now c.args.heap.now c.loop-at.heap c.args.marker.now c.loop-at.marker c.args.found
+    (c.args.found.place + c.args.run.offset) c.args.age c.min-from.result c.pass_words-met.result
+    c.loop-at.younger c.requires.gray.closed c.requires.listed (whole_scan c)
+    c.args.run.offset c.args.run.count c.min-to.result c.args.lo c.args.hi c.requires.run refl
+    (let met = c.if-met-to.true in omega (arith, met))
+    (λ t l. c.words_to-2.ensures.below t (let from = c.min-from.ensures in omega (arith, from, l)))
+    (λ t l below. c.words_to.ensures.above t (let to = c.min-to.ensures in omega (arith, to, l, below)))
+
+pub returns-then-met-to-clause-silent : goal.returns-then-met-to-clause-silent
+returns-then-met-to-clause-silent c all =
+    let to = c.min-to.ensures in
+    let from = c.min-from.ensures in
+    let top = c.pass_words-met.ensures.within in
+    (whole_scan c).silent (λ s low high.
+    all (c.args.found.place + c.args.run.offset + 8 * s)
+    (word_reference c.args.types.now c.args.found c.args.run.offset c.args.run.count s c.requires.object
+    c.requires.run (omega (arith, to, top, high)))
+    (c.words_to-2.ensures.above s (omega (arith, from, to, low, high, top)))
+    (c.words_to.ensures.below s (omega (arith, to, top, high))))
+
+pub returns-then-met-to-clause-clear : goal.returns-then-met-to-clause-clear
+returns-then-met-to-clause-clear c =
+    words_clear c.args.types.now c.args.heap.now c.loop-at.heap c.args.marker.now c.loop-at.marker c.args.found
+    (c.args.found.place + c.args.run.offset) c.args.age c.min-from.result c.pass_words-met.result
+    c.loop-at.younger c.requires.gray.closed c.requires.listed (whole_scan c)
+    c.args.run.offset c.args.run.count c.min-to.result c.args.lo c.args.hi c.requires.run refl
+    (let met = c.if-met-to.true in omega (arith, met))
+    (λ t l. c.words_to-2.ensures.below t (let from = c.min-from.ensures in omega (arith, from, l)))
+    (λ t l below. c.words_to.ensures.above t (let to = c.min-to.ensures in omega (arith, to, l, below)))
 
 pub returns-clause-traced : goal.returns-clause-traced
 returns-clause-traced c =
-    words_traced c.args.types.now c.args.heap.now c.loop-j.heap c.args.marker.now c.loop-j.marker c.args.found
-    (c.args.found.place + c.args.run.offset) c.args.age c.min-from.result c.loop-j.j c.loop-j.younger
-    c.requires.gray.closed c.requires.listed c.loop-j.invariant
-    c.args.run.offset c.args.run.count c.min-to.result c.args.lo c.args.hi c.requires.run refl c.loop-j-test.false
+    words_traced c.args.types.now c.args.heap.now c.loop-at.heap c.args.marker.now c.loop-at.marker c.args.found
+    (c.args.found.place + c.args.run.offset) c.args.age c.min-from.result c.loop-at.at
+    c.loop-at.younger c.requires.gray.closed c.requires.listed c.loop-at.invariant.0
+    c.args.run.offset c.args.run.count c.min-to.result c.args.lo c.args.hi c.requires.run refl c.loop-at-test.false
     (λ t l. c.words_to-2.ensures.below t (let from = c.min-from.ensures in omega (arith, from, l)))
     (λ t l below. c.words_to.ensures.above t (let to = c.min-to.ensures in omega (arith, to, l, below)))
 
@@ -98,8 +222,8 @@ pub returns-clause-silent : goal.returns-clause-silent
 returns-clause-silent c all =
     let to = c.min-to.ensures in
     let from = c.min-from.ensures in
-    let top = c.loop-j.auto.j-end (omega (arith, from)) in
-    c.loop-j.invariant.silent (λ s low high.
+    let top = c.loop-at.invariant.2 in
+    c.loop-at.invariant.0.silent (λ s low high.
     all (c.args.found.place + c.args.run.offset + 8 * s)
     (word_reference c.args.types.now c.args.found c.args.run.offset c.args.run.count s c.requires.object
     c.requires.run (omega (arith, to, top, high)))
@@ -108,9 +232,9 @@ returns-clause-silent c all =
 
 pub returns-clause-clear : goal.returns-clause-clear
 returns-clause-clear c =
-    words_clear c.args.types.now c.args.heap.now c.loop-j.heap c.args.marker.now c.loop-j.marker c.args.found
-    (c.args.found.place + c.args.run.offset) c.args.age c.min-from.result c.loop-j.j c.loop-j.younger
-    c.requires.gray.closed c.requires.listed c.loop-j.invariant
-    c.args.run.offset c.args.run.count c.min-to.result c.args.lo c.args.hi c.requires.run refl c.loop-j-test.false
+    words_clear c.args.types.now c.args.heap.now c.loop-at.heap c.args.marker.now c.loop-at.marker c.args.found
+    (c.args.found.place + c.args.run.offset) c.args.age c.min-from.result c.loop-at.at
+    c.loop-at.younger c.requires.gray.closed c.requires.listed c.loop-at.invariant.0
+    c.args.run.offset c.args.run.count c.min-to.result c.args.lo c.args.hi c.requires.run refl c.loop-at-test.false
     (λ t l. c.words_to-2.ensures.below t (let from = c.min-from.ensures in omega (arith, from, l)))
     (λ t l below. c.words_to.ensures.above t (let to = c.min-to.ensures in omega (arith, to, l, below)))

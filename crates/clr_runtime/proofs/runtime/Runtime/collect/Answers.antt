@@ -41,7 +41,8 @@ invariant_of-self c =
     let done = c.collect-collected in
     let passed = rw (← c.self.view_is) at (sym c.refused_thread.ensures.value ∙ c.in_default-refused_thread.is) in
     record {
-      shown = rw c.collected-self-inside.ensures (collect_kept c.self.invariant.shown c.args.t c.args.g c.requires.generation passed
+      shown = rw c.collected-self-inside.ensures
+          (collect_kept c.self.invariant.shown c.args.t c.args.g c.requires.generation passed
           (world_with r.types done.new.heap r.locals.items done.new.handles done.new.finals) done.result
           (rw c.deref.ensures.value at done.ensures.collected) c.self.invariant.shown.locals done.ensures.held
           done.ensures.unmarked done.ensures.free_heads (done.ensures.clean c.self.invariant.shown.clean));

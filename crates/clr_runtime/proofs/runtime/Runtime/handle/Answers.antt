@@ -16,7 +16,8 @@ use Rattle.clr_runtime.proofs.LocalsSeen.{local-read}
 use Rattle.clr_runtime.proofs.NamesChecked.{names_refused}
 use Rattle.clr_runtime.proofs.RuntimeKept.{names_kept}
 use Rattle.clr_runtime.proofs.runtime.Runtime.handle.Goals as goal
-use Rattle.clr_runtime.proofs.runtime.Runtime.handle.Goals.{After-is_dependent, In_default, in-Err, in-Ok, Joined-create}
+use Rattle.clr_runtime.proofs.runtime.Runtime.handle.Goals.{After-is_dependent, In_default, in-Err, in-Ok}
+use Rattle.clr_runtime.proofs.runtime.Runtime.handle.Goals.{Joined-create}
 
 pub returns-in-Some : goal.returns-in-Some
 returns-in-Some c =

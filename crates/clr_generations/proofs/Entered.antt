@@ -1,4 +1,4 @@
--- Bricks whose entries are taken away before what they name may go, and are entered anew afterwards.
+-- What the entries of bricks say of the objects below a place, when those that name others are taken away.
 use Rattle.std.specs.Prelude.{◌≡◌, ℕ, suc, zero, ◌+◌, ◌*◌, ◌/◌, ◌<◌, ◌⊎◌, true, ◌||◌, nat_le, nat_lt, List}
 use Rattle.std.specs.Prelude.{if◌then◌else◌, ℤ, pos, negsuc}
 use Rattle.clr_types.specs.Segments.{Layout, stands_in}

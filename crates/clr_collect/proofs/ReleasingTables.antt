@@ -20,8 +20,8 @@ use Rattle.clr_collect.proofs.Releases.{in_range, IsReleasing, releasing_ends, r
 use Rattle.clr_collect.proofs.Releases.{releasing_starts, spare}
 use Rattle.clr_collect.proofs.SegmentsLost.{segment_lost}
 
--- the segments from number `left` on are those that are needed, cards and bricks are those of what is there, and no card
--- is set that wasn't `before`
+-- the segments from number `left` on are those that are needed, cards and bricks are those of what is there, and no
+-- card is set that wasn't `before`
 pub record IsReleasingTables (rows : List TypeRow) (old now : HeapView) (base left : ℕ)
     (before card_covers : List (CoverView ℕ)) (brick_covers : List (CoverView ℤ)) : Type 0 where
   pub releasing : IsReleasing rows old now base left
@@ -95,4 +95,5 @@ module _ (rows : List TypeRow) (old now : HeapView) (base left k : ℕ) (next : 
 pub tables_end : (rows : List TypeRow) (old now : HeapView) (base left : ℕ) (before cards : List (CoverView ℕ))
     (bricks : List (CoverView ℤ)) → base ≡ first_large old → left ≤ 0
     → IsReleasingTables rows old now base left before cards bricks → HasReleased rows old now
-tables_end rows old now base left before cards bricks is none r = releasing_ends rows old now base left is none r.releasing
+tables_end rows old now base left before cards bricks is none r =
+    releasing_ends rows old now base left is none r.releasing

@@ -26,8 +26,8 @@ const MARK_STACK: usize = 1024;
 /// So many locals has each of the 16 threads.
 pub(crate) const LOCALS_OF_A_THREAD: u64 = 64;
 
-/// The types, the heap with its cards and bricks, the contexts, the marker, the locals, the handles and the finalisation
-/// queue of a script that runs. Each call is one line.
+/// The types, the heap with its cards and bricks, the contexts, the marker, the locals, the handles and the
+/// finalisation queue of a script that runs. Each call is one line.
 ///
 /// Contracts see the machine whose objects are named by their places. After each call the runtime stands for the next
 /// state of each graph machine that it stood for before, and the answer is that step's reply. A refused call leaves the

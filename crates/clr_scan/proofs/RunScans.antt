@@ -255,7 +255,8 @@ module _ (rows : List TypeRow) (h now : HeapView) (m n : MarkerView) (old cards 
 
     all_cleared : AreCleared rows h (is_card_set after) k lo next
     all_cleared c low high whole all = elim (cases_lt (2048 * c + 2047) at) [
-      | inl early ↦ settled.others c (λ e. omega (arith, e, early)) ∙ s.cleared c low (omega arith) (inl (omega arith)) all
+      | inl early ↦ settled.others c (λ e. omega (arith, e, early))
+          ∙ s.cleared c low (omega arith) (inl (omega arith)) all
       | inr late ↦
           let is : c ≡ at / 2048 = omega (arith, late, high, near) in
           let aligned : at % 2048 ≡ 0 = elim s.grid [

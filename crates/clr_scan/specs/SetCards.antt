@@ -21,11 +21,12 @@ HaveCards h cards =
 abbrev pub AreClear : (ℕ → Bool) → ℕ → ℕ → Type 0
 AreClear is_set lo hi = (a : ℕ) → lo ≤ a → a < hi → is_set (a / 2048) ≡ false
 
--- Of the cards that lie between lo and hi in segment k, those on which no reference names an object of a lower
--- generation are clear.
+-- Of the cards that lie whole between lo and hi in segment k, and of the last one where the segment ends at hi, those
+-- on which no reference names an object of a lower generation are clear.
 abbrev pub AreCleared : List TypeRow → HeapView → (ℕ → Bool) → ℕ → ℕ → ℕ → Type 0
 AreCleared rows h is_set k lo hi =
-    (c : ℕ) → lo ≤ 2048 * c → 2048 * c < hi → (2048 * c + 2048 ≤ hi) ⊎ (hi ≡ last_of h k) → AreQuiet rows h k (2048 * c) (2048 * c + 2048)
+    (c : ℕ) → lo ≤ 2048 * c → 2048 * c < hi → (2048 * c + 2048 ≤ hi) ⊎ (hi ≡ last_of h k)
+    → AreQuiet rows h k (2048 * c) (2048 * c + 2048)
     → is_set c ≡ false
 
 -- cards were cleared at most, and they still tell all that names an object of a lower generation

@@ -26,7 +26,8 @@ use clr_types::{FIRST_OFFSET, Types};
 /// one free item, and behind the last marked object the segment ends. Marked objects stay where they are, without their
 /// marks. The head of each new free item is written anew, so that none carries a mark. Each of these generations
 /// becomes the next older one. Nothing else changes: a sweep of generation 0 or 1 goes over the young part of the
-/// ephemeral segment alone. The bricks of these parts are renewed before, while the marks stand, and obey their law again.
+/// ephemeral segment alone. The bricks of these parts are renewed before, while the marks stand, and obey their law
+/// again.
 ///
 /// The heap is that of a lawful machine whose contexts are given up.
 pub fn sweep(heap: &mut Heap, types: &Types, bricks: &mut Bricks, g: u8) -> Tally

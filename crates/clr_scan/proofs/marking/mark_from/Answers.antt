@@ -90,7 +90,8 @@ returns-clause-tables c =
 pub returns-clause-cleared : goal.returns-clause-cleared
 returns-clause-cleared c few k inside i low high whole all =
     let oldest = λ (m : MarkerView). m.oldest in
-    let third = ap oldest c.handle_roots.ensures.marker ∙ ap oldest c.roots.ensures.marker ∙ ap oldest c.begin.ensures in
+    let third = ap oldest c.handle_roots.ensures.marker ∙ ap oldest c.roots.ensures.marker
+    ∙ ap oldest c.begin.ensures in
     let rows = c.args.types.now in
     let h = c.args.heap.now in
     let now = c.handle_roots.new.heap in

@@ -1,0 +1,519 @@
+-- Bricks after a compaction: what they told of what stays, they tell still.
+use Rattle.std.proofs.Common.{◌≡◌, ◌⊎◌, inl, inr, ℕ, zero, suc, ◌+◌, ◌-◌, ◌*◌, ◌/◌, ◌%◌, ◌<◌, ◌≤◌, Bool, true, false}
+use Rattle.std.proofs.Common.{List, [], ◌∷◌}
+use Rattle.std.proofs.Common.{not, length, map, filter, get_or, refl, ap, sym, ◌∙◌, subst, arith, ℤ, if◌then◌else◌}
+use Rattle.std.proofs.lemmas.Bool.{both_ways, cases_Bool, cases_order, or_cases, or_right}
+use Rattle.clr_types.specs.Rising.{IsIn}
+use Rattle.clr_types.specs.Segments.{empty_segment, ended_at, ephemeral, first_place, generation}
+use Rattle.clr_types.specs.Segments.{Layout, reserved_end, same_kind, stands_in}
+use Rattle.clr_types.specs.Types.{TypeRow}
+use Rattle.clr_types.specs.declared.segment.SegInfo.{SegInfo}
+use Rattle.clr_types.specs.declared.segment.SegKind.TheVariants.{Ephemeral}
+use Rattle.clr_types.proofs.ChangedLists.{into_filter, IsIn-map, out_of_filter}
+use Rattle.clr_types.proofs.ListMembers.{from-map}
+use Rattle.clr_types.proofs.SegmentFacts.{stands-between}
+use Rattle.clr_types.proofs.SortedLists.{into_sorted_by, out_of_sorted_by}
+use Rattle.clr_bricks.specs.Bricks.{entry_at, root_entry}
+use Rattle.clr_covers.specs.Covers.{CoverView}
+use Rattle.clr_heap.specs.View.{first_of, frame, HeapView, IsHeap, last_of, no_rests}
+use Rattle.clr_heap.specs.View.{SameShape, segment_at, sight, word_of}
+use Rattle.clr_heap.proofs.Framing.{lawful_at}
+use Rattle.clr_heap.proofs.Staying.{segment_order}
+use Rattle.clr_heap.proofs.Young.{young_number}
+use Rattle.clr_model.specs.Compaction.{Move, moved_by}
+use Rattle.clr_model.specs.Lookups.{object_size}
+use Rattle.clr_model.specs.Machine.{Machine, Object}
+use Rattle.clr_model.specs.Sweep.{part_start, survivors}
+use Rattle.clr_view.specs.Marks.{has_mark}
+use Rattle.clr_view.specs.Memory.{is_marked}
+use Rattle.clr_view.specs.View.{IsHeld, layout_in, objects_in}
+use Rattle.clr_generations.specs.Laws.{AreEntered, BrickLaw, IsBrickOf, Stands}
+use Rattle.clr_generations.specs.Tables.{AreBricksOf, units_of}
+use Rattle.clr_generations.proofs.Alike.{AreAlike, entered_alike, entered_below}
+use Rattle.clr_generations.proofs.HeapHomes.{heap_homes, whole_bricks}
+use Rattle.clr_generations.proofs.Homes.{HaveHomes, old-away, old-before, old-may_lead}
+use Rattle.clr_model.proofs.CompactedSmall.{part_start0}
+use Rattle.clr_model.proofs.SweptLawful.{start-cuts}
+use Rattle.clr_sweep.proofs.Parting.{IsWalkedAt, walked_at}
+use Rattle.clr_sweep.proofs.PassEnds.{none_starts}
+use Rattle.clr_sweep.proofs.SurvivorsSwept.{at-in, seen}
+use Rattle.clr_moves.specs.Moves.{AreMoves, part_of, takes}
+use Rattle.clr_moves.specs.declared.planned.Planned.{Planned}
+use Rattle.clr_moves.specs.Objects.{AreRemembered, is_in_parts, is_spared, IsUntouched, moved_object}
+use Rattle.clr_moves.specs.Overlaid.{IsCompactionOf}
+use Rattle.clr_compact.specs.Compacted.{HasCompacted, part_items}
+use Rattle.clr_compact.specs.Rewrites.{cleared, Rewrites}
+use Rattle.clr_compact.specs.Entered.{AreEnteredBelow, forgotten}
+use Rattle.clr_compact.specs.PartBricks.{both_restored, CanEnterYoung}
+use Rattle.clr_compact.specs.Slides.{HasSlid, IsEdge}
+use Rattle.clr_compact.proofs.CompactedHeap.{part_split}
+use Rattle.clr_compact.proofs.EnteringParts.{entered-restored, is-young, same-below, same-low, same-roots, young-kind}
+use Rattle.clr_compact.proofs.EnteringParts.{young-part, young-takes}
+use Rattle.clr_moves.proofs.FromMachine.{is_ready}
+use Rattle.clr_compact.proofs.Gone.{goes_with, into_parts, lands_at, out_of_parts, unmoved}
+use Rattle.clr_compact.proofs.MemoryItems.{item_of}
+use Rattle.clr_compact.proofs.PartBricks.{all_obey}
+use Rattle.clr_moves.proofs.PlannedMoves.{are-moves, seen-compacted, seen-laid}
+
+-- lists of segments that are alike at each place
+map-alike : {X : Type 0} (f : SegInfo → X) (xs ys : List SegInfo) → length xs ≡ length ys
+    → ((k : ℕ) → k < length xs → f (get_or xs k empty_segment) ≡ f (get_or ys k empty_segment)) → map f xs ≡ map f ys
+map-alike f [] [] e same = refl
+map-alike f [] (y ∷ ys) e same = absurd (omega arith)
+map-alike f (x ∷ xs) [] e same = absurd (omega arith)
+map-alike f (x ∷ xs) (y ∷ ys) e same =
+    let here = same 0 (omega arith) in
+    let rest = map-alike f xs ys (omega arith) (λ k l. same (suc k) (omega arith)) in
+    λ i. here i ∷ rest i
+
+-- a segment without a part doesn't meet the ephemeral one
+pub not-young : (h : HeapView) (g t place : ℕ) → IsHeap h → t < length h.segments → takes g (segment_at h t) ≡ false
+    → stands_in (segment_at h t) place ≡ true → stands_in (ephemeral (frame h)) place ≡ false
+not-young h g t place heap inside off stands = elim (cases_Bool (stands_in (ephemeral (frame h)) place)) [
+  | inr apart ↦ apart
+  | inl meets ↦
+      let one = heap.one_ephemeral in
+      let found = young_number h.segments (omega arith) in
+      let e = found.0 in
+      let in_e = found.1 in
+      let on = young-part h g e heap in_e found.2 in
+      let in_t = stands-between (segment_at h t) place stands in
+      let in_y : stands_in (segment_at h e) place ≡ true =
+      subst (λ (s : SegInfo). stands_in s place ≡ true) (sym found.2) meets in
+      let between = stands-between (segment_at h e) place in_y in
+      absurd (elim (cases_order t e) [
+        | inl at ↦ both_ways (takes g (segment_at h t)) off (ap (λ (n : ℕ). takes g (segment_at h n)) at ∙ on)
+        | inr (inl less) ↦ let order = segment_order h t e heap less in_e in omega arith
+        | inr (inr more) ↦ let order = segment_order h e t heap more inside in omega arith
+      ])
+]
+
+-- a plan touches no brick of a segment without a part
+pub untouched-away : (h : HeapView) (g t b : ℕ) → IsHeap h → t < length h.segments → takes g (segment_at h t) ≡ false
+    → ((u : ℕ) → u < length h.segments → takes g (segment_at h u) ≡ true → first_of h u ≤ part_of h g u)
+    → IsBrickOf (segment_at h t) b → IsUntouched h g b
+untouched-away h g t b heap inside off starts of u lu on =
+    let base_t = (whole_bricks h t heap inside).base in
+    let reserved_t = (whole_bricks h t heap inside).reserved in
+    let base_u = (whole_bricks h u heap lu).base in
+    let low = of.0 in
+    let high = of.1 in
+    elim (cases_order t u) [
+      | inl at ↦ absurd (both_ways (takes g (segment_at h t)) off (ap (λ (n : ℕ). takes g (segment_at h n)) at ∙ on))
+      | inr (inl less) ↦
+          let order = segment_order h t u heap less lu in
+          let start = starts u lu on in
+          inl (omega arith)
+      | inr (inr more) ↦
+          let order = segment_order h u t heap more inside in
+          let end = (lawful_at h u heap lu).high in
+          inr (omega arith)
+    ]
+
+-- a young part starts at or below generation 0
+young-start : (layout : Layout) (g : ℕ) (s : SegInfo) → same_kind Ephemeral s.kind ≡ true → g < 2
+    → layout.start1 ≤ layout.start0 → part_start layout g s ≤ layout.start0
+young-start layout zero s kind young order =
+    let at = ap (λ (b : Bool). if b then layout.start0 else first_place s) kind in omega arith
+young-start layout (suc zero) s kind young order =
+    let at = ap (λ (b : Bool). if b then layout.start1 else first_place s) kind in omega arith
+young-start layout (suc (suc g)) s kind young order = absurd (omega arith)
+
+module _ (rows : List TypeRow) (old : HeapView) (g : ℕ) (moves : List Move) (m : Machine) (kept : ℕ → Bool)
+    (after : Layout)
+    (p : IsCompactionOf rows old g moves m kept after) (heap : IsHeap old) (held : IsHeld rows old)
+    (none : old.rests ≡ no_rests) (least : g ≤ 2) (mid : HeapView) (slid : HasSlid old mid g moves)
+    (mid_heap : IsHeap mid)
+    (clean : HeapView) (shape : SameShape mid clean)
+    (words : Rewrites (cleared (part_items rows mid g (length mid.segments))) (word_of mid) (word_of clean))
+    (start1 start0 : ℕ) (done : HasCompacted rows old (record clean { start1 = start1; start0 = start0 }) g moves)
+    (one : after.start1 ≡ start1) (two : after.start0 ≡ start0)
+    (fin_heap : IsHeap (record clean { start1 = start1; start0 = start0 })) where
+  abbrev fin : HeapView
+  fin = record clean { start1 = start1; start0 = start0 }
+
+  am : AreMoves old g moves
+  am = are-moves rows old g moves m kept after p least
+
+  -- ---- segments
+
+  pub fin-count : length fin.segments ≡ length old.segments
+  fin-count = ap (λ (h : HeapView). length h.segments) shape.others ∙ slid.count
+
+  clean-at : (t : ℕ) → segment_at fin t ≡ segment_at mid t
+  clean-at t = ap (λ (h : HeapView). segment_at h t) shape.others
+
+  pub fin-off : (t : ℕ) → t < length old.segments → takes g (segment_at old t) ≡ false
+      → segment_at fin t ≡ segment_at old t
+  fin-off t l off = clean-at t ∙ slid.rest t l off
+
+  pub fin-on : (t : ℕ) → t < length old.segments → takes g (segment_at old t) ≡ true
+      → (e : ℕ) × (segment_at fin t ≡ ended_at e (segment_at old t))
+  fin-on t l on = let (e, ends, is) = slid.parts t l on in (e, clean-at t ∙ is)
+
+  -- what doesn't depend on a segment's end is as it was
+  pub fin-same : {X : Type 0} (f : SegInfo → X) → ((e : ℕ) (s : SegInfo) → f (ended_at e s) ≡ f s) → (t : ℕ)
+      → t < length old.segments → f (segment_at fin t) ≡ f (segment_at old t)
+  fin-same f stays t l = elim (cases_Bool (takes g (segment_at old t))) [
+    | inl on ↦ let (e, is) = fin-on t l on in ap f is ∙ stays e (segment_at old t)
+    | inr off ↦ ap f (fin-off t l off)
+  ]
+
+  -- the bricks are those of the heap
+  pub bricks-of : (bricks : List (CoverView ℤ)) → AreBricksOf (frame old) bricks → AreBricksOf (frame fin) bricks
+  bricks-of bricks of =
+      of ∙ sym (map-alike (units_of 4096) fin.segments old.segments fin-count
+      (λ k l. let n = fin-count in fin-same (units_of 4096) (λ e s. refl) k (omega arith)))
+
+  -- ---- objects of no part
+
+  item-at : (o : Object) → IsIn o (objects_in rows old) → is_in_parts old g o.place ≡ false
+      → moved_by moves o.place ≡ o.place
+  item-at o n away =
+      let of = item_of rows old m heap held (seen-laid rows old g moves m kept after p) o n in
+      let place : o.place ≡ of.item.place = ap (λ (x : Object). x.place) of.is in
+      let away_i : is_in_parts old g of.item.place ≡ false = subst (λ q. is_in_parts old g q ≡ false) place away in
+      ap (moved_by moves) place
+      ∙ unmoved rows old m heap held none (seen-laid rows old g moves m kept after p) g least kept moves after
+      (seen-compacted rows old g moves m kept after p) mid slid p.tests of.item of.listed of.object away_i
+      ∙ sym place
+
+  pub stands-still : (o : Object) → IsIn o (objects_in rows old) → is_in_parts old g o.place ≡ false
+      → Stands (objects_in rows fin) o.place
+  stands-still o n away =
+      let spared : is_spared old g o ≡ true =
+      or_right (is_marked old o) (not (is_in_parts old g o.place)) (ap not away) in (
+        moved_object moves o,
+        subst (IsIn (moved_object moves o)) (sym done.objects)
+            (into_sorted_by (λ (q : Object). q.name) (moved_object moves o)
+            (map (moved_object moves) (filter (is_spared old g) (objects_in rows old)))
+            (IsIn-map (moved_object moves) (into_filter (is_spared old g) (objects_in rows old) spared n))),
+        item-at o n away,
+      )
+
+  pub stood-still : (q : Object) → IsIn q (objects_in rows fin) → is_in_parts old g q.place ≡ false
+      → (o : Object) × IsIn o (objects_in rows old) × (o.place ≡ q.place) × (object_size rows o ≡ object_size rows q)
+  stood-still q n away =
+      let sorted = subst (IsIn q) done.objects n in
+      let (o, is, listed) =
+      from-map (moved_object moves) q (filter (is_spared old g) (objects_in rows old))
+      (out_of_sorted_by (λ (q : Object). q.name) q
+      (map (moved_object moves) (filter (is_spared old g) (objects_in rows old))) sorted) in
+      let (spared, present) = out_of_filter (is_spared old g) o (objects_in rows old) listed in
+      let at : q.place ≡ moved_by moves o.place = ap (λ (x : Object). x.place) is in
+      let size : object_size rows q ≡ object_size rows o = ap (object_size rows) is in
+      elim (cases_Bool (is_in_parts old g o.place)) [
+        | inr out ↦ (o, present, sym (item-at o present out) ∙ sym at, sym size)
+        | inl in_part ↦ absurd (both_ways (is_in_parts old g q.place) away (landed o present spared in_part q at))
+      ]
+    where
+      landed : (o : Object) → IsIn o (objects_in rows old) → is_spared old g o ≡ true → is_in_parts old g o.place ≡ true
+          → (q : Object) → q.place ≡ moved_by moves o.place → is_in_parts old g q.place ≡ true
+      landed o present spared in_part q at =
+          let of = item_of rows old m heap held (seen-laid rows old g moves m kept after p) o present in
+          let place : o.place ≡ of.item.place = ap (λ (x : Object). x.place) of.is in
+          let mark : is_marked old o ≡ true =
+          elim (or_cases (is_marked old o) (not (is_in_parts old g o.place)) spared) [
+            | inl marked ↦ marked
+            | inr out ↦ absurd (both_ways (not (is_in_parts old g o.place)) (ap not in_part) out)
+          ] in
+          let gone = goes_with rows old m heap held none (seen-laid rows old g moves m kept after p)
+          g least kept moves after (seen-compacted rows old g moves m kept after p)
+          mid slid p.tests of.item of.listed of.object
+          (subst (λ n. has_mark (word_of old n) ≡ true) place mark)
+          (subst (λ n. is_in_parts old g n ≡ true) place in_part) in
+          let lands = lands_at rows old m heap held none (seen-laid rows old g moves m kept after p)
+          g least kept moves after (seen-compacted rows old g moves m kept after p) mid slid p.tests of.item gone in
+          let to : q.place ≡ moved_by moves of.item.place = at ∙ ap (moved_by moves) place in
+          subst (λ n. is_in_parts old g n ≡ true) (sym to)
+          (into_parts old g lands.segment (moved_by moves of.item.place) lands.into lands.up)
+
+  -- ---- segments alike
+
+  alike : (t limit : ℕ)
+      → ((place : ℕ) → stands_in (segment_at old t) place ≡ true → place < limit → is_in_parts old g place ≡ false)
+      → ((place : ℕ) → stands_in (segment_at old t) place ≡ true → place < limit
+      → (0 < generation (frame old) place) × (0 < generation (frame fin) place))
+      → AreAlike rows (frame old) (frame fin) (objects_in rows old) (objects_in rows fin) (segment_at old t) limit
+  alike t limit away ages = record {
+    there = λ o n in_s below. stands-still o n (away o.place in_s below);
+    back = λ q n in_s below. stood-still q n (away q.place in_s below);
+    leads = λ place in_s below.
+        let (a, b) = ages place in_s below in
+        old-may_lead (frame fin) place b ∙ sym (old-may_lead (frame old) place a);
+    old = λ place in_s below aged. (ages place in_s below).0;
+  }
+
+  pub fin-held : IsHeld rows fin
+  fin-held = done.held
+
+  -- A SEGMENT WITHOUT A PART: its bricks tell what they told
+  pub entered-away : (t : ℕ) → t < length old.segments → takes g (segment_at old t) ≡ false → (entry other : ℕ → ℤ)
+      → AreEntered rows (frame old) (objects_in rows old) entry (segment_at old t)
+      → ((b : ℕ) → IsBrickOf (segment_at old t) b → other b ≡ entry b)
+      → AreEntered rows (frame fin) (objects_in rows fin) other (segment_at fin t)
+  entered-away t inside off entry other law same =
+      let n = fin-count in
+      let is = fin-off t inside off in
+      let homes = heap_homes rows old heap held t inside in
+      let homes' : HaveHomes rows (objects_in rows fin) (segment_at old t) =
+      subst (HaveHomes rows (objects_in rows fin)) is (heap_homes rows fin fin_heap fin-held t (omega arith)) in
+      subst (AreEntered rows (frame fin) (objects_in rows fin) other) (sym is)
+      (entered_alike rows (frame old) (frame fin) (objects_in rows old) (objects_in rows fin) (segment_at old t)
+      entry other
+      homes homes' (alike t (reserved_end (segment_at old t)) away ages) same law)
+    where
+      away : (place : ℕ) → stands_in (segment_at old t) place ≡ true → place < reserved_end (segment_at old t)
+          → is_in_parts old g place ≡ false
+      away place in_s below = elim (cases_Bool (is_in_parts old g place)) [
+        | inr out ↦ out
+        | inl in_part ↦
+            let (u, into, up) = out_of_parts old g place in_part in
+            let between = stands-between (segment_at old t) place in_s in
+            let high = into.high in
+            absurd (elim (cases_order t u) [
+              | inl at ↦ both_ways (takes g (segment_at old t)) off
+                  (ap (λ (n : ℕ). takes g (segment_at old n)) at ∙ into.takes)
+              | inr (inl less) ↦ let order = segment_order old t u heap less into.in_range in omega arith
+              | inr (inr more) ↦ let order = segment_order old u t heap more inside in omega arith
+            ])
+      ]
+
+      ages : (place : ℕ) → stands_in (segment_at old t) place ≡ true → place < reserved_end (segment_at old t)
+          → (0 < generation (frame old) place) × (0 < generation (frame fin) place)
+      ages place in_s below =
+          let n = fin-count in
+          let is = fin-off t inside off in
+          let off' : takes g (segment_at fin t) ≡ false = ap (takes g) is ∙ off in
+          let in_s' : stands_in (segment_at fin t) place ≡ true = ap (λ (s : SegInfo). stands_in s place) is ∙ in_s in (
+            old-away (frame old) place (not-young old g t place heap inside off in_s),
+            old-away (frame fin) place (not-young fin g t place fin_heap (omega arith) off' in_s'),
+          )
+
+  -- THE LAW, where the parts were entered anew and nothing else was written
+  pub law-now : (bricks : List (CoverView ℤ)) (entry : ℕ → ℤ) (below own : ℤ)
+      → AreRemembered rows old bricks g entry below own → (other : ℕ → ℤ)
+      → ((t : ℕ) → t < length fin.segments → takes g (segment_at fin t) ≡ true
+      → AreEntered rows (frame fin) (objects_in rows fin) other (segment_at fin t))
+      → ((t b : ℕ) → t < length fin.segments → takes g (segment_at fin t) ≡ false → IsBrickOf (segment_at fin t) b
+      → other b ≡ entry_at bricks b)
+      → BrickLaw rows (frame fin) (objects_in rows fin) other
+  law-now bricks entry below own r other parts others =
+      all_obey rows fin fin_heap fin-held other
+      (λ t l. elim (cases_Bool (takes g (segment_at fin t))) [
+        | inl on ↦ parts t l on
+        | inr off ↦
+            let n = fin-count in
+            let inside : t < length old.segments = omega arith in
+            let off' : takes g (segment_at old t) ≡ false = sym (fin-same (takes g) (λ e s. refl) t inside) ∙ off in
+            entered-away t inside off' entry other
+            (r.law (segment_at old t) (at-in old.segments t empty_segment inside))
+            (λ b of.
+            others t b l off (subst (λ (s : SegInfo). IsBrickOf s b) (sym (fin-off t inside off')) of)
+            ∙ r.others b (untouched-away old g t b heap inside off' (λ u lu on. (am.starts u lu on).0) of))
+      ])
+
+  -- the ephemeral segment is the same one
+  pub was-young : (e : ℕ) → e < length fin.segments → segment_at fin e ≡ ephemeral (frame fin)
+      → (e < length old.segments) × (segment_at old e ≡ ephemeral (frame old))
+  was-young e l eph =
+      let n = fin-count in
+      let inside : e < length old.segments = omega arith in
+      let kind = ap (λ (s : SegInfo). same_kind Ephemeral s.kind) eph ∙ young-kind fin fin_heap in (
+        inside,
+        is-young old e heap inside
+            (sym (fin-same (λ (s : SegInfo). same_kind Ephemeral s.kind) (λ n s. refl) e inside) ∙ kind),
+      )
+
+  -- ---- the ephemeral segment
+
+  module _ (young : g < 2) (e : ℕ) (inside : e < length old.segments)
+      (eph : segment_at old e ≡ ephemeral (frame old)) where
+    abbrev s : SegInfo
+    s = segment_at old e
+
+    abbrev from : ℕ
+    from = part_of old g e
+
+    on : takes g (segment_at old e) ≡ true
+    on = young-part old g e heap inside eph
+
+    kind : same_kind Ephemeral (segment_at old e).kind ≡ true
+    kind = ap (λ (t : SegInfo). same_kind Ephemeral t.kind) eph ∙ young-kind old heap
+
+    -- where its part started no object of generation 0 stood below, and none does now
+    from-old : from ≤ old.start0
+    from-old = young-start (frame old) g s kind young (seen-laid rows old g moves m kept after p).layout.start1_high
+
+    from-new : from ≤ start0
+    from-new =
+        let c = seen-compacted rows old g moves m kept after p in
+        let laid = seen-laid rows old g moves m kept after p in
+        let up = part_start0 (layout_in rows old) g (survivors (seen rows old m) g kept) moves after c
+        (is_ready rows old m laid g least kept moves after c) in
+        let here : from ≡ part_start (layout_in rows old) g (ephemeral (layout_in rows old)) =
+        ap (part_start (frame old) g) eph in
+        omega arith
+
+    from-end : from ≤ last_of old e
+    from-end =
+        (start-cuts (seen rows old m) (seen-laid rows old g moves m kept after p) g least kept s
+        (at-in old.segments e empty_segment inside)).high_end
+
+    away : (place : ℕ) → stands_in s place ≡ true → place < from → is_in_parts old g place ≡ false
+    away place in_s below = elim (cases_Bool (is_in_parts old g place)) [
+      | inr out ↦ out
+      | inl in_part ↦
+          let (u, into, up) = out_of_parts old g place in_part in
+          let between = stands-between s place in_s in
+          let low = into.low in
+          let high = into.high in
+          absurd (elim (cases_order e u) [
+            | inl at ↦ let same = ap (part_of old g) at in omega arith
+            | inr (inl less) ↦ let order = segment_order old e u heap less into.in_range in omega arith
+            | inr (inr more) ↦ let order = segment_order old u e heap more inside in omega arith
+          ])
+    ]
+
+    ages : (place : ℕ) → stands_in s place ≡ true → place < from
+        → (0 < generation (frame old) place) × (0 < generation (frame fin) place)
+    ages place in_s below =
+        let a = from-old in
+        let b = from-new in
+        (old-before (frame old) place (omega arith), old-before (frame fin) place (omega arith))
+
+    abbrev new_end : ℕ
+    new_end = (fin-on e inside on).0
+
+    is-now : segment_at fin e ≡ ended_at new_end s
+    is-now = (fin-on e inside on).1
+
+    in-fin : e < length fin.segments
+    in-fin = let n = fin-count in omega arith
+
+    homes-now : HaveHomes rows (objects_in rows fin) (segment_at fin e)
+    homes-now = heap_homes rows fin fin_heap fin-held e in-fin
+
+    -- what is left of its bricks when the entries of its part are taken away
+    left-below : (entry : ℕ → ℤ) → AreEntered rows (frame old) (objects_in rows old) entry s
+        → AreEnteredBelow rows (frame fin) (objects_in rows fin) (forgotten entry from (last_of old e))
+        (segment_at fin e) from
+    left-below entry law =
+        let w = entered_below rows (frame old) (frame fin) (objects_in rows old) (objects_in rows fin) s new_end from
+        (heap_homes rows old heap held e inside)
+        (subst (HaveHomes rows (objects_in rows fin)) is-now homes-now) (alike e from away ages) entry law in
+        subst (λ (t : SegInfo). AreEnteredBelow rows (frame fin) (objects_in rows fin)
+        (forgotten entry from (last_of old e)) t from) (sym is-now)
+        (record { named = w.named; starts = w.starts; reached = w.reached })
+
+    rests-now : fin.rests ≡ no_rests
+    rests-now = ap (λ (h : HeapView). h.rests) shape.others ∙ ap (λ (h : HeapView). h.rests) slid.others ∙ none
+
+    -- no item reaches over the place where its part started
+    walked : IsWalkedAt (sight rows fin e) fin.memories (first_of fin e) from (last_of fin e)
+    walked =
+        let (a, b, z) = am.starts e inside on in
+        let first = fin-same first_place (λ n t. refl) e inside in
+        walked_at (sight rows fin e) fin.memories (first_of fin e) from (last_of fin e) (fin-held.walkable e in-fin) z
+        (omega arith) past-end (λ q. none_starts fin e q rests-now)
+        (λ i n. part_split rows old m heap held none (seen-laid rows old g moves m kept after p)
+        g least kept moves after (seen-compacted rows old g moves m kept after p)
+        mid slid p.tests mid_heap clean shape words e inside on i n)
+      where
+        edge : (x : ℕ) → IsEdge old g moves e x → from ≤ x
+        edge x (inl is) = omega arith
+        edge x (inr (j, lj, into, is)) = let low = into.low in omega arith
+
+        past-end : from ≤ last_of fin e
+        past-end =
+            let (x, ends, is) = slid.parts e inside on in
+            let last : last_of fin e ≡ x = ap (λ (t : SegInfo). t.end) (clean-at e ∙ is) in
+            let up = edge x ends.edge in
+            omega arith
+
+    -- ITS BRICKS can be entered anew
+    pub can-enter-young : (bricks : List (CoverView ℤ)) (entry : ℕ → ℤ) (planned : Planned)
+        → AreRemembered rows old bricks g entry planned.below planned.first
+        → CanEnterYoung rows fin bricks e from (last_of old e) planned
+    can-enter-young bricks entry planned r =
+        let (a, b, z) = am.starts e inside on in
+        let first = fin-same first_place (λ n t. refl) e inside in
+        let room = fin-same reserved_end (λ n t. refl) e inside in
+        let lawful = lawful_at old e heap inside in
+        let top = lawful.high in
+        record {
+          low = omega arith;
+          order = from-end;
+          high = omega arith;
+          parted = walked.below;
+          whole = walked.above;
+          below_entry = λ offset is. in-brick (from / 4096 - 1) offset (omega arith) (omega arith) (sym below_is ∙ is);
+          first_entry = λ here offset is. in-brick (from / 4096) offset (omega arith) (omega arith) (sym own_is ∙ is);
+          entered = entered-restored rows (frame fin) (objects_in rows fin) (forgotten entry from (last_of old e))
+              (forgotten (both_restored (entry_at bricks) from (reserved_end (segment_at fin e))
+              planned.below planned.first)
+              from (last_of old e)) (segment_at fin e) from homes-now (omega arith) (omega arith)
+              (λ n offset of. (roots n offset of).0) (λ n offset of. (roots n offset of).1)
+              (same-low (entry_at bricks) entry from (last_of old e) (reserved_end (segment_at fin e)) planned.below
+              planned.first (omega arith) from-end low high below_is own_is)
+              (same-below (entry_at bricks) entry from (last_of old e) (reserved_end (segment_at fin e)) planned.below
+              planned.first (omega arith) from-end low high below_is own_is)
+              (left-below entry law);
+        }
+      where
+        law : AreEntered rows (frame old) (objects_in rows old) entry s
+        law = r.law s (at-in old.segments e empty_segment inside)
+
+        below_is : planned.below ≡ entry (from / 4096 - 1)
+        below_is = r.below_is e eph inside
+
+        own_is : planned.first ≡ entry (from / 4096)
+        own_is = r.first_is e eph inside
+
+        base : s.base % 4096 ≡ 0
+        base = (whole_bricks old e heap inside).base
+
+        reserved : s.reserved % 4096 ≡ 0
+        reserved = (whole_bricks old e heap inside).reserved
+
+        first-up : s.base + 4096 ≤ from
+        first-up = (am.starts e inside on).0
+
+        in-room : from ≤ reserved_end s
+        in-room = (am.starts e inside on).1
+
+        in-brick : (brick offset : ℕ) → s.base / 4096 ≤ brick → 4096 * brick < reserved_end s
+            → entry brick ≡ root_entry offset → offset < 4096
+        in-brick brick offset low below is =
+            let zb = base in
+            let zr = reserved in
+            let inside = (law.named brick offset (low, omega arith) is).inside in
+            omega arith
+
+        -- bricks away from the part are as they were
+        untouched : (i : ℕ) → (i + 1 < from / 4096) ⊎ (last_of old e ≤ 4096 * i) → IsUntouched old g i
+        untouched i out t l takes_t =
+            let same : segment_at old t ≡ s =
+            young-takes old g t heap (λ at. omega arith) l takes_t ∙ sym eph in
+            let part = ap (part_start (frame old) g) same in
+            let end = ap (λ (t : SegInfo). t.end) same in
+            elim out [ inl under ↦ inl (omega arith) | inr over ↦ inr (omega arith) ]
+
+        low : (i : ℕ) → i + 1 < from / 4096 → entry_at bricks i ≡ entry i
+        low i l = r.others i (untouched i (inl l))
+
+        high : (i : ℕ) → last_of old e ≤ 4096 * i → entry_at bricks i ≡ entry i
+        high i l = r.others i (untouched i (inr l))
+
+        roots : (n offset : ℕ) → IsBrickOf (segment_at fin e) n
+            → (forgotten (both_restored (entry_at bricks) from (reserved_end (segment_at fin e))
+            planned.below planned.first)
+            from (last_of old e) n ≡ root_entry offset → forgotten entry from (last_of old e) n ≡ root_entry offset)
+            × (forgotten entry from (last_of old e) n ≡ root_entry offset → forgotten
+            (both_restored (entry_at bricks) from (reserved_end (segment_at fin e)) planned.below planned.first)
+            from (last_of old e) n ≡ root_entry offset)
+        roots n offset of =
+            let up = of.1 in
+            let f = first-up in
+            same-roots (entry_at bricks) entry from (last_of old e) (reserved_end (segment_at fin e)) planned.below
+            planned.first (omega arith) from-end low high below_is own_is n offset (omega arith)

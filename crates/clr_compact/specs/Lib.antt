@@ -1,0 +1,11 @@
+pub mod Compacted
+pub mod Fronts
+pub mod Landings
+pub mod NextPlugs
+pub mod Order
+pub mod Overlaid
+pub mod Rewrites
+pub mod Slides
+pub mod Entered
+pub mod Entering
+pub mod PartBricks

@@ -1,0 +1,70 @@
+// One plug goes where it goes, with the words that were saved at its end.
+ghost use Rattle.std.specs.Prelude.{◌≡◌, ℕ, ◌+◌, ◌-◌, ◌%◌, ◌<◌, ◌≤◌, ◌^◌, ◌⊎◌};
+ghost use Rattle.clr_heap.specs.View.{SameShape, word_of};
+ghost use Rattle.clr_pinq.specs.Queue.{logical};
+ghost use Rattle.clr_plugs.specs.Info.{HasInfo};
+ghost use Rattle.clr_compact.specs.Slides.{CanLand};
+ghost use Rattle.clr_compact.specs.Landings.{EndsUnderInfo, HasLandedWhole};
+
+use crate::sliding::slide_plug;
+use clr_heap::Heap;
+use clr_moves::PlugMove;
+use clr_pinq::{PinQueue, Saved};
+
+// Moves one plug to where it goes, with the words that were saved at its end, and makes a free item of what is left
+// between `top` and that place. Above the place where the plug ends then the heap stays as it is.
+#[inline]
+pub(crate) fn land_plug(heap: &mut Heap, pins: &PinQueue, top: u64, plug: PlugMove)
+    requires can { CanLand heap.old plug top }
+    requires end { EndsUnderInfo pins.now.entries plug }
+    requires fits { plug.start + plug.size < 2 ^ 64 }
+    ensures shape { SameShape heap.old heap.new }
+    ensures words { HasLandedWhole plug top (logical pins.now.entries (word_of heap.old)) (word_of heap.old)
+        (word_of heap.new) }
+{
+    heap.lawful();
+    let end = plug.start() + plug.size();
+    if pins.next_saved(end - 32) < end - 8 {
+        let saved = words_before(heap, pins, end);
+        slide_plug(heap, top, plug);
+        put_before(heap, plug.to() + plug.size(), saved);
+    } else {
+        slide_plug(heap, top, plug);
+    }
+}
+
+// The three words that end 8 bytes before a place, as they were saved.
+pub(crate) fn words_before(heap: &Heap, pins: &PinQueue, place: u64) -> Saved
+    requires { HasInfo heap.now place }
+    ensures { result ≡ record {
+      at = place - 32;
+      w0 = logical pins.now.entries (word_of heap.now) (place - 32);
+      w1 = logical pins.now.entries (word_of heap.now) (place - 24);
+      w2 = logical pins.now.entries (word_of heap.now) (place - 16);
+    } }
+{
+    heap.lawful();
+    Saved {
+        at: place - 32,
+        w0: pins.logical_word(heap, place - 32),
+        w1: pins.logical_word(heap, place - 24),
+        w2: pins.logical_word(heap, place - 16),
+    }
+}
+
+// Writes three words so that they end 8 bytes before a place.
+pub(crate) fn put_before(heap: &mut Heap, place: u64, words: Saved)
+    requires { HasInfo heap.old place }
+    ensures first { word_of heap.new (place - 32) ≡ words.w0 }
+    ensures second { word_of heap.new (place - 24) ≡ words.w1 }
+    ensures third { word_of heap.new (place - 16) ≡ words.w2 }
+    ensures others { (b : ℕ) → b % 8 ≡ 0 → (b + 32 < place) ⊎ (place ≤ b + 8)
+        → word_of heap.new b ≡ word_of heap.old b }
+    ensures shape { SameShape heap.old heap.new }
+{
+    heap.lawful();
+    let k = heap.segment_of(place - 32);
+    heap.set_word_at(k, place - 32, words.w0);
+    heap.set_word_at(k, place - 24, words.w1);
+    heap.set_word_at(k, place - 16, words.w2);
+}

@@ -1,0 +1,12 @@
+pub mod Runs
+pub mod KeptRuns
+pub mod PlugMoves
+pub mod Kept
+pub mod Reading
+pub mod Entering
+pub mod Giving
+pub mod PlacesInPlugs
+pub mod SegmentsBelow
+pub mod Counting
+pub mod FromMachine
+pub mod PlannedMoves

@@ -1,0 +1,10 @@
+use Rattle.std.proofs.Common.{ℕ, ◌-◌}
+use Rattle.clr_moves.specs.Told.{IsMarkedRun}
+use Rattle.clr_moves.proofs.run.run_end.Given as goal
+
+abbrev pub invariant-loop-place : goal.invariant-loop-place
+invariant-loop-place l =
+    (last : ℕ) → IsMarkedRun l.types l.heap l.k l.fn.from last → IsMarkedRun l.types l.heap l.k l.place last
+
+abbrev pub decreases-loop-place : goal.decreases-loop-place
+decreases-loop-place l = l.end - l.place

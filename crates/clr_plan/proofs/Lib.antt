@@ -1,0 +1,47 @@
+pub mod Pins
+pub mod Trying
+pub mod Searching
+pub mod Settling
+pub mod GrowingRuns
+pub mod Scanning
+pub mod Looking
+pub mod PartPlan
+pub mod Raising
+pub mod Reaching
+pub mod Beginning
+pub mod SmallPlan
+pub mod OlderPlan
+mod Takes
+pub mod RaisingTo
+pub mod YoungPlan
+pub mod SplitScans
+pub mod AppendedPlugs
+pub mod HeapSurvivors
+pub mod YoungParts
+pub mod HeapPlugs
+pub mod Compacting
+pub mod Ready
+pub mod BehindTheWalk
+mod Waiting
+mod Saving
+mod Writing
+mod Laying
+mod LaidLists
+mod Seen
+mod Laid
+mod LaidSegment
+mod KeptPlans
+mod PushCount
+mod Covering
+mod Ages
+mod LaidBelow
+mod SmallLaid
+mod Lower
+mod EphemeralLaid
+mod Homes
+mod MarkedRuns
+mod Telling
+mod PartFacts
+mod Assembled
+mod Whole
+mod Fitting

@@ -1,0 +1,204 @@
+use Rattle.std.proofs.Common.{◌≡◌, ◌∙◌, ℕ, ap, refl, sym, Bool, if◌then◌else◌, ◌==◌}
+use Rattle.std.proofs.lemmas.Bool.{eq-eqb, ne_eqb}
+use Rattle.clr_heap.specs.View.{HeapView}
+use Rattle.clr_plan.specs.LaidParts.{written, Written}
+use Rattle.clr_plan.proofs.EphemeralLaid.{all-laid, around2, between, free, free2, low-covered, older_around}
+use Rattle.clr_plan.proofs.EphemeralLaid.{older-lays, part, part2, part-covered, part-ends, part-lies, setting_of}
+use Rattle.clr_plan.proofs.EphemeralLaid.{starts, starts2, young-lays}
+use Rattle.clr_plan.proofs.heaps.lay_ephemeral.Goals as goal
+use Rattle.clr_plan.proofs.heaps.lay_ephemeral.Goals.{then-g-eq0, else-g-eq0}
+
+pub new-writer-requires-clause-covered : goal.new-writer-requires-clause-covered
+new-writer-requires-clause-covered c =
+    let (old, before, empty, s) = c.requires.can in
+    let setting = setting_of c.args.types.now old c.args.heap.now before c.args.bricks.now empty c.args.queue.now
+    c.args.g c.args.e c.args.low c.args.from s c.segments.ensures.heap c.boundaries-start1.result
+    c.boundaries-start1.ensures c.info-end.result c.info-end.ensures.value in
+    low-covered setting
+
+pub lay_part-requires : goal.lay_part-requires
+lay_part-requires c =
+    let (old, before, empty, s) = c.requires.can in
+    let setting = setting_of c.args.types.now old c.args.heap.now before c.args.bricks.now empty c.args.queue.now
+    c.args.g c.args.e c.args.low c.args.from s c.segments.ensures.heap c.boundaries-start1.result
+    c.boundaries-start1.ensures c.info-end.result c.info-end.ensures.value in
+    let writing = c.new-writer.ensures.writing c.args.heap.now (part setting) (part-lies setting) refl refl
+    (part-covered setting) in
+    let lays = older-lays setting c.new-writer.new.bricks c.new-writer.result c.new-writer.ensures.bricks
+    c.new-writer.ensures.value writing in
+    record { part = (old, older_around setting, starts setting, free setting, part setting, lays) }
+
+pub raised_to-middle-requires : goal.raised_to-middle-requires
+raised_to-middle-requires c =
+    let (old, before, empty, s) = c.requires.can in
+    let setting = setting_of c.args.types.now old c.args.heap.now before c.args.bricks.now empty c.args.queue.now
+    c.args.g c.args.e c.args.low c.args.from s c.segments.ensures.heap c.boundaries-start1.result
+    c.boundaries-start1.ensures c.info-end.result c.info-end.ensures.value in
+    let writing = c.new-writer.ensures.writing c.args.heap.now (part setting) (part-lies setting) refl refl
+    (part-covered setting) in
+    let lays = older-lays setting c.new-writer.new.bricks c.new-writer.result c.new-writer.ensures.bricks
+    c.new-writer.ensures.value writing in
+    let mid : Written = written c.lay_part.new.heap c.lay_part.new.bricks c.lay_part.new.queue
+    c.lay_part.new.laying.writer in
+    let laid = c.lay_part.ensures.laid old (older_around setting) (starts setting) (free setting) (part setting) lays in
+    let is = between setting c.new-writer.new.bricks c.new-writer.result c.new-writer.ensures.bricks
+    c.new-writer.ensures.value writing mid c.lay_part.new.laying.below c.lay_part.new.laying.at laid in
+    record { between = (c.args.types.now, old, c.args.g, is) }
+
+pub lay_part-requires-2 : goal.lay_part-requires-2
+lay_part-requires-2 c =
+    let (old, before, empty, s) = c.requires.can in
+    let setting = setting_of c.args.types.now old c.args.heap.now before c.args.bricks.now empty c.args.queue.now
+    c.args.g c.args.e c.args.low c.args.from s c.segments.ensures.heap c.boundaries-start1.result
+    c.boundaries-start1.ensures c.info-end.result c.info-end.ensures.value in
+    let writing = c.new-writer.ensures.writing c.args.heap.now (part setting) (part-lies setting) refl refl
+    (part-covered setting) in
+    let lays = older-lays setting c.new-writer.new.bricks c.new-writer.result c.new-writer.ensures.bricks
+    c.new-writer.ensures.value writing in
+    let mid : Written = written c.lay_part.new.heap c.lay_part.new.bricks c.lay_part.new.queue
+    c.lay_part.new.laying.writer in
+    let laid = c.lay_part.ensures.laid old (older_around setting) (starts setting) (free setting) (part setting) lays in
+    let is = between setting c.new-writer.new.bricks c.new-writer.result c.new-writer.ensures.bricks
+    c.new-writer.ensures.value writing mid c.lay_part.new.laying.below c.lay_part.new.laying.at laid in
+    let raised = c.raised_to-middle.ensures.raised c.args.types.now old c.args.g is in
+    let lays2 = young-lays setting c.new-writer.new.bricks c.new-writer.result c.new-writer.ensures.bricks
+    c.new-writer.ensures.value writing mid c.lay_part.new.laying.below c.lay_part.new.laying.at laid
+    c.raised_to-middle.result raised in
+    record {
+      part = (
+        old,
+        around2 setting c.new-writer.new.bricks c.new-writer.result c.new-writer.ensures.bricks
+            c.new-writer.ensures.value writing mid c.lay_part.new.laying.below c.lay_part.new.laying.at laid
+            c.raised_to-middle.result raised,
+        starts2 setting c.new-writer.new.bricks c.new-writer.result
+            c.new-writer.ensures.bricks c.new-writer.ensures.value writing mid c.lay_part.new.laying.below
+            c.lay_part.new.laying.at laid c.raised_to-middle.result raised,
+        free2 setting c.new-writer.new.bricks
+            c.new-writer.result c.new-writer.ensures.bricks c.new-writer.ensures.value writing mid
+            c.lay_part.new.laying.below c.lay_part.new.laying.at laid c.raised_to-middle.result raised,
+        part2 setting c.new-writer.new.bricks c.new-writer.result c.new-writer.ensures.bricks c.new-writer.ensures.value
+            writing mid c.lay_part.new.laying.below c.lay_part.new.laying.at laid c.raised_to-middle.result raised,
+        lays2,
+      );
+    }
+
+pub finish-requires-clause-can : goal.finish-requires-clause-can
+finish-requires-clause-can c =
+    let (old, before, empty, s) = c.requires.can in
+    let setting = setting_of c.args.types.now old c.args.heap.now before c.args.bricks.now empty c.args.queue.now
+    c.args.g c.args.e c.args.low c.args.from s c.segments.ensures.heap c.boundaries-start1.result
+    c.boundaries-start1.ensures c.info-end.result c.info-end.ensures.value in
+    let writing = c.new-writer.ensures.writing c.args.heap.now (part setting) (part-lies setting) refl refl
+    (part-covered setting) in
+    let lays = older-lays setting c.new-writer.new.bricks c.new-writer.result c.new-writer.ensures.bricks
+    c.new-writer.ensures.value writing in
+    let mid : Written = written c.lay_part.new.heap c.lay_part.new.bricks c.lay_part.new.queue
+    c.lay_part.new.laying.writer in
+    let laid = c.lay_part.ensures.laid old (older_around setting) (starts setting) (free setting) (part setting) lays in
+    let is = between setting c.new-writer.new.bricks c.new-writer.result c.new-writer.ensures.bricks
+    c.new-writer.ensures.value writing mid c.lay_part.new.laying.below c.lay_part.new.laying.at laid in
+    let raised = c.raised_to-middle.ensures.raised c.args.types.now old c.args.g is in
+    let lays2 = young-lays setting c.new-writer.new.bricks c.new-writer.result c.new-writer.ensures.bricks
+    c.new-writer.ensures.value writing mid c.lay_part.new.laying.below c.lay_part.new.laying.at laid
+    c.raised_to-middle.result raised in
+    let next : Written = written c.lay_part-2.new.heap c.lay_part-2.new.bricks c.lay_part-2.new.queue
+    c.lay_part-2.new.laying.writer in
+    let laid2 = c.lay_part-2.ensures.laid old (around2 setting c.new-writer.new.bricks c.new-writer.result
+    c.new-writer.ensures.bricks c.new-writer.ensures.value writing mid c.lay_part.new.laying.below
+    c.lay_part.new.laying.at laid c.raised_to-middle.result raised) (starts2 setting c.new-writer.new.bricks
+    c.new-writer.result c.new-writer.ensures.bricks c.new-writer.ensures.value writing mid
+    c.lay_part.new.laying.below c.lay_part.new.laying.at laid c.raised_to-middle.result raised)
+    (free2 setting c.new-writer.new.bricks c.new-writer.result c.new-writer.ensures.bricks
+    c.new-writer.ensures.value writing mid c.lay_part.new.laying.below c.lay_part.new.laying.at laid
+    c.raised_to-middle.result raised) (part2 setting c.new-writer.new.bricks c.new-writer.result
+    c.new-writer.ensures.bricks c.new-writer.ensures.value writing mid c.lay_part.new.laying.below
+    c.lay_part.new.laying.at laid c.raised_to-middle.result raised) lays2 in
+    part-ends setting c.new-writer.new.bricks c.new-writer.result c.new-writer.ensures.bricks c.new-writer.ensures.value
+    writing mid c.lay_part.new.laying.below c.lay_part.new.laying.at laid c.raised_to-middle.result raised next
+    c.lay_part-2.new.laying.below c.lay_part-2.new.laying.at laid2
+
+pub past_pins-requires : goal.past_pins-requires
+past_pins-requires c =
+    let (old, before, empty, s) = c.requires.can in
+    let setting = setting_of c.args.types.now old c.args.heap.now before c.args.bricks.now empty c.args.queue.now
+    c.args.g c.args.e c.args.low c.args.from s c.segments.ensures.heap c.boundaries-start1.result
+    c.boundaries-start1.ensures c.info-end.result c.info-end.ensures.value in
+    let writing = c.new-writer.ensures.writing c.args.heap.now (part setting) (part-lies setting) refl refl
+    (part-covered setting) in
+    let lays = older-lays setting c.new-writer.new.bricks c.new-writer.result c.new-writer.ensures.bricks
+    c.new-writer.ensures.value writing in
+    let mid : Written = written c.lay_part.new.heap c.lay_part.new.bricks c.lay_part.new.queue
+    c.lay_part.new.laying.writer in
+    let laid = c.lay_part.ensures.laid old (older_around setting) (starts setting) (free setting) (part setting) lays in
+    let is = between setting c.new-writer.new.bricks c.new-writer.result c.new-writer.ensures.bricks
+    c.new-writer.ensures.value writing mid c.lay_part.new.laying.below c.lay_part.new.laying.at laid in
+    let raised = c.raised_to-middle.ensures.raised c.args.types.now old c.args.g is in
+    let lays2 = young-lays setting c.new-writer.new.bricks c.new-writer.result c.new-writer.ensures.bricks
+    c.new-writer.ensures.value writing mid c.lay_part.new.laying.below c.lay_part.new.laying.at laid
+    c.raised_to-middle.result raised in
+    let next : Written = written c.lay_part-2.new.heap c.lay_part-2.new.bricks c.lay_part-2.new.queue
+    c.lay_part-2.new.laying.writer in
+    let laid2 = c.lay_part-2.ensures.laid old (around2 setting c.new-writer.new.bricks c.new-writer.result
+    c.new-writer.ensures.bricks c.new-writer.ensures.value writing mid c.lay_part.new.laying.below
+    c.lay_part.new.laying.at laid c.raised_to-middle.result raised) (starts2 setting c.new-writer.new.bricks
+    c.new-writer.result c.new-writer.ensures.bricks c.new-writer.ensures.value writing mid
+    c.lay_part.new.laying.below c.lay_part.new.laying.at laid c.raised_to-middle.result raised)
+    (free2 setting c.new-writer.new.bricks c.new-writer.result c.new-writer.ensures.bricks
+    c.new-writer.ensures.value writing mid c.lay_part.new.laying.below c.lay_part.new.laying.at laid
+    c.raised_to-middle.result raised) (part2 setting c.new-writer.new.bricks c.new-writer.result
+    c.new-writer.ensures.bricks c.new-writer.ensures.value writing mid c.lay_part.new.laying.below
+    c.lay_part.new.laying.at laid c.raised_to-middle.result raised) lays2 in
+    record { behind = laid2.planned.behind }
+
+pub returns : goal.returns
+returns c = record {
+  laid = λ old before empty s.
+      let setting = setting_of c.args.types.now old c.args.heap.now before c.args.bricks.now empty c.args.queue.now
+      c.args.g c.args.e c.args.low c.args.from s c.segments.ensures.heap c.boundaries-start1.result
+      c.boundaries-start1.ensures c.info-end.result c.info-end.ensures.value in
+      let writing = c.new-writer.ensures.writing c.args.heap.now (part setting) (part-lies setting) refl refl
+      (part-covered setting) in
+      let lays = older-lays setting c.new-writer.new.bricks c.new-writer.result c.new-writer.ensures.bricks
+      c.new-writer.ensures.value writing in
+      let mid : Written = written c.lay_part.new.heap c.lay_part.new.bricks c.lay_part.new.queue
+      c.lay_part.new.laying.writer in
+      let laid = c.lay_part.ensures.laid old (older_around setting) (starts setting) (free setting) (part setting) lays
+      in
+      let is = between setting c.new-writer.new.bricks c.new-writer.result c.new-writer.ensures.bricks
+      c.new-writer.ensures.value writing mid c.lay_part.new.laying.below c.lay_part.new.laying.at laid in
+      let raised = c.raised_to-middle.ensures.raised c.args.types.now old c.args.g is in
+      let lays2 = young-lays setting c.new-writer.new.bricks c.new-writer.result c.new-writer.ensures.bricks
+      c.new-writer.ensures.value writing mid c.lay_part.new.laying.below c.lay_part.new.laying.at laid
+      c.raised_to-middle.result raised in
+      let next : Written = written c.lay_part-2.new.heap c.lay_part-2.new.bricks c.lay_part-2.new.queue
+      c.lay_part-2.new.laying.writer in
+      let laid2 = c.lay_part-2.ensures.laid old (around2 setting c.new-writer.new.bricks c.new-writer.result
+      c.new-writer.ensures.bricks c.new-writer.ensures.value writing mid c.lay_part.new.laying.below
+      c.lay_part.new.laying.at laid c.raised_to-middle.result raised) (starts2 setting c.new-writer.new.bricks
+      c.new-writer.result c.new-writer.ensures.bricks c.new-writer.ensures.value writing mid
+      c.lay_part.new.laying.below c.lay_part.new.laying.at laid c.raised_to-middle.result raised)
+      (free2 setting c.new-writer.new.bricks c.new-writer.result c.new-writer.ensures.bricks
+      c.new-writer.ensures.value writing mid c.lay_part.new.laying.below c.lay_part.new.laying.at laid
+      c.raised_to-middle.result raised) (part2 setting c.new-writer.new.bricks c.new-writer.result
+      c.new-writer.ensures.bricks c.new-writer.ensures.value writing mid c.lay_part.new.laying.below
+      c.lay_part.new.laying.at laid c.raised_to-middle.result raised) lays2 in
+      let first : c.boundaries-start1.result.0 ≡ old.start1 = ap (λ (b : ℕ × ℕ). b.0) c.boundaries-start1.ensures
+      ∙ ap (λ (h : HeapView). h.start1) s.laid.words.shape.others in
+      let boundary : c.if-g-eq0.boundary ≡ (if c.args.g == 0 then old.start1 else c.raised_to-middle.result.place) =
+      elim c.if-g-eq0.branch [
+        | then-g-eq0 b ↦ b.boundary-is ∙ first
+            ∙ sym (ap (λ (t : Bool). if t then old.start1 else c.raised_to-middle.result.place)
+            (eq-eqb c.args.g 0 b.if-g-eq0.true))
+        | else-g-eq0 b ↦ b.boundary-is
+            ∙ sym (ap (λ (t : Bool). if t then old.start1 else c.raised_to-middle.result.place)
+            (ne_eqb c.args.g 0 b.if-g-eq0.false))
+      ] in
+      all-laid setting c.new-writer.new.bricks c.new-writer.result c.new-writer.ensures.bricks
+      c.new-writer.ensures.value
+      writing mid c.lay_part.new.laying.below c.lay_part.new.laying.at laid c.raised_to-middle.result raised next
+      c.lay_part-2.new.laying.below c.lay_part-2.new.laying.at laid2 c.finish.new.heap c.finish.new.bricks
+      c.finish.ensures.planned c.finish.ensures.words c.lay_part.ensures.shape c.lay_part-2.ensures.shape
+      c.finish.ensures.shape c.finish.ensures.entries
+      c.lay_part.ensures.spans c.lay_part-2.ensures.spans c.finish.ensures.spans c.if-g-eq0.boundary boundary
+      c.past_pins.result c.past_pins.ensures.raised;
+}

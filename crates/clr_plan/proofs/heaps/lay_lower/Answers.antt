@@ -1,0 +1,17 @@
+use Rattle.clr_plan.proofs.Lower.{lower-none, lower-two}
+use Rattle.clr_plan.proofs.heaps.lay_lower.Goals as goal
+
+pub returns-then-g-eq2 : goal.returns-then-g-eq2
+returns-then-g-eq2 c = record {
+  laid = lower-two c.args.types.now c.args.heap.now c.lay_small.new.heap c.args.bricks.now c.lay_small.new.bricks
+      c.args.queue.now c.lay_small.new.queue c.args.g c.args.e c.args.low c.lay_small.result c.requires.can
+      c.requires.low c.requires.bricks c.requires.spare
+      c.if-g-eq2.true c.lay_small.ensures.laid;
+}
+
+pub returns-else-g-eq2 : goal.returns-else-g-eq2
+returns-else-g-eq2 c = record {
+  laid = lower-none c.args.types.now c.args.heap.now c.args.bricks.now c.args.queue.now c.args.g c.args.e c.args.low
+      c.young_pointer.result c.requires.can c.requires.low c.requires.bricks c.requires.spare c.if-g-eq2.false
+      c.requires.empty c.young_pointer.ensures;
+}

@@ -1,0 +1,16 @@
+pub mod Pointing
+pub mod Waiting
+pub mod Pins
+pub mod Stages
+pub mod Scans
+pub mod Runs
+pub mod Parts
+pub mod Raises
+pub mod Plans
+pub mod Firsts
+pub mod Pinned
+pub mod Compactions
+pub mod Writes
+pub mod LaidParts
+pub mod Planned
+pub mod Heaps

@@ -1,0 +1,109 @@
+-- Items end to end are relocated, one after the other.
+use Rattle.std.proofs.Common.{◌≡◌, inl, inr, ℕ, ◌+◌, ◌-◌, ◌/◌, ◌<◌, ◌≤◌, Bool, true, List, [], ◌∷◌}
+use Rattle.std.proofs.Common.{refl}
+use Rattle.std.proofs.Common.{◌∙◌, subst, arith}
+use Rattle.std.proofs.lemmas.Bool.{cases_lt}
+use Rattle.clr_types.specs.Rising.{IsIn}
+use Rattle.clr_types.specs.Segments.{Layout}
+use Rattle.clr_types.specs.Types.{TypeRow}
+use Rattle.clr_types.specs.declared.item.Item.{Item}
+use Rattle.clr_covers.specs.Covers.{CoverView, is_covered, spans}
+use Rattle.clr_covers.proofs.Spans.{is_covered-spans}
+use Rattle.clr_heap.specs.View.{heap_items, HeapView, IsHeap}
+use Rattle.clr_model.specs.Compaction.{Move, moved_by}
+use Rattle.clr_view.specs.View.{IsHeld}
+use Rattle.clr_view.proofs.Standing.{standing}
+use Rattle.clr_reloc.specs.Relocating.{AreCarded, GoesDown, HasGone, HaveCardsDown, IsAhead, IsItemAhead, Tracks}
+use Rattle.clr_reloc.proofs.Cells.{left_inside}
+
+pub below_end : (place hi end : ℕ) → place < hi → hi ≤ end → place < end
+below_end place hi end less within = omega (arith, less, within)
+
+-- where tracks lead
+pub track_order : (rows : List TypeRow) (view : HeapView) (is : List Item) (p e : ℕ) → Tracks rows view is p e → p ≤ e
+track_order rows view [] p e t = omega (arith, t)
+track_order rows view (i ∷ is) p e t = let o = track_order rows view is (p + i.size) e t.2 in omega (arith, o)
+
+-- the first item of a track that isn't at its end
+pub record StartsTrack (rows : List TypeRow) (view : HeapView) (p e : ℕ) : Type 0 where
+  pub item : Item
+  pub rest : List Item
+  pub at : item.place ≡ p
+  pub listed : IsIn item (heap_items rows view)
+  pub track : Tracks rows view rest (p + item.size) e
+
+pub track_first : (rows : List TypeRow) (view : HeapView) (is : List Item) (p e : ℕ) → Tracks rows view is p e → p < e
+    → StartsTrack rows view p e
+track_first rows view [] p e t l = absurd (omega (arith, t, l))
+track_first rows view (i ∷ is) p e t l =
+    record { item = i; rest = is; at = t.0; listed = t.1; track = t.2 }
+
+pub gone_none : (rows : List TypeRow) (view now : HeapView) (g : ℕ) (vs : List Move) (p : ℕ)
+    → HasGone rows view now now g vs p p
+gone_none rows view now g vs p = record {
+  done = λ b r low high. absurd (omega (arith, low, high));
+  others = λ b z out. refl;
+}
+
+pub carded_none : (rows : List TypeRow) (view : HeapView) (g : ℕ) (vs : List Move) (layout : Layout)
+    (is_set : ℕ → Bool) (p : ℕ) → AreCarded rows view g vs layout is_set p p
+carded_none rows view g vs layout is_set p i offset left low high m = absurd (omega (arith, low, high))
+
+-- two stretches side by side
+pub gone_both : (rows : List TypeRow) (view now mid next : HeapView) (g : ℕ) (vs : List Move) (heap : IsHeap view)
+    (held : IsHeld rows view) (p q e : ℕ) → p ≤ q → q ≤ e → HasGone rows view now mid g vs p q
+    → HasGone rows view mid next g vs q e → HasGone rows view now next g vs p e
+gone_both rows view now mid next g vs heap held p q e low high a b = record {
+  done = λ x r from to. elim (cases_lt (x + 8) q) [
+    | inl first ↦ b.others x (left_inside rows view heap held g x r).aligned (inl first) ∙ a.done x r from first
+    | inr second ↦ b.done x r second to
+  ];
+  others = λ x z out. elim out [
+    | inl below ↦ b.others x z (inl (omega arith)) ∙ a.others x z (inl below)
+    | inr above ↦ b.others x z (inr above) ∙ a.others x z (inr (omega arith))
+  ];
+}
+
+pub carded_both : (rows : List TypeRow) (view : HeapView) (g : ℕ) (vs : List Move) (layout : Layout)
+    (old new : ℕ → Bool) (p q e : ℕ) → ((c : ℕ) → old c ≡ true → new c ≡ true)
+    → AreCarded rows view g vs layout old p q → AreCarded rows view g vs layout new q e
+    → AreCarded rows view g vs layout new p e
+carded_both rows view g vs layout old new p q e kept a b i offset left low high m = elim (cases_lt i.place q) [
+  | inl first ↦ (λ less. kept ((moved_by vs i.place + offset) / 2048) (a i offset left low first m less))
+  | inr second ↦ b i offset left second high m
+]
+
+-- the next item is still ahead
+module _ (rows : List TypeRow) (view now next : HeapView) (g : ℕ) (vs : List Move) (heap : IsHeap view)
+    (held : IsHeld rows view) (from place e down : ℕ) (cards : List (CoverView ℕ)) (low : from ≤ place)
+    (below : place < e)
+    (ahead : IsAhead view now g vs from e) (goes : GoesDown vs from e down)
+    (gone : HasGone rows view now next g vs from place) (t : StartsTrack rows view place e) where
+  within : place + t.item.size ≤ e
+  within = track_order rows view t.rest (place + t.item.size) e t.track
+
+  least : 24 ≤ t.item.size
+  least = (standing rows view heap held t.item t.listed).least
+
+  pub goes_down : moved_by vs place + down ≡ place
+  goes_down = goes place low below
+
+  pub item_ahead : (covers : List (CoverView ℕ)) → HaveCardsDown covers from e down → spans cards ≡ spans covers
+      → IsItemAhead rows view next g vs t.item place (place - down) cards
+  item_ahead covers have same = record {
+    listed = t.listed;
+    at = t.at;
+    ahead = record {
+      kept = λ b z lo hi. let w = within in ahead.kept b z (omega arith) (omega arith);
+      untouched = λ b z lo hi. let w = within in
+          gone.others b z (inr lo) ∙ ahead.untouched b z (omega arith) (omega arith);
+    };
+    goes = let d = goes_down in omega (arith, d);
+    covered = λ x lo hi.
+        let w = within in
+        let d = goes_down in
+        let y : x + down - down ≡ x = omega arith in
+        is_covered-spans cards covers (x / 2048) same
+        ∙ subst (λ n. is_covered covers (n / 2048) ≡ true) y
+        (have (x + down) (omega (arith, d, lo, low)) (omega (arith, d, hi, w)));
+  }

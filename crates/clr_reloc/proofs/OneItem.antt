@@ -1,0 +1,163 @@
+-- One item is relocated, if it is left.
+use Rattle.std.proofs.Common.{◌≡◌, ℕ, ◌+◌, ◌/◌, ◌%◌, ◌<◌, ◌≤◌, ◌^◌, Bool, true, false, not, ◌&&◌, ◌||◌}
+use Rattle.std.proofs.Common.{List, refl}
+use Rattle.std.proofs.Common.{◌*◌, ◌-◌, ap, ap₂, sym, ◌∙◌, subst, arith, length, nat_le, if◌then◌else◌}
+use Rattle.std.proofs.lemmas.Bool.{and_parts, both_ways}
+use Rattle.clr_types.specs.Rising.{IsIn}
+use Rattle.clr_types.specs.Segments.{generation, Layout}
+use Rattle.clr_types.specs.Types.{form_at, is_array, mt_of, size_of, TypeRow}
+use Rattle.clr_types.specs.declared.item.Item.{Item}
+use Rattle.clr_covers.specs.Covers.{CoverView}
+use Rattle.clr_heap.specs.Memories.{HasWord}
+use Rattle.clr_heap.specs.Parts.{item_at, length_at, NamesItem, type_number}
+use Rattle.clr_heap.specs.View.{frame, HeapView, IsHeap, word_of}
+use Rattle.clr_heap.proofs.Storing.{HasWord-shapes}
+use Rattle.clr_model.specs.Compaction.{Move}
+use Rattle.clr_view.specs.Marks.{has_mark}
+use Rattle.clr_view.specs.View.{IsHeld, is_object}
+use Rattle.clr_view.proofs.Listed.{listed-low, listed-spelled}
+use Rattle.clr_view.proofs.Standing.{cell_has, len_in, mt_in, standing}
+use Rattle.clr_plugs.specs.BrickEntries.{BricksView}
+use Rattle.clr_pinq.specs.Queue.{logical}
+use Rattle.clr_pinq.specs.declared.entry.PinEntry.{PinEntry}
+use Rattle.clr_reloc.specs.References.{references_of}
+use Rattle.clr_reloc.specs.Relocating.{AreCarded, HasGone, IsCarded, IsItemAhead, is_left_at, IsLeftItem}
+use Rattle.clr_reloc.specs.Relocating.{IsRelocating}
+use Rattle.clr_reloc.proofs.Cells.{left_inside, one_item}
+
+-- an item is read from two words
+pub item_same : (rows : List TypeRow) (v w : ℕ → ℕ) (p : ℕ) → w p ≡ v p → w (p + 8) ≡ v (p + 8)
+    → item_at rows w p ≡ item_at rows v p
+unfolding item_at length_at
+item_same rows v w p a b = λ k. record {
+  place = p;
+  size = size_of (form_at rows (type_number (a k))) (if is_array (form_at rows (type_number (a k))) then b k else 0);
+  type_id = record { 0 = type_number (a k) };
+  len = if is_array (form_at rows (type_number (a k))) then b k else 0;
+}
+
+pub names_same : (rows : List TypeRow) (v w : ℕ → ℕ) (p : ℕ) → w p ≡ v p → w (p + 8) ≡ v (p + 8)
+    → NamesItem rows v p → NamesItem rows w p
+names_same rows v w p a b n =
+    let i = item_same rows v w p a b in
+    record {
+      known = subst (λ x. type_number x ≤ length rows) (sym a) n.known;
+      mt = subst (λ x. x / 2 * 2 ≡ mt_of (type_number x)) (sym a) n.mt;
+      least = subst (λ (x : Item). 24 ≤ x.size) (sym i) n.least;
+      most = subst (λ (x : Item). x.size ≤ 1073741824) (sym i) n.most;
+      whole = subst (λ (x : Item). x.size % 8 ≡ 0) (sym i) n.whole;
+      free = λ e. subst (λ x. x % 8 ≡ 0) (sym b) (n.free (ap type_number (sym a) ∙ e));
+    }
+
+module _ (rows : List TypeRow) (view now h : HeapView) (bricks : BricksView) (entries : List PinEntry) (g : ℕ)
+    (vs : List Move) (start1 start0 : ℕ) (r : IsRelocating rows view now h bricks entries g vs start1 start0)
+    (i : Item) (place to : ℕ) (cards : List (CoverView ℕ)) (q : IsItemAhead rows view now g vs i place to cards) where
+  heap : IsHeap view
+  heap = r.begun.plan.overlaid.heap
+
+  held : IsHeld rows view
+  held = r.begun.plan.held
+
+  -- the words of the item's cell
+  pub cell_word : (b : ℕ) → b % 8 ≡ 0 → place ≤ b + 8 → b + 8 < place + i.size
+      → logical entries (word_of h) b ≡ word_of view b
+  cell_word b z low high = r.words b z (q.ahead.kept b z low high) ∙ q.ahead.untouched b z low high
+
+  aligned : place % 8 ≡ 0
+  aligned = subst (λ n. n % 8 ≡ 0) q.at (standing rows view heap held i q.listed).aligned
+
+  least : 24 ≤ i.size
+  least = (standing rows view heap held i q.listed).least
+
+  pub mt_same : logical entries (word_of h) place ≡ word_of view place
+  mt_same = let z = aligned in let l = least in cell_word place z (omega arith) (omega arith)
+
+  len_same : logical entries (word_of h) (place + 8) ≡ word_of view (place + 8)
+  len_same = let z = aligned in let l = least in cell_word (place + 8) (omega arith) (omega arith) (omega arith)
+
+  pub mt_has : HasWord h.memories place
+  mt_has = HasWord-shapes view.memories h.memories place r.shape.memories
+      (subst (HasWord view.memories) q.at (cell_has rows view heap held i i.place q.listed
+      (mt_in rows view heap held i q.listed)))
+
+  pub len_has : HasWord h.memories (place + 8)
+  len_has = HasWord-shapes view.memories h.memories (place + 8) r.shape.memories
+      (subst (λ n. HasWord view.memories (n + 8)) q.at (cell_has rows view heap held i (i.place + 8) q.listed
+      (len_in rows view heap held i q.listed)))
+
+  pub low_place : place + i.size ≤ 2 ^ 62
+  low_place = let l = listed-low rows view i heap held q.listed in let e = q.at in omega (arith, l, e)
+
+  pub fits_len : place + 8 < 2 ^ 64
+  fits_len = let l = low_place in let s = least in omega (arith, l, s)
+
+  pub item_is : item_at rows (logical entries (word_of h)) place ≡ i
+  item_is =
+      item_same rows (word_of view) (logical entries (word_of h)) place mt_same len_same
+      ∙ ap (item_at rows (word_of view)) (sym q.at) ∙ sym (listed-spelled rows view i heap held q.listed).0
+
+  pub item_named : NamesItem rows (logical entries (word_of h)) place
+  item_named =
+      names_same rows (word_of view) (logical entries (word_of h)) place mt_same len_same
+      (subst (NamesItem rows (word_of view)) q.at (listed-spelled rows view i heap held q.listed).1)
+
+  -- what the test says
+  pub left_told : (found : Item) (mt : ℕ) → found ≡ i → mt ≡ word_of view place
+      → (is_object found && (not (nat_le (generation (frame h) found.place) g) || has_mark mt))
+      ≡ (is_object i && is_left_at view g i.place)
+  left_told found mt same word =
+      ap (λ (x : Item). is_object x && (not (nat_le (generation (frame h) x.place) g) || has_mark mt)) same
+      ∙ ap (λ (l : Layout). is_object i && (not (nat_le (generation l i.place) g) || has_mark mt))
+      (ap (λ (x : HeapView). frame x) r.shape.others)
+      ∙ ap (λ w. is_object i && (not (nat_le (generation (frame view) i.place) g) || has_mark w))
+      (word ∙ ap (word_of view) (sym q.at))
+
+  pub left_item : (is_object i && is_left_at view g i.place) ≡ true → IsLeftItem rows view g i
+  left_item on =
+      let p = and_parts (is_object i) (is_left_at view g i.place) on in
+      record { listed = q.listed; object = p.0; left = p.1 }
+
+  -- an item that isn't left has nothing to relocate
+  module _ (off : (is_object i && is_left_at view g i.place) ≡ false) where
+    none_left : (j : Item) → IsLeftItem rows view g j → place ≤ j.place → j.place < place + i.size → ⊥
+    none_left j left low high =
+        let s = (standing rows view heap held j left.listed).least in
+        let up = (standing rows view heap held j left.listed).above in
+        let e = q.at in
+        let same : j ≡ i = one_item rows view heap held j i (j.place - 8) left.listed q.listed (omega arith)
+        (omega arith)
+        (omega arith) (omega arith) in
+        both_ways (is_object i && is_left_at view g i.place) off
+        (subst (λ (x : Item). (is_object x && is_left_at view g x.place) ≡ true) same
+        (ap₂ (λ s t. s && t) left.object left.left))
+
+    pub not_gone : HasGone rows view now now g vs place (place + i.size)
+    not_gone = record {
+      done = λ b ref low high.
+          let c = left_inside rows view heap held g b ref in
+          let up = c.above in
+          let e = q.at in
+          let same : ref.item ≡ i = one_item rows view heap held ref.item i b ref.left.listed q.listed (omega arith)
+          c.below (omega arith) (omega arith) in
+          let p = ap (λ (x : Item). x.place) same in
+          let l = least in
+          absurd (none_left ref.item ref.left (omega arith) (omega arith));
+      others = λ b z out. refl;
+    }
+
+    pub not_carded : (layout : Layout) (is_set : ℕ → Bool)
+        → AreCarded rows view g vs layout is_set place (place + i.size)
+    not_carded layout is_set j offset left low high member = absurd (none_left j left low high)
+
+  -- the cards of an object that is left
+  pub all_carded : (layout : Layout) (is_set : ℕ → Bool)
+      → ((offset : ℕ) → IsIn offset (references_of rows i) → IsCarded view vs layout is_set i.place offset)
+      → AreCarded rows view g vs layout is_set place (place + i.size)
+  all_carded layout is_set carded j offset left low high member =
+      let s = (standing rows view heap held j left.listed).least in
+      let up = (standing rows view heap held j left.listed).above in
+      let e = q.at in
+      let same : j ≡ i = one_item rows view heap held j i (j.place - 8) left.listed q.listed (omega arith) (omega arith)
+      (omega arith) (omega arith) in
+      subst (λ (x : Item). IsCarded view vs layout is_set x.place offset) (sym same)
+      (carded offset (subst (λ (x : Item). IsIn offset (references_of rows x)) same member))

@@ -1,0 +1,37 @@
+use Rattle.std.proofs.Common.{◌≡◌, ◌≤◌, ◌-◌, ℕ, true, length, List}
+use Rattle.clr_types.specs.declared.item.Item.{Item}
+use Rattle.clr_cards.specs.Cards.{is_card_set}
+use Rattle.clr_covers.specs.Covers.{spans}
+use Rattle.clr_heap.specs.View.{frame, HeapView}
+use Rattle.clr_model.specs.Compaction.{Move}
+use Rattle.clr_reloc.specs.Relocated.{rebounded}
+use Rattle.clr_reloc.specs.Relocating.{AreCarded, GoesDown, HasGone, IsAhead, IsRelocating, KeepsTelling, SavesSame}
+use Rattle.clr_reloc.specs.Relocating.{Tracks}
+use Rattle.clr_reloc.specs.Scanning.{AreEntriesSound, AreQuietWhereClear, entry_before}
+use Rattle.clr_reloc.proofs.cards.relocate_carded.Given as goal
+
+abbrev pub invariant-loop-lo : goal.invariant-loop-lo
+invariant-loop-lo l = record {
+  low : l.first ≤ l.cursor;
+  gone : (view now : HeapView) (vs : List Move) (is : List Item)
+      → IsRelocating l.types view now l.initial.heap l.bricks l.initial.pins.entries l.g vs l.planned.start1
+      l.planned.start0
+      → Tracks l.types view is l.first l.end → IsAhead view now l.g vs l.first l.end → GoesDown vs l.first l.end 0
+      → AreEntriesSound l.types view (entry_before l.bricks l.planned.below l.planned.first l.border) l.first l.end
+      → AreQuietWhereClear l.types view l.g vs (rebounded (frame view) l.planned) (is_card_set l.initial.cards)
+      l.first l.end
+      → (next : HeapView) × (rest : List Item)
+      × IsRelocating l.types view next l.heap l.bricks l.pins.entries l.g vs l.planned.start1 l.planned.start0
+      × Tracks l.types view rest l.cursor l.end
+      × HasGone l.types view now next l.g vs l.first l.cursor
+      × KeepsTelling l.types view l.g vs l.initial.pins.entries l.initial.heap l.heap
+      × AreCarded l.types view l.g vs (rebounded (frame view) l.planned) (is_card_set l.cards) l.first l.cursor;
+  saved : SavesSame l.initial.pins.entries l.pins.entries;
+  kept : (c : ℕ) → is_card_set l.initial.cards c ≡ true → is_card_set l.cards c ≡ true;
+  cards : spans l.cards ≡ spans l.initial.cards;
+  count : length l.pins.entries ≡ length l.initial.pins.entries;
+  spare : l.pins.spare ≡ l.initial.pins.spare;
+}
+
+abbrev pub decreases-loop-lo : goal.decreases-loop-lo
+decreases-loop-lo l = l.end - l.cursor

@@ -1,0 +1,94 @@
+use Rattle.std.proofs.Common.{◌∙◌}
+use Rattle.clr_cards.specs.Cards.{is_card_set}
+use Rattle.clr_heap.specs.View.{frame}
+use Rattle.clr_reloc.specs.Relocated.{rebounded}
+use Rattle.clr_reloc.proofs.Final.{ahead_outside, begins, law_after, over_none, relocated_all}
+use Rattle.clr_reloc.proofs.OldCards.{can_scan}
+use Rattle.clr_reloc.proofs.Seen.{plan_now}
+use Rattle.clr_reloc.proofs.relocating.relocate.Goals as goal
+
+pub relocate_plugs-requires-clause-can : goal.relocate_plugs-requires-clause-can
+relocate_plugs-requires-clause-can c =
+    let (view, vs, entry, can) = c.requires.can in (
+      view,
+      vs,
+      begins c.args.types.now view c.args.heap.now c.args.bricks.now c.args.pins.now.entries c.args.g vs
+          c.args.planned.now.start1 c.args.planned.now.start0 c.requires.least can.plan can.followed can.old_parts
+          c.count.ensures.lawful,
+      can.cards_of,
+    )
+
+pub relocate_outside-requires-clause-can : goal.relocate_outside-requires-clause-can
+relocate_outside-requires-clause-can c =
+    let (view, vs, entry, can) = c.requires.can in
+    let rows = c.args.types.now in
+    let r = begins rows view c.args.heap.now c.args.bricks.now c.args.pins.now.entries c.args.g vs
+    c.args.planned.now.start1 c.args.planned.now.start0 c.requires.least can.plan can.followed can.old_parts
+    c.count.ensures.lawful in
+    let (next, q, gone, carded) = c.relocate_plugs.ensures.gone view vs r can.cards_of in (
+      view,
+      next,
+      vs,
+      q,
+      c.relocate_plugs.ensures.cards ∙ can.cards_of,
+      ahead_outside rows view c.args.heap.now c.args.bricks.now c.args.pins.now.entries c.args.g vs
+          c.args.planned.now.start1 c.args.planned.now.start0 c.requires.least can.plan can.followed can.old_parts
+          c.count.ensures.lawful next gone,
+      over_none rows view c.args.heap.now c.args.bricks.now c.args.pins.now.entries c.args.g vs
+          c.args.planned.now.start1 c.args.planned.now.start0 c.requires.least can.plan can.followed can.old_parts
+          c.count.ensures.lawful,
+      λ young. can_scan rows view c.args.heap.now c.args.bricks.now c.args.pins.now.entries c.args.g vs
+          c.args.planned.now c.requires.least young can.plan can.old_parts can.named c.args.cards.now can.card_law
+          (is_card_set c.relocate_plugs.new.cards) c.relocate_plugs.ensures.kept entry can.remembered
+          c.relocate_plugs.new.cards (c.relocate_plugs.ensures.cards ∙ can.cards_of) can.bricks_of,
+    )
+
+pub returns-clause-relocated : goal.returns-clause-relocated
+returns-clause-relocated c view vs entry can =
+    let rows = c.args.types.now in
+    let h = c.args.heap.now in
+    let es = c.args.pins.now.entries in
+    let r = begins rows view h c.args.bricks.now es c.args.g vs c.args.planned.now.start1 c.args.planned.now.start0
+    c.requires.least can.plan can.followed can.old_parts c.count.ensures.lawful in
+    let (next, q, gone, carded) = c.relocate_plugs.ensures.gone view vs r can.cards_of in
+    let (mid, s, out, set) = c.relocate_outside.ensures.gone view next vs q
+    (c.relocate_plugs.ensures.cards ∙ can.cards_of)
+    (ahead_outside rows view h c.args.bricks.now es c.args.g vs c.args.planned.now.start1 c.args.planned.now.start0
+    c.requires.least can.plan can.followed can.old_parts c.count.ensures.lawful next gone)
+    (over_none rows view h c.args.bricks.now es c.args.g vs c.args.planned.now.start1 c.args.planned.now.start0
+    c.requires.least can.plan can.followed can.old_parts c.count.ensures.lawful)
+    (λ young. can_scan rows view c.args.heap.now c.args.bricks.now c.args.pins.now.entries c.args.g vs
+    c.args.planned.now c.requires.least young can.plan can.old_parts can.named c.args.cards.now can.card_law
+    (is_card_set c.relocate_plugs.new.cards) c.relocate_plugs.ensures.kept entry can.remembered
+    c.relocate_plugs.new.cards (c.relocate_plugs.ensures.cards ∙ can.cards_of) can.bricks_of) in (
+      mid,
+      relocated_all rows view h c.args.bricks.now es c.args.g vs c.args.planned.now.start1 c.args.planned.now.start0
+          c.requires.least can.plan can.followed can.old_parts c.count.ensures.lawful next mid gone out s.underway,
+      plan_now rows view mid c.relocate_outside.new.heap c.args.bricks.now c.relocate_outside.new.pins.entries c.args.g
+          vs
+          c.args.planned.now.start1 c.args.planned.now.start0 s,
+    )
+
+pub returns-clause-card_law : goal.returns-clause-card_law
+returns-clause-card_law c view vs entry can =
+    let rows = c.args.types.now in
+    let h = c.args.heap.now in
+    let es = c.args.pins.now.entries in
+    let r = begins rows view h c.args.bricks.now es c.args.g vs c.args.planned.now.start1 c.args.planned.now.start0
+    c.requires.least can.plan can.followed can.old_parts c.count.ensures.lawful in
+    let (next, q, gone, carded) = c.relocate_plugs.ensures.gone view vs r can.cards_of in
+    let (mid, s, out, set) = c.relocate_outside.ensures.gone view next vs q
+    (c.relocate_plugs.ensures.cards ∙ can.cards_of)
+    (ahead_outside rows view h c.args.bricks.now es c.args.g vs c.args.planned.now.start1 c.args.planned.now.start0
+    c.requires.least can.plan can.followed can.old_parts c.count.ensures.lawful next gone)
+    (over_none rows view h c.args.bricks.now es c.args.g vs c.args.planned.now.start1 c.args.planned.now.start0
+    c.requires.least can.plan can.followed can.old_parts c.count.ensures.lawful)
+    (λ young. can_scan rows view c.args.heap.now c.args.bricks.now c.args.pins.now.entries c.args.g vs
+    c.args.planned.now c.requires.least young can.plan can.old_parts can.named c.args.cards.now can.card_law
+    (is_card_set c.relocate_plugs.new.cards) c.relocate_plugs.ensures.kept entry can.remembered
+    c.relocate_plugs.new.cards (c.relocate_plugs.ensures.cards ∙ can.cards_of) can.bricks_of) in
+    law_after rows view h c.args.bricks.now es c.args.g vs c.args.planned.now.start1 c.args.planned.now.start0
+    c.requires.least can.plan can.followed can.old_parts c.count.ensures.lawful
+    (rebounded (frame view) c.args.planned.now)
+    (is_card_set c.relocate_plugs.new.cards) (is_card_set c.relocate_outside.new.cards)
+    c.relocate_outside.ensures.kept carded set

@@ -1,0 +1,5 @@
+pub mod References
+pub mod Relocated
+pub mod Relocating
+pub mod Outside
+pub mod Scanning

@@ -1,0 +1,84 @@
+// Relocating the references of old objects, which set cards tell.
+ghost use Rattle.std.specs.Prelude.{◌≡◌, ℕ, ◌+◌, ◌-◌, ◌/◌, ◌%◌, ◌<◌, ◌≤◌, ◌⊎◌, ◌^◌, true, List, length, IfSome, IfNone};
+ghost use Rattle.clr_types.specs.declared.item.Item.{Item};
+ghost use Rattle.clr_cards.specs.Cards.{is_card_set};
+ghost use Rattle.clr_covers.specs.Covers.{share_cover, spans};
+ghost use Rattle.clr_heap.specs.View.{frame, HeapView};
+ghost use Rattle.clr_model.specs.Compaction.{Move};
+ghost use Rattle.clr_scan.specs.SetCards.{AreClear};
+ghost use Rattle.clr_reloc.specs.Relocated.{rebounded};
+ghost use Rattle.clr_reloc.specs.Relocating.{AreCarded, GoesDown, HasGone, HaveCardsDown, IsAhead, IsRelocating};
+ghost use Rattle.clr_reloc.specs.Relocating.{KeepsTelling, SavesSame, Tracks};
+ghost use Rattle.clr_reloc.specs.Scanning.{AreEntriesSound, AreInRow, AreQuietWhereClear, entry_before, HaveEntries};
+
+use crate::entries::nearest;
+use crate::stretches::relocate_items;
+use clr_bricks::Bricks;
+use clr_cards::Cards;
+use clr_heap::Heap;
+use clr_moves::Planned;
+use clr_pinq::PinQueue;
+use clr_types::Types;
+
+// Relocates the references of what is left among the items from the place `first` up to `end`, where nothing goes and
+// cards tell all references to what goes or is younger. A part begins in the brick `border`.
+pub(crate) fn relocate_carded(
+    heap: &mut Heap,
+    types: &Types,
+    cards: &mut Cards,
+    bricks: &Bricks,
+    pins: &mut PinQueue,
+    g: u8,
+    planned: &Planned,
+    border: u64,
+    first: u64,
+    end: u64,
+)
+    requires least { g ≤ 2 }
+    requires small { end ≤ 2 ^ 62 }
+    requires can { (view : HeapView) × (now : HeapView) × (vs : List Move) × (is : List Item)
+        × IsRelocating types.now view now heap.old bricks.now pins.old.entries g vs planned.now.start1
+        planned.now.start0
+        × Tracks types.now view is first end × IsAhead view now g vs first end × GoesDown vs first end 0
+        × AreEntriesSound types.now view (entry_before bricks.now planned.now.below planned.now.first border) first end
+        × AreQuietWhereClear types.now view g vs (rebounded (frame view) planned.now)
+        (is_card_set cards.old) first end }
+    requires cards { HaveCardsDown cards.old first end 0 }
+    requires row { AreInRow cards.old first end }
+    requires entries { HaveEntries bricks.now first end }
+    ensures gone { (view now : HeapView) (vs : List Move) (is : List Item)
+        → IsRelocating types.now view now heap.old bricks.now pins.old.entries g vs planned.now.start1
+        planned.now.start0
+        → Tracks types.now view is first end → IsAhead view now g vs first end → GoesDown vs first end 0
+        → AreEntriesSound types.now view (entry_before bricks.now planned.now.below planned.now.first border) first end
+        → AreQuietWhereClear types.now view g vs (rebounded (frame view) planned.now) (is_card_set cards.old) first end
+        → (next : HeapView)
+        × IsRelocating types.now view next heap.new bricks.now pins.new.entries g vs planned.now.start1
+        planned.now.start0
+        × HasGone types.now view now next g vs first end
+        × KeepsTelling types.now view g vs pins.old.entries heap.old heap.new
+        × AreCarded types.now view g vs (rebounded (frame view) planned.now) (is_card_set cards.new) first end }
+    ensures saved { SavesSame pins.old.entries pins.new.entries }
+    ensures kept { (c : ℕ) → is_card_set cards.old c ≡ true → is_card_set cards.new c ≡ true }
+    ensures cards { spans cards.new ≡ spans cards.old }
+    ensures count { length pins.new.entries ≡ length pins.old.entries }
+    ensures spare { pins.new.spare ≡ pins.old.spare }
+{
+    let mut cursor = first;
+    while let Some((lo, hi)) = next_run(cards, cursor, end) {
+        let from = nearest(bricks, planned, border, first, cursor, lo);
+        cursor = relocate_items(
+            heap, types, cards, bricks, pins, g, planned, from, hi, end, 0,
+        );
+    }
+}
+
+// The first stretch in `[lo, hi)` on which all cards are set.
+fn next_run(cards: &Cards, lo: u64, hi: u64) -> Option<(u64, u64)>
+    requires { lo < hi → share_cover cards.now (lo / 2048) ((hi - 1) / 2048) ≡ true }
+    ensures none { IfNone result (AreClear (is_card_set cards.now) lo hi) }
+    ensures some { IfSome result (λ run. (lo ≤ run.0) × (run.0 < run.1) × (run.1 ≤ hi)
+        × AreClear (is_card_set cards.now) lo run.0 × ((run.1 ≡ hi) ⊎ (run.1 % 2048 ≡ 0))) }
+{
+    cards.runs(lo, hi).next()
+}

@@ -1,0 +1,13 @@
+//! Relocates references between the plan of a compaction and the compaction itself: each reference of what a collection
+//! leaves becomes the place where its target goes.
+#![tactic(auto)]
+
+pub use crate::relocating::relocate;
+
+mod ages;
+mod cards;
+mod entries;
+mod items;
+mod objects;
+mod relocating;
+mod stretches;

@@ -1,0 +1,237 @@
+// Relocates the references of all that a collection leaves.
+ghost use Rattle.std.specs.Prelude.{◌≡◌, ℕ, ◌+◌, ◌-◌, ◌/◌, ◌<◌, ◌≤◌, ◌^◌, true, List, length, ℤ};
+ghost use Rattle.clr_cards.specs.Cards.{is_card_set};
+ghost use Rattle.clr_covers.specs.Covers.{spans};
+ghost use Rattle.clr_heap.specs.View.{frame, HeapView};
+ghost use Rattle.clr_model.specs.Compaction.{Move};
+ghost use Rattle.clr_generations.specs.Laws.{CardLaw};
+ghost use Rattle.clr_generations.specs.Tables.{AreCardsOf};
+ghost use Rattle.clr_moves.specs.Overlaid.{HoldsPlan};
+ghost use Rattle.clr_reloc.specs.Outside.{AreAheadOutside, AreCardedOutside, AreCardedPlugs, HaveGonePlugs};
+ghost use Rattle.clr_reloc.specs.Outside.{HaveGoneOutside, HaveNoneOver, outside_end};
+ghost use Rattle.clr_reloc.specs.Relocated.{CanRelocate, HasRelocated, left_objects, rebounded};
+ghost use Rattle.clr_reloc.specs.Relocating.{AreCarded, GoesDown, HasGone, HaveCardsDown, IsAhead, IsRelocating};
+ghost use Rattle.clr_reloc.specs.Relocating.{KeepsTelling, SavesSame, Tracks};
+ghost use Rattle.clr_reloc.specs.Scanning.{AreEntriesSound, AreInRow, AreQuietWhereClear, border_of, CanScan};
+ghost use Rattle.clr_reloc.specs.Scanning.{entry_before, HaveEntries};
+ghost use Rattle.clr_types.specs.declared.item.Item.{Item};
+
+use crate::cards::relocate_carded;
+use crate::stretches::relocate_stretch;
+use clr_bricks::Bricks;
+use clr_cards::Cards;
+use clr_heap::Heap;
+use clr_moves::{Planned, PlugLine, part_start, takes_part};
+use clr_nums::Grid;
+use clr_pinq::PinQueue;
+use clr_types::{FIRST_OFFSET, Types};
+
+/// Relocates the references of all that a collection of the generations up to `g` leaves, between the plan of its
+/// compaction and the compaction itself: each becomes the place where the plan takes its target. Saved words are
+/// references of what is left, too, and become such places in the queue.
+///
+/// Of old objects it looks at those on set cards alone. For each reference that names an object of a lower generation
+/// once all has gone where it goes, the card of the address to which the reference goes is set. So cards tell all such
+/// references then; none is cleared. The plan and all other words stay.
+///
+/// The heap holds the plan, `planned` is its answer, and `cards` and `bricks` are those of the heap, which obeyed their
+/// laws before the plan. Slots name objects, and what is left names what is left.
+pub fn relocate(
+    heap: &mut Heap,
+    types: &Types,
+    cards: &mut Cards,
+    bricks: &Bricks,
+    pins: &mut PinQueue,
+    g: u8,
+    planned: &Planned,
+)
+    requires least { g ≤ 2 }
+    requires can { (view : HeapView) × (vs : List Move) × (entry : ℕ → ℤ)
+        × CanRelocate types.now view heap.old cards.old bricks.now
+        pins.old.entries g vs entry planned.now }
+    ensures relocated { (view : HeapView) (vs : List Move) (entry : ℕ → ℤ)
+        → CanRelocate types.now view heap.old cards.old bricks.now
+        pins.old.entries g vs entry planned.now
+        → (mid : HeapView) × HasRelocated types.now view mid g vs
+        × HoldsPlan types.now mid heap.new bricks.now pins.new.entries g vs planned.now.start1 planned.now.start0 }
+    ensures card_law { (view : HeapView) (vs : List Move) (entry : ℕ → ℤ)
+        → CanRelocate types.now view heap.old cards.old bricks.now
+        pins.old.entries g vs entry planned.now
+        → CardLaw types.now (rebounded (frame view) planned.now) (left_objects types.now view g vs)
+        (is_card_set cards.new) }
+    ensures cards { spans cards.new ≡ spans cards.old }
+    ensures count { length pins.new.entries ≡ length pins.old.entries }
+    ensures spare { pins.new.spare ≡ pins.old.spare }
+{
+    // A call for the evidence alone that the rows of the table are lawful.
+    let _ = types.count();
+    relocate_plugs(heap, types, cards, bricks, pins, g, planned);
+    relocate_outside(heap, types, cards, bricks, pins, g, planned);
+}
+
+// Relocates the references of what is kept in plugs, and sets the cards of the addresses to which they go.
+fn relocate_plugs(
+    heap: &mut Heap,
+    types: &Types,
+    cards: &mut Cards,
+    bricks: &Bricks,
+    pins: &mut PinQueue,
+    g: u8,
+    planned: &Planned,
+)
+    requires least { g ≤ 2 }
+    requires can { (view : HeapView) × (vs : List Move) × IsRelocating types.now view view heap.old bricks.now
+        pins.old.entries g vs planned.now.start1 planned.now.start0 × AreCardsOf (frame view) cards.old }
+    ensures gone { (view : HeapView) (vs : List Move) → IsRelocating types.now view view heap.old bricks.now
+        pins.old.entries g vs planned.now.start1 planned.now.start0 → AreCardsOf (frame view) cards.old
+        → (next : HeapView) × IsRelocating types.now view next heap.new bricks.now pins.new.entries g vs
+        planned.now.start1 planned.now.start0
+        × HaveGonePlugs types.now view next g vs (length vs)
+        × AreCardedPlugs types.now view g vs (rebounded (frame view) planned.now) (is_card_set cards.new)
+        (length vs) }
+    ensures kept { (c : ℕ) → is_card_set cards.old c ≡ true → is_card_set cards.new c ≡ true }
+    ensures cards { spans cards.new ≡ spans cards.old }
+    ensures count { length pins.new.entries ≡ length pins.old.entries }
+    ensures spare { pins.new.spare ≡ pins.old.spare }
+{
+    let mut line = PlugLine::new(heap, types, bricks, g);
+    for met in 0..u64::MAX {
+        match line.next(heap, types, bricks, g) {
+            None => return,
+            Some(plug) => {
+                let (start, down) = (plug.start(), plug.start() - plug.to());
+                let end = start + plug.size();
+                relocate_stretch(
+                    heap, types, cards, bricks, pins, g, planned, start, end, down,
+                );
+            }
+        }
+    }
+}
+
+// Relocates the references of what is left outside of parts, where nothing goes, and sets the cards of those that name
+// an object of a lower generation then.
+fn relocate_outside(
+    heap: &mut Heap,
+    types: &Types,
+    cards: &mut Cards,
+    bricks: &Bricks,
+    pins: &mut PinQueue,
+    g: u8,
+    planned: &Planned,
+)
+    requires least { g ≤ 2 }
+    requires can { (view : HeapView) × (now : HeapView) × (vs : List Move) × IsRelocating types.now view now heap.old
+        bricks.now pins.old.entries g vs planned.now.start1 planned.now.start0
+        × AreCardsOf (frame view) cards.old × AreAheadOutside view now g (length view.segments) 0
+        × HaveNoneOver types.now view g
+        × (g < 2 → CanScan types.now view cards.old bricks.now g vs (rebounded (frame view) planned.now)
+        (is_card_set cards.old) planned.now.below planned.now.first) }
+    ensures gone { (view now : HeapView) (vs : List Move) → IsRelocating types.now view now heap.old
+        bricks.now pins.old.entries g vs planned.now.start1 planned.now.start0
+        → AreCardsOf (frame view) cards.old → AreAheadOutside view now g (length view.segments) 0
+        → HaveNoneOver types.now view g
+        → (g < 2 → CanScan types.now view cards.old bricks.now g vs (rebounded (frame view) planned.now)
+        (is_card_set cards.old) planned.now.below planned.now.first)
+        → (next : HeapView) × IsRelocating types.now view next heap.new bricks.now pins.new.entries g vs
+        planned.now.start1 planned.now.start0
+        × HaveGoneOutside types.now view now next g vs (length view.segments)
+        × AreCardedOutside types.now view g vs (rebounded (frame view) planned.now) (is_card_set cards.new)
+        (length view.segments) }
+    ensures kept { (c : ℕ) → is_card_set cards.old c ≡ true → is_card_set cards.new c ≡ true }
+    ensures cards { spans cards.new ≡ spans cards.old }
+    ensures count { length pins.new.entries ≡ length pins.old.entries }
+    ensures spare { pins.new.spare ≡ pins.old.spare }
+{
+    let count = heap.segments();
+    for k in 0..count {
+        let first = heap.info(k).base + FIRST_OFFSET;
+        let end = end_outside(heap, g, k);
+        let border = border_brick(heap, g, k, end);
+        relocate_segment(
+            heap, types, cards, bricks, pins, g, planned, border, first, end,
+        );
+    }
+}
+
+// The same for the places from `first` up to `end` of one segment, where a part may begin in the brick `border`. In a
+// collection of less than all generations set cards tell the references that count.
+fn relocate_segment(
+    heap: &mut Heap,
+    types: &Types,
+    cards: &mut Cards,
+    bricks: &Bricks,
+    pins: &mut PinQueue,
+    g: u8,
+    planned: &Planned,
+    border: u64,
+    first: u64,
+    end: u64,
+)
+    requires least { g ≤ 2 }
+    requires small { end ≤ 2 ^ 62 }
+    requires can { (view : HeapView) × (now : HeapView) × (vs : List Move) × (is : List Item)
+        × IsRelocating types.now view now heap.old bricks.now pins.old.entries g vs planned.now.start1
+        planned.now.start0
+        × Tracks types.now view is first end × IsAhead view now g vs first end × GoesDown vs first end 0
+        × (g < 2 → AreEntriesSound types.now view
+        (entry_before bricks.now planned.now.below planned.now.first border) first end)
+        × (g < 2 → AreQuietWhereClear types.now view g vs (rebounded (frame view) planned.now)
+        (is_card_set cards.old) first end) }
+    requires cards { HaveCardsDown cards.old first end 0 }
+    requires row { g < 2 → AreInRow cards.old first end }
+    requires entries { g < 2 → HaveEntries bricks.now first end }
+    ensures gone { (view now : HeapView) (vs : List Move) (is : List Item)
+        → IsRelocating types.now view now heap.old bricks.now pins.old.entries g vs planned.now.start1
+        planned.now.start0
+        → Tracks types.now view is first end → IsAhead view now g vs first end → GoesDown vs first end 0
+        → (g < 2 → AreEntriesSound types.now view
+        (entry_before bricks.now planned.now.below planned.now.first border) first end)
+        → (g < 2 → AreQuietWhereClear types.now view g vs (rebounded (frame view) planned.now)
+        (is_card_set cards.old) first end)
+        → (next : HeapView)
+        × IsRelocating types.now view next heap.new bricks.now pins.new.entries g vs planned.now.start1
+        planned.now.start0
+        × HasGone types.now view now next g vs first end
+        × KeepsTelling types.now view g vs pins.old.entries heap.old heap.new
+        × AreCarded types.now view g vs (rebounded (frame view) planned.now) (is_card_set cards.new) first end }
+    ensures saved { SavesSame pins.old.entries pins.new.entries }
+    ensures kept { (c : ℕ) → is_card_set cards.old c ≡ true → is_card_set cards.new c ≡ true }
+    ensures cards { spans cards.new ≡ spans cards.old }
+    ensures count { length pins.new.entries ≡ length pins.old.entries }
+    ensures spare { pins.new.spare ≡ pins.old.spare }
+{
+    if g == 2 {
+        relocate_stretch(heap, types, cards, bricks, pins, g, planned, first, end, 0);
+        return;
+    }
+    relocate_carded(
+        heap, types, cards, bricks, pins, g, planned, border, first, end,
+    );
+}
+
+// The brick in which the part of segment `k` begins, whose places outside end at `end`, and no brick where it has none.
+fn border_brick(heap: &Heap, g: u8, k: usize, end: u64) -> u64
+    requires in_range { k < length heap.now.segments }
+    requires end { end ≡ outside_end heap.now g k }
+    ensures { result ≡ border_of heap.now g k }
+{
+    if takes_part(g, heap.info(k)) {
+        Grid::<4096>::index(end)
+    } else {
+        u64::MAX
+    }
+}
+
+// Where the places of segment `k` end that stand below its part, and where it ends if it has none.
+fn end_outside(heap: &Heap, g: u8, k: usize) -> u64
+    requires { k < length heap.now.segments }
+    ensures { result ≡ outside_end heap.now g k }
+{
+    let segment = heap.info(k);
+    if takes_part(g, segment) {
+        part_start(heap, g, k)
+    } else {
+        segment.end
+    }
+}

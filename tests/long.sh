@@ -42,6 +42,36 @@ chain_replies() {
     printf '%s\n' 'ok' "collected 2 sweep kept 0 freed $((MOST + 1))"
 }
 
+# So many slots has the wide table, and so many pairs hang from it.
+readonly PAIRS=10000
+
+# A wide table of pairs of objects, more than the stack of a marking holds, is compacted.
+wide_table_script() {
+    printf '%s\n' 'type A refs' 'type N class r' "t1 new l0 A $PAIRS"
+    printf 't1 new l1 N\nt1 new l2 N\nt1 set l1 0 l2\nt1 set l0 %d l1\n' $(seq 0 $((PAIRS - 1)))
+    printf '%s\n' 't1 null l1' 't1 null l2' 't1 collect 2 compacting'
+    printf "t1 get l3 l0 %d\nt1 get l4 l3 0\n" 0 170 $((PAIRS - 1))
+}
+
+# The table has 24 bytes beside its slots. Behind it the pairs stood in contexts, and end to end afterwards.
+wide_table_replies() {
+    local width=$((24 + 8 * PAIRS)) first i
+    printf '%s\n' 'mt 00007ff000000040' 'mt 00007ff000000080'
+    place_of 0
+    printf '%s\n' $place
+    for ((i = 0; i < 2 * PAIRS; i += 2)); do
+        place_of $i
+        first=$((0x$place + width))
+        printf '%016x\n%016x\nok\nok\n' $first $((first + 24))
+    done
+    printf '%s\n' 'ok' 'ok' "collected 2 compact kept $((2 * PAIRS + 1)) freed 0"
+    place_of 0
+    for i in 0 170 $((PAIRS - 1)); do
+        first=$((0x$place + width + 48 * i))
+        printf '%016x\n%016x\n' $first $((first + 24))
+    done
+}
+
 case "$1 $2" in
     'full-table script') full_table_script ;;
     'full-table replies') full_table_replies ;;
@@ -49,5 +79,7 @@ case "$1 $2" in
     'rising-chain replies') chain_replies 0 ;;
     'falling-chain script') chain_script 't1 handle dependent l2 l1' 't1 copy l0 l1' ;;
     'falling-chain replies') chain_replies $MOST ;;
+    'wide-table script') wide_table_script ;;
+    'wide-table replies') wide_table_replies ;;
     *) exit 2 ;;
 esac

@@ -17,8 +17,10 @@ use Rattle.clr_types.proofs.ChangedLists.{IsIn-map}
 use Rattle.clr_types.proofs.ListMembers.{any-map, filter-map, filter-on, map-map, sum-mapped}
 use Rattle.clr_heap.specs.View.{frame, HeapView, IsHeap}
 use Rattle.clr_model.specs.declared.Collected.{Collected}
+use Rattle.clr_model.specs.declared.How.{How}
 use Rattle.clr_model.specs.declared.How.TheVariants.{Sweep}
-use Rattle.clr_model.specs.Collection.{bytes_promoted, IsCollected, object_after, objects_after, released}
+use Rattle.clr_model.specs.Collection.{bytes_promoted, compacts, decides_to_compact, IsCollected, IsSmallLaid}
+use Rattle.clr_model.specs.Collection.{object_after, objects_after, released}
 use Rattle.clr_model.specs.Collection.{row_after, sums_after}
 use Rattle.clr_model.specs.Lawful.{IsLaid}
 use Rattle.clr_model.specs.Lookups.{object_size}
@@ -41,7 +43,7 @@ use Rattle.clr_collect.proofs.SweptLayouts.{swept_occupied}
 -- ---- small facts
 
 -- members that pass one test or the other are as many
-count-on : {X : Type 0} (s t : X → Bool) (xs : List X) → ((x : X) → IsIn x xs → s x ≡ t x)
+pub count-on : {X : Type 0} (s t : X → Bool) (xs : List X) → ((x : X) → IsIn x xs → s x ≡ t x)
     → count_by s xs ≡ count_by t xs
 count-on s t xs same = sym (length-filter s xs) ∙ ap length (filter-on s t xs same) ∙ length-filter t xs
 
@@ -59,7 +61,8 @@ or-on true x y same other = same refl
 or-on false x y same other = sym (other refl)
 
 -- how many of the changed pass
-count-map : {X Y : Type 0} (f : X → Y) (s : Y → Bool) (xs : List X) → count_by s (map f xs) ≡ count_by (λ x. s (f x)) xs
+pub count-map : {X Y : Type 0} (f : X → Y) (s : Y → Bool) (xs : List X)
+    → count_by s (map f xs) ≡ count_by (λ x. s (f x)) xs
 count-map f s xs =
     sym (length-filter s (map f xs)) ∙ ap length (filter-map f s xs) ∙ length-map (filter (λ x. s (f x)) xs) f
     ∙ length-filter (λ x. s (f x)) xs
@@ -181,7 +184,7 @@ module _ (m : Machine) (h : IsLaid m) (g : ℕ) (least : g ≤ 2) (first kept : 
   abbrev change : Object → Object
   change = object_after m first []
 
-  survive-plain : survivors plain g kept ≡ survivors m g kept
+  pub survive-plain : survivors plain g kept ≡ survivors m g kept
   survive-plain =
       ap (sorted_by (λ (k : Survivor). k.place))
       (ap (map (survivor plain)) (filter-map change (λ o. is_condemned m g o && kept o.name) m.objects)
@@ -201,12 +204,12 @@ module _ (m : Machine) (h : IsLaid m) (g : ℕ) (least : g ≤ 2) (first kept : 
 
     -- ---- the counts
 
-    kept-is : (o : Object) → IsIn o m.objects → is_kept marked g o ≡ (is_condemned m g o && kept o.name)
+    pub kept-is : (o : Object) → IsIn o m.objects → is_kept marked g o ≡ (is_condemned m g o && kept o.name)
     kept-is o i =
         ap (λ (b : Bool). b && is_marked marked o) (reached-is o)
         ∙ and-on (is_condemned m g o) (is_marked marked o) (kept o.name) (mark-is o i)
 
-    freed-is : (o : Object) → IsIn o m.objects
+    pub freed-is : (o : Object) → IsIn o m.objects
         → (is_reached_by marked g o.place && not (is_marked marked o)) ≡ (is_condemned m g o && not (kept o.name))
     freed-is o i =
         ap (λ (b : Bool). b && not (is_marked marked o)) (reached-is o)
@@ -217,7 +220,7 @@ module _ (m : Machine) (h : IsLaid m) (g : ℕ) (least : g ≤ 2) (first kept : 
     kept-of e o i =
         ap₂ (λ (a b : Bool). a && b) (kept-is o i) (ap (λ (l : Layout). generation l o.place == e) (sym memory.layout))
 
-    counted : (s t : Object → Bool) → ((o : Object) → IsIn o m.objects → s (change o) ≡ t o)
+    pub counted : (s t : Object → Bool) → ((o : Object) → IsIn o m.objects → s (change o) ≡ t o)
         → count_by s (objects_in rows marked) ≡ count_by t m.objects
     counted s t same =
         ap (count_by s) (sym memory.objects) ∙ count-map change s m.objects
@@ -263,9 +266,40 @@ module _ (m : Machine) (h : IsLaid m) (g : ℕ) (least : g ≤ 2) (first kept : 
       state = refl;
     }
 
+    -- and of another kind, where that comes to a sweep
+    pub sweep_collects_as : (how : How) → compacts how (decides_to_compact m g (survivors m g kept)) ≡ false
+        → (answer : Collected) → answer ≡ told (tally_of rows marked g)
+        → IsCollected m g how (StartOf m g) answer (swept_machine answer)
+    sweep_collects_as how decided answer is = record {
+      first = first;
+      kept = kept;
+      first_is = tests.first_is;
+      kept_is = tests.kept_is;
+      survive = survive;
+      survive_are = refl;
+      small = small;
+      moves = [];
+      small_laid = subst (λ (b : Bool). IsSmallLaid b m.layout g survive [] small) (sym decided) (refl, refl);
+      laid = laid;
+      large_laid = refl;
+      answered =
+          is
+          ∙ (λ k. record {
+            generation = g;
+            compacted = sym decided k;
+            kept = counted (is_kept marked g) (λ o. is_condemned m g o && kept o.name) kept-is k;
+            freed =
+                counted (λ o. is_reached_by marked g o.place && not (is_marked marked o))
+                (λ o. is_condemned m g o && not (kept o.name)) freed-is k;
+            promoted1 = summed 0 (omega arith) k;
+            promoted2 = summed 1 (omega arith) k;
+          });
+      state = refl;
+    }
+
     -- ---- the heap afterwards
 
-    left-is : (o : Object) → IsIn o m.objects → is_left marked g o ≡ kept o.name
+    pub left-is : (o : Object) → IsIn o m.objects → is_left marked g o ≡ kept o.name
     left-is o i =
         ap (λ (b : Bool). not b || is_marked marked o) (reached-is o)
         ∙ or-on (is_condemned m g o) (is_marked marked o) (kept o.name) (mark-is o i) (old-kept o i)
@@ -292,7 +326,7 @@ module _ (m : Machine) (h : IsLaid m) (g : ℕ) (least : g ≤ 2) (first kept : 
 
       -- after a full sweep a segment that isn't empty has an object
       pub swept_full : g ≡ 2 → HasObjects rows swept
-      swept_full two t i l =
+      swept_full two t i other l =
           let is : layout_in rows swept ≡ swept_layout m.layout g (survivors m g kept) =
           s.layout plain kept memory marks ∙ ap (swept_layout m.layout g) survive-plain in
           let there : IsIn t (swept_layout m.layout 2 (survivors m 2 kept)).segments =

@@ -20,8 +20,12 @@ use Rattle.clr_final.specs.Queues.{Queues}
 use Rattle.clr_heap.specs.Parts.{item_at}
 use Rattle.clr_heap.specs.View.{frame, HeapView, IsHeap, no_rests, word_of}
 use Rattle.clr_model.specs.declared.Collected.{Collected}
+use Rattle.clr_model.specs.declared.How.{How}
 use Rattle.clr_model.specs.declared.How.TheVariants.{Sweep}
-use Rattle.clr_model.specs.Collection.{begun, Collects, object_after}
+use Rattle.clr_model.specs.Sweep.{Survivor, survivors}
+use Rattle.std.proofs.Common.{◌+◌, ◌-◌, ◌^◌, min}
+use Rattle.clr_moves.specs.Moves.{moved_bytes}
+use Rattle.clr_model.specs.Collection.{begun, Collects, compacts, decides_to_compact, object_after}
 use Rattle.clr_model.specs.Lawful.{IsLaid, IsPlaceNamed}
 use Rattle.clr_model.specs.Lookups.{lowest_in_step, object_piece, pieces}
 use Rattle.clr_model.specs.Machine.{Machine, Object}
@@ -31,7 +35,7 @@ use Rattle.clr_model.proofs.GivenUp.{given_up_laid}
 use Rattle.clr_model.proofs.SeenStands.{picture_still}
 use Rattle.clr_view.specs.Clean.{AreClean}
 use Rattle.clr_view.specs.Marks.{has_mark, IsUnmarked, Marked}
-use Rattle.clr_view.specs.Memory.{is_left, is_left_name, is_reached_by, IsMemoryOf, word_without_mark}
+use Rattle.clr_view.specs.Memory.{is_left, is_left_name, is_reached_by, IsMemoryOf, TestsMarks, word_without_mark}
 use Rattle.clr_view.specs.SlotValues.{StandsAt}
 use Rattle.clr_view.specs.View.{AreFreeHeads, layout_in, objects_in, tail_of}
 use Rattle.clr_view.specs.World.{IsWorldOf, World}
@@ -48,11 +52,12 @@ use Rattle.clr_collect.proofs.SweptCards.{tables_swept}
 use Rattle.clr_sweep.specs.Swept.{HasSwept, tally_of}
 use Rattle.clr_sweep.specs.declared.tally.Tally.{Tally}
 use Rattle.clr_sweep.proofs.ObjectsSwept.{mark-elsewhere}
-use Rattle.clr_collect.specs.Collecting.{HasMarkedKept, LeavesKept, objects_unflagged, world_with}
+use Rattle.clr_collect.specs.Collecting.{CountsSlides, HasMarkedKept, LeavesKept, objects_unflagged, world_with}
 use Rattle.clr_collect.specs.Released.{HasLost, HasReleased}
 use Rattle.clr_collect.proofs.LeftCases.{condemned-is}
 use Rattle.clr_collect.proofs.SegmentsLost.{lost-refl, lost_heads, lost_objects}
-use Rattle.clr_collect.proofs.SweepCollects.{rests_swept, swept_machine, swept_memory, sweep_collects, told}
+use Rattle.clr_collect.proofs.SweepCollects.{rests_swept, survive-plain, swept_machine, swept_memory, sweep_collects}
+use Rattle.clr_collect.proofs.SweepCollects.{sweep_collects_as, told}
 use Rattle.clr_collect.proofs.SweptLayouts.{whole_tail}
 use Rattle.clr_collect.proofs.YoungItems.{none_young}
 
@@ -68,14 +73,14 @@ module _ (w : World) (marked : HeapView) (handles : FinMap nat_cmp Handle) (queu
 
   -- ---- one machine when its contexts are given up
 
-  begun_laid : (m : Machine) → IsPlaceNamed m → IsLaid (begun m)
+  pub begun_laid : (m : Machine) → IsPlaceNamed m → IsLaid (begun m)
   begun_laid m named = given_up_laid m named.lawful.laid
 
   -- the machine before the sweep: objects have lost the flags of entries that are dropped
   abbrev pub due : Machine → Machine
   due m = record (begun m) { objects = objects_unflagged (begun m) k.first }
 
-  due_memory : (m : Machine) → IsWorldOf w m → IsPlaceNamed m → IsMemoryOf w.rows marked (due m)
+  pub due_memory : (m : Machine) → IsWorldOf w m → IsPlaceNamed m → IsMemoryOf w.rows marked (due m)
   due_memory m is named = record {
     types = is.memory.types;
     objects = sym (k.leaves m is named).objects;
@@ -85,7 +90,7 @@ module _ (w : World) (marked : HeapView) (handles : FinMap nat_cmp Handle) (queu
   abbrev pub Known : Type 0
   Known = (m : Machine) × IsWorldOf w m × IsPlaceNamed m × (lowest_in_step m ≡ None)
 
-  due_laid : (m : Machine) → IsPlaceNamed m → IsLaid (due m)
+  pub due_laid : (m : Machine) → IsPlaceNamed m → IsLaid (due m)
   due_laid m named =
       let laid = begun_laid m named in
       let same : pieces (begun m) ≡ pieces (due m) =
@@ -190,6 +195,45 @@ module _ (w : World) (marked : HeapView) (handles : FinMap nat_cmp Handle) (queu
             c,
             subst (IsWorldOf world) (sym still)
                 (world-after m is named answer),
+          )
+
+      -- and of another kind, where that comes to a sweep
+      pub whole_collected_as : (how : How) (threshold : ℕ)
+          → ((m : Machine) (kept : ℕ → Bool) → IsMemoryOf w.rows marked m → IsLaid m → TestsMarks w.rows marked g kept
+          → m.options.compact ≡ threshold → false ≡ compacts how (decides_to_compact m g (survivors m g kept)))
+          → (tally : Tally) → tally ≡ tally_of w.rows marked g → (answer : Collected)
+          → answer ≡ record {
+            generation = g;
+            compacted = false;
+            kept = tally.kept;
+            freed = tally.freed;
+            promoted1 = tally.promoted1;
+            promoted2 = tally.promoted2;
+          }
+          → (slides : ℕ) (m : Machine) → IsWorldOf w m → IsPlaceNamed m → lowest_in_step m ≡ None
+          → m.options.compact ≡ threshold
+          → (after : Machine) × (c : Collects m g how answer after) × IsWorldOf world (picture after)
+          × CountsSlides c.moves answer slides slides
+      whole_collected_as how threshold decides tally counts answer same slides m is named idle option =
+          let c = collects m is named tally counts answer same in
+          let still =
+          picture_still (after m is named answer)
+          (after_sweep_is_sound m named idle g least answer (after m is named answer) c) in
+          let decided : compacts how (decides_to_compact (begun m) g (survivors (begun m) g left)) ≡ false =
+          ap (λ (ss : List Survivor). compacts how (decides_to_compact (begun m) g ss))
+          (sym (survive-plain (begun m) (begun_laid m named) g least k.first left (k.leaves m is named).tests))
+          ∙ sym (decides (due m) left (due_memory m is named) (due_laid m named) k.marks option) in
+          let as_told =
+          sweep_collects_as (begun m) (begun_laid m named) g least k.first left
+          (k.leaves m is named).tests w.rows marked
+          (due_memory m is named) k.marks how decided answer
+          (same ∙ ap (told (begun m) (begun_laid m named) g least k.first left (k.leaves m is named).tests) counts) in (
+            after m is named answer,
+            as_told,
+            subst (IsWorldOf world) (sym still)
+                (world-after m is named answer),
+            subst (λ (b : Bool). MatchBool b (slides ≡ min (2 ^ 64 - 1) (slides + (1 + moved_bytes as_told.moves)))
+                (slides ≡ slides)) (sym (ap (λ (a : Collected). a.compacted) same)) refl,
           )
 
       -- THE INDEX: no free item is of generation 0

@@ -1,5 +1,5 @@
-// A collection of a generation and of all younger ones that sweeps.
-ghost use Rattle.std.specs.Prelude.{◌≡◌, ℕ, ◌≤◌, ◌==◌, [], None, Some, MatchBool, true};
+// A collection of a generation and of all younger ones.
+ghost use Rattle.std.specs.Prelude.{◌≡◌, ℕ, ◌+◌, ◌≤◌, ◌==◌, [], None, Some, MatchBool, true};
 ghost use Rattle.clr_model.specs.Collection.{Collects};
 ghost use Rattle.clr_model.specs.Lawful.{IsPlaceNamed};
 ghost use Rattle.clr_model.specs.Lookups.{lowest_in_step};
@@ -14,44 +14,54 @@ ghost use Rattle.clr_cards.specs.Cards.{is_card_set};
 ghost use Rattle.clr_ctx.specs.Contexts.{IsIndex};
 ghost use Rattle.clr_generations.specs.Tables.{AreTablesOf};
 ghost use Rattle.clr_mark.specs.Waiting.{IsGray};
-ghost use Rattle.clr_collect.specs.Collecting.{HasMarkedAlive, HasMarkedKept, world_with};
+ghost use Rattle.clr_handles.specs.Tops.{pinned_in};
+ghost use Rattle.clr_collect.specs.Collecting.{CountsSlides, HasMarkedAlive, HasMarkedKept, world_with};
 ghost use Rattle.clr_collect.specs.Released.{HasReleased};
 
+use crate::deciding::compacts;
 use crate::judging::{clear_long_and_dependent, clear_short, judge_entries};
 use crate::releasing::release_empty;
 use clr_bricks::Bricks;
 use clr_cards::Cards;
+use clr_compact::Slides;
 use clr_ctx::Contexts;
 use clr_final::Finals;
 use clr_handles::Handles;
 use clr_heap::Heap;
 use clr_mark::Marker;
 use clr_model::{Collected, How};
+use clr_pinq::PinQueue;
 use clr_scan::mark_from;
-use clr_sweep::sweep;
+use clr_survivors::move_survivors;
+use clr_sweep::{Tally, count, sweep};
 use clr_types::Types;
 
-/// A collection of generation `g` and of all younger ones that sweeps: the contexts are given up, and of the objects of
-/// these generations exactly those stay that locals, strong and pinned handles, the f-reachable queue, woken
-/// finalisation entries and older objects reach, where they are, and all else becomes free. A dependent handle's second
-/// is reached where its primary is. Each object of these generations that stays becomes one generation older, up to 2.
-/// After a collection of all generations, segments in which nothing stands any more are given back with their cards and
-/// bricks, but for the ephemeral one and the first large one.
+/// A collection of generation `g` and of all younger ones: the contexts are given up, and of the objects of these
+/// generations exactly those stay that locals, strong and pinned handles, the f-reachable queue, woken finalisation
+/// entries and older objects reach. A dependent handle's second is reached where its primary is.
+///
+/// Where it sweeps, they stay where they are, all else becomes free, and each becomes one generation older, up to 2.
+/// Where it compacts, those of the small heap go down to where they fit, and what pinned handles name stays; large
+/// objects are swept. It does what `how` says. `How::Decide` compacts where more than `threshold` hundredths of the
+/// bytes of these generations in the small heap would be free. After a collection of all generations, segments in
+/// which nothing stands any more are given back with their cards and bricks, but for the ephemeral one and the first
+/// large one.
 ///
 /// An entry whose object nothing but entries reaches is woken, and goes behind the f-reachable queue, or is dropped,
 /// where the object's finaliser is suppressed, which its header then says no more. A short weak handle loses a target
 /// that isn't reached without the woken entries, a long weak one a target that doesn't stay, and a dependent one both
 /// parts where its primary doesn't stay. Older objects all stay.
 ///
-/// It is the collection of every lawful machine, its objects named by their places, that has this memory, these
-/// locals and handles, this finalisation queue, and no thread between the halves of a step. Sums and options are that
-/// machine's own.
+/// It is the collection of every lawful machine, its objects named by their places, that has this memory, these locals
+/// and handles, this finalisation queue, this threshold, and no thread between the halves of a step. Sums and the
+/// other options are that machine's own. Locals, handles and queues name the new places afterwards.
 ///
 /// The answer counts the objects that stay and those that go, and the bytes that went from generation 0 to 1 and from
-/// 1 to 2. Nothing is marked before and after, and no free item's head is. Headers and padding stay clean, and the
-/// queue has room for as many entries as before. Locals and handles name null or places of objects, entries and
-/// f-reachable places places of objects. It leaves the index of a heap without free items in generation 0. Cards and
-/// bricks obey their laws before and after, and no card is set.
+/// 1 to 2. Nothing is marked before and after, and no free item's head is. Headers and padding are clean before and
+/// after, and the finalisation queue has room for as many entries as before. `pins` is empty before and after, with
+/// room for four entries more than there are pinned handles, and `slides` counts one for a compaction, and each byte
+/// of a plug that went. Cards and bricks obey their laws before and after. It needs no memory:
+/// where there is none for the index of the contexts, that is dropped.
 pub fn collect(
     types: &Types,
     heap: &mut Heap,
@@ -61,42 +71,84 @@ pub fn collect(
     contexts: &mut Contexts,
     handles: &mut Handles,
     finals: &mut Finals,
-    locals: &[u64],
+    locals: &mut [u64],
+    pins: &mut PinQueue,
+    slides: &mut Slides,
+    threshold: u64,
     g: u8,
+    how: How,
 ) -> Collected
     requires generation { g ≤ 2 }
+    requires threshold { threshold ≤ 100 }
     requires held { IsHeld types.now heap.old }
     requires unmarked { IsUnmarked types.now heap.old }
     requires free_heads { AreFreeHeads types.now heap.old }
-    requires world { (m : Machine) × IsWorldOf (world_with types.now heap.old locals.now handles.old finals.old) m
+    requires clean { AreClean types.now heap.old }
+    requires world { (m : Machine) × IsWorldOf (world_with types.now heap.old locals.old handles.old finals.old) m
         × IsPlaceNamed m × (lowest_in_step m ≡ None) }
     requires tables { AreTablesOf types.now heap.old cards.old bricks.old }
-    ensures collected { (m : Machine) → IsWorldOf (world_with types.now heap.old locals.now handles.old finals.old) m
-        → IsPlaceNamed m → lowest_in_step m ≡ None → (after : Machine) × Collects m g How.Sweep result after
-        × IsWorldOf (world_with types.now heap.new locals.now handles.new finals.new) (picture after) }
+    requires empty { pins.old.entries ≡ [] }
+    requires room { pinned_in handles.old + 4 ≤ pins.old.spare }
+    ensures collected { (m : Machine) → IsWorldOf (world_with types.now heap.old locals.old handles.old finals.old) m
+        → IsPlaceNamed m → lowest_in_step m ≡ None → m.options.compact ≡ threshold
+        → (after : Machine) × (c : Collects m g how result after)
+        × IsWorldOf (world_with types.now heap.new locals.new handles.new finals.new) (picture after)
+        × CountsSlides c.moves result slides.old slides.new }
     ensures held { IsHeld types.now heap.new }
     ensures unmarked { IsUnmarked types.now heap.new }
     ensures free_heads { AreFreeHeads types.now heap.new }
-    ensures clean { AreClean types.now heap.old → AreClean types.now heap.new }
-    ensures forgotten { contexts.new ≡ Some [] }
+    ensures clean { AreClean types.now heap.new }
     ensures index { IsIndex types.now heap.new contexts.new }
     ensures limit { heap.new.limit ≡ heap.old.limit }
     ensures marker { marker.new ≡ record marker.old { stack = []; range = None; oldest = g } }
     ensures spare { finals.old.spare ≤ finals.new.spare }
     ensures tables { AreTablesOf types.now heap.new cards.new bricks.new }
-    ensures cards { (i : ℕ) → is_card_set cards.new i ≡ true → is_card_set cards.old i ≡ true }
+    ensures empty { pins.new.entries ≡ [] }
+    ensures room { pinned_in handles.new + 4 ≤ pins.new.spare }
 {
     heap.lawful();
     mark_kept(
         types, heap, cards, bricks, marker, contexts, handles, finals, locals, g,
     );
-    let tally = sweep(heap, types, bricks, g);
+    if !compacts(heap, types, g, how, threshold) {
+        let tally = sweep(heap, types, bricks, g);
+        heap.lawful();
+        release_after(heap, types, cards, bricks, g);
+        contexts.forget();
+        return answer(g, false, tally);
+    }
+    let tally = count(heap, types, g);
+    let promoted = move_survivors(
+        types, heap, cards, bricks, handles, finals, locals, pins, slides, g,
+    );
     heap.lawful();
     release_after(heap, types, cards, bricks, g);
-    contexts.forget();
+    contexts.renew(heap, types);
+    answer(
+        g,
+        true,
+        Tally {
+            promoted1: promoted.to1,
+            promoted2: promoted.to2,
+            ..tally
+        },
+    )
+}
+
+// What a collection of generation `g` answers that counted so.
+fn answer(g: u8, compacted: bool, tally: Tally) -> Collected
+    ensures { result ≡ record {
+      generation = g;
+      compacted = compacted;
+      kept = tally.kept;
+      freed = tally.freed;
+      promoted1 = tally.promoted1;
+      promoted2 = tally.promoted2;
+    } }
+{
     Collected {
         generation: g,
-        compacted: false,
+        compacted,
         kept: tally.kept,
         freed: tally.freed,
         promoted1: tally.promoted1,

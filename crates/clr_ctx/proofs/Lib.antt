@@ -6,6 +6,7 @@ pub mod Drawing
 pub mod Extending
 pub mod Steps
 pub mod Walks
+pub mod Renewing
 pub mod Choices
 pub mod GivingAll
 pub mod Opening

@@ -2,6 +2,9 @@
 use Rattle.std.proofs.Common.{◌≡◌, ◌≢◌, inl, inr, ℕ, zero, suc, ◌+◌, ◌-◌, ◌<◌, ◌≤◌, true, false, Bool, List, [], ◌∷◌}
 use Rattle.std.proofs.Common.{◌++◌, length, get_or, set, refl, ap, sym, ◌∙◌, subst, arith, filter, nat_le, ◌==◌}
 use Rattle.std.proofs.Common.{if◌then◌else◌}
+use Rattle.std.proofs.Common.{Option, Some, None, Result, Ok, Err, true≢false}
+use Rattle.std.specs.Prelude.{is_some, OnSome}
+use Rattle.std.specs.Result.{is_ok, OnOk}
 use Rattle.std.specs.List.{AllByRecursion, insert, remove}
 use Rattle.std.proofs.lemmas.Bool.{cases_lt, eq-eqb, le-leb, le-ltb, lt-leb, lt-ltb, ne_eqb, leb-true}
 use Rattle.std.proofs.lemmas.List.Concat.{flat_map-cons}
@@ -14,6 +17,16 @@ use Rattle.clr_ctx.specs.Items.{lower_count}
 
 abbrev pub place : Piece → ℕ
 place p = p.place
+
+-- ---- what a call promises where it succeeds
+
+pub on_ok : {A B P : Type 0} (r : Result A B) → is_ok r ≡ true → OnOk r P → P
+on_ok (Ok x) fine promise = promise
+on_ok (Err y) fine promise = absurd (true≢false (sym fine))
+
+pub on_some : {A P : Type 0} (r : Option A) → is_some r ≡ true → OnSome r P → P
+on_some (Some x) fine promise = promise
+on_some None fine promise = absurd (true≢false (sym fine))
 
 -- ---- where a piece is put in
 

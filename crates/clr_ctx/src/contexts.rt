@@ -3,18 +3,23 @@ ghost use Rattle.std.specs.Prelude.{◌≡◌, ℕ, ◌+◌, ◌-◌, ◌%◌, �
 ghost use Rattle.clr_types.specs.Rising.{IsIn};
 ghost use Rattle.clr_types.specs.Ranges.{fits};
 ghost use Rattle.clr_types.specs.Segments.{ephemeral, fits_in_tail, rest_of};
-ghost use Rattle.clr_heap.specs.View.{frame};
+ghost use Rattle.clr_heap.specs.View.{frame, no_rests};
 ghost use Rattle.clr_model.specs.Allocation.{from_item, from_tail, has_room, own_fits};
+ghost use Rattle.clr_model.specs.Lawful.{IsLaid};
+ghost use Rattle.clr_model.specs.Machine.{Machine};
 ghost use Rattle.clr_model.specs.Updates.{given_up};
+ghost use Rattle.clr_view.specs.Memory.{IsMemoryOf};
 ghost use Rattle.clr_view.specs.View.{HasGivenUp, HasRefilled, IsHeld, layout_in};
 ghost use Rattle.clr_ctx.specs.Contexts.{first_fit, IsIndex, IsRelaid, refilled, share, tail_share, young_items};
 
 use crate::items::{first_in, fits_in, insert_item, take_front};
 use crate::ranges::{close, open_behind, open_in_item};
 use crate::rooms::{first_walked, fits_behind, share_of, tail_share_of};
+use crate::young::list_free;
 use clr_heap::Heap;
 use clr_types::{Span, Types};
 use std::alloc::Global;
+use std::collections::VecDeque;
 use std::marker::Model;
 
 /// What makes contexts fast to refill: an index of the free items of generation 0, by rising place.
@@ -23,7 +28,7 @@ use std::marker::Model;
 /// is kept.
 #[derive(Drop)]
 pub struct Contexts {
-    items: Vec<Span>,
+    items: VecDeque<Span>,
     complete: bool,
 }
 
@@ -42,7 +47,7 @@ impl Contexts {
         ensures { result ≡ Some [] }
     {
         Contexts {
-            items: Vec::new(alloc),
+            items: VecDeque::new(alloc),
             complete: true,
         }
     }
@@ -61,6 +66,23 @@ impl Contexts {
     {
         self.items.clear();
         self.complete = false;
+    }
+
+    /// Makes it the index of the free items of generation 0, by one walk over that generation. Where there is no memory
+    /// for all of them, it is dropped: until it is made anew, searches walk the segment.
+    ///
+    /// The heap is that of a lawful machine whose contexts are given up.
+    pub fn renew(&mut self, heap: &Heap, types: &Types)
+        requires held { IsHeld types.now heap.now }
+        requires no_contexts { heap.now.rests ≡ no_rests }
+        requires laid { (m : Machine) × IsMemoryOf types.now heap.now m × IsLaid m }
+        ensures index { IsIndex types.now heap.now self.new }
+    {
+        heap.lawful();
+        let k = heap.ephemeral();
+        let (_, start0) = heap.boundaries();
+        self.items.clear();
+        self.complete = list_free(heap, types, k, start0, &mut self.items);
     }
 
     /// Whether an object of this size fits at the front of a thread's context.

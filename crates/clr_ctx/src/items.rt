@@ -6,6 +6,7 @@ ghost use Rattle.clr_model.specs.Allocation.{taken_from};
 ghost use Rattle.clr_ctx.specs.Items.{lower_count};
 
 use clr_types::Span;
+use std::collections::VecDeque;
 
 /// Whether a size fits in a range of `bytes`: it fills it, or leaves at least 24 bytes.
 pub fn fits_in(size: u64, bytes: u64) -> bool
@@ -16,9 +17,21 @@ pub fn fits_in(size: u64, bytes: u64) -> bool
 }
 
 /// The first item in which a size fits: `None` where it fits in none.
-pub fn first_in(items: &Vec<Span>, size: u64) -> Option<Span>
+pub fn first_in(items: &VecDeque<Span>, size: u64) -> Option<Span>
     requires { size < 2 ^ 62 }
     ensures { result ≡ find (λ p. fits size p.size) items.now.items }
+{
+    let (front, back) = items.as_slices();
+    match first_of(front, size) {
+        Some(item) => Some(item),
+        None => first_of(back, size),
+    }
+}
+
+// The same, of one of the two slices in which they stand.
+fn first_of(items: &[Span], size: u64) -> Option<Span>
+    requires { size < 2 ^ 62 }
+    ensures { result ≡ find (λ p. fits size p.size) items.now }
 {
     for item in items {
         if fits_in(size, item.size()) {
@@ -29,7 +42,7 @@ pub fn first_in(items: &Vec<Span>, size: u64) -> Option<Span>
 }
 
 // How many items stand below a place.
-fn count_below(items: &Vec<Span>, place: u64) -> usize
+fn count_below(items: &VecDeque<Span>, place: u64) -> usize
     requires { IsRisingBy (λ p. p.place) items.now.items }
     ensures { result ≡ lower_count place items.now.items }
 {
@@ -47,7 +60,7 @@ fn count_below(items: &Vec<Span>, place: u64) -> usize
 }
 
 /// Puts an item in before those that do not stand below it: `false` where there is no memory for it.
-pub fn insert_item(items: &mut Vec<Span>, item: Span) -> bool
+pub fn insert_item(items: &mut VecDeque<Span>, item: Span) -> bool
     requires { IsRisingBy (λ p. p.place) items.old.items }
     ensures { result ≡ true → items.new.items ≡ insert_by (λ p. p.place) item items.old.items }
 {
@@ -56,7 +69,7 @@ pub fn insert_item(items: &mut Vec<Span>, item: Span) -> bool
 }
 
 /// Takes `taken` bytes from the front of one of the items. What is left of it stays.
-pub fn take_front(items: &mut Vec<Span>, item: Span, taken: u64)
+pub fn take_front(items: &mut VecDeque<Span>, item: Span, taken: u64)
     requires rising { IsRisingBy (λ p. p.place) items.old.items }
     requires listed { IsIn item items.old.items }
     requires within { taken ≤ item.size }

@@ -9,3 +9,4 @@ mod ranges;
 mod rooms;
 #[cfg(test)]
 mod tests;
+mod young;

@@ -1,5 +1,6 @@
 // Contexts that are opened one after the other, filled and given up.
-ghost use Rattle.std.specs.Prelude.{◌≡◌, IfOk};
+ghost use Rattle.std.specs.Prelude.{◌≡◌, [], IfOk};
+ghost use Rattle.clr_heap.specs.View.{opening_heap};
 ghost use Rattle.clr_view.specs.View.{IsHeld};
 ghost use Rattle.clr_ctx.specs.Contexts.{IsIndex};
 
@@ -8,6 +9,7 @@ use crate::items::{first_in, insert_item};
 use clr_heap::Heap;
 use clr_types::{Span, Types};
 use std::alloc::Global;
+use std::collections::VecDeque;
 use std::process::Abort;
 use std::test::Fail;
 
@@ -15,6 +17,8 @@ use std::test::Fail;
 fn started(alloc: Global) -> Result<(Types, Heap, Contexts), Fail>
     ensures held { IfOk result (λ p. IsHeld p.0 p.1) }
     ensures index { IfOk result (λ p. IsIndex p.0 p.1 p.2) }
+    ensures no_types { IfOk result (λ p. p.0 ≡ []) }
+    ensures opening { IfOk result (λ p. p.1 ≡ opening_heap 262144 1048576) }
 {
     let types = Types::new(alloc)?;
     let heap = Heap::new(alloc, 262_144, 1_048_576)?;
@@ -59,6 +63,26 @@ fn refill_each(
     }
 }
 
+// Gives two threads of a new heap contexts and gives them up, and makes the index anew, whatever it says.
+fn renewed(contexts: &mut Contexts, heap: &mut Heap, types: &Types)
+    requires held { IsHeld types.now heap.old }
+    requires index { IsIndex types.now heap.old contexts.old }
+    requires no_types { types.now ≡ [] }
+    requires opening { heap.old ≡ opening_heap 262144 1048576 }
+    ensures held { IsHeld types.now heap.new }
+    ensures index { IsIndex types.now heap.new contexts.new }
+{
+    let Some(()) = contexts.refill(heap, types, 1, 20_000) else {
+        return;
+    };
+    let Some(()) = contexts.refill(heap, types, 2, 104) else {
+        return;
+    };
+    contexts.give_up_all(heap, types);
+    contexts.forget();
+    contexts.renew(heap, types);
+}
+
 #[test]
 fn a_size_fits_in_a_context(rt: HostRuntime) -> Result<(), Fail> {
     let (types, mut heap, mut contexts) = started(rt.alloc())?;
@@ -95,8 +119,22 @@ fn contexts_come_from_free_items(rt: HostRuntime) -> Result<(), Fail> {
 }
 
 #[test]
+fn an_index_is_made_anew(rt: HostRuntime) -> Result<(), Fail> {
+    let (types, mut heap, mut contexts) = started(rt.alloc())?;
+    renewed(&mut contexts, &mut heap, &types);
+    let cases = [
+        (3, 12_000, Some((0x1000_1000, 0x1000_3ee0))),
+        (4, 104, Some((0x1000_3ee0, 0x1000_5e20))),
+        (5, 104, Some((0x1000_5e20, 0x1000_7e20))),
+        (6, 104, Some((0x1000_7e20, 0x1000_9e20))),
+    ];
+    refill_each(&rt, &mut contexts, &mut heap, &types, &cases);
+    Ok(())
+}
+
+#[test]
 fn an_item_is_put_in(rt: HostRuntime) {
-    let mut items = Vec::new(rt.alloc());
+    let mut items = VecDeque::new(rt.alloc());
     assert!(rt; insert_item(&mut items, Span::between(0x1000, 0x1020)));
     let found = first_in(&items, 32);
     assert_eq!(rt; found.map(|item| item.place()), Some(0x1000));

@@ -1,6 +1,6 @@
 -- The line that collects: what is to follow from each outcome, on what is seen.
 use Rattle.std.proofs.Common.{◌≡◌, ℕ, ◌+◌, ◌≤◌, List, [], ◌∷◌, map, refl, sym, ap, subst, ◌∙◌, false, Option}
-use Rattle.std.proofs.Common.{None, MatchOption, inl, ◌⊎◌}
+use Rattle.std.proofs.Common.{None, MatchOption}
 use Rattle.clr_types.proofs.RisingLists.{all_at}
 use Rattle.clr_model.specs.declared.How.{How}
 use Rattle.clr_model.specs.declared.How.TheVariants.{Sweep}
@@ -11,7 +11,6 @@ use Rattle.clr_model.specs.Machine.{Object, ThreadStep, no_step, begun_store, be
 use Rattle.clr_model.specs.Lookups.{place_of, is_thread, lowest_step_from, lowest_in_step}
 use Rattle.clr_model.specs.Picture.{picture, renamed_step}
 use Rattle.clr_model.specs.Compaction.{moved_by}
-use Rattle.clr_model.specs.Allocation.{NoMemoryToCollect}
 use Rattle.clr_model.specs.Collection.{Collects}
 use Rattle.clr_model.specs.Instructions.{collect_heap}
 use Rattle.clr_model.specs.Outcomes.{Outcome, answered, refused}
@@ -42,11 +41,10 @@ lowest_in_step-picture m = lowest-renamed (place_of m.objects) 1 m.steps
 pub collect_line : (t g : ℕ) (how : How) → IsThreadLine (collect_heap t g how) t [] (λ s. None ∷ None ∷ None ∷ no_more)
 collect_line t g how = record { thread = refl; checks = λ s. refl }
 
--- where no thread is in mid-step: the collection and its answer, or want of memory
+-- where no thread is in mid-step: the collection and its answer
 abbrev CollectsNow : Machine → ℕ → How → Outcome → Machine → Type 0
 CollectsNow m g how outcome new =
-    ((answer : Collected) × Collects m g how answer new × (outcome ≡ answered (reply.Collected answer)))
-    ⊎ ((outcome ≡ refused refusal.NoMemory) × NoMemoryToCollect how m new)
+    (answer : Collected) × Collects m g how answer new × (outcome ≡ answered (reply.Collected answer))
 
 -- then the line collects
 pub collect_obeys : (m : Machine) (t g : ℕ) (how : How) → MayRun m t → lowest_in_step m ≡ None
@@ -57,7 +55,7 @@ collect_obeys m t g how run idle answer next c =
     (line_passes (collect_heap t g how) t [] (λ s. None ∷ None ∷ None ∷ no_more) (collect_line t g how) m run tt)
     (subst (λ (r : Option ℕ). MatchOption r (CollectsNow m g how (answered (reply.Collected answer)) next)
     (λ k. (answered (reply.Collected answer) ≡ refused (refusal.Wait k)) × (next ≡ m))) (sym idle)
-    (inl (answer, c, refl)))
+    (answer, c, refl))
 
 -- What a collection does to what is seen, it does to each machine that is seen so.
 pub collect_follows : (s : Machine) (t g : ℕ) (how : How) (answer : Collected) (after : Machine) → g ≤ 2 → MayRun s t

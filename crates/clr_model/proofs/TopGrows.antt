@@ -21,7 +21,7 @@ use Rattle.clr_model.specs.Stage.{allocation_collects, seals}
 use Rattle.clr_model.specs.Allocation.{Attempt, roomed, waits, out_of_room, out_of_memory, has_room, has_room_in}
 use Rattle.clr_model.specs.Allocation.{own_fits, IsRefilled, with_layout, with_segment, sealed, segment_for, allows}
 use Rattle.clr_model.specs.Allocation.{RoomedByRefill, SmallAfterFull, SmallAfterFirst, SmallByCollection, MakesRoom}
-use Rattle.clr_model.specs.Allocation.{NoMemoryToCollect, IsPlacedIn, RoomedIn, RoomedOrAcquired, LargeAfterFirst}
+use Rattle.clr_model.specs.Allocation.{IsPlacedIn, RoomedIn, RoomedOrAcquired, LargeAfterFirst}
 use Rattle.clr_model.specs.Allocation.{PlacesLarge}
 
 -- ---- two cases
@@ -101,10 +101,6 @@ collection_reserves m g how answer new c =
       options = ap (λ (w : Machine). w.options) c.state;
     }
 
--- nor does one for which there is no memory
-pub no_collection_reserves : (how : How) (m new : Machine) → NoMemoryToCollect how m new → ReservesLittle m new
-no_collection_reserves how m new c = relaid m new (all_given_up m.layout) c.1 refl
-
 -- ---- the ladder of small objects
 
 refill_top : (layout : Layout) (t size : ℕ) (new : Layout) → IsRefilled layout t size new → new.top ≡ layout.top
@@ -138,23 +134,20 @@ module _ (t size : ℕ) (attempt : Attempt) (new : Machine) where
 
   abbrev Full : Machine → Type 0
   Full m =
-      ((answer : Collected) × (full : Machine) × Collects m 2 Compact answer full
-      × SmallAfterFull full t size attempt new)
-      ⊎ ((attempt ≡ out_of_memory) × NoMemoryToCollect Compact m new)
+      (answer : Collected) × (full : Machine) × Collects m 2 Compact answer full
+      × SmallAfterFull full t size attempt new
 
   fully : (m : Machine) → Full m → ReservesLittle m new
-  fully m (inl (answer, full, c, more)) =
+  fully m (answer, full, c, more) =
       reserves_after m full new (collection_reserves m 2 Compact answer full c) (after_full full more)
-  fully m (inr (is, c)) = no_collection_reserves Compact m new c
 
   after_first : (m : Machine) → SmallAfterFirst m t size attempt new → ReservesLittle m new
   after_first m h =
       either (has_room m.layout size) (RoomedByRefill m t size attempt new) (Full m) h (λ e. refilled m) (λ e. fully m)
 
   by_collection : (m : Machine) → SmallByCollection m t size attempt new → ReservesLittle m new
-  by_collection m (inl (answer, young, c, more)) =
+  by_collection m (answer, young, c, more) =
       reserves_after m young new (collection_reserves m (which m) Decide answer young c) (after_first young more)
-  by_collection m (inr (is, c)) = no_collection_reserves Decide m new c
 
   -- Room for a small object takes one segment at most, which the limit allows.
   pub room_reserves : (m : Machine) → MakesRoom m t size attempt new → ReservesLittle m new
@@ -208,15 +201,13 @@ module _ (size place : ℕ) (attempt : Attempt) (new : Machine) where
 
   abbrev FullLarge : Machine → Type 0
   FullLarge m =
-      ((answer : Collected) × (full : Machine) × Collects m 2 Compact answer full
-      × RoomedOrAcquired Large full size place attempt new ((attempt ≡ out_of_room) × (new ≡ full)))
-      ⊎ ((attempt ≡ out_of_memory) × NoMemoryToCollect Compact m new)
+      (answer : Collected) × (full : Machine) × Collects m 2 Compact answer full
+      × RoomedOrAcquired Large full size place attempt new ((attempt ≡ out_of_room) × (new ≡ full))
 
   fully_large : (m : Machine) → FullLarge m → ReservesLittle m new
-  fully_large m (inl (answer, full, c, more)) =
+  fully_large m (answer, full, c, more) =
       reserves_after m full new (collection_reserves m 2 Compact answer full c)
       (roomed_or_acquired Large full ((attempt ≡ out_of_room) × (new ≡ full)) (λ same. unchanged full new same.1) more)
-  fully_large m (inr (is, c)) = no_collection_reserves Compact m new c
 
   large_after_first : (m : Machine) → LargeAfterFirst m size place attempt new → ReservesLittle m new
   large_after_first m h =
@@ -225,14 +216,12 @@ module _ (size place : ℕ) (attempt : Attempt) (new : Machine) where
 
   abbrev FirstLarge : Machine → Type 0
   FirstLarge m =
-      ((answer : Collected) × (first : Machine) × Collects m 2 Decide answer first
-      × LargeAfterFirst first size place attempt new)
-      ⊎ ((attempt ≡ out_of_memory) × NoMemoryToCollect Decide m new)
+      (answer : Collected) × (first : Machine) × Collects m 2 Decide answer first
+      × LargeAfterFirst first size place attempt new
 
   first_large : (m : Machine) → FirstLarge m → ReservesLittle m new
-  first_large m (inl (answer, first, c, more)) =
+  first_large m (answer, first, c, more) =
       reserves_after m first new (collection_reserves m 2 Decide answer first c) (large_after_first first more)
-  first_large m (inr (is, c)) = no_collection_reserves Decide m new c
 
   -- So does the place of a large one.
   pub place_reserves : (m : Machine) → PlacesLarge m size place attempt new → ReservesLittle m new

@@ -16,7 +16,7 @@ use Rattle.clr_model.specs.Picture.{picture}
 use Rattle.clr_model.specs.Sos.{dumpobj_text, eeheap_text, gchandles_text, finalizequeue_text}
 use Rattle.clr_model.specs.Updates.{with_entry, with_flag, with_handle, with_step, born_at}
 use Rattle.clr_model.specs.Collection.{Collects}
-use Rattle.clr_model.specs.Allocation.{context_front, front_taken, with_layout, NoMemoryToCollect}
+use Rattle.clr_model.specs.Allocation.{context_front, front_taken, with_layout}
 use Rattle.clr_model.specs.Instructions.{Instruction, define_type, new_object, get_slot, set_slot, put_number}
 use Rattle.clr_model.specs.Instructions.{read_number, copy_local, clear_local, suppress_object, reregister_object}
 use Rattle.clr_model.specs.Instructions.{collect_heap, suspend_others, resume_others, begin_set, begin_new, finish_step}
@@ -30,7 +30,7 @@ use Rattle.clr_model.specs.Step.{Reregisters, CollectsByLine, CreatesHandle, Sho
 use Rattle.clr_model.specs.Step.{Does, type_named}
 use Rattle.clr_model.specs.Laws.{LineReservesLaw}
 use Rattle.clr_model.proofs.TopGrows.{either, either_option, ReservesLittle, none_is_little, collection_reserves}
-use Rattle.clr_model.proofs.TopGrows.{no_collection_reserves, room_reserves, place_reserves}
+use Rattle.clr_model.proofs.TopGrows.{room_reserves, place_reserves}
 
 -- ---- states with the same segments
 
@@ -119,14 +119,12 @@ module _ (m : Machine) (outcome : Outcome) (new : Machine) where
   collects g how h =
       let waiting = λ (k : ℕ). (outcome ≡ refused (refusal.Wait k)) × (new ≡ m) in
       either_option (lowest_in_step m)
-      (((answer : Collected) × Collects m g how answer new × (outcome ≡ answered (reply.Collected answer)))
-      ⊎ ((outcome ≡ refused refusal.NoMemory) × NoMemoryToCollect how m new))
-      waiting h done (λ k same. still m new same.1)
+      ((answer : Collected) × Collects m g how answer new × (outcome ≡ answered (reply.Collected answer))) waiting h
+      done (λ k same. still m new same.1)
     where
-      done : ((answer : Collected) × Collects m g how answer new × (outcome ≡ answered (reply.Collected answer)))
-          ⊎ ((outcome ≡ refused refusal.NoMemory) × NoMemoryToCollect how m new) → ReservesLittle m new
-      done (inl (answer, c, replied)) = none_is_little m new (collection_reserves m g how answer new c)
-      done (inr (wants, c)) = no_collection_reserves how m new c
+      done : (answer : Collected) × Collects m g how answer new × (outcome ≡ answered (reply.Collected answer))
+          → ReservesLittle m new
+      done (answer, c, replied) = none_is_little m new (collection_reserves m g how answer new c)
 
   creates : (row : Handle) → CreatesHandle m row outcome new → ReservesLittle m new
   creates row (inl (h, low, free, (replied, same))) = same_top m new (with_handle m h row) same refl

@@ -4,14 +4,13 @@ use Rattle.std.specs.Prelude.{◌&&◌, ◌||◌, not, ◌⊎◌, IsTrue, Option
 use Rattle.std.specs.List.{flat_map, list_any}
 use Rattle.clr_types.specs.Rising.{IsIn}
 use Rattle.clr_types.specs.Ranges.{Piece, piece_end, fits, range_piece, rounded_up}
-use Rattle.clr_model.specs.declared.How.{How}
 use Rattle.clr_model.specs.declared.How.TheVariants.{Decide, Compact}
 use Rattle.clr_model.specs.declared.Collected.{Collected}
 use Rattle.clr_model.specs.Machine.{Machine}
 use Rattle.clr_model.specs.Lookups.{lowest_in_step}
-use Rattle.clr_model.specs.Updates.{given_up, all_given_up, with_rest}
+use Rattle.clr_model.specs.Updates.{given_up, with_rest}
 use Rattle.clr_model.specs.Collection.{Collects, which}
-use Rattle.clr_model.specs.Stage.{allocation_collects, seals, takes_memory}
+use Rattle.clr_model.specs.Stage.{allocation_collects, seals}
 use Rattle.clr_types.specs.declared.segment.SegKind.{SegKind}
 use Rattle.clr_types.specs.declared.segment.SegKind.TheVariants.{Ephemeral, Large}
 use Rattle.clr_types.specs.declared.segment.SegInfo.{SegInfo}
@@ -144,24 +143,18 @@ SmallAfterFull m t size attempt new =
     ⊎ ((attempt ≡ out_of_memory) × (new ≡ m)))
     ((attempt ≡ out_of_room) × (new ≡ m)))
 
--- want of memory at the start of a collection, which has given up the contexts
-abbrev pub NoMemoryToCollect : How → Machine → Machine → Type 0
-NoMemoryToCollect how m new = IsTrue (takes_memory how) × (new ≡ with_layout m (all_given_up m.layout))
-
 -- after the first collection
 abbrev pub SmallAfterFirst : Machine → ℕ → ℕ → Attempt → Machine → Type 0
 SmallAfterFirst m t size attempt new =
     MatchBool (has_room m.layout size)
     (RoomedByRefill m t size attempt new)
-    (((answer : Collected) × (full : Machine) × Collects m 2 Compact answer full
+    ((answer : Collected) × (full : Machine) × Collects m 2 Compact answer full
     × SmallAfterFull full t size attempt new)
-    ⊎ ((attempt ≡ out_of_memory) × NoMemoryToCollect Compact m new))
 
 abbrev pub SmallByCollection : Machine → ℕ → ℕ → Attempt → Machine → Type 0
 SmallByCollection m t size attempt new =
-    ((answer : Collected) × (young : Machine) × Collects m (which m) Decide answer young
-    × SmallAfterFirst young t size attempt new)
-    ⊎ ((attempt ≡ out_of_memory) × NoMemoryToCollect Decide m new)
+    (answer : Collected) × (young : Machine) × Collects m (which m) Decide answer young
+    × SmallAfterFirst young t size attempt new
 
 -- Room for a small object at the front of the thread's context, by the first of these steps that serves: the context as
 -- it
@@ -206,9 +199,8 @@ abbrev pub LargeAfterFirst : Machine → ℕ → ℕ → Attempt → Machine →
 LargeAfterFirst m size place attempt new =
     MatchBool (has_room_in Large m.layout size)
     (RoomedIn Large m size place attempt new)
-    (((answer : Collected) × (full : Machine) × Collects m 2 Compact answer full
+    ((answer : Collected) × (full : Machine) × Collects m 2 Compact answer full
     × RoomedOrAcquired Large full size place attempt new ((attempt ≡ out_of_room) × (new ≡ full)))
-    ⊎ ((attempt ≡ out_of_memory) × NoMemoryToCollect Compact m new))
 
 -- A large object gets its place by the first of these steps that serves: a place within the budget, a wait, a full
 -- collection, a full compacting one, a new segment.
@@ -217,7 +209,6 @@ PlacesLarge m size place attempt new =
     MatchBool (nat_le (m.sums.spent_large + size) m.options.bl && has_room_in Large m.layout size)
     (RoomedIn Large m size place attempt new)
     (MatchOption (lowest_in_step m)
-    (((answer : Collected) × (first : Machine) × Collects m 2 Decide answer first
+    ((answer : Collected) × (first : Machine) × Collects m 2 Decide answer first
     × LargeAfterFirst first size place attempt new)
-    ⊎ ((attempt ≡ out_of_memory) × NoMemoryToCollect Decide m new))
     (λ k. (attempt ≡ waits k) × (new ≡ m)))

@@ -1,7 +1,5 @@
 -- Which lines and which steps of the machine are built: all else speaks of the whole machine.
-use Rattle.std.specs.Prelude.{ℕ, nat_le, Bool, true, false, ◌&&◌, is_none}
-use Rattle.clr_model.specs.declared.How.{How}
-use Rattle.clr_model.specs.declared.How.TheVariants.{Decide, Compact, Sweep}
+use Rattle.std.specs.Prelude.{nat_le, Bool, true, false, ◌&&◌, is_none}
 use Rattle.clr_model.specs.declared.Mode.{Mode}
 use Rattle.clr_model.specs.declared.Mode.TheVariants.{Full}
 use Rattle.clr_model.specs.declared.Life.{Life}
@@ -20,14 +18,8 @@ abbrev pub is_plain_dump : DumpOptions → Bool
 is_plain_dump o = is_full_mode o.mode o.life &&
     ((is_none o.mt && is_none o.name) && (is_none o.least && is_none o.greatest))
 
--- a sweep of one of the three generations
-abbrev pub is_sweep : ℕ → How → Bool
-is_sweep g Decide = false
-is_sweep g Compact = false
-is_sweep g Sweep = nat_le g 2
-
 -- types may be defined, objects of them made, slots and locals read and written, handles made, followed and freed,
--- finalisers suppressed and asked for again, waiting objects taken, each generation swept, and the heap shown
+-- finalisers suppressed and asked for again, waiting objects taken, each generation collected, and the heap shown
 abbrev pub is_built : Instruction → Bool
 is_built (define_type name form finalizer) = true
 is_built (new_object t k name len) = true
@@ -39,7 +31,7 @@ is_built (copy_local t to from) = true
 is_built (clear_local t local) = true
 is_built (suppress_object t local) = true
 is_built (reregister_object t local) = true
-is_built (collect_heap t g how) = is_sweep g how
+is_built (collect_heap t g how) = nat_le g 2
 is_built (create_handle t kind local second) = true
 is_built (fetch_target t to h) = true
 is_built (fetch_second t to h) = true
@@ -59,10 +51,3 @@ seals = false
 -- there are large segments to allocate in; without that such a size is too big
 abbrev pub has_large_heap : Bool
 has_large_heap = false
-
--- whether a collection that leaves the small heap so may be refused for want of memory; a sweep takes none, as the
--- stack of its marking has a fixed capacity
-abbrev pub takes_memory : How → Bool
-takes_memory Decide = true
-takes_memory Compact = true
-takes_memory Sweep = false

@@ -23,7 +23,7 @@ use Rattle.clr_model.specs.Collection.{Collects}
 use Rattle.clr_model.specs.Updates.{with_local, with_slot, with_flag, with_step, with_handle, without_handle}
 use Rattle.clr_model.specs.Updates.{with_entry, born_at}
 use Rattle.clr_model.specs.Allocation.{Attempt, roomed, waits, out_of_room, out_of_memory, MakesRoom, PlacesLarge}
-use Rattle.clr_model.specs.Allocation.{context_front, front_taken, with_layout, NoMemoryToCollect}
+use Rattle.clr_model.specs.Allocation.{context_front, front_taken, with_layout}
 use Rattle.clr_model.specs.Instructions.{Instruction, define_type, new_object, get_slot, set_slot, put_number}
 use Rattle.clr_model.specs.Instructions.{read_number, copy_local, clear_local, suppress_object, reregister_object}
 use Rattle.clr_model.specs.Instructions.{collect_heap, suspend_others, resume_others, begin_set, begin_new, finish_step}
@@ -171,8 +171,7 @@ Reregisters m name outcome new =
 abbrev pub CollectsByLine : Machine → ℕ → How → Outcome → Machine → Type 0
 CollectsByLine m g how outcome new =
     MatchOption (lowest_in_step m)
-    (((answer : Collected) × Collects m g how answer new × (outcome ≡ answered (reply.Collected answer)))
-    ⊎ ((outcome ≡ refused refusal.NoMemory) × NoMemoryToCollect how m new))
+    ((answer : Collected) × Collects m g how answer new × (outcome ≡ answered (reply.Collected answer)))
     (λ k. (outcome ≡ refused (refusal.Wait k)) × (new ≡ m))
 
 abbrev pub CreatesHandle : Machine → Handle → Outcome → Machine → Type 0

@@ -2,7 +2,7 @@
 use Rattle.std.proofs.Common.{◌≡◌, ◌≢◌, ◌≤◌, ◌<◌, ◌∙◌, ◌&&◌, ℕ, Bool, true, false, List, length, Option, Some, None}
 use Rattle.std.proofs.Common.{IsTrue, refl, sym, ap, subst, inl, inr, codes, arith, true≢false}
 use Rattle.std.specs.Prelude.{is_none}
-use Rattle.std.proofs.lemmas.Bool.{and_parts, both_ways, leb-true}
+use Rattle.std.proofs.lemmas.Bool.{and_parts, both_ways}
 use denote.Ref.{Bor}
 use Rattle.clr_types.specs.declared.handle.Kind.{Kind}
 use Rattle.clr_types.specs.declared.shape.Shape.{Shape}
@@ -12,7 +12,6 @@ use Rattle.clr_model.specs.declared.command.Command.TheVariants.{DumpHeap, Fetch
 use Rattle.clr_model.specs.declared.command.Command.TheVariants.{Reregister, Second, Suppress}
 use Rattle.clr_model.specs.declared.command.Filter.{Filter}
 use Rattle.clr_model.specs.declared.How.{How}
-use Rattle.clr_model.specs.declared.How.TheVariants.{Decide, Compact, Sweep}
 use Rattle.clr_model.specs.declared.Life.{Life}
 use Rattle.clr_model.specs.declared.Life.TheVariants.{Any, Live, Dead}
 use Rattle.clr_model.specs.declared.Mode.{Mode}
@@ -23,7 +22,7 @@ use Rattle.clr_model.specs.Instructions.{Instruction, DumpOptions, create_handle
 use Rattle.clr_model.specs.LineGrammar.{IsHandleForm, IsLine}
 use Rattle.clr_model.specs.Outcomes.{Outcome, shown, refused}
 use Rattle.clr_model.specs.Sos.{dumpheap_text}
-use Rattle.clr_model.specs.Stage.{is_built, is_full_mode, is_sweep, is_plain_dump}
+use Rattle.clr_model.specs.Stage.{is_built, is_full_mode, is_plain_dump}
 use Rattle.clr_model.specs.Run.{no_syntax, obeyed, too_long, Follows, FollowsLine}
 use Rattle.clr_model.proofs.Carried.{follows}
 use Rattle.clr_model.proofs.UnspacedWords.{one_reading}
@@ -109,12 +108,6 @@ pub handle_form : (bytes : List ℕ) (t : ℕ) (kind : Kind) (local : ℕ) (seco
     → IsReadAs bytes (Handle t kind local second) → IsHandleForm kind second
 handle_form bytes t kind local second (i, line, e) =
     (subst (λ (j : Instruction). IsLine bytes j) (unplain i (create_handle t kind local second) e refl) line).formed.2
-
--- the collections that are built
-pub sweep_is : (g : ℕ) (how : How) → is_sweep g how ≡ true → (g ≤ 2) × (how ≡ Sweep)
-sweep_is g Decide e = absurd (both_ways false refl e)
-sweep_is g Compact e = absurd (both_ways false refl e)
-sweep_is g Sweep e = (leb-true g 2 e, refl)
 
 -- every other command than these is neither the listing nor built
 pub other_unbuilt : (command : Command)

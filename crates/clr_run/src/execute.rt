@@ -3,7 +3,6 @@ ghost use Rattle.std.specs.Prelude.{Bool, ◌≡◌, ◌+◌, ◌^◌, ◌≤◌
 ghost use Rattle.clr_model.specs.Instructions.{dump_heap};
 ghost use Rattle.clr_model.specs.Run.{Follows, FollowsLine};
 ghost use Rattle.clr_model.specs.Sos.{dumpheap_text};
-ghost use Rattle.clr_model.specs.Stage as stage;
 ghost use Rattle.clr_script.specs.Readings.{IsReadAs};
 ghost use Rattle.clr_run.specs.Dumping.{no_options};
 ghost use Rattle.clr_run.specs.Outcomes.{outcome_of, CanShow};
@@ -12,7 +11,7 @@ use crate::access::obey_access;
 use crate::dump::listing_text;
 use crate::handles::obey_handle;
 use crate::outcome::{Outcome, told_collected, told_done, told_mt, told_number, told_place};
-use clr_model::{Command, How, Refusal};
+use clr_model::{Command, Refusal};
 use clr_runtime::Runtime;
 use clr_script::{read_access, read_line};
 use std::alloc::{AllocError, Global};
@@ -79,21 +78,9 @@ fn obey(runtime: &mut Runtime, alloc: Global, line: &[u8], command: Command<'_>)
         | Command::Suppress { .. }
         | Command::Reregister { .. }
         | Command::Finalizer { .. } => obey_handle(runtime, line, command),
-        Command::Collect { t, g, how } if is_sweep(g, how) => {
-            told_collected(runtime.collect(t, g, how))
-        }
+        Command::Collect { t, g, how } if g <= 2 => told_collected(runtime.collect(t, g, how)),
         Command::DumpHeap { filter: _ } if line == b"dumpheap".as_slice() => dump(alloc, runtime),
         _ => Outcome::Refused(Refusal::Syntax),
-    }
-}
-
-// Whether a collection is one of those that are built.
-fn is_sweep(g: u8, how: How) -> bool
-    ensures { result ≡ stage.is_sweep g how }
-{
-    match how {
-        How::Sweep => g <= 2,
-        How::Decide | How::Compact => false,
     }
 }
 

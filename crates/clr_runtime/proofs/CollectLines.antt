@@ -1,7 +1,8 @@
 -- The line that collects, on what is seen.
 use Rattle.std.proofs.Common.{◌≡◌, ◌≢◌, ◌∙◌, ℕ, ◌+◌, ◌^◌, ◌<◌, ◌≤◌, ◌==◌, if◌then◌else◌, Bool, List, [], ◌∷◌}
-use Rattle.std.proofs.Common.{length, map, refl, ap, subst, arith, None}
+use Rattle.std.proofs.Common.{length, map, refl, ap, subst, sym, arith, None}
 use Rattle.std.proofs.lemmas.Bool.{ne_eqb}
+use Rattle.std.proofs.lemmas.List.{length-map}
 use Rattle.clr_view.specs.Clean.{AreClean}
 use Rattle.clr_view.specs.Marks.{IsUnmarked}
 use Rattle.clr_view.specs.Shown.{shown}
@@ -9,7 +10,6 @@ use Rattle.clr_view.specs.View.{AreFreeHeads, IsHeld, layout_in, objects_in}
 use Rattle.clr_view.specs.World.{IsWorldOf, World}
 use Rattle.clr_model.specs.declared.Collected.{Collected}
 use Rattle.clr_model.specs.declared.How.{How}
-use Rattle.clr_model.specs.declared.How.TheVariants.{Sweep}
 use Rattle.clr_model.specs.declared.Reply.TheVariants as reply
 use Rattle.clr_model.specs.Collection.{Collects, sums_after}
 use Rattle.clr_model.specs.Instructions.{collect_heap}
@@ -22,6 +22,7 @@ use Rattle.clr_model.specs.Run.{Follows}
 use Rattle.clr_model.proofs.CollectFollows.{collect_follows}
 use Rattle.clr_model.proofs.PieceBytes.{sums_bounded}
 use Rattle.clr_model.proofs.SeenStands.{follows_sound}
+use Rattle.clr_collect.specs.Collecting.{CountsSlides}
 use Rattle.clr_runtime.specs.Checks.{thread_refusal}
 use Rattle.clr_runtime.specs.RuntimeView.{collected_sums, IsShown}
 use Rattle.clr_runtime.proofs.NamesChecked.{may_run}
@@ -80,7 +81,7 @@ record HaveSmallSums (sums : Sums) : Type 0 where
   second : sums.promoted2 < 2 ^ 64
 
 -- the world of a runtime is that of what it shows
-world-seen : {w : World} {sums : Sums} {options : Options} → IsWorldOf w (shown w sums options)
+pub world-seen : {w : World} {sums : Sums} {options : Options} → IsWorldOf w (shown w sums options)
 world-seen = record {
   memory = record { types = refl; objects = refl; layout = refl };
   locals = refl;
@@ -93,10 +94,28 @@ pub whole_world : {w : World} {sums : Sums} {options : Options} → IsShown w su
     → (m : Machine) × IsWorldOf w m × IsPlaceNamed m × (lowest_in_step m ≡ None)
 whole_world {w = w} {sums = sums} {options = options} is = (shown w sums options, world-seen, is.sound, refl)
 
+-- there is a collection of what is shown that leaves this world
+abbrev pub Told : World → Sums → Options → ℕ → How → World → Collected → Type 0
+Told w sums options g how new answer =
+    (after : Machine) × Collects (shown w sums options) g how answer after × IsWorldOf new (picture after)
+
+-- it is what a collection tells of all machines that have this world, whose locals may have another spelling
+pub told_of : (w : World) (sums : Sums) (options : Options) → IsShown w sums options → (g : ℕ) (how : How)
+    (locals : List ℕ) → locals ≡ w.locals → (new : World) (answer : Collected) (before after : ℕ)
+    → ((m : Machine) → IsWorldOf (record w { locals = locals }) m → IsPlaceNamed m → lowest_in_step m ≡ None
+    → m.options.compact ≡ options.compact → (left : Machine) × (c : Collects m g how answer left)
+    × IsWorldOf new (picture left) × CountsSlides c.moves answer before after)
+    → Told w sums options g how new answer
+told_of w sums options is g how locals same new answer before after collected =
+    let (left, collects, world, counts) =
+    collected (shown w sums options)
+    (subst (λ (ls : List ℕ). IsWorldOf (record w { locals = ls }) (shown w sums options)) (sym same) world-seen)
+    is.sound refl refl in
+    (left, collects, world)
+
 module _ {w : World} {sums : Sums} {options : Options} (is : IsShown w sums options) (t g : ℕ) (least : g ≤ 2)
-    (passed : thread_refusal (shown w sums options) t ≡ None) (new : World) (answer : Collected)
-    (told : (m : Machine) → IsWorldOf w m → IsPlaceNamed m → lowest_in_step m ≡ None
-    → (after : Machine) × Collects m g Sweep answer after × IsWorldOf new (picture after)) where
+    (how : How) (passed : thread_refusal (shown w sums options) t ≡ None) (new : World) (answer : Collected)
+    (told : Told w sums options g how new answer) where
   abbrev s : Machine
   s = shown w sums options
 
@@ -105,16 +124,16 @@ module _ {w : World} {sums : Sums} {options : Options} (is : IsShown w sums opti
   after_sums = collected_sums sums g answer.promoted1 answer.promoted2
 
   -- the collection is done
-  pub collect_done : Follows (shown w sums options) (collect_heap t g Sweep) (answered (reply.Collected answer))
+  pub collect_done : Follows (shown w sums options) (collect_heap t g how) (answered (reply.Collected answer))
       (shown new (collected_sums sums g answer.promoted1 answer.promoted2) options)
   collect_done =
-      let (after, collects, world) = told s world-seen is.sound refl in
-      subst (Follows s (collect_heap t g Sweep) (answered (reply.Collected answer)))
-      (collected_picture s g Sweep answer after refl collects new world)
-      (collect_follows s t g Sweep answer after least (may_run s t refl passed) refl collects)
+      let (after, collects, world) = told in
+      subst (Follows s (collect_heap t g how) (answered (reply.Collected answer)))
+      (collected_picture s g how answer after refl collects new world)
+      (collect_follows s t g how answer after least (may_run s t refl passed) refl collects)
 
   sound-after : IsPlaceNamed (shown new after_sums options)
-  sound-after = follows_sound s (collect_heap t g Sweep) (answered (reply.Collected answer))
+  sound-after = follows_sound s (collect_heap t g how) (answered (reply.Collected answer))
       (shown new after_sums options) is.sound collect_done
 
   bounded-after : HaveSmallSums after_sums
@@ -137,11 +156,20 @@ module _ {w : World} {sums : Sums} {options : Options} (is : IsShown w sums opti
       (ne_eqb g 2 other) bounded-after.second
 
   -- what holds of the parts of a runtime still holds
-  pub collect_kept : length new.locals ≡ 1024 → IsHeld new.rows new.heap → IsUnmarked new.rows new.heap
+  -- as many locals as before
+  pub locals-after : length new.locals ≡ 1024
+  locals-after =
+      let (after, collects, world) = told in
+      ap length (sym world.locals)
+      ∙ length-map after.locals (place_of after.objects)
+      ∙ ap (λ (m : Machine). length m.locals) collects.state
+      ∙ is.locals
+
+  pub collect_kept : IsHeld new.rows new.heap → IsUnmarked new.rows new.heap
       → AreFreeHeads new.rows new.heap → AreClean new.rows new.heap
       → IsShown new (collected_sums sums g answer.promoted1 answer.promoted2) options
-  collect_kept count held unmarked heads clean = record {
-    locals = count;
+  collect_kept held unmarked heads clean = record {
+    locals = locals-after;
     held = held;
     unmarked = unmarked;
     free_heads = heads;

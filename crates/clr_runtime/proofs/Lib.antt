@@ -15,3 +15,4 @@ pub mod BirthDone
 pub mod HandleLines
 pub mod FinalizerLines
 pub mod TablesKept
+pub mod PinnedRoom

@@ -1,5 +1,6 @@
 -- What holds of the parts of a runtime, and the machine that they show.
-use Rattle.std.specs.Prelude.{◌≡◌, ℕ, ◌+◌, ◌==◌, if◌then◌else◌, length}
+use Rattle.std.specs.Prelude.{◌≡◌, ℕ, ◌+◌, ◌≤◌, ◌==◌, if◌then◌else◌, length, []}
+use Rattle.clr_handles.specs.Tops.{pinned_in}
 use Rattle.clr_view.specs.Clean.{AreClean}
 use Rattle.clr_view.specs.Marks.{IsUnmarked}
 use Rattle.clr_view.specs.Shown.{shown}
@@ -55,9 +56,11 @@ pub record IsShown (w : World) (sums : Sums) (options : Options) : Type 0 where
   pub sound : IsPlaceNamed (shown w sums options)
 
 -- what holds of each runtime: that, its cards and bricks are those of its heap, its contexts keep the index of this
--- heap, and segments are limited as the options say
+-- heap, and segments are limited as the options say. No words are saved, and there is room for what a collection saves.
 pub record IsRuntime (r : Inside) : Type 0 where
   pub shown : IsShown (world_of r) (sums_of r.sums) (options_of r.options)
   pub tables : AreTablesOf r.types r.heap r.cards r.bricks
   pub index : IsIndex r.types r.heap r.contexts
   pub limit : r.heap.limit ≡ r.options.limit
+  pub pins : r.pins.entries ≡ []
+  pub room : pinned_in r.handles + 4 ≤ r.pins.spare

@@ -1,5 +1,5 @@
 //! The line that collects.
-ghost use Rattle.std.specs.Prelude.{◌≡◌, ◌≤◌};
+ghost use Rattle.std.specs.Prelude.{◌≤◌};
 
 use crate::runtime::Runtime;
 use clr_collect::collect;
@@ -10,21 +10,20 @@ impl Runtime {
     ghost use Rattle.clr_model.specs.Run.{Follows};
     ghost use Rattle.clr_runtime.specs.Outcomes.{collected_outcome};
 
-    /// Collects generation `g`, 0 to 2, and all younger ones by a sweep, which is the one kind of collection that is
-    /// built: `how` is `Sweep`. Gives how many of these objects were kept and how many freed, and the bytes that went
-    /// to generations 1 and 2.
+    /// Collects generation `g`, 0 to 2, and all younger ones, as `how` says: by a sweep, by a compaction, or by what
+    /// the option `compact` decides. Gives how many of these objects were kept and how many freed, and the bytes that
+    /// went to generations 1 and 2.
     ///
-    /// The contexts of all threads are given up. Exactly the objects stay that older objects, locals, strong and pinned
-    /// handles, the f-reachable queue and woken entries reach, by slots and by dependent handles, at their places; each
-    /// that was collected is one generation older, up to 2. Entries of objects that only finalisation would reach are
-    /// woken, or dropped where the finaliser is suppressed, and weak and dependent handles lose what goes. It is
-    /// refused for an unknown thread, and takes no memory.
+    /// The contexts of all threads are given up. Exactly the objects stay that older objects, locals, strong and
+    /// pinned handles, the f-reachable queue and woken entries reach, by slots and by dependent handles. A sweep
+    /// leaves them where they are, and each is one generation older, up to 2; a compaction takes those of the small
+    /// heap down to where they fit, but for what pinned handles name. Entries of objects that only finalisation would
+    /// reach are woken, or dropped where the finaliser is suppressed, and weak and dependent handles lose what goes.
+    /// It is refused for an unknown thread, and needs no memory.
     pub fn collect(&mut self, t: u64, g: u8, how: How) -> Result<Collected, Refusal>
         requires generation { g ≤ 2 }
-        requires sweeping { how ≡ How.Sweep }
         ensures { Follows self.old (collect_heap t g how) (collected_outcome result) self.new }
     {
-        prove!(matches!(how, How::Sweep));
         if let Some(refusal) = self.refused_thread(t) {
             return Err(refusal);
         }
@@ -37,12 +36,22 @@ impl Runtime {
             &mut self.contexts,
             &mut self.handles,
             &mut self.finals,
-            &self.locals,
+            &mut self.locals,
+            &mut self.pins,
+            &mut self.slides,
+            self.options.compact,
             g,
+            how,
         );
         self.sums = self
             .sums
             .collected(g, collected.promoted1, collected.promoted2);
         Ok(collected)
+    }
+
+    /// How many compactions there were, and how many bytes they moved, together. It stays at the last value of a `u64`
+    /// where it would pass it.
+    pub fn slides(&self) -> u64 {
+        self.slides.count()
     }
 }

@@ -1,14 +1,18 @@
 //! The lines that make, follow and free handles.
-ghost use Rattle.std.specs.Prelude.{◌≡◌, ◌<◌, IfSome, length, true};
+ghost use Rattle.std.specs.Prelude.{◌≡◌, ◌+◌, ◌<◌, ◌≤◌, ◌↔◌, Err, IfOk, IfSome, length, None, OnErr, true};
+ghost use Rattle.std.specs.FinMap as finmap;
+ghost use Rattle.clr_handles.specs.Tops.{pinned_in};
+ghost use Rattle.clr_handles.specs.declared.fault.CreateFault.TheVariants as CreateFault;
 ghost use Rattle.clr_model.specs.Lookups.{is_thread};
 ghost use Rattle.clr_types.specs.Kinds.{is_dependent};
 ghost use Rattle.clr_runtime.specs.Handles.{held_in};
 ghost use Rattle.clr_runtime.specs.Outcomes.{refusal_of_create};
 
 use crate::checks::index_of;
-use crate::runtime::Runtime;
-use clr_handles::{CreateFault, Kind};
+use crate::runtime::{Runtime, SPARE_SAVES};
+use clr_handles::{CreateFault, Handles, Kind};
 use clr_model::Refusal;
+use clr_pinq::PinQueue;
 
 impl Runtime {
     ghost use Rattle.clr_model.specs.Instructions.{create_handle, fetch_second, fetch_target, free_handle};
@@ -40,7 +44,7 @@ impl Runtime {
             return Err(Refusal::Null);
         }
         let other = held_by(&self.locals, t, second);
-        match self.handles.create(kind, target, other) {
+        match create_with_room(&mut self.handles, &mut self.pins, kind, target, other) {
             Ok(h) => Ok(h),
             Err(fault) => Err(refusal_of(fault)),
         }
@@ -95,6 +99,35 @@ impl Runtime {
             return Err(Refusal::NoHandle);
         };
         Ok(())
+    }
+}
+
+// Makes a handle, as `create` does, and takes memory, so that a compaction can save words for each pinned one. Where
+// there is none, the handle isn't made.
+fn create_with_room(
+    handles: &mut Handles,
+    pins: &mut PinQueue,
+    kind: Kind,
+    target: u64,
+    second: u64,
+) -> Result<u64, CreateFault>
+    requires { pinned_in handles.old + 4 ≤ pins.old.spare }
+    ensures free { IfOk result (λ h. finmap.get handles.old h ≡ None) }
+    ensures below { IfOk result (λ h. h < 65536) }
+    ensures created { IfOk result (λ h. handles.new
+        ≡ finmap.insert handles.old h (record { kind = kind; target = target; second = second })) }
+    ensures too_many { (result ≡ Err CreateFault.TooManyHandles) ↔ (65536 ≤ finmap.len handles.old) }
+    ensures err { OnErr result (handles.new ≡ handles.old) }
+    ensures entries { pins.new.entries ≡ pins.old.entries }
+    ensures room { pinned_in handles.new + 4 ≤ pins.new.spare }
+{
+    let h = handles.create(kind, target, second)?;
+    match pins.reserve(handles.pinned_count() + SPARE_SAVES) {
+        Ok(()) => Ok(h),
+        Err(_) => {
+            let _ = handles.free(h);
+            Err(CreateFault::NoMemory)
+        }
     }
 }
 

@@ -9,6 +9,7 @@ use crate::options::Options;
 use crate::sums::Sums;
 use clr_bricks::Bricks;
 use clr_cards::Cards;
+use clr_compact::Slides;
 use clr_ctx::Contexts;
 use clr_final::Finals;
 use clr_generations::cover_segments;
@@ -16,12 +17,17 @@ use clr_handles::Handles;
 use clr_heap::Heap;
 use clr_mark::Marker;
 use clr_model::Refusal;
+use clr_pinq::PinQueue;
 use clr_types::{DefineFault, Shape, Types};
 use std::alloc::{AllocError, Global};
 use std::marker::Model;
 
 /// So many objects may wait on the stack of a marking. What has no room on it is found again by a walk.
 const MARK_STACK: usize = 1024;
+
+/// So many entries of saved words a compaction may need beside one for each pinned handle: two at boundaries of
+/// generations, one at the start of what it compacts, and one to spare.
+pub(crate) const SPARE_SAVES: usize = 4;
 
 /// So many locals has each of the 16 threads.
 pub(crate) const LOCALS_OF_A_THREAD: u64 = 64;
@@ -43,6 +49,8 @@ pub struct Runtime {
     pub(crate) locals: Vec<u64>,
     pub(crate) handles: Handles,
     pub(crate) finals: Finals,
+    pub(crate) pins: PinQueue,
+    pub(crate) slides: Slides,
     pub(crate) sums: Sums,
     pub(crate) options: Options,
 }
@@ -108,6 +116,8 @@ impl Runtime {
         };
         let (mut cards, mut bricks) = (Cards::new(alloc), Bricks::new(alloc));
         cover_segments(&heap, &mut cards, &mut bricks)?;
+        let mut pins = PinQueue::new(alloc)?;
+        pins.reserve(SPARE_SAVES)?;
         Ok(Runtime {
             types,
             heap,
@@ -118,6 +128,8 @@ impl Runtime {
             locals,
             handles: Handles::new(alloc),
             finals: Finals::new(alloc),
+            pins,
+            slides: Slides::new(),
             sums: Sums::NONE,
             options,
         })

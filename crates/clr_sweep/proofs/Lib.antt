@@ -1,4 +1,5 @@
 pub mod Rules
+pub mod Filters
 pub mod FreeHeads
 pub mod Filling
 pub mod Tallies
@@ -6,14 +7,18 @@ pub mod Parting
 pub mod Passing
 pub mod PassEnds
 pub mod Agreeing
+pub mod MoreSwept
+pub mod LargeSteps
 pub mod AllSegments
 pub mod SectionsSwept
 pub mod ObjectsSwept
 pub mod SurvivorsSwept
 pub mod LayoutSwept
 pub mod TallySwept
-pub mod WholeSwept
 pub mod YoungPart
+pub mod Counted
+pub mod WholeSwept
+pub mod CountedParts
 pub mod YoungSurvivors
 pub mod YoungSwept
 pub mod YoungLayout
@@ -21,3 +26,9 @@ pub mod YoungWhole
 pub mod WholeBricks
 pub mod YoungBricks
 pub mod YoungTables
+pub mod LargeSwept
+pub mod LargeLayout
+pub mod LargeWhole
+pub mod Extents
+pub mod KeptSizes
+pub mod KeptBytes

@@ -1,6 +1,6 @@
 -- What a sweep leaves of the items of a heap: exactly those that stay, each the same object.
 use Rattle.std.proofs.Common.{◌≡◌, ◌≢◌, ℕ, zero, suc, ◌+◌, ◌-◌, ◌%◌, ◌<◌, ◌≤◌, List, [], ◌∷◌, ◌++◌, map, filter, length}
-use Rattle.std.proofs.Common.{get_or, refl, sym, ap, ap₂, subst, ◌∙◌, arith, Bool, true, false, if◌then◌else◌, ◌&&◌}
+use Rattle.std.proofs.Common.{get_or, refl, sym, ap, ap₂, subst, ◌∙◌, arith, Bool, true, false, if◌then◌else◌}
 use Rattle.std.proofs.Common.{nat_lt, None, Some, replicate}
 use Rattle.std.proofs.lemmas.Bool.{and_parts, ne_eqb, eqb-true, eq-eqb}
 use Rattle.std.proofs.lemmas.List.Elements.{filter-append}
@@ -26,6 +26,7 @@ use Rattle.clr_view.proofs.Listings.{listing-are}
 use Rattle.clr_view.proofs.Slots.{slot-inside, slot_word, slots-stay}
 use Rattle.clr_view.specs.Memory.{is_marked, word_without_mark}
 use Rattle.clr_sweep.specs.SweptItems.{gap, HasSweptItems, is_cut, stays, swept_from}
+use Rattle.clr_sweep.proofs.Filters.{filter-filter}
 use Rattle.clr_sweep.proofs.SectionsSwept.{AreFilled}
 
 -- ---- segments without contexts
@@ -198,25 +199,15 @@ module _ (rows : List TypeRow) (old new : HeapView) (s : HasSweptItems rows old 
       object-kept rows (word_of old) (word_of new) low high i (omega arith) is (λ b z a c ne. s.cells i b l on z a c
       ∙ mark-elsewhere old i b ne)
 
-  filter-both : (items : List Item) → filter keep items ≡ filter (λ i. has_mark (word_of old i.place))
-      (filter is_object items)
-  filter-both [] = refl
-  filter-both (i ∷ items) = go (is_object i) (filter-both items)
-    where
-      go : (b : Bool) → filter keep items ≡ filter (λ i. has_mark (word_of old i.place)) (filter is_object items)
-          → (if b && has_mark (word_of old i.place) then i ∷ filter keep items else filter keep items)
-          ≡ filter (λ i. has_mark (word_of old i.place)) (if b then i ∷ filter is_object items else filter is_object
-          items)
-      go true e = ap (λ xs. if has_mark (word_of old i.place) then i ∷ xs else xs) e
-      go false e = e
-
   -- EXACTLY THE MARKED OBJECTS STAY
   pub swept_objects : objects_in rows new ≡ filter (is_marked old) (objects_in rows old)
   swept_objects =
       ap (map (object_in rows (word_of new))) items_left
       ∙ map-on (object_in rows (word_of new)) (object_in rows (word_of old)) (filter keep (heap_items rows old))
       same_object
-      ∙ ap (map (object_in rows (word_of old))) (filter-both (heap_items rows old))
+      ∙ ap (map (object_in rows (word_of old)))
+      (sym (filter-filter is_object (λ i. has_mark (word_of old i.place))
+      (heap_items rows old)))
       ∙ sym (filter-map (object_in rows (word_of old)) (is_marked old) (filter is_object (heap_items rows old)))
 
   -- and no mark is left

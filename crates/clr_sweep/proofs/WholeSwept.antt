@@ -1,23 +1,20 @@
 -- What a sweep of each segment's items makes of the heap, in the machine's words.
-use Rattle.std.proofs.Common.{◌≡◌, ◌⊎◌, ℕ, ◌+◌, ◌<◌, ◌≤◌, sym, ap, subst, ◌∙◌, Bool, true, not, ◌||◌, if◌then◌else◌}
+use Rattle.std.proofs.Common.{◌≡◌, ◌⊎◌, ℕ, ◌+◌, ◌<◌, ◌≤◌, sym, ap, subst, ◌∙◌, Bool, not, ◌||◌, if◌then◌else◌}
 use Rattle.std.proofs.Common.{List}
-use Rattle.std.proofs.lemmas.Bool.{le-leb}
-use Rattle.clr_types.specs.Segments.{generation}
 use Rattle.clr_types.proofs.ListMembers.{filter-on}
 use Rattle.clr_types.specs.Types.{TypeRow}
 use Rattle.clr_heap.specs.View.{frame, heap_items, HeapView, IsHeap, last_of, no_rests, segment_at, word_of}
 use Rattle.clr_model.specs.Lawful.{IsLaid}
 use Rattle.clr_model.specs.Machine.{Machine}
 use Rattle.clr_model.specs.Sweep.{survivors}
-use Rattle.clr_model.proofs.LawfulSurvivors.{generation-least}
 use Rattle.clr_view.specs.View.{IsHeld, layout_in, objects_in}
-use Rattle.clr_view.specs.Memory.{is_left, is_marked, is_reached_by, IsMemoryOf, TestsMarks, word_without_mark}
+use Rattle.clr_view.specs.Memory.{is_left, is_marked, IsMemoryOf, TestsMarks, word_without_mark}
 use Rattle.clr_sweep.specs.Swept.{HasSwept, swept_layout, tally_of}
 use Rattle.clr_sweep.specs.SweptItems.{HasSweptItems, tally_among}
 use Rattle.clr_sweep.proofs.SurvivorsSwept.{part-start, seen}
 use Rattle.clr_sweep.proofs.ObjectsSwept.{swept_cells, swept_held, swept_limit, swept_objects, swept_unmarked}
 use Rattle.clr_sweep.proofs.LayoutSwept.{layout_swept, part-taken}
-use Rattle.clr_sweep.proofs.TallySwept.{tally_all, tally_swept}
+use Rattle.clr_sweep.proofs.Counted.{all_swept_over, whole-counted}
 
 -- a machine whose memory the heap is, is what is seen in the heap
 pub memory-seen : (rows : List TypeRow) (h : HeapView) (m : Machine) → IsMemoryOf rows h m → m ≡ seen rows h m
@@ -37,10 +34,6 @@ seen-alike rows h m other laid = record {
   whole1 = laid.whole1;
   whole0 = laid.whole0;
 }
-
--- a sweep of all generations goes over every place
-pub all_swept_over : (h : HeapView) (place : ℕ) → is_reached_by h 2 place ≡ true
-all_swept_over h place = le-leb (generation (frame h) place) 2 (generation-least (frame h) place)
 
 module _ (rows : List TypeRow) (old new : HeapView) (swept : HasSweptItems rows old new) (heap : IsHeap old)
     (held : IsHeld rows old) (none : old.rests ≡ no_rests) where
@@ -71,5 +64,4 @@ module _ (rows : List TypeRow) (old new : HeapView) (swept : HasSweptItems rows 
 
   -- and its counts
   pub has_counted : tally_among old (heap_items rows old) ≡ tally_of rows old 2
-  has_counted = sym (tally_all old 2 (heap_items rows old) (λ i l. all_swept_over old i.place))
-      ∙ tally_swept rows old 2 heap held
+  has_counted = whole-counted rows old heap held

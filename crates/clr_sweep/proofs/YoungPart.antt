@@ -1,7 +1,7 @@
 -- The young part of the ephemeral segment: where it begins, its items, and their generations.
 use Rattle.std.proofs.Common.{◌≡◌, ◌≢◌, inl, inr, ℕ, zero, suc, ◌%◌, ◌<◌, ◌≤◌, Bool, true, false, List, ◌++◌, length}
 use Rattle.std.proofs.Common.{if◌then◌else◌, ◌==◌, nat_lt, refl, ap, sym, ◌∙◌, subst, arith}
-use Rattle.std.proofs.lemmas.Bool.{cases_order, le-leb, le-ltb, lt-leb, lt-ltb}
+use Rattle.std.proofs.lemmas.Bool.{cases_lt, cases_order, le-leb, le-ltb, lt-leb, lt-ltb}
 use Rattle.std.specs.List.{AllByRecursion}
 use Rattle.clr_types.specs.Rising.{IsIn}
 use Rattle.clr_types.specs.Types.{TypeRow}
@@ -57,8 +57,12 @@ age-below one start p zero order young below = let b = lt-ltb p start below in r
 age-below one start p (suc zero) order young below = let a = lt-ltb p one below in rw a (omega arith)
 age-below one start p (suc (suc g)) order young below = absurd (omega arith)
 
+-- a generation up to 2 that isn't 2 is young
+pub below_two : (g : ℕ) → g ≤ 2 → (g ≡ 2 → ⊥) → g ≤ 1
+below_two g most ne = elim (cases_lt g 2) [ inl l ↦ omega arith | inr l ↦ absurd (ne (omega arith)) ]
+
 -- where the part begins
-start-cases : (a b c g : ℕ) → g ≤ 1 → (if g == 0 then a else (if g == 1 then b else c)) ≡ (if g == 0 then a else b)
+pub start-cases : (a b c g : ℕ) → g ≤ 1 → (if g == 0 then a else (if g == 1 then b else c)) ≡ (if g == 0 then a else b)
 start-cases a b c zero l = refl
 start-cases a b c (suc zero) l = refl
 start-cases a b c (suc (suc g)) l = absurd (omega arith)

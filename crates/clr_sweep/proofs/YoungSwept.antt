@@ -1,6 +1,6 @@
 -- What a sweep of the young part leaves of a heap: its segments, its items, their words, and its counts.
 use Rattle.std.proofs.Common.{◌≡◌, ◌≢◌, ◌⊎◌, inl, inr, ℕ, zero, suc, ◌+◌, ◌-◌, ◌%◌, ◌<◌, ◌≤◌, Bool, true, false, not}
-use Rattle.std.proofs.Common.{List, [], ◌∷◌, ◌++◌, filter, map, length, set, if◌then◌else◌, ◌==◌, ◌&&◌, ◌||◌, cond}
+use Rattle.std.proofs.Common.{List, [], ◌++◌, filter, map, length, set, if◌then◌else◌, ◌==◌, ◌&&◌, ◌||◌, cond}
 use Rattle.std.proofs.Common.{refl, ap, ap₂, sym, ◌∙◌, subst, arith, length-set, Option}
 use Rattle.std.proofs.lemmas.Bool.{cases_eq, cases_lt, eqb-true, eq-eqb}
 use Rattle.std.proofs.lemmas.List.{get_or-set_other, get_or-set_same}
@@ -28,29 +28,16 @@ use Rattle.clr_view.specs.View.{AreFreeHeads, IsHeld, is_object, object_in, obje
 use Rattle.clr_view.proofs.FreeHeads.{head_stays}
 use Rattle.clr_view.proofs.Items.{IsItem}
 use Rattle.clr_view.proofs.Listed.{listed-in}
-use Rattle.clr_view.proofs.Listings.{heap-cut}
-use Rattle.clr_sweep.specs.Passes.{plus}
 use Rattle.clr_view.specs.Memory.{is_left, is_reached_by, word_without_mark}
-use Rattle.clr_sweep.specs.Swept.{IsOutside, KeepsCells, tally_of, word_left}
-use Rattle.clr_sweep.specs.SweptItems.{aged, is_cut, items_below, items_from, part_last, stays, swept_part, tally_among}
+use Rattle.clr_sweep.specs.Swept.{IsOutside, KeepsCells, word_left}
+use Rattle.clr_sweep.specs.SweptItems.{aged, is_cut, items_below, items_from, part_last, stays, swept_part}
 use Rattle.clr_sweep.specs.SweptItems.{young_start}
 use Rattle.clr_sweep.specs.SweptSegments.{HasSweptSegment}
-use Rattle.clr_sweep.specs.declared.tally.Tally.{Tally}
+use Rattle.clr_sweep.proofs.Filters.{filter-filter}
 use Rattle.clr_sweep.proofs.ObjectsSwept.{held_without, mark-elsewhere, object-kept, stays-object, swept-objects}
 use Rattle.clr_sweep.proofs.SurvivorsSwept.{listed-from, seen, stands-at}
-use Rattle.clr_sweep.proofs.Tallies.{none-plus, plus-none}
-use Rattle.clr_sweep.proofs.TallySwept.{tally_all, tally_by, tally_joined, tally_none, tally_swept}
 use Rattle.clr_sweep.proofs.YoungPart.{below-is, below-listed, below-old, from-swept, other-old, swept-on, young-items}
 use Rattle.clr_sweep.proofs.YoungPart.{young-kind, young-low, young-start}
-
--- items of segments from one on stand in one of them
-listed-above : (rows : List TypeRow) (h : HeapView) (i : Item) (s n : ℕ) → IsIn i (listings rows h s n) → (k : ℕ)
-    × (s ≤ k) × (k < s + n) × IsIn i (listing rows h k)
-listed-above rows h i s zero l = elim l [ ]
-listed-above rows h i s (suc n) l = elim (in_append (listing rows h s) l) [
-  | inl here ↦ (s, omega arith, omega arith, here)
-  | inr more ↦ let (k, low, high, there) = listed-above rows h i (s + 1) n more in (k, omega arith, omega arith, there)
-]
 
 module _ (rows : List TypeRow) (old : HeapView) (base : Machine) (heap : IsHeap old) (held : IsHeld rows old)
     (none : old.rests ≡ no_rests) (laid : IsLaid (seen rows old base)) (g : ℕ) (young : g ≤ 1) (k : ℕ)
@@ -260,30 +247,15 @@ module _ (rows : List TypeRow) (old : HeapView) (base : Machine) (heap : IsHeap 
       object-kept rows (word_of old) (word_of new) low high i (omega arith) is (λ b z a c ne. cell-left i b l on z a c
       ∙ word-elsewhere i b ne)
 
-  filter-both : (items : List Item)
-      → filter keep items ≡ filter (λ i. not (is_reached_by old g i.place) || has_mark (word_of old i.place))
-      (filter is_object items)
-  filter-both [] = refl
-  filter-both (i ∷ items) = go (is_object i) (filter-both items)
-    where
-      go : (b : Bool)
-          → filter keep items ≡ filter (λ i. not (is_reached_by old g i.place) || has_mark (word_of old i.place))
-          (filter is_object items)
-          → (if b && (not (is_reached_by old g i.place) || has_mark (word_of old i.place)) then i
-          ∷ filter keep items else filter keep items)
-          ≡ filter (λ i. not (is_reached_by old g i.place) || has_mark (word_of old i.place))
-          (if b then i ∷ filter is_object items else filter is_object items)
-      go true e = ap (λ xs. if not (is_reached_by old g i.place) || has_mark (word_of old i.place) then i ∷ xs else xs)
-          e
-      go false e = e
-
   -- OF THE YOUNG OBJECTS EXACTLY THE MARKED ONES STAY
   pub young-objects : objects_in rows (aged now g) ≡ filter (is_left old g) (objects_in rows old)
   young-objects =
       ap (map (object_in rows (word_of new))) items-left
       ∙ map-on (object_in rows (word_of new)) (object_in rows (word_of old)) (filter keep (heap_items rows old))
       same-object
-      ∙ ap (map (object_in rows (word_of old))) (filter-both (heap_items rows old))
+      ∙ ap (map (object_in rows (word_of old)))
+      (sym (filter-filter is_object (λ i. not (is_reached_by old g i.place) || has_mark (word_of old i.place))
+      (heap_items rows old)))
       ∙ sym (filter-map (object_in rows (word_of old)) (is_left old g) (filter is_object (heap_items rows old)))
 
   -- no young object is marked
@@ -367,36 +339,3 @@ module _ (rows : List TypeRow) (old : HeapView) (base : Machine) (heap : IsHeap 
   young-outside b z away =
       w.outside b z (subst (λ n. (b + 8 < n) ⊎ (last_of old k ≤ b + 8)) (young-start rows old base heap held none laid g
       young k inside eph) (away k inside takes-part))
-
-  -- ---- counts
-
-  -- no sweep goes over the items of other segments
-  front-old : (i : Item) → IsIn i (listings rows old 0 k) → is_reached_by old g i.place ≡ false
-  front-old i l = let (j, under, there) = listed-in rows old i 0 k l in
-      other-old rows old base heap held none laid g young k inside eph j (omega arith) (λ e. omega arith) i there
-
-  back-old : (i : Item) → IsIn i (listings rows old (k + 1) (length old.segments - (k + 1)))
-      → is_reached_by old g i.place ≡ false
-  back-old i l = let (j, over, under, there) = listed-above rows old i (k + 1) (length old.segments - (k + 1)) l in
-      other-old rows old base heap held none laid g young k inside eph j (omega arith) (λ e. omega arith) i there
-
-  -- THE COUNTS are those of the young part
-  pub young-counted : tally_among old (items_from rows old k (young_start old g)) ≡ tally_of rows old g
-  young-counted =
-      let front = listings rows old 0 k in
-      let back = listings rows old (k + 1) (length old.segments - (k + 1)) in
-      let count : List Item → Tally = tally_by old g in
-      let split : heap_items rows old ≡ front ++ ((below ++ part) ++ back) =
-      heap-cut rows old k (length old.segments) inside ∙ ap (λ (is : List Item). front ++ (is ++ back))
-      (young-items rows old base heap held none laid g young k inside eph) in
-      let lower : tally_by old g (below ++ part) ≡ tally_among old part =
-      tally_joined old g below part
-      ∙ ap₂ plus (tally_none old g below (below-old rows old base heap held none laid g young k inside eph))
-      (tally_all old g part (from-swept rows old base heap held none laid g young k inside eph))
-      ∙ none-plus (tally_among old part) in
-      let upper : tally_by old g ((below ++ part) ++ back) ≡ tally_among old part =
-      tally_joined old g (below ++ part) back ∙ ap₂ plus lower (tally_none old g back back-old)
-      ∙ plus-none (tally_among old part) in
-      sym (sym (tally_swept rows old g heap held) ∙ ap (tally_by old g) split
-      ∙ tally_joined old g front ((below ++ part) ++ back) ∙ ap₂ plus (tally_none old g front front-old) upper
-      ∙ none-plus (tally_among old part))

@@ -16,7 +16,8 @@ use Rattle.clr_sweep.proofs.SurvivorsSwept.{seen}
 use Rattle.clr_sweep.proofs.WholeSwept.{memory-seen, seen-alike}
 use Rattle.clr_sweep.proofs.YoungLayout.{young-layout}
 use Rattle.clr_sweep.proofs.YoungPart.{young-parted}
-use Rattle.clr_sweep.proofs.YoungSwept.{young-cells, young-counted, young-heads, young-held, young-limit, young-objects}
+use Rattle.clr_sweep.proofs.YoungSwept.{young-cells, young-heads, young-held, young-limit, young-objects}
+use Rattle.clr_sweep.proofs.Counted.{young-counted}
 use Rattle.clr_sweep.proofs.YoungSwept.{young-outside, young-unmarked}
 
 module _ (rows : List TypeRow) (old : HeapView) (heap : IsHeap old) (held : IsHeld rows old) (none : old.rests
@@ -53,4 +54,3 @@ module _ (rows : List TypeRow) (old : HeapView) (heap : IsHeap old) (held : IsHe
     -- and its counts
     pub has_counted_young : tally ≡ tally_of rows old g
     has_counted_young = w.counts ∙ young-counted rows old laid.0 heap held none as-seen g young w.k w.in_range w.young
-        w.between w.swept

@@ -85,7 +85,7 @@ fn step(heap: &mut Heap, types: &Types, k: usize, pass: Pass) -> Pass
 
 // Whether an item with this method table word stays: it is an object, and marked.
 #[inline]
-fn is_kept(found: Item, mt: u64) -> bool
+pub(crate) fn is_kept(found: Item, mt: u64) -> bool
     ensures { result ≡ (is_object found && has_mark mt) }
 {
     found.type_id.0 != 0 && mt % 2 == 1
@@ -93,7 +93,7 @@ fn is_kept(found: Item, mt: u64) -> bool
 
 // The counts with an item more.
 #[inline]
-fn with_item(heap: &Heap, tally: Tally, found: Item, mt: u64) -> Tally
+pub(crate) fn with_item(heap: &Heap, tally: Tally, found: Item, mt: u64) -> Tally
     requires mt { mt ≡ word_of heap.now found.place }
     requires room { found.place + found.size < 2 ^ 64 }
     requires least { 24 ≤ found.size }

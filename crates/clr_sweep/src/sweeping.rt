@@ -122,7 +122,7 @@ fn sweep_young(heap: &mut Heap, types: &Types, g: u8) -> Tally
 }
 
 // Where the part of the ephemeral segment begins that a sweep of generation 0 or 1 goes over.
-fn start_of(heap: &Heap, g: u8) -> u64
+pub(crate) fn start_of(heap: &Heap, g: u8) -> u64
     ensures { result ≡ young_start heap.now g }
 {
     let (start1, start0) = heap.boundaries();

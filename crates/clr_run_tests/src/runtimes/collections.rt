@@ -62,13 +62,21 @@ fn make_list(runtime: &mut Runtime, links: u64) -> Result<(), Refusal> {
     Ok(())
 }
 
+// Takes every second pair out of the table of local 0. Local 3 holds null.
+fn halve_table(runtime: &mut Runtime, pairs: u64) -> Result<(), Refusal> {
+    for i in 0..pairs / 2 {
+        runtime.set(1, 0, 2 * i, 3)?;
+    }
+    Ok(())
+}
+
 // A full collection answers these numbers of objects that are kept and freed, and of bytes that went to generation 1
 // and 2.
-fn expect_collected(rt: &impl Abort, runtime: &mut Runtime, want: [u64; 4]) {
-    let told = runtime.collect(16, 2, How::Sweep);
+fn expect_collected(rt: &impl Abort, runtime: &mut Runtime, how: How, want: [u64; 4]) {
+    let told = runtime.collect(16, 2, how);
     let want = Collected {
         generation: 2,
-        compacted: false,
+        compacted: how == How::Compact,
         kept: want[0],
         freed: want[1],
         promoted1: want[2],
@@ -77,25 +85,29 @@ fn expect_collected(rt: &impl Abort, runtime: &mut Runtime, want: [u64; 4]) {
     assert_eq!(rt; told, Ok(want));
 }
 
-// Collects a table of 10,000 pairs, first with it and then without it.
-fn collect_table(rt: &impl Abort, runtime: &mut Runtime) {
+// Collects a table of 10,000 pairs with all of them, with half of them, and without it.
+fn collect_table(rt: &impl Abort, runtime: &mut Runtime, how: How) {
     assert_eq!(rt; make_table(runtime, 10_000), Ok(()));
-    expect_collected(rt, runtime, [20_001, 0, 560_024, 0]);
+    expect_collected(rt, runtime, how, [20_001, 0, 560_024, 0]);
+    assert_eq!(rt; halve_table(runtime, 10_000), Ok(()));
+    expect_collected(rt, runtime, how, [10_001, 10_000, 0, 320_024]);
     assert_eq!(rt; runtime.clear(1, 0), Ok(()));
-    expect_collected(rt, runtime, [0, 20_001, 0, 0]);
+    expect_collected(rt, runtime, how, [0, 10_001, 0, 0]);
 }
 
 #[test]
 fn a_stack_for_one_object_serves(rt: HostRuntime) -> Result<(), Fail> {
     let mut runtime = runtime_with_stack(rt.alloc(), 1)?;
-    collect_table(&rt, &mut runtime);
+    collect_table(&rt, &mut runtime, How::Sweep);
+    collect_table(&rt, &mut runtime, How::Compact);
     Ok(())
 }
 
 #[test]
 fn a_table_is_wider_than_the_stack(rt: HostRuntime) -> Result<(), Fail> {
     let mut runtime = runtime_with_stack(rt.alloc(), 1024)?;
-    collect_table(&rt, &mut runtime);
+    collect_table(&rt, &mut runtime, How::Sweep);
+    collect_table(&rt, &mut runtime, How::Compact);
     Ok(())
 }
 
@@ -103,7 +115,7 @@ fn a_table_is_wider_than_the_stack(rt: HostRuntime) -> Result<(), Fail> {
 fn a_long_list_is_kept(rt: HostRuntime) -> Result<(), Fail> {
     let mut runtime = runtime_with_stack(rt.alloc(), 1024)?;
     assert_eq!(rt; make_list(&mut runtime, 200_000), Ok(()));
-    expect_collected(&rt, &mut runtime, [200_000, 0, 4_800_000, 0]);
-    expect_collected(&rt, &mut runtime, [200_000, 0, 0, 4_800_000]);
+    expect_collected(&rt, &mut runtime, How::Sweep, [200_000, 0, 4_800_000, 0]);
+    expect_collected(&rt, &mut runtime, How::Compact, [200_000, 0, 0, 4_800_000]);
     Ok(())
 }

@@ -1,13 +1,25 @@
--- What is kept is swept, and empty segments are given back.
-use Rattle.std.proofs.Common.{refl}
+-- What is kept is swept or moved, and empty segments are given back.
+use Rattle.std.proofs.Common.{◌∙◌, refl, sym, arith, true, false}
+use Rattle.clr_model.specs.declared.How.TheVariants.{Compact}
 use Rattle.clr_collect.specs.Collecting.{world_with}
-use Rattle.clr_collect.proofs.WholeCollection.{clean_after, heads_after, limit_after, lost, memory_laid}
+use Rattle.clr_collect.proofs.AfterRelease.{clean_still, heads_still}
+use Rattle.clr_collect.proofs.AfterRelease.{unmarked_still}
+use Rattle.clr_collect.proofs.MovedWorld.{moved_collected, moved_laid}
+use Rattle.clr_collect.proofs.WholeCollection.{clean_after, heads_after, lost, memory_laid}
 use Rattle.clr_collect.proofs.WholeCollection.{new_index, none_given, none_marked}
-use Rattle.clr_collect.proofs.WholeCollection.{whole_collected, whole_tables}
+use Rattle.clr_collect.proofs.WholeCollection.{whole_collected_as, whole_tables}
+use Rattle.clr_collect.proofs.NamedKept.{closed_kept, named_kept, pinned_kept, slots_kept}
 use Rattle.clr_collect.proofs.collecting.collect.Goals as goal
 
 pub mark_kept-requires-clause-world : goal.mark_kept-requires-clause-world
 mark_kept-requires-clause-world c = let (m, w, named, idle) = c.requires.world in (m, w, named)
+
+pub compacts-requires-clause-laid : goal.compacts-requires-clause-laid
+compacts-requires-clause-laid c =
+    memory_laid
+    (world_with c.args.types.now c.args.heap.now c.args.locals.now c.args.handles.now c.args.finals.now)
+    c.mark_kept.new.heap c.mark_kept.new.handles c.mark_kept.new.finals c.args.g c.requires.generation
+    c.mark_kept.ensures.kept c.requires.world
 
 pub sweep-tally-requires-clause-laid : goal.sweep-tally-requires-clause-laid
 sweep-tally-requires-clause-laid c =
@@ -16,77 +28,193 @@ sweep-tally-requires-clause-laid c =
     c.mark_kept.new.heap c.mark_kept.new.handles c.mark_kept.new.finals c.args.g c.requires.generation
     c.mark_kept.ensures.kept c.requires.world
 
-pub sweep-tally-requires-clause-no_contexts : goal.sweep-tally-requires-clause-no_contexts
-sweep-tally-requires-clause-no_contexts c = c.mark_kept.ensures.kept.no_contexts
+pub count-tally-requires-clause-laid : goal.count-tally-requires-clause-laid
+count-tally-requires-clause-laid c =
+    memory_laid
+    (world_with c.args.types.now c.args.heap.now c.args.locals.now c.args.handles.now c.args.finals.now)
+    c.mark_kept.new.heap c.mark_kept.new.handles c.mark_kept.new.finals c.args.g c.requires.generation
+    c.mark_kept.ensures.kept c.requires.world
+
+pub move_survivors-promoted-requires-clause-laid : goal.move_survivors-promoted-requires-clause-laid
+move_survivors-promoted-requires-clause-laid c =
+    memory_laid
+    (world_with c.args.types.now c.args.heap.now c.args.locals.now c.args.handles.now c.args.finals.now)
+    c.mark_kept.new.heap c.mark_kept.new.handles c.mark_kept.new.finals c.args.g c.requires.generation
+    c.mark_kept.ensures.kept c.requires.world
 
 pub release_after-requires-clause-no_contexts : goal.release_after-requires-clause-no_contexts
 release_after-requires-clause-no_contexts c =
     none_given
     (world_with c.args.types.now c.args.heap.now c.args.locals.now c.args.handles.now c.args.finals.now)
     c.mark_kept.new.heap c.mark_kept.new.handles c.mark_kept.new.finals c.args.g c.requires.generation
-    c.mark_kept.ensures.kept c.sweep-tally.new.heap c.lawful-2.ensures c.sweep-tally.ensures.swept c.requires.world
+    c.mark_kept.ensures.kept c.sweep-tally.new.heap c.lawful-then-not-compacts.ensures c.sweep-tally.ensures.swept
+    c.requires.world
 
 pub release_after-requires-clause-tables : goal.release_after-requires-clause-tables
 release_after-requires-clause-tables c =
     whole_tables
     (world_with c.args.types.now c.args.heap.now c.args.locals.now c.args.handles.now c.args.finals.now)
     c.mark_kept.new.heap c.mark_kept.new.handles c.mark_kept.new.finals c.args.g c.requires.generation
-    c.mark_kept.ensures.kept c.sweep-tally.new.heap c.lawful-2.ensures c.sweep-tally.ensures.swept c.requires.world
+    c.mark_kept.ensures.kept c.sweep-tally.new.heap c.lawful-then-not-compacts.ensures c.sweep-tally.ensures.swept
+    c.requires.world
     c.mark_kept.new.cards c.args.bricks.now c.sweep-tally.new.bricks c.mark_kept.ensures.tables
     c.sweep-tally.ensures.spans c.sweep-tally.ensures.brick_law
 
-pub returns-clause-collected : goal.returns-clause-collected
-returns-clause-collected c =
-    whole_collected
+pub returns-then-not-compacts-clause-collected : goal.returns-then-not-compacts-clause-collected
+returns-then-not-compacts-clause-collected c =
+    whole_collected_as
     (world_with c.args.types.now c.args.heap.now c.args.locals.now c.args.handles.now c.args.finals.now)
     c.mark_kept.new.heap c.mark_kept.new.handles c.mark_kept.new.finals c.args.g c.requires.generation
-    c.mark_kept.ensures.kept c.sweep-tally.new.heap c.lawful-2.ensures c.sweep-tally.ensures.swept
-    c.release_after.new.heap c.release_after.ensures.released c.sweep-tally.result c.sweep-tally.ensures.tally _ refl
+    c.mark_kept.ensures.kept c.sweep-tally.new.heap c.lawful-then-not-compacts.ensures c.sweep-tally.ensures.swept
+    c.release_after.new.heap c.release_after.ensures.released c.args.how c.args.threshold
+    (λ n kept memory laid marks same. sym c.if-not-compacts.true ∙ c.compacts.ensures n kept memory laid marks same)
+    c.sweep-tally.result c.sweep-tally.ensures.tally c.answer.result c.answer.ensures c.args.slides.now
 
-pub returns-clause-unmarked : goal.returns-clause-unmarked
-returns-clause-unmarked c =
+pub returns-then-not-compacts-clause-unmarked : goal.returns-then-not-compacts-clause-unmarked
+returns-then-not-compacts-clause-unmarked c =
     none_marked
     (world_with c.args.types.now c.args.heap.now c.args.locals.now c.args.handles.now c.args.finals.now)
     c.mark_kept.new.heap c.mark_kept.new.handles c.mark_kept.new.finals c.args.g c.requires.generation
-    c.mark_kept.ensures.kept c.sweep-tally.new.heap c.lawful-2.ensures c.sweep-tally.ensures.swept
+    c.mark_kept.ensures.kept c.sweep-tally.new.heap c.lawful-then-not-compacts.ensures c.sweep-tally.ensures.swept
     c.release_after.new.heap c.release_after.ensures.released
 
-pub returns-clause-index : goal.returns-clause-index
-returns-clause-index c =
+pub returns-then-not-compacts-clause-index : goal.returns-then-not-compacts-clause-index
+returns-then-not-compacts-clause-index c =
     new_index
     (world_with c.args.types.now c.args.heap.now c.args.locals.now c.args.handles.now c.args.finals.now)
     c.mark_kept.new.heap c.mark_kept.new.handles c.mark_kept.new.finals c.args.g c.requires.generation
-    c.mark_kept.ensures.kept c.sweep-tally.new.heap c.lawful-2.ensures c.sweep-tally.ensures.swept
+    c.mark_kept.ensures.kept c.sweep-tally.new.heap c.lawful-then-not-compacts.ensures c.sweep-tally.ensures.swept
     c.release_after.new.heap c.release_after.ensures.released c.requires.world c.forget.new.self c.forget.ensures
 
-pub returns-clause-clean : goal.returns-clause-clean
-returns-clause-clean c =
+pub returns-then-not-compacts-clause-clean : goal.returns-then-not-compacts-clause-clean
+returns-then-not-compacts-clause-clean c =
     clean_after
     (world_with c.args.types.now c.args.heap.now c.args.locals.now c.args.handles.now c.args.finals.now)
     c.mark_kept.new.heap c.mark_kept.new.handles c.mark_kept.new.finals c.args.g c.requires.generation
-    c.mark_kept.ensures.kept c.sweep-tally.new.heap c.lawful-2.ensures c.sweep-tally.ensures.swept
-    c.release_after.new.heap c.release_after.ensures.released
+    c.mark_kept.ensures.kept c.sweep-tally.new.heap c.lawful-then-not-compacts.ensures c.sweep-tally.ensures.swept
+    c.release_after.new.heap c.release_after.ensures.released c.requires.clean
 
-pub returns-clause-free_heads : goal.returns-clause-free_heads
-returns-clause-free_heads c =
+pub returns-then-not-compacts-clause-free_heads : goal.returns-then-not-compacts-clause-free_heads
+returns-then-not-compacts-clause-free_heads c =
     heads_after
     (world_with c.args.types.now c.args.heap.now c.args.locals.now c.args.handles.now c.args.finals.now)
     c.mark_kept.new.heap c.mark_kept.new.handles c.mark_kept.new.finals c.args.g c.requires.generation
-    c.mark_kept.ensures.kept c.sweep-tally.new.heap c.lawful-2.ensures c.sweep-tally.ensures.swept
+    c.mark_kept.ensures.kept c.sweep-tally.new.heap c.lawful-then-not-compacts.ensures c.sweep-tally.ensures.swept
     c.release_after.new.heap c.release_after.ensures.released c.requires.free_heads
 
-pub returns-clause-held : goal.returns-clause-held
-returns-clause-held c =
+pub returns-then-not-compacts-clause-held : goal.returns-then-not-compacts-clause-held
+returns-then-not-compacts-clause-held c =
     (lost
     (world_with c.args.types.now c.args.heap.now c.args.locals.now c.args.handles.now c.args.finals.now)
     c.mark_kept.new.heap c.mark_kept.new.handles c.mark_kept.new.finals c.args.g c.requires.generation
-    c.mark_kept.ensures.kept c.sweep-tally.new.heap c.lawful-2.ensures c.sweep-tally.ensures.swept
+    c.mark_kept.ensures.kept c.sweep-tally.new.heap c.lawful-then-not-compacts.ensures c.sweep-tally.ensures.swept
     c.release_after.new.heap c.release_after.ensures.released).held
 
-pub returns-clause-limit : goal.returns-clause-limit
-returns-clause-limit c =
-    limit_after
+pub returns-then-not-compacts-clause-room : goal.returns-then-not-compacts-clause-room
+returns-then-not-compacts-clause-room c =
+    let same =
+    pinned_kept
     (world_with c.args.types.now c.args.heap.now c.args.locals.now c.args.handles.now c.args.finals.now)
     c.mark_kept.new.heap c.mark_kept.new.handles c.mark_kept.new.finals c.args.g c.requires.generation
-    c.mark_kept.ensures.kept c.sweep-tally.new.heap c.lawful-2.ensures c.sweep-tally.ensures.swept
-    c.release_after.new.heap c.release_after.ensures.released
+    c.mark_kept.ensures.kept c.requires.world in
+    let room = c.requires.room in
+    omega (arith, same, room)
+
+pub move_survivors-promoted-requires-clause-closed : goal.move_survivors-promoted-requires-clause-closed
+move_survivors-promoted-requires-clause-closed c =
+    closed_kept
+    (world_with c.args.types.now c.args.heap.now c.args.locals.now c.args.handles.now c.args.finals.now)
+    c.mark_kept.new.heap c.mark_kept.new.handles c.mark_kept.new.finals c.args.g c.requires.generation
+    c.mark_kept.ensures.kept c.requires.world
+
+pub move_survivors-promoted-requires-clause-stands : goal.move_survivors-promoted-requires-clause-stands
+move_survivors-promoted-requires-clause-stands c =
+    slots_kept
+    (world_with c.args.types.now c.args.heap.now c.args.locals.now c.args.handles.now c.args.finals.now)
+    c.mark_kept.new.heap c.mark_kept.new.handles c.mark_kept.new.finals c.args.g c.requires.generation
+    c.mark_kept.ensures.kept c.requires.world
+
+pub move_survivors-promoted-requires-clause-named : goal.move_survivors-promoted-requires-clause-named
+move_survivors-promoted-requires-clause-named c =
+    named_kept
+    (world_with c.args.types.now c.args.heap.now c.args.locals.now c.args.handles.now c.args.finals.now)
+    c.mark_kept.new.heap c.mark_kept.new.handles c.mark_kept.new.finals c.args.g c.requires.generation
+    c.mark_kept.ensures.kept c.requires.world
+
+pub move_survivors-promoted-requires-clause-room : goal.move_survivors-promoted-requires-clause-room
+move_survivors-promoted-requires-clause-room c =
+    let same =
+    pinned_kept
+    (world_with c.args.types.now c.args.heap.now c.args.locals.now c.args.handles.now c.args.finals.now)
+    c.mark_kept.new.heap c.mark_kept.new.handles c.mark_kept.new.finals c.args.g c.requires.generation
+    c.mark_kept.ensures.kept c.requires.world in
+    let room = c.requires.room in
+    omega (arith, same, room)
+
+pub renew-requires-clause-laid : goal.renew-requires-clause-laid
+renew-requires-clause-laid c =
+    let (m, is, named, idle) = c.requires.world in
+    moved_laid
+    (world_with c.args.types.now c.args.heap.now c.args.locals.now c.args.handles.now c.args.finals.now)
+    c.mark_kept.new.heap c.mark_kept.new.handles c.mark_kept.new.finals c.args.g c.requires.generation
+    c.mark_kept.ensures.kept c.move_survivors-promoted.new.heap c.lawful-2.ensures
+    c.move_survivors-promoted.ensures.held c.move_survivors-promoted.new.locals c.move_survivors-promoted.new.handles
+    c.move_survivors-promoted.new.finals c.release_after-2.new.heap c.release_after-2.ensures.released
+    c.move_survivors-promoted.result.to1 c.move_survivors-promoted.result.to2 c.args.slides.now
+    c.move_survivors-promoted.new.slides c.move_survivors-promoted.ensures.moved
+    c.move_survivors-promoted.ensures.occupied
+    Compact 0 (λ n kept memory laid marks same. refl)
+    c.count-tally.result c.count-tally.ensures
+    (record {
+      generation = c.args.g;
+      compacted = true;
+      kept = c.count-tally.result.kept;
+      freed = c.count-tally.result.freed;
+      promoted1 = c.move_survivors-promoted.result.to1;
+      promoted2 = c.move_survivors-promoted.result.to2;
+    }) refl m is named idle
+
+pub returns-clause-collected : goal.returns-clause-collected
+returns-clause-collected c m is named idle option =
+    moved_collected
+    (world_with c.args.types.now c.args.heap.now c.args.locals.now c.args.handles.now c.args.finals.now)
+    c.mark_kept.new.heap c.mark_kept.new.handles c.mark_kept.new.finals c.args.g c.requires.generation
+    c.mark_kept.ensures.kept c.move_survivors-promoted.new.heap c.lawful-2.ensures
+    c.move_survivors-promoted.ensures.held c.move_survivors-promoted.new.locals c.move_survivors-promoted.new.handles
+    c.move_survivors-promoted.new.finals c.release_after-2.new.heap c.release_after-2.ensures.released
+    c.move_survivors-promoted.result.to1 c.move_survivors-promoted.result.to2 c.args.slides.now
+    c.move_survivors-promoted.new.slides c.move_survivors-promoted.ensures.moved
+    c.move_survivors-promoted.ensures.occupied
+    c.args.how c.args.threshold
+    (λ n kept memory laid marks same. sym c.if-not-compacts.false ∙ c.compacts.ensures n kept memory laid marks same)
+    c.count-tally.result c.count-tally.ensures c.answer-2.result c.answer-2.ensures m is named idle option
+
+pub returns-clause-unmarked : goal.returns-clause-unmarked
+returns-clause-unmarked c =
+    unmarked_still c.args.types.now c.move_survivors-promoted.new.heap c.lawful-2.ensures
+    c.move_survivors-promoted.ensures.held c.release_after-2.new.heap c.args.g c.release_after-2.ensures.released
+    c.move_survivors-promoted.ensures.unmarked
+
+pub returns-clause-free_heads : goal.returns-clause-free_heads
+returns-clause-free_heads c =
+    heads_still c.args.types.now c.move_survivors-promoted.new.heap c.lawful-2.ensures
+    c.move_survivors-promoted.ensures.held c.release_after-2.new.heap c.args.g c.release_after-2.ensures.released
+    c.move_survivors-promoted.ensures.free_heads
+
+pub returns-clause-clean : goal.returns-clause-clean
+returns-clause-clean c =
+    clean_still c.args.types.now c.move_survivors-promoted.new.heap c.lawful-2.ensures
+    c.move_survivors-promoted.ensures.held c.release_after-2.new.heap c.args.g c.release_after-2.ensures.released
+    c.move_survivors-promoted.ensures.clean
+
+pub returns-clause-room : goal.returns-clause-room
+returns-clause-room c =
+    let same =
+    pinned_kept
+    (world_with c.args.types.now c.args.heap.now c.args.locals.now c.args.handles.now c.args.finals.now)
+    c.mark_kept.new.heap c.mark_kept.new.handles c.mark_kept.new.finals c.args.g c.requires.generation
+    c.mark_kept.ensures.kept c.requires.world in
+    let still = c.move_survivors-promoted.ensures.pinned in
+    let more = c.move_survivors-promoted.ensures.room in
+    let room = c.requires.room in
+    omega (arith, same, still, more, room)

@@ -4,7 +4,7 @@ use Rattle.std.specs.Result.{is_ok}
 use Rattle.std.proofs.lemmas.List.Sums.{prefix_len-le-length}
 use Rattle.clr_types.specs.Ranges.{Piece}
 use Rattle.clr_ctx.specs.Items.{lower_count}
-use Rattle.clr_ctx.proofs.Lists.{put_in}
+use Rattle.clr_ctx.proofs.Lists.{on_ok, put_in}
 use Rattle.clr_ctx.proofs.items.insert_item.Goals as goal
 
 pub insert-requires : goal.insert-requires
@@ -22,5 +22,5 @@ returns c = λ done.
     ∙ ap (λ (q : ℕ). lower_count q ps) c.place.ensures in
     let fine : is_ok c.insert.result ≡ true = sym c.is_ok.ensures.value ∙ done in
     let items : c.insert.new.self.items ≡ insert ps c.count_below-at.result c.args.item =
-    rw fine at c.insert.ensures.items in
+    on_ok c.insert.result fine c.insert.ensures.items in
     items ∙ ap (λ (k : ℕ). insert ps k c.args.item) at ∙ put_in ps c.args.item

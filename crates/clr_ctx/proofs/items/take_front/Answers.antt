@@ -3,17 +3,8 @@ use Rattle.std.specs.List.{remove}
 use Rattle.clr_types.specs.Ranges.{piece_end}
 use Rattle.clr_model.specs.Allocation.{taken_from}
 use Rattle.clr_ctx.specs.Items.{lower_count}
-use Rattle.clr_ctx.proofs.Lists.{spot}
+use Rattle.clr_ctx.proofs.Lists.{on_some, spot}
 use Rattle.clr_ctx.proofs.items.take_front.Goals as goal
-
-pub remove-requires : goal.remove-requires
-remove-requires c =
-    let ps = c.args.items.now.items in
-    let within = (spot ps c.args.item c.requires.rising c.requires.listed).in_range in
-    let at : c.count_below-at.result ≡ lower_count c.args.item.place ps = c.count_below-at.ensures
-    ∙ ap (λ (q : ℕ). lower_count q ps) c.place.ensures in
-    let ok = c.args.items.now.ok in
-    omega (arith, within, at, ok)
 
 pub index_mut-requires : goal.index_mut-requires
 index_mut-requires c =
@@ -31,7 +22,11 @@ returns-then-taken-size c =
     let at : c.count_below-at.result ≡ lower_count x.place ps = c.count_below-at.ensures
     ∙ ap (λ (q : ℕ). lower_count q ps) c.place.ensures in
     let all : x.size ≡ c.args.taken = sym (c.if-taken-size.true ∙ c.size.ensures.value) in
-    c.remove.ensures.items ∙ ap (remove ps) at ∙ sym (spot ps x c.requires.rising c.requires.listed).whole
+    let within = (spot ps x c.requires.rising c.requires.listed).in_range in
+    let ok = c.args.items.now.ok in
+    let removed : c.remove.new.self.items ≡ remove ps c.count_below-at.result =
+    on_some c.remove.result (c.remove.ensures.variant.1 (omega (arith, within, at, ok))) c.remove.ensures.items in
+    removed ∙ ap (remove ps) at ∙ sym (spot ps x c.requires.rising c.requires.listed).whole
     ∙ ap (λ (n : ℕ). taken_from x.place n ps) all
 
 pub returns-else-taken-size : goal.returns-else-taken-size

@@ -1,12 +1,13 @@
 -- A command that is built is obeyed, and another refused.
 use Rattle.std.proofs.Common.{◌∙◌, ap, sym, refl, true≢false}
+use Rattle.std.proofs.lemmas.Bool.{le-leb, lt-leb}
 use Rattle.std.proofs.lemmas.Slice.Eq.{bytes_eq-Decides}
 use Rattle.clr_model.specs.Instructions.{instruction_of}
 use Rattle.clr_model.specs.declared.command.Command.{Command}
 use Rattle.clr_model.specs.declared.command.Command.TheVariants.{Define, New, Get, Set, Put, Read, Copy, Clear, Collect}
-use Rattle.clr_run.proofs.LineSteps.{command_follows, sweep_is, is_listing, listing_follows, options_refused}
+use Rattle.clr_run.proofs.LineSteps.{command_follows, is_listing, listing_follows, options_refused}
 use Rattle.clr_run.proofs.LineSteps.{not_on_handles, other_unbuilt, unbuilt_follows}
-use Rattle.clr_run.proofs.execute.obey.Goals.{in_default-via-in-Collect+else-is_sweep}
+use Rattle.clr_run.proofs.execute.obey.Goals.{in_default-via-in-Collect+else-g-le2}
 use Rattle.clr_run.proofs.execute.obey.Goals.{in_default-via-in-DumpHeap+else-eq, in_default-via-in_default}
 use Rattle.clr_run.proofs.execute.obey.Goals as goal
 
@@ -58,21 +59,13 @@ returns-in-Clear-clause-follows c =
     (command_follows c.args.line.now (Clear c.in-Clear.t c.in-Clear.local) c.requires.short
     (rw c.in-Clear.is at c.requires.read) c.args.runtime.now c.clear.new.self _ refl refl c.clear.ensures)
 
-pub collect-requires-clause-generation : goal.collect-requires-clause-generation
-collect-requires-clause-generation c = (sweep_is c.in-Collect.g c.in-Collect.how
-    (sym c.is_sweep.ensures ∙ c.if-is_sweep.true)).0
-
-pub collect-requires-clause-sweeping : goal.collect-requires-clause-sweeping
-collect-requires-clause-sweeping c = (sweep_is c.in-Collect.g c.in-Collect.how
-    (sym c.is_sweep.ensures ∙ c.if-is_sweep.true)).1
-
 pub returns-in-Collect-clause-follows : goal.returns-in-Collect-clause-follows
 returns-in-Collect-clause-follows c =
     let d = c.in-Collect in
     rw c.told_collected.ensures.is
     (command_follows c.args.line.now (Collect d.t d.g d.how) c.requires.short
     (rw d.is at c.requires.read) c.args.runtime.now c.collect.new.self _
-    refl (sym c.is_sweep.ensures ∙ c.if-is_sweep.true) c.collect.ensures)
+    refl (le-leb d.g 2 c.if-g-le2.true) c.collect.ensures)
 
 pub returns-in-DumpHeap-clause-follows : goal.returns-in-DumpHeap-clause-follows
 returns-in-DumpHeap-clause-follows c = listing_follows c.args.runtime.now c.args.line.now _
@@ -82,11 +75,10 @@ returns-in-DumpHeap-clause-follows c = listing_follows c.args.runtime.now c.args
 pub returns-in_default-clause-follows : goal.returns-in_default-clause-follows
 returns-in_default-clause-follows c =
     elim c.in_default.branch [
-      | in_default-via-in-Collect+else-is_sweep w ↦
+      | in_default-via-in-Collect+else-g-le2 w ↦
           let d = w.in-Collect in
           unbuilt_follows c.args.line.now (Collect d.t d.g d.how) c.requires.short
-          (rw d.is at c.requires.read) c.args.runtime.now
-          refl (sym w.is_sweep.ensures ∙ w.if-is_sweep.false)
+          (rw d.is at c.requires.read) c.args.runtime.now refl (lt-leb d.g 2 w.if-g-le2.false)
       | in_default-via-in-DumpHeap+else-eq w ↦ options_refused c.args.runtime.now c.args.line.now c.args.command
           c.requires.short c.requires.read (ap (λ (k : Command). is_listing (instruction_of k)) w.in-DumpHeap.is)
           (λ e. true≢false (sym ((bytes_eq-Decides c.args.line.now w.as_slice.result.now).1

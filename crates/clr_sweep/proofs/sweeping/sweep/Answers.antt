@@ -1,12 +1,9 @@
-use Rattle.std.proofs.Common.{◌≡◌, inl, inr, ℕ, ◌≤◌, ap, sym, ◌∙◌, subst, arith}
-use Rattle.std.proofs.lemmas.Bool.{cases_lt}
+use Rattle.std.proofs.Common.{ap, sym, ◌∙◌, subst}
 use Rattle.clr_sweep.specs.Swept.{HasSwept, tally_of}
 use Rattle.clr_sweep.proofs.WholeSwept.{has_counted, has_swept}
+use Rattle.clr_sweep.proofs.YoungPart.{below_two}
 use Rattle.clr_sweep.proofs.YoungWhole.{has_counted_young, has_swept_young}
 use Rattle.clr_sweep.proofs.sweeping.sweep.Goals as goal
-
-below_two : (g : ℕ) → g ≤ 2 → (g ≡ 2 → ⊥) → g ≤ 1
-below_two g most ne = elim (cases_lt g 2) [ inl l ↦ omega arith | inr l ↦ absurd (ne (omega arith)) ]
 
 pub sweep_part-requires-clause-generation : goal.sweep_part-requires-clause-generation
 sweep_part-requires-clause-generation c = below_two c.args.g c.requires.generation c.if-g-eq2.false

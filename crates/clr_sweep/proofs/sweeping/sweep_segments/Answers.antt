@@ -31,7 +31,7 @@ loop-k-preserved c =
 
 pub returns-clause-swept : goal.returns-clause-swept
 returns-clause-swept c =
-    let count = c.loop-k.invariant.count in
+    let count = c.loop-k.invariant.all.count in
     let n = c.segments-count.ensures.count in
     rw c.age.ensures (all_swept c.args.types.now c.args.heap.now c.loop-k.heap c.loop-k.k c.loop-k.tally
     c.loop-k.invariant (omega (arith, count, n, c.loop-k-test.false)))

@@ -26,6 +26,8 @@ invariant_of-self c =
       tables = c.self.invariant.tables;
       index = c.self.invariant.index;
       limit = c.self.invariant.limit;
+      pins = c.self.invariant.pins;
+      room = c.self.invariant.room;
     }
 
 pub returns : goal.returns

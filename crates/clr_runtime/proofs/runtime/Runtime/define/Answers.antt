@@ -49,4 +49,6 @@ invariant_of-self c =
           (new_row c.args.name.now form c.args.finalizer) c.define.result r.contexts c.self.invariant.shown.held
           c.define.ensures.defined c.define.ensures.err c.self.invariant.index;
       limit = c.self.invariant.limit;
+      pins = c.self.invariant.pins;
+      room = c.self.invariant.room;
     }

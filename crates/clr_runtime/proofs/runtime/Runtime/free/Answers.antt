@@ -9,6 +9,7 @@ use Rattle.clr_view.specs.Shown.{shown}
 use Rattle.clr_runtime.specs.Options.{options_of}
 use Rattle.clr_runtime.specs.RuntimeView.{seen, sums_of, world_of}
 use Rattle.clr_runtime.proofs.HandleLines.{free_missing, freed}
+use Rattle.clr_runtime.proofs.PinnedRoom.{room_kept}
 use Rattle.clr_runtime.proofs.NamesChecked.{thread_refused}
 use Rattle.clr_runtime.proofs.RuntimeKept.{names_kept}
 use Rattle.clr_runtime.proofs.runtime.Runtime.free.Goals as goal
@@ -37,6 +38,8 @@ invariant_of-self c =
       tables = c.self.invariant.tables;
       index = c.self.invariant.index;
       limit = c.self.invariant.limit;
+      pins = c.self.invariant.pins;
+      room = room_kept r.handles c.free.new.self c.args.h r.pins.spare c.free.ensures.table c.self.invariant.room;
     }
 
 pub returns-in_default-free : goal.returns-in_default-free
@@ -60,6 +63,8 @@ invariant_of-self-2 c =
       tables = c.self.invariant.tables;
       index = c.self.invariant.index;
       limit = c.self.invariant.limit;
+      pins = c.self.invariant.pins;
+      room = room_kept r.handles c.free.new.self c.args.h r.pins.spare c.free.ensures.table c.self.invariant.room;
     }
 
 pub returns : goal.returns

@@ -17,7 +17,7 @@ use Rattle.clr_runtime.proofs.NamesChecked.{names_refused}
 use Rattle.clr_runtime.proofs.RuntimeKept.{names_kept}
 use Rattle.clr_runtime.proofs.runtime.Runtime.handle.Goals as goal
 use Rattle.clr_runtime.proofs.runtime.Runtime.handle.Goals.{After-is_dependent, In_default, in-Err, in-Ok}
-use Rattle.clr_runtime.proofs.runtime.Runtime.handle.Goals.{Joined-create}
+use Rattle.clr_runtime.proofs.runtime.Runtime.handle.Goals.{Joined-create_with_room}
 
 pub returns-in-Some : goal.returns-in-Some
 returns-in-Some c =
@@ -49,9 +49,9 @@ returns-then-target-eq0 c =
     (sym c.is_dependent.ensures ∙ c.if-is_dependent.true) c.if-target-eq0.true)
 
 -- what the table answers is told
-followed : (c : Joined-create) → Follows (seen c.self.inside)
-    (create_handle c.args.t c.args.kind c.args.local c.args.second) (handle_outcome c.match-create.result)
-    (shown (record (world_of c.self.inside) { handles = c.create.new.self }) (sums_of c.self.inside.sums)
+followed : (c : Joined-create_with_room) → Follows (seen c.self.inside)
+    (create_handle c.args.t c.args.kind c.args.local c.args.second) (handle_outcome c.match-create_with_room.result)
+    (shown (record (world_of c.self.inside) { handles = c.create_with_room.new.handles }) (sums_of c.self.inside.sums)
     (options_of c.self.inside.options))
 followed c =
     let r = c.self.inside in
@@ -61,27 +61,29 @@ followed c =
       | inl primary ↦ primary.1
       | inr none ↦ absurd (both_ways c.is_dependent.result none (c.is_dependent.ensures ∙ dependent))
     ] in
-    let told : IsCreated r.handles c.create.new.self (record {
+    let told : IsCreated r.handles c.create_with_room.new.handles (record {
       kind = c.args.kind;
       target = c.index-target.result.now;
       second = c.held_by-other.result;
-    }) c.create.result = record {
-      free = c.create.ensures.free;
-      below = c.create.ensures.below;
-      created = c.create.ensures.created;
-      too_many = c.create.ensures.too_many;
-      err = c.create.ensures.err;
+    }) c.create_with_room.result = record {
+      free = c.create_with_room.ensures.free;
+      below = c.create_with_room.ensures.below;
+      created = c.create_with_room.ensures.created;
+      too_many = c.create_with_room.ensures.too_many;
+      err = c.create_with_room.ensures.err;
     } in
-    elim c.match-create.branch [
+    elim c.match-create_with_room.branch [
       | in-Ok w ↦ rw w.result-is
           (created (world_of r) _ _ c.args.t c.args.kind c.args.local c.args.second c.requires.form
           (passed at.In_default) c.index-target.result.now (target-is at.After-is_dependent) some c.held_by-other.result
-          (rw c.deref.ensures.value at c.held_by-other.ensures) c.create.new.self c.create.result told w.in-Ok.h
+          (rw c.deref.ensures.value at c.held_by-other.ensures)
+          c.create_with_room.new.handles c.create_with_room.result told w.in-Ok.h
           w.in-Ok.is)
       | in-Err w ↦ rw (w.result-is, w.refusal_of.ensures)
           (create_refused (world_of r) _ _ c.args.t c.args.kind c.args.local c.args.second c.requires.form
           (passed at.In_default) c.index-target.result.now (target-is at.After-is_dependent) some c.held_by-other.result
-          (rw c.deref.ensures.value at c.held_by-other.ensures) c.create.new.self c.create.result told w.in-Err.fault
+          (rw c.deref.ensures.value at c.held_by-other.ensures)
+          c.create_with_room.new.handles c.create_with_room.result told w.in-Err.fault
           w.in-Err.is)
     ]
 
@@ -90,10 +92,13 @@ invariant_of-self c =
     let r = c.self.inside in
     let is = c.self.invariant.shown in
     record {
-      shown = names_kept is _ _ r.locals.items c.create.new.self r.finals.entries r.finals.ready is.locals (followed c);
+      shown = names_kept is _ _ r.locals.items c.create_with_room.new.handles r.finals.entries r.finals.ready is.locals
+          (followed c);
       tables = c.self.invariant.tables;
       index = c.self.invariant.index;
       limit = c.self.invariant.limit;
+      pins = c.create_with_room.ensures.entries ∙ c.self.invariant.pins;
+      room = c.create_with_room.ensures.room;
     }
 
 pub returns : goal.returns

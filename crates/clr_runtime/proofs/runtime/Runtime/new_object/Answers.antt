@@ -39,6 +39,8 @@ invariant_of-self c =
       tables = c.self.invariant.tables;
       index = c.self.invariant.index;
       limit = c.self.invariant.limit;
+      pins = c.self.invariant.pins;
+      room = c.self.invariant.room;
     }
 
 pub returns-in_default-reserve_entry : goal.returns-in_default-reserve_entry
@@ -126,6 +128,8 @@ invariant_of-self-2 c =
           newborn c.make_room.ensures.index;
       limit = birth_limit r.types r.heap c.make_room.new.heap born.new.heap c.args.t made.0.0 n made.1 room
           (rw c.unwrap_or.ensures at born.ensures.words) ∙ c.self.invariant.limit;
+      pins = c.self.invariant.pins;
+      room = c.self.invariant.room;
     }
 
 pub returns : goal.returns

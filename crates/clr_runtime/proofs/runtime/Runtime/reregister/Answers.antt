@@ -91,6 +91,8 @@ invariant_of-self c =
       tables = tables-flagged r.cards r.bricks r.types r.heap new _ _ set.flagged c.self.invariant.tables;
       index = same_index r.types r.types r.heap new r.contexts set.flagged.layout c.self.invariant.index;
       limit = ap (λ (h : HeapView). h.limit) set.words ∙ c.self.invariant.limit;
+      pins = c.self.invariant.pins;
+      room = c.self.invariant.room;
     }
 
 pub returns-then-is_suppressed : goal.returns-then-is_suppressed
@@ -132,6 +134,8 @@ invariant_of-self-2 c =
       tables = c.self.invariant.tables;
       index = c.self.invariant.index;
       limit = c.self.invariant.limit;
+      pins = c.self.invariant.pins;
+      room = c.self.invariant.room;
     }
 
 pub returns : goal.returns

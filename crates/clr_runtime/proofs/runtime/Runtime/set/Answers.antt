@@ -59,6 +59,8 @@ invariant_of-self c =
       index = same_index r.types r.types r.heap done.new.heap r.contexts stored.layout c.self.invariant.index;
       limit = stored_limit r.types r.heap done.new.heap c.in-Ok.found.item c.in-Ok.found.slot
           c.index-name.result.now done.ensures.words ∙ c.self.invariant.limit;
+      pins = c.self.invariant.pins;
+      room = c.self.invariant.room;
     }
 
 pub returns : goal.returns

@@ -1,0 +1,164 @@
+-- The whole collection that compacts, of every machine whose world it is: what counts and moves tell makes its answer.
+use Rattle.std.proofs.Common.{◌≡◌, ℕ, ◌+◌, ◌-◌, ◌^◌, ◌≤◌, ◌==◌, ◌&&◌, Bool, true, not, List}
+use Rattle.std.proofs.Common.{count_by}
+use Rattle.std.proofs.Common.{min, refl, ap, sym, ◌∙◌, subst, None}
+use Rattle.std.specs.Prelude.{MatchBool}
+use Rattle.std.specs.FinMap.{FinMap}
+use Rattle.std.specs.Ordering.{nat_cmp}
+use Rattle.clr_types.specs.declared.handle.Handle.{Handle}
+use Rattle.clr_final.specs.Queues.{Queues}
+use Rattle.clr_heap.specs.View.{HeapView, IsHeap}
+use Rattle.clr_model.specs.declared.Collected.{Collected}
+use Rattle.clr_model.specs.declared.How.{How}
+use Rattle.clr_model.specs.declared.How.TheVariants.{Compact}
+use Rattle.clr_model.specs.Collection.{begun, Collects, compacts, decides_to_compact}
+use Rattle.clr_model.specs.Compaction.{Move}
+use Rattle.clr_moves.specs.Moves.{moved_bytes}
+use Rattle.clr_model.specs.Lawful.{IsLaid, IsPlaceNamed}
+use Rattle.clr_model.specs.Lookups.{lowest_in_step}
+use Rattle.clr_model.specs.Machine.{Machine}
+use Rattle.clr_model.specs.Picture.{picture}
+use Rattle.clr_model.specs.Sweep.{is_condemned, Survivor, survivors}
+use Rattle.clr_model.proofs.CollectedLawful.{stays_lawful}
+use Rattle.clr_model.proofs.CollectionLaws.{picture_laid}
+use Rattle.clr_view.specs.Memory.{is_marked, is_reached_by, IsMemoryOf, TestsMarks}
+use Rattle.clr_view.specs.View.{IsHeld}
+use Rattle.clr_view.specs.World.{IsWorldOf, World}
+use Rattle.clr_sweep.specs.Swept.{is_kept, tally_of}
+use Rattle.clr_sweep.specs.declared.tally.Tally.{Tally}
+use Rattle.clr_survivors.specs.Survivors.{HaveMoved}
+use Rattle.clr_collect.specs.Collecting.{CountsSlides, HasMarkedKept, world_with}
+use Rattle.clr_collect.specs.Released.{HasObjects, HasReleased}
+use Rattle.clr_collect.proofs.SweepCollects.{counted, freed-is, kept-is, survive-plain}
+use Rattle.clr_collect.proofs.WholeCollection.{begun_laid, due, due_laid, due_memory}
+use Rattle.clr_collect.proofs.WholeMoved.{collects, collects_moves, left, next, ready_laid, ready_machine, ready_memory}
+use Rattle.clr_collect.proofs.WholeMoved.{world-is}
+
+module _ (w : World) (marked : HeapView) (handles : FinMap nat_cmp Handle) (queues : Queues)
+    (g : ℕ) (least : g ≤ 2) (k : HasMarkedKept w marked handles queues g) (gone : HeapView)
+    (gone_heap : IsHeap gone) (gone_held : IsHeld w.rows gone) (locals : List ℕ) (table : FinMap nat_cmp Handle)
+    (after_queues : Queues) (new : HeapView)
+    (ended : MatchBool (g == 2) (HasReleased w.rows gone new) (new ≡ gone))
+    (promoted1 promoted2 before_count after_count : ℕ)
+    (moves : (n : Machine) (kept : ℕ → Bool) → IsMemoryOf w.rows marked n → IsLaid n → n.handles ≡ handles
+    → TestsMarks w.rows marked g kept
+    → HaveMoved (world_with w.rows marked w.locals handles queues) (world_with w.rows gone locals table after_queues)
+    g n
+    kept promoted1 promoted2 before_count after_count)
+    (full : g ≡ 2 → HasObjects w.rows gone)
+    (how : How) (threshold : ℕ)
+    (decides : (m : Machine) (kept : ℕ → Bool) → IsMemoryOf w.rows marked m → IsLaid m
+    → TestsMarks w.rows marked g kept → m.options.compact ≡ threshold
+    → true ≡ compacts how (decides_to_compact m g (survivors m g kept)))
+    (tally : Tally) (counts : tally ≡ tally_of w.rows marked g) (answer : Collected)
+    (told : answer ≡ record {
+      generation = g;
+      compacted = true;
+      kept = tally.kept;
+      freed = tally.freed;
+      promoted1 = promoted1;
+      promoted2 = promoted2;
+    }) where
+  module _ (m : Machine) (is : IsWorldOf w m) (named : IsPlaceNamed m) (idle : lowest_in_step m ≡ None) where
+    moved : HaveMoved (world_with w.rows marked w.locals handles queues)
+        (world_with w.rows gone locals table after_queues) g (ready_machine w marked handles queues g least k m)
+        (left w marked handles queues g least k) promoted1 promoted2 before_count after_count
+    moved =
+        moves (ready_machine w marked handles queues g least k m) (left w marked handles queues g least k)
+        (ready_memory w marked handles queues g least k m is named)
+        (ready_laid w marked handles queues g least k m named) (sym (k.leaves m is named).handles) k.marks
+
+    answered : answer ≡ record {
+      generation = g;
+      compacted = true;
+      kept = count_by (λ o. is_condemned (begun m) g o && left w marked handles queues g least k o.name) m.objects;
+      freed = count_by (λ o. is_condemned (begun m) g o && not (left w marked handles queues g least k o.name))
+          m.objects;
+      promoted1 = promoted1;
+      promoted2 = promoted2;
+    }
+    answered =
+        told
+        ∙ ap (λ (t : Tally). record {
+          generation = g;
+          compacted = true;
+          kept = t.kept;
+          freed = t.freed;
+          promoted1 = promoted1;
+          promoted2 = promoted2;
+        }) counts
+        ∙ (λ t. record {
+          generation = g;
+          compacted = true;
+          kept =
+              counted (begun m) (begun_laid w marked handles queues g least k m named) g least k.first
+              (left w marked handles queues g least k) (k.leaves m is named).tests w.rows marked
+              (due_memory w marked handles queues g least k m is named) k.marks (is_kept marked g)
+              (λ o. is_condemned (begun m) g o && left w marked handles queues g least k o.name)
+              (kept-is (begun m) (begun_laid w marked handles queues g least k m named) g least k.first
+              (left w marked handles queues g least k) (k.leaves m is named).tests w.rows marked
+              (due_memory w marked handles queues g least k m is named) k.marks) t;
+          freed =
+              counted (begun m) (begun_laid w marked handles queues g least k m named) g least k.first
+              (left w marked handles queues g least k) (k.leaves m is named).tests w.rows marked
+              (due_memory w marked handles queues g least k m is named) k.marks
+              (λ o. is_reached_by marked g o.place && not (is_marked marked o))
+              (λ o. is_condemned (begun m) g o && not (left w marked handles queues g least k o.name))
+              (freed-is (begun m) (begun_laid w marked handles queues g least k m named) g least k.first
+              (left w marked handles queues g least k) (k.leaves m is named).tests w.rows marked
+              (due_memory w marked handles queues g least k m is named) k.marks) t;
+          promoted1 = promoted1;
+          promoted2 = promoted2;
+        })
+
+    -- the heap that is left is that of a lawful machine, whatever was to decide
+    pub moved_laid : (n : Machine) × IsMemoryOf w.rows new n × IsLaid n
+    moved_laid =
+        let next' =
+        next w marked handles queues g least k gone gone_heap gone_held locals table after_queues new ended m is named
+        idle promoted1 promoted2 before_count after_count moved Compact refl full answer in
+        let c =
+        collects w marked handles queues g least k gone gone_heap gone_held locals table after_queues new ended m is
+        named idle promoted1 promoted2 before_count after_count moved Compact refl full answer answered in
+        let world =
+        world-is w marked handles queues g least k gone gone_heap gone_held locals table after_queues new ended m is
+        named idle promoted1 promoted2 before_count after_count moved Compact refl full answer c in
+        let lawful = stays_lawful m named.lawful idle g least Compact answer next' c in
+        (picture next', world.memory, picture_laid next' lawful.laid)
+
+    module _ (option : m.options.compact ≡ threshold) where
+      decided : compacts how (decides_to_compact (begun m) g
+          (survivors (begun m) g (left w marked handles queues g least k))) ≡ true
+      decided =
+          ap (λ (ss : List Survivor). compacts how (decides_to_compact (begun m) g ss))
+          (sym (survive-plain (begun m) (begun_laid w marked handles queues g least k m named) g least k.first
+          (left w marked handles queues g least k) (k.leaves m is named).tests))
+          ∙ sym (decides (due w marked handles queues g least k m) (left w marked handles queues g least k)
+          (due_memory w marked handles queues g least k m is named) (due_laid w marked handles queues g least k m named)
+          k.marks option)
+
+      -- THE COLLECTION
+      pub moved_collected : (after : Machine) × (c : Collects m g how answer after)
+          × IsWorldOf (world_with w.rows new locals table after_queues) (picture after)
+          × CountsSlides c.moves answer before_count after_count
+      moved_collected =
+          let c =
+          collects w marked handles queues g least k gone gone_heap gone_held locals table after_queues new ended m is
+          named
+          idle promoted1 promoted2 before_count after_count moved how decided full answer answered in (
+            next w marked handles queues g least k gone gone_heap gone_held locals table after_queues new ended m is named
+                idle promoted1 promoted2 before_count after_count moved how decided full answer,
+            c,
+            world-is w marked handles queues g least k gone gone_heap gone_held locals table after_queues new ended m is
+                named
+                idle promoted1 promoted2 before_count after_count moved how decided full answer c,
+            subst (λ (b : Bool). MatchBool b
+                (after_count ≡ min (2 ^ 64 - 1) (before_count + (1 + moved_bytes c.moves))) (after_count ≡ before_count))
+                (sym (ap (λ (a : Collected). a.compacted) told))
+                (moved.slid
+                ∙ ap (λ (vs : List Move). min (2 ^ 64 - 1) (before_count + (1 + moved_bytes vs)))
+                (sym (collects_moves w marked handles queues g least k gone gone_heap gone_held locals table after_queues
+                new
+                ended m is named idle promoted1 promoted2 before_count after_count moved how decided full answer
+                answered))),
+          )

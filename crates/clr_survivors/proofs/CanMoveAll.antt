@@ -1,0 +1,154 @@
+-- References can be relocated, and all that is named may go.
+use Rattle.std.proofs.Common.{◌≡◌, inl, inr, ℕ, ◌<◌, ◌≤◌, Bool, true, not, ◌||◌, List, refl, ap, sym, ◌∙◌, subst}
+use Rattle.std.proofs.Common.{arith}
+use Rattle.std.proofs.Common.{Some}
+use Rattle.std.specs.FinMap as finmap
+use Rattle.std.specs.FinMap.{FinMap}
+use Rattle.std.specs.Ordering.{nat_cmp}
+use Rattle.clr_types.specs.Rising.{IsIn}
+use Rattle.clr_types.specs.Segments.{Layout}
+use Rattle.clr_types.specs.Types.{TypeRow}
+use Rattle.clr_types.specs.declared.handle.Handle.{Handle}
+use Rattle.clr_bricks.specs.Bricks.{entry_at}
+use Rattle.clr_cards.specs.Cards.{is_card_set}
+use Rattle.clr_covers.specs.Covers.{CoverView, spans}
+use Rattle.clr_final.specs.Queues.{Queues}
+use Rattle.clr_generations.specs.Laws.{CardLaw}
+use Rattle.clr_generations.specs.Tables.{AreBricksOf, AreCardsOf, AreTablesOf}
+use Rattle.clr_heap.specs.View.{frame, HeapView, IsHeap, no_rests}
+use Rattle.clr_model.specs.Compaction.{moved_by}
+use Rattle.clr_model.specs.Lawful.{IsLaid}
+use Rattle.clr_model.specs.Machine.{Machine, Object}
+use Rattle.clr_model.specs.Reach.{SlotNames}
+use Rattle.clr_view.specs.Clean.{AreClean}
+use Rattle.clr_mark.specs.Marks.{is_condemned_place}
+use Rattle.clr_view.specs.Marks.{Marked}
+use Rattle.clr_view.specs.Memory.{is_left, is_marked, is_reached_by, IsLeft, IsMemoryOf}
+use Rattle.clr_view.specs.SlotValues.{StandsAt}
+use Rattle.clr_view.specs.View.{AreFreeHeads, IsHeld, objects_in}
+use Rattle.clr_view.proofs.LeftNames.{name-is-place}
+use Rattle.clr_moves.specs.Moves.{IsInPart}
+use Rattle.clr_moves.specs.Overlaid.{HoldsPlan, MayGo}
+use Rattle.clr_moves.specs.declared.planned.Planned.{Planned}
+use Rattle.clr_moves.proofs.PlacesInPlugs.{none_at_zero, outside_stays}
+use Rattle.clr_pinq.specs.declared.entry.PinEntry.{PinEntry}
+use Rattle.clr_plugs.specs.BrickEntries.{BricksView}
+use Rattle.clr_survivors.specs.Phases.{CanMove, HasPlannedPinned}
+use Rattle.clr_survivors.specs.Survivors.{AreClosed, IsNullOrLeft, NameLeft, world_with}
+use Rattle.clr_survivors.proofs.LeftGoes.{left-goes, none-null}
+use Rattle.clr_survivors.proofs.OldParts.{memory_old_parts}
+use Rattle.clr_survivors.proofs.PinsTold.{frame-kept, marked-kept}
+
+-- one of the objects stands at the place
+abbrev StandsIn : List Object → ℕ → Type 0
+StandsIn os place = (o : Object) × IsIn o os × (o.place ≡ place)
+
+-- What is given before survivors move.
+pub record IsGiven (rows : List TypeRow) (h : HeapView) (cards : List (CoverView ℕ)) (bricks : BricksView)
+    (locals : List ℕ) (table : FinMap nat_cmp Handle) (queues : Queues) (g : ℕ) : Type 0 where
+  pub generation : g ≤ 2
+  pub heap : IsHeap h
+  pub held : IsHeld rows h
+  pub no_contexts : h.rests ≡ no_rests
+  pub laid : (n : Machine) × IsMemoryOf rows h n × IsLaid n
+  pub clean : AreClean rows h
+  pub free_heads : AreFreeHeads rows h
+  pub young : (x : ℕ) → Marked rows h x → is_condemned_place h g x ≡ true
+  pub closed : AreClosed rows h g
+  pub stands : (x y : ℕ) → SlotNames (objects_in rows h) x y → StandsAt rows h y
+  pub named : NameLeft (world_with rows h locals table queues) g
+  pub tables : AreTablesOf rows h cards bricks
+  pub numbers : (k : ℕ) (row : Handle) → finmap.get table k ≡ Some row → k < 65536
+
+module _ (rows : List TypeRow) (old new : HeapView) (cards : List (CoverView ℕ)) (before bricks : BricksView)
+    (locals : List ℕ) (table : FinMap nat_cmp Handle) (queues : Queues) (g : ℕ) (entries : List PinEntry)
+    (planned : Planned) (given : IsGiven rows old cards before locals table queues g) (m : Machine) (kept : ℕ → Bool)
+    (p : HasPlannedPinned rows old new before bricks entries table g m kept planned) where
+  abbrev pub view-of : HeapView
+  view-of = p.view
+
+  -- the heap with its pins, as it was otherwise
+  pub frame-view : frame p.view ≡ frame old
+  frame-view = frame-kept rows old p.view table given.heap given.held true p.pins
+
+  pub left-view : (o : Object) → IsIn o (objects_in rows old) → is_left p.view g o ≡ is_left old g o
+  left-view o i =
+      ap (λ (b : Bool). not (is_reached_by p.view g o.place) || b)
+      (marked-kept rows old p.view table given.heap given.held true p.pins o i)
+      ∙ ap (λ (h : HeapView). not (is_reached_by h g o.place) || is_marked old o) p.pins.shape.others
+
+  pub holds-plan : HoldsPlan rows p.view new bricks entries g p.plan.moves planned.start1 planned.start0
+  holds-plan = record {
+    overlaid = p.plan.overlaid;
+    told = p.plan.told;
+    held = p.pins.held;
+    no_contexts = ap (λ (h : HeapView). h.rests) p.pins.shape.others ∙ given.no_contexts;
+    machine = m;
+    kept = kept;
+    after = p.plan.after;
+    compaction = p.plan.compaction;
+    start1_is = p.plan.start1_is;
+    start0_is = p.plan.start0_is;
+  }
+
+  -- an object that is left may go
+  pub object-goes : (o : Object) → IsIn o (objects_in rows old) → is_left old g o ≡ true
+      → MayGo p.view g p.plan.moves o.place
+  object-goes o i left =
+      left-goes rows p.view g p.plan.moves m kept p.plan.after given.generation p.plan.compaction o
+      (subst (λ (os : List Object). IsIn o os) (sym p.pins.objects) i) (left-view o i ∙ left)
+
+  pub name-goes : (x : ℕ) → IsLeft rows old g x → MayGo p.view g p.plan.moves x
+  name-goes x left =
+      subst (MayGo p.view g p.plan.moves) (sym (name-is-place rows old left.object left.present) ∙ left.named)
+      (object-goes left.object left.present left.left)
+
+  pub may-go : (x : ℕ) → IsNullOrLeft rows old g x → MayGo p.view g p.plan.moves x
+  may-go x (inl null) =
+      inl (λ t is. none-null rows p.view g p.plan.moves m kept p.plan.after given.generation p.plan.compaction t
+      (subst (λ (n : ℕ). IsInPart p.view g t n) null is))
+  may-go x (inr left) = name-goes x left
+
+  pub null-stays : IsHeap new → moved_by p.plan.moves 0 ≡ 0
+  null-stays heap =
+      sym (outside_stays rows new bricks g p.plan.moves heap p.plan.told 0
+      (none_at_zero rows p.view new bricks entries g p.plan.moves planned.start1 planned.start0 heap holds-plan 0 refl))
+
+  pub can-move : IsHeap new → spans bricks ≡ spans before → CanMove rows p.view new cards bricks entries g p.plan.moves
+      (entry_at before) planned locals table queues
+  can-move heap same = record {
+    relocates = record {
+      plan = holds-plan;
+      followed = λ o j x i left slot.
+          let was = subst (λ (os : List Object). IsIn o os) p.pins.objects i in
+          may-go x (given.closed o j x was (sym (left-view o was) ∙ left) slot);
+      card_law = subst (λ (l : Layout). CardLaw rows l (objects_in rows p.view) (is_card_set cards)) (sym frame-view)
+          (subst (λ (os : List Object). CardLaw rows (frame old) os (is_card_set cards)) (sym p.pins.objects)
+          given.tables.card_law);
+      cards_of = subst (λ (l : Layout). AreCardsOf l cards) (sym frame-view) given.tables.cards;
+      bricks_of = subst (λ (l : Layout). AreBricksOf l bricks) (sym frame-view) (same ∙ given.tables.bricks);
+      remembered = p.remembered;
+      named = λ x y names.
+          subst (λ (os : List Object). StandsIn os y) (sym p.pins.objects)
+          (given.stands x y (subst (λ (os : List Object). SlotNames os x y) p.pins.objects names));
+      old_parts = λ young.
+          memory_old_parts rows p.view p.plan.overlaid.heap p.pins.held holds-plan.no_contexts m
+          p.plan.compaction.memory p.plan.compaction.laid g (omega (arith, young));
+    };
+    names = record {
+      locals_go = λ x i. may-go x (given.named.locals x i);
+      handles_go = record {
+        targets = λ k row found. may-go row.target (given.named.targets k row found);
+        seconds = λ k row found. may-go row.second (given.named.seconds k row found);
+      };
+      entries_go = λ x i. name-goes x (given.named.entries x i);
+      ready_go = λ x i. name-goes x (given.named.ready x i);
+      null = null-stays heap;
+    };
+  }
+
+-- what is left stands there
+pub left-stands : (rows : List TypeRow) (h : HeapView) (g x : ℕ) → 0 < x → IsNullOrLeft rows h g x → StandsAt rows h x
+left-stands rows h g x some (inl null) = absurd (omega (arith, some, null))
+left-stands rows h g x some (inr left) =
+    (left.object, left.present, sym (name-is-place rows h left.object left.present) ∙ left.named)

@@ -1,0 +1,118 @@
+-- Names that go where a plan takes them.
+use Rattle.std.proofs.Common.{◌≡◌, ◌≢◌, inl, inr, ℕ, zero, suc, ◌+◌, ◌<◌, ◌≤◌, ◌||◌, ◌==◌, Bool, true, false}
+use Rattle.std.proofs.Common.{nat_lt, List, []}
+use Rattle.std.proofs.Common.{◌∷◌, ◌++◌, length, map, refl, ap, sym, ◌∙◌, arith, Some, MatchBool, get_or}
+use Rattle.std.proofs.Common.{set}
+use Rattle.std.proofs.Common.{take}
+use Rattle.std.specs.FinMap as finmap
+use Rattle.std.proofs.lemmas.Bool.{eqb-true, ltb-true, or_cases}
+use Rattle.std.proofs.lemmas.List.{get_or-set_other, take_more, take_more_set}
+use Rattle.clr_types.specs.Maps.{map_values}
+use Rattle.clr_types.specs.Rising.{IsIn}
+use Rattle.clr_types.specs.declared.handle.Handle.{Handle}
+use Rattle.clr_handles.specs.Changes.{EachBecomes}
+use Rattle.clr_handles.specs.Laws.{relocated}
+use Rattle.clr_handles.specs.Places.{IsMoved, IsRelocated}
+use Rattle.clr_handles.specs.Tables.{Table}
+use Rattle.clr_handles.proofs.MapLaws.{each-is_map}
+use Rattle.clr_heap.specs.View.{HeapView}
+use Rattle.clr_model.specs.Compaction.{Move, moved_by}
+use Rattle.clr_moves.specs.Overlaid.{HoldsPlan, MayGo}
+use Rattle.clr_pinq.specs.declared.entry.PinEntry.{PinEntry}
+use Rattle.clr_types.specs.Types.{TypeRow}
+use Rattle.clr_plugs.specs.BrickEntries.{BricksView}
+use Rattle.clr_final.specs.Queues.{Queues}
+use Rattle.clr_survivors.specs.Roots.{Guides, HasMoved, NamesGo, Plan}
+
+-- ---- handles
+
+-- null stays, and any other place goes where it is told
+one-gone : (answers : ℕ → ℕ → Type 0) (to : ℕ → ℕ) (place moved : ℕ) → to 0 ≡ 0
+    → (answers place moved → moved ≡ to place) → IsMoved answers 0 place moved → moved ≡ to place
+one-gone answers to place moved null told is = go (place == 0 || nat_lt place 0) refl is
+  where
+    zero-is : (place == 0 || nat_lt place 0) ≡ true → place ≡ 0
+    zero-is e = elim (or_cases (place == 0) (nat_lt place 0) e) [
+      | inl z ↦ eqb-true place 0 z
+      | inr low ↦ let below = ltb-true place 0 low in absurd (omega (arith, below))
+    ]
+
+    go : (b : Bool) → (place == 0 || nat_lt place 0) ≡ b → MatchBool b (moved ≡ place) (answers place moved)
+        → moved ≡ to place
+    go true e same = let z = zero-is e in same ∙ z ∙ sym null ∙ ap to (sym z)
+    go false e answer = told answer
+
+pub handles-gone : (answers : ℕ → ℕ → Type 0) (to : ℕ → ℕ) (old new : Table)
+    → EachBecomes (IsRelocated answers 0) old new → to 0 ≡ 0
+    → ((k : ℕ) (row : Handle) (moved : ℕ) → finmap.get old k ≡ Some row → answers row.target moved
+    → moved ≡ to row.target)
+    → ((k : ℕ) (row : Handle) (moved : ℕ) → finmap.get old k ≡ Some row → answers row.second moved
+    → moved ≡ to row.second)
+    → new ≡ map_values (relocated to) old
+handles-gone answers to old new each null targets seconds =
+    each-is_map (IsRelocated answers 0) (relocated to) old new each (λ k row row' here is.
+    let target = one-gone answers to row.target row'.target null (targets k row row'.target here) is.target in
+    let second = one-gone answers to row.second row'.second null (seconds k row row'.second here) is.second in
+    λ i. record { kind = is.kind i; target = target i; second = second i })
+
+-- ---- lists
+
+pub in-at : (xs : List ℕ) (i : ℕ) → i < length xs → IsIn (get_or xs i 0) xs
+in-at [] i l = absurd (omega (arith, l))
+in-at (x ∷ xs) zero l = IsIn.first
+in-at (x ∷ xs) (suc i) l = IsIn.later (in-at xs i (omega (arith, l)))
+
+map-append : (f : ℕ → ℕ) (xs ys : List ℕ) → map f (xs ++ ys) ≡ map f xs ++ map f ys
+map-append f [] ys = refl
+map-append f (x ∷ xs) ys = ap (λ (zs : List ℕ). f x ∷ zs) (map-append f xs ys)
+
+-- the places from i on are those of before
+abbrev pub AreSameFrom : List ℕ → List ℕ → ℕ → Type 0
+AreSameFrom was now i = (j : ℕ) → i ≤ j → get_or now j 0 ≡ get_or was j 0
+
+pub same-further : (was now : List ℕ) (i y : ℕ) → AreSameFrom was now i → AreSameFrom was (set now i y) (i + 1)
+same-further was now i y same j high =
+    let apart : j ≢ i = λ e. omega (arith, e, high) in
+    get_or-set_other now i j y 0 apart ∙ same j (omega (arith, high))
+
+-- one place more has gone
+pub one-more : (f : ℕ → ℕ) (was now : List ℕ) (i y : ℕ) → i < length now → i < length was
+    → take i now ≡ map f (take i was) → y ≡ f (get_or was i 0) → take (i + 1) (set now i y) ≡ map f (take (i + 1) was)
+one-more f was now i y l m so_far is =
+    take_more_set now i y l ∙ ap (λ (xs : List ℕ). xs ++ y ∷ []) so_far
+    ∙ ap (λ (n : ℕ). map f (take i was) ++ n ∷ []) is
+    ∙ sym (ap (map f) (take_more was i 0 m) ∙ map-append f (take i was) (get_or was i 0 ∷ []))
+
+pub le-refl : (n : ℕ) → n ≤ n
+le-refl n = omega arith
+
+-- ---- what is told of one place
+
+pub told : (p : Plan) (h : HeapView) (bricks : BricksView) (g place moved : ℕ) → Guides p h bricks g
+    → MayGo p.view g p.moves place → HasMoved h bricks g place moved → moved ≡ moved_by p.moves place
+told p h bricks g place moved guides may has = has.by p guides may
+
+-- what a destination says of all that holds a plan
+pub gone-by : (h : HeapView) (bricks : BricksView) (g place moved : ℕ)
+    → ((rows : List TypeRow) (view : HeapView) (entries : List PinEntry) (vs : List Move) (start1 start0 : ℕ)
+    → HoldsPlan rows view h bricks entries g vs start1 start0 → MayGo view g vs place → moved ≡ moved_by vs place)
+    → HasMoved h bricks g place moved
+gone-by h bricks g place moved goes = record {
+  by = λ p guides may. goes p.rows p.view p.entries p.moves p.start1 p.start0 guides may;
+}
+
+-- what a plan takes along, another of the same moves takes along
+pub names-on : (p q : Plan) (g : ℕ) → q.moves ≡ p.moves
+    → ((x : ℕ) → MayGo p.view g p.moves x → MayGo q.view g q.moves x)
+    → (locals : List ℕ) (table : Table) (queues : Queues)
+    → NamesGo p g locals table queues → NamesGo q g locals table queues
+names-on p q g same on locals table queues names = record {
+  locals_go = λ x i. on x (names.locals_go x i);
+  handles_go = record {
+    targets = λ k row found. on row.target (names.handles_go.targets k row found);
+    seconds = λ k row found. on row.second (names.handles_go.seconds k row found);
+  };
+  entries_go = λ x i. on x (names.entries_go x i);
+  ready_go = λ x i. on x (names.ready_go x i);
+  null = ap (λ vs. moved_by vs 0) same ∙ names.null;
+}

@@ -1,0 +1,317 @@
+-- Pinned handles, one after the other: the bits of their targets' headers.
+use Rattle.std.proofs.Common.{◌≡◌, ◌≢◌, ◌⊎◌, inl, inr, ℕ, ◌+◌, ◌-◌, ◌%◌, ◌<◌, ◌≤◌, Bool, true, false, not, ◌&&◌}
+use Rattle.std.proofs.Common.{List, None, Option, true≢false, ◌/◌, ◌||◌, if◌then◌else◌, refl, ap, sym, ◌∙◌, subst}
+use Rattle.std.proofs.Common.{arith, Some, nat_le}
+use Rattle.std.proofs.lemmas.Bool.{cases_eq, cases_lt, eq-eqb, eqb-false, eqb-true, le-leb, ne_eqb}
+use Rattle.std.specs.FinMap as finmap
+use Rattle.std.specs.FinMap.{FinMap}
+use Rattle.std.specs.Ordering.{nat_cmp}
+use Rattle.clr_types.specs.Kinds.{is_pinned_kind}
+use Rattle.clr_types.specs.Types.{TypeRow}
+use Rattle.clr_types.specs.declared.handle.Handle.{Handle}
+use Rattle.clr_types.specs.declared.item.Item.{Item}
+use Rattle.clr_handles.specs.Places.{IsNext, NoneNames}
+use Rattle.clr_heap.specs.Parts.{item_at}
+use Rattle.clr_heap.specs.View.{HeapView, IsHeap, SameShape, stored, word_of}
+use Rattle.clr_heap.proofs.Rewrite.{SameShape-refl, SameShape-stored}
+use Rattle.clr_model.specs.Machine.{Object}
+use Rattle.clr_types.specs.Rising.{IsIn}
+use Rattle.clr_view.specs.SlotValues.{IsObjectAt, StandsAt}
+use Rattle.clr_view.specs.View.{IsHeld}
+use Rattle.clr_view.proofs.Headers.{header-high, header-word}
+use Rattle.clr_view.proofs.ObjectItems.{stands-item}
+use Rattle.clr_view.proofs.Stores.{elsewhere, there-now}
+use Rattle.clr_plan.specs.Pinned.{has_pin}
+use Rattle.clr_survivors.specs.Pins.{HasPins, IsPinnedBelow, pinned_header, pins_something}
+use Rattle.clr_survivors.specs.Pins.{PinsStand}
+use Rattle.std.specs.Prelude.{MatchBool}
+use Rattle.std.proofs.Common.{◌==◌}
+use Rattle.clr_survivors.proofs.HeaderBits.{flag-kept, HasHeader, header_written}
+
+-- the row that was found
+abbrev or_row : Handle → Option Handle → Handle
+or_row other None = other
+or_row other (Some row) = row
+
+module _ (rows : List TypeRow) (old : HeapView) (table : FinMap nat_cmp Handle) (on : Bool) where
+  pub none_pinned : IsHeld rows old → HasPins rows old old table 0 on
+  none_pinned held = record {
+    shape = SameShape-refl old;
+    objects = refl;
+    items = refl;
+    layout = refl;
+    marks = λ x. (λ m. m, λ m. m);
+    free_heads = λ heads. heads;
+    words = λ b z. inr (λ p. let l = p.below in absurd (omega arith), refl);
+    held = held;
+  }
+
+  -- the bit is written once
+  twice : (header : ℕ) → pinned_header on (pinned_header on header) ≡ pinned_header on header
+  twice header = go on (has_pin header) refl
+    where
+      go : (on has : Bool) → has_pin header ≡ has
+          → pinned_header on (if on && not has then header + 0x20000000
+          else if not on && has then header - 0x20000000 else header)
+          ≡ (if on && not has then header + 0x20000000 else if not on && has then header - 0x20000000 else header)
+      go true true is =
+          ap (λ (b : Bool). if true && not b then header + 0x20000000 else if not true && b then header - 0x20000000
+          else header) is
+      go true false is =
+          let no = eqb-false (header / 0x20000000 % 2) 1 is in
+          let set : has_pin (header + 0x20000000) ≡ true = eq-eqb ((header + 0x20000000) / 0x20000000 % 2) 1
+          (omega arith) in
+          ap (λ (b : Bool). if true && not b then header + 0x20000000 + 0x20000000
+          else if not true && b then header + 0x20000000 - 0x20000000 else header + 0x20000000) set
+      go false true is =
+          let yes = eqb-true (header / 0x20000000 % 2) 1 is in
+          let clear : has_pin (header - 0x20000000) ≡ false = ne_eqb ((header - 0x20000000) / 0x20000000 % 2) 1
+          (λ e. omega arith) in
+          ap (λ (b : Bool). if false && not b then header - 0x20000000 + 0x20000000
+          else if not false && b then header - 0x20000000 - 0x20000000 else header - 0x20000000) clear
+      go false false is =
+          ap (λ (b : Bool). if false && not b then header + 0x20000000 else if not false && b then header - 0x20000000
+          else header) is
+
+  module _ (now : HeapView) (from number : ℕ) (row : Handle) (p : HasPins rows old now table from on)
+      (next : IsNext table 1 from number row) where
+    -- what is pinned below the next number: what was, and what this handle pins
+    pinned_more : (place : ℕ) → IsPinnedBelow table (number + 1) place
+        → IsPinnedBelow table from place
+        ⊎ ((is_pinned_kind row.kind ≡ true) × (0 < row.target) × (place ≡ row.target))
+    pinned_more place q = elim (cases_lt q.number from) [
+      | inl low ↦
+          inl (record {
+            number = q.number;
+            below = low;
+            row = q.row;
+            in_use = q.in_use;
+            pinned = q.pinned;
+            target = q.target;
+            some = q.some;
+          })
+      | inr high ↦ elim (cases_eq q.number number) [
+        | inl here ↦
+            let same : q.row ≡ row = ap (or_row q.row) (sym q.in_use ∙ ap (finmap.get table) here ∙ next.in_use) in
+            let target : place ≡ row.target = sym q.target ∙ ap (λ (r : Handle). r.target) same in
+            inr (
+              ap (λ (r : Handle). is_pinned_kind r.kind) (sym same) ∙ q.pinned,
+              subst (λ (n : ℕ). 0 < n) target q.some,
+              target,
+            )
+        | inr apart ↦
+            let below = q.below in
+            let none = next.none_before q.number q.row high (omega arith) q.in_use in
+            let some : 0 < q.row.target = subst (λ (n : ℕ). 0 < n) (sym q.target) q.some in
+            absurd (true≢false (sym (ap (λ (b : Bool). b || nat_le 1 q.row.second) (le-leb 1 q.row.target some))
+            ∙ none))
+      ]
+    ]
+
+    was_pinned : (place : ℕ) → IsPinnedBelow table from place → IsPinnedBelow table (number + 1) place
+    was_pinned place q =
+        let below = q.below in
+        let above = next.above in
+        record {
+          number = q.number;
+          below = omega arith;
+          row = q.row;
+          in_use = q.in_use;
+          pinned = q.pinned;
+          target = q.target;
+          some = q.some;
+        }
+
+    is_pinned_now : is_pinned_kind row.kind ≡ true → 0 < row.target → IsPinnedBelow table (number + 1) row.target
+    is_pinned_now kind some = record {
+      number = number;
+      below = omega arith;
+      row = row;
+      in_use = next.in_use;
+      pinned = kind;
+      target = refl;
+      some = some;
+    }
+
+    -- a handle that pins nothing
+    pub passed_by : ((is_pinned_kind row.kind ≡ true) × (0 < row.target) → ⊥)
+        → HasPins rows old now table (number + 1) on
+    passed_by none = record {
+      shape = p.shape;
+      objects = p.objects;
+      items = p.items;
+      layout = p.layout;
+      marks = p.marks;
+      free_heads = p.free_heads;
+      held = p.held;
+      words = λ b z. elim (p.words b z) [
+        | inl hit ↦ inl (was_pinned (b + 8) hit.0, hit.1)
+        | inr miss ↦
+            inr (
+              λ q. elim (pinned_more (b + 8) q) [
+                | inl was ↦ miss.0 was
+                | inr this ↦ none (this.0, this.1)
+              ],
+              miss.1,
+            )
+      ];
+    }
+
+    -- a handle that pins an object of the heap
+    module _ (heap : IsHeap now) (kind : is_pinned_kind row.kind ≡ true) (some : 0 < row.target)
+        (stands : StandsAt rows old row.target) where
+      abbrev a : ℕ
+      a = row.target - 8
+
+      abbrev v : ℕ
+      v = pinned_header on (word_of now a)
+
+      pub stands_now : StandsAt rows now row.target
+      stands_now =
+          subst (λ (os : List Object). (o : Object) × IsIn o os × (o.place ≡ row.target)) (sym p.objects) stands
+
+      abbrev i : Item
+      i = item_at rows (word_of now) row.target
+
+      there : IsObjectAt rows now row.target i
+      there = stands-item rows now heap p.held row.target stands_now
+
+      written : HasHeader rows now (stored now a v)
+      written =
+          subst (λ (n : ℕ). HasHeader rows now (stored now (n - 8) (pinned_header on (word_of now (n - 8))))) there.at
+          (header_written rows now i (pinned_header on (word_of now (i.place - 8)))
+          heap p.held there.listed there.object
+          (flag-kept on (word_of now (i.place - 8))))
+
+      at_header : word_of (stored now a v) a ≡ v
+      at_header =
+          subst (λ (n : ℕ). word_of (stored now (n - 8) v) (n - 8) ≡ v) there.at
+          (there-now rows now i (i.place - 8) v heap p.held (header-word rows now i true heap p.held there.listed))
+
+      other_word : (b : ℕ) → b % 8 ≡ 0 → b ≢ a → word_of (stored now a v) b ≡ word_of now b
+      other_word b z apart =
+          subst (λ (n : ℕ). b ≢ n - 8 → word_of (stored now (n - 8) v) b ≡ word_of now b) there.at
+          (elsewhere rows now i (i.place - 8) v heap p.held (header-word rows now i true heap p.held there.listed) b z)
+          apart
+
+      words_more : (b : ℕ) → b % 8 ≡ 0
+          → (IsPinnedBelow table (number + 1) (b + 8) × (word_of (stored now a v) b ≡ pinned_header on (word_of old b)))
+          ⊎ ((IsPinnedBelow table (number + 1) (b + 8) → ⊥) × (word_of (stored now a v) b ≡ word_of old b))
+      words_more b z = elim (cases_eq (b + 8) row.target) [
+        | inl here ↦
+            let at : b ≡ a = omega arith in
+            let set : word_of (stored now a v) b ≡ pinned_header on (word_of now b) =
+            ap (word_of (stored now a v)) at ∙ at_header ∙ ap (λ (n : ℕ). pinned_header on (word_of now n)) (sym at) in
+            inl (
+              subst (IsPinnedBelow table (number + 1)) (sym here) (is_pinned_now kind some),
+              elim (p.words b z) [
+                | inl hit ↦ set ∙ ap (pinned_header on) hit.1 ∙ twice (word_of old b)
+                | inr miss ↦ set ∙ ap (pinned_header on) miss.1
+              ],
+            )
+        | inr apart ↦
+            let high = header-high rows now row.target heap p.held stands_now in
+            let same = other_word b z (λ e. apart (omega arith)) in
+            elim (p.words b z) [
+              | inl hit ↦ inl (was_pinned (b + 8) hit.0, same ∙ hit.1)
+              | inr miss ↦
+                  inr (
+                    λ q. elim (pinned_more (b + 8) q) [
+                      | inl was ↦ miss.0 was
+                      | inr this ↦ apart this.2
+                    ],
+                    same ∙ miss.1,
+                  )
+            ]
+      ]
+
+      pub pins_more : HasPins rows old (stored now a v) table (number + 1) on
+      pins_more = record {
+        shape = SameShape-stored old now a v p.shape;
+        objects = written.objects ∙ p.objects;
+        items = written.items ∙ p.items;
+        layout = written.layout ∙ p.layout;
+        marks = λ x. (λ m. (p.marks x).0 ((written.marks x).0 m), λ m. (written.marks x).1 ((p.marks x).1 m));
+        free_heads = λ heads. written.free_heads (p.free_heads heads);
+        words = words_more;
+        held = written.held;
+      }
+
+-- what the next handle leaves
+pub pins_next : (rows : List TypeRow) (old : HeapView) (table : FinMap nat_cmp Handle) (on : Bool) (now new : HeapView)
+    (from number : ℕ) (row : Handle) → IsHeap now → PinsStand rows old table → HasPins rows old now table from on
+    → IsNext table 1 from number row
+    → MatchBool (pins_something row)
+    (new ≡ stored now (row.target - 8) (pinned_header on (word_of now (row.target - 8)))) (new ≡ now)
+    → HasPins rows old new table (number + 1) on
+pins_next rows old table on now new from number row heap stand p next is =
+    go (is_pinned_kind row.kind) refl (row.target == 0) refl is
+  where
+    go : (k : Bool) → is_pinned_kind row.kind ≡ k → (z : Bool) → (row.target == 0) ≡ z
+        → MatchBool (k && not z)
+        (new ≡ stored now (row.target - 8) (pinned_header on (word_of now (row.target - 8)))) (new ≡ now)
+        → HasPins rows old new table (number + 1) on
+    go true kind true zero same =
+        subst (λ h. HasPins rows old h table (number + 1) on) (sym same)
+        (passed_by rows old table on now from number row p next
+        (λ both. let some = both.1 in let none = eqb-true row.target 0 zero in omega arith))
+    go true kind false some set =
+        let ne = eqb-false row.target 0 some in
+        let above : 0 < row.target = omega arith in
+        subst (λ h. HasPins rows old h table (number + 1) on) (sym set)
+        (pins_more rows old table on now from number row p next heap kind above
+        (stand number row next.in_use kind above))
+    go false kind z e same =
+        subst (λ h. HasPins rows old h table (number + 1) on) (sym same)
+        (passed_by rows old table on now from number row p next
+        (λ both. true≢false (sym both.0 ∙ kind)))
+
+-- when all handles are passed
+pub pins_done : (rows : List TypeRow) (old : HeapView) (table : FinMap nat_cmp Handle) (on : Bool) (now : HeapView)
+    (from : ℕ) → from ≤ 65536 → HasPins rows old now table from on → NoneNames table 1 from 65536
+    → HasPins rows old now table 65536 on
+pins_done rows old table on now from most p none = record {
+  shape = p.shape;
+  objects = p.objects;
+  items = p.items;
+  layout = p.layout;
+  marks = p.marks;
+  free_heads = p.free_heads;
+  held = p.held;
+  words = λ b z. elim (p.words b z) [
+    | inl hit ↦
+        let q = hit.0 in
+        let below = q.below in
+        inl (
+          record {
+            number = q.number;
+            below = omega arith;
+            row = q.row;
+            in_use = q.in_use;
+            pinned = q.pinned;
+            target = q.target;
+            some = q.some;
+          },
+          hit.1,
+        )
+    | inr miss ↦ inr (λ q. miss.0 (lower (b + 8) q), miss.1)
+  ];
+}
+  where
+    lower : (place : ℕ) → IsPinnedBelow table 65536 place → IsPinnedBelow table from place
+    lower place q = elim (cases_lt q.number from) [
+      | inl low ↦
+          record {
+            number = q.number;
+            below = low;
+            row = q.row;
+            in_use = q.in_use;
+            pinned = q.pinned;
+            target = q.target;
+            some = q.some;
+          }
+      | inr high ↦
+          let off = none q.number q.row high q.below q.in_use in
+          let some : 0 < q.row.target = subst (λ (n : ℕ). 0 < n) (sym q.target) q.some in
+          absurd (true≢false (sym (ap (λ (b : Bool). b || nat_le 1 q.row.second) (le-leb 1 q.row.target some)) ∙ off))
+    ]

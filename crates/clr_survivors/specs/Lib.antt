@@ -1,0 +1,4 @@
+pub mod Pins
+pub mod Phases
+pub mod Roots
+pub mod Survivors

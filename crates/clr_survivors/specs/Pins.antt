@@ -1,0 +1,55 @@
+-- The header bits of pinned objects.
+use Rattle.std.specs.Prelude.{◌≡◌, ◌↔◌, ◌⊎◌, ℕ, ◌+◌, ◌-◌, ◌%◌, ◌<◌, Bool, true, not, ◌&&◌, ◌==◌, List, Some}
+use Rattle.std.specs.Prelude.{if◌then◌else◌}
+use Rattle.std.specs.FinMap as finmap
+use Rattle.std.specs.FinMap.{FinMap}
+use Rattle.std.specs.Ordering.{nat_cmp}
+use Rattle.clr_types.specs.Kinds.{is_pinned_kind}
+use Rattle.clr_types.specs.Types.{TypeRow}
+use Rattle.clr_types.specs.declared.handle.Handle.{Handle}
+use Rattle.clr_heap.specs.View.{heap_items, HeapView, SameShape, word_of}
+use Rattle.clr_view.specs.Marks.{Marked}
+use Rattle.clr_view.specs.SlotValues.{StandsAt}
+use Rattle.clr_view.specs.View.{AreFreeHeads, IsHeld, layout_in, objects_in}
+use Rattle.clr_plan.specs.Pinned.{has_pin}
+
+-- a pinned handle with a number below n has the place as its target, which isn't null
+pub record IsPinnedBelow (table : FinMap nat_cmp Handle) (n place : ℕ) : Type 0 where
+  pub number : ℕ
+  pub below : number < n
+  pub row : Handle
+  pub in_use : finmap.get table number ≡ Some row
+  pub pinned : is_pinned_kind row.kind ≡ true
+  pub target : row.target ≡ place
+  pub some : 0 < place
+
+-- a handle pins an object
+abbrev pub pins_something : Handle → Bool
+pins_something row = is_pinned_kind row.kind && not (row.target == 0)
+
+-- the targets of pinned handles are objects of the heap
+abbrev pub PinsStand : List TypeRow → HeapView → FinMap nat_cmp Handle → Type 0
+PinsStand rows h table =
+    (n : ℕ) (row : Handle) → finmap.get table n ≡ Some row → is_pinned_kind row.kind ≡ true → 0 < row.target
+    → StandsAt rows h row.target
+
+-- the header with this in its bit, and all other bits as they were
+abbrev pub pinned_header : Bool → ℕ → ℕ
+pinned_header on header =
+    if on && not (has_pin header) then header + 0x20000000
+    else if not on && has_pin header then header - 0x20000000
+    else header
+
+-- The header at b says this, where it is one of an object that such a handle pins, and all else is as it was.
+pub record HasPins (rows : List TypeRow) (old new : HeapView) (table : FinMap nat_cmp Handle) (n : ℕ) (on : Bool)
+    : Type 0 where
+  pub shape : SameShape old new
+  pub objects : objects_in rows new ≡ objects_in rows old
+  pub items : heap_items rows new ≡ heap_items rows old
+  pub layout : layout_in rows new ≡ layout_in rows old
+  pub marks : (x : ℕ) → Marked rows new x ↔ Marked rows old x
+  pub free_heads : AreFreeHeads rows old → AreFreeHeads rows new
+  pub words : (b : ℕ) → b % 8 ≡ 0
+      → (IsPinnedBelow table n (b + 8) × (word_of new b ≡ pinned_header on (word_of old b)))
+      ⊎ ((IsPinnedBelow table n (b + 8) → ⊥) × (word_of new b ≡ word_of old b))
+  pub held : IsHeld rows new

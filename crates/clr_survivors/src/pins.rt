@@ -1,0 +1,71 @@
+// The header bits of pinned objects.
+ghost use Rattle.std.specs.Prelude.{◌≡◌, ◌-◌, ◌<◌, ◌≤◌, MatchBool, true};
+ghost use Rattle.clr_heap.specs.View.{stored, word_of};
+ghost use Rattle.clr_view.specs.SlotValues.{StandsAt};
+ghost use Rattle.clr_view.specs.View.{IsHeld};
+ghost use Rattle.clr_plan.specs.Pinned as pinned;
+ghost use Rattle.clr_survivors.specs.Pins.{HasPins, pinned_header, pins_something, PinsStand};
+
+use clr_handles::Handles;
+use clr_heap::Heap;
+use clr_types::{Handle, Types};
+
+// The bit of an object's header that says that a plan leaves it where it is.
+const PINNED: u64 = 0x2000_0000;
+
+// Says in the headers of all targets of pinned handles whether they are pinned.
+pub(crate) fn set_pins(heap: &mut Heap, types: &Types, handles: &Handles, on: bool)
+    requires held { IsHeld types.now heap.old }
+    requires stand { PinsStand types.now heap.old handles.now }
+    ensures { HasPins types.now heap.old heap.new handles.now 65536 on }
+{
+    handles.lawful();
+    let mut from = 0;
+    while let Some((number, handle)) = handles.next_from(from, 1) {
+        heap.lawful();
+        set_pin_of(heap, types, handle, on);
+        from = number + 1;
+    }
+}
+
+// Says it in the header of the object that a handle pins, where it pins one.
+fn set_pin_of(heap: &mut Heap, types: &Types, handle: Handle, on: bool)
+    requires held { IsHeld types.now heap.old }
+    requires stands { pins_something handle ≡ true → StandsAt types.now heap.old handle.target }
+    ensures { MatchBool (pins_something handle)
+        (heap.new ≡ stored heap.old (handle.target - 8) (pinned_header on (word_of heap.old (handle.target - 8))))
+        (heap.new ≡ heap.old) }
+{
+    if handle.kind.is_pinned() && handle.target != 0 {
+        set_pin(heap, types, handle.target, on);
+    }
+}
+
+// Says in the header of the object at a place whether it is pinned.
+fn set_pin(heap: &mut Heap, types: &Types, place: u64, on: bool)
+    requires held { IsHeld types.now heap.old }
+    requires stands { StandsAt types.now heap.old place }
+    ensures { heap.new ≡ stored heap.old (place - 8) (pinned_header on (word_of heap.old (place - 8))) }
+{
+    heap.lawful();
+    let header = heap.word(place - 8);
+    heap.set_word(place - 8, with_pin(header, on));
+}
+
+// The header with this in its bit.
+fn with_pin(header: u64, on: bool) -> u64
+    ensures { result ≡ pinned_header on header }
+{
+    match (on, has_pin(header)) {
+        (true, false) => header + PINNED,
+        (false, true) => header - PINNED,
+        (true, true) | (false, false) => header,
+    }
+}
+
+// Whether a header says that its object is pinned.
+fn has_pin(header: u64) -> bool
+    ensures { result ≡ pinned.has_pin header }
+{
+    header / PINNED % 2 == 1
+}

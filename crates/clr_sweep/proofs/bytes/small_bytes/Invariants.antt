@@ -1,0 +1,5 @@
+use Rattle.clr_sweep.proofs.KeptSizes.{HaveSummed}
+use Rattle.clr_sweep.proofs.bytes.small_bytes.Given as goal
+
+abbrev pub invariant-loop-k : goal.invariant-loop-k
+invariant-loop-k l = HaveSummed l.types l.heap l.k l.bytes

@@ -1,0 +1,75 @@
+// Counting what a collection would keep and free.
+ghost use Rattle.std.specs.Prelude.{◌≡◌, ℕ, ◌<◌, ◌≤◌, length};
+ghost use Rattle.clr_heap.specs.View.{first_of, heap_items, last_of, no_rests};
+ghost use Rattle.clr_model.specs.Lawful.{IsLaid};
+ghost use Rattle.clr_model.specs.Machine.{Machine};
+ghost use Rattle.clr_view.specs.Memory.{IsMemoryOf};
+ghost use Rattle.clr_view.specs.View.{IsHeld};
+ghost use Rattle.clr_sweep.specs.Passes.{IsAtMost, plus};
+ghost use Rattle.clr_sweep.specs.Swept.{tally_of};
+ghost use Rattle.clr_sweep.specs.SweptItems.{items_from, tally_among};
+ghost use Rattle.clr_sweep.specs.SweptSegments.{IsParted};
+
+use crate::pass::with_item;
+use crate::sweeping::start_of;
+use crate::tally::Tally;
+use clr_heap::Heap;
+use clr_types::{FIRST_OFFSET, Types};
+
+/// Counts what a sweep of generation `g` and of all younger ones would count now: the objects that are marked and those
+/// that aren't, and the bytes of the marked ones of generations 0 and 1. Nothing changes.
+///
+/// The heap is that of a lawful machine whose contexts are given up. A collection of generation 0 or 1 counts in the
+/// young part of the ephemeral segment alone.
+pub fn count(heap: &Heap, types: &Types, g: u8) -> Tally
+    requires held { IsHeld types.now heap.now }
+    requires no_contexts { heap.now.rests ≡ no_rests }
+    requires laid { (m : Machine) × IsMemoryOf types.now heap.now m × IsLaid m }
+    requires generation { g ≤ 2 }
+    ensures { result ≡ tally_of types.now heap.now g }
+{
+    heap.lawful();
+    if g == 2 {
+        return count_whole(heap, types);
+    }
+    let k = heap.ephemeral();
+    let from = start_of(heap, g);
+    count_part(heap, types, k, from, Tally::NONE)
+}
+
+// The same for all generations, told by the items of each segment.
+fn count_whole(heap: &Heap, types: &Types) -> Tally
+    requires held { IsHeld types.now heap.now }
+    requires no_contexts { heap.now.rests ≡ no_rests }
+    ensures { result ≡ tally_among heap.now (heap_items types.now heap.now) }
+{
+    let count = heap.segments();
+    let mut tally = Tally::NONE;
+    for k in 0..count {
+        let from = heap.info(k).base + FIRST_OFFSET;
+        tally = count_part(heap, types, k, from, tally);
+    }
+    tally
+}
+
+// Adds the counts of the part of segment `k` from `from` on.
+fn count_part(heap: &Heap, types: &Types, k: usize, from: u64, before: Tally) -> Tally
+    requires in_range { k < length heap.now.segments }
+    requires parted { IsParted types.now heap.now k from }
+    requires no_contexts { heap.now.rests ≡ no_rests }
+    requires counted { IsAtMost before from }
+    ensures tally { result ≡ plus before (tally_among heap.now (items_from types.now heap.now k from)) }
+    ensures counted { IsAtMost result (last_of heap.now k) }
+{
+    heap.lawful();
+    let end = heap.info(k).end;
+    let mut place = from;
+    let mut tally = before;
+    while place < end {
+        let mt = heap.word_at(k, place);
+        let found = heap.item_of_word(types, k, place, mt);
+        tally = with_item(heap, tally, found, mt);
+        place += found.size;
+    }
+    tally
+}

@@ -25,10 +25,15 @@ CRATES = """\
 clr_nums:
 clr_types: indexmap smallvec
 clr_mem: byteorder
+clr_covers: clr_mem
+clr_cards: clr_nums clr_mem clr_covers
+clr_bricks: clr_nums clr_mem clr_covers
 clr_model: clr_nums clr_types
 clr_heap: clr_types clr_mem
 clr_view: clr_types clr_mem clr_model clr_heap
-clr_ctx: clr_types clr_mem clr_model clr_heap clr_view
+clr_generations: clr_nums clr_types clr_mem clr_covers clr_cards clr_bricks clr_model clr_heap clr_view
+clr_sweep: clr_nums clr_types clr_mem clr_covers clr_cards clr_bricks clr_model clr_heap clr_view clr_generations
+clr_ctx: clr_nums clr_types clr_mem clr_covers clr_cards clr_bricks clr_model clr_heap clr_view clr_generations clr_sweep
 clr_speed: clr_mem anyhow
 clr_walk_speed: clr_types clr_model clr_heap clr_view clr_ctx anyhow
 """

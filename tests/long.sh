@@ -5,9 +5,19 @@ set -eu
 # So many handles fit in the table, and so many links has a chain.
 readonly MOST=65536
 
-# The place of object number $1 of 24 bytes: 340 of them stand in each context of 8,192 bytes.
+# So many objects of 24 bytes fill the contexts that are begun within the budget of generation 0, of 262,144 bytes.
+readonly BUDGET=11220
+
+# The place of object number $1 of 24 bytes, all of which stay: 340 of them stand in each context of 8,192 bytes. After
+# the first $2 of them, and then after each $BUDGET, the next one collects, and contexts begin behind what was kept.
 place_of() {
-    printf -v place '%016x' $((0x10001000 + $1 / 340 * 8192 + $1 % 340 * 24))
+    local number=$1 batch=$2 base=$((0x10001000))
+    while ((number >= batch)); do
+        base=$((base + (batch - 1) / 340 * 8192 + (batch - 1) % 340 * 24 + 24))
+        number=$((number - batch))
+        batch=$BUDGET
+    done
+    printf -v place '%016x' $((base + number / 340 * 8192 + number % 340 * 24))
 }
 
 # The table of handles is full, and a number that was freed is given again.
@@ -31,19 +41,22 @@ chain_script() {
 
 # Its replies, where the object that keeps the others has the number $1.
 chain_replies() {
-    place_of 0
+    place_of 0 $BUDGET
     printf '%s\n' 'mt 00007ff000000040' $place $place
     for ((i = 0; i < MOST; i++)); do
-        place_of $((i + 1))
+        place_of $((i + 1)) $BUDGET
         printf '%s\nh%d\n%s\n' $place $i $place
     done
-    place_of "$1"
+    place_of "$1" $BUDGET
     printf '%s\n' $place 'ok' 'ok' "collected 2 sweep kept $((MOST + 1)) freed 0"
     printf '%s\n' 'ok' "collected 2 sweep kept 0 freed $((MOST + 1))"
 }
 
 # So many slots has the wide table, and so many pairs hang from it.
 readonly PAIRS=10000
+
+# So many objects of 24 bytes fill those that are begun within the budget beside it.
+readonly BESIDE=7820
 
 # A wide table of pairs of objects, more than the stack of a marking holds, is compacted.
 wide_table_script() {
@@ -57,15 +70,15 @@ wide_table_script() {
 wide_table_replies() {
     local width=$((24 + 8 * PAIRS)) first i
     printf '%s\n' 'mt 00007ff000000040' 'mt 00007ff000000080'
-    place_of 0
+    place_of 0 $BESIDE
     printf '%s\n' $place
     for ((i = 0; i < 2 * PAIRS; i += 2)); do
-        place_of $i
+        place_of $i $BESIDE
         first=$((0x$place + width))
         printf '%016x\n%016x\nok\nok\n' $first $((first + 24))
     done
     printf '%s\n' 'ok' 'ok' "collected 2 compact kept $((2 * PAIRS + 1)) freed 0"
-    place_of 0
+    place_of 0 $BESIDE
     for i in 0 170 $((PAIRS - 1)); do
         first=$((0x$place + width + 48 * i))
         printf '%016x\n%016x\n' $first $((first + 24))

@@ -22,8 +22,8 @@ pub(crate) fn put_before_parts(heap: &mut Heap, pins: &PinQueue, g: u8)
     for k in 0..count {
         if takes_part(g, heap.info(k)) {
             let start = part_start(heap, g, k);
-            if pins.next_saved(start - 32) < start - 8 {
-                let saved = words_before(heap, pins, start);
+            if pins.next_saved(0, start - 32) < start - 8 {
+                let saved = words_before(heap, pins, 0, start);
                 put_before(heap, start, saved);
             }
         }

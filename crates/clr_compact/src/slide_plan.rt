@@ -44,13 +44,15 @@ pub(crate) fn slide_plan(
     let count = heap.segments();
     let mut plugs = NextPlugs::new(heap, types, bricks, g);
     let mut front = front_of(heap, g, 0);
+    let mut guesses = Guesses { still: 0, going: 0 };
     while front.segment < count {
         heap.lawful();
         match landing_below(plugs.next(), room_end(heap, front.segment)) {
             Some(plug) => {
                 plugs.pass(heap, types, bricks, g);
                 slides.add_plug(plug);
-                land_plug(heap, pins, front.top, plug);
+                let near = land_plug(heap, pins, guesses.of(plug), front.top, plug);
+                guesses.keep(plug, near);
                 front.top = plug.to() + plug.size();
             }
             None => {
@@ -60,6 +62,35 @@ pub(crate) fn slide_plan(
         }
     }
     put_before_parts(heap, pins, g);
+}
+
+// Guesses of the entries of the queue at the ends of the next plugs, of those that stay and of those that go.
+#[derive(Drop)]
+struct Guesses {
+    still: usize,
+    going: usize,
+}
+
+impl Guesses {
+    // The guess for a plug.
+    #[inline]
+    fn of(&self, plug: PlugMove) -> usize {
+        if plug.to() == plug.start() {
+            self.still
+        } else {
+            self.going
+        }
+    }
+
+    // Keeps the guess for the next plug of this kind.
+    #[inline]
+    fn keep(&mut self, plug: PlugMove, near: usize) {
+        if plug.to() == plug.start() {
+            self.still = near;
+        } else {
+            self.going = near;
+        }
+    }
 }
 
 // The plug, where there is one and it goes to a place below `room`.

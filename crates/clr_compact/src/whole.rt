@@ -12,9 +12,16 @@ use clr_moves::PlugMove;
 use clr_pinq::{PinQueue, Saved};
 
 // Moves one plug to where it goes, with the words that were saved at its end, and makes a free item of what is left
-// between `top` and that place. Above the place where the plug ends then the heap stays as it is.
+// between `top` and that place. Above the place where the plug ends then the heap stays as it is. `near` guesses the
+// entry of the queue at its end; the better guess is answered.
 #[inline]
-pub(crate) fn land_plug(heap: &mut Heap, pins: &PinQueue, top: u64, plug: PlugMove)
+pub(crate) fn land_plug(
+    heap: &mut Heap,
+    pins: &PinQueue,
+    near: usize,
+    top: u64,
+    plug: PlugMove,
+) -> usize
     requires can { CanLand heap.old plug top }
     requires end { EndsUnderInfo pins.now.entries plug }
     requires fits { plug.start + plug.size < 2 ^ 64 }
@@ -24,17 +31,19 @@ pub(crate) fn land_plug(heap: &mut Heap, pins: &PinQueue, top: u64, plug: PlugMo
 {
     heap.lawful();
     let end = plug.start() + plug.size();
-    if pins.next_saved(end - 32) < end - 8 {
-        let saved = words_before(heap, pins, end);
+    let near = pins.near(near, end - 32);
+    if pins.next_saved(near, end - 32) < end - 8 {
+        let saved = words_before(heap, pins, near, end);
         slide_plug(heap, top, plug);
         put_before(heap, plug.to() + plug.size(), saved);
     } else {
         slide_plug(heap, top, plug);
     }
+    near
 }
 
 // The three words that end 8 bytes before a place, as they were saved.
-pub(crate) fn words_before(heap: &Heap, pins: &PinQueue, place: u64) -> Saved
+pub(crate) fn words_before(heap: &Heap, pins: &PinQueue, near: usize, place: u64) -> Saved
     requires { HasInfo heap.now place }
     ensures { result ≡ record {
       at = place - 32;
@@ -46,9 +55,9 @@ pub(crate) fn words_before(heap: &Heap, pins: &PinQueue, place: u64) -> Saved
     heap.lawful();
     Saved {
         at: place - 32,
-        w0: pins.logical_word(heap, place - 32),
-        w1: pins.logical_word(heap, place - 24),
-        w2: pins.logical_word(heap, place - 16),
+        w0: pins.logical_word(heap, near, place - 32),
+        w1: pins.logical_word(heap, near, place - 24),
+        w2: pins.logical_word(heap, near, place - 16),
     }
 }
 

@@ -1,40 +1,59 @@
--- The line that makes an object: its refusals, and its birth at the front of its thread's context, after a refill where
--- that is needed.
-use Rattle.std.proofs.Common.{◌≡◌, ℕ, ◌+◌, ◌<◌, ◌≤◌, ◌⊎◌, List, [], ◌∷◌, refl, sym, ap, subst, ◌∙◌, arith, Bool, true}
+-- The line that makes an object: its refusals, and what it does where no check fails.
+use Rattle.std.proofs.Common.{◌≡◌, ℕ, ◌<◌, ◌≤◌, ◌⊎◌, List, [], ◌∷◌, refl, sym, ap, subst, ◌∙◌, arith, Bool, true}
 use Rattle.std.proofs.Common.{false, if◌then◌else◌, not, ◌&&◌, ◌||◌, ◌==◌, nat_le, nat_lt, Option, Some, None, is_some}
-use Rattle.std.proofs.Common.{is_none, unwrap_or, MatchOption, MatchBool, inl, inr}
+use Rattle.std.proofs.Common.{is_none, unwrap_or, MatchBool, inl, inr}
 use Rattle.std.proofs.lemmas.Bool.{lt-leb, le-leb, lt-ltb, le-ltb}
 use Rattle.clr_types.specs.Types.{type_row, form_at, number_of, is_array, has_finalizer}
-use Rattle.clr_types.specs.Segments.{Layout}
 use Rattle.clr_model.specs.declared.Refusal.{Refusal}
 use Rattle.clr_model.specs.declared.Refusal.TheVariants.{UnknownThread, Blocked, MidStep, NotMidStep, UnknownType}
-use Rattle.clr_model.specs.declared.Refusal.TheVariants.{BadShape, NoSlot, TooBig, Oom, NoMemory}
-use Rattle.clr_model.specs.declared.Reply.TheVariants.{Place}
+use Rattle.clr_model.specs.declared.Refusal.TheVariants.{BadShape, NoSlot, TooBig, NoMemory}
 use Rattle.clr_model.specs.Machine.{Machine}
-use Rattle.clr_model.specs.Lookups.{lowest_in_step}
 use Rattle.clr_model.specs.Instructions.{new_object}
 use Rattle.clr_model.specs.Checks.{refusal as first_refusal, refuse_if, with_some, first_of_all}
-use Rattle.clr_model.specs.Allocation.{Attempt, roomed, waits, out_of_room, has_room, own_fits, context_front}
-use Rattle.clr_model.specs.Allocation.{IsRefilled, with_layout, MakesRoom, RoomedByRefill, SmallByCollection}
-use Rattle.clr_model.specs.Stage.{has_large_heap, allocation_collects}
-use Rattle.clr_model.specs.Outcomes.{Outcome, answered, refused}
-use Rattle.clr_model.specs.Step.{Obeys, MakesSmall, MakesLarge, WantsEntry, born_small}
+use Rattle.clr_model.specs.Stage.{has_large_heap}
+use Rattle.clr_model.specs.Outcomes.{Outcome, refused}
+use Rattle.clr_model.specs.Step.{Obeys, MakesSmall, MakesLarge, WantsEntry}
 use Rattle.clr_model.specs.Lawful.{IsBirthNamed}
 use Rattle.clr_model.proofs.LineChecks.{MayRun, obeys_refusal, obeys_done}
-use Rattle.clr_model.proofs.ContextRefilled.{refill-has_room}
-use Rattle.clr_model.proofs.FrontBirth.{born_size}
+use Rattle.clr_model.proofs.Birth.{born_size}
 
 -- a length is given to an array, and none to a class
 abbrev pub suits_form : Machine → ℕ → Option ℕ → Bool
 suits_form m type len = if is_array (form_at m.types type) then is_some len else is_none len
 
--- No check of the line fails: an object of this type may be asked for, and it is small.
+-- No check of the line but that of the size fails: an object of this type may be asked for.
+pub record MayAsk (m : Machine) (t k : ℕ) (name : List ℕ) (len : Option ℕ) (type : ℕ) : Type 0 where
+  pub run : MayRun m t
+  pub known : number_of m.types name ≡ Some type
+  pub shape : suits_form m type len ≡ true
+  pub local : k < 64
+
+-- Nor does that of the size, and the object is small.
 pub record MayBear (m : Machine) (t k : ℕ) (name : List ℕ) (len : Option ℕ) (type : ℕ) : Type 0 where
   pub run : MayRun m t
   pub known : number_of m.types name ≡ Some type
   pub shape : suits_form m type len ≡ true
   pub local : k < 64
   pub small : born_size m type (unwrap_or len 0) < m.options.large
+
+-- Nor does that of the size, and the object is large.
+pub record MayBearLarge (m : Machine) (t k : ℕ) (name : List ℕ) (len : Option ℕ) (type : ℕ) : Type 0 where
+  pub run : MayRun m t
+  pub known : number_of m.types name ≡ Some type
+  pub shape : suits_form m type len ≡ true
+  pub local : k < 64
+  pub is_large : m.options.large ≤ born_size m type (unwrap_or len 0)
+  pub most : born_size m type (unwrap_or len 0) ≤ 1073741824
+
+-- an object that may be made may be asked for, if it is small
+pub asks_small : (m : Machine) (t k : ℕ) (name : List ℕ) (len : Option ℕ) (type : ℕ) → MayBear m t k name len type
+    → MayAsk m t k name len type
+asks_small m t k name len type h = record { run = h.run; known = h.known; shape = h.shape; local = h.local }
+
+-- and if it is large
+pub asks_large : (m : Machine) (t k : ℕ) (name : List ℕ) (len : Option ℕ) (type : ℕ) → MayBearLarge m t k name len type
+    → MayAsk m t k name len type
+asks_large m t k name len type h = record { run = h.run; known = h.known; shape = h.shape; local = h.local }
 
 -- ---- the checks
 
@@ -56,11 +75,26 @@ abbrev too_big_by : Machine → ℕ → ℕ → Bool
 too_big_by m type len = nat_lt 1073741824 (born_size m type len) ||
     (not has_large_heap && nat_le m.options.large (born_size m type len))
 
-or_true : (a : Bool) → (a || true) ≡ true
-or_true true = refl
-or_true false = refl
+-- such a size: more than an object may have, or large where there is no large heap
+big_by : (over large heap : Bool) → (over ≡ true) ⊎ ((heap ≡ false) × (large ≡ true))
+    → (over || (not heap && large)) ≡ true
+big_by true large heap s = refl
+big_by false true false s = refl
+big_by false large heap (inl e) = absurd cc
+big_by false false heap (inr (e, f)) = absurd cc
+big_by false true true (inr (e, f)) = absurd cc
+
+-- and one that isn't
+fits_by : (over large heap : Bool) → over ≡ false → (large ≡ false) ⊎ (heap ≡ true)
+    → (over || (not heap && large)) ≡ false
+fits_by true large heap e s = absurd cc
+fits_by false large true e s = refl
+fits_by false false false e s = refl
+fits_by false true false e (inl f) = absurd cc
+fits_by false true false e (inr f) = absurd cc
 
 module _ (m : Machine) (t k : ℕ) (name : List ℕ) (len : Option ℕ) where
+  -- what the checks come to, by what they see
   refusal-by : MayRun m t → (number : Option ℕ) (suits away big : Bool) → number_of m.types name ≡ number
       → suits_form m (unwrap_or (number_of m.types name) 0) len ≡ suits → nat_le 64 k ≡ away
       → too_big_by m (unwrap_or (number_of m.types name) 0) (unwrap_or len 0) ≡ big
@@ -96,105 +130,102 @@ module _ (m : Machine) (t k : ℕ) (name : List ℕ) (len : Option ℕ) where
         obeys_refusal m (new_object t k name len) NoSlot
         (refusal-by run (Some type) true true _ known (suits_is true suited) (le-leb 64 k high) refl)
 
+    -- such a size is too big
     too_big_is : (1073741824 < born_size m type (unwrap_or len 0))
-        ⊎ (m.options.large ≤ born_size m type (unwrap_or len 0)) → too_big_by m type (unwrap_or len 0) ≡ true
-    too_big_is (inl over) = ap (λ b. b || nat_le m.options.large (born_size m type (unwrap_or len 0)))
-        (lt-ltb 1073741824 (born_size m type (unwrap_or len 0)) over)
-    too_big_is (inr large) =
-        ap (λ b. nat_lt 1073741824 (born_size m type (unwrap_or len 0)) || b)
-        (le-leb m.options.large (born_size m type (unwrap_or len 0)) large)
-        ∙ or_true (nat_lt 1073741824 (born_size m type (unwrap_or len 0)))
+        ⊎ ((has_large_heap ≡ false) × (m.options.large ≤ born_size m type (unwrap_or len 0)))
+        → too_big_by m type (unwrap_or len 0) ≡ true
+    too_big_is big =
+        let size = born_size m type (unwrap_or len 0) in
+        big_by (nat_lt 1073741824 size) (nat_le m.options.large size) has_large_heap (elim big [
+          | inl over ↦ inl (lt-ltb 1073741824 size over)
+          | inr large ↦ inr (large.0, le-leb m.options.large size large.1)
+        ])
 
-    -- more bytes than an object may have, or than the small heap takes
+    -- more bytes than an object may have, or than the small heap takes where there is no other
     pub new_refuses_size : MayRun m t → suits_form m type len ≡ true → k < 64
-        → (1073741824 < born_size m type (unwrap_or len 0)) ⊎ (m.options.large ≤ born_size m type (unwrap_or len 0))
+        → (1073741824 < born_size m type (unwrap_or len 0))
+        ⊎ ((has_large_heap ≡ false) × (m.options.large ≤ born_size m type (unwrap_or len 0)))
         → Obeys m (new_object t k name len) (refused TooBig) m
     new_refuses_size run suited local big =
         obeys_refusal m (new_object t k name len) TooBig
         (refusal-by run (Some type) true false true known (suits_is true suited) (lt-leb 64 k local)
         (ap (λ n. too_big_by m n (unwrap_or len 0)) number_is ∙ too_big_is big))
 
-  module _ (type : ℕ) (named : IsBirthNamed m) (h : MayBear m t k name len type) where
-    abbrev size : ℕ
-    size = born_size m type (unwrap_or len 0)
+  -- by the type's number, and by whether the object is large
+  abbrev does_by : ℕ → Bool → Outcome → Machine → Type 0
+  does_by type large outcome new =
+      MatchBool large (MakesLarge m t k type (unwrap_or len 0) outcome new)
+      (MakesSmall m t k type (unwrap_or len 0) outcome new) ⊎ WantsEntry m type outcome new
 
-    small_enough : too_big_by m type (unwrap_or len 0) ≡ false
-    small_enough =
-        let small = h.small in
-        let a = named.lawful.options.large_greatest in
-        let b = named.lawful.options.segment_greatest in
-        let not_over : nat_lt 1073741824 size ≡ false = le-ltb 1073741824 size (omega arith) in
-        let not_large : nat_le m.options.large size ≡ false = lt-leb m.options.large size small in
-        λ i. not_over i || not_large i
-
+  module _ (type : ℕ) (h : MayAsk m t k name len type) (fits : too_big_by m type (unwrap_or len 0) ≡ false)
+      (large : Bool) (is : nat_le m.options.large (born_size m type (unwrap_or len 0)) ≡ large) where
+    -- no check fails
     passes : first_refusal m (new_object t k name len) ≡ None
     passes =
         refusal-by h.run (Some type) true false false h.known (suits_is type h.known true h.shape) (lt-leb 64 k h.local)
-        (ap (λ n. too_big_by m n (unwrap_or len 0)) (number_is type h.known) ∙ small_enough)
+        (ap (λ n. too_big_by m n (unwrap_or len 0)) (number_is type h.known) ∙ fits)
 
-    -- by the type's number, and by whether the object is large
-    abbrev does_by : ℕ → Bool → Outcome → Machine → Type 0
-    does_by type large outcome new =
-        MatchBool large (MakesLarge m t k type (unwrap_or len 0) outcome new)
-        (MakesSmall m t k type (unwrap_or len 0) outcome new) ⊎ WantsEntry m type outcome new
-
-    obeys_by : (outcome : Outcome) (new : Machine) → does_by type false outcome new
+    -- where no check fails, the line does what it says
+    obeys_by : (outcome : Outcome) (new : Machine) → does_by type large outcome new
         → Obeys m (new_object t k name len) outcome new
     obeys_by outcome new does =
         obeys_done m (new_object t k name len) outcome new passes
         (subst (λ n. does_by n (nat_le m.options.large (born_size m n (unwrap_or len 0))) outcome new)
-        (sym (number_is type h.known))
-        (subst (λ b. does_by type b outcome new) (sym (lt-leb m.options.large size h.small)) does))
+        (sym (number_is type h.known)) (subst (λ b. does_by type b outcome new) (sym is) does))
 
-    obeys_small : (outcome : Outcome) (new : Machine) → MakesSmall m t k type (unwrap_or len 0) outcome new
+  -- ---- a small object
+
+  module _ (type : ℕ) (named : IsBirthNamed m) (h : MayBear m t k name len type) where
+    -- a small size isn't too big
+    small_enough : too_big_by m type (unwrap_or len 0) ≡ false
+    small_enough =
+        let size = born_size m type (unwrap_or len 0) in
+        let small = h.small in
+        let a = named.lawful.options.large_greatest in
+        let b = named.lawful.options.segment_greatest in
+        fits_by (nat_lt 1073741824 size) (nat_le m.options.large size) has_large_heap
+        (le-ltb 1073741824 size (omega arith)) (inl (lt-leb m.options.large size small))
+
+    -- so the line does what it says of a small object
+    small_obeys : (outcome : Outcome) (new : Machine) → does_by type false outcome new
         → Obeys m (new_object t k name len) outcome new
-    obeys_small outcome new made = obeys_by outcome new (inl made)
+    small_obeys =
+        obeys_by type (asks_small m t k name len type h) small_enough false
+        (lt-leb m.options.large (born_size m type (unwrap_or len 0)) h.small)
+
+    -- what a line that makes a small object does, where no check fails
+    pub new_obeys_small : (outcome : Outcome) (new : Machine) → MakesSmall m t k type (unwrap_or len 0) outcome new
+        → Obeys m (new_object t k name len) outcome new
+    new_obeys_small outcome new made = small_obeys outcome new (inl made)
 
     -- no memory for the finalisation entry
     pub new_refuses_memory : has_finalizer (type_row m.types type) ≡ true
         → Obeys m (new_object t k name len) (refused NoMemory) m
-    new_refuses_memory final = obeys_by (refused NoMemory) m (inr (final, (refl, refl)))
+    new_refuses_memory final = small_obeys (refused NoMemory) m (inr (final, (refl, refl)))
 
-    -- the ladder by whether the size fits in the context, and whether there is room
-    abbrev room_by : Bool → Bool → Attempt → Machine → Type 0
-    room_by own room attempt new =
-        MatchBool own
-        ((attempt ≡ roomed) × (new ≡ m))
-        (MatchBool ((not allocation_collects || nat_le (m.sums.spent0 + size) m.options.b0) && room)
-        (RoomedByRefill m t size attempt new)
-        (MatchBool allocation_collects
-        (MatchOption (lowest_in_step m) (SmallByCollection m t size attempt new) (λ k. (attempt ≡ waits k) × (new ≡ m)))
-        ((attempt ≡ out_of_room) × (new ≡ m))))
+  -- ---- a large one
 
-    makes_room : (own room : Bool) (attempt : Attempt) (new : Machine) → own_fits m.layout t size ≡ own
-        → has_room m.layout size ≡ room → room_by own room attempt new → MakesRoom m t size attempt new
-    makes_room own room attempt new is_own is_room made =
-        subst (λ b. room_by b (has_room m.layout size) attempt new) (sym is_own)
-        (subst (λ b. room_by own b attempt new) (sym is_room) made)
+  module _ (heap : has_large_heap ≡ true) (type : ℕ) (h : MayBearLarge m t k name len type) where
+    -- a large one isn't where there is a large heap
+    large_enough : too_big_by m type (unwrap_or len 0) ≡ false
+    large_enough =
+        let size = born_size m type (unwrap_or len 0) in
+        fits_by (nat_lt 1073741824 size) (nat_le m.options.large size) has_large_heap (le-ltb 1073741824 size h.most)
+        (inr heap)
 
-    -- the context has room: the object is born at its front, and its place is the answer
-    pub new_obeys_own : own_fits m.layout t size ≡ true
-        → Obeys m (new_object t k name len) (answered (Place (context_front m.layout t)))
-        (born_small m t k type (unwrap_or len 0))
-    new_obeys_own own = obeys_small _ _
-        (roomed, m, makes_room true (has_room m.layout size) roomed m own refl (refl, refl), inl (refl, (refl, refl)))
+    -- so the line does what it says of a large object
+    large_obeys : (outcome : Outcome) (new : Machine) → does_by type true outcome new
+        → Obeys m (new_object t k name len) outcome new
+    large_obeys =
+        obeys_by type (asks_large m t k name len type h) large_enough true
+        (le-leb m.options.large (born_size m type (unwrap_or len 0)) h.is_large)
 
-    -- a refill gives room, and the object is born at the front of the new context
-    pub new_obeys_refill : (layout : Layout) → own_fits m.layout t size ≡ false → IsRefilled m.layout t size layout
-        → Obeys m (new_object t k name len) (answered (Place (context_front layout t)))
-        (born_small (with_layout m layout) t k type (unwrap_or len 0))
-    new_obeys_refill layout own refilled =
-        obeys_small _ _ (
-          roomed,
-          with_layout m layout,
-          makes_room false true roomed (with_layout m layout) own
-              (refill-has_room m.layout layout t size own refilled) (refl, layout, refilled, refl),
-          inl
-              (refl, (refl, refl)),
-        )
+    -- what a line that makes a large object does, where no check fails
+    pub new_obeys_large : (outcome : Outcome) (new : Machine) → MakesLarge m t k type (unwrap_or len 0) outcome new
+        → Obeys m (new_object t k name len) outcome new
+    new_obeys_large outcome new made = large_obeys outcome new (inl made)
 
-    -- neither the context nor the heap has room
-    pub new_refuses_room : own_fits m.layout t size ≡ false → has_room m.layout size ≡ false
-        → Obeys m (new_object t k name len) (refused Oom) m
-    new_refuses_room own room = obeys_small _ _
-        (out_of_room, m, makes_room false false out_of_room m own room (refl, refl), inr (refl, refl))
+    -- no memory for the finalisation entry
+    pub new_refuses_large_memory : has_finalizer (type_row m.types type) ≡ true
+        → Obeys m (new_object t k name len) (refused NoMemory) m
+    new_refuses_large_memory final = large_obeys (refused NoMemory) m (inr (final, (refl, refl)))

@@ -287,6 +287,10 @@ module _ (m : Machine) (h : IsLawful m) (idle : lowest_in_step m ≡ None) (g : 
             (λ q i. all_at (λ (o : Object). o.name ≤ m.born) i born);
       })
 
+  -- no thread has a context then
+  pub rests_gone : rest_pieces new.layout.rests ≡ []
+  rests_gone = ap (λ (w : Machine). rest_pieces w.layout.rests) new-is ∙ bare-next
+
   -- what holds of each object of before where it goes, holds of each object afterwards
   pub objects_left : (P : Object → Type 0)
       → ((q : Object) → IsIn q m.objects → P (object_after start c.first c.moves q)) → AllByRecursion P new.objects

@@ -25,7 +25,7 @@ use Rattle.clr_model.specs.Lawful.{NamesArePresent, HasItsSecond, HasItsRoom, Al
 use Rattle.clr_model.proofs.Reaching.{reach_grows}
 use Rattle.clr_types.proofs.MapValues.{values-map_values, value-in_use}
 use Rattle.clr_model.proofs.NamedWell.{HasObject, found_named}
-use Rattle.clr_model.proofs.FrontBirthSeen.{member-present}
+use Rattle.clr_model.proofs.BirthSeen.{member-present}
 
 -- ---- threads that began nothing
 

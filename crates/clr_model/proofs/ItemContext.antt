@@ -5,15 +5,14 @@ use Rattle.std.proofs.Common.{None, IsSome, append_assoc}
 use Rattle.std.specs.List.{AllByRecursion}
 use Rattle.std.proofs.lemmas.Bool.{leb-true, le-leb, eq-eqb, and_parts}
 use Rattle.clr_types.specs.Rising.{IsIn, IsRisingBy}
-use Rattle.clr_types.specs.Ranges.{Piece, piece_end, fits, range_piece, by_place, IsLawfulSize}
+use Rattle.clr_types.specs.Ranges.{Piece, fits, range_piece, by_place, IsLawfulSize}
 use Rattle.clr_types.specs.Segments.{Layout, first_place, stands_in, segment_of, ephemeral, generation, rest_pieces}
 use Rattle.clr_types.specs.Segments.{rest_of}
 use Rattle.clr_types.specs.LawfulLayout.{IsLawfulLayout, IsTiled, DoesNotCross}
-use Rattle.clr_types.proofs.SortedLists.{IsDistinctBy, sorted_by-rises, into_sorted_by}
-use Rattle.clr_types.proofs.ChangedLists.{length-slice_set, append_left, rising-distinct}
-use Rattle.clr_types.proofs.ListMembers.{append_right, distinct_of_sorted, distinct_left, distinct_right}
+use Rattle.clr_types.proofs.SortedLists.{IsDistinctBy, sorted_by-rises}
+use Rattle.clr_types.proofs.ChangedLists.{length-slice_set, rising-distinct}
+use Rattle.clr_types.proofs.ListMembers.{distinct_of_sorted, distinct_left, distinct_right}
 use Rattle.clr_types.proofs.TilePieces.{IsTile}
-use Rattle.clr_types.proofs.PieceGaps.{IsGapped}
 use Rattle.clr_types.proofs.Shuffles.{IsShuffled, under, followed, shuffled-sym, shuffled-left, shuffled-right}
 use Rattle.clr_types.proofs.Shuffles.{shuffled-sorted, shuffled-sorts, shuffled-behind, shuffled-turn}
 use Rattle.clr_types.proofs.Shuffles.{shuffled-distinct}
@@ -22,7 +21,8 @@ use Rattle.clr_model.specs.Lookups.{is_thread, is_step, step_of, pieces, object_
 use Rattle.clr_model.specs.Updates.{given_up, option_piece, pieces_of_option}
 use Rattle.clr_model.specs.Allocation.{is_young_item, want, from_item, with_layout}
 use Rattle.clr_model.specs.Lawful.{IsLawful, IsLaid}
-use Rattle.clr_model.proofs.LawfulPieces.{HasHome, piece-home, piece-tile, pieces-apart, pieces-distinct}
+use Rattle.clr_model.proofs.LawfulPieces.{HasHome, piece-home, piece-tile, pieces-distinct, free-in-pieces}
+use Rattle.clr_model.proofs.LawfulPieces.{free-apart}
 use Rattle.clr_model.proofs.RestLists.{HasRest, rest-at, all-rests, HasItem, item-at, taken-rises}
 use Rattle.clr_model.proofs.SplitPieces.{unsorted_pieces, FillSegments, front_piece, back_pieces, split_fills}
 use Rattle.clr_model.proofs.ContextChange.{rest-entry, rest_of-put, rest_of-other, context-is, is-young, rooms_kept}
@@ -179,16 +179,12 @@ module _ (m : Machine) (h : IsLawful m) (t : ℕ) (thread : is_thread t ≡ true
 
   -- ---- from a free item
 
-  free-in : (p : Piece) → IsIn p m.layout.free → IsIn p (pieces m)
-  free-in p i =
-      into_sorted_by (λ (p : Piece). p.place) p (unsorted_pieces m)
-      (append_left (rest_pieces m.layout.rests) (append_right held i))
-
   -- an item has a lawful size
   pub item-size : (item : Piece) → IsIn item m.layout.free → IsLawfulSize item.size
   item-size item i =
-      let k : HasHome m.layout item.place = piece-home m h.laid item (free-in item i) in
-      let is : IsTile (first_place k.home) k.home.end item = piece-tile m h.laid item (free-in item i) k in
+      let k : HasHome m.layout item.place = piece-home m h.laid item (free-in-pieces m h.laid item i) in
+      let is : IsTile (first_place k.home) k.home.end item =
+      piece-tile m h.laid item (free-in-pieces m h.laid item i) k in
       is.size
 
   module _ (item : Piece) (size : ℕ) (lawful : IsLawfulSize size) (room : fits size item.size ≡ true)
@@ -227,15 +223,11 @@ module _ (m : Machine) (h : IsLawful m) (t : ℕ) (thread : is_thread t ≡ true
         (followed (shuffled-right (back ++ (held ++ among.others)) (new-rest item.place size some))
         (shuffled-sym (shuffled-behind (front_piece item size) (back ++ (held ++ among.others)) no-rest.others))))
 
-    free-apart : (p q : Piece) → IsIn p m.layout.free → IsIn q m.layout.free → p.place < q.place → piece_end p ≤ q.place
-    free-apart p q i j l =
-        let g : IsGapped (piece_end p) q.place = pieces-apart m h.laid p q (free-in p i) (free-in q j) l in omega arith
-
     item-laid : IsLaid (with_layout m from)
     item-laid =
         laid_from m from
         (same_segments m.layout from.free from.rests h.laid.layout
-        (taken-rises item.place size m.layout.free h.laid.layout.free_rise free-apart)
+        (taken-rises item.place size m.layout.free h.laid.layout.free_rise (free-apart m h.laid))
         (length-slice_set m.layout.rests (t - 1) (option_piece (range_piece item.place (item.place + size)))
         ∙ h.laid.layout.threads))
         (let f : FillSegments m.layout (pieces (with_layout m from)) = split_fills m h.laid item size lawful room

@@ -18,7 +18,7 @@ use Rattle.clr_types.specs.LawfulLayout.{IsTiled}
 use Rattle.clr_types.proofs.ChangedLists.{IsIn-map, all_members, append_left, into_filter}
 use Rattle.clr_types.proofs.PieceGaps.{IsGapped}
 use Rattle.clr_types.proofs.SegmentFacts.{AreSeparate, separate, lawful_segment}
-use Rattle.clr_types.proofs.ListMembers.{distinct_of_sorted, distinct_left, distinct_unmap}
+use Rattle.clr_types.proofs.ListMembers.{append_right, distinct_of_sorted, distinct_left, distinct_unmap}
 use Rattle.clr_types.proofs.TilePieces.{IsTile, tile, tiles-apart}
 
 -- ---- pieces in their segments
@@ -159,3 +159,16 @@ module _ (m : Machine) (h : IsLaid m) where
       into_sorted_by (λ (p : Piece). p.place) (object_piece m.types o)
       ((map (object_piece m.types) m.objects ++ m.layout.free) ++ rest_pieces m.layout.rests)
       (append_left (rest_pieces m.layout.rests) (append_left m.layout.free (IsIn-map (object_piece m.types) i)))
+
+  -- free items are pieces, and lie apart
+  pub free-in-pieces : (p : Piece) → IsIn p m.layout.free → IsIn p (pieces m)
+  free-in-pieces p i =
+      into_sorted_by (λ (p : Piece). p.place) p
+      ((map (object_piece m.types) m.objects ++ m.layout.free) ++ rest_pieces m.layout.rests)
+      (append_left (rest_pieces m.layout.rests) (append_right (map (object_piece m.types) m.objects) i))
+
+  pub free-apart : (p q : Piece) → IsIn p m.layout.free → IsIn q m.layout.free → p.place < q.place
+      → piece_end p ≤ q.place
+  free-apart p q i j l =
+      let g : IsGapped (piece_end p) q.place = pieces-apart p q (free-in-pieces p i) (free-in-pieces q j) l in
+      omega arith

@@ -4,14 +4,15 @@ use Rattle.std.proofs.Common.{false, if◌then◌else◌, filter, nat_lt}
 use Rattle.std.proofs.lemmas.Bool.{lt-ltb}
 use Rattle.clr_types.specs.Segments.{Layout, ephemeral, generation, opening_segment, reserved_end, same_kind}
 use Rattle.clr_types.specs.Segments.{sealed_kind, sealed_segment, segment_or_empty, stands_in}
+use Rattle.clr_types.specs.Rising.{IsIn}
 use Rattle.clr_types.specs.declared.segment.SegInfo.{SegInfo}
 use Rattle.clr_types.specs.declared.segment.SegKind.{SegKind}
 use Rattle.clr_types.specs.declared.segment.SegKind.TheVariants.{Small, Ephemeral, Large}
 use Rattle.clr_types.proofs.RisingLists.{all_at}
-use Rattle.clr_model.specs.Machine.{Machine}
+use Rattle.clr_model.specs.Machine.{Machine, Object}
 use Rattle.clr_model.specs.Lookups.{object_piece}
 use Rattle.clr_model.specs.Allocation.{sealed, with_layout}
-use Rattle.clr_model.specs.Lawful.{AreBoundedSums, IsLawful}
+use Rattle.clr_model.specs.Lawful.{AreBoundedSums, IsLaid, IsLawful}
 use Rattle.clr_model.proofs.BoundedSums.{bounded_older}
 use Rattle.clr_model.proofs.LawfulPieces.{HasHome, piece-home, object-in-pieces}
 
@@ -27,7 +28,7 @@ generation_most layout place =
     go true false false = omega arith
 
 -- the new ephemeral segment is the only one
-one_sealed : (ss : List SegInfo) (new : SegInfo)
+pub one_sealed : (ss : List SegInfo) (new : SegInfo)
     → filter (λ (s : SegInfo). same_kind Ephemeral s.kind) (map sealed_segment ss ++ new ∷ [])
     ≡ filter (λ (s : SegInfo). same_kind Ephemeral s.kind) (new ∷ [])
 one_sealed [] new = refl
@@ -60,16 +61,18 @@ sealed_old layout size place low =
     either true false e = absurd cc
     either false b e = refl
 
--- Sealing keeps the sums bounded.
-pub sealed_bounded : (m : Machine) (size : ℕ) → IsLawful m → AreBoundedSums (with_layout m (sealed m.layout size))
-sealed_bounded m size h =
-    bounded_older m (sealed m.layout size)
-    (λ o i.
-    let k : HasHome m.layout o.place = piece-home m h.laid (object_piece m.types o) (object-in-pieces m h.laid o i) in
+-- So no object gets younger.
+pub sealed_older : (m : Machine) (size : ℕ) → IsLaid m → (o : Object) → IsIn o m.objects
+    → generation m.layout o.place ≤ generation (sealed m.layout size) o.place
+sealed_older m size h o i =
+    let k : HasHome m.layout o.place = piece-home m h (object_piece m.types o) (object-in-pieces m h o i) in
     let top : reserved_end k.home ≤ m.layout.top =
-    all_at (λ (s : SegInfo). reserved_end s ≤ m.layout.top) k.among h.laid.layout.below_top in
+    all_at (λ (s : SegInfo). reserved_end s ≤ m.layout.top) k.among h.layout.below_top in
     let high : o.place < reserved_end k.home = k.high in
     let old = sealed_old m.layout size o.place (omega arith) in
     let most = generation_most m.layout o.place in
-    omega arith)
-    h.sums
+    omega arith
+
+-- Sealing keeps the sums bounded.
+pub sealed_bounded : (m : Machine) (size : ℕ) → IsLawful m → AreBoundedSums (with_layout m (sealed m.layout size))
+sealed_bounded m size h = bounded_older m (sealed m.layout size) (sealed_older m size h.laid) h.sums

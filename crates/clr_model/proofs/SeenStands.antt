@@ -27,7 +27,7 @@ use Rattle.clr_model.proofs.LawfulPieces.{HasHome, piece-home, object-in-pieces}
 use Rattle.clr_model.proofs.Opening.{opening_stands}
 use Rattle.clr_model.proofs.NamedWell.{lawful-named}
 use Rattle.clr_model.proofs.RootsChanged.{shaped_alike}
-use Rattle.clr_model.proofs.FrontBirthSeen.{member-present}
+use Rattle.clr_model.proofs.BirthSeen.{member-present}
 use Rattle.clr_model.proofs.SeenSound.{place_of-seen, seen_sound}
 
 -- a function that leaves each element leaves the list

@@ -29,8 +29,9 @@ use Rattle.clr_model.specs.Step.{born_small, row_of, with_type, MakesSmall, Make
 use Rattle.clr_model.specs.Step.{Reregisters, CollectsByLine, CreatesHandle, ShowsRoot, Shows, WantsMemory, Replies}
 use Rattle.clr_model.specs.Step.{Does, type_named}
 use Rattle.clr_model.specs.Laws.{LineReservesLaw}
-use Rattle.clr_model.proofs.TopGrows.{either, either_option, ReservesLittle, none_is_little, collection_reserves}
-use Rattle.clr_model.proofs.TopGrows.{room_reserves, place_reserves}
+use Rattle.clr_model.proofs.SmallLadder.{either, either_option}
+use Rattle.clr_model.proofs.TopGrows.{ReservesLittle, none_is_little, collection_reserves, room_reserves}
+use Rattle.clr_model.proofs.TopGrows.{place_reserves}
 
 -- ---- states with the same segments
 

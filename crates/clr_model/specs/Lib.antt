@@ -20,4 +20,6 @@ pub mod Sos
 pub mod Outcomes
 pub mod Step
 pub mod Run
+pub mod RoomFollows
+pub mod LargeFollows
 pub mod Laws

@@ -42,7 +42,7 @@ is_built _ = false
 
 -- an allocation may collect; without that it is refused where the own context and the heap as it is have no room
 abbrev pub allocation_collects : Bool
-allocation_collects = false
+allocation_collects = true
 
 -- the last step of the small ladder is built
 abbrev pub seals : Bool

@@ -1,12 +1,13 @@
 // The queue of saved words.
+ghost use Rattle.std.specs.Prelude.{false, true};
 ghost use Rattle.std.specs.Prelude.{◌≡◌, ◌≢◌, ℕ, ◌+◌, ◌-◌, ◌%◌, ◌<◌, ◌≤◌, ◌^◌, ◌⊎◌, ◌↔◌, ◌==◌, if◌then◌else◌, IsTrue};
-ghost use Rattle.std.specs.Prelude.{[], ◌∷◌, ◌++◌, length, get_or, set, map, None, IsSome, IfOk, OnOk, OnErr, is_some};
+ghost use Rattle.std.specs.Prelude.{[], ◌∷◌, ◌++◌, length, get_or, set, map, None, IsSome, IfOk, OnOk, OnErr, is_some, nat_le};
 ghost use Rattle.std.specs.Prelude.{vec_len, vec_capacity};
 ghost use Rattle.clr_heap.specs.Memories.{HasWord};
 ghost use Rattle.clr_heap.specs.View.{SameShape, stored, word_of};
 ghost use Rattle.clr_pinq.specs.Queue.{AreInOrder, AreRising, ComesAfter, entry_with, entry_word, IsPlain, last_end};
 ghost use Rattle.clr_pinq.specs.Queue.{logical, option_word, or_else, queue_with, queue_word};
-ghost use Rattle.clr_pinq.specs.Bounds.{AreSavedHeld, CanPutBack, IsPlaceOf};
+ghost use Rattle.clr_pinq.specs.Bounds.{AreSavedHeld, CanPutBack, IsBracket, IsPlaceOf};
 
 use crate::NoMemory;
 use crate::entry::{PinEntry, Saved};
@@ -17,7 +18,8 @@ use std::marker::Model;
 /// Plugs by rising address, with the words that their information overwrites in live neighbours.
 ///
 /// A word of the heap reads as the saved one where one is saved, and else as it stands. A read far from all saved words
-/// costs two comparisons, and one among them a search by halves.
+/// costs two comparisons, and one among them a search by halves. A guess of the entry, as `near` gives it, spares the
+/// search where it is right, or one too low: a walk by rising address takes it along. A wrong one changes no answer.
 #[derive(Drop)]
 pub struct PinQueue {
     entries: Vec<PinEntry>,
@@ -92,16 +94,25 @@ impl PinQueue {
         self.entries[i]
     }
 
+    /// The guess for words at and near the address `a`, found from another one.
+    #[inline]
+    pub fn near(&self, guess: usize, a: u64) -> usize {
+        if a < self.low || self.high <= a {
+            return guess;
+        }
+        place_of(&self.entries, guess, a)
+    }
+
     /// The logical word at the address `a`: the saved one, and the heap's own where none is saved.
     #[inline]
-    pub fn logical_word(&self, heap: &Heap, a: u64) -> u64
+    pub fn logical_word(&self, heap: &Heap, near: usize, a: u64) -> u64
         requires { HasWord heap.now.memories a }
         ensures { result ≡ logical self.now.entries (word_of heap.now) a }
     {
         if a < self.low || self.high <= a {
             return heap.word(a);
         }
-        match saved_in(&self.entries, a) {
+        match saved_in(&self.entries, near, a) {
             Some(word) => word,
             None => heap.word(a),
         }
@@ -109,7 +120,7 @@ impl PinQueue {
 
     /// Writes the logical word at the address `a`: the saved one, and the heap's own where none is saved. All other
     /// logical words stay.
-    pub fn set_logical_word(&mut self, heap: &mut Heap, a: u64, v: u64)
+    pub fn set_logical_word(&mut self, heap: &mut Heap, near: usize, a: u64, v: u64)
         requires { HasWord heap.old.memories a }
         ensures words { (b : ℕ) → b % 8 ≡ 0 → logical self.new.entries (word_of heap.new) b
             ≡ (if b == a then v else logical self.old.entries (word_of heap.old) b) }
@@ -120,7 +131,7 @@ impl PinQueue {
             heap.set_word(a, v);
             return;
         }
-        if write_saved(&mut self.entries, a, v) {
+        if write_saved(&mut self.entries, near, a, v) {
             return;
         }
         heap.set_word(a, v);
@@ -128,14 +139,14 @@ impl PinQueue {
 
     /// The lowest address at or above `a` for which a word is saved, and `u64::MAX` where there is none. The heap's
     /// words from `a` up to it are the logical ones, so a walk reads them as they stand.
-    pub fn next_saved(&self, a: u64) -> u64
+    pub fn next_saved(&self, near: usize, a: u64) -> u64
         ensures plain { IsPlain self.now.entries a result }
         ensures saved { (IsSome (queue_word self.now.entries result) × (a ≤ result)) ⊎ (result ≡ 2 ^ 64 - 1) }
     {
         if self.high <= a {
             return u64::MAX;
         }
-        let mut i = place_of(&self.entries, a);
+        let mut i = place_of(&self.entries, near, a);
         while i < self.entries.len() {
             let next = next_in(self.entries[i], a);
             if next != u64::MAX {
@@ -197,33 +208,91 @@ fn widened(low: u64, high: u64, saved: Option<Saved>) -> (u64, u64)
 }
 
 // The number of entries that end at `a + 8` or below, none of which saves a word at or above `a`.
-fn place_of(entries: &Vec<PinEntry>, a: u64) -> usize
+fn place_of(entries: &Vec<PinEntry>, near: usize, a: u64) -> usize
     requires { AreRising 0 entries.now.items }
     ensures count { result ≤ length entries.now.items }
     ensures below { (i : ℕ) (d : PinEntry) → i < result → (get_or entries.now.items i d).end ≤ a + 8 }
     ensures above { (i : ℕ) (d : PinEntry) → result ≤ i → i < length entries.now.items
         → a + 8 < (get_or entries.now.items i d).end }
 {
-    let mut low = 0;
-    let mut high = entries.len();
+    let (mut low, mut high) = around(entries, near, a);
     while low < high {
         let middle = low + (high - low) / 2;
-        let entry = entries[middle];
-        if entry.end > a && entry.end - a > 8 {
-            high = middle;
-        } else {
+        if is_below(entries[middle], a) {
             low = middle + 1;
+        } else {
+            high = middle;
         }
     }
     low
 }
 
+// Bounds of that number, which meet where the guess is right, or one too low.
+fn around(entries: &Vec<PinEntry>, near: usize, a: u64) -> (usize, usize)
+    requires { AreRising 0 entries.now.items }
+    ensures { IsBracket entries.now.items a result.0 result.1 }
+{
+    let count = entries.len();
+    if near > count {
+        return (0, count);
+    }
+    if !are_below(entries, near, a) {
+        return (0, near - 1);
+    }
+    if are_above(entries, near, a) {
+        return (near, near);
+    }
+    if are_above(entries, near + 1, a) {
+        return (near + 1, near + 1);
+    }
+    (near + 2, count)
+}
+
+// Whether the first `n` entries end at `a + 8` or below.
+#[inline]
+fn are_below(entries: &Vec<PinEntry>, n: usize, a: u64) -> bool
+    requires rising { AreRising 0 entries.now.items }
+    requires within { n ≤ length entries.now.items }
+    ensures yes { result ≡ true → (i : ℕ) (d : PinEntry) → i < n → (get_or entries.now.items i d).end ≤ a + 8 }
+    ensures no { result ≡ false → (1 ≤ n) × ((i : ℕ) (d : PinEntry) → n - 1 ≤ i → i < length entries.now.items
+        → a + 8 < (get_or entries.now.items i d).end) }
+{
+    if n == 0 {
+        return true;
+    }
+    is_below(entries[n - 1], a)
+}
+
+// Whether all entries from number `n` on end above that.
+#[inline]
+fn are_above(entries: &Vec<PinEntry>, n: usize, a: u64) -> bool
+    requires rising { AreRising 0 entries.now.items }
+    requires within { n ≤ length entries.now.items }
+    ensures yes { result ≡ true → (i : ℕ) (d : PinEntry) → n ≤ i → i < length entries.now.items
+        → a + 8 < (get_or entries.now.items i d).end }
+    ensures no { result ≡ false → (n < length entries.now.items) × ((i : ℕ) (d : PinEntry) → i < n + 1
+        → (get_or entries.now.items i d).end ≤ a + 8) }
+{
+    if n == entries.len() {
+        return true;
+    }
+    !is_below(entries[n], a)
+}
+
+// Whether an entry ends at `a + 8` or below.
+#[inline]
+fn is_below(entry: PinEntry, a: u64) -> bool
+    ensures { result ≡ nat_le entry.end (a + 8) }
+{
+    entry.end <= a || entry.end - a <= 8
+}
+
 // The word that is saved for `a`.
-fn saved_in(entries: &Vec<PinEntry>, a: u64) -> Option<u64>
+fn saved_in(entries: &Vec<PinEntry>, near: usize, a: u64) -> Option<u64>
     requires { AreRising 0 entries.now.items }
     ensures { result ≡ queue_word entries.now.items a }
 {
-    let i = place_of(entries, a);
+    let i = place_of(entries, near, a);
     if i < entries.len() {
         entries[i].word(a)
     } else {
@@ -232,14 +301,14 @@ fn saved_in(entries: &Vec<PinEntry>, a: u64) -> Option<u64>
 }
 
 // Writes the word that is saved for `a`, and answers whether there is one.
-fn write_saved(entries: &mut Vec<PinEntry>, a: u64, v: u64) -> bool
+fn write_saved(entries: &mut Vec<PinEntry>, near: usize, a: u64, v: u64) -> bool
     requires { AreRising 0 entries.old.items }
     ensures found { result ≡ is_some (queue_word entries.old.items a) }
     ensures items { entries.new.items ≡ queue_with entries.old.items a v }
     ensures len { vec_len entries.new ≡ vec_len entries.old }
     ensures capacity { vec_capacity entries.new ≡ vec_capacity entries.old }
 {
-    let i = place_of(entries, a);
+    let i = place_of(entries, near, a);
     if i < entries.len() {
         let entry = entries[i];
         if entry.word(a).is_some() {

@@ -68,7 +68,7 @@ pub(crate) fn relocate_carded(
     while let Some((lo, hi)) = next_run(cards, cursor, end) {
         let from = nearest(bricks, planned, border, first, cursor, lo);
         cursor = relocate_items(
-            heap, types, cards, bricks, pins, g, planned, from, hi, end, 0,
+            heap, types, cards, bricks, pins, g, planned, 0, from, hi, end, 0,
         );
     }
 }

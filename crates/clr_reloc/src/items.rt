@@ -11,7 +11,14 @@ use clr_types::{TypeId, Types};
 
 // The item that starts at `place`, where `mt` is its method table word.
 #[tactic(auto, unfolding(clr_heap::specs::Parts::item_at))]
-pub(crate) fn logical_item(heap: &Heap, types: &Types, pins: &PinQueue, place: u64, mt: u64) -> Item
+pub(crate) fn logical_item(
+    heap: &Heap,
+    types: &Types,
+    pins: &PinQueue,
+    near: usize,
+    place: u64,
+    mt: u64,
+) -> Item
     requires names { NamesItem types.now (logical pins.now.entries (word_of heap.now)) place }
     requires word { mt ≡ logical pins.now.entries (word_of heap.now) place }
     requires len { HasWord heap.now.memories (place + 8) }
@@ -19,7 +26,7 @@ pub(crate) fn logical_item(heap: &Heap, types: &Types, pins: &PinQueue, place: u
     ensures { result ≡ item_at types.now (logical pins.now.entries (word_of heap.now)) place }
 {
     let type_id = types.of_mt(mt / 2 * 2);
-    let len = logical_length(heap, types, pins, place, type_id);
+    let len = logical_length(heap, types, pins, near, place, type_id);
     let size = types.item_size(type_id, len);
     Item {
         place,
@@ -31,7 +38,14 @@ pub(crate) fn logical_item(heap: &Heap, types: &Types, pins: &PinQueue, place: u
 
 // The length of the item at `place`, 0 where its type has none.
 #[tactic(auto, unfolding(clr_heap::specs::Parts::length_at))]
-fn logical_length(heap: &Heap, types: &Types, pins: &PinQueue, place: u64, type_id: TypeId) -> u64
+fn logical_length(
+    heap: &Heap,
+    types: &Types,
+    pins: &PinQueue,
+    near: usize,
+    place: u64,
+    type_id: TypeId,
+) -> u64
     requires room { place + 8 < 2 ^ 64 }
     requires known { type_id.0 ≤ length types.now }
     requires number { type_id.0 ≡ type_number (logical pins.now.entries (word_of heap.now) place) }
@@ -39,7 +53,7 @@ fn logical_length(heap: &Heap, types: &Types, pins: &PinQueue, place: u64, type_
     ensures { result ≡ length_at types.now (logical pins.now.entries (word_of heap.now)) place }
 {
     if types.has_length(type_id) {
-        pins.logical_word(heap, place + 8)
+        pins.logical_word(heap, near, place + 8)
     } else {
         0
     }

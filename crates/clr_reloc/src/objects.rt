@@ -31,6 +31,7 @@ pub(crate) fn relocate_object(
     pins: &mut PinQueue,
     g: u8,
     planned: &Planned,
+    near: usize,
     found: Item,
     to: u64,
 )
@@ -69,6 +70,7 @@ pub(crate) fn relocate_object(
             pins,
             g,
             planned,
+            near,
             next,
             to + offset,
             age,
@@ -84,6 +86,7 @@ fn relocate_slot(
     pins: &mut PinQueue,
     g: u8,
     planned: &Planned,
+    near: usize,
     a: u64,
     to: u64,
     age: u8,
@@ -107,9 +110,9 @@ fn relocate_slot(
     ensures count { length pins.new.entries ≡ length pins.old.entries }
     ensures spare { pins.new.spare ≡ pins.old.spare }
 {
-    let named = pins.logical_word(heap, a);
+    let named = pins.logical_word(heap, near, a);
     let target = destination(heap, bricks, g, named);
-    pins.set_logical_word(heap, a, target);
+    pins.set_logical_word(heap, near, a, target);
     if planned_gen(heap, planned, target) < age {
         cards.set(to);
     }

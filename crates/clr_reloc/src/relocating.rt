@@ -95,14 +95,16 @@ fn relocate_plugs(
     ensures spare { pins.new.spare ≡ pins.old.spare }
 {
     let mut line = PlugLine::new(heap, types, bricks, g);
+    let mut near = 0;
     for met in 0..u64::MAX {
         match line.next(heap, types, bricks, g) {
             None => return,
             Some(plug) => {
                 let (start, down) = (plug.start(), plug.start() - plug.to());
                 let end = start + plug.size();
+                near = pins.near(near, start);
                 relocate_stretch(
-                    heap, types, cards, bricks, pins, g, planned, start, end, down,
+                    heap, types, cards, bricks, pins, g, planned, near, start, end, down,
                 );
             }
         }
@@ -202,7 +204,9 @@ fn relocate_segment(
     ensures spare { pins.new.spare ≡ pins.old.spare }
 {
     if g == 2 {
-        relocate_stretch(heap, types, cards, bricks, pins, g, planned, first, end, 0);
+        relocate_stretch(
+            heap, types, cards, bricks, pins, g, planned, 0, first, end, 0,
+        );
         return;
     }
     relocate_carded(

@@ -32,6 +32,7 @@ pub(crate) fn relocate_stretch(
     pins: &mut PinQueue,
     g: u8,
     planned: &Planned,
+    near: usize,
     from: u64,
     end: u64,
     down: u64,
@@ -59,7 +60,7 @@ pub(crate) fn relocate_stretch(
     ensures spare { pins.new.spare ≡ pins.old.spare }
 {
     relocate_items(
-        heap, types, cards, bricks, pins, g, planned, from, end, end, down,
+        heap, types, cards, bricks, pins, g, planned, near, from, end, end, down,
     );
 }
 
@@ -73,6 +74,7 @@ pub(crate) fn relocate_items(
     pins: &mut PinQueue,
     g: u8,
     planned: &Planned,
+    near: usize,
     from: u64,
     hi: u64,
     end: u64,
@@ -105,7 +107,9 @@ pub(crate) fn relocate_items(
     ensures spare { pins.new.spare ≡ pins.old.spare }
 {
     let mut place = from;
+    let mut near = near;
     while place < hi {
+        near = pins.near(near, place);
         place += relocate_item(
             heap,
             types,
@@ -114,6 +118,7 @@ pub(crate) fn relocate_items(
             pins,
             g,
             planned,
+            near,
             place,
             place - down,
         );
@@ -131,6 +136,7 @@ fn relocate_item(
     pins: &mut PinQueue,
     g: u8,
     planned: &Planned,
+    near: usize,
     place: u64,
     to: u64,
 ) -> u64
@@ -156,10 +162,12 @@ fn relocate_item(
     ensures count { length pins.new.entries ≡ length pins.old.entries }
     ensures spare { pins.new.spare ≡ pins.old.spare }
 {
-    let mt = pins.logical_word(heap, place);
-    let found = logical_item(heap, types, pins, place, mt);
+    let mt = pins.logical_word(heap, near, place);
+    let found = logical_item(heap, types, pins, near, place, mt);
     if is_left(heap, g, found, mt) {
-        relocate_object(heap, types, cards, bricks, pins, g, planned, found, to);
+        relocate_object(
+            heap, types, cards, bricks, pins, g, planned, near, found, to,
+        );
         return found.size;
     }
     found.size

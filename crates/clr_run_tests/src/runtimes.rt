@@ -84,16 +84,34 @@ fn contexts_are_used_up_and_refilled(rt: HostRuntime) -> Result<(), Fail> {
 fn a_smaller_object_fits_where_a_greater_one_does_not(rt: HostRuntime) -> Result<(), Fail> {
     let mut runtime = small_runtime(rt.alloc())?;
     let births = [
-        // three arrays of 84,992 bytes, each in a context of its own, leave 3,072 bytes of the segment
+        // three arrays of 84,992 bytes that stay, each in a context of its own, leave 3,072 bytes of the segment
+        (1, b"Bytes".as_slice(), Some(84_968), Ok(0x1000_1000)),
+        (2, b"Bytes".as_slice(), Some(84_968), Ok(0x1001_5c00)),
+        (3, b"Bytes".as_slice(), Some(84_968), Ok(0x1002_a800)),
+        (4, b"Bytes".as_slice(), Some(84_968), Err(Refusal::Oom)),
+        (4, b"Bytes".as_slice(), Some(3049), Err(Refusal::Oom)),
+        (4, b"Bytes".as_slice(), Some(3048), Ok(0x1003_f400)),
+        (5, b"Bytes".as_slice(), Some(0), Err(Refusal::Oom)),
+    ];
+    expect_births(&rt, &mut runtime, &births);
+    assert_eq!(rt; runtime.copy(4, 1, 0), Ok(0x1003_f400));
+    Ok(())
+}
+
+#[test]
+fn a_full_compaction_makes_room(rt: HostRuntime) -> Result<(), Fail> {
+    let mut runtime = small_runtime(rt.alloc())?;
+    let births = [
+        // the second array takes the place of the first one in its local
         (1, b"Bytes".as_slice(), Some(84_968), Ok(0x1000_1000)),
         (1, b"Bytes".as_slice(), Some(84_968), Ok(0x1001_5c00)),
         (2, b"Bytes".as_slice(), Some(84_968), Ok(0x1002_a800)),
-        (1, b"Bytes".as_slice(), Some(84_968), Err(Refusal::Oom)),
-        (1, b"Bytes".as_slice(), Some(3049), Err(Refusal::Oom)),
-        (1, b"Bytes".as_slice(), Some(3048), Ok(0x1003_f400)),
-        (1, b"Bytes".as_slice(), Some(0), Err(Refusal::Oom)),
+        // a sweep leaves the first one's bytes to generation 1, so what stays goes down
+        (3, b"Bytes".as_slice(), Some(84_968), Ok(0x1002_a800)),
+        (4, b"Bytes".as_slice(), Some(84_968), Err(Refusal::Oom)),
     ];
     expect_births(&rt, &mut runtime, &births);
-    assert_eq!(rt; runtime.copy(1, 1, 0), Ok(0x1003_f400));
+    assert_eq!(rt; runtime.copy(1, 1, 0), Ok(0x1000_1000));
+    assert_eq!(rt; runtime.copy(2, 1, 0), Ok(0x1001_5c00));
     Ok(())
 }

@@ -1,27 +1,27 @@
 -- The line that makes an object, on what is seen: its checks.
-use Rattle.std.proofs.Common.{◌≡◌, ◌∙◌, ℕ, ◌%◌, ◌<◌, ◌≤◌, inr, Bool, true, false, List, length, refl, sym, ap}
+use Rattle.std.proofs.Common.{◌≡◌, ℕ, ◌<◌, ◌≤◌, inr, Bool, true, false, List, length, refl, sym}
 use Rattle.std.proofs.Common.{subst, arith, Option, Some, None, unwrap_or, if◌then◌else◌, is_some, is_none}
 use Rattle.std.specs.Prelude.{Err}
 use Rattle.std.proofs.lemmas.Bool.{both_ways}
 use Rattle.clr_types.specs.Types.{TypeRow, form_at, has_finalizer, is_array, size_of, type_row}
 use Rattle.clr_types.proofs.TailTaken.{size-lawful}
 use Rattle.clr_heap.specs.Parts.{IsMakeable}
-use Rattle.clr_heap.specs.View.{frame, HeapView}
 use Rattle.clr_view.specs.Shown.{shown}
-use Rattle.clr_view.specs.View.{layout_in}
 use Rattle.clr_view.specs.World.{World}
 use Rattle.clr_model.specs.declared.Refusal.{Refusal}
 use Rattle.clr_model.specs.declared.Refusal.TheVariants.{BadShape, NoMemory, NoSlot, Oom, TooBig, UnknownType}
-use Rattle.clr_model.specs.Allocation.{has_room, own_fits}
+use Rattle.clr_model.specs.Allocation.{out_of_room}
 use Rattle.clr_model.specs.Instructions.{new_object}
 use Rattle.clr_model.specs.Machine.{Machine, Options, Sums}
 use Rattle.clr_model.specs.Outcomes.{refused}
+use Rattle.clr_model.specs.RoomFollows.{FollowsRoom}
 use Rattle.clr_model.specs.Run.{Follows}
-use Rattle.clr_model.proofs.BirthFollows.{new_follows_local, new_follows_room, new_follows_shape, new_follows_size}
-use Rattle.clr_model.proofs.BirthFollows.{new_follows_memory, new_follows_type}
+use Rattle.clr_model.proofs.BirthFollows.{new_follows_local, new_follows_memory, new_follows_shape, new_follows_size}
+use Rattle.clr_model.proofs.BirthFollows.{new_follows_type}
 use Rattle.clr_model.proofs.BirthLine.{MayBear}
 use Rattle.clr_model.proofs.LineChecks.{MayRun}
-use Rattle.clr_runtime.specs.Births.{HasRoomMade, IsMeasured, Measured}
+use Rattle.clr_model.proofs.RoomFollows.{new_follows_fails}
+use Rattle.clr_runtime.specs.Births.{IsMeasured, Measured}
 use Rattle.clr_runtime.specs.Checks.{thread_refusal}
 use Rattle.clr_runtime.specs.RuntimeView.{IsShown}
 use Rattle.clr_runtime.proofs.NamesChecked.{may_run}
@@ -63,15 +63,6 @@ module _ (rows : List TypeRow) (local : ℕ) (name : List ℕ) (len : Option ℕ
         free = λ none. absurd (omega arith);
       }
 
-  -- its size is one that a context may be asked for
-  pub size-asked : (24 ≤ size) × (size % 8 ≡ 0)
-  size-asked =
-      let lawful = size-lawful (form_at rows type) (unwrap_or len 0) in
-      let same = is.is in
-      let least = lawful.0 in
-      let whole = lawful.1 in
-      (omega arith, omega arith)
-
 -- ---- the checks
 
 module _ {w : World} {sums : Sums} {options : Options} (is : IsShown w sums options) (large : options.large ≡ 85000)
@@ -94,7 +85,7 @@ module _ {w : World} {sums : Sums} {options : Options} (is : IsShown w sums opti
     measured_follows NoSlot (type, is, high) = new_follows_local s t local name len type run is.known is.suited high
     measured_follows TooBig (type, is, low, big) =
         new_follows_size s t local name len type run is.known is.suited low
-        (inr (subst (λ b. b ≤ size_of (form_at rows type) (unwrap_or len 0)) (sym large) big))
+        (inr (refl, subst (λ b. b ≤ size_of (form_at rows type) (unwrap_or len 0)) (sym large) big))
     measured_follows _ none = absurd none
 
     module _ (type size : ℕ) (measured : IsMeasured rows local name len type size) where
@@ -117,14 +108,9 @@ module _ {w : World} {sums : Sums} {options : Options} (is : IsShown w sums opti
           room_follows is entries ready kept waiting (new_object t local name len) (refused NoMemory)
           (new_follows_memory s t local name len type may_bear final)
 
-      -- there is no room
-      pub full_follows : (new : HeapView) (entries ready : List ℕ) → entries ≡ w.entries → ready ≡ w.ready
-          → HasRoomMade rows w.heap new t size false
-          → Follows s (new_object t local name len) (refused Oom)
-          (shown (record w { heap = new; entries = entries; ready = ready }) sums options)
-      full_follows new entries ready kept waiting (own, none, same) =
-          subst (λ (v : World). Follows s (new_object t local name len) (refused Oom) (shown v sums options))
-          (λ k. record w { heap = sym same k; entries = sym kept k; ready = sym waiting k })
-          (new_follows_room s t local name len type may_bear
-          (subst (λ b. own_fits (frame w.heap) t b ≡ false) measured.is own)
-          (ap (λ b. has_room (layout_in rows w.heap) b) (sym measured.is) ∙ none))
+      -- there is no room, after all that was collected for it
+      pub full_follows : (new : Machine) → FollowsRoom s t size out_of_room new
+          → Follows (shown w sums options) (new_object t local name len) (refused Oom) new
+      full_follows new room =
+          new_follows_fails s t local name len type may_bear new out_of_room (refused Oom)
+          (subst (λ b. FollowsRoom s t b out_of_room new) measured.is room) refl

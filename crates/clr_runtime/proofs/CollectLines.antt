@@ -1,4 +1,4 @@
--- The line that collects, on what is seen.
+-- Collections of a runtime's parts, and the line that collects, on what is seen.
 use Rattle.std.proofs.Common.{◌≡◌, ◌≢◌, ◌∙◌, ℕ, ◌+◌, ◌^◌, ◌<◌, ◌≤◌, ◌==◌, if◌then◌else◌, Bool, List, [], ◌∷◌}
 use Rattle.std.proofs.Common.{length, map, refl, ap, subst, sym, arith, None}
 use Rattle.std.proofs.lemmas.Bool.{ne_eqb}
@@ -20,12 +20,11 @@ use Rattle.clr_model.specs.Outcomes.{answered}
 use Rattle.clr_model.specs.Picture.{picture, renamed_step}
 use Rattle.clr_model.specs.Run.{Follows}
 use Rattle.clr_model.proofs.CollectFollows.{collect_follows}
+use Rattle.clr_model.proofs.LineChecks.{MayRun}
 use Rattle.clr_model.proofs.PieceBytes.{sums_bounded}
 use Rattle.clr_model.proofs.SeenStands.{follows_sound}
 use Rattle.clr_collect.specs.Collecting.{CountsSlides}
-use Rattle.clr_runtime.specs.Checks.{thread_refusal}
 use Rattle.clr_runtime.specs.RuntimeView.{collected_sums, IsShown}
-use Rattle.clr_runtime.proofs.NamesChecked.{may_run}
 
 -- ---- what a collection leaves of a machine
 
@@ -75,6 +74,17 @@ module _ (m : Machine) (g : ℕ) (how : How) (answer : Collected) (after : Machi
 
 -- ---- the line
 
+-- the collection is done
+pub collect_done : (s : Machine) (t g : ℕ) (how : How) → MayRun s t → lowest_in_step s ≡ None → g ≤ 2
+    → (answer : Collected) (new : Machine)
+    → ((after : Machine) × Collects s g how answer after × (new ≡ picture after))
+    → Follows s (collect_heap t g how) (answered (reply.Collected answer)) new
+collect_done s t g how run idle least answer new (after, collects, is) =
+    subst (Follows s (collect_heap t g how) (answered (reply.Collected answer))) (sym is)
+    (collect_follows s t g how answer after least run idle collects)
+
+-- ---- the parts of a runtime
+
 -- both sums of promoted bytes are words
 record HaveSmallSums (sums : Sums) : Type 0 where
   first : sums.promoted1 < 2 ^ 64
@@ -113,9 +123,8 @@ told_of w sums options is g how locals same new answer before after collected =
     is.sound refl refl in
     (left, collects, world)
 
-module _ {w : World} {sums : Sums} {options : Options} (is : IsShown w sums options) (t g : ℕ) (least : g ≤ 2)
-    (how : How) (passed : thread_refusal (shown w sums options) t ≡ None) (new : World) (answer : Collected)
-    (told : Told w sums options g how new answer) where
+module _ {w : World} {sums : Sums} {options : Options} (is : IsShown w sums options) (g : ℕ) (least : g ≤ 2)
+    (how : How) (new : World) (answer : Collected) (told : Told w sums options g how new answer) where
   abbrev s : Machine
   s = shown w sums options
 
@@ -123,18 +132,19 @@ module _ {w : World} {sums : Sums} {options : Options} (is : IsShown w sums opti
   abbrev after_sums : Sums
   after_sums = collected_sums sums g answer.promoted1 answer.promoted2
 
-  -- the collection is done
-  pub collect_done : Follows (shown w sums options) (collect_heap t g how) (answered (reply.Collected answer))
-      (shown new (collected_sums sums g answer.promoted1 answer.promoted2) options)
-  collect_done =
+  -- what is seen afterwards is the picture of what a collection of what is seen leaves
+  pub has_collected : (after : Machine) × Collects (shown w sums options) g how answer after
+      × (shown new (collected_sums sums g answer.promoted1 answer.promoted2) options ≡ picture after)
+  has_collected =
       let (after, collects, world) = told in
-      subst (Follows s (collect_heap t g how) (answered (reply.Collected answer)))
-      (collected_picture s g how answer after refl collects new world)
-      (collect_follows s t g how answer after least (may_run s t refl passed) refl collects)
+      (after, collects, sym (collected_picture s g how answer after refl collects new world))
 
+  -- it is sound, as after the line that collects
   sound-after : IsPlaceNamed (shown new after_sums options)
-  sound-after = follows_sound s (collect_heap t g how) (answered (reply.Collected answer))
-      (shown new after_sums options) is.sound collect_done
+  sound-after =
+      follows_sound s (collect_heap 1 g how) (answered (reply.Collected answer)) (shown new after_sums options) is.sound
+      (collect_done s 1 g how (record { thread = refl; idle = refl; unheld = refl }) refl least answer
+      (shown new after_sums options) has_collected)
 
   bounded-after : HaveSmallSums after_sums
   bounded-after =
@@ -155,7 +165,6 @@ module _ {w : World} {sums : Sums} {options : Options} (is : IsShown w sums opti
       subst (λ (b : Bool). (if b then answer.promoted2 else sums.promoted2 + answer.promoted2) < 2 ^ 64)
       (ne_eqb g 2 other) bounded-after.second
 
-  -- what holds of the parts of a runtime still holds
   -- as many locals as before
   pub locals-after : length new.locals ≡ 1024
   locals-after =
@@ -165,6 +174,7 @@ module _ {w : World} {sums : Sums} {options : Options} (is : IsShown w sums opti
       ∙ ap (λ (m : Machine). length m.locals) collects.state
       ∙ is.locals
 
+  -- what holds of the parts of a runtime still holds
   pub collect_kept : IsHeld new.rows new.heap → IsUnmarked new.rows new.heap
       → AreFreeHeads new.rows new.heap → AreClean new.rows new.heap
       → IsShown new (collected_sums sums g answer.promoted1 answer.promoted2) options

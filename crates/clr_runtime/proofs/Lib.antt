@@ -10,6 +10,8 @@ pub mod IndexKept
 pub mod CollectLines
 pub mod LimitKept
 pub mod TypeNumbers
+pub mod RefillKept
+pub mod RoomMade
 pub mod BirthLines
 pub mod BirthDone
 pub mod HandleLines

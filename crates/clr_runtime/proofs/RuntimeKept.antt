@@ -4,6 +4,7 @@ use Rattle.std.specs.FinMap.{FinMap}
 use Rattle.std.specs.Ordering.{nat_cmp}
 use Rattle.clr_types.specs.declared.handle.Handle.{Handle}
 use Rattle.clr_types.proofs.ChangedLists.{length-slice_set}
+use Rattle.clr_final.specs.Queues.{Queues}
 use Rattle.clr_heap.specs.View.{HeapView}
 use Rattle.clr_view.specs.Clean.{AreClean}
 use Rattle.clr_view.specs.Marks.{IsUnmarked}
@@ -16,7 +17,8 @@ use Rattle.clr_model.specs.Outcomes.{Outcome}
 use Rattle.clr_model.specs.Run.{Follows}
 use Rattle.clr_model.proofs.PieceBytes.{sums_bounded}
 use Rattle.clr_model.proofs.SeenStands.{follows_sound}
-use Rattle.clr_runtime.specs.RuntimeView.{IsShown}
+use Rattle.clr_runtime.specs.RuntimeView.{IsRuntime, IsShown}
+use Rattle.clr_runtime.specs.declared.parts.Parts.{Parts}
 
 module _ {w : World} {sums : Sums} {options : Options} (is : IsShown w sums options) where
   abbrev s : Machine
@@ -61,6 +63,13 @@ module _ {w : World} {sums : Sums} {options : Options} (is : IsShown w sums opti
         → Follows s i outcome (shown (record w { entries = entries; ready = ready }) sums options)
     room_follows i outcome = subst (λ (v : World). Follows s i outcome (shown v sums options)) same-world
 
+    -- a line that goes on from there goes on from before
+    pub follows_reserved : (i : Instruction) (outcome : Outcome) (new : Machine)
+        → Follows (shown (record w { entries = entries; ready = ready }) sums options) i outcome new
+        → Follows (shown w sums options) i outcome new
+    follows_reserved i outcome new =
+        subst (λ (v : World). Follows (shown v sums options) i outcome new) (sym same-world)
+
     pub room_kept : IsShown (record w { entries = entries; ready = ready }) sums options
     room_kept = subst (λ (v : World). IsShown v sums options) same-world is
 
@@ -78,3 +87,15 @@ module _ {w : World} {sums : Sums} {options : Options} (is : IsShown w sums opti
     clean = clean is.clean;
     sound = follows_sound s i outcome (shown (record w { heap = new }) sums options) is.sound follows;
   }
+
+-- room was made for entries in the finalisation queue of a runtime
+pub reserved_kept : (p : Parts) (finals : Queues) → finals.entries ≡ p.finals.entries → finals.ready ≡ p.finals.ready
+    → IsRuntime p → IsRuntime (record p { finals = finals })
+reserved_kept p finals same waiting is = record {
+  shown = room_kept is.shown finals.entries finals.ready same waiting;
+  tables = is.tables;
+  index = is.index;
+  limit = is.limit;
+  pins = is.pins;
+  room = is.room;
+}

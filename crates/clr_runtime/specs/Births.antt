@@ -1,14 +1,10 @@
--- The checks of a line that makes an object, and the room for it.
+-- The checks of a line that makes an object.
 use Rattle.std.specs.Prelude.{◌≡◌, ℕ, ◌<◌, ◌≤◌, List, Bool, true, false, Option, Some, None, is_some, is_none}
-use Rattle.std.specs.Prelude.{unwrap_or, length, Result, Ok, Err, if◌then◌else◌, ◌⊎◌}
+use Rattle.std.specs.Prelude.{unwrap_or, length, Result, Ok, Err, if◌then◌else◌}
 use Rattle.clr_types.specs.Types.{TypeRow, form_at, is_array, number_of, size_of}
 use Rattle.clr_types.specs.declared.TypeId.{TypeId}
-use Rattle.clr_heap.specs.View.{frame, HeapView}
-use Rattle.clr_view.specs.View.{HasRefilled, layout_in}
 use Rattle.clr_model.specs.declared.Refusal.{Refusal}
 use Rattle.clr_model.specs.declared.Refusal.TheVariants.{UnknownType, BadShape, NoSlot, TooBig}
-use Rattle.clr_model.specs.Allocation.{has_room, own_fits}
-use Rattle.clr_ctx.specs.Contexts.{refilled}
 
 -- the type of a name that a script defined
 abbrev pub IsDefined : List TypeRow → List ℕ → Option TypeId → Type 0
@@ -43,13 +39,3 @@ Measured rows local name len (Err NoSlot) = (t : ℕ) × IsSuited rows name len 
 Measured rows local name len (Err TooBig) =
     (t : ℕ) × IsSuited rows name len t × (local < 64) × (85000 ≤ measure_of rows t len)
 Measured rows local name len (Err _) = ⊥
-
--- Room at the front of the thread's context: it was there, or a refill made it, which takes the first free item in
--- which the size fits and else the tail, or there is none and nothing has changed.
-abbrev pub HasRoomMade : List TypeRow → HeapView → HeapView → ℕ → ℕ → Bool → Type 0
-HasRoomMade rows old new thread size true =
-    ((own_fits (frame old) thread size ≡ true) × (new ≡ old))
-    ⊎ ((own_fits (frame old) thread size ≡ false) × HasRefilled rows old new thread size
-    × (layout_in rows new ≡ refilled (layout_in rows old) thread size))
-HasRoomMade rows old new thread size false =
-    (own_fits (frame old) thread size ≡ false) × (has_room (layout_in rows old) size ≡ false) × (new ≡ old)

@@ -3,5 +3,6 @@ pub mod RuntimeView
 pub mod Outcomes
 pub mod Checks
 pub mod Births
+pub mod Rooms
 pub mod Slots
 pub mod Handles

@@ -11,7 +11,7 @@ use Rattle.clr_model.specs.Lawful.{IsPlaceNamed}
 use Rattle.clr_ctx.specs.Contexts.{IsIndex}
 use Rattle.clr_generations.specs.Tables.{AreTablesOf}
 use Rattle.clr_runtime.specs.Options.{options_of}
-use Rattle.clr_runtime.specs.declared.runtime.Runtime.TheInside.{Inside}
+use Rattle.clr_runtime.specs.declared.parts.Parts.{Parts}
 use Rattle.clr_runtime.specs.declared.sums.Sums as code
 
 abbrev pub sums_of : code.Sums → Sums
@@ -32,7 +32,7 @@ collected_sums s g promoted1 promoted2 = record {
 }
 
 -- the types, the heap, and all that names objects from outside of it
-abbrev pub world_of : Inside → World
+abbrev pub world_of : Parts → World
 world_of r = record {
   rows = r.types;
   heap = r.heap;
@@ -42,7 +42,7 @@ world_of r = record {
   ready = r.finals.ready;
 }
 
-abbrev pub seen : Inside → Machine
+abbrev pub seen : Parts → Machine
 seen r = shown (world_of r) (sums_of r.sums) (options_of r.options)
 
 -- What holds of the parts of a runtime. What is seen is lawful, and its objects are named by their places. Between
@@ -57,7 +57,7 @@ pub record IsShown (w : World) (sums : Sums) (options : Options) : Type 0 where
 
 -- what holds of each runtime: that, its cards and bricks are those of its heap, its contexts keep the index of this
 -- heap, and segments are limited as the options say. No words are saved, and there is room for what a collection saves.
-pub record IsRuntime (r : Inside) : Type 0 where
+pub record IsRuntime (r : Parts) : Type 0 where
   pub shown : IsShown (world_of r) (sums_of r.sums) (options_of r.options)
   pub tables : AreTablesOf r.types r.heap r.cards r.bricks
   pub index : IsIndex r.types r.heap r.contexts

@@ -1,16 +1,13 @@
 //! The line that makes an object.
-ghost use Rattle.std.specs.Prelude.{◌≡◌, ◌<◌, ◌≤◌, ◌%◌, ◌++◌, [], ◌∷◌, OnErr, OnOk, true, if◌then◌else◌};
-ghost use Rattle.clr_view.specs.View.{IsHeld};
-ghost use Rattle.clr_ctx.specs.Contexts.{IsIndex};
-ghost use Rattle.clr_runtime.specs.Births.{HasRoomMade, IsDefined, Measured};
+ghost use Rattle.std.specs.Prelude.{◌≡◌, ◌≤◌, ◌++◌, [], ◌∷◌, OnErr, OnOk, true, if◌then◌else◌};
+ghost use Rattle.clr_runtime.specs.Births.{IsDefined, Measured};
 
 use crate::NoMemory;
 use crate::checks::index_of;
+use crate::rooms::make_room;
 use crate::runtime::{LOCALS_OF_A_THREAD, Runtime};
-use clr_ctx::Contexts;
 use clr_final::Finals;
 use clr_generations::bear;
-use clr_heap::Heap;
 use clr_model::Refusal;
 use clr_types::{TypeId, Types};
 
@@ -29,8 +26,15 @@ impl Runtime {
     ///
     /// It is refused for an unknown thread or type, a length that doesn't suit the type, a local from 64 on, and 85,000
     /// bytes and more, in this order; then with `NoMemory` where a finalisation entry is wanted and there is no memory
-    /// for it; and with `Oom` exactly where neither the context nor the rest of generation 0 has room. A refused line
-    /// changes nothing.
+    /// for it. Such a line changes nothing.
+    ///
+    /// Where the context has no room, the thread gets a new one: from the first free item of generation 0 in which the
+    /// object fits, or from the tail of its segment. Where the bytes that were born since the last collection would
+    /// pass the budget `b0` with the object, or where no new context has room, the line collects first, as the option
+    /// `compact` decides: generation 0, and generation 1 too where the bytes promoted to it passed `b1`, and then all
+    /// where also those promoted to generation 2 passed `b2`. Where there is no room then, either, it makes a full
+    /// compacting collection. It is refused with `Oom` exactly where there is no room after that, and what the
+    /// collections left stays.
     pub fn new_object(
         &mut self,
         t: u64,
@@ -43,36 +47,29 @@ impl Runtime {
         if let Some(refusal) = self.refused_thread(t) {
             return Err(refusal);
         }
-        let (type_id, size) = match measure(&self.types, local, name, len) {
+        let (type_id, size) = match measure(&self.parts.types, local, name, len) {
             Ok(measured) => measured,
             Err(refusal) => return Err(refusal),
         };
-        let finalizer = self.types.finalizer(type_id);
-        let Ok(()) = reserve_entry(&mut self.finals, finalizer) else {
+        let finalizer = self.parts.types.finalizer(type_id);
+        let Ok(()) = reserve_entry(&mut self.parts.finals, finalizer) else {
             return Err(Refusal::NoMemory);
         };
-        self.heap.lawful();
         let thread = t as usize;
-        if !make_room(
-            &mut self.contexts,
-            &mut self.heap,
-            &self.types,
-            thread,
-            size,
-        ) {
+        if !make_room(&mut self.parts, thread, size) {
             return Err(Refusal::Oom);
         }
         let place = bear(
-            &mut self.heap,
-            &self.types,
-            &mut self.bricks,
+            &mut self.parts.heap,
+            &self.parts.types,
+            &mut self.parts.bricks,
             thread,
             type_id,
             len.unwrap_or(0),
         );
-        register_entry(&mut self.finals, finalizer, place);
-        self.locals[index_of(t, local)] = place;
-        self.sums.spent0 += size;
+        register_entry(&mut self.parts.finals, finalizer, place);
+        self.parts.locals[index_of(t, local)] = place;
+        self.parts.sums.spent0 += size;
         Ok(place)
     }
 }
@@ -110,29 +107,6 @@ fn measure(
         Some(size) if size < LARGE => Ok((type_id, size)),
         _ => Err(Refusal::TooBig),
     }
-}
-
-// Makes room of this size at the front of the thread's context, by a refill where the rest has none, and tells whether
-// there is.
-fn make_room(
-    contexts: &mut Contexts,
-    heap: &mut Heap,
-    types: &Types,
-    thread: usize,
-    size: u64,
-) -> bool
-    requires held { IsHeld types.now heap.old }
-    requires index { IsIndex types.now heap.old contexts.old }
-    requires positive { 0 < thread }
-    requires few { thread ≤ 16 }
-    requires least { 24 ≤ size }
-    requires whole { size % 8 ≡ 0 }
-    requires small { size < 85000 }
-    ensures room { HasRoomMade types.now heap.old heap.new thread size result }
-    ensures held { IsHeld types.now heap.new }
-    ensures index { IsIndex types.now heap.new contexts.new }
-{
-    contexts.fits(heap, thread, size) || contexts.refill(heap, types, thread, size).is_some()
 }
 
 // Makes room for an entry, where one is wanted.

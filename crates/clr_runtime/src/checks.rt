@@ -16,7 +16,7 @@ impl Runtime {
         ensures value { result ≡ thread_refusal self.now t }
         ensures known { result ≡ None → is_thread t ≡ true }
     {
-        let _ = &self.sums;
+        let _ = &self.parts.sums;
         if is_known(t) {
             None
         } else {

@@ -1,6 +1,11 @@
-//! The line that collects.
-ghost use Rattle.std.specs.Prelude.{◌≤◌};
+//! The line that collects, and the collections that it and allocations make.
+ghost use Rattle.std.specs.Prelude.{◌≡◌, ◌≤◌};
+ghost use Rattle.clr_model.specs.Collection.{Collects};
+ghost use Rattle.clr_model.specs.Machine.{Machine};
+ghost use Rattle.clr_model.specs.Picture.{picture};
+ghost use Rattle.clr_runtime.specs.RuntimeView.{IsRuntime, seen};
 
+use crate::parts::Parts;
 use crate::runtime::Runtime;
 use clr_collect::collect;
 use clr_model::{Collected, How, Refusal};
@@ -27,31 +32,45 @@ impl Runtime {
         if let Some(refusal) = self.refused_thread(t) {
             return Err(refusal);
         }
-        let collected = collect(
-            &self.types,
-            &mut self.heap,
-            &mut self.cards,
-            &mut self.bricks,
-            &mut self.marker,
-            &mut self.contexts,
-            &mut self.handles,
-            &mut self.finals,
-            &mut self.locals,
-            &mut self.pins,
-            &mut self.slides,
-            self.options.compact,
-            g,
-            how,
-        );
-        self.sums = self
-            .sums
-            .collected(g, collected.promoted1, collected.promoted2);
-        Ok(collected)
+        Ok(collect_parts(&mut self.parts, g, how))
     }
 
     /// How many compactions there were, and how many bytes they moved, together. It stays at the last value of a `u64`
     /// where it would pass it.
     pub fn slides(&self) -> u64 {
-        self.slides.count()
+        self.parts.slides.count()
     }
+}
+
+// Collects generation `g` and all younger ones, as `how` says. The finalisation queue still has room for as many
+// entries.
+pub(crate) fn collect_parts(parts: &mut Parts, g: u8, how: How) -> Collected
+    requires generation { g ≤ 2 }
+    requires runtime { IsRuntime parts.old }
+    ensures collected { (after : Machine) × Collects (seen parts.old) g how result after
+        × (seen parts.new ≡ picture after) }
+    ensures runtime { IsRuntime parts.new }
+    ensures spare { parts.old.finals.spare ≤ parts.new.finals.spare }
+    ensures types { parts.new.types ≡ parts.old.types }
+{
+    let collected = collect(
+        &parts.types,
+        &mut parts.heap,
+        &mut parts.cards,
+        &mut parts.bricks,
+        &mut parts.marker,
+        &mut parts.contexts,
+        &mut parts.handles,
+        &mut parts.finals,
+        &mut parts.locals,
+        &mut parts.pins,
+        &mut parts.slides,
+        parts.options.compact,
+        g,
+        how,
+    );
+    parts.sums = parts
+        .sums
+        .collected(g, collected.promoted1, collected.promoted2);
+    collected
 }

@@ -20,14 +20,14 @@ impl Runtime {
         if let Some(refusal) = self.refused_names(t, local, local) {
             return Err(refusal);
         }
-        let place = self.locals[index_of(t, local)];
+        let place = self.parts.locals[index_of(t, local)];
         if place == 0 {
             return Err(Refusal::Null);
         }
-        if !is_final(&self.heap, &self.types, place) {
+        if !is_final(&self.parts.heap, &self.parts.types, place) {
             return Ok(());
         }
-        set_suppressed(&mut self.heap, &self.types, place, true);
+        set_suppressed(&mut self.parts.heap, &self.parts.types, place, true);
         Ok(())
     }
 
@@ -41,21 +41,21 @@ impl Runtime {
         if let Some(refusal) = self.refused_names(t, local, local) {
             return Err(refusal);
         }
-        let place = self.locals[index_of(t, local)];
+        let place = self.parts.locals[index_of(t, local)];
         if place == 0 {
             return Err(Refusal::Null);
         }
-        if !is_final(&self.heap, &self.types, place) {
+        if !is_final(&self.parts.heap, &self.parts.types, place) {
             return Ok(());
         }
-        if is_suppressed(&self.heap, &self.types, place) {
-            set_suppressed(&mut self.heap, &self.types, place, false);
+        if is_suppressed(&self.parts.heap, &self.parts.types, place) {
+            set_suppressed(&mut self.parts.heap, &self.parts.types, place, false);
             return Ok(());
         }
-        let Ok(()) = self.finals.reserve(1) else {
+        let Ok(()) = self.parts.finals.reserve(1) else {
             return Err(Refusal::NoMemory);
         };
-        self.finals.register(place);
+        self.parts.finals.register(place);
         Ok(())
     }
 
@@ -69,10 +69,10 @@ impl Runtime {
         if let Some(refusal) = self.refused_names(t, to, to) {
             return Err(refusal);
         }
-        let Some(place) = self.finals.next() else {
+        let Some(place) = self.parts.finals.next() else {
             return Err(Refusal::Empty);
         };
-        self.locals[index_of(t, to)] = place;
+        self.parts.locals[index_of(t, to)] = place;
         Ok(place)
     }
 }

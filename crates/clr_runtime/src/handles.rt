@@ -39,12 +39,18 @@ impl Runtime {
         if let Some(refusal) = self.refused_names(t, local, second.unwrap_or(local)) {
             return Err(refusal);
         }
-        let target = self.locals[index_of(t, local)];
+        let target = self.parts.locals[index_of(t, local)];
         if kind.is_dependent() && target == 0 {
             return Err(Refusal::Null);
         }
-        let other = held_by(&self.locals, t, second);
-        match create_with_room(&mut self.handles, &mut self.pins, kind, target, other) {
+        let other = held_by(&self.parts.locals, t, second);
+        match create_with_room(
+            &mut self.parts.handles,
+            &mut self.parts.pins,
+            kind,
+            target,
+            other,
+        ) {
             Ok(h) => Ok(h),
             Err(fault) => Err(refusal_of(fault)),
         }
@@ -59,10 +65,10 @@ impl Runtime {
         if let Some(refusal) = self.refused_names(t, to, to) {
             return Err(refusal);
         }
-        let Some(handle) = self.handles.get(h) else {
+        let Some(handle) = self.parts.handles.get(h) else {
             return Err(Refusal::NoHandle);
         };
-        self.locals[index_of(t, to)] = handle.target;
+        self.parts.locals[index_of(t, to)] = handle.target;
         Ok(handle.target)
     }
 
@@ -76,13 +82,13 @@ impl Runtime {
         if let Some(refusal) = self.refused_names(t, to, to) {
             return Err(refusal);
         }
-        let Some(handle) = self.handles.get(h) else {
+        let Some(handle) = self.parts.handles.get(h) else {
             return Err(Refusal::NoHandle);
         };
         if !handle.kind.is_dependent() {
             return Err(Refusal::HandleKind);
         }
-        self.locals[index_of(t, to)] = handle.second;
+        self.parts.locals[index_of(t, to)] = handle.second;
         Ok(handle.second)
     }
 
@@ -95,7 +101,7 @@ impl Runtime {
         if let Some(refusal) = self.refused_thread(t) {
             return Err(refusal);
         }
-        let Ok(_) = self.handles.free(h) else {
+        let Ok(_) = self.parts.handles.free(h) else {
             return Err(Refusal::NoHandle);
         };
         Ok(())

@@ -11,6 +11,8 @@ mod collections;
 mod finalizers;
 mod handles;
 mod options;
+mod parts;
+mod rooms;
 mod runtime;
 mod slots;
 mod sums;

@@ -6,6 +6,7 @@ ghost use Rattle.clr_runtime.specs.Outcomes.{refusal_of_fault};
 
 use crate::NoMemory;
 use crate::options::Options;
+use crate::parts::Parts;
 use crate::sums::Sums;
 use clr_bricks::Bricks;
 use clr_cards::Cards;
@@ -37,22 +38,10 @@ pub(crate) const LOCALS_OF_A_THREAD: u64 = 64;
 ///
 /// Contracts see the machine whose objects are named by their places. After each call the runtime stands for the next
 /// state of each graph machine that it stood for before, and the answer is that step's reply. A refused call leaves the
-/// state as it was.
+/// state as it was, but for a refusal with `Oom`, before which `new_object` has collected.
 #[derive(Drop)]
 pub struct Runtime {
-    pub(crate) types: Types,
-    pub(crate) heap: Heap,
-    pub(crate) cards: Cards,
-    pub(crate) bricks: Bricks,
-    pub(crate) contexts: Contexts,
-    pub(crate) marker: Marker,
-    pub(crate) locals: Vec<u64>,
-    pub(crate) handles: Handles,
-    pub(crate) finals: Finals,
-    pub(crate) pins: PinQueue,
-    pub(crate) slides: Slides,
-    pub(crate) sums: Sums,
-    pub(crate) options: Options,
+    pub(crate) parts: Parts,
 }
 
 impl Model for Runtime {
@@ -67,9 +56,9 @@ impl Model for Runtime {
 
     ghost use Rattle.clr_runtime.specs.RuntimeView.{seen, IsRuntime};
 
-    ghost view = { seen };
+    ghost view = { λ r. seen r.parts };
 
-    ghost invariant = { IsRuntime };
+    ghost invariant = { λ r. IsRuntime r.parts };
 }
 
 impl Runtime {
@@ -118,7 +107,7 @@ impl Runtime {
         cover_segments(&heap, &mut cards, &mut bricks)?;
         let mut pins = PinQueue::new(alloc)?;
         pins.reserve(SPARE_SAVES)?;
-        Ok(Runtime {
+        let parts = Parts {
             types,
             heap,
             cards,
@@ -132,7 +121,8 @@ impl Runtime {
             slides: Slides::new(),
             sums: Sums::NONE,
             options,
-        })
+        };
+        Ok(Runtime { parts })
     }
 
     /// Defines a type, and gives its method table word. The name is one that a line can spell. With `finalizer` its
@@ -143,8 +133,8 @@ impl Runtime {
         requires { is_name name.now ≡ true }
         ensures { Follows self.old (define_type name.now (form_of shape.entry) finalizer) (mt_outcome result) self.new }
     {
-        match self.types.define(name, shape, finalizer) {
-            Ok(t) => Ok(self.types.mt(t)),
+        match self.parts.types.define(name, shape, finalizer) {
+            Ok(t) => Ok(self.parts.types.mt(t)),
             Err(fault) => Err(refusal_of(fault)),
         }
     }
@@ -153,7 +143,7 @@ impl Runtime {
     pub fn types(&self) -> &Types
         ensures { result.now ≡ self.now.types }
     {
-        &self.types
+        &self.parts.types
     }
 
     /// The heap, of which the options limit the segments. No object is marked, each free item has the head of free
@@ -169,7 +159,7 @@ impl Runtime {
         ensures limit { result.now.limit ≡ self.now.options.limit }
         ensures sound { IsPlaceNamed self.now }
     {
-        &self.heap
+        &self.parts.heap
     }
 
     /// The cards of the heap: each segment has cards for all that it reserves. Where a slot of an object names one of
@@ -178,7 +168,7 @@ impl Runtime {
         ensures covers { AreCardsOf self.now.layout result.now }
         ensures law { CardLaw self.now.types self.now.layout self.now.objects (is_card_set result.now) }
     {
-        &self.cards
+        &self.parts.cards
     }
 
     /// The bricks of the heap: each segment has bricks for all that it reserves. A brick names the first object that
@@ -188,7 +178,7 @@ impl Runtime {
         ensures covers { AreBricksOf self.now.layout result.now }
         ensures law { BrickLaw self.now.types self.now.layout self.now.objects (entry_at result.now) }
     {
-        &self.bricks
+        &self.parts.bricks
     }
 
     /// The locals, 64 for each of 16 threads, by thread. Null is 0.
@@ -196,7 +186,7 @@ impl Runtime {
         ensures value { result.now ≡ self.now.locals }
         ensures count { length result.now ≡ 1024 }
     {
-        &self.locals
+        &self.parts.locals
     }
 }
 

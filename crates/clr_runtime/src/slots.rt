@@ -38,13 +38,13 @@ impl Runtime {
         if let Some(refusal) = self.refused_names(t, to, from) {
             return Err(refusal);
         }
-        let place = self.locals[index_of(t, from)];
-        let found = match find_slot(&self.heap, &self.types, place, index, true) {
+        let place = self.parts.locals[index_of(t, from)];
+        let found = match find_slot(&self.parts.heap, &self.parts.types, place, index, true) {
             Ok(found) => found,
             Err(refusal) => return Err(refusal),
         };
-        let name = slot_value(&self.heap, &self.types, &found.item, found.slot);
-        self.locals[index_of(t, to)] = name;
+        let name = slot_value(&self.parts.heap, &self.parts.types, &found.item, found.slot);
+        self.parts.locals[index_of(t, to)] = name;
         Ok(name)
     }
 
@@ -57,16 +57,16 @@ impl Runtime {
         if let Some(refusal) = self.refused_names(t, into, from) {
             return Err(refusal);
         }
-        let place = self.locals[index_of(t, into)];
-        let found = match find_slot(&self.heap, &self.types, place, index, true) {
+        let place = self.parts.locals[index_of(t, into)];
+        let found = match find_slot(&self.parts.heap, &self.parts.types, place, index, true) {
             Ok(found) => found,
             Err(refusal) => return Err(refusal),
         };
-        let name = self.locals[index_of(t, from)];
+        let name = self.parts.locals[index_of(t, from)];
         set_reference(
-            &mut self.heap,
-            &self.types,
-            &mut self.cards,
+            &mut self.parts.heap,
+            &self.parts.types,
+            &mut self.parts.cards,
             &found.item,
             found.slot,
             name,
@@ -83,13 +83,19 @@ impl Runtime {
         if let Some(refusal) = self.refused_names(t, into, into) {
             return Err(refusal);
         }
-        let place = self.locals[index_of(t, into)];
-        let found = match find_slot(&self.heap, &self.types, place, index, false) {
+        let place = self.parts.locals[index_of(t, into)];
+        let found = match find_slot(&self.parts.heap, &self.parts.types, place, index, false) {
             Ok(found) => found,
             Err(refusal) => return Err(refusal),
         };
-        let number = narrowed(&self.types, found.item.type_id, value);
-        set_slot_value(&mut self.heap, &self.types, &found.item, found.slot, number);
+        let number = narrowed(&self.parts.types, found.item.type_id, value);
+        set_slot_value(
+            &mut self.parts.heap,
+            &self.parts.types,
+            &found.item,
+            found.slot,
+            number,
+        );
         Ok(())
     }
 
@@ -102,9 +108,14 @@ impl Runtime {
         if let Some(refusal) = self.refused_names(t, from, from) {
             return Err(refusal);
         }
-        let place = self.locals[index_of(t, from)];
-        match find_slot(&self.heap, &self.types, place, index, false) {
-            Ok(found) => Ok(slot_value(&self.heap, &self.types, &found.item, found.slot)),
+        let place = self.parts.locals[index_of(t, from)];
+        match find_slot(&self.parts.heap, &self.parts.types, place, index, false) {
+            Ok(found) => Ok(slot_value(
+                &self.parts.heap,
+                &self.parts.types,
+                &found.item,
+                found.slot,
+            )),
             Err(refusal) => Err(refusal),
         }
     }
@@ -118,8 +129,8 @@ impl Runtime {
         if let Some(refusal) = self.refused_names(t, to, from) {
             return Err(refusal);
         }
-        let held = self.locals[index_of(t, from)];
-        self.locals[index_of(t, to)] = held;
+        let held = self.parts.locals[index_of(t, from)];
+        self.parts.locals[index_of(t, to)] = held;
         Ok(held)
     }
 
@@ -132,7 +143,7 @@ impl Runtime {
         if let Some(refusal) = self.refused_names(t, local, local) {
             return Err(refusal);
         }
-        self.locals[index_of(t, local)] = 0;
+        self.parts.locals[index_of(t, local)] = 0;
         Ok(())
     }
 }

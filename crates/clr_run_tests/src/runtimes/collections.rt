@@ -9,17 +9,18 @@ use std::alloc::Global;
 use std::process::Abort;
 use std::test::Fail;
 
-// A runtime whose mark stack has room for so many objects, with a class of one reference and arrays of references.
+// A runtime whose mark stack has room for so many objects, with a class of one reference and arrays of references. No
+// budget is ever used up.
 fn runtime_with_stack(alloc: Global, capacity: usize) -> Result<Runtime, Fail>
     requires { 1 ≤ capacity }
 {
     let options = Options {
         limit: 33_554_432,
         segment: 16_777_216,
-        b0: 262_144,
-        b1: 1_048_576,
-        b2: 4_194_304,
-        bl: 4_194_304,
+        b0: 1_073_741_824,
+        b1: 1_073_741_824,
+        b2: 1_073_741_824,
+        bl: 1_073_741_824,
         compact: 50,
     };
     let mut runtime = Runtime::with_mark_stack(alloc, options, capacity)?;

@@ -36,8 +36,8 @@ pass-requires c =
           (omega (arith, n, test)) c.in-Some.plug lands,
     )
 
-pub land_plug-requires-clause-can : goal.land_plug-requires-clause-can
-land_plug-requires-clause-can c =
+pub land_plug-near-requires-clause-can : goal.land_plug-near-requires-clause-can
+land_plug-near-requires-clause-can c =
     let (view, vs, o, told) = c.requires.can in
     let n = c.segments-count.ensures.count in
     let test = c.loop-front-test.true in
@@ -48,8 +48,8 @@ land_plug-requires-clause-can c =
     (c.loop-front.invariant view vs o told) c.lawful.ensures c.room_end.result c.room_end.ensures
     (omega (arith, n, test)) c.in-Some.plug lands
 
-pub land_plug-requires-clause-end : goal.land_plug-requires-clause-end
-land_plug-requires-clause-end c =
+pub land_plug-near-requires-clause-end : goal.land_plug-near-requires-clause-end
+land_plug-near-requires-clause-end c =
     let (view, vs, o, told) = c.requires.can in
     let n = c.segments-count.ensures.count in
     let test = c.loop-front-test.true in
@@ -60,8 +60,8 @@ land_plug-requires-clause-end c =
     (c.loop-front.invariant view vs o told) c.lawful.ensures c.room_end.result c.room_end.ensures
     (omega (arith, n, test)) c.in-Some.plug lands
 
-pub land_plug-requires-clause-fits : goal.land_plug-requires-clause-fits
-land_plug-requires-clause-fits c =
+pub land_plug-near-requires-clause-fits : goal.land_plug-near-requires-clause-fits
+land_plug-near-requires-clause-fits c =
     let (view, vs, o, told) = c.requires.can in
     let n = c.segments-count.ensures.count in
     let test = c.loop-front-test.true in
@@ -121,8 +121,8 @@ loop-front-preserved-in-Some c = λ view vs o told.
     c.loop-front.heap c.loop-front.plugs c.loop-front.front c.args.slides.now c.loop-front.slides
     (c.loop-front.invariant view vs o told) c.lawful.ensures c.room_end.result c.room_end.ensures
     (omega (arith, n, test)) c.in-Some.plug lands
-    c.pass.new.self c.land_plug.new.heap c.to.result c.size.result c.add_plug.new.self c.to.ensures c.size.ensures
-    (c.pass.ensures vs w.order w.next within) c.land_plug.ensures.shape c.land_plug.ensures.words c.add_plug.ensures
+    c.pass.new.self c.land_plug-near.new.heap c.to.result c.size.result c.add_plug.new.self c.to.ensures c.size.ensures
+    (c.pass.ensures vs w.order w.next within) c.land_plug-near.ensures.shape c.land_plug-near.ensures.words c.add_plug.ensures
 
 pub loop-front-smaller : goal.loop-front-smaller
 loop-front-smaller c =

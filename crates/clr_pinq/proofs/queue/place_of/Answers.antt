@@ -1,11 +1,24 @@
-use Rattle.std.proofs.Common.{◌+◌, ◌-◌, ◌/◌, ◌≤◌, arith}
+use Rattle.std.proofs.Common.{◌+◌, ◌-◌, ◌/◌, ◌∙◌, sym, arith}
+use Rattle.std.proofs.lemmas.Bool.{leb-false, leb-true}
 use Rattle.clr_pinq.proofs.Lookups.{all_above, all_below}
 use Rattle.clr_pinq.proofs.queue.place_of.Goals as goal
-use Rattle.clr_pinq.proofs.queue.place_of.Goals.{else-entry-a-via-then-entry-a+else-entry-a-gt8}
-use Rattle.clr_pinq.proofs.queue.place_of.Goals.{else-entry-a-via-else-entry-a}
 
-pub loop-low-preserved-then-entry-a-gt8 : goal.loop-low-preserved-then-entry-a-gt8
-loop-low-preserved-then-entry-a-gt8 c =
+pub loop-low-preserved-then-is_below : goal.loop-low-preserved-then-is_below
+loop-low-preserved-then-is_below c =
+    let l = c.loop-low in
+    let within = l.invariant.within in
+    let test = c.loop-low-test.true in
+    record {
+      order = omega (arith, test);
+      within = within;
+      below = all_below c.args.entries.now.items (l.low + (l.high - l.low) / 2)
+          c.args.a c.index.result.now c.requires (omega (arith, within, test)) c.index.ensures
+          (leb-true c.index.result.now.end (c.args.a + 8) (sym c.is_below.ensures ∙ c.if-is_below.true));
+      above = l.invariant.above;
+    }
+
+pub loop-low-preserved : goal.loop-low-preserved
+loop-low-preserved c =
     let l = c.loop-low in
     let within = l.invariant.within in
     let test = c.loop-low-test.true in
@@ -14,25 +27,6 @@ loop-low-preserved-then-entry-a-gt8 c =
       within = omega (arith, within, test);
       below = l.invariant.below;
       above = all_above c.args.entries.now.items (l.low + (l.high - l.low) / 2)
-          c.args.a c.index-entry.result.now c.requires (omega (arith, within, test)) c.index-entry.ensures
-          (omega (arith, c.if-entry-a.true, c.if-entry-a-gt8.true));
-    }
-
-pub loop-low-preserved : goal.loop-low-preserved
-loop-low-preserved c =
-    let l = c.loop-low in
-    let within = l.invariant.within in
-    let test = c.loop-low-test.true in
-    let low : c.index-entry.result.now.end ≤ c.args.a + 8 =
-    elim c.else-entry-a.branch [
-      | else-entry-a-via-then-entry-a+else-entry-a-gt8 w ↦ let h = w.if-entry-a-gt8.false in
-          omega (arith, h)
-      | else-entry-a-via-else-entry-a w ↦ let h = w.if-entry-a.false in omega (arith, h)
-    ] in
-    record {
-      order = omega (arith, test);
-      within = within;
-      below = all_below c.args.entries.now.items (l.low + (l.high - l.low) / 2)
-          c.args.a c.index-entry.result.now c.requires (omega (arith, within, test)) c.index-entry.ensures low;
-      above = l.invariant.above;
+          c.args.a c.index.result.now c.requires (omega (arith, within, test)) c.index.ensures
+          (leb-false c.index.result.now.end (c.args.a + 8) (sym c.is_below.ensures ∙ c.if-is_below.false));
     }

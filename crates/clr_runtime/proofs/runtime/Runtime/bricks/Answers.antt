@@ -11,7 +11,7 @@ use Rattle.clr_runtime.proofs.runtime.Runtime.bricks.Goals as goal
 
 pub returns-clause-law : goal.returns-clause-law
 returns-clause-law c =
-    let r = c.self.inside in
+    let r = c.self.inside.parts in
     let objects : List Object = objects_in r.types r.heap in
     rw (← c.self.view_is)
     (brick_law-kept r.types r.types (frame r.heap) (layout_in r.types r.heap) objects objects

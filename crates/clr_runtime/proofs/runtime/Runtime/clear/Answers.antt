@@ -17,7 +17,7 @@ returns-in-Some c =
 
 pub invariant_of-self : goal.invariant_of-self
 invariant_of-self c =
-    let r = c.self.inside in
+    let r = c.self.inside.parts in
     let passed = rw (← c.self.view_is) at (sym c.refused_names.ensures.value ∙ c.in_default.is) in
     record {
       shown = local_kept c.self.invariant.shown _ (answered Done) c.index_of.result 0
@@ -32,7 +32,7 @@ invariant_of-self c =
 
 pub returns : goal.returns
 returns c =
-    let r = c.self.inside in
+    let r = c.self.inside.parts in
     let passed = rw (← c.self.view_is) at (sym c.refused_names.ensures.value ∙ c.in_default.is) in
     rw (← c.self.view_is)
     (cleared (world_of r) _ _ c.args.t c.args.local c.index_of.result

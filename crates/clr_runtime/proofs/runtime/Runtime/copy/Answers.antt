@@ -18,7 +18,7 @@ returns-in-Some c =
 
 pub invariant_of-self : goal.invariant_of-self
 invariant_of-self c =
-    let r = c.self.inside in
+    let r = c.self.inside.parts in
     let passed = rw (← c.self.view_is) at (sym c.refused_names.ensures.value ∙ c.in_default.is) in
     let is = c.self.invariant.shown in
     record {
@@ -36,7 +36,7 @@ invariant_of-self c =
 
 pub returns : goal.returns
 returns c =
-    let r = c.self.inside in
+    let r = c.self.inside.parts in
     let passed = rw (← c.self.view_is) at (sym c.refused_names.ensures.value ∙ c.in_default.is) in
     rw (← c.self.view_is)
     (copied (world_of r) _ _ c.args.t c.args.to c.args.from c.index_of-2.result

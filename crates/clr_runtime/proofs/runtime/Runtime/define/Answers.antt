@@ -11,7 +11,7 @@ use Rattle.clr_runtime.proofs.runtime.Runtime.define.Goals.{in-Ok, in-Err}
 
 pub returns : goal.returns
 returns c =
-    let r = c.self.inside in
+    let r = c.self.inside.parts in
     let form = form_of c.args.shape in
     let told : IsTold r.types c.args.name.now form c.args.finalizer c.define.result = record {
       duplicate = c.define.ensures.duplicate;
@@ -30,7 +30,7 @@ returns c =
 
 pub invariant_of-self : goal.invariant_of-self
 invariant_of-self c =
-    let r = c.self.inside in
+    let r = c.self.inside.parts in
     let form = form_of c.args.shape in
     record {
       shown =

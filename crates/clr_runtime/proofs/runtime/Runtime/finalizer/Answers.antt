@@ -29,25 +29,26 @@ returns-in_default-next c =
     rw (← c.self.view_is)
     (room_follows c.self.invariant.shown finals.entries finals.ready c.next.ensures.entries
     (sym c.in_default-next.ensures.taken) (take_ready c.args.t c.args.to) _
-    (take_empty (world_of c.self.inside) _ _ c.args.t c.args.to passed c.in_default-next.ensures.none))
+    (take_empty (world_of c.self.inside.parts) _ _ c.args.t c.args.to passed c.in_default-next.ensures.none))
 
 -- the local takes the first that waits
-done : (c : After-index_of) → Follows (seen c.self.inside) (take_ready c.args.t c.args.to)
+done : (c : After-index_of) → Follows (seen c.self.inside.parts) (take_ready c.args.t c.args.to)
     (answered (Place c.in-Some-next.place))
-    (shown (record (world_of c.self.inside) {
-      locals = slice_set c.self.inside.locals.items c.index_of.result c.in-Some-next.place;
+    (shown (record (world_of c.self.inside.parts) {
+      locals = slice_set c.self.inside.parts.locals.items c.index_of.result c.in-Some-next.place;
       entries = c.next.new.self.entries;
       ready = c.next.new.self.ready;
-    }) (sums_of c.self.inside.sums) (options_of c.self.inside.options))
+    }) (sums_of c.self.inside.parts.sums) (options_of c.self.inside.parts.options))
 done c =
     let passed = rw (← c.self.view_is) at (sym c.refused_names.ensures.value ∙ c.in_default.is) in
     let finals = c.next.new.self in
-    taken (world_of c.self.inside) _ _ c.args.t c.args.to passed c.in-Some-next.place c.index_of.result finals.entries
+    taken (world_of c.self.inside.parts) _ _ c.args.t c.args.to passed c.in-Some-next.place c.index_of.result
+    finals.entries
     finals.ready c.in-Some-next.ensures.taken c.next.ensures.entries c.index_of.ensures.index
 
 pub invariant_of-self-2 : goal.invariant_of-self-2
 invariant_of-self-2 c =
-    let r = c.self.inside in
+    let r = c.self.inside.parts in
     let is = c.self.invariant.shown in
     let finals = c.next.new.self in
     record {

@@ -21,17 +21,17 @@ returns-in-Some c =
     (sym c.refused_thread.ensures.value ∙ c.in-Some.is)
 
 -- a number that isn't in use
-missing : (c : In_default-free) → Follows (seen c.self.inside) (free_handle c.args.t c.args.h) (refused NoHandle)
-    (shown (record (world_of c.self.inside) { handles = c.free.new.self }) (sums_of c.self.inside.sums)
-    (options_of c.self.inside.options))
+missing : (c : In_default-free) → Follows (seen c.self.inside.parts) (free_handle c.args.t c.args.h) (refused NoHandle)
+    (shown (record (world_of c.self.inside.parts) { handles = c.free.new.self }) (sums_of c.self.inside.parts.sums)
+    (options_of c.self.inside.parts.options))
 missing c =
     let passed = rw (← c.self.view_is) at (sym c.refused_thread.ensures.value ∙ c.in_default.is) in
-    free_missing (world_of c.self.inside) _ _ c.args.t c.args.h passed c.free.new.self c.free.ensures.table
+    free_missing (world_of c.self.inside.parts) _ _ c.args.t c.args.h passed c.free.new.self c.free.ensures.table
     c.in_default-free.ensures.err
 
 pub invariant_of-self : goal.invariant_of-self
 invariant_of-self c =
-    let r = c.self.inside in
+    let r = c.self.inside.parts in
     let is = c.self.invariant.shown in
     record {
       shown = names_kept is _ _ r.locals.items c.free.new.self r.finals.entries r.finals.ready is.locals (missing c);
@@ -46,17 +46,18 @@ pub returns-in_default-free : goal.returns-in_default-free
 returns-in_default-free c = rw (← c.self.view_is) (missing c)
 
 -- the handle is freed
-done : (c : In-Ok) → Follows (seen c.self.inside) (free_handle c.args.t c.args.h) (answered Done)
-    (shown (record (world_of c.self.inside) { handles = c.free.new.self }) (sums_of c.self.inside.sums)
-    (options_of c.self.inside.options))
+done : (c : In-Ok) → Follows (seen c.self.inside.parts) (free_handle c.args.t c.args.h) (answered Done)
+    (shown (record (world_of c.self.inside.parts) { handles = c.free.new.self }) (sums_of c.self.inside.parts.sums)
+    (options_of c.self.inside.parts.options))
 done c =
     let passed = rw (← c.self.view_is) at (sym c.refused_thread.ensures.value ∙ c.in_default.is) in
-    freed (world_of c.self.inside) _ _ c.args.t c.args.h passed c.free.new.self c.free.ensures.table c.in-Ok.field-0
+    freed (world_of c.self.inside.parts) _ _ c.args.t c.args.h passed c.free.new.self c.free.ensures.table
+    c.in-Ok.field-0
     c.in-Ok.ensures.freed
 
 pub invariant_of-self-2 : goal.invariant_of-self-2
 invariant_of-self-2 c =
-    let r = c.self.inside in
+    let r = c.self.inside.parts in
     let is = c.self.invariant.shown in
     record {
       shown = names_kept is _ _ r.locals.items c.free.new.self r.finals.entries r.finals.ready is.locals (done c);

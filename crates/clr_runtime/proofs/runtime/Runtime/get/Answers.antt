@@ -24,7 +24,7 @@ find_slot-requires-clause-object c =
 
 pub returns-in-Err : goal.returns-in-Err
 returns-in-Err c =
-    let r = c.self.inside in
+    let r = c.self.inside.parts in
     let passed = rw (← c.self.view_is) at (sym c.refused_names.ensures.value ∙ c.in_default.is) in
     rw (← c.self.view_is)
     (refused_slot (world_of r) _ _ (get_of c.args.t c.args.to c.args.from c.args.index)
@@ -34,7 +34,7 @@ returns-in-Err c =
 
 pub invariant_of-self : goal.invariant_of-self
 invariant_of-self c =
-    let r = c.self.inside in
+    let r = c.self.inside.parts in
     let passed = rw (← c.self.view_is) at (sym c.refused_names.ensures.value ∙ c.in_default.is) in
     let is = c.self.invariant.shown in
     let (has, kind) = c.in-Ok.ensures in
@@ -56,7 +56,7 @@ invariant_of-self c =
 
 pub returns : goal.returns
 returns c =
-    let r = c.self.inside in
+    let r = c.self.inside.parts in
     let passed = rw (← c.self.view_is) at (sym c.refused_names.ensures.value ∙ c.in_default.is) in
     let (has, kind) = c.in-Ok.ensures in
     let name = c.slot_value-name in

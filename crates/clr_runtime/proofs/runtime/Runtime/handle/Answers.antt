@@ -28,14 +28,15 @@ returns-in-Some c =
     (sym (c.refused_names.ensures.value ∙ twice) ∙ c.in-Some.is))
 
 -- the locals are there
-passed : (c : In_default) → names_refusal (seen c.self.inside) c.args.t
+passed : (c : In_default) → names_refusal (seen c.self.inside.parts) c.args.t
     (c.args.local ∷ unwrap_or c.args.second c.args.local ∷ []) ≡ None
 passed c =
     let twice = ap (λ n. names_refusal c.args.self.now c.args.t (c.args.local ∷ n ∷ [])) c.unwrap_or.ensures in
     rw (← c.self.view_is) at (sym (c.refused_names.ensures.value ∙ twice) ∙ c.in_default.is)
 
 -- and this is the first one's object
-target-is : (c : After-is_dependent) → c.index-target.result.now ≡ local_of (seen c.self.inside) c.args.t c.args.local
+target-is : (c : After-is_dependent) → c.index-target.result.now
+    ≡ local_of (seen c.self.inside.parts) c.args.t c.args.local
 target-is c =
     local-read c.self.invariant.shown c.args.t c.args.local c.index_of.result c.index-target.result.now
     c.index_of.ensures.within c.index_of.ensures.index c.index-target.ensures
@@ -44,17 +45,18 @@ pub returns-then-target-eq0 : goal.returns-then-target-eq0
 returns-then-target-eq0 c =
     let at = goal.at.returns-then-target-eq0 c in
     rw (← c.self.view_is)
-    (create_null (world_of c.self.inside) _ _ c.args.t c.args.kind c.args.local c.args.second c.requires.form
+    (create_null (world_of c.self.inside.parts) _ _ c.args.t c.args.kind c.args.local c.args.second c.requires.form
     (passed at.In_default) c.index-target.result.now (target-is at.After-is_dependent)
     (sym c.is_dependent.ensures ∙ c.if-is_dependent.true) c.if-target-eq0.true)
 
 -- what the table answers is told
-followed : (c : Joined-create_with_room) → Follows (seen c.self.inside)
+followed : (c : Joined-create_with_room) → Follows (seen c.self.inside.parts)
     (create_handle c.args.t c.args.kind c.args.local c.args.second) (handle_outcome c.match-create_with_room.result)
-    (shown (record (world_of c.self.inside) { handles = c.create_with_room.new.handles }) (sums_of c.self.inside.sums)
-    (options_of c.self.inside.options))
+    (shown (record (world_of c.self.inside.parts) { handles = c.create_with_room.new.handles })
+    (sums_of c.self.inside.parts.sums)
+    (options_of c.self.inside.parts.options))
 followed c =
-    let r = c.self.inside in
+    let r = c.self.inside.parts in
     let at = goal.at.returns c in
     let some : is_dependent c.args.kind ≡ true → c.index-target.result.now ≢ 0 = λ dependent.
     elim c.else-is_dependent.either [
@@ -89,7 +91,7 @@ followed c =
 
 pub invariant_of-self : goal.invariant_of-self
 invariant_of-self c =
-    let r = c.self.inside in
+    let r = c.self.inside.parts in
     let is = c.self.invariant.shown in
     record {
       shown = names_kept is _ _ r.locals.items c.create_with_room.new.handles r.finals.entries r.finals.ready is.locals

@@ -1,16 +1,21 @@
 -- The object is born, or the line is refused for the first check that fails.
-use Rattle.std.proofs.Common.{◌≡◌, ◌+◌, ◌∙◌, ◌<◌, ◌^◌, [], ◌∷◌, ◌++◌, if◌then◌else◌, arith, refl, sym, unwrap_or}
+use Rattle.std.proofs.Common.{◌≡◌, ◌+◌, ◌∙◌, ◌<◌, ◌^◌, [], ◌∷◌, ◌++◌, if◌then◌else◌, arith, refl, sym, unwrap_or, List}
+use Rattle.std.proofs.Common.{ap, subst}
+use Rattle.clr_types.specs.Types.{TypeRow, has_finalizer, type_row}
 use Rattle.clr_model.proofs.FrontBirth.{born_entries}
 use Rattle.clr_model.specs.Instructions.{new_object}
+use Rattle.clr_model.specs.Machine.{Machine}
+use Rattle.clr_runtime.specs.Births.{IsMeasured}
 use Rattle.clr_runtime.specs.RuntimeView.{seen}
-use Rattle.clr_runtime.proofs.BirthDone.{birth_kept, born_index, made_follows, room_fits}
-use Rattle.clr_runtime.proofs.BirthLines.{full_follows, known, lacks_follows, makeable, measured_follows}
-use Rattle.clr_runtime.proofs.LimitKept.{birth_limit}
+use Rattle.clr_runtime.specs.declared.parts.Parts.{Parts}
+use Rattle.clr_runtime.proofs.BirthDone.{birth_kept, born_index, HasItsRoom, made_follows, room_fits}
+use Rattle.clr_runtime.proofs.BirthLines.{full_follows, known, lacks_follows, makeable, may_bear, measured_follows}
+use Rattle.clr_runtime.proofs.LimitKept.{born_limit}
 use Rattle.clr_runtime.proofs.NamesChecked.{thread_refused}
-use Rattle.clr_runtime.proofs.RuntimeKept.{room_kept, spent_fits}
-use Rattle.clr_runtime.proofs.TablesKept.{birth_tables, room_tables}
+use Rattle.clr_runtime.proofs.RuntimeKept.{follows_reserved, reserved_kept, room_kept, spent_fits}
+use Rattle.clr_runtime.proofs.TablesKept.{birth_tables}
 use Rattle.clr_runtime.proofs.runtime.Runtime.new_object.Goals as goal
-use Rattle.clr_runtime.proofs.runtime.Runtime.new_object.Goals.{After-register_entry}
+use Rattle.clr_runtime.proofs.runtime.Runtime.new_object.Goals.{After-register_entry, Else-not-make_room}
 
 pub returns-in-Some : goal.returns-in-Some
 returns-in-Some c =
@@ -27,21 +32,15 @@ returns-in-Err c =
 pub finalizer-finalizer-requires : goal.finalizer-finalizer-requires
 finalizer-finalizer-requires c =
     let made = c.in-Ok.measured in
-    (known c.self.inside.types c.args.local c.args.name.now c.args.len made.0.0 made.1 c.in-Ok.ensures).1
+    (known c.self.inside.parts.types c.args.local c.args.name.now c.args.len made.0.0 made.1 c.in-Ok.ensures).1
 
--- no memory for an entry
+-- ---- room for an entry
+
+-- there is no memory for one
 pub invariant_of-self : goal.invariant_of-self
 invariant_of-self c =
-    let finals = c.reserve_entry.new.finals in
-    record {
-      shown = room_kept c.self.invariant.shown finals.entries finals.ready c.reserve_entry.ensures.entries
-          c.reserve_entry.ensures.ready;
-      tables = c.self.invariant.tables;
-      index = c.self.invariant.index;
-      limit = c.self.invariant.limit;
-      pins = c.self.invariant.pins;
-      room = c.self.invariant.room;
-    }
+    reserved_kept c.self.inside.parts c.reserve_entry.new.finals c.reserve_entry.ensures.entries
+    c.reserve_entry.ensures.ready c.self.invariant
 
 pub returns-in_default-reserve_entry : goal.returns-in_default-reserve_entry
 returns-in_default-reserve_entry c =
@@ -53,94 +52,142 @@ returns-in_default-reserve_entry c =
     c.in-Ok.ensures finals.entries finals.ready c.reserve_entry.ensures.entries c.reserve_entry.ensures.ready
     (sym c.finalizer-finalizer.ensures ∙ c.in_default-reserve_entry.ensures.err))
 
--- no room
+-- ---- room for the object
+
+-- the parts with room for an entry are those of a runtime
+pub make_room-requires-clause-runtime : goal.make_room-requires-clause-runtime
+make_room-requires-clause-runtime c =
+    reserved_kept c.self.inside.parts c.reserve_entry.new.finals c.reserve_entry.ensures.entries
+    c.reserve_entry.ensures.ready c.self.invariant
+
+-- there is none, after all that was collected for it
 pub returns-then-not-make_room : goal.returns-then-not-make_room
 returns-then-not-make_room c =
     let made = c.in-Ok.measured in
     let finals = c.reserve_entry.new.finals in
+    let entries = c.reserve_entry.ensures.entries in
+    let ready = c.reserve_entry.ensures.ready in
     let passed = rw (← c.self.view_is) at (sym c.refused_thread.ensures.value ∙ c.in_default.is) in
     rw (← c.self.view_is)
-    (full_follows c.self.invariant.shown refl c.args.t c.args.local c.args.name.now c.args.len passed made.0.0 made.1
-    c.in-Ok.ensures c.make_room.new.heap finals.entries finals.ready c.reserve_entry.ensures.entries
-    c.reserve_entry.ensures.ready c.if-not-make_room.ensures.room)
+    (follows_reserved c.self.invariant.shown finals.entries finals.ready entries ready _ _
+    (seen c.make_room.new.parts)
+    (full_follows (room_kept c.self.invariant.shown finals.entries finals.ready entries ready) refl c.args.t
+    c.args.local c.args.name.now c.args.len passed made.0.0 made.1 c.in-Ok.ensures (seen c.make_room.new.parts)
+    c.if-not-make_room.ensures.room))
 
-pub bear-place-requires-clause-bricks : goal.bear-place-requires-clause-bricks
-bear-place-requires-clause-bricks c =
-    let r = c.self.inside in
-    (room_tables r.cards r.bricks r.types r.heap c.make_room.new.heap c.args.t c.in-Ok.measured.1
-    c.if-not-make_room.ensures.room c.self.invariant.tables).bricks
+-- ---- the birth
+
+-- the parts once there is room
+abbrev roomy : Else-not-make_room → Parts
+roomy c = c.make_room.new.parts
+
+-- the object may be made by the types of then
+suited : (c : Else-not-make_room) → IsMeasured (roomy c).types c.args.local c.args.name.now c.args.len
+    c.in-Ok.measured.0.0 c.in-Ok.measured.1
+suited c =
+    let made = c.in-Ok.measured in
+    subst (λ (rows : List TypeRow). IsMeasured rows c.args.local c.args.name.now c.args.len made.0.0 made.1)
+    (sym c.if-not-make_room.ensures.types) c.in-Ok.ensures
+
+-- what was seen with room for an entry
+abbrev reserved : Else-not-make_room → Machine
+reserved c = seen (record c.self.inside.parts { finals = c.reserve_entry.new.finals })
+
+-- the object has its room
+has_room : (c : Else-not-make_room) → HasItsRoom (reserved c) (seen (roomy c)) c.args.t c.args.local c.args.name.now
+    c.args.len c.in-Ok.measured.0.0 c.in-Ok.measured.1
+has_room c =
+    let made = c.in-Ok.measured in
+    let finals = c.reserve_entry.new.finals in
+    let is = room_kept c.self.invariant.shown finals.entries finals.ready c.reserve_entry.ensures.entries
+    c.reserve_entry.ensures.ready in
+    let passed = rw (← c.self.view_is) at (sym c.refused_thread.ensures.value ∙ c.in_default.is) in
+    record {
+      sound = is.sound;
+      may = may_bear is refl c.args.t c.args.local c.args.name.now c.args.len passed made.0.0 made.1 c.in-Ok.ensures;
+      types = c.if-not-make_room.ensures.types;
+      is = c.in-Ok.ensures.is;
+      room = c.if-not-make_room.ensures.room;
+      fits = c.if-not-make_room.ensures.fits refl;
+    }
 
 pub bear-place-requires-clause-item : goal.bear-place-requires-clause-item
 bear-place-requires-clause-item c =
+    let at = (goal.at.bear-place-requires-clause-item c).Else-not-make_room in
     let made = c.in-Ok.measured in
     rw c.unwrap_or.ensures
-    (makeable c.self.inside.types c.args.local c.args.name.now c.args.len made.0.0 made.1 c.in-Ok.ensures)
+    (makeable (roomy at).types c.args.local c.args.name.now c.args.len made.0.0 made.1 (suited at))
 
 pub bear-place-requires-clause-object : goal.bear-place-requires-clause-object
 bear-place-requires-clause-object c =
     let made = c.in-Ok.measured in
-    (known c.self.inside.types c.args.local c.args.name.now c.args.len made.0.0 made.1 c.in-Ok.ensures).0
+    (known c.self.inside.parts.types c.args.local c.args.name.now c.args.len made.0.0 made.1 c.in-Ok.ensures).0
+
+pub bear-place-requires-clause-bricks : goal.bear-place-requires-clause-bricks
+bear-place-requires-clause-bricks c = c.if-not-make_room.ensures.runtime.tables.bricks
 
 pub bear-place-requires-clause-room : goal.bear-place-requires-clause-room
 bear-place-requires-clause-room c =
+    let at = (goal.at.bear-place-requires-clause-room c).Else-not-make_room in
     let made = c.in-Ok.measured in
-    let passed = rw (← c.self.view_is) at (sym c.refused_thread.ensures.value ∙ c.in_default.is) in
     rw c.unwrap_or.ensures
-    (room_fits c.self.invariant.shown refl c.args.t c.args.local c.args.name.now c.args.len made.0.0 made.1 passed
-    c.in-Ok.ensures c.make_room.new.heap c.if-not-make_room.ensures.room)
+    (room_fits (reserved at) c.if-not-make_room.ensures.runtime.shown c.args.t c.args.local
+    c.args.name.now c.args.len made.0.0 made.1 (has_room at))
 
 pub overflow_add-self : goal.overflow_add-self
 overflow_add-self c =
-    let r = c.self.inside in
-    let fits : r.sums.spent0 + c.in-Ok.measured.1 < 2 ^ 64 =
-    spent_fits c.self.invariant.shown c.in-Ok.measured.1 c.in-Ok.ensures.small in
+    let fits : c.make_room.new.parts.sums.spent0 + c.in-Ok.measured.1 < 2 ^ 64 =
+    spent_fits c.if-not-make_room.ensures.runtime.shown c.in-Ok.measured.1 c.in-Ok.ensures.small in
     omega arith
 
--- the object is born
+-- the entries with the object, where its type has a finaliser
 registered : (c : After-register_entry) → c.register_entry.new.finals.entries
-    ≡ born_entries (seen c.self.inside) c.in-Ok.measured.0.0 c.bear-place.result
+    ≡ born_entries (seen c.make_room.new.parts) c.in-Ok.measured.0.0 c.bear-place.result
 registered c =
+    let p = c.make_room.new.parts in
+    let type = c.in-Ok.measured.0.0 in
+    let final = c.finalizer-finalizer.ensures
+    ∙ ap (λ (rows : List TypeRow). has_finalizer (type_row rows type)) (sym c.if-not-make_room.ensures.types) in
     c.register_entry.ensures.entries
-    ∙ (λ k. if c.finalizer-finalizer.ensures k
-    then c.reserve_entry.ensures.entries k ++ c.bear-place.result ∷ [] else c.reserve_entry.ensures.entries k)
+    ∙ (λ k. if final k then p.finals.entries ++ c.bear-place.result ∷ [] else p.finals.entries)
 
 pub invariant_of-self-2 : goal.invariant_of-self-2
 invariant_of-self-2 c =
-    let r = c.self.inside in
+    let at = goal.at.invariant_of-self-2 c in
+    let p = c.make_room.new.parts in
+    let is = c.if-not-make_room.ensures.runtime in
     let made = c.in-Ok.measured in
     let n = unwrap_or c.args.len 0 in
     let born = c.bear-place in
     let finals = c.register_entry.new.finals in
     let newborn = rw c.unwrap_or.ensures at born.ensures.born in
-    let room = c.if-not-make_room.ensures.room in
-    let passed = rw (← c.self.view_is) at (sym c.refused_thread.ensures.value ∙ c.in_default.is) in
     record {
-      shown = birth_kept c.self.invariant.shown refl c.args.t c.args.local c.args.name.now c.args.len made.0.0 made.1
-          passed c.in-Ok.ensures c.make_room.new.heap born.new.heap born.result c.index_of.result finals.entries
-          finals.ready newborn born.ensures.place c.index_of.ensures.index
-          (registered (goal.at.invariant_of-self-2 c).After-register_entry)
-          (c.register_entry.ensures.ready ∙ c.reserve_entry.ensures.ready) room c.lawful.ensures born.ensures.unmarked
+      shown = birth_kept (reserved at.Else-not-make_room) is.shown c.args.t c.args.local c.args.name.now
+          c.args.len made.0.0 made.1 (has_room at.Else-not-make_room) born.new.heap born.result c.index_of.result
+          finals.entries finals.ready newborn born.ensures.place c.index_of.ensures.index
+          (registered at.After-register_entry) c.register_entry.ensures.ready born.ensures.unmarked
           born.ensures.free_heads born.ensures.clean;
-      tables = birth_tables c.self.invariant.shown c.make_room.new.heap c.args.t made.1 room born.new.heap made.0.0 n
-          r.cards r.bricks born.new.bricks newborn born.ensures.spans born.ensures.bricks born.ensures.cards
-          c.self.invariant.tables;
-      index = born_index r.types c.make_room.new.heap born.new.heap c.args.t made.0.0 n c.make_room.new.contexts
-          newborn c.make_room.ensures.index;
-      limit = birth_limit r.types r.heap c.make_room.new.heap born.new.heap c.args.t made.0.0 n made.1 room
-          (rw c.unwrap_or.ensures at born.ensures.words) ∙ c.self.invariant.limit;
-      pins = c.self.invariant.pins;
-      room = c.self.invariant.room;
+      tables = birth_tables is.shown c.args.t born.new.heap made.0.0 n p.cards p.bricks born.new.bricks newborn
+          born.ensures.spans born.ensures.bricks born.ensures.cards is.tables;
+      index = born_index p.types p.heap born.new.heap c.args.t made.0.0 n p.contexts newborn is.index;
+      limit = born_limit p.types p.heap born.new.heap c.args.t made.0.0 n
+          (rw c.unwrap_or.ensures at born.ensures.words) ∙ is.limit;
+      pins = is.pins;
+      room = is.room;
     }
 
 pub returns : goal.returns
 returns c =
+    let at = goal.at.returns c in
     let made = c.in-Ok.measured in
     let born = c.bear-place in
+    let entry = c.reserve_entry.new.finals in
     let finals = c.register_entry.new.finals in
     let newborn = rw c.unwrap_or.ensures at born.ensures.born in
-    let passed = rw (← c.self.view_is) at (sym c.refused_thread.ensures.value ∙ c.in_default.is) in
     rw (← c.self.view_is)
-    (made_follows c.self.invariant.shown refl c.args.t c.args.local c.args.name.now c.args.len made.0.0 made.1 passed
-    c.in-Ok.ensures c.make_room.new.heap born.new.heap born.result c.index_of.result finals.entries finals.ready newborn
-    born.ensures.place c.index_of.ensures.index (registered (goal.at.returns c).After-register_entry)
-    (c.register_entry.ensures.ready ∙ c.reserve_entry.ensures.ready) c.if-not-make_room.ensures.room)
+    (follows_reserved c.self.invariant.shown entry.entries entry.ready c.reserve_entry.ensures.entries
+    c.reserve_entry.ensures.ready _ _ _
+    (made_follows (reserved at.Else-not-make_room) c.if-not-make_room.ensures.runtime.shown c.args.t
+    c.args.local c.args.name.now c.args.len made.0.0 made.1 (has_room at.Else-not-make_room) born.new.heap born.result
+    c.index_of.result finals.entries finals.ready newborn born.ensures.place c.index_of.ensures.index
+    (registered at.After-register_entry) c.register_entry.ensures.ready))

@@ -27,7 +27,7 @@ find_slot-requires-clause-object c =
 
 pub returns-in-Err : goal.returns-in-Err
 returns-in-Err c =
-    let r = c.self.inside in
+    let r = c.self.inside.parts in
     let passed = rw (← c.self.view_is) at (sym c.refused_names.ensures.value ∙ c.in_default.is) in
     rw (← c.self.view_is)
     (refused_slot (world_of r) _ _
@@ -38,7 +38,7 @@ returns-in-Err c =
 
 pub invariant_of-self : goal.invariant_of-self
 invariant_of-self c =
-    let r = c.self.inside in
+    let r = c.self.inside.parts in
     let passed = rw (← c.self.view_is) at (sym c.refused_names.ensures.value ∙ c.in_default.is) in
     let is = c.self.invariant.shown in
     let (has, kind) = c.in-Ok.ensures in
@@ -65,7 +65,7 @@ invariant_of-self c =
 
 pub returns : goal.returns
 returns c =
-    let r = c.self.inside in
+    let r = c.self.inside.parts in
     let passed = rw (← c.self.view_is) at (sym c.refused_names.ensures.value ∙ c.in_default.is) in
     let (has, kind) = c.in-Ok.ensures in
     let done = c.set_slot_value in

@@ -21,7 +21,7 @@ find_slot-requires-clause-object c =
 
 pub returns-in-Ok : goal.returns-in-Ok
 returns-in-Ok c =
-    let r = c.self.inside in
+    let r = c.self.inside.parts in
     let passed = rw (← c.self.view_is) at (sym c.refused_names.ensures.value ∙ c.in_default.is) in
     let (has, kind) = c.in-Ok.ensures in
     rw (← c.self.view_is)
@@ -33,7 +33,7 @@ returns-in-Ok c =
 
 pub returns-in-Err : goal.returns-in-Err
 returns-in-Err c =
-    let r = c.self.inside in
+    let r = c.self.inside.parts in
     let passed = rw (← c.self.view_is) at (sym c.refused_names.ensures.value ∙ c.in_default.is) in
     rw (← c.self.view_is)
     (refused_slot (world_of r) _ _ (read_of c.args.t c.args.from c.args.index)

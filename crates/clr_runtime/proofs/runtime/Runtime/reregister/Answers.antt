@@ -29,10 +29,11 @@ returns-in-Some c =
 
 -- the local is there, and this is its object
 passed : (c : After-index-place)
-    → names_refusal (seen c.self.inside) c.args.t (c.args.local ∷ c.args.local ∷ []) ≡ None
+    → names_refusal (seen c.self.inside.parts) c.args.t (c.args.local ∷ c.args.local ∷ []) ≡ None
 passed c = rw (← c.self.view_is) at (sym c.refused_names.ensures.value ∙ c.in_default.is)
 
-place-is : (c : After-index-place) → c.index-place.result.now ≡ local_of (seen c.self.inside) c.args.t c.args.local
+place-is : (c : After-index-place) → c.index-place.result.now
+    ≡ local_of (seen c.self.inside.parts) c.args.t c.args.local
 place-is c =
     local-read c.self.invariant.shown c.args.t c.args.local c.index_of.result c.index-place.result.now
     c.index_of.ensures.within c.index_of.ensures.index c.index-place.ensures
@@ -41,7 +42,7 @@ pub returns-then-place-eq0 : goal.returns-then-place-eq0
 returns-then-place-eq0 c =
     let at = (goal.at.returns-then-place-eq0 c).After-index-place in
     rw (← c.self.view_is)
-    (reregister_null (world_of c.self.inside) _ _ c.args.t c.args.local (passed at) c.index-place.result.now
+    (reregister_null (world_of c.self.inside.parts) _ _ c.args.t c.args.local (passed at) c.index-place.result.now
     (place-is at) c.if-place-eq0.true)
 
 pub is_final-requires-clause-stands : goal.is_final-requires-clause-stands
@@ -55,7 +56,7 @@ pub returns-then-not-is_final : goal.returns-then-not-is_final
 returns-then-not-is_final c =
     let at = (goal.at.returns-then-not-is_final c).After-index-place in
     rw (← c.self.view_is)
-    (reregister_plain (world_of c.self.inside) _ _ c.args.t c.args.local (passed at) c.index-place.result.now
+    (reregister_plain (world_of c.self.inside.parts) _ _ c.args.t c.args.local (passed at) c.index-place.result.now
     (place-is at) c.if-place-eq0.false (sym c.is_final.ensures ∙ c.if-not-is_final.true))
 
 pub is_suppressed-requires-clause-stands : goal.is_suppressed-requires-clause-stands
@@ -71,18 +72,18 @@ set_suppressed-requires-clause-stands c =
     c.if-place-eq0.false
 
 -- one that isn't suppressed any more
-freed : (c : After-set_suppressed) → Follows (seen c.self.inside) (reregister_object c.args.t c.args.local)
-    (answered Done) (shown (record (world_of c.self.inside) { heap = c.set_suppressed.new.heap })
-    (sums_of c.self.inside.sums) (options_of c.self.inside.options))
+freed : (c : After-set_suppressed) → Follows (seen c.self.inside.parts) (reregister_object c.args.t c.args.local)
+    (answered Done) (shown (record (world_of c.self.inside.parts) { heap = c.set_suppressed.new.heap })
+    (sums_of c.self.inside.parts.sums) (options_of c.self.inside.parts.options))
 freed c =
     let at = (goal.at.returns-then-is_suppressed c).After-index-place in
-    allowed (world_of c.self.inside) _ _ c.args.t c.args.local (passed at) c.index-place.result.now (place-is at)
+    allowed (world_of c.self.inside.parts) _ _ c.args.t c.args.local (passed at) c.index-place.result.now (place-is at)
     c.if-place-eq0.false (sym c.is_final.ensures ∙ c.if-not-is_final.false)
     (sym c.is_suppressed.ensures ∙ c.if-is_suppressed.true) c.set_suppressed.new.heap c.set_suppressed.ensures.flagged
 
 pub invariant_of-self : goal.invariant_of-self
 invariant_of-self c =
-    let r = c.self.inside in
+    let r = c.self.inside.parts in
     let new = c.set_suppressed.new.heap in
     let set = c.set_suppressed.ensures in
     record {
@@ -106,19 +107,21 @@ returns-in_default-reserve c =
     rw (← c.self.view_is)
     (room_follows c.self.invariant.shown finals.entries finals.ready c.reserve.ensures.entries c.reserve.ensures.ready
     (reregister_object c.args.t c.args.local) _
-    (reregister_lacks (world_of c.self.inside) _ _ c.args.t c.args.local (passed at) c.index-place.result.now
+    (reregister_lacks (world_of c.self.inside.parts) _ _ c.args.t c.args.local (passed at) c.index-place.result.now
     (place-is at) c.if-place-eq0.false (sym c.is_final.ensures ∙ c.if-not-is_final.false)
     (sym c.is_suppressed.ensures ∙ c.if-is_suppressed.false)))
 
 -- the object has one more
-entered : (c : After-register) → Follows (seen c.self.inside) (reregister_object c.args.t c.args.local) (answered Done)
-    (shown (record (world_of c.self.inside) {
+entered : (c : After-register) → Follows (seen c.self.inside.parts) (reregister_object c.args.t c.args.local)
+    (answered Done)
+    (shown (record (world_of c.self.inside.parts) {
       entries = c.register.new.self.entries;
       ready = c.register.new.self.ready;
-    }) (sums_of c.self.inside.sums) (options_of c.self.inside.options))
+    }) (sums_of c.self.inside.parts.sums) (options_of c.self.inside.parts.options))
 entered c =
     let at = (goal.at.returns c).After-index-place in
-    reregistered (world_of c.self.inside) _ _ c.args.t c.args.local (passed at) c.index-place.result.now (place-is at)
+    reregistered (world_of c.self.inside.parts) _ _ c.args.t c.args.local (passed at) c.index-place.result.now
+    (place-is at)
     c.if-place-eq0.false (sym c.is_final.ensures ∙ c.if-not-is_final.false)
     (sym c.is_suppressed.ensures ∙ c.if-is_suppressed.false) c.register.new.self.entries c.register.new.self.ready
     (c.register.ensures.entries ∙ ap (λ es. es ++ c.index-place.result.now ∷ []) c.reserve.ensures.entries)
@@ -126,7 +129,7 @@ entered c =
 
 pub invariant_of-self-2 : goal.invariant_of-self-2
 invariant_of-self-2 c =
-    let r = c.self.inside in
+    let r = c.self.inside.parts in
     let is = c.self.invariant.shown in
     let finals = c.register.new.self in
     record {

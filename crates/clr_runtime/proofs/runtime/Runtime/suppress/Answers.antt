@@ -28,10 +28,11 @@ returns-in-Some c =
 
 -- the local is there, and this is its object
 passed : (c : After-index-place)
-    → names_refusal (seen c.self.inside) c.args.t (c.args.local ∷ c.args.local ∷ []) ≡ None
+    → names_refusal (seen c.self.inside.parts) c.args.t (c.args.local ∷ c.args.local ∷ []) ≡ None
 passed c = rw (← c.self.view_is) at (sym c.refused_names.ensures.value ∙ c.in_default.is)
 
-place-is : (c : After-index-place) → c.index-place.result.now ≡ local_of (seen c.self.inside) c.args.t c.args.local
+place-is : (c : After-index-place) → c.index-place.result.now
+    ≡ local_of (seen c.self.inside.parts) c.args.t c.args.local
 place-is c =
     local-read c.self.invariant.shown c.args.t c.args.local c.index_of.result c.index-place.result.now
     c.index_of.ensures.within c.index_of.ensures.index c.index-place.ensures
@@ -40,7 +41,8 @@ pub returns-then-place-eq0 : goal.returns-then-place-eq0
 returns-then-place-eq0 c =
     let at = (goal.at.returns-then-place-eq0 c).After-index-place in
     rw (← c.self.view_is)
-    (suppress_null (world_of c.self.inside) _ _ c.args.t c.args.local (passed at) c.index-place.result.now (place-is at)
+    (suppress_null (world_of c.self.inside.parts) _ _ c.args.t c.args.local (passed at) c.index-place.result.now
+    (place-is at)
     c.if-place-eq0.true)
 
 pub is_final-requires-clause-stands : goal.is_final-requires-clause-stands
@@ -54,7 +56,7 @@ pub returns-then-not-is_final : goal.returns-then-not-is_final
 returns-then-not-is_final c =
     let at = (goal.at.returns-then-not-is_final c).After-index-place in
     rw (← c.self.view_is)
-    (suppress_plain (world_of c.self.inside) _ _ c.args.t c.args.local (passed at) c.index-place.result.now
+    (suppress_plain (world_of c.self.inside.parts) _ _ c.args.t c.args.local (passed at) c.index-place.result.now
     (place-is at) c.if-place-eq0.false (sym c.is_final.ensures ∙ c.if-not-is_final.true))
 
 pub set_suppressed-requires-clause-stands : goal.set_suppressed-requires-clause-stands
@@ -64,18 +66,21 @@ set_suppressed-requires-clause-stands c =
     c.if-place-eq0.false
 
 -- one that is suppressed now
-done : (c : After-set_suppressed) → Follows (seen c.self.inside) (suppress_object c.args.t c.args.local) (answered Done)
-    (shown (record (world_of c.self.inside) { heap = c.set_suppressed.new.heap }) (sums_of c.self.inside.sums)
-    (options_of c.self.inside.options))
+done : (c : After-set_suppressed) → Follows (seen c.self.inside.parts) (suppress_object c.args.t c.args.local)
+    (answered Done)
+    (shown (record (world_of c.self.inside.parts) { heap = c.set_suppressed.new.heap })
+    (sums_of c.self.inside.parts.sums)
+    (options_of c.self.inside.parts.options))
 done c =
     let at = (goal.at.returns c).After-index-place in
-    suppressed (world_of c.self.inside) _ _ c.args.t c.args.local (passed at) c.index-place.result.now (place-is at)
+    suppressed (world_of c.self.inside.parts) _ _ c.args.t c.args.local (passed at) c.index-place.result.now
+    (place-is at)
     c.if-place-eq0.false (sym c.is_final.ensures ∙ c.if-not-is_final.false) c.set_suppressed.new.heap
     c.set_suppressed.ensures.flagged
 
 pub invariant_of-self : goal.invariant_of-self
 invariant_of-self c =
-    let r = c.self.inside in
+    let r = c.self.inside.parts in
     let new = c.set_suppressed.new.heap in
     let set = c.set_suppressed.ensures in
     record {

@@ -1,0 +1,115 @@
+-- A new context for a thread: what is seen with it, and what still holds of the parts of a runtime.
+use Rattle.std.proofs.Common.{◌≡◌, ◌∙◌, ℕ, zero, suc, ◌+◌, ◌-◌, ◌<◌, ◌≤◌, ◌&&◌, Bool, true, false, List, [], ◌∷◌}
+use Rattle.std.proofs.Common.{refl, sym, ap, subst, arith, Option, Some, None, is_some, IfSome}
+use Rattle.std.specs.Prelude.{slice_get}
+use Rattle.std.specs.List.{AllByRecursion}
+use Rattle.std.proofs.lemmas.Bool.{le-leb, lt-leb}
+use Rattle.clr_types.specs.Ranges.{IsLawfulSize, Piece}
+use Rattle.clr_heap.specs.View.{HeapView, IsHeap}
+use Rattle.clr_ctx.specs.Contexts.{IsIndex}
+use Rattle.clr_view.specs.Shown.{shown}
+use Rattle.clr_view.specs.View.{HasRefilled, layout_in}
+use Rattle.clr_view.specs.World.{World}
+use Rattle.clr_view.proofs.Unmarked.{unmarked_kept}
+use Rattle.clr_generations.proofs.KeptTables.{tables-refilled}
+use Rattle.clr_model.specs.Allocation.{has_room, own_fits, with_layout}
+use Rattle.clr_model.specs.Lawful.{IsLawful, IsPlaceNamed}
+use Rattle.clr_model.specs.Lookups.{is_step, is_thread, lowest_in_step, step_of, step_or_none}
+use Rattle.clr_model.specs.Machine.{Machine, no_step, Options, Sums, ThreadStep}
+use Rattle.clr_model.proofs.CollectedPresent.{all_idle}
+use Rattle.clr_model.proofs.ContextRefilled.{refill_lawful}
+use Rattle.clr_runtime.specs.Rooms.{HasNewContext, IsRefill, IsRefillInBudget}
+use Rattle.clr_runtime.specs.RuntimeView.{IsRuntime, IsShown, seen}
+use Rattle.clr_runtime.specs.declared.parts.Parts.{Parts}
+
+-- the numbers from 1 to 16 are threads
+pub thread-known : (t : ℕ) → 0 < t → t ≤ 16 → is_thread t ≡ true
+thread-known t low high = λ i. le-leb 1 t (omega arith) i && le-leb t 16 high i
+
+-- where no thread is in mid-step, this one isn't
+pub thread-idle : (s : Machine) (t : ℕ) → lowest_in_step s ≡ None → is_step (step_of s t) ≡ false
+thread-idle s t none = go s.steps (t - 1) (all_idle 1 s.steps none)
+  where
+    go : (steps : List ThreadStep) (i : ℕ) → AllByRecursion (λ (x : ThreadStep). x ≡ no_step) steps
+        → is_step (step_or_none (slice_get steps i)) ≡ false
+    go [] i all = refl
+    go (x ∷ xs) zero all = ap is_step all.0
+    go (x ∷ xs) (suc i) all = go xs i all.1
+
+-- ---- what is seen with a new context
+
+module _ {w : World} {sums : Sums} {options : Options} (is : IsShown w sums options) (t size : ℕ) (low : 0 < t)
+    (high : t ≤ 16) (sized : IsLawfulSize size) (mid : HeapView) (refilled : HasRefilled w.rows w.heap mid t size) where
+  abbrev s : Machine
+  s = shown w sums options
+
+  abbrev relaid : Machine
+  relaid = with_layout s (layout_in w.rows mid)
+
+  relaid-shown : shown (record w { heap = mid }) sums options ≡ relaid
+  relaid-shown = λ k. record (shown (record w { heap = mid }) sums options) { objects = refilled.objects k }
+
+  relaid-lawful : IsLawful relaid × (own_fits (layout_in w.rows mid) t size ≡ true)
+  relaid-lawful =
+      refill_lawful s is.sound.lawful t (thread-known t low high) (thread-idle s t refl) size sized
+      (layout_in w.rows mid) refilled.layout
+
+  -- it is the machine of before with that context
+  pub has_context : HasNewContext (shown w sums options) (shown (record w { heap = mid }) sums options) t size
+  has_context = record { refilled = refilled.layout; same = relaid-shown; fits = relaid-lawful.1 }
+
+  -- and what holds of the parts still holds
+  pub refill_kept : IsHeap w.heap → IsShown (record w { heap = mid }) sums options
+  refill_kept heap = record {
+    locals = is.locals;
+    held = refilled.held;
+    unmarked = unmarked_kept w.rows w.heap heap is.held mid refilled.objects refilled.cells is.unmarked;
+    free_heads = refilled.free_heads is.free_heads;
+    clean = refilled.clean is.clean;
+    sound = subst IsPlaceNamed (sym relaid-shown)
+        (record { lawful = relaid-lawful.0; places = is.sound.places; uncounted = is.sound.uncounted });
+  }
+
+-- ---- what a refill answers
+
+module _ (p : Parts) (is : IsRuntime p) (heap : IsHeap p.heap) (t size : ℕ) (low : 0 < t) (high : t ≤ 16)
+    (sized : IsLawfulSize size) (mid : HeapView) (index : Option (List Piece)) where
+  -- the parts with another heap and another index
+  abbrev relaid_parts : Parts
+  relaid_parts = record p { heap = mid; contexts = index }
+
+  -- A refill gives the thread a new context, or nothing has changed. What holds of a runtime holds of its parts.
+  pub refill_answers : (r : Option (Unit {0}))
+      → (r ≡ None → (has_room (layout_in p.types p.heap) size ≡ false) × (mid ≡ p.heap) × (index ≡ p.contexts))
+      → IfSome r (λ _. HasRefilled p.types p.heap mid t size) → IsIndex p.types mid index
+      → IsRefill p (record p { heap = mid; contexts = index }) t size (is_some r)
+      × IsRuntime (record p { heap = mid; contexts = index })
+  refill_answers None none some listed =
+      let (full, same, kept) = none refl in
+      let parts : relaid_parts ≡ p = λ k. record p { heap = same k; contexts = kept k } in
+      ((full, parts), subst IsRuntime (sym parts) is)
+  refill_answers (Some _) none refilled listed = (
+    has_context is.shown t size low high sized mid refilled,
+    record {
+      shown = refill_kept is.shown t size low high sized mid refilled heap;
+      tables = tables-refilled p.cards p.bricks p.types p.heap mid t size refilled is.tables;
+      index = listed;
+      limit = refilled.limit ∙ is.limit;
+      pins = is.pins;
+      room = is.room;
+    },
+  )
+
+-- ---- the budget
+
+-- more than the budget has
+pub over_budget : (p : Parts) (t size : ℕ) → p.options.b0 < p.sums.spent0 + size → IsRefillInBudget p p t size false
+over_budget p t size over =
+    (ap (λ b. b && has_room (seen p).layout size) (lt-leb (p.sums.spent0 + size) p.options.b0 over), refl)
+
+-- a refill of what it has
+pub within_budget : (p q : Parts) (t size : ℕ) (b : Bool) → p.sums.spent0 + size ≤ p.options.b0
+    → IsRefill p q t size b → IsRefillInBudget p q t size b
+within_budget p q t size true within made = (le-leb (p.sums.spent0 + size) p.options.b0 within, made)
+within_budget p q t size false within (full, same) =
+    (λ i. le-leb (p.sums.spent0 + size) p.options.b0 within i && full i, same)

@@ -1,0 +1,34 @@
+//! Everything that a runtime works on, as one plain struct.
+use crate::options::Options;
+use crate::sums::Sums;
+use clr_bricks::Bricks;
+use clr_cards::Cards;
+use clr_compact::Slides;
+use clr_ctx::Contexts;
+use clr_final::Finals;
+use clr_handles::Handles;
+use clr_heap::Heap;
+use clr_mark::Marker;
+use clr_pinq::PinQueue;
+use clr_types::Types;
+
+/// Everything that a runtime works on.
+///
+/// Contracts see the value of each part. What holds of them together, and the machine that they show, stand in
+/// `IsRuntime` and `seen`.
+#[derive(Drop)]
+pub(crate) struct Parts {
+    pub(crate) types: Types,
+    pub(crate) heap: Heap,
+    pub(crate) cards: Cards,
+    pub(crate) bricks: Bricks,
+    pub(crate) contexts: Contexts,
+    pub(crate) marker: Marker,
+    pub(crate) locals: Vec<u64>,
+    pub(crate) handles: Handles,
+    pub(crate) finals: Finals,
+    pub(crate) pins: PinQueue,
+    pub(crate) slides: Slides,
+    pub(crate) sums: Sums,
+    pub(crate) options: Options,
+}

@@ -1,34 +1,28 @@
 -- What holds of a heap still holds when segments in which nothing stands were given back.
-use Rattle.std.proofs.Common.{◌≡◌, ℕ, ◌==◌, Bool, true, false, List, map, if◌then◌else◌, refl, ap}
+use Rattle.std.proofs.Common.{◌≡◌, ℕ, ◌==◌, Bool, true, false, List, if◌then◌else◌, refl, ap}
 use Rattle.std.proofs.Common.{sym}
-use Rattle.std.proofs.Common.{◌∙◌, subst, arith, count_by}
+use Rattle.std.proofs.Common.{◌∙◌, subst, count_by}
 use Rattle.std.specs.Prelude.{MatchBool}
 use Rattle.std.specs.FinMap as finmap
 use Rattle.std.specs.FinMap.{FinMap}
 use Rattle.std.specs.Ordering.{nat_cmp}
 use Rattle.clr_types.specs.Kinds.{is_pinned_kind}
 use Rattle.clr_types.specs.Maps.{map_values}
-use Rattle.clr_types.specs.Rising.{IsIn}
 use Rattle.clr_types.specs.Types.{TypeRow}
 use Rattle.clr_types.specs.declared.handle.Handle.{Handle}
 use Rattle.clr_types.specs.declared.handle.Kind.{Kind}
 use Rattle.clr_types.specs.declared.handle.Kind.TheVariants.{Dependent, Pinned, Strong, Weak, WeakLong}
 use Rattle.clr_types.proofs.MapValues.{values-map_values}
 use Rattle.clr_handles.specs.Tops.{pinned_in}
-use Rattle.clr_heap.specs.Parts.{item_at}
-use Rattle.clr_heap.specs.View.{HeapView, IsHeap, word_of}
+use Rattle.clr_heap.specs.View.{HeapView, IsHeap}
 use Rattle.clr_model.specs.Collection.{row_after, row_of_kind}
-use Rattle.clr_model.specs.Machine.{Object}
 use Rattle.clr_view.specs.Clean.{AreClean}
-use Rattle.clr_view.specs.Marks.{has_mark, IsUnmarked}
-use Rattle.clr_view.specs.SlotValues.{StandsAt}
+use Rattle.clr_view.specs.Marks.{IsUnmarked}
 use Rattle.clr_view.specs.View.{AreFreeHeads, IsHeld}
-use Rattle.clr_view.proofs.CleanWords.{clean_but_marks}
-use Rattle.clr_view.proofs.ObjectItems.{stands-item}
-use Rattle.clr_view.proofs.Standing.{standing}
 use Rattle.clr_collect.specs.Released.{HasLost, HasReleased}
 use Rattle.clr_collect.proofs.SweepCollects.{count-map, count-on}
-use Rattle.clr_collect.proofs.SegmentsLost.{lost-refl, lost_heads, lost_objects}
+use Rattle.clr_collect.proofs.KeptItems.{kept_clean, kept_heads, kept_unmarked, KeepsItems}
+use Rattle.clr_collect.proofs.SegmentsLost.{lost-refl, lost_kept}
 
 module _ (rows : List TypeRow) (gone : HeapView) (gone_heap : IsHeap gone) (gone_held : IsHeld rows gone)
     (new : HeapView) (g : ℕ) (ended : MatchBool (g == 2) (HasReleased rows gone new) (new ≡ gone)) where
@@ -40,27 +34,17 @@ module _ (rows : List TypeRow) (gone : HeapView) (gone_heap : IsHeap gone) (gone
       go true r = r.lost
       go false same = subst (HasLost rows gone) (sym same) (lost-refl rows gone gone_heap gone_held)
 
+  kept : KeepsItems rows gone new
+  kept = lost_kept rows gone new lost
+
   pub unmarked_still : IsUnmarked rows gone → IsUnmarked rows new
-  unmarked_still none x u =
-      let objects = lost_objects rows gone new gone_heap gone_held lost in
-      let stands : StandsAt rows gone x = subst (λ (os : List Object). (o : Object) × IsIn o os × (o.place ≡ x))
-      objects u.stands in
-      let i = item_at rows (word_of gone) x in
-      let at = stands-item rows gone gone_heap gone_held x stands in
-      let here = standing rows gone gone_heap gone_held i at.listed in
-      let least = here.least in
-      let place = at.at in
-      let same : word_of new x ≡ word_of gone x = lost.cells i x at.listed (omega arith) (omega arith) in
-      none x (record { stands = stands; mark = sym (ap has_mark same) ∙ u.mark })
+  unmarked_still = kept_unmarked rows gone new gone_heap gone_held kept
 
   pub heads_still : AreFreeHeads rows gone → AreFreeHeads rows new
-  heads_still = lost_heads rows gone new gone_heap gone_held lost
+  heads_still = kept_heads rows gone new gone_heap gone_held kept
 
   pub clean_still : AreClean rows gone → AreClean rows new
-  clean_still =
-      clean_but_marks rows gone new gone_heap gone_held lost.heap lost.held
-      (λ o. subst (λ (os : List Object). IsIn o os) (lost_objects rows gone new gone_heap gone_held lost))
-      (λ i b was l object aligned low high apart. lost.cells i b was low high)
+  clean_still = kept_clean rows gone new gone_heap gone_held kept
 
 -- ---- handles
 

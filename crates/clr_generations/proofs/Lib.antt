@@ -13,8 +13,9 @@ pub mod Entered
 pub mod Alike
 pub mod AllBricks
 pub mod BrickSteps
-pub mod FirstMarked
+pub mod FirstCounted
 pub mod Renewed
+pub mod AgedBricks
 pub mod Collected
 pub mod HeapHomes
 pub mod Homes

@@ -3,21 +3,20 @@ use Rattle.std.proofs.Common.{◌≡◌, ◌≢◌, ◌⊎◌, inl, inr, ℕ, �
 use Rattle.std.proofs.Common.{refl, ap, sym, ◌∙◌, subst, arith, ℤ, Option, Some, None, MatchOption}
 use Rattle.std.proofs.lemmas.Bool.{cases_eq, cases_lt, eq-eqb, ne_eqb}
 use Rattle.clr_types.specs.Rising.{IsIn}
-use Rattle.clr_types.specs.Segments.{generation, Layout, stands_in}
+use Rattle.clr_types.specs.Segments.{Layout, stands_in}
 use Rattle.clr_types.specs.Types.{TypeRow}
 use Rattle.clr_types.specs.declared.segment.SegInfo.{SegInfo}
 use Rattle.clr_types.proofs.ChangedLists.{into_filter, out_of_filter}
-use Rattle.clr_bricks.specs.Bricks.{entry_at, IsRoot, root_entry}
+use Rattle.clr_bricks.specs.Bricks.{entry_at, root_entry}
 use Rattle.clr_covers.specs.Covers.{CoverView, is_covered, spans}
 use Rattle.clr_heap.specs.View.{first_of, frame, HeapView, IsHeap, last_of, segment_at, word_of}
 use Rattle.clr_heap.proofs.Framing.{lawful_at}
 use Rattle.clr_model.specs.Machine.{Object}
-use Rattle.clr_view.specs.Marks.{has_mark, Marked}
 use Rattle.clr_view.specs.View.{IsHeld, objects_in}
 use Rattle.clr_generations.proofs.Entered.{AreEnteredBelow, forgotten}
-use Rattle.clr_generations.specs.Laws.{AreEntered, IsBrickOf, LeadsBrick, may_lead, Stands}
-use Rattle.clr_generations.specs.Renewing.{AreLeft, IsFirstIn, led_back, left_in, named_after, NamesBelow, next_after}
-use Rattle.clr_generations.specs.Renewing.{NoneMarkedIn}
+use Rattle.clr_generations.specs.Laws.{AreEntered, IsBrickOf, may_lead, Stands}
+use Rattle.clr_generations.specs.Renewing.{AreKept, HasTold, HaveTold, IsCounted, IsFirstIn, led_back, left_in}
+use Rattle.clr_generations.specs.Renewing.{named_after, NamesBelow, next_after, NoneCountedIn}
 use Rattle.clr_generations.specs.Tables.{AreBricksOf}
 use Rattle.clr_generations.proofs.Alike.{AreAlike, entered_below, forgotten-low, forgotten-root, root-forgotten}
 use Rattle.clr_generations.proofs.BrickSteps.{all_entered, IsEntering, IsFirstOf, led, led-above, led-alike, led-below}
@@ -36,8 +35,8 @@ pub record IsSeen (rows : List TypeRow) (after : Layout) (left : List Object) (n
 
 -- The bricks of segment k below `brick` are renewed from that of the place `from` on, and `next` is the first one that
 -- isn't settled.
-pub record IsRenewing (rows : List TypeRow) (h : HeapView) (k from : ℕ) (old now : List (CoverView ℤ))
-    (brick next : ℕ) : Type 0 where
+pub record IsRenewing (rows : List TypeRow) (h : HeapView) (counts : ℕ → Bool) (k from : ℕ)
+    (old now : List (CoverView ℤ)) (brick next : ℕ) : Type 0 where
   pub low : from / 4096 ≤ brick
   pub order : next ≤ brick
   pub first : from / 4096 ≤ next
@@ -47,7 +46,7 @@ pub record IsRenewing (rows : List TypeRow) (h : HeapView) (k from : ℕ) (old n
   pub ahead : (i : ℕ) → next ≤ i → entry_at now i ≡ entry_at old i
   pub others : (b : ℕ) → (IsBrickOf (segment_at h k) b → ⊥) → entry_at now b ≡ entry_at old b
   pub spans : spans now ≡ spans old
-  pub entering : (after : Layout) (keep : Object → Bool) → AreLeft rows h k from after keep
+  pub entering : (after : Layout) (keep : Object → Bool) → AreKept rows h counts k from after keep
       → IsSeen rows after (left_in rows h keep) (entry_at now) (segment_at h k) brick next
 
 -- ---- entries
@@ -92,10 +91,9 @@ next-inside P None brick next i all here low high = elim (cases_eq i brick) [
 next-inside P (Some place) brick next i all here low high = absurd (omega arith)
 
 module _ (rows : List TypeRow) (h : HeapView) (heap : IsHeap h) (held : IsHeld rows h) (k : ℕ)
-    (inside : k < length h.segments) (from : ℕ) (low : first_of h k ≤ from) (high : from ≤ last_of h k)
-    (old : (place : ℕ) → stands_in (segment_at h k) place ≡ true → place < from → 0 < generation (frame h) place)
-    (bricks : List (CoverView ℤ))
-    (law : AreEntered rows (frame h) (objects_in rows h) (entry_at bricks) (segment_at h k)) where
+    (inside : k < length h.segments) (counts : ℕ → Bool) (from young : ℕ) (low : first_of h k ≤ from)
+    (high : from ≤ last_of h k) (bricks : List (CoverView ℤ))
+    (was : HaveTold rows h k from young (entry_at bricks)) where
   abbrev s : SegInfo
   s = segment_at h k
 
@@ -103,18 +101,18 @@ module _ (rows : List TypeRow) (h : HeapView) (heap : IsHeap h) (held : IsHeld r
   homes = heap_homes rows h heap held k inside
 
   -- ---- what is left
-  module _ (after : Layout) (keep : Object → Bool) (l : AreLeft rows h k from after keep) where
+  module _ (after : Layout) (keep : Object → Bool) (l : AreKept rows h counts k from after keep) where
     homes' : HaveHomes rows (left_in rows h keep) (segment_at h k)
     homes' = homes-left rows (objects_in rows h) s keep homes
 
-    alike : AreAlike rows (frame h) after (objects_in rows h) (left_in rows h keep) (segment_at h k) from
-    alike = alike-left rows (frame h) after (objects_in rows h) (left_in rows h keep) s from keep refl l.below
-        (λ p in_s below. (old p in_s below, l.old p in_s below))
+    alike : AreAlike rows was.before after (objects_in rows h) (left_in rows h keep) (segment_at h k) from
+    alike = alike-left rows was.before after (objects_in rows h) (left_in rows h keep) s from keep refl l.below
+        (λ p in_s below. (was.old p in_s below, l.old p in_s below))
 
     told : AreEnteredBelow rows after (left_in rows h keep) (forgotten (entry_at bricks) from (last_of h k))
         (segment_at h k) from
-    told = entered_below rows (frame h) after (objects_in rows h) (left_in rows h keep) s (last_of h k) from homes
-        homes' alike (entry_at bricks) law
+    told = entered_below rows was.before after (objects_in rows h) (left_in rows h keep) s (last_of h k) from homes
+        homes' alike (entry_at bricks) was.law
 
     -- one of them is one of all, and kept
     kept-of : (x : ℕ) → (stands : Stands (left_in rows h keep) x)
@@ -128,35 +126,35 @@ module _ (rows : List TypeRow) (h : HeapView) (heap : IsHeap h) (held : IsHeld r
         subst (λ (p : ℕ). may_lead after p ≡ true) at
         (l.may stands.0 of.1 (subst (λ (p : ℕ). stands_in s p ≡ true) (sym at) in_s) of.0)
 
-    -- from the place on the marked ones
-    left-marked : (x : ℕ) → Stands (left_in rows h keep) x → stands_in (segment_at h k) x ≡ true → from ≤ x
-        → Marked rows h x
-    left-marked x stands in_s above =
+    -- from the place on those that count
+    left-counted : (x : ℕ) → Stands (left_in rows h keep) x → stands_in (segment_at h k) x ≡ true → from ≤ x
+        → IsCounted rows h counts x
+    left-counted x stands in_s above =
         let of = kept-of x stands in
         let at = stands.2 in
         record {
           stands = (stands.0, of.1, at);
-          mark = subst (λ (p : ℕ). has_mark (word_of h p) ≡ true) at
+          counted = subst (λ (p : ℕ). counts (word_of h p) ≡ true) at
               (sym (l.above stands.0 of.1 (subst (λ (p : ℕ). stands_in s p ≡ true) (sym at) in_s) (omega arith))
               ∙ of.0);
         }
 
-    marked-left : (x : ℕ) → Marked rows h x → stands_in (segment_at h k) x ≡ true → from ≤ x
+    counted-left : (x : ℕ) → IsCounted rows h counts x → stands_in (segment_at h k) x ≡ true → from ≤ x
         → Stands (left_in rows h keep) x
-    marked-left x mark in_s above =
-        let o = mark.stands.0 in
-        let at = mark.stands.2 in
-        let keeps = l.above o mark.stands.1 (subst (λ (p : ℕ). stands_in s p ≡ true) (sym at) in_s) (omega arith) in (
+    counted-left x is in_s above =
+        let o = is.stands.0 in
+        let at = is.stands.2 in
+        let keeps = l.above o is.stands.1 (subst (λ (p : ℕ). stands_in s p ≡ true) (sym at) in_s) (omega arith) in (
           o,
           into_filter keep (objects_in rows h)
-              (keeps ∙ subst (λ (p : ℕ). has_mark (word_of h p) ≡ true) (sym at) mark.mark) mark.stands.1,
+              (keeps ∙ subst (λ (p : ℕ). counts (word_of h p) ≡ true) (sym at) is.counted) is.stands.1,
           at,
         )
 
   -- ---- the beginning
 
   begun-seen : (next : ℕ) → NamesBelow (entry_at bricks (from / 4096)) (from / 4096) from → next ≡ from / 4096 + 1
-      → (after : Layout) (keep : Object → Bool) → AreLeft rows h k from after keep
+      → (after : Layout) (keep : Object → Bool) → AreKept rows h counts k from after keep
       → IsSeen rows after (left_in rows h keep) (entry_at bricks) (segment_at h k) next next
   begun-seen next names at after keep l =
       let seen = forgotten (entry_at bricks) from (last_of h k) in
@@ -181,7 +179,7 @@ module _ (rows : List TypeRow) (h : HeapView) (heap : IsHeap h) (held : IsHeld r
 
   open-seen : (next : ℕ) → (last_of h k ≤ 4096 * (from / 4096))
       ⊎ (NamesBelow (entry_at bricks (from / 4096)) (from / 4096) from → ⊥) → next ≡ from / 4096
-      → (after : Layout) (keep : Object → Bool) → AreLeft rows h k from after keep
+      → (after : Layout) (keep : Object → Bool) → AreKept rows h counts k from after keep
       → IsSeen rows after (left_in rows h keep) (entry_at bricks) (segment_at h k) next next
   open-seen next clear at after keep l =
       let seen = forgotten (entry_at bricks) from (last_of h k) in
@@ -212,8 +210,8 @@ module _ (rows : List TypeRow) (h : HeapView) (heap : IsHeap h) (held : IsHeld r
     | inr more ↦ more
     | inl less ↦
         let same : x / 4096 ≡ from / 4096 = omega arith in
-        let root = law.starts x stands in_s (old-may_lead (frame h) x (old x in_s less)) in
-        let least = (law.named (x / 4096) root.0 (brick-of s x homes.bricks in_s) root.1).first x stands refl in
+        let root = was.law.starts x stands in_s (old-may_lead was.before x (was.old x in_s less)) in
+        let least = (was.law.named (x / 4096) root.0 (brick-of s x homes.bricks in_s) root.1).first x stands refl in
         let at = stands.2 in
         let within = homes.within stands.0 stands.1 (subst (λ (p : ℕ). stands_in s p ≡ true) (sym at) in_s) in
         let some = homes.least stands.0 stands.1 in
@@ -227,7 +225,7 @@ module _ (rows : List TypeRow) (h : HeapView) (heap : IsHeap h) (held : IsHeld r
       × NamesBelow (entry_at bricks (from / 4096)) (from / 4096) from × (next ≡ from / 4096 + 1))
       ⊎ (((last_of h k ≤ 4096 * (from / 4096))
       ⊎ (NamesBelow (entry_at bricks (from / 4096)) (from / 4096) from → ⊥)) × (next ≡ from / 4096))
-      → IsRenewing rows h k from bricks bricks next next
+      → IsRenewing rows h counts k from bricks bricks next next
   renewing_starts next (inl (under, names, at)) = record {
     low = omega arith;
     order = omega arith;
@@ -254,7 +252,8 @@ module _ (rows : List TypeRow) (h : HeapView) (heap : IsHeap h) (held : IsHeld r
   }
 
   -- ---- on the way
-  module _ (now : List (CoverView ℤ)) (brick next : ℕ) (w : IsRenewing rows h k from bricks now brick next) where
+  module _ (now : List (CoverView ℤ)) (brick next : ℕ)
+      (w : IsRenewing rows h counts k from bricks now brick next) where
     -- a brick from `next` on that begins below the segment's end is one of its
     brick-here : (i : ℕ) → next ≤ i → 4096 * i < last_of h k → IsBrickOf (segment_at h k) i
     brick-here i up under =
@@ -273,50 +272,52 @@ module _ (rows : List TypeRow) (h : HeapView) (heap : IsHeap h) (held : IsHeld r
       of : IsBrickOf (segment_at h k) brick
       of = brick-here brick w.order below
 
-      pub named_here : (offset : ℕ) → entry_at now brick ≡ root_entry offset
-          → LeadsBrick (frame h) (objects_in rows h) brick (4096 * brick + offset)
-      named_here offset is = law.named brick offset of (sym (w.ahead brick w.order) ∙ is)
-
       in-segment : (x : ℕ) → Stands (objects_in rows h) x → x / 4096 ≡ brick → stands_in (segment_at h k) x ≡ true
       in-segment x stands at =
           stands-home rows (objects_in rows h) s x homes stands (subst (λ (b : ℕ). IsBrickOf s b) (sym at) of)
 
-      pub starts_here : (x : ℕ) → Stands (objects_in rows h) x → x / 4096 ≡ brick → may_lead (frame h) x ≡ true
-          → IsRoot (entry_at now brick)
-      starts_here x stands at may' =
-          let root = law.starts x stands (in-segment x stands at) may' in
-          (root.0, w.ahead brick w.order ∙ ap (entry_at bricks) (sym at) ∙ root.1)
+      pub told_here : HasTold (objects_in rows h) young brick (entry_at now brick)
+      told_here = record {
+        before = was.before;
+        start0 = was.start0;
+        named = λ offset is. was.law.named brick offset of (sym (w.ahead brick w.order) ∙ is);
+        starts = λ x stands at may'.
+            (let root = was.law.starts x stands (in-segment x stands at) may' in
+            (root.0, w.ahead brick w.order ∙ ap (entry_at bricks) (sym at) ∙ root.1));
+      }
 
       pub low_here : first_of h k ≤ 4096 * brick
       low_here = let up = w.low in let base = homes.bricks.base in omega arith
 
-      -- the first marked object is the first that is left
-      left-first : (after : Layout) (keep : Object → Bool) → AreLeft rows h k from after keep → (first : Option ℕ)
-          → MatchOption first (NoneMarkedIn rows h brick) (IsFirstIn rows h brick)
+      -- the first object that counts is the first that is left
+      left-first : (after : Layout) (keep : Object → Bool) → AreKept rows h counts k from after keep
+          → (first : Option ℕ)
+          → MatchOption first (NoneCountedIn rows h counts brick) (IsFirstIn rows h counts brick)
           → MatchOption first ((x : ℕ) → Stands (left_in rows h keep) x → x / 4096 ≡ brick → ⊥)
           (IsFirstOf (left_in rows h keep) (segment_at h k) brick)
       left-first after keep l None none = λ x stands at.
           let all : Stands (objects_in rows h) x = (stands.0, (kept-of after keep l x stands).1, stands.2) in
           let in_s = in-segment x all at in
-          none x (left-marked after keep l x stands in_s (w.past x all in_s (omega arith))) at
+          none x (left-counted after keep l x stands in_s (w.past x all in_s (omega arith))) at
       left-first after keep l (Some place) is =
           let at = is.inside in
-          let in_s = in-segment place is.marked.stands at in
+          let in_s = in-segment place is.counted.stands at in
           record {
-            stands = marked-left after keep l place is.marked in_s (w.past place is.marked.stands in_s (omega arith));
+            stands = counted-left after keep l place is.counted in_s
+                (w.past place is.counted.stands in_s (omega arith));
             in_segment = in_s;
             inside = at;
             first = λ x stands at'.
                 (let all : Stands (objects_in rows h) x = (stands.0, (kept-of after keep l x stands).1, stands.2) in
                 let in_x = in-segment x all at' in
-                is.first x (left-marked after keep l x stands in_x (w.past x all in_x (omega arith))) at');
+                is.first x (left-counted after keep l x stands in_x (w.past x all in_x (omega arith))) at');
           }
 
       -- THE NEXT BRICK
       pub renewing_more : (new : List (CoverView ℤ)) (first : Option ℕ)
-          → MatchOption first (NoneMarkedIn rows h brick) (IsFirstIn rows h brick)
+          → MatchOption first (NoneCountedIn rows h counts brick) (IsFirstIn rows h counts brick)
           → ((i : ℕ) → entry_at new i ≡ named_after first (entry_at now) brick next i) → spans new ≡ spans now
-          → IsRenewing rows h k from bricks new (brick + 1) (next_after first brick next)
+          → IsRenewing rows h counts k from bricks new (brick + 1) (next_after first brick next)
       renewing_more new first is same whole =
           let order = w.order in
           let lowest = w.low in
@@ -357,7 +358,7 @@ module _ (rows : List TypeRow) (h : HeapView) (heap : IsHeap h) (held : IsHeld r
       none-past b offset of up is =
           let order = w.order in
           let root = sym (same b ∙ led-above (entry_at now) next brick b up ∙ w.ahead b (omega arith)) ∙ is in
-          let leads = law.named b offset of root in
+          let leads = was.law.named b offset of root in
           let at = leads.stands.2 in
           let inside' = leads.inside in
           let in_s = stands-home rows (objects_in rows h) s (4096 * b + offset) homes leads.stands
@@ -368,7 +369,7 @@ module _ (rows : List TypeRow) (h : HeapView) (heap : IsHeap h) (held : IsHeld r
           omega arith
 
       -- THE BRICKS ARE RENEWED
-      pub renewed : (after : Layout) (keep : Object → Bool) → AreLeft rows h k from after keep
+      pub renewed : (after : Layout) (keep : Object → Bool) → AreKept rows h counts k from after keep
           → AreEntered rows after (left_in rows h keep) (entry_at new) (segment_at h k)
       renewed after keep l =
           let e = w.entering after keep l in

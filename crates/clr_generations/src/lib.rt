@@ -16,4 +16,4 @@ pub use crate::barrier::set_reference;
 pub use crate::births::bear;
 pub use crate::covering::cover_segments;
 pub use crate::finding::object_at;
-pub use crate::renewing::renew_bricks;
+pub use crate::renewing::{renew_aged_bricks, renew_bricks};

@@ -1,17 +1,17 @@
-// The bricks of a part of a segment, renewed before a sweep of it.
+// The bricks of a part of a segment, renewed: before a sweep of it, or where its objects have become older.
 ghost use Rattle.std.specs.Prelude.{◌≡◌, ℕ, ◌+◌, ◌*◌, ◌/◌, ◌-◌, ◌<◌, ◌≤◌, ◌^◌, ◌==◌, ◌⊎◌, if◌then◌else◌, length};
 ghost use Rattle.std.specs.Prelude.{Bool, ◌&&◌, MatchOption, true};
-ghost use Rattle.clr_bricks.specs.Bricks.{entry_at, IsRoot, root_entry};
+ghost use Rattle.clr_bricks.specs.Bricks.{entry_at};
 ghost use Rattle.clr_covers.specs.Covers.{is_covered, spans};
 ghost use Rattle.clr_heap.specs.View.{first_of, frame, last_of, no_rests, segment_at};
 ghost use Rattle.clr_model.specs.Machine.{Object};
 ghost use Rattle.clr_types.specs.Segments.{generation, Layout, stands_in};
-ghost use Rattle.clr_view.specs.Marks.{has_mark};
 ghost use Rattle.clr_view.specs.View.{IsHeld, is_object, objects_in};
-ghost use Rattle.clr_generations.specs.Laws.{AreEntered, IsBrickOf, LeadsBrick, may_lead, Stands};
-ghost use Rattle.clr_generations.specs.Renewing.{AreLeft, CanBegin, HasNoStart, HasYoungBorder, IsFirstFrom, IsFirstIn};
-ghost use Rattle.clr_generations.specs.Renewing.{IsSearchStart, led_back, left_in, named_after, NamesBelow};
-ghost use Rattle.clr_generations.specs.Renewing.{next_after, NoneMarked, NoneMarkedIn};
+ghost use Rattle.clr_generations.specs.Laws.{AreEntered, IsBrickOf};
+ghost use Rattle.clr_generations.specs.Renewing.{AreKept, AreLeft, CanBegin, HasBorder, HasNoStart, HasTold, HaveTold};
+ghost use Rattle.clr_generations.specs.Renewing.{HasYoungBorder, IsFirstFrom, IsFirstIn, IsSearchStart, led_back};
+ghost use Rattle.clr_generations.specs.Renewing.{left_in, named_after, NamesBelow, next_after, NoneCounted};
+ghost use Rattle.clr_generations.specs.Renewing.{NoneCountedIn};
 ghost use Rattle.clr_generations.specs.Renewing as renewing;
 ghost use Rattle.clr_generations.specs.Tables.{AreBricksOf};
 
@@ -19,6 +19,27 @@ use crate::finding::offset_of;
 use clr_bricks::Bricks;
 use clr_heap::{Heap, Item};
 use clr_types::Types;
+
+// Which objects a brick may be renewed for.
+#[derive(Clone, Copy)]
+enum Counted {
+    // Those that are marked.
+    Marked,
+    // Each of them.
+    All,
+}
+
+impl Counted {
+    // Whether an object with this method table word counts.
+    fn passes(self, mt: u64) -> bool
+        ensures { result ≡ renewing.passes self mt }
+    {
+        match self {
+            Counted::Marked => mt % 2 == 1,
+            Counted::All => true,
+        }
+    }
+}
 
 /// Renews the bricks of segment `k` before a sweep of its part from `from` on, while the marks stand: each of them
 /// names the first marked object that starts in it, and leads back to the nearest one below that names one where none
@@ -43,12 +64,65 @@ pub fn renew_bricks(heap: &Heap, types: &Types, bricks: &mut Bricks, k: usize, f
         → entry_at bricks.new brick ≡ entry_at bricks.old brick }
     ensures spans { spans bricks.new ≡ spans bricks.old }
 {
+    let (_, start0) = heap.boundaries();
+    renew_part(heap, types, bricks, k, from, start0, Counted::Marked);
+}
+
+/// Renews the bricks of segment `k`, all of which is of generation 1 or 2 now, where generation 0 began at `young`
+/// before: each brick names the first object that starts in it, and one in which none starts leads back to the nearest
+/// one below that names one. No item reaches over `young`.
+pub fn renew_aged_bricks(heap: &Heap, types: &Types, bricks: &mut Bricks, k: usize, young: u64)
+    requires held { IsHeld types.now heap.now }
+    requires in_range { k < length heap.now.segments }
+    requires no_contexts { heap.now.rests ≡ no_rests }
+    requires low { first_of heap.now k ≤ young }
+    requires high { young ≤ last_of heap.now k }
+    requires aged { (place : ℕ) → stands_in (segment_at heap.now k) place ≡ true
+        → 0 < generation (frame heap.now) place }
+    requires border { HasBorder types.now heap.now k young }
+    requires bricks { AreBricksOf (frame heap.now) bricks.old }
+    requires told { HaveTold types.now heap.now k young young (entry_at bricks.old) }
+    ensures entered { AreEntered types.now (frame heap.now) (objects_in types.now heap.now) (entry_at bricks.new)
+        (segment_at heap.now k) }
+    ensures others { (brick : ℕ) → (IsBrickOf (segment_at heap.now k) brick → ⊥)
+        → entry_at bricks.new brick ≡ entry_at bricks.old brick }
+    ensures spans { spans bricks.new ≡ spans bricks.old }
+{
+    renew_part(heap, types, bricks, k, young, young, Counted::All);
+}
+
+// Renews the bricks of the part of segment `k` from `from` on for the objects that count, where the entries told of a
+// layout in which generation 0 began at `young`.
+fn renew_part(
+    heap: &Heap,
+    types: &Types,
+    bricks: &mut Bricks,
+    k: usize,
+    from: u64,
+    young: u64,
+    counted: Counted,
+)
+    requires held { IsHeld types.now heap.now }
+    requires in_range { k < length heap.now.segments }
+    requires no_contexts { heap.now.rests ≡ no_rests }
+    requires low { first_of heap.now k ≤ from }
+    requires high { from ≤ last_of heap.now k }
+    requires border { HasBorder types.now heap.now k young }
+    requires bricks { AreBricksOf (frame heap.now) bricks.old }
+    requires told { HaveTold types.now heap.now k from young (entry_at bricks.old) }
+    ensures entered { (after : Layout) (keep : Object → Bool)
+        → AreKept types.now heap.now (renewing.passes counted) k from after keep
+        → AreEntered types.now after (left_in types.now heap.now keep) (entry_at bricks.new) (segment_at heap.now k) }
+    ensures others { (brick : ℕ) → (IsBrickOf (segment_at heap.now k) brick → ⊥)
+        → entry_at bricks.new brick ≡ entry_at bricks.old brick }
+    ensures spans { spans bricks.new ≡ spans bricks.old }
+{
     heap.lawful();
     let end = heap.info(k).end;
     let mut next = first_open(bricks, from, end);
     let mut brick = next;
     while 4096 * brick < end {
-        let first = first_in(heap, types, bricks, k, brick);
+        let first = first_in(heap, types, bricks, k, brick, young, counted);
         next = name_first(bricks, first, brick, next);
         brick += 1;
     }
@@ -79,27 +153,32 @@ fn first_open(bricks: &Bricks, from: u64, end: u64) -> u64
     }
 }
 
-// The place of the first marked object that starts in a brick of segment `k`, where the brick's entry is what the law
-// of bricks says.
-fn first_in(heap: &Heap, types: &Types, bricks: &Bricks, k: usize, brick: u64) -> Option<u64>
+// The place of the first object that counts and starts in a brick of segment `k`, where the brick's entry told of a
+// layout in which generation 0 began at `young`.
+fn first_in(
+    heap: &Heap,
+    types: &Types,
+    bricks: &Bricks,
+    k: usize,
+    brick: u64,
+    young: u64,
+    counted: Counted,
+) -> Option<u64>
     requires held { IsHeld types.now heap.now }
     requires in_range { k < length heap.now.segments }
     requires no_contexts { heap.now.rests ≡ no_rests }
     requires low { first_of heap.now k ≤ 4096 * brick }
     requires high { 4096 * brick < last_of heap.now k }
-    requires young { HasYoungBorder types.now heap.now k }
+    requires border { HasBorder types.now heap.now k young }
     requires covered { is_covered bricks.now brick ≡ true }
-    requires named { (offset : ℕ) → entry_at bricks.now brick ≡ root_entry offset
-        → LeadsBrick (frame heap.now) (objects_in types.now heap.now) brick (4096 * brick + offset) }
-    requires starts { (x : ℕ) → Stands (objects_in types.now heap.now) x → x / 4096 ≡ brick
-        → may_lead (frame heap.now) x ≡ true → IsRoot (entry_at bricks.now brick) }
-    ensures { MatchOption result (NoneMarkedIn types.now heap.now brick) (IsFirstIn types.now heap.now brick) }
+    requires told { HasTold (objects_in types.now heap.now) young brick (entry_at bricks.now brick) }
+    ensures { MatchOption result (NoneCountedIn types.now heap.now (renewing.passes counted) brick)
+        (IsFirstIn types.now heap.now (renewing.passes counted) brick) }
 {
     heap.lawful();
     let end = heap.info(k).end;
-    let (_, start0) = heap.boundaries();
-    match search_start(bricks, brick, start0) {
-        Some(start) => first_marked(heap, types, k, start, end.min(4096 * brick + 4096)),
+    match search_start(bricks, brick, young) {
+        Some(start) => first_counted(heap, types, k, start, end.min(4096 * brick + 4096), counted),
         None => None,
     }
 }
@@ -123,22 +202,29 @@ fn search_start(bricks: &Bricks, brick: u64, young: u64) -> Option<u64>
     }
 }
 
-// The place of the first marked object of segment `k` from `start` on, below `past`.
-fn first_marked(heap: &Heap, types: &Types, k: usize, start: u64, past: u64) -> Option<u64>
+// The place of the first object of segment `k` that counts from `start` on, below `past`.
+fn first_counted(
+    heap: &Heap,
+    types: &Types,
+    k: usize,
+    start: u64,
+    past: u64,
+    counted: Counted,
+) -> Option<u64>
     requires held { IsHeld types.now heap.now }
     requires in_range { k < length heap.now.segments }
     requires no_contexts { heap.now.rests ≡ no_rests }
     requires begins { start < last_of heap.now k → CanBegin types.now heap.now k start }
     requires end { past ≤ last_of heap.now k }
-    ensures { MatchOption result (NoneMarked types.now heap.now start past)
-        (IsFirstFrom types.now heap.now start past) }
+    ensures { MatchOption result (NoneCounted types.now heap.now (renewing.passes counted) start past)
+        (IsFirstFrom types.now heap.now (renewing.passes counted) start past) }
 {
     heap.lawful();
     let mut place = start;
     while place < past {
         let mt = heap.word_at(k, place);
         let found = heap.item_of_word(types, k, place, mt);
-        if is_marked(found, mt) {
+        if is_counted(found, mt, counted) {
             return Some(place);
         }
         place += found.size;
@@ -146,11 +232,11 @@ fn first_marked(heap: &Heap, types: &Types, k: usize, start: u64, past: u64) -> 
     None
 }
 
-// Whether an item with this method table word is a marked object.
-fn is_marked(found: Item, mt: u64) -> bool
-    ensures { result ≡ (is_object found && has_mark mt) }
+// Whether an item with this method table word is an object that counts.
+fn is_counted(found: Item, mt: u64, counted: Counted) -> bool
+    ensures { result ≡ (is_object found && renewing.passes counted mt) }
 {
-    found.type_id.0 != 0 && mt % 2 == 1
+    found.type_id.0 != 0 && counted.passes(mt)
 }
 
 // Lets the brick name the object at the place `first`, and those of [next, brick) lead back to the one below `next`;

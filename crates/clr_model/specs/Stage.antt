@@ -46,7 +46,7 @@ allocation_collects = true
 
 -- the last step of the small ladder is built
 abbrev pub seals : Bool
-seals = false
+seals = true
 
 -- there are large segments to allocate in; without that such a size is too big
 abbrev pub has_large_heap : Bool

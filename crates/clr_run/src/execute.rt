@@ -16,8 +16,9 @@ use clr_runtime::Runtime;
 use clr_script::{read_access, read_line};
 use std::alloc::{AllocError, Global};
 
-/// Does what a line says, and tells its outcome. A line that is refused leaves the state as it was, but for `oom`: the
-/// collections of that line stand. The segments reserve at most 2^30 bytes of addresses more.
+/// Does what a line says, and tells its outcome. A line that is refused leaves the state as it was, but for one that
+/// finds no room for an object after it collected: its collections stand. The segments reserve at most 2^30 bytes of
+/// addresses more.
 pub fn execute(runtime: &mut Runtime, alloc: Global, line: &[u8]) -> Outcome
     requires { runtime.old.layout.top ≤ 2 ^ 61 }
     ensures follows { FollowsLine runtime.old line.now (outcome_of result) runtime.new }

@@ -1,5 +1,5 @@
 -- The line that makes an object, on what is seen: its checks.
-use Rattle.std.proofs.Common.{◌≡◌, ℕ, ◌<◌, ◌≤◌, inr, Bool, true, false, List, length, refl, sym}
+use Rattle.std.proofs.Common.{◌≡◌, ℕ, ◌<◌, ◌≤◌, inr, Bool, true, false, List, length, refl, sym, ap}
 use Rattle.std.proofs.Common.{subst, arith, Option, Some, None, unwrap_or, if◌then◌else◌, is_some, is_none}
 use Rattle.std.specs.Prelude.{Err}
 use Rattle.std.proofs.lemmas.Bool.{both_ways}
@@ -8,14 +8,17 @@ use Rattle.clr_types.proofs.TailTaken.{size-lawful}
 use Rattle.clr_heap.specs.Parts.{IsMakeable}
 use Rattle.clr_view.specs.Shown.{shown}
 use Rattle.clr_view.specs.World.{World}
+use Rattle.clr_heap.specs.declared.heap.segments.AcquireFault.{AcquireFault}
+use Rattle.clr_heap.specs.declared.heap.segments.AcquireFault.TheVariants.{NoMemory, OverLimit}
 use Rattle.clr_model.specs.declared.Refusal.{Refusal}
-use Rattle.clr_model.specs.declared.Refusal.TheVariants.{BadShape, NoMemory, NoSlot, Oom, TooBig, UnknownType}
-use Rattle.clr_model.specs.Allocation.{out_of_room}
+use Rattle.clr_model.specs.declared.Refusal.TheVariants as refusal
+use Rattle.clr_model.specs.declared.Refusal.TheVariants.{BadShape, NoSlot, TooBig, UnknownType}
 use Rattle.clr_model.specs.Instructions.{new_object}
 use Rattle.clr_model.specs.Machine.{Machine, Options, Sums}
 use Rattle.clr_model.specs.Outcomes.{refused}
 use Rattle.clr_model.specs.RoomFollows.{FollowsRoom}
 use Rattle.clr_model.specs.Run.{Follows}
+use Rattle.clr_model.specs.Step.{Fails}
 use Rattle.clr_model.proofs.BirthFollows.{new_follows_local, new_follows_memory, new_follows_shape, new_follows_size}
 use Rattle.clr_model.proofs.BirthFollows.{new_follows_type}
 use Rattle.clr_model.proofs.BirthLine.{MayBear}
@@ -23,6 +26,8 @@ use Rattle.clr_model.proofs.LineChecks.{MayRun}
 use Rattle.clr_model.proofs.RoomFollows.{new_follows_fails}
 use Rattle.clr_runtime.specs.Births.{IsMeasured, Measured}
 use Rattle.clr_runtime.specs.Checks.{thread_refusal}
+use Rattle.clr_runtime.specs.Outcomes.{refusal_of_acquire}
+use Rattle.clr_runtime.specs.Rooms.{attempt_of}
 use Rattle.clr_runtime.specs.RuntimeView.{IsShown}
 use Rattle.clr_runtime.proofs.NamesChecked.{may_run}
 use Rattle.clr_runtime.proofs.RuntimeKept.{room_follows}
@@ -102,15 +107,20 @@ module _ {w : World} {sums : Sums} {options : Options} (is : IsShown w sums opti
       -- there is no memory for the finalisation entry that the type wants
       pub lacks_follows : (entries ready : List ℕ) → entries ≡ w.entries → ready ≡ w.ready
           → has_finalizer (type_row rows type) ≡ true
-          → Follows s (new_object t local name len) (refused NoMemory)
+          → Follows s (new_object t local name len) (refused refusal.NoMemory)
           (shown (record w { entries = entries; ready = ready }) sums options)
       lacks_follows entries ready kept waiting final =
-          room_follows is entries ready kept waiting (new_object t local name len) (refused NoMemory)
+          room_follows is entries ready kept waiting (new_object t local name len) (refused refusal.NoMemory)
           (new_follows_memory s t local name len type may_bear final)
 
-      -- there is no room, after all that was collected for it
-      pub full_follows : (new : Machine) → FollowsRoom s t size out_of_room new
-          → Follows (shown w sums options) (new_object t local name len) (refused Oom) new
-      full_follows new room =
-          new_follows_fails s t local name len type may_bear new out_of_room (refused Oom)
-          (subst (λ b. FollowsRoom s t b out_of_room new) measured.is room) refl
+      -- no room was made, and what was done for it stays
+      pub fails_follows : (new : Machine) (fault : AcquireFault) (r : Refusal) → r ≡ refusal_of_acquire fault
+          → FollowsRoom (shown w sums options) t size (attempt_of (Err fault)) new
+          → Follows (shown w sums options) (new_object t local name len) (refused r) new
+      fails_follows new fault r told room =
+          new_follows_fails s t local name len type may_bear new (attempt_of (Err fault)) (refused r)
+          (subst (λ b. FollowsRoom s t b (attempt_of (Err fault)) new) measured.is room) (fails fault told)
+        where
+          fails : (fault : AcquireFault) → r ≡ refusal_of_acquire fault → Fails (attempt_of (Err fault)) (refused r)
+          fails OverLimit same = ap refused same
+          fails NoMemory same = ap refused same

@@ -1,8 +1,11 @@
 -- Collections of a runtime's parts, and the line that collects, on what is seen.
 use Rattle.std.proofs.Common.{◌≡◌, ◌≢◌, ◌∙◌, ℕ, ◌+◌, ◌^◌, ◌<◌, ◌≤◌, ◌==◌, if◌then◌else◌, Bool, List, [], ◌∷◌}
-use Rattle.std.proofs.Common.{length, map, refl, ap, subst, sym, arith, None}
+use Rattle.std.proofs.Common.{length, map, refl, ap, subst, sym, arith, replicate, Option, None, Some}
 use Rattle.std.proofs.lemmas.Bool.{ne_eqb}
 use Rattle.std.proofs.lemmas.List.{length-map}
+use Rattle.clr_types.specs.Ranges.{Piece}
+use Rattle.clr_types.specs.Segments.{Layout, rest_pieces}
+use Rattle.clr_heap.specs.View.{no_rests}
 use Rattle.clr_view.specs.Clean.{AreClean}
 use Rattle.clr_view.specs.Marks.{IsUnmarked}
 use Rattle.clr_view.specs.Shown.{shown}
@@ -19,6 +22,7 @@ use Rattle.clr_model.specs.Machine.{begun_new, begun_store, Machine, no_step, Op
 use Rattle.clr_model.specs.Outcomes.{answered}
 use Rattle.clr_model.specs.Picture.{picture, renamed_step}
 use Rattle.clr_model.specs.Run.{Follows}
+use Rattle.clr_model.proofs.CollectedLawful.{rests_gone}
 use Rattle.clr_model.proofs.CollectFollows.{collect_follows}
 use Rattle.clr_model.proofs.LineChecks.{MayRun}
 use Rattle.clr_model.proofs.PieceBytes.{sums_bounded}
@@ -71,6 +75,12 @@ module _ (m : Machine) (g : ℕ) (how : How) (answer : Collected) (after : Machi
         sums = (c.state k).sums;
         options = (c.state k).options;
       }
+
+-- where no rest of a context is left, no thread has one
+none_rest : (rests : List (Option Piece)) → rest_pieces rests ≡ [] → rests ≡ replicate (length rests) None
+none_rest [] none = refl
+none_rest (None ∷ rests) none = ap (λ rs. None ∷ rs) (none_rest rests none)
+none_rest (Some p ∷ rests) none = absurd cc
 
 -- ---- the line
 
@@ -173,6 +183,15 @@ module _ {w : World} {sums : Sums} {options : Options} (is : IsShown w sums opti
       ∙ length-map after.locals (place_of after.objects)
       ∙ ap (λ (m : Machine). length m.locals) collects.state
       ∙ is.locals
+
+  -- no thread has a context
+  pub no_contexts-after : new.heap.rests ≡ no_rests
+  no_contexts-after =
+      let (after, collects, world) = told in
+      let none = ap (λ (l : Layout). rest_pieces l.rests) (sym world.memory.layout)
+      ∙ rests_gone s is.sound.lawful refl g least how answer after collects in
+      none_rest new.heap.rests none
+      ∙ ap (λ n. replicate n None) sound-after.lawful.laid.layout.threads
 
   -- what holds of the parts of a runtime still holds
   pub collect_kept : IsHeld new.rows new.heap → IsUnmarked new.rows new.heap

@@ -11,6 +11,7 @@ pub mod CollectLines
 pub mod LimitKept
 pub mod TypeNumbers
 pub mod RefillKept
+pub mod SealedParts
 pub mod RoomMade
 pub mod BirthLines
 pub mod BirthDone

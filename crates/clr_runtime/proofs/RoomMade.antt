@@ -1,17 +1,20 @@
 -- The ladder of an allocation, on what is seen of a runtime's parts: what each of its exits comes to.
-use Rattle.std.proofs.Common.{◌≡◌, ◌∙◌, ℕ, Bool, true, false, refl, sym, ap, subst, MatchBool}
+use Rattle.std.proofs.Common.{◌≡◌, ◌∙◌, ℕ, true, false, refl, sym, ap, subst, Result, Ok, Err}
+use Rattle.std.specs.Prelude.{OnOk}
 use Rattle.clr_types.specs.Ranges.{IsLawfulSize}
+use Rattle.clr_heap.specs.declared.heap.segments.AcquireFault.{AcquireFault}
+use Rattle.clr_heap.specs.declared.heap.segments.AcquireFault.TheVariants.{NoMemory, OverLimit}
 use Rattle.clr_model.specs.declared.Collected.{Collected}
 use Rattle.clr_model.specs.declared.How.{How}
 use Rattle.clr_model.specs.declared.How.TheVariants.{Compact, Decide}
-use Rattle.clr_model.specs.Allocation.{out_of_room, own_fits, roomed}
+use Rattle.clr_model.specs.Allocation.{out_of_memory, out_of_room, own_fits, roomed}
 use Rattle.clr_model.specs.Collection.{Collects, which}
 use Rattle.clr_model.specs.Lookups.{is_thread}
 use Rattle.clr_model.specs.Machine.{Machine}
 use Rattle.clr_model.specs.Picture.{picture}
 use Rattle.clr_model.specs.RoomFollows.{FollowsRoom, HasCollected}
-use Rattle.clr_model.proofs.RoomFollows.{room_first, room_full, room_none, room_refill}
-use Rattle.clr_runtime.specs.Rooms.{IsRefill, IsRefillInBudget}
+use Rattle.clr_model.proofs.RoomFollows.{room_first, room_full, room_lacks, room_none, room_refill, room_sealed}
+use Rattle.clr_runtime.specs.Rooms.{attempt_of, IsRefill, IsRefillInBudget, IsSealedRefill}
 use Rattle.clr_runtime.specs.RuntimeView.{seen}
 use Rattle.clr_runtime.specs.declared.parts.Parts.{Parts}
 use Rattle.clr_runtime.proofs.RefillKept.{thread-idle}
@@ -54,20 +57,40 @@ module _ (t size : ℕ) (thread : is_thread t ≡ true) (sized : IsLawfulSize si
       full : HasCollected (seen p1) 2 Compact (seen p2)
       full = collected_of (seen r) (seen p1) 2 2 Compact (seen p2) more (ap seen lacks.1) refl second
 
-      -- a refill after a full compacting collection, or no room
-      pub made_after_full : (last : Parts) (b : Bool) → IsRefill p2 last t size b
-          → MatchBool b (FollowsRoom (seen p) t size roomed (seen last))
-          (FollowsRoom (seen p) t size out_of_room (seen last))
-      made_after_full last true made =
+      -- a refill after a full compacting collection
+      pub made_after_full : (last : Parts) → IsRefill p2 last t size true
+          → FollowsRoom (seen p) t size roomed (seen last)
+      made_after_full last made =
           subst (FollowsRoom (seen p) t size roomed) (sym made.same)
           (room_full (seen p) t size own tried.0 refl (seen p1) young lacks.0 (seen p2) full (seen last).layout thread
           sized made.refilled)
-      made_after_full last false none =
-          subst (FollowsRoom (seen p) t size out_of_room) (sym (ap seen none.1))
-          (room_none (seen p) t size own tried.0 refl (seen p1) young lacks.0 (seen p2) full none.0 refl)
 
--- where a refill gave a context, the size fits in it
-pub refill_fits : (p q : Parts) (t size : ℕ) (b : Bool) → IsRefill p q t size b → b ≡ true
-    → own_fits (seen q).layout t size ≡ true
-refill_fits p q t size true made is = made.fits
-refill_fits p q t size false none is = absurd cc
+      module _ (full_up : Parts) (none : IsRefill p2 full_up t size false) where
+        -- a context in a new segment, or none
+        made_with_segment : (new : Machine) (result : Result (Unit {0}) AcquireFault)
+            → IsSealedRefill (seen p2) new t size result → FollowsRoom (seen p) t size (attempt_of result) new
+        made_with_segment new (Ok done) (may, made) =
+            subst (FollowsRoom (seen p) t size roomed) (sym made.same)
+            (room_sealed (seen p) t size own tried.0 refl (seen p1) young lacks.0 (seen p2) full none.0 may new.layout
+            thread sized made.refilled)
+        made_with_segment new (Err OverLimit) (barred, same) =
+            subst (FollowsRoom (seen p) t size out_of_room) (sym same)
+            (room_none (seen p) t size own tried.0 refl (seen p1) young lacks.0 (seen p2) full none.0 barred)
+        made_with_segment new (Err NoMemory) (may, same) =
+            subst (FollowsRoom (seen p) t size out_of_memory) (sym same)
+            (room_lacks (seen p) t size own tried.0 refl (seen p1) young lacks.0 (seen p2) full none.0 may)
+
+        -- the same from the parts that the refill left
+        pub made_by_sealing : (last : Parts) (result : Result (Unit {0}) AcquireFault)
+            → IsSealedRefill (seen full_up) (seen last) t size result
+            → FollowsRoom (seen p) t size (attempt_of result) (seen last)
+        made_by_sealing last result made =
+            made_with_segment (seen last) result
+            (subst (λ (m : Machine). IsSealedRefill m (seen last) t size result) (ap seen none.1) made)
+
+-- where sealing gave a context, the size fits in it
+pub sealing_fits : (old new : Machine) (t size : ℕ) (result : Result (Unit {0}) AcquireFault)
+    → IsSealedRefill old new t size result → OnOk result (own_fits new.layout t size ≡ true)
+sealing_fits old new t size (Ok done) (may, made) = made.fits
+sealing_fits old new t size (Err OverLimit) none = tt
+sealing_fits old new t size (Err NoMemory) none = tt

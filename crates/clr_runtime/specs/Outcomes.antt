@@ -8,6 +8,8 @@ use Rattle.clr_types.specs.declared.fault.DefineFault.{DefineFault}
 use Rattle.clr_types.specs.declared.fault.DefineFault.TheVariants as fault
 use Rattle.clr_handles.specs.declared.fault.CreateFault.{CreateFault}
 use Rattle.clr_handles.specs.declared.fault.CreateFault.TheVariants as creation
+use Rattle.clr_heap.specs.declared.heap.segments.AcquireFault.{AcquireFault}
+use Rattle.clr_heap.specs.declared.heap.segments.AcquireFault.TheVariants as acquisition
 use Rattle.clr_model.specs.Outcomes as model
 
 -- what a call tells that gives a method table word
@@ -51,3 +53,8 @@ refusal_of_fault fault.NoMemory = refusal.NoMemory
 abbrev pub refusal_of_create : CreateFault → Refusal
 refusal_of_create creation.TooManyHandles = refusal.TooManyHandles
 refusal_of_create creation.NoMemory = refusal.NoMemory
+
+-- how it is told that there is no room for an object, and no segment was acquired
+abbrev pub refusal_of_acquire : AcquireFault → Refusal
+refusal_of_acquire acquisition.OverLimit = refusal.Oom
+refusal_of_acquire acquisition.NoMemory = refusal.NoMemory

@@ -1,6 +1,7 @@
 //! The line that makes an object.
 ghost use Rattle.std.specs.Prelude.{◌≡◌, ◌≤◌, ◌++◌, [], ◌∷◌, OnErr, OnOk, true, if◌then◌else◌};
 ghost use Rattle.clr_runtime.specs.Births.{IsDefined, Measured};
+ghost use Rattle.clr_runtime.specs.Outcomes.{refusal_of_acquire};
 
 use crate::NoMemory;
 use crate::checks::index_of;
@@ -8,6 +9,7 @@ use crate::rooms::make_room;
 use crate::runtime::{LOCALS_OF_A_THREAD, Runtime};
 use clr_final::Finals;
 use clr_generations::bear;
+use clr_heap::AcquireFault;
 use clr_model::Refusal;
 use clr_types::{TypeId, Types};
 
@@ -33,7 +35,11 @@ impl Runtime {
     /// pass the budget `b0` with the object, or where no new context has room, the line collects first, as the option
     /// `compact` decides: generation 0, and generation 1 too where the bytes promoted to it passed `b1`, and then all
     /// where also those promoted to generation 2 passed `b2`. Where there is no room then, either, it makes a full
-    /// compacting collection. It is refused with `Oom` exactly where there is no room after that, and what the
+    /// compacting collection. Where there is none after that, the ephemeral segment is sealed: all in it is old from
+    /// then on, and the new context is in a new segment.
+    ///
+    /// It is refused with `Oom` exactly where there is no room after the full compacting collection and the limit
+    /// allows no segment more, and with `NoMemory` also where it allows one and there is no memory for it. What the
     /// collections left stays.
     pub fn new_object(
         &mut self,
@@ -56,8 +62,8 @@ impl Runtime {
             return Err(Refusal::NoMemory);
         };
         let thread = t as usize;
-        if !make_room(&mut self.parts, thread, size) {
-            return Err(Refusal::Oom);
+        if let Err(fault) = make_room(&mut self.parts, thread, size) {
+            return Err(refusal_of(fault));
         }
         let place = bear(
             &mut self.parts.heap,
@@ -128,5 +134,15 @@ fn register_entry(finals: &mut Finals, wanted: bool, place: u64)
 {
     if wanted {
         finals.register(place);
+    }
+}
+
+// How it is told that there is no room for an object.
+fn refusal_of(fault: AcquireFault) -> Refusal
+    ensures { result ≡ refusal_of_acquire fault }
+{
+    match fault {
+        AcquireFault::OverLimit => Refusal::Oom,
+        AcquireFault::NoMemory => Refusal::NoMemory,
     }
 }

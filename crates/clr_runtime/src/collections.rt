@@ -1,5 +1,6 @@
 //! The line that collects, and the collections that it and allocations make.
 ghost use Rattle.std.specs.Prelude.{◌≡◌, ◌≤◌};
+ghost use Rattle.clr_heap.specs.View.{no_rests};
 ghost use Rattle.clr_model.specs.Collection.{Collects};
 ghost use Rattle.clr_model.specs.Machine.{Machine};
 ghost use Rattle.clr_model.specs.Picture.{picture};
@@ -42,13 +43,14 @@ impl Runtime {
     }
 }
 
-// Collects generation `g` and all younger ones, as `how` says. The finalisation queue still has room for as many
-// entries.
+// Collects generation `g` and all younger ones, as `how` says. No thread has a context afterwards. The finalisation
+// queue still has room for as many entries.
 pub(crate) fn collect_parts(parts: &mut Parts, g: u8, how: How) -> Collected
     requires generation { g ≤ 2 }
     requires runtime { IsRuntime parts.old }
     ensures collected { (after : Machine) × Collects (seen parts.old) g how result after
         × (seen parts.new ≡ picture after) }
+    ensures no_contexts { parts.new.heap.rests ≡ no_rests }
     ensures runtime { IsRuntime parts.new }
     ensures spare { parts.old.finals.spare ≤ parts.new.finals.spare }
     ensures types { parts.new.types ≡ parts.old.types }

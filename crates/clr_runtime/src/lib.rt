@@ -14,5 +14,6 @@ mod options;
 mod parts;
 mod rooms;
 mod runtime;
+mod sealing;
 mod slots;
 mod sums;

@@ -1,46 +1,53 @@
-//! Room for a new object, by collections where it takes them.
-ghost use Rattle.std.specs.Prelude.{◌≡◌, ◌%◌, ◌<◌, ◌≤◌, MatchBool, true};
-ghost use Rattle.clr_model.specs.Allocation.{out_of_room, own_fits, roomed};
+//! Room for a new object, by collections and a new segment where it takes them.
+ghost use Rattle.std.specs.Prelude.{◌≡◌, ◌%◌, ◌<◌, ◌≤◌, OnOk, true};
+ghost use Rattle.clr_heap.specs.View.{no_rests};
+ghost use Rattle.clr_model.specs.Allocation.{own_fits};
 ghost use Rattle.clr_model.specs.Collection.{which};
 ghost use Rattle.clr_model.specs.RoomFollows.{FollowsRoom};
-ghost use Rattle.clr_runtime.specs.Rooms.{IsRefill, IsRefillInBudget};
+ghost use Rattle.clr_runtime.specs.Rooms.{attempt_of, IsRefill, IsRefillInBudget, IsSealedRefill};
 ghost use Rattle.clr_runtime.specs.RuntimeView.{IsRuntime, seen};
 
 use crate::collections::collect_parts;
 use crate::parts::Parts;
+use crate::sealing::seal_parts;
+use clr_heap::AcquireFault;
 use clr_model::How;
 
-// Makes room of this size at the front of the thread's context, and tells whether there is. It is the first of these
-// steps that serves: the context as it is, a new one within the budget, one after a collection of the generation that
-// the sums choose, one after a full compacting collection. What the collections leave stays.
-pub(crate) fn make_room(parts: &mut Parts, thread: usize, size: u64) -> bool
+// Makes room of this size at the front of the thread's context. It is the first of these steps that serves: the context
+// as it is, a new one within the budget, one after a collection of the generation that the sums choose, one after a
+// full compacting collection, one in a new segment.
+//
+// `OverLimit` comes exactly where all but the last of them find no room and the limit allows no segment more, and
+// `NoMemory` where it allows one and there is no memory for it. What the collections left stays.
+pub(crate) fn make_room(parts: &mut Parts, thread: usize, size: u64) -> Result<(), AcquireFault>
     requires runtime { IsRuntime parts.old }
     requires positive { 0 < thread }
     requires few { thread ≤ 16 }
     requires least { 24 ≤ size }
     requires whole { size % 8 ≡ 0 }
     requires small { size < 85000 }
-    ensures room { MatchBool result
-        (FollowsRoom (seen parts.old) thread size roomed (seen parts.new))
-        (FollowsRoom (seen parts.old) thread size out_of_room (seen parts.new)) }
-    ensures fits { result ≡ true → own_fits (seen parts.new).layout thread size ≡ true }
+    ensures room { FollowsRoom (seen parts.old) thread size (attempt_of result) (seen parts.new) }
+    ensures fits { OnOk result (own_fits (seen parts.new).layout thread size ≡ true) }
     ensures runtime { IsRuntime parts.new }
     ensures spare { parts.old.finals.spare ≤ parts.new.finals.spare }
     ensures types { parts.new.types ≡ parts.old.types }
 {
     if fits_in_context(parts, thread, size) {
-        return true;
+        return Ok(());
     }
     if refill_in_budget(parts, thread, size) {
-        return true;
+        return Ok(());
     }
     let g = generation_due(parts);
     let _ = collect_parts(parts, g, How::Decide);
     if refill(parts, thread, size) {
-        return true;
+        return Ok(());
     }
     let _ = collect_parts(parts, 2, How::Compact);
-    refill(parts, thread, size)
+    if refill(parts, thread, size) {
+        return Ok(());
+    }
+    refill_by_sealing(parts, thread, size)
 }
 
 // Whether the size fits at the front of the thread's context as it is.
@@ -107,4 +114,24 @@ fn refill(parts: &mut Parts, thread: usize, size: u64) -> bool
         .contexts
         .refill(&mut parts.heap, &parts.types, thread, size);
     refilled.is_some()
+}
+
+// Gives the thread a context in a new segment, where the limit allows one and there is memory for it. No thread has a
+// context.
+fn refill_by_sealing(parts: &mut Parts, thread: usize, size: u64) -> Result<(), AcquireFault>
+    requires runtime { IsRuntime parts.old }
+    requires no_contexts { parts.old.heap.rests ≡ no_rests }
+    requires positive { 0 < thread }
+    requires few { thread ≤ 16 }
+    requires least { 24 ≤ size }
+    requires whole { size % 8 ≡ 0 }
+    requires small { size < 85000 }
+    ensures refilled { IsSealedRefill (seen parts.old) (seen parts.new) thread size result }
+    ensures runtime { IsRuntime parts.new }
+    ensures finals { parts.new.finals ≡ parts.old.finals }
+    ensures types { parts.new.types ≡ parts.old.types }
+{
+    seal_parts(parts)?;
+    let _ = refill(parts, thread, size);
+    Ok(())
 }

@@ -38,7 +38,7 @@ pub(crate) const LOCALS_OF_A_THREAD: u64 = 64;
 ///
 /// Contracts see the machine whose objects are named by their places. After each call the runtime stands for the next
 /// state of each graph machine that it stood for before, and the answer is that step's reply. A refused call leaves the
-/// state as it was, but for a refusal with `Oom`, before which `new_object` has collected.
+/// state as it was, but for one of `new_object` that finds no room after it has collected.
 #[derive(Drop)]
 pub struct Runtime {
     pub(crate) parts: Parts,

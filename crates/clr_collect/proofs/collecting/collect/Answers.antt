@@ -1,5 +1,5 @@
 -- What is kept is swept or moved, and empty segments are given back.
-use Rattle.std.proofs.Common.{◌∙◌, refl, sym, arith, true, false}
+use Rattle.std.proofs.Common.{◌∙◌, refl, sym, arith, true}
 use Rattle.clr_model.specs.declared.How.TheVariants.{Compact}
 use Rattle.clr_collect.specs.Collecting.{world_with}
 use Rattle.clr_collect.proofs.AfterRelease.{clean_still, heads_still}

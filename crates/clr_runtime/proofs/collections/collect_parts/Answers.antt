@@ -6,8 +6,8 @@ use Rattle.clr_view.specs.World.{World}
 use Rattle.clr_collect.specs.Collecting.{world_with}
 use Rattle.clr_runtime.specs.Options.{options_of}
 use Rattle.clr_runtime.specs.RuntimeView.{sums_of, world_of}
-use Rattle.clr_runtime.proofs.CollectLines.{collect_kept, first_fits, has_collected, locals-after, second_fits, Told}
-use Rattle.clr_runtime.proofs.CollectLines.{told_of, whole_world}
+use Rattle.clr_runtime.proofs.CollectLines.{collect_kept, first_fits, has_collected, locals-after, no_contexts-after}
+use Rattle.clr_runtime.proofs.CollectLines.{second_fits, Told, told_of, whole_world}
 use Rattle.clr_runtime.proofs.collections.collect_parts.Goals as goal
 use Rattle.clr_runtime.proofs.collections.collect_parts.Goals.{After-collect-collected}
 
@@ -74,6 +74,12 @@ returns-clause-collected c =
     rw c.collected-parts.ensures
     (has_collected c.requires.runtime.shown c.args.g c.requires.generation c.args.how (new_world before)
     c.collect-collected.result (told before))
+
+pub returns-clause-no_contexts : goal.returns-clause-no_contexts
+returns-clause-no_contexts c =
+    let before = (goal.at.returns-clause-no_contexts c).After-collect-collected in
+    no_contexts-after c.requires.runtime.shown c.args.g c.requires.generation c.args.how (new_world before)
+    c.collect-collected.result (told before)
 
 pub returns-clause-runtime : goal.returns-clause-runtime
 returns-clause-runtime c =

@@ -1,9 +1,11 @@
 use Rattle.std.proofs.Common.{◌-◌}
+use Rattle.clr_generations.specs.Renewing as renewing
 use Rattle.clr_generations.proofs.Renewed.{IsRenewing}
-use Rattle.clr_generations.proofs.renewing.renew_bricks.Given as goal
+use Rattle.clr_generations.proofs.renewing.renew_part.Given as goal
 
 abbrev pub invariant-loop-brick : goal.invariant-loop-brick
-invariant-loop-brick l = IsRenewing l.types l.heap l.k l.from l.initial.bricks l.bricks l.brick l.next
+invariant-loop-brick l =
+    IsRenewing l.types l.heap (renewing.passes l.counted) l.k l.from l.initial.bricks l.bricks l.brick l.next
 
 abbrev pub decreases-loop-brick : goal.decreases-loop-brick
 decreases-loop-brick l = l.end - l.brick

@@ -1,4 +1,4 @@
--- A search for the first marked object on a walk over the items of a segment, and for that of a brick.
+-- A search for the first object that counts on a walk over the items of a segment, and for that of a brick.
 use Rattle.std.proofs.Common.{◌≡◌, ◌⊎◌, inl, inr, ℕ, ◌+◌, ◌*◌, ◌/◌, ◌^◌, ◌<◌, ◌≤◌, min, Bool, true, false, ◌&&◌}
 use Rattle.std.proofs.Common.{List, [], ◌∷◌, ◌++◌, length, refl, ap, sym, ◌∙◌, subst, arith, cond, ℤ, Option, Some}
 use Rattle.std.proofs.Common.{MatchOption, None}
@@ -12,24 +12,23 @@ use Rattle.clr_types.specs.declared.segment.SegInfo.{SegInfo}
 use Rattle.clr_types.specs.declared.segment.SegKind.TheVariants.{Ephemeral}
 use Rattle.clr_types.proofs.ListMembers.{append_right}
 use Rattle.clr_types.proofs.RisingLists.{in_cons}
-use Rattle.clr_bricks.specs.Bricks.{IsRoot, root_entry}
+use Rattle.clr_bricks.specs.Bricks.{IsRoot}
 use Rattle.clr_heap.specs.Memories.{memory_index}
 use Rattle.clr_heap.specs.Parts.{hole_from, item_at, item_part, items_in, Part, parts, rest_part, Sight, Spells}
-use Rattle.clr_heap.specs.View.{first_of, frame, HasItem, heap_items, HeapView, holes_of, IsHeap}
+use Rattle.clr_heap.specs.View.{first_of, HasItem, heap_items, HeapView, holes_of, IsHeap}
 use Rattle.clr_heap.specs.View.{items_between, last_of, listing, no_rests, parts_of, segment_at, sight, word_of}
 use Rattle.clr_heap.proofs.Addresses.{index_is_segment}
 use Rattle.clr_heap.proofs.Framing.{below_top_at, lawful_at}
 use Rattle.clr_heap.proofs.Spelling.{item_size, place-item_at, Spells-append}
 use Rattle.clr_heap.proofs.Walking.{CanWalk-from, spelled_parts, walk_item}
-use Rattle.clr_view.specs.Marks.{has_mark}
 use Rattle.clr_view.specs.View.{IsHeld, is_object, objects_in}
 use Rattle.clr_view.proofs.Items.{stacked-apart}
 use Rattle.clr_view.proofs.Listings.{heap-stacked, items-append}
 use Rattle.clr_view.proofs.ObjectItems.{stands-item}
 use Rattle.clr_view.proofs.Standing.{listed_from, standing, stands_from}
-use Rattle.clr_generations.specs.Laws.{IsBrickOf, LeadsBrick, may_lead, Stands}
-use Rattle.clr_generations.specs.Renewing.{CanBegin, HasNoStart, HasYoungBorder, IsBorder, IsFirstFrom, IsFirstIn}
-use Rattle.clr_generations.specs.Renewing.{IsSearchStart, NoneMarked, NoneMarkedIn}
+use Rattle.clr_generations.specs.Laws.{IsBrickOf, Stands}
+use Rattle.clr_generations.specs.Renewing.{CanBegin, HasBorder, HasNoStart, HasTold, IsBorder, IsFirstFrom, IsFirstIn}
+use Rattle.clr_generations.specs.Renewing.{IsSearchStart, NoneCounted, NoneCountedIn}
 use Rattle.clr_generations.proofs.FoundItems.{only-segment}
 use Rattle.clr_generations.proofs.HeapHomes.{brick-in, heap_homes, whole_bricks}
 use Rattle.clr_generations.proofs.Homes.{HaveHomes, stands-home, unnamed-young}
@@ -98,16 +97,16 @@ border-begins rows h k place low border = record {
 }
 
 -- a search from `start` on has come to a place
-pub record IsSearch (rows : List TypeRow) (h : HeapView) (k start place : ℕ) : Type 0 where
+pub record IsSearch (rows : List TypeRow) (h : HeapView) (counts : ℕ → Bool) (k start place : ℕ) : Type 0 where
   pub begins : place < last_of h k → CanBegin rows h k place
-  pub none : NoneMarked rows h start place
+  pub none : NoneCounted rows h counts start place
   pub up : start ≤ place
 
-pub search_starts : (rows : List TypeRow) (h : HeapView) (k start : ℕ)
-    → (start < last_of h k → CanBegin rows h k start) → IsSearch rows h k start start
-search_starts rows h k start begins = record {
+pub search_starts : (rows : List TypeRow) (h : HeapView) (counts : ℕ → Bool) (k start : ℕ)
+    → (start < last_of h k → CanBegin rows h k start) → IsSearch rows h counts k start start
+search_starts rows h counts k start begins = record {
   begins = begins;
-  none = λ x mark low high. absurd (omega arith);
+  none = λ x counted low high. absurd (omega arith);
   up = omega arith;
 }
 
@@ -147,7 +146,8 @@ module _ (rows : List TypeRow) (h : HeapView) (heap : IsHeap h) (held : IsHeld r
       }
 
   -- ---- an item on the way
-  module _ (start place : ℕ) (w : IsSearch rows h k start place) (below : place < last_of h k) where
+  module _ (counts : ℕ → Bool) (start place : ℕ) (w : IsSearch rows h counts k start place)
+      (below : place < last_of h k) where
     abbrev i : Item
     i = item_at rows (word_of h) place
 
@@ -207,17 +207,17 @@ module _ (rows : List TypeRow) (h : HeapView) (heap : IsHeap h) (held : IsHeld r
               ]
         ]
 
-    -- a marked object is the first one
+    -- an object that counts is the first one
     pub search_found : (past : ℕ) → place < past
-        → (is_object (item_at rows (word_of h) place) && has_mark (word_of h place)) ≡ true
-        → IsFirstFrom rows h start past place
+        → (is_object (item_at rows (word_of h) place) && counts (word_of h place)) ≡ true
+        → IsFirstFrom rows h counts start past place
     search_found past under both =
-        let parts = and_parts (is_object i) (has_mark (word_of h place)) both in
+        let parts = and_parts (is_object i) (counts (word_of h place)) both in
         let can = can_go_on in
         record {
-          marked = record {
+          counted = record {
             stands = subst (λ (p : ℕ). Stands (objects_in rows h) p) can.at (stands_from rows h i can.listed parts.0);
-            mark = parts.1;
+            counted = parts.1;
           };
           low = w.up;
           high = under;
@@ -225,8 +225,8 @@ module _ (rows : List TypeRow) (h : HeapView) (heap : IsHeap h) (held : IsHeld r
         }
 
     -- any other item is passed
-    pub search_on : (is_object (item_at rows (word_of h) place) && has_mark (word_of h place)) ≡ false
-        → IsSearch rows h k start (place + (item_at rows (word_of h) place).size)
+    pub search_on : (is_object (item_at rows (word_of h) place) && counts (word_of h place)) ≡ false
+        → IsSearch rows h counts k start (place + (item_at rows (word_of h) place).size)
     search_on other =
         let can = can_go_on in
         let least = can.least in
@@ -240,91 +240,90 @@ module _ (rows : List TypeRow) (h : HeapView) (heap : IsHeap h) (held : IsHeld r
             walk = step.walk;
             among = λ j l. begin.among j (subst (λ (is : List Item). IsIn j is) (sym step.items) (later l));
           };
-          none = λ x mark from to. elim (before x mark.stands to) [
-            | inl less ↦ w.none x mark from less
+          none = λ x is from to. elim (before x is.stands to) [
+            | inl less ↦ w.none x is from less
             | inr (same, object) ↦
-                let marked = subst (λ (p : ℕ). has_mark (word_of h p) ≡ true) same mark.mark in
-                both_ways (is_object i && has_mark (word_of h place)) other (rw (object, marked) refl)
+                let counted = subst (λ (p : ℕ). counts (word_of h p) ≡ true) same is.counted in
+                both_ways (is_object i && counts (word_of h place)) other (rw (object, counted) refl)
           ];
           up = omega arith;
         }
 
   -- ---- a brick
-  module _ (brick : ℕ) (low : first_of h k ≤ 4096 * brick) (high : 4096 * brick < last_of h k) (entry : ℤ)
-      (named : (offset : ℕ) → entry ≡ root_entry offset
-      → LeadsBrick (frame h) (objects_in rows h) brick (4096 * brick + offset))
-      (starts : (x : ℕ) → Stands (objects_in rows h) x → x / 4096 ≡ brick → may_lead (frame h) x ≡ true → IsRoot entry)
-    where
-      -- a brick of the segment
-      of : IsBrickOf s brick
-      of = brick-in h k brick heap inside (let base = (whole_bricks h k heap inside).base in omega arith) high
+  module _ (brick : ℕ) (low : first_of h k ≤ 4096 * brick) (high : 4096 * brick < last_of h k) (young : ℕ) (entry : ℤ)
+      (told : HasTold (objects_in rows h) young brick entry) where
+    -- a brick of the segment
+    of : IsBrickOf s brick
+    of = brick-in h k brick heap inside (let base = (whole_bricks h k heap inside).base in omega arith) high
 
-      within : (x : ℕ) → Stands (objects_in rows h) x → x / 4096 ≡ brick → x < last_of h k
-      within x stands at =
-          let in_s = stands-home rows (objects_in rows h) s x homes stands
-          (subst (λ (b : ℕ). IsBrickOf s b) (sym at) of) in
-          let place = stands.2 in
-          let under = homes.within stands.0 stands.1 (subst (λ (p : ℕ). stands_in s p ≡ true) (sym place) in_s) in
-          let least = homes.least stands.0 stands.1 in
-          omega arith
+    within : (x : ℕ) → Stands (objects_in rows h) x → x / 4096 ≡ brick → x < last_of h k
+    within x stands at =
+        let in_s = stands-home rows (objects_in rows h) s x homes stands
+        (subst (λ (b : ℕ). IsBrickOf s b) (sym at) of) in
+        let place = stands.2 in
+        let under = homes.within stands.0 stands.1 (subst (λ (p : ℕ). stands_in s p ≡ true) (sym place) in_s) in
+        let least = homes.least stands.0 stands.1 in
+        omega arith
 
-      -- what no entry names is young
-      unnamed : (IsRoot entry → ⊥) → (x : ℕ) → Stands (objects_in rows h) x → x / 4096 ≡ brick
-          → (h.start0 ≤ x) × (4096 * brick < h.start0)
-      unnamed never x stands at =
-          let young = unnamed-young (frame h) x (λ may. never (starts x stands at may)) in
-          let under = young.1 in
-          (young.0, omega arith)
+    -- what no entry names is young
+    unnamed : (IsRoot entry → ⊥) → (x : ℕ) → Stands (objects_in rows h) x → x / 4096 ≡ brick
+        → (young ≤ x) × (4096 * brick < young)
+    unnamed never x stands at =
+        let from = unnamed-young told.before x (λ may. never (told.starts x stands at may)) in
+        let above = from.0 in
+        let under = from.1 in
+        let same = told.start0 in
+        (omega arith, omega arith)
 
-      -- a search can begin where it should
-      pub start_begins : HasYoungBorder rows h k → (start : ℕ) → IsSearchStart entry brick h.start0 start
-          → start < last_of h k → CanBegin rows h k start
-      start_begins border start (inl (offset, is, at)) below =
-          let leads = named offset is in
-          object-begins start (subst (λ (p : ℕ). Stands (objects_in rows h) p) (sym at) leads.stands) (omega arith)
-          below
-      start_begins border start (inr (never, here, at)) below =
-          subst (CanBegin rows h k) (sym at)
-          (border-begins rows h k h.start0 (omega arith) (border (omega arith) (omega arith)))
+    -- a search can begin where it should
+    pub start_begins : HasBorder rows h k young → (start : ℕ) → IsSearchStart entry brick young start
+        → start < last_of h k → CanBegin rows h k start
+    start_begins border start (inl (offset, is, at)) below =
+        let leads = told.named offset is in
+        object-begins start (subst (λ (p : ℕ). Stands (objects_in rows h) p) (sym at) leads.stands) (omega arith)
+        below
+    start_begins border start (inr (never, here, at)) below =
+        subst (CanBegin rows h k) (sym at)
+        (border-begins rows h k young (omega arith) (border (omega arith) (omega arith)))
 
-      -- and meets all objects of the brick
-      start_low : (start : ℕ) → IsSearchStart entry brick h.start0 start → (x : ℕ) → Stands (objects_in rows h) x
-          → x / 4096 ≡ brick → start ≤ x
-      start_low start (inl (offset, is, at)) x stands in_brick =
-          let least = (named offset is).first x stands in_brick in omega arith
-      start_low start (inr (never, here, at)) x stands in_brick =
-          let young = (unnamed never x stands in_brick).0 in omega arith
+    -- and meets all objects of the brick
+    start_low : (start : ℕ) → IsSearchStart entry brick young start → (x : ℕ) → Stands (objects_in rows h) x
+        → x / 4096 ≡ brick → start ≤ x
+    start_low start (inl (offset, is, at)) x stands in_brick =
+        let least = (told.named offset is).first x stands in_brick in omega arith
+    start_low start (inr (never, here, at)) x stands in_brick =
+        let above = (unnamed never x stands in_brick).0 in omega arith
 
-      start_in : (start : ℕ) → IsSearchStart entry brick h.start0 start → start / 4096 ≡ brick
-      start_in start (inl (offset, is, at)) =
-          let inside' = (named offset is).inside in ap (λ (p : ℕ). p / 4096) at ∙ inside'
-      start_in start (inr (never, here, at)) = ap (λ (p : ℕ). p / 4096) at ∙ here
+    start_in : (start : ℕ) → IsSearchStart entry brick young start → start / 4096 ≡ brick
+    start_in start (inl (offset, is, at)) =
+        let inside' = (told.named offset is).inside in ap (λ (p : ℕ). p / 4096) at ∙ inside'
+    start_in start (inr (never, here, at)) = ap (λ (p : ℕ). p / 4096) at ∙ here
 
-      -- WHAT THE SEARCH FINDS is the brick's first marked object
-      pub found_in : (start past : ℕ) → IsSearchStart entry brick h.start0 start
-          → past ≡ min (last_of h k) (4096 * brick + 4096) → (found : Option ℕ)
-          → MatchOption found (NoneMarked rows h start past) (IsFirstFrom rows h start past)
-          → MatchOption found (NoneMarkedIn rows h brick) (IsFirstIn rows h brick)
-      found_in start past begins most None none' = λ x mark at.
-          let below = within x mark.stands at in
-          none' x mark (start_low start begins x mark.stands at) (omega arith)
-      found_in start past begins most (Some place) is =
-          let from = start_in start begins in
-          let up = is.low in
-          let under = is.high in
-          record {
-            marked = is.marked;
-            inside = omega arith;
-            first = λ x mark at. elim (cases_lt x place) [
-              | inl less ↦ absurd (is.first x mark (start_low start begins x mark.stands at) less)
-              | inr more ↦ more
-            ];
-          }
+    -- WHAT THE SEARCH FINDS is the brick's first object that counts
+    pub found_in : (counts : ℕ → Bool) (start past : ℕ) → IsSearchStart entry brick young start
+        → past ≡ min (last_of h k) (4096 * brick + 4096) → (found : Option ℕ)
+        → MatchOption found (NoneCounted rows h counts start past) (IsFirstFrom rows h counts start past)
+        → MatchOption found (NoneCountedIn rows h counts brick) (IsFirstIn rows h counts brick)
+    found_in counts start past begins most None none' = λ x is at.
+        let below = within x is.stands at in
+        none' x is (start_low start begins x is.stands at) (omega arith)
+    found_in counts start past begins most (Some place) is =
+        let from = start_in start begins in
+        let up = is.low in
+        let under = is.high in
+        record {
+          counted = is.counted;
+          inside = omega arith;
+          first = λ x other at. elim (cases_lt x place) [
+            | inl less ↦ absurd (is.first x other (start_low start begins x other.stands at) less)
+            | inr more ↦ more
+          ];
+        }
 
-      -- and where there is nothing to search from, there is none
-      pub found_none : HasNoStart entry brick h.start0 → NoneMarkedIn rows h brick
-      found_none (never, elsewhere) x mark at =
-          let young = unnamed never x mark.stands at in
-          let above = young.0 in
-          let under = young.1 in
-          elsewhere (omega arith)
+    -- and where there is nothing to search from, there is none
+    pub found_none : (counts : ℕ → Bool) → HasNoStart entry brick young → NoneCountedIn rows h counts brick
+    found_none counts (never, elsewhere) x is at =
+        let from = unnamed never x is.stands at in
+        let above = from.0 in
+        let under = from.1 in
+        elsewhere (omega arith)

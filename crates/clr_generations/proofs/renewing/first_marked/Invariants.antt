@@ -1,9 +1,0 @@
-use Rattle.std.proofs.Common.{◌-◌}
-use Rattle.clr_generations.proofs.FirstMarked.{IsSearch}
-use Rattle.clr_generations.proofs.renewing.first_marked.Given as goal
-
-abbrev pub invariant-loop-place : goal.invariant-loop-place
-invariant-loop-place l = IsSearch l.types l.heap l.k l.start l.place
-
-abbrev pub decreases-loop-place : goal.decreases-loop-place
-decreases-loop-place l = l.past - l.place

@@ -21,7 +21,7 @@ use Rattle.clr_view.specs.Marks.{IsUnmarked}
 use Rattle.clr_view.specs.View.{AreFreeHeads, IsHeld}
 use Rattle.clr_collect.specs.Released.{HasLost, HasReleased}
 use Rattle.clr_collect.proofs.SweepCollects.{count-map, count-on}
-use Rattle.clr_collect.proofs.KeptItems.{kept_clean, kept_heads, kept_unmarked, KeepsItems}
+use Rattle.clr_generations.proofs.KeptItems.{kept_clean, kept_heads, kept_unmarked, KeepsItems}
 use Rattle.clr_collect.proofs.SegmentsLost.{lost-refl, lost_kept}
 
 module _ (rows : List TypeRow) (gone : HeapView) (gone_heap : IsHeap gone) (gone_held : IsHeld rows gone)

@@ -14,7 +14,7 @@ use Rattle.clr_generations.specs.Laws.{AreEntered, IsBrickOf}
 use Rattle.clr_generations.specs.Renewing.{HasBorder, HaveTold}
 use Rattle.clr_generations.specs.Tables.{AreBricksOf, AreCardsOf, AreTablesOf}
 use Rattle.clr_generations.proofs.AllBricks.{number-in}
-use Rattle.clr_collect.proofs.KeptItems.{KeepsItems}
+use Rattle.clr_generations.proofs.KeptItems.{KeepsItems}
 use Rattle.clr_collect.proofs.SealedHeaps.{sealed_kept, sealed_layout}
 use Rattle.clr_collect.proofs.SealedTables.{sealed_aged, sealed_border, sealed_high, sealed_low, sealed_tables}
 use Rattle.clr_collect.proofs.SealedTables.{sealed_told}

@@ -1,6 +1,6 @@
 -- The cards and bricks of a heap whose ephemeral segment is sealed.
 use Rattle.std.proofs.Common.{◌≡◌, ◌≢◌, inl, inr, ℕ, ◌+◌, ◌/◌, ◌<◌, ◌≤◌, true, false, Bool}
-use Rattle.std.proofs.Common.{List, length, refl, sym, ◌∙◌, subst, arith, ℤ, pos}
+use Rattle.std.proofs.Common.{List, length, refl, sym, ◌∙◌, subst, arith, ℤ}
 use Rattle.std.proofs.lemmas.Bool.{cases_Bool, cases_eq, cases_lt}
 use Rattle.clr_types.specs.Rising.{IsIn}
 use Rattle.clr_types.specs.Segments.{ephemeral, generation, opening_segment, reserved_end, sealed_segment, stands_in}
@@ -8,11 +8,9 @@ use Rattle.clr_types.specs.Types.{TypeRow}
 use Rattle.clr_types.specs.declared.segment.SegInfo.{SegInfo}
 use Rattle.clr_types.specs.declared.segment.SegKind.TheVariants.{Ephemeral}
 use Rattle.clr_types.proofs.SegmentFacts.{stands-between}
-use Rattle.clr_bricks.specs.Bricks.{entry_at, root_entry}
+use Rattle.clr_bricks.specs.Bricks.{entry_at}
 use Rattle.clr_cards.specs.Cards.{is_card_set}
-use Rattle.clr_covers.specs.Covers.{CoverView, spans}
-use Rattle.clr_covers.proofs.Changing.{value_at-uncovered}
-use Rattle.clr_covers.proofs.Spans.{free_above}
+use Rattle.clr_covers.specs.Covers.{CoverView}
 use Rattle.clr_heap.specs.View.{CanWalk, first_of, frame, HeapView, IsHeap, last_of, no_rests, segment_at, sight}
 use Rattle.clr_heap.specs.View.{with_ephemeral}
 use Rattle.clr_heap.proofs.Framing.{below_top_at}
@@ -30,14 +28,12 @@ use Rattle.clr_generations.proofs.Alike.{AreAlike, entered_alike}
 use Rattle.clr_generations.proofs.BarrierLaw.{generation-most}
 use Rattle.clr_generations.proofs.HeapHomes.{heap_homes}
 use Rattle.clr_generations.proofs.Homes.{HaveHomes, old-away, old-before, old-may_lead}
+use Rattle.clr_generations.proofs.NewSegments.{object_under, opening_entered}
 use Rattle.clr_sweep.proofs.SurvivorsSwept.{seen}
 use Rattle.clr_sweep.proofs.YoungPart.{young-high, young-low}
 use Rattle.clr_sweep.proofs.YoungTables.{young_border}
 use Rattle.clr_sweep.proofs.YoungWhole.{as-seen}
-use Rattle.clr_collect.specs.Sealing.{AreBelow}
-use Rattle.clr_collect.proofs.KeptItems.{kept_objects}
-use Rattle.clr_collect.proofs.NewCovers.{bricks_under, ends_below}
-use Rattle.clr_collect.proofs.ReleasedTables.{homed}
+use Rattle.clr_generations.proofs.KeptItems.{kept_objects}
 use Rattle.clr_collect.proofs.SealedHeaps.{all_aged, new_segment, old_segment, one_more, sealed_kept, stays, walk_stays}
 
 -- what entries tell of a segment they tell of it where it is sealed
@@ -194,45 +190,17 @@ module _ (rows : List TypeRow) (h : HeapView) (heap : IsHeap h) (held : IsHeld r
       -- an object ends below the top
       object-under : (o : Object) → IsIn o (objects_in rows new)
           → (o.place + object_size rows o ≤ h.top) × (24 ≤ object_size rows o)
-      object-under o i =
-          let home = homed rows h heap held o (subst (IsIn o) objects_same i) in
-          let below = home.below in
-          let high = home.high in
-          let end = below_top_at h home.home heap home.in_range in
-          (omega arith, home.least)
-
-      -- a new brick has no entry
-      no-entry : (b offset : ℕ) → h.top / 4096 ≤ b → entry_at bricks' b ≡ root_entry offset → ⊥
-      no-entry b offset above is =
-          let end = below_top_at h k heap inside in
-          let below = ends_below (h.top / 4096) (spans bricks)
-          (subst (AreBelow (h.top / 4096)) (sym t.bricks) (bricks_under h.top h.segments heap.segments heap.below_top))
-          in
-          let free = free_above bricks (h.top / 4096) (b + 1) below b above (omega arith) in
-          let zero_is : pos 0 ≡ pos (offset + 1) =
-          sym (other-brick b (λ of. let last = of.1 in omega arith) ∙ value_at-uncovered bricks (pos 0) b free) ∙ is in
-          let nothing : 0 ≡ offset + 1 = cc in
-          omega arith
+      object-under o i = object_under rows h heap held o (subst (IsIn o) objects_same i)
 
       -- what the new bricks tell: nothing
       new-law : AreEntered rows (frame new) (objects_in rows new) (entry_at bricks')
           (opening_segment h.top Ephemeral size)
-      new-law = record {
-        named = λ brick offset of is. absurd (no-entry brick offset of.0 is);
-        starts = λ place stands in_s may.
-            (let between = stands-between (opening_segment h.top Ephemeral size) place in_s in
-            let low = between.0 in
-            let under = object-under stands.0 stands.1 in
-            let end = under.0 in
-            let at = stands.2 in
-            absurd (omega arith));
-        reached = λ brick of r.
-            (let first = of.0 in
-            let top = heap.top_aligned in
-            let to = r.to in
-            let end = (object-under r.object r.present).0 in
-            absurd (omega arith));
-      }
+      new-law =
+          let end = below_top_at h k heap inside in
+          subst (λ (os : List Object). AreEntered rows (frame new) os (entry_at bricks')
+          (opening_segment h.top Ephemeral size)) (sym objects_same)
+          (opening_entered rows h heap held (frame new) bricks (entry_at bricks') Ephemeral size t.bricks
+          (λ b above. other-brick b (λ of. let last = of.1 in omega arith)))
 
       -- ---- cards
 

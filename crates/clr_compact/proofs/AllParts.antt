@@ -179,7 +179,7 @@ module _ (rows : List TypeRow) (old : HeapView) (g : ℕ) (heap : IsHeap old) (w
           let at = same_part in
           record { walk = subst₂ P (sym same_part) (sym same_last) walk; low = omega arith }
 
-      same_items : items_between (sight rows now k) (part_of now g k) (last_of now k) ≡ items_of_part rows old g k
+      pub same_items : items_between (sight rows now k) (part_of now g k) (last_of now k) ≡ items_of_part rows old g k
       same_items =
           let F : ℕ → ℕ → List Item = λ p e. items_between (sight rows now k) p e in
           ap₂ F same_part same_last

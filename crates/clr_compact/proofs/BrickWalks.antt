@@ -1,5 +1,5 @@
 -- A walk over the items of a part of a segment that enters its bricks.
-use Rattle.std.proofs.Common.{◌≡◌, ◌≢◌, ◌⊎◌, inl, inr, ℕ, ◌+◌, ◌*◌, ◌/◌, ◌%◌, ◌^◌, ◌<◌, ◌≤◌, Bool, true, false}
+use Rattle.std.proofs.Common.{◌≡◌, ◌≢◌, ◌⊎◌, inl, inr, ℕ, ◌+◌, ◌*◌, ◌/◌, ◌%◌, ◌<◌, ◌≤◌, Bool, true, false}
 use Rattle.std.proofs.Common.{◌&&◌, List, [], ◌++◌, length, refl, ap, sym, ◌∙◌, subst, arith, leb, cond, ℤ}
 use Rattle.std.proofs.Common.{Option, None}
 use Rattle.std.proofs.lemmas.Bool.{and_cases, and_parts, both_ways, cases_Bool, cases_eq, cases_lt, eq-eqb, leb-false}
@@ -14,14 +14,12 @@ use Rattle.clr_types.specs.declared.segment.SegKind.TheVariants.{Ephemeral}
 use Rattle.clr_types.proofs.ListMembers.{append_right}
 use Rattle.clr_types.proofs.SegmentFacts.{between-stands}
 use Rattle.clr_bricks.specs.Bricks.{entry_at, IsRoot, root_entry}
-use Rattle.clr_covers.specs.Covers.{CoverView, spans}
-use Rattle.clr_heap.specs.Memories.{memory_index}
+use Rattle.clr_covers.specs.Covers.{CoverView}
 use Rattle.clr_heap.specs.Parts.{hole_from, item_at, items_in, Part, parts, Sight, Spells}
-use Rattle.clr_heap.specs.View.{CanWalk, first_of, frame, HasItem, heap_items, HeapView, holes_of, IsHeap}
+use Rattle.clr_heap.specs.View.{CanWalk, first_of, frame, heap_items, HeapView, holes_of, IsHeap}
 use Rattle.clr_heap.specs.View.{items_between}
 use Rattle.clr_heap.specs.View.{last_of, listing, no_rests, segment_at, sight, word_of}
-use Rattle.clr_heap.proofs.Addresses.{index_is_segment}
-use Rattle.clr_heap.proofs.Framing.{below_top_at, lawful_at}
+use Rattle.clr_heap.proofs.Framing.{lawful_at}
 use Rattle.clr_heap.proofs.Spelling.{place-item_at, Spells-append, Spells-le}
 use Rattle.clr_heap.proofs.Walking.{spelled_parts, walk_item}
 use Rattle.clr_model.specs.Machine.{Object}
@@ -37,7 +35,7 @@ use Rattle.clr_generations.specs.Laws.{AreEntered, IsBrickOf, may_lead, Stands}
 use Rattle.clr_compact.proofs.BrickSteps.{all_entered, IsEntering, led, led-above, led-below, passed, rooted}
 use Rattle.clr_compact.proofs.BrickSteps.{starts_open, starts_settled}
 use Rattle.clr_generations.proofs.Homes.{brick-of, HasWholeBricks, HaveHomes}
-use Rattle.clr_generations.proofs.HeapHomes.{brick-in, heap_homes, young_bricks}
+use Rattle.clr_generations.proofs.HeapHomes.{heap_homes, young_bricks}
 
 -- ---- one item
 
@@ -65,9 +63,8 @@ settled layout i next e object may =
       ]
     ]
 
-module _ (rows : List TypeRow) (layout : Layout) (objects : List Object) (s : SegInfo)
-    (homes : HaveHomes rows objects s) (young : HasWholeBricks (ephemeral layout)) (entry other : ℕ → ℤ) (i : Item)
-    (next : ℕ) (same : (b : ℕ) → other b ≡ entered_after layout i entry next b) where
+module _ (layout : Layout) (entry other : ℕ → ℤ) (i : Item) (next : ℕ)
+    (same : (b : ℕ) → other b ≡ entered_after layout i entry next b) where
   entered-root : is_entered layout i next ≡ true → other (i.place / 4096) ≡ root_entry (i.place % 4096)
   entered-root e = same (i.place / 4096) ∙ rw (e, eq-eqb (i.place / 4096) (i.place / 4096) refl) refl
 
@@ -79,11 +76,11 @@ module _ (rows : List TypeRow) (layout : Layout) (objects : List Object) (s : Se
   entered-none e b = same b ∙ rw e refl
 
   -- entries of other bricks than the segment's stay
-  pub stepped_others : stands_in s i.place ≡ true → s.base / 4096 < next → (b : ℕ) → (IsBrickOf s b → ⊥)
-      → other b ≡ entry b
-  stepped_others in_s above b out = elim (cases_Bool (is_entered layout i next)) [
+  pub stepped_others : (s : SegInfo) → HasWholeBricks s → stands_in s i.place ≡ true → s.base / 4096 < next → (b : ℕ)
+      → (IsBrickOf s b → ⊥) → other b ≡ entry b
+  stepped_others s whole in_s above b out = elim (cases_Bool (is_entered layout i next)) [
     | inl e ↦
-        let of = brick-of s i.place homes.bricks in_s in
+        let of = brick-of s i.place whole in_s in
         let high = of.1 in
         let ne : b ≢ i.place / 4096 = λ at. out (subst (λ (c : ℕ). IsBrickOf s c) (sym at) of) in
         entered-led e b ne ∙ elim (cases_lt b next) [
@@ -96,6 +93,16 @@ module _ (rows : List TypeRow) (layout : Layout) (objects : List Object) (s : Se
     | inr e ↦ entered-none e b
   ]
 
+  -- the first brick that isn't settled moves up
+  pub next-up : next ≤ next_after layout i next
+  next-up = elim (cases_Bool (is_entered layout i next)) [
+    | inl e ↦ let up = (to-enter layout i next e).up in rw e (omega arith)
+    | inr e ↦ rw e (omega arith)
+  ]
+
+module _ (rows : List TypeRow) (layout : Layout) (objects : List Object) (s : SegInfo)
+    (homes : HaveHomes rows objects s) (young : HasWholeBricks (ephemeral layout)) (entry other : ℕ → ℤ) (i : Item)
+    (next : ℕ) (same : (b : ℕ) → other b ≡ entered_after layout i entry next b) where
   -- A STEP OF THE WALK
   pub stepped : IsEntering rows layout objects entry s i.place next → 24 ≤ i.size
       → (is_object i ≡ true → Stands objects i.place) → stands_in s i.place ≡ true
@@ -113,9 +120,10 @@ module _ (rows : List TypeRow) (layout : Layout) (objects : List Object) (s : Se
         (λ x stands' in_x below. elim (step x stands' in_x below) [
           | inl under ↦ omega arith
           | inr at ↦ let is = at.0 in omega arith
-        ]) (entered-root e) (entered-led e))
+        ]) (entered-root layout entry other i next same e)
+        (entered-led layout entry other i next same e))
     | inr e ↦
-        let all : entry ≡ other = λ k b. sym (entered-none e b) k in
+        let all : entry ≡ other = λ k b. sym (entered-none layout entry other i next same e b) k in
         rw e (subst (λ (f : ℕ → ℤ). IsEntering rows layout objects f s (i.place + i.size) next) all
         (passed rows layout objects s homes young entry i.place next w (i.place + i.size) (omega arith)
         (λ x stands' in_x below. elim (step x stands' in_x below) [
@@ -127,17 +135,15 @@ module _ (rows : List TypeRow) (layout : Layout) (objects : List Object) (s : Se
 -- ---- the walk
 
 -- The walk over segment k has come to a place, and `next` is the first brick that isn't settled.
-pub record IsBrickWalk (rows : List TypeRow) (h : HeapView) (k : ℕ) (old now : List (CoverView ℤ)) (place next : ℕ)
+pub record IsBrickWalk (rows : List TypeRow) (h : HeapView) (k : ℕ) (now : List (CoverView ℤ)) (place next : ℕ)
     : Type 0 where
   pub walk : CanWalk (sight rows h k) h.memories place (last_of h k)
   pub among : (i : Item) → IsIn i (items_between (sight rows h k) place (last_of h k)) → IsIn i (listing rows h k)
   pub low : first_of h k ≤ place
   pub entering : IsEntering rows (frame h) (objects_in rows h) (entry_at now) (segment_at h k) place next
-  pub others : (b : ℕ) → (IsBrickOf (segment_at h k) b → ⊥) → entry_at now b ≡ entry_at old b
-  pub spans : spans now ≡ spans old
 
 -- where no thread has a context, no hole starts
-no_hole : (h : HeapView) (k p : ℕ) → h.rests ≡ no_rests → hole_from (holes_of h k) p ≡ None
+pub no_hole : (h : HeapView) (k p : ℕ) → h.rests ≡ no_rests → hole_from (holes_of h k) p ≡ None
 no_hole h k p none = go (same_kind (segment_at h k).kind Ephemeral)
   where
     go : (b : Bool) → hole_from (cond b h.rests []) p ≡ None
@@ -155,7 +161,7 @@ parted-among s low high p c e below above i l =
     (append_right (items_in low) (subst (λ (ps : List Part). IsIn i (items_in ps)) some l)))
 
 module _ (rows : List TypeRow) (h : HeapView) (heap : IsHeap h) (held : IsHeld rows h) (none : h.rests ≡ no_rests)
-    (k : ℕ) (inside : k < length h.segments) (old : List (CoverView ℤ)) where
+    (k : ℕ) (inside : k < length h.segments) where
   abbrev s : SegInfo
   s = segment_at h k
 
@@ -163,7 +169,7 @@ module _ (rows : List TypeRow) (h : HeapView) (heap : IsHeap h) (held : IsHeld r
   homes = heap_homes rows h heap held k inside
 
   -- THE WALK BEGINS
-  module _ (from next : ℕ) (low : first_of h k ≤ from)
+  module _ (old : List (CoverView ℤ)) (from next : ℕ) (low : first_of h k ≤ from)
       (parted : CanWalk (sight rows h k) h.memories (first_of h k) from)
       (whole : CanWalk (sight rows h k) h.memories from (last_of h k))
       (below : AreEnteredBelow rows (frame h) (objects_in rows h) (entry_at old) (segment_at h k) from) where
@@ -192,7 +198,7 @@ module _ (rows : List TypeRow) (h : HeapView) (heap : IsHeap h) (held : IsHeld r
 
     pub walk_starts : (IsRoot (entry_at old (from / 4096)) × (next ≡ from / 4096 + 1))
         ⊎ (((last_of h k ≤ 4096 * (from / 4096)) ⊎ (IsRoot (entry_at old (from / 4096)) → ⊥))
-        × (next ≡ from / 4096)) → IsBrickWalk rows h k old old from next
+        × (next ≡ from / 4096)) → IsBrickWalk rows h k old from next
     walk_starts begin = record {
       walk = whole;
       among = parted-among (sight rows h k) (parts from (sight rows h k) (first_of h k) from)
@@ -200,11 +206,9 @@ module _ (rows : List TypeRow) (h : HeapView) (heap : IsHeap h) (held : IsHeld r
           whole.spelled;
       low = low;
       entering = begun begin;
-      others = λ b out. refl;
-      spans = refl;
     }
 
-  module _ (now : List (CoverView ℤ)) (place next : ℕ) (w : IsBrickWalk rows h k old now place next) where
+  module _ (now : List (CoverView ℤ)) (place next : ℕ) (w : IsBrickWalk rows h k now place next) where
     -- ---- an item on the way
     module _ (below : place < last_of h k) where
       abbrev i : Item
@@ -212,14 +216,9 @@ module _ (rows : List TypeRow) (h : HeapView) (heap : IsHeap h) (held : IsHeld r
 
       -- what is known of the item at the place
       pub record CanGoOn : Type 0 where
-        pub item : HasItem rows h place
-        pub mt_in : k ≡ memory_index h.memories place
-        pub len_in : k ≡ memory_index h.memories (place + 8)
-        pub room : place + 8 < 2 ^ 64
         pub at : (item_at rows (word_of h) place).place ≡ place
         pub least : 24 ≤ (item_at rows (word_of h) place).size
         pub within : place + (item_at rows (word_of h) place).size ≤ last_of h k
-        pub end : last_of h k < 2 ^ 62
         pub listed : IsIn (item_at rows (word_of h) place) (heap_items rows h)
         pub stands : stands_in (segment_at h k) place ≡ true
 
@@ -231,17 +230,10 @@ module _ (rows : List TypeRow) (h : HeapView) (heap : IsHeap h) (held : IsHeld r
           let least = step.names.least in
           let within = step.within in
           let lawful = (lawful_at h k heap inside).high in
-          let top = below_top_at h k heap inside in
-          let small = heap.top_small in
           record {
-            item = record { names = step.names; mt = step.mt; len = step.len };
-            mt_in = sym (index_is_segment h k place heap inside (omega arith) (omega arith));
-            len_in = sym (index_is_segment h k (place + 8) heap inside (omega arith) (omega arith));
-            room = omega arith;
             at = place-item_at rows (word_of h) place;
             least = least;
             within = within;
-            end = omega arith;
             listed = listed_from rows h k i inside here;
             stands = between-stands (segment_at h k) place low (omega arith);
           }
@@ -267,10 +259,10 @@ module _ (rows : List TypeRow) (h : HeapView) (heap : IsHeap h) (held : IsHeld r
       -- THE NEXT ITEM
       pub walk_on : (new : List (CoverView ℤ))
           → ((b : ℕ) → entry_at new b
-          ≡ entered_after (frame h) (item_at rows (word_of h) place) (entry_at now) next b) → spans new ≡ spans now
-          → IsBrickWalk rows h k old new (place + (item_at rows (word_of h) place).size)
+          ≡ entered_after (frame h) (item_at rows (word_of h) place) (entry_at now) next b)
+          → IsBrickWalk rows h k new (place + (item_at rows (word_of h) place).size)
           (next_after (frame h) (item_at rows (word_of h) place) next)
-      walk_on new same whole =
+      walk_on new same =
           let can = can_go_on in
           let at = can.at in
           let step = walk_item (sight rows h k) h.memories place (last_of h k) w.walk below (no_hole h k place none) in
@@ -290,9 +282,6 @@ module _ (rows : List TypeRow) (h : HeapView) (heap : IsHeap h) (held : IsHeld r
                   | inl less ↦ inl (omega arith)
                   | inr here ↦ inr (here.0 ∙ sym at, here.1)
                 ]));
-            others = λ b out. stepped_others rows (frame h) (objects_in rows h) s homes (young_bricks h heap)
-                (entry_at now) (entry_at new) i next same in_s w.entering.above b out ∙ w.others b out;
-            spans = whole ∙ w.spans;
           }
 
     -- ---- the end
@@ -310,15 +299,3 @@ module _ (rows : List TypeRow) (h : HeapView) (heap : IsHeap h) (held : IsHeld r
           let within = homes.within stands.0 stands.1 (subst (λ (p : ℕ). stands_in s p ≡ true) (sym at) in_s) in
           let least = homes.least stands.0 stands.1 in
           omega arith)) past end
-
-      -- and those of other segments stay
-      pub walk_others : (b : ℕ) → (IsBrickOf (segment_at h k) b → ⊥) → (4096 * to < last_of h k + 4096) ⊎ (to ≡ next)
-          → led_back (entry_at now) next to b ≡ entry_at old b
-      walk_others b out short = elim (cases_lt b next) [
-        | inl low ↦ led-below (entry_at now) next to b low ∙ w.others b out
-        | inr more ↦ elim (cases_lt b to) [
-          | inl inside' ↦ absurd (out (brick-in h k b heap inside (let above = w.entering.above in omega arith)
-              (elim short [ inl near ↦ omega arith | inr same ↦ absurd (omega arith) ])))
-          | inr past' ↦ led-above (entry_at now) next to b past' ∙ w.others b out
-        ]
-      ]

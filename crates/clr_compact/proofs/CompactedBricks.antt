@@ -1,12 +1,13 @@
 -- Bricks after a compaction: what they told of what stays, they tell still.
-use Rattle.std.proofs.Common.{◌≡◌, ◌⊎◌, inl, inr, ℕ, zero, suc, ◌+◌, ◌-◌, ◌*◌, ◌/◌, ◌%◌, ◌<◌, ◌≤◌, Bool, true, false}
-use Rattle.std.proofs.Common.{List, [], ◌∷◌}
-use Rattle.std.proofs.Common.{not, length, map, filter, get_or, refl, ap, sym, ◌∙◌, subst, arith, ℤ, if◌then◌else◌}
+use Rattle.std.proofs.Common.{◌≡◌, ◌⊎◌, inl, inr, ℕ, zero, suc, ◌+◌, ◌-◌, ◌*◌, ◌/◌, ◌<◌, ◌≤◌, Bool, true, false}
+use Rattle.std.proofs.Common.{List, not, length, map, filter, refl, ap, ap₂, sym, ◌∙◌, subst, arith, ℤ}
+use Rattle.std.proofs.Common.{if◌then◌else◌}
 use Rattle.std.proofs.lemmas.Bool.{both_ways, cases_Bool, cases_order, or_cases, or_right}
 use Rattle.clr_types.specs.Rising.{IsIn}
 use Rattle.clr_types.specs.Segments.{empty_segment, ended_at, ephemeral, first_place, generation}
 use Rattle.clr_types.specs.Segments.{Layout, reserved_end, same_kind, stands_in}
 use Rattle.clr_types.specs.Types.{TypeRow}
+use Rattle.clr_types.specs.declared.item.Item.{Item}
 use Rattle.clr_types.specs.declared.segment.SegInfo.{SegInfo}
 use Rattle.clr_types.specs.declared.segment.SegKind.TheVariants.{Ephemeral}
 use Rattle.clr_types.proofs.ChangedLists.{into_filter, IsIn-map, out_of_filter}
@@ -15,7 +16,7 @@ use Rattle.clr_types.proofs.SegmentFacts.{stands-between}
 use Rattle.clr_types.proofs.SortedLists.{into_sorted_by, out_of_sorted_by}
 use Rattle.clr_bricks.specs.Bricks.{entry_at, root_entry}
 use Rattle.clr_covers.specs.Covers.{CoverView}
-use Rattle.clr_heap.specs.View.{first_of, frame, HeapView, IsHeap, last_of, no_rests}
+use Rattle.clr_heap.specs.View.{first_of, frame, HeapView, IsHeap, items_between, last_of, no_rests}
 use Rattle.clr_heap.specs.View.{SameShape, segment_at, sight, word_of}
 use Rattle.clr_heap.proofs.Framing.{lawful_at}
 use Rattle.clr_heap.proofs.Staying.{segment_order}
@@ -28,12 +29,10 @@ use Rattle.clr_view.specs.Marks.{has_mark}
 use Rattle.clr_view.specs.Memory.{is_marked}
 use Rattle.clr_view.specs.View.{IsHeld, layout_in, objects_in}
 use Rattle.clr_generations.specs.Laws.{AreEntered, BrickLaw, IsBrickOf, Stands}
-use Rattle.clr_generations.specs.Tables.{AreBricksOf, units_of}
 use Rattle.clr_generations.proofs.Alike.{AreAlike, entered_alike, entered_below}
 use Rattle.clr_generations.proofs.HeapHomes.{heap_homes, whole_bricks}
 use Rattle.clr_generations.proofs.Homes.{HaveHomes, old-away, old-before, old-may_lead}
 use Rattle.clr_model.proofs.CompactedSmall.{part_start0}
-use Rattle.clr_model.proofs.SweptLawful.{start-cuts}
 use Rattle.clr_sweep.proofs.Parting.{IsWalkedAt, walked_at}
 use Rattle.clr_sweep.proofs.PassEnds.{none_starts}
 use Rattle.clr_sweep.proofs.SurvivorsSwept.{at-in, seen}
@@ -43,28 +42,18 @@ use Rattle.clr_moves.specs.Objects.{AreRemembered, is_in_parts, is_spared, IsUnt
 use Rattle.clr_moves.specs.Overlaid.{IsCompactionOf}
 use Rattle.clr_compact.specs.Compacted.{HasCompacted, part_items}
 use Rattle.clr_compact.specs.Rewrites.{cleared, Rewrites}
-use Rattle.clr_compact.specs.Entered.{AreEnteredBelow, forgotten}
+use Rattle.clr_compact.specs.Entered.{AreEnteredBelow, CanEnterFrom, forgotten}
 use Rattle.clr_compact.specs.PartBricks.{both_restored, CanEnterYoung}
 use Rattle.clr_compact.specs.Slides.{HasSlid, IsEdge}
-use Rattle.clr_compact.proofs.CompactedHeap.{part_split}
-use Rattle.clr_compact.proofs.EnteringParts.{entered-restored, is-young, same-below, same-low, same-roots, young-kind}
+use Rattle.clr_compact.proofs.CompactedHeap.{part_split, part_stays}
+use Rattle.clr_compact.proofs.SlidBricks.{from-end, mid-same}
+use Rattle.clr_compact.proofs.EnteringParts.{entered-restored, same-below, same-low, same-roots, young-kind}
 use Rattle.clr_compact.proofs.EnteringParts.{young-part, young-takes}
 use Rattle.clr_moves.proofs.FromMachine.{is_ready}
 use Rattle.clr_compact.proofs.Gone.{goes_with, into_parts, lands_at, out_of_parts, unmoved}
 use Rattle.clr_compact.proofs.MemoryItems.{item_of}
 use Rattle.clr_compact.proofs.PartBricks.{all_obey}
 use Rattle.clr_moves.proofs.PlannedMoves.{are-moves, seen-compacted, seen-laid}
-
--- lists of segments that are alike at each place
-map-alike : {X : Type 0} (f : SegInfo → X) (xs ys : List SegInfo) → length xs ≡ length ys
-    → ((k : ℕ) → k < length xs → f (get_or xs k empty_segment) ≡ f (get_or ys k empty_segment)) → map f xs ≡ map f ys
-map-alike f [] [] e same = refl
-map-alike f [] (y ∷ ys) e same = absurd (omega arith)
-map-alike f (x ∷ xs) [] e same = absurd (omega arith)
-map-alike f (x ∷ xs) (y ∷ ys) e same =
-    let here = same 0 (omega arith) in
-    let rest = map-alike f xs ys (omega arith) (λ k l. same (suc k) (omega arith)) in
-    λ i. here i ∷ rest i
 
 -- a segment without a part doesn't meet the ephemeral one
 pub not-young : (h : HeapView) (g t place : ℕ) → IsHeap h → t < length h.segments → takes g (segment_at h t) ≡ false
@@ -154,16 +143,7 @@ module _ (rows : List TypeRow) (old : HeapView) (g : ℕ) (moves : List Move) (m
   -- what doesn't depend on a segment's end is as it was
   pub fin-same : {X : Type 0} (f : SegInfo → X) → ((e : ℕ) (s : SegInfo) → f (ended_at e s) ≡ f s) → (t : ℕ)
       → t < length old.segments → f (segment_at fin t) ≡ f (segment_at old t)
-  fin-same f stays t l = elim (cases_Bool (takes g (segment_at old t))) [
-    | inl on ↦ let (e, is) = fin-on t l on in ap f is ∙ stays e (segment_at old t)
-    | inr off ↦ ap f (fin-off t l off)
-  ]
-
-  -- the bricks are those of the heap
-  pub bricks-of : (bricks : List (CoverView ℤ)) → AreBricksOf (frame old) bricks → AreBricksOf (frame fin) bricks
-  bricks-of bricks of =
-      of ∙ sym (map-alike (units_of 4096) fin.segments old.segments fin-count
-      (λ k l. let n = fin-count in fin-same (units_of 4096) (λ e s. refl) k (omega arith)))
+  fin-same f stays t l = ap f (clean-at t) ∙ mid-same old g moves mid slid f stays t l
 
   -- ---- objects of no part
 
@@ -290,40 +270,81 @@ module _ (rows : List TypeRow) (old : HeapView) (g : ℕ) (moves : List Move) (m
             old-away (frame fin) place (not-young fin g t place fin_heap (omega arith) off' in_s'),
           )
 
+  -- ---- parts
+
+  rests-now : fin.rests ≡ no_rests
+  rests-now = ap (λ (h : HeapView). h.rests) shape.others ∙ ap (λ (h : HeapView). h.rests) slid.others ∙ none
+
+  -- A PART can be entered: no item reaches over the place where it started
+  pub can-enter : (t : ℕ) (inside : t < length old.segments) → takes g (segment_at old t) ≡ true → (from : ℕ)
+      → from ≡ part_of old g t → first_of fin t ≤ from
+      → CanEnterFrom rows (record mid { start1 = start1; start0 = start0 }) fin t from
+  can-enter t inside on from is first =
+      let (a, b, z) = am.starts t inside on in
+      let n = fin-count in
+      let laid = seen-laid rows old g moves m kept after p in
+      let compacted = seen-compacted rows old g moves m kept after p in
+      let F : ℕ → ℕ → List Item = λ p e. items_between (sight rows clean t) p e in
+      let G : ℕ → ℕ → List Item = λ p e. items_between (sight rows mid t) p e in
+      let last : last_of clean t ≡ last_of mid t = ap (λ (s : SegInfo). s.end) (clean-at t) in
+      let walked : IsWalkedAt (sight rows fin t) fin.memories (first_of fin t) from (last_of fin t) =
+      walked_at (sight rows fin t) fin.memories (first_of fin t) from (last_of fin t)
+      (fin-held.walkable t (omega arith)) (omega arith) first past-end (λ q. none_starts fin t q rests-now)
+      (λ i n. let split = part_split rows old m heap held none laid g least kept moves after compacted mid slid p.tests
+      mid_heap clean shape words t inside on i n in
+      subst (λ (q : ℕ). (q ≤ i.place) ⊎ (i.place + i.size ≤ q)) (sym is) split)
+      in
+      record {
+        shape = record {
+          memories = shape.memories;
+          others = ap (λ (h : HeapView). record h { start1 = start1; start0 = start0 }) shape.others;
+        };
+        heap = fin_heap;
+        held = fin-held;
+        parted = walked.below;
+        whole = walked.above;
+        items = ap₂ F is last
+            ∙ part_stays rows old m heap held none laid g least kept moves after compacted mid slid p.tests mid_heap
+            clean shape words t inside on ∙ sym (ap (λ (q : ℕ). G q (last_of mid t)) is);
+      }
+    where
+      edge : (x : ℕ) → IsEdge old g moves t x → part_of old g t ≤ x
+      edge x (inl at) = omega arith
+      edge x (inr (j, lj, into, at)) = let low = into.low in omega arith
+
+      past-end : from ≤ last_of fin t
+      past-end =
+          let (x, ends, at) = slid.parts t inside on in
+          let last : last_of fin t ≡ x = ap (λ (s : SegInfo). s.end) (clean-at t ∙ at) in
+          let up = edge x ends.edge in
+          omega arith
+
   -- THE LAW, where the parts were entered anew and nothing else was written
   pub law-now : (bricks : List (CoverView ℤ)) (entry : ℕ → ℤ) (below own : ℤ)
       → AreRemembered rows old bricks g entry below own → (other : ℕ → ℤ)
-      → ((t : ℕ) → t < length fin.segments → takes g (segment_at fin t) ≡ true
+      → ((t : ℕ) → t < length mid.segments → takes g (segment_at mid t) ≡ true
       → AreEntered rows (frame fin) (objects_in rows fin) other (segment_at fin t))
-      → ((t b : ℕ) → t < length fin.segments → takes g (segment_at fin t) ≡ false → IsBrickOf (segment_at fin t) b
+      → ((t b : ℕ) → t < length mid.segments → takes g (segment_at mid t) ≡ false → IsBrickOf (segment_at mid t) b
       → other b ≡ entry_at bricks b)
       → BrickLaw rows (frame fin) (objects_in rows fin) other
   law-now bricks entry below own r other parts others =
       all_obey rows fin fin_heap fin-held other
-      (λ t l. elim (cases_Bool (takes g (segment_at fin t))) [
-        | inl on ↦ parts t l on
+      (λ t l.
+      let n = fin-count in
+      let inside : t < length old.segments = omega arith in
+      let count = slid.count in
+      let in_mid : t < length mid.segments = omega arith in
+      elim (cases_Bool (takes g (segment_at mid t))) [
+        | inl on ↦ parts t in_mid on
         | inr off ↦
-            let n = fin-count in
-            let inside : t < length old.segments = omega arith in
-            let off' : takes g (segment_at old t) ≡ false = sym (fin-same (takes g) (λ e s. refl) t inside) ∙ off in
+            let off' : takes g (segment_at old t) ≡ false =
+            sym (mid-same old g moves mid slid (takes g) (λ e s. refl) t inside) ∙ off in
             entered-away t inside off' entry other
             (r.law (segment_at old t) (at-in old.segments t empty_segment inside))
             (λ b of.
-            others t b l off (subst (λ (s : SegInfo). IsBrickOf s b) (sym (fin-off t inside off')) of)
+            others t b in_mid off (subst (λ (s : SegInfo). IsBrickOf s b) (sym (slid.rest t inside off')) of)
             ∙ r.others b (untouched-away old g t b heap inside off' (λ u lu on. (am.starts u lu on).0) of))
       ])
-
-  -- the ephemeral segment is the same one
-  pub was-young : (e : ℕ) → e < length fin.segments → segment_at fin e ≡ ephemeral (frame fin)
-      → (e < length old.segments) × (segment_at old e ≡ ephemeral (frame old))
-  was-young e l eph =
-      let n = fin-count in
-      let inside : e < length old.segments = omega arith in
-      let kind = ap (λ (s : SegInfo). same_kind Ephemeral s.kind) eph ∙ young-kind fin fin_heap in (
-        inside,
-        is-young old e heap inside
-            (sym (fin-same (λ (s : SegInfo). same_kind Ephemeral s.kind) (λ n s. refl) e inside) ∙ kind),
-      )
 
   -- ---- the ephemeral segment
 
@@ -355,10 +376,8 @@ module _ (rows : List TypeRow) (old : HeapView) (g : ℕ) (moves : List Move) (m
         ap (part_start (frame old) g) eph in
         omega arith
 
-    from-end : from ≤ last_of old e
-    from-end =
-        (start-cuts (seen rows old m) (seen-laid rows old g moves m kept after p) g least kept s
-        (at-in old.segments e empty_segment inside)).high_end
+    order : from ≤ last_of old e
+    order = from-end rows old g moves m kept after p heap least mid slid e inside eph
 
     away : (place : ℕ) → stands_in s place ≡ true → place < from → is_in_parts old g place ≡ false
     away place in_s below = elim (cases_Bool (is_in_parts old g place)) [
@@ -406,58 +425,25 @@ module _ (rows : List TypeRow) (old : HeapView) (g : ℕ) (moves : List Move) (m
         (forgotten entry from (last_of old e)) t from) (sym is-now)
         (record { named = w.named; starts = w.starts; reached = w.reached })
 
-    rests-now : fin.rests ≡ no_rests
-    rests-now = ap (λ (h : HeapView). h.rests) shape.others ∙ ap (λ (h : HeapView). h.rests) slid.others ∙ none
-
-    -- no item reaches over the place where its part started
-    walked : IsWalkedAt (sight rows fin e) fin.memories (first_of fin e) from (last_of fin e)
-    walked =
-        let (a, b, z) = am.starts e inside on in
-        let first = fin-same first_place (λ n t. refl) e inside in
-        walked_at (sight rows fin e) fin.memories (first_of fin e) from (last_of fin e) (fin-held.walkable e in-fin) z
-        (omega arith) past-end (λ q. none_starts fin e q rests-now)
-        (λ i n. part_split rows old m heap held none (seen-laid rows old g moves m kept after p)
-        g least kept moves after (seen-compacted rows old g moves m kept after p)
-        mid slid p.tests mid_heap clean shape words e inside on i n)
-      where
-        edge : (x : ℕ) → IsEdge old g moves e x → from ≤ x
-        edge x (inl is) = omega arith
-        edge x (inr (j, lj, into, is)) = let low = into.low in omega arith
-
-        past-end : from ≤ last_of fin e
-        past-end =
-            let (x, ends, is) = slid.parts e inside on in
-            let last : last_of fin e ≡ x = ap (λ (t : SegInfo). t.end) (clean-at e ∙ is) in
-            let up = edge x ends.edge in
-            omega arith
-
     -- ITS BRICKS can be entered anew
     pub can-enter-young : (bricks : List (CoverView ℤ)) (entry : ℕ → ℤ) (planned : Planned)
         → AreRemembered rows old bricks g entry planned.below planned.first
-        → CanEnterYoung rows fin bricks e from (last_of old e) planned
+        → CanEnterYoung rows (record mid { start1 = start1; start0 = start0 }) fin bricks e from (last_of old e) planned
     can-enter-young bricks entry planned r =
         let (a, b, z) = am.starts e inside on in
         let first = fin-same first_place (λ n t. refl) e inside in
         let room = fin-same reserved_end (λ n t. refl) e inside in
-        let lawful = lawful_at old e heap inside in
-        let top = lawful.high in
         record {
-          low = omega arith;
-          order = from-end;
-          high = omega arith;
-          parted = walked.below;
-          whole = walked.above;
-          below_entry = λ offset is. in-brick (from / 4096 - 1) offset (omega arith) (omega arith) (sym below_is ∙ is);
-          first_entry = λ here offset is. in-brick (from / 4096) offset (omega arith) (omega arith) (sym own_is ∙ is);
+          walked = can-enter e inside on from refl (omega arith);
           entered = entered-restored rows (frame fin) (objects_in rows fin) (forgotten entry from (last_of old e))
               (forgotten (both_restored (entry_at bricks) from (reserved_end (segment_at fin e))
               planned.below planned.first)
               from (last_of old e)) (segment_at fin e) from homes-now (omega arith) (omega arith)
               (λ n offset of. (roots n offset of).0) (λ n offset of. (roots n offset of).1)
               (same-low (entry_at bricks) entry from (last_of old e) (reserved_end (segment_at fin e)) planned.below
-              planned.first (omega arith) from-end low high below_is own_is)
+              planned.first (omega arith) order low high below_is own_is)
               (same-below (entry_at bricks) entry from (last_of old e) (reserved_end (segment_at fin e)) planned.below
-              planned.first (omega arith) from-end low high below_is own_is)
+              planned.first (omega arith) order low high below_is own_is)
               (left-below entry law);
         }
       where
@@ -470,25 +456,8 @@ module _ (rows : List TypeRow) (old : HeapView) (g : ℕ) (moves : List Move) (m
         own_is : planned.first ≡ entry (from / 4096)
         own_is = r.first_is e eph inside
 
-        base : s.base % 4096 ≡ 0
-        base = (whole_bricks old e heap inside).base
-
-        reserved : s.reserved % 4096 ≡ 0
-        reserved = (whole_bricks old e heap inside).reserved
-
         first-up : s.base + 4096 ≤ from
         first-up = (am.starts e inside on).0
-
-        in-room : from ≤ reserved_end s
-        in-room = (am.starts e inside on).1
-
-        in-brick : (brick offset : ℕ) → s.base / 4096 ≤ brick → 4096 * brick < reserved_end s
-            → entry brick ≡ root_entry offset → offset < 4096
-        in-brick brick offset low below is =
-            let zb = base in
-            let zr = reserved in
-            let inside = (law.named brick offset (low, omega arith) is).inside in
-            omega arith
 
         -- bricks away from the part are as they were
         untouched : (i : ℕ) → (i + 1 < from / 4096) ⊎ (last_of old e ≤ 4096 * i) → IsUntouched old g i
@@ -516,4 +485,4 @@ module _ (rows : List TypeRow) (old : HeapView) (g : ℕ) (moves : List Move) (m
             let up = of.1 in
             let f = first-up in
             same-roots (entry_at bricks) entry from (last_of old e) (reserved_end (segment_at fin e)) planned.below
-            planned.first (omega arith) from-end low high below_is own_is n offset (omega arith)
+            planned.first (omega arith) order low high below_is own_is n offset (omega arith)

@@ -36,7 +36,7 @@ use Rattle.clr_compact.proofs.Placing.{outside_sides}
 use Rattle.clr_compact.proofs.Gone.{into_parts, lands_at, LandsAt, out_of_parts}
 use Rattle.clr_compact.proofs.MemoryItems.{part_whole, standing, Stands}
 use Rattle.clr_compact.proofs.MovedObjects.{object_moved}
-use Rattle.clr_compact.proofs.PartsClean.{clean_parts, part_unmarked, word_kept, word_stays}
+use Rattle.clr_compact.proofs.PartsClean.{clean_items, clean_parts, part_unmarked, word_kept, word_stays}
 use Rattle.clr_compact.proofs.PartsSlid.{carried_words, now_listed_other, outside_at, part_same, slid_parts}
 use Rattle.clr_compact.proofs.PartsSlid.{slid_walkable, takes_same}
 use Rattle.clr_compact.proofs.Relisted.{below_listed, gone_in_part, HasGone, item_there, listed_from_where, part_from}
@@ -123,6 +123,18 @@ module _ (rows : List TypeRow) (old : HeapView) (base : Machine) (heap : IsHeap 
             let low = (part_item rows mid g mid_heap ws t (mid_inside t inside) j more).1.above in
             inl (omega arith)
       ]
+
+  -- the items of a part are as they were before the marks were cleared
+  pub part_stays : (t : ℕ) → t < length old.segments → takes g (segment_at old t) ≡ true
+      → items_between (sight rows clean t) (part_of old g t) (last_of mid t)
+      ≡ items_between (sight rows mid t) (part_of old g t) (last_of mid t)
+  part_stays t inside on =
+      let same = part_same rows old base heap held none laid g least keeps moves after c mid slid t inside in
+      let on_mid = takes_same rows old base heap held none laid g least keeps moves after c mid slid t inside ∙ on in
+      let P : ℕ → Type 0 = λ p. items_between (sight rows clean t) p (last_of mid t)
+      ≡ items_between (sight rows mid t) p (last_of mid t) in
+      subst P same
+      (clean_items rows mid clean g mid_heap walkable ws part_in shape words t (mid_inside t inside) on_mid)
 
   -- ---- words
 

@@ -19,8 +19,7 @@ use Rattle.clr_covers.specs.Covers.{CoverView, spans}
 use Rattle.clr_heap.specs.View.{first_of, frame, HeapView, IsHeap, segment_at}
 use Rattle.clr_heap.proofs.Young.{young_number}
 use Rattle.clr_model.specs.Machine.{Object}
-use Rattle.clr_view.specs.View.{IsHeld, objects_in}
-use Rattle.clr_generations.specs.Laws.{AreEntered, IsBrickOf, LeadsToNearest, ReachesInto}
+use Rattle.clr_generations.specs.Laws.{IsBrickOf, LeadsToNearest, ReachesInto}
 use Rattle.clr_generations.proofs.Alike.{path-same}
 use Rattle.clr_generations.proofs.HeapHomes.{whole_bricks}
 use Rattle.clr_generations.proofs.Homes.{brick-of, HaveHomes}
@@ -30,7 +29,7 @@ use Rattle.clr_moves.specs.Moves.{takes}
 use Rattle.clr_compact.specs.Entered.{AreEnteredBelow, forgotten, kept_below}
 use Rattle.clr_compact.specs.PartBricks.{both_restored, restored}
 use Rattle.clr_compact.proofs.Forgetting.{forgotten-before, forgotten-outside}
-use Rattle.clr_compact.proofs.PartBricks.{bricks-apart, entered_elsewhere}
+use Rattle.clr_compact.proofs.PartBricks.{bricks-apart}
 
 -- ---- no entries
 
@@ -56,59 +55,24 @@ entered-none rows layout objects entry s homes none = record {
 
 -- ---- one segment after the other
 
--- the parts of the segments below k are entered, and bricks of segments without a part are as before
-pub record AreEnteredUpTo (rows : List TypeRow) (h : HeapView) (g : ℕ) (old now : List (CoverView ℤ)) (k : ℕ)
-    : Type 0 where
-  pub done : (t : ℕ) → t < k → t < length h.segments → takes g (segment_at h t) ≡ true
-      → AreEntered rows (frame h) (objects_in rows h) (entry_at now) (segment_at h t)
+-- bricks of segments without a part are as before
+pub record AreKeptElsewhere (h : HeapView) (g : ℕ) (old now : List (CoverView ℤ)) : Type 0 where
   pub others : (t b : ℕ) → t < length h.segments → takes g (segment_at h t) ≡ false → IsBrickOf (segment_at h t) b
       → entry_at now b ≡ entry_at old b
   pub spans : spans now ≡ spans old
 
-pub entering-starts : (rows : List TypeRow) (h : HeapView) (g : ℕ) (old : List (CoverView ℤ))
-    → AreEnteredUpTo rows h g old old 0
-entering-starts rows h g old = record {
-  done = λ t low. absurd (omega arith);
-  others = λ t b l off of. refl;
-  spans = refl;
+-- where the bricks of a segment with a part are entered
+pub kept-more : (h : HeapView) (g k : ℕ) (old now new : List (CoverView ℤ)) → IsHeap h → k < length h.segments
+    → takes g (segment_at h k) ≡ true → AreKeptElsewhere h g old now
+    → ((b : ℕ) → (IsBrickOf (segment_at h k) b → ⊥) → entry_at new b ≡ entry_at now b) → spans new ≡ spans now
+    → AreKeptElsewhere h g old new
+kept-more h g k old now new heap inside on kept elsewhere whole = record {
+  others = λ t b l off of.
+      let ne : t ≢ k = λ at. both_ways (takes g (segment_at h t)) off
+      (ap (λ (n : ℕ). takes g (segment_at h n)) at ∙ on) in
+      elsewhere b (λ of_k. bricks-apart h t k b heap l inside ne of of_k) ∙ kept.others t b l off of;
+  spans = whole ∙ kept.spans;
 }
-
-module _ (rows : List TypeRow) (h : HeapView) (g : ℕ) (heap : IsHeap h) (held : IsHeld rows h)
-    (old now : List (CoverView ℤ)) (k : ℕ) (inside : k < length h.segments)
-    (a : AreEnteredUpTo rows h g old now k) where
-  -- a segment without a part is passed over
-  pub entering-passes : takes g (segment_at h k) ≡ false → AreEnteredUpTo rows h g old now (k + 1)
-  entering-passes off = record {
-    done = λ t low l on. elim (cases_eq t k) [
-      | inl at ↦
-          let no = ap (λ (n : ℕ). takes g (segment_at h n)) at ∙ off in
-          absurd (both_ways (takes g (segment_at h t)) no on)
-      | inr ne ↦ a.done t (omega arith) l on
-    ];
-    others = a.others;
-    spans = a.spans;
-  }
-
-  -- another part is entered
-  pub entering-more : takes g (segment_at h k) ≡ true → (new : List (CoverView ℤ))
-      → AreEntered rows (frame h) (objects_in rows h) (entry_at new) (segment_at h k)
-      → ((b : ℕ) → (IsBrickOf (segment_at h k) b → ⊥) → entry_at new b ≡ entry_at now b) → spans new ≡ spans now
-      → AreEnteredUpTo rows h g old new (k + 1)
-  entering-more on new here elsewhere whole = record {
-    done = λ t low l on_t. elim (cases_eq t k) [
-      | inl at ↦
-          let P : ℕ → Type 0 = λ n. AreEntered rows (frame h) (objects_in rows h) (entry_at new) (segment_at h n) in
-          subst P (sym at) here
-      | inr ne ↦
-          entered_elsewhere rows h heap held t (entry_at now) (entry_at new) l
-          (λ b of. elsewhere b (λ of_k. bricks-apart h t k b heap l inside ne of of_k)) (a.done t (omega arith) l on_t)
-    ];
-    others = λ t b l off of.
-        let ne : t ≢ k = λ at. both_ways (takes g (segment_at h t)) off
-        (ap (λ (n : ℕ). takes g (segment_at h n)) at ∙ on) in
-        elsewhere b (λ of_k. bricks-apart h t k b heap l inside ne of of_k) ∙ a.others t b l off of;
-    spans = whole ∙ a.spans;
-  }
 
 -- ---- the ephemeral segment's part alone
 

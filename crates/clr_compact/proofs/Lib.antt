@@ -26,7 +26,11 @@ pub mod CompactingTurns
 pub mod BrickPlaces
 pub mod BrickSteps
 pub mod BrickWalks
+pub mod EnteringWalks
 pub mod Forgetting
 pub mod PartBricks
 pub mod EnteringParts
+pub mod PartWalks
+pub mod SlidBricks
 pub mod CompactedBricks
+pub mod FinishedHeap

@@ -1,21 +1,24 @@
 -- The parts of each segment where the marks are cleared: the same, and no other word changed.
 use Rattle.std.proofs.Common.{◌≡◌, ◌≢◌, ℕ, ◌+◌, ◌%◌, ◌<◌, ◌≤◌, ◌⊎◌, inl, inr, Bool, true, false, List, [], ◌∷◌, length}
-use Rattle.std.proofs.Common.{refl, sym, ap, ◌∙◌, arith, if◌then◌else◌}
+use Rattle.std.proofs.Common.{refl, sym, ap, ◌∙◌, subst, arith, if◌then◌else◌, Option}
 use Rattle.std.proofs.lemmas.Bool.{cases_eq}
 use Rattle.clr_types.specs.Rising.{first, IsIn, later}
+use Rattle.clr_types.specs.Ranges.{Piece}
 use Rattle.clr_types.specs.Types.{TypeRow}
 use Rattle.clr_types.specs.declared.item.Item.{Item}
 use Rattle.clr_types.proofs.RisingLists.{all_at}
-use Rattle.clr_heap.specs.Parts.{item_part, items_in, Part, rest_part, Sight, unmarked}
+use Rattle.clr_heap.specs.Parts.{item_part, items_in, Part, parts, rest_part, Sight, Spells, unmarked}
 use Rattle.clr_compact.specs.Rewrites.{cleared, is_place, Rewrites}
-use Rattle.clr_heap.specs.View.{AreWalkable, first_of, HasParts, heap_items, HeapView, IsHeap, last_of, listing}
-use Rattle.clr_heap.specs.View.{parts_of, SameShape, sight, word_of}
-use Rattle.clr_heap.proofs.Rewrite.{has_parts}
-use Rattle.clr_heap.proofs.Spelling.{AgreesAt, AgreesOn, Spells-agrees}
+use Rattle.clr_heap.specs.View.{AreWalkable, first_of, HasParts, heap_items, HeapView, IsHeap}
+use Rattle.clr_heap.specs.View.{items_between, last_of, listing, parts_of, segment_at, SameShape, sight, word_of}
+use Rattle.clr_heap.proofs.Rewrite.{has_parts, holes_same}
+use Rattle.clr_heap.proofs.Spelling.{AgreesAt, AgreesOn, Spells-agrees, with_words}
+use Rattle.clr_heap.proofs.Walking.{spelled_parts}
 use Rattle.clr_view.proofs.Items.{IsItem, stacked-apart}
 use Rattle.clr_view.proofs.Listed.{listed-in}
 use Rattle.clr_view.proofs.Listings.{heap-stacked, listing-are}
 use Rattle.clr_sweep.proofs.SurvivorsSwept.{listed-from}
+use Rattle.clr_moves.specs.Moves.{part_of, takes}
 use Rattle.clr_compact.specs.Compacted.{ArePartsWalkable, items_of_part, part_items}
 use Rattle.clr_compact.proofs.AllParts.{part_items-from, part_items-in, place-on, place-out}
 
@@ -90,6 +93,25 @@ module _ (rows : List TypeRow) (mid clean : HeapView) (g : ℕ) (heap : IsHeap m
       (Spells-agrees (sight rows mid t) (word_of clean) (parts_of rows mid t) (first_of mid t) (last_of mid t)
       (agrees_all (sight rows mid t) (word_of clean) (parts_of rows mid t)
       (λ i n. agrees i (listed-from rows mid t i l n))) (walkable t l).spelled)
+
+  -- and so do their items from where a part starts
+  pub clean_items : (t : ℕ) → t < length mid.segments → takes g (segment_at mid t) ≡ true
+      → items_between (sight rows clean t) (part_of mid g t) (last_of mid t)
+      ≡ items_between (sight rows mid t) (part_of mid g t) (last_of mid t)
+  clean_items t l on =
+      let from = part_of mid g t in
+      let end = last_of mid t in
+      let ps = parts end (sight rows mid t) from end in
+      let same : items_of_part rows mid g t ≡ items_in ps = ap (λ b. if b then items_in ps else []) on in
+      let seen : sight rows clean t ≡ with_words (sight rows mid t) (word_of clean) =
+      ap (λ (hs : List (Option Piece)). record { rows = rows; word = word_of clean; holes = hs })
+      (holes_same mid clean t shape) in
+      let spelled = Spells-agrees (sight rows mid t) (word_of clean) ps from end
+      (agrees_all (sight rows mid t) (word_of clean) ps
+      (λ i n. agrees i (listed-from rows mid t i l (part_in t l i (subst (IsIn i) (sym same) n)))))
+      (parts_walk.walk t l on).spelled in
+      ap items_in
+      (spelled_parts (sight rows clean t) ps from end (subst (λ (s : Sight). Spells s from ps end) (sym seen) spelled))
 
   -- an item of a part carries no mark
   pub part_unmarked : (t : ℕ) → t < length mid.segments → (i : Item) → IsIn i (items_of_part rows mid g t)

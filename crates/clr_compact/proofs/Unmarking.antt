@@ -58,6 +58,8 @@ module _ (rows : List TypeRow) (old : HeapView) (k start : ℕ) (heap : IsHeap o
         pub len_in : k ≡ memory_index now.memories (p + 8)
         pub least : 24 ≤ (item_at rows (word_of now) p).size
         pub fits : p + (item_at rows (word_of now) p).size < 2 ^ 62
+        pub same : item_at rows (word_of now) p ≡ item_at rows (word_of old) p
+        pub above : start ≤ p
 
       pub can_unmark : CanUnmark
       can_unmark =
@@ -76,6 +78,8 @@ module _ (rows : List TypeRow) (old : HeapView) (k start : ℕ) (heap : IsHeap o
                 ∙ sym (memory_index-shapes now.memories old.memories (p + 8) r.shape.memories);
             least = least;
             fits = omega arith;
+            same = at.same;
+            above = up;
           }
 
       pub unmarking_more : (new : HeapView) (size : ℕ) → size ≡ (item_at rows (word_of now) p).size

@@ -5,7 +5,9 @@ use Rattle.clr_types.specs.Segments.{Layout, stands_in}
 use Rattle.clr_types.specs.Types.{TypeRow}
 use Rattle.clr_types.specs.declared.segment.SegInfo.{SegInfo}
 use Rattle.clr_bricks.specs.Bricks.{IsRoot, root_entry}
+use Rattle.clr_heap.specs.View.{CanWalk, first_of, HeapView, IsHeap, items_between, last_of, SameShape, sight}
 use Rattle.clr_model.specs.Machine.{Object}
+use Rattle.clr_view.specs.View.{IsHeld}
 use Rattle.clr_generations.specs.Laws.{IsBrickOf, LeadsBrick, LeadsToNearest, may_lead, ReachesInto, Stands}
 
 -- a brick's entry, where it names an offset below this place, and else none
@@ -30,3 +32,14 @@ pub record AreEnteredBelow (rows : List TypeRow) (layout : Layout) (objects : Li
       → may_lead layout place ≡ true → IsRoot (entry (place / 4096))
   pub reached : (brick : ℕ) → IsBrickOf s brick → brick < from / 4096 → ReachesInto rows layout objects brick
       → IsRoot (entry brick) ⊎ LeadsToNearest layout objects entry brick
+
+-- A heap that one of the same shape is to become: no item of segment k reaches over `from` in it, and from there on the
+-- same items stand.
+pub record CanEnterFrom (rows : List TypeRow) (now final : HeapView) (k from : ℕ) : Type 0 where
+  pub shape : SameShape now final
+  pub heap : IsHeap final
+  pub held : IsHeld rows final
+  pub parted : CanWalk (sight rows final k) final.memories (first_of final k) from
+  pub whole : CanWalk (sight rows final k) final.memories from (last_of final k)
+  pub items : items_between (sight rows final k) from (last_of final k)
+      ≡ items_between (sight rows now k) from (last_of now k)

@@ -1,13 +1,15 @@
 -- The bricks of parts that are entered anew: two entries are given back, the others of the part are taken away.
-use Rattle.std.specs.Prelude.{◌≡◌, ℕ, ◌-◌, ◌*◌, ◌/◌, ◌<◌, ◌≤◌, ◌==◌, nat_lt, List, if◌then◌else◌, ℤ, pos, negsuc}
-use Rattle.clr_types.specs.Segments.{reserved_end}
+use Rattle.std.specs.Prelude.{◌≡◌, ℕ, ◌-◌, ◌*◌, ◌/◌, ◌<◌, ◌≤◌, ◌==◌, nat_lt, List, length, if◌then◌else◌, ℤ, pos}
+use Rattle.std.specs.Prelude.{negsuc, true}
+use Rattle.clr_types.specs.Segments.{ephemeral, reserved_end}
 use Rattle.clr_types.specs.Types.{TypeRow}
 use Rattle.clr_bricks.specs.Bricks.{back_entry, entry_at, root_entry}
-use Rattle.clr_heap.specs.View.{CanWalk, first_of, frame, HeapView, last_of, segment_at, sight}
+use Rattle.clr_heap.specs.View.{first_of, frame, HeapView, segment_at}
+use Rattle.clr_moves.specs.Moves.{part_of, takes}
 use Rattle.clr_moves.specs.declared.planned.Planned.{Planned}
 use Rattle.clr_plugs.specs.BrickEntries.{BricksView}
 use Rattle.clr_view.specs.View.{objects_in}
-use Rattle.clr_compact.specs.Entered.{AreEnteredBelow, forgotten}
+use Rattle.clr_compact.specs.Entered.{AreEnteredBelow, CanEnterFrom, forgotten}
 
 -- an entry that is given back: one that led back leads to the brick below
 abbrev pub restored : ℤ → ℤ
@@ -30,17 +32,33 @@ both_restored entry from room below first i =
 abbrev pub IsEntry : ℤ → Type 0
 IsEntry e = (offset : ℕ) → e ≡ root_entry offset → offset < 4096
 
--- The part of segment k started at `from`, and the segment ended at `end`: no item reaches over `from` now, and with
--- two entries given back and the others taken away the bricks tell the objects below.
-pub record CanEnterYoung (rows : List TypeRow) (h : HeapView) (bricks : BricksView) (k from end : ℕ) (planned : Planned)
-    : Type 0 where
+-- The part of segment k starts at `from`, and the segment ended at `end`. The two entries that were kept name offsets
+-- in their bricks.
+pub record IsYoungPart (h : HeapView) (k from end : ℕ) (planned : Planned) : Type 0 where
   pub low : first_of h k ≤ from
   pub order : from ≤ end
   pub high : end ≤ reserved_end (segment_at h k)
-  pub parted : CanWalk (sight rows h k) h.memories (first_of h k) from
-  pub whole : CanWalk (sight rows h k) h.memories from (last_of h k)
   pub below_entry : IsEntry planned.below
   pub first_entry : 4096 * (from / 4096) < reserved_end (segment_at h k) → IsEntry planned.first
-  pub entered : AreEnteredBelow rows (frame h) (objects_in rows h)
-      (forgotten (both_restored (entry_at bricks) from (reserved_end (segment_at h k)) planned.below planned.first) from
-      end) (segment_at h k) from
+
+-- The bricks of segment k can be entered anew from `from` on for the heap `final`: with two entries given back and the
+-- others taken away they tell the objects below.
+pub record CanEnterYoung (rows : List TypeRow) (now final : HeapView) (bricks : BricksView) (k from end : ℕ)
+    (planned : Planned) : Type 0 where
+  pub walked : CanEnterFrom rows now final k from
+  pub entered : AreEnteredBelow rows (frame final) (objects_in rows final)
+      (forgotten (both_restored (entry_at bricks) from (reserved_end (segment_at final k)) planned.below planned.first)
+      from end) (segment_at final k) from
+
+-- The bricks of all parts can be entered anew for the heap `final`.
+pub record CanEnterParts (rows : List TypeRow) (now final : HeapView) (bricks : BricksView) (g from end : ℕ)
+    (planned : Planned) : Type 0 where
+  pub whole : g ≡ 2 → (t : ℕ) → t < length now.segments → takes 2 (segment_at now t) ≡ true
+      → CanEnterFrom rows now final t (first_of now t)
+  pub young : g < 2 → (e : ℕ) → e < length now.segments → segment_at now e ≡ ephemeral (frame now)
+      → CanEnterYoung rows now final bricks e from end planned
+
+-- The boundaries of generations have moved. Before, the part of the ephemeral segment started at `from`.
+pub record HasMovedBounds (g from : ℕ) (was now : HeapView) : Type 0 where
+  pub others : now ≡ record was { start1 = now.start1; start0 = now.start0 }
+  pub young : (e : ℕ) → e < length was.segments → segment_at was e ≡ ephemeral (frame was) → from ≡ part_of was g e

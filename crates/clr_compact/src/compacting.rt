@@ -10,7 +10,6 @@ ghost use Rattle.clr_moves.specs.Moves.{moved_bytes};
 ghost use Rattle.clr_moves.specs.Overlaid.{HoldsPlan};
 ghost use Rattle.clr_compact.specs.Compacted.{CanCompact, HasCompacted};
 
-use crate::marks::clear_parts;
 use crate::part_bricks::{enter_parts, young_part};
 use crate::slide_plan::slide_plan;
 use crate::slides::Slides;
@@ -55,9 +54,7 @@ pub fn compact(
     slide_plan(heap, types, bricks, pins, g, slides);
     pins.clear();
     heap.lawful();
-    clear_parts(heap, types, g);
-    heap.lawful();
     heap.set_boundaries(planned.start1, planned.start0);
-    heap.lawful();
     enter_parts(heap, types, bricks, g, planned, part);
+    heap.lawful();
 }

@@ -1,14 +1,18 @@
-// The bricks of a part of a segment, entered anew.
+// The bricks of a part of a segment, entered anew by a walk that clears the marks of its items.
 ghost use Rattle.std.specs.Prelude.{◌≡◌, ℕ, ◌+◌, ◌*◌, ◌/◌, ◌-◌, ◌<◌, ◌≤◌, ◌^◌, ◌==◌, ◌⊎◌, if◌then◌else◌, length, true};
 ghost use Rattle.std.specs.Prelude.{int_lt, pos};
 ghost use Rattle.clr_bricks.specs.Bricks.{entry_at, IsRoot};
 ghost use Rattle.clr_covers.specs.Covers.{is_covered, spans};
 ghost use Rattle.clr_types.specs.Segments.{reserved_end};
-ghost use Rattle.clr_heap.specs.View.{CanWalk, first_of, frame, last_of, no_rests, segment_at, sight};
-ghost use Rattle.clr_view.specs.View.{IsHeld, objects_in};
-ghost use Rattle.clr_compact.specs.Entered.{AreEnteredBelow, forgotten, kept_below};
+ghost use Rattle.clr_heap.specs.Memories.{memory_index};
+ghost use Rattle.clr_heap.specs.Parts.{item_at, unmarked};
+ghost use Rattle.clr_heap.specs.View.{CanWalk, first_of, frame, HasItem, HeapView, items_between, last_of, no_rests};
+ghost use Rattle.clr_heap.specs.View.{SameShape, segment_at, sight, stored, word_of};
+ghost use Rattle.clr_view.specs.View.{objects_in};
+ghost use Rattle.clr_compact.specs.Entered.{AreEnteredBelow, CanEnterFrom, forgotten, kept_below};
 ghost use Rattle.clr_compact.specs.Entering.{entered_after, led_back, next_after};
 ghost use Rattle.clr_compact.specs.Entering as entering;
+ghost use Rattle.clr_compact.specs.Rewrites.{cleared, Rewrites};
 ghost use Rattle.clr_generations.specs.Laws.{AreEntered, IsBrickOf};
 ghost use Rattle.clr_generations.specs.Laws as laws;
 ghost use Rattle.clr_generations.specs.Tables.{AreBricksOf};
@@ -58,23 +62,25 @@ fn names_offset(entry: i16) -> bool
     entry > 0
 }
 
-// Enters the bricks of segment `k` anew from that of the place `from` on: each names the first object that starts in
-// it, where it may, and each other one up to the segment's end leads back to the nearest one below in which an object
-// starts, where there is one. Before, the entries tell the objects below `from`, and no others. No item reaches over
-// `from`.
-pub(crate) fn enter_bricks(heap: &Heap, types: &Types, bricks: &mut Bricks, k: usize, from: u64)
-    requires held { IsHeld types.now heap.now }
-    requires in_range { k < length heap.now.segments }
-    requires no_contexts { heap.now.rests ≡ no_rests }
-    requires low { first_of heap.now k ≤ from }
-    requires parted { CanWalk (sight types.now heap.now k) heap.now.memories (first_of heap.now k) from }
-    requires whole { CanWalk (sight types.now heap.now k) heap.now.memories from (last_of heap.now k) }
-    requires bricks { AreBricksOf (frame heap.now) bricks.old }
-    requires below { AreEnteredBelow types.now (frame heap.now) (objects_in types.now heap.now) (entry_at bricks.old)
-        (segment_at heap.now k) from }
-    ensures entered { AreEntered types.now (frame heap.now) (objects_in types.now heap.now) (entry_at bricks.new)
-        (segment_at heap.now k) }
-    ensures others { (brick : ℕ) → (IsBrickOf (segment_at heap.now k) brick → ⊥)
+// Clears the marks of the items of segment `k` from the place `from` on, where one of them begins, and enters its
+// bricks anew from that of `from` on: each names the first object that starts in it, where it may, and each other one
+// up to the segment's end leads back to the nearest one below in which an object starts, where there is one. So it is
+// in each heap `final` that this one is to become, where no item reaches over `from`, and where the entries told the
+// objects below it before, and no others.
+pub(crate) fn enter_bricks(heap: &mut Heap, types: &Types, bricks: &mut Bricks, k: usize, from: u64)
+    requires in_range { k < length heap.old.segments }
+    requires no_contexts { heap.old.rests ≡ no_rests }
+    requires low { first_of heap.old k ≤ from }
+    requires walk { CanWalk (sight types.now heap.old k) heap.old.memories from (last_of heap.old k) }
+    requires bricks { AreBricksOf (frame heap.old) bricks.old }
+    ensures shape { SameShape heap.old heap.new }
+    ensures words { Rewrites (cleared (items_between (sight types.now heap.old k) from (last_of heap.old k)))
+        (word_of heap.old) (word_of heap.new) }
+    ensures entered { (final : HeapView) → CanEnterFrom types.now heap.old final k from
+        → AreEnteredBelow types.now (frame final) (objects_in types.now final) (entry_at bricks.old)
+        (segment_at final k) from
+        → AreEntered types.now (frame final) (objects_in types.now final) (entry_at bricks.new) (segment_at final k) }
+    ensures others { (brick : ℕ) → (IsBrickOf (segment_at heap.old k) brick → ⊥)
         → entry_at bricks.new brick ≡ entry_at bricks.old brick }
     ensures spans { spans bricks.new ≡ spans bricks.old }
 {
@@ -83,13 +89,30 @@ pub(crate) fn enter_bricks(heap: &Heap, types: &Types, bricks: &mut Bricks, k: u
     let mut next = first_open(bricks, from, segment.end);
     let mut place = from;
     while place < segment.end {
-        let mt = heap.word_at(k, place);
-        let found = heap.item_of_word(types, k, place, mt);
+        let found = clear_mark(heap, types, k, place);
         next = enter_item(heap, bricks, found, next);
         place += found.size;
     }
     let past = (segment.end + 4095) / 4096;
     lead_back(bricks, next, past.max(next));
+}
+
+// Clears the mark of the item at `place` in segment `k`, and answers the item.
+#[inline]
+fn clear_mark(heap: &mut Heap, types: &Types, k: usize, place: u64) -> Item
+    requires item { HasItem types.now heap.old place }
+    requires mt_in { k ≡ memory_index heap.old.memories place }
+    requires len_in { k ≡ memory_index heap.old.memories (place + 8) }
+    requires room { place + 8 < 2 ^ 64 }
+    ensures item { result ≡ item_at types.now (word_of heap.old) place }
+    ensures heap { heap.new ≡ stored heap.old place (unmarked (word_of heap.old place)) }
+{
+    let mt = heap.word_at(k, place);
+    let found = heap.item_of_word(types, k, place, mt);
+    if mt % 2 == 1 {
+        heap.set_word_at(k, place, mt - 1);
+    }
+    found
 }
 
 // The first brick from that of the place `from` on that names no offset, where the segment ends at `end`.

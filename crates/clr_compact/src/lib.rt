@@ -13,7 +13,6 @@ mod before;
 mod compacting;
 mod entering;
 mod fronts;
-mod marks;
 mod next_plugs;
 mod part_bricks;
 mod slide_plan;

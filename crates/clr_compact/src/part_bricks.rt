@@ -1,15 +1,20 @@
-// The bricks of the parts after a compaction.
+// The parts after a compaction: their bricks are entered anew, and the marks of their items cleared.
 ghost use Rattle.std.specs.Prelude.{◌≡◌, ℕ, ◌+◌, ◌-◌, ◌*◌, ◌/◌, ◌<◌, ◌≤◌, ◌^◌, ◌==◌, if◌then◌else◌, true, false};
 ghost use Rattle.std.specs.Prelude.{length, pos};
 ghost use Rattle.clr_types.specs.Segments.{ephemeral, reserved_end};
 ghost use Rattle.clr_covers.specs.Covers.{is_covered, spans};
 ghost use Rattle.clr_bricks.specs.Bricks.{entry_at};
-ghost use Rattle.clr_heap.specs.View.{first_of, frame, last_of, no_rests, segment_at};
-ghost use Rattle.clr_view.specs.View.{IsHeld, objects_in};
+ghost use Rattle.clr_heap.specs.View.{CanWalk, first_of, frame, HeapView, items_between, last_of, listing, no_rests};
+ghost use Rattle.clr_heap.specs.View.{SameShape, segment_at, sight, word_of};
+ghost use Rattle.clr_view.specs.View.{objects_in};
 ghost use Rattle.clr_generations.specs.Laws.{AreEntered, IsBrickOf};
 ghost use Rattle.clr_generations.specs.Tables.{AreBricksOf};
 ghost use Rattle.clr_moves.specs.Moves.{part_of, takes};
-ghost use Rattle.clr_compact.specs.PartBricks.{both_restored, CanEnterYoung, IsEntry, restored_at};
+ghost use Rattle.clr_compact.specs.Compacted.{ArePartsWalkable, part_items};
+ghost use Rattle.clr_compact.specs.Entered.{CanEnterFrom};
+ghost use Rattle.clr_compact.specs.PartBricks.{both_restored, CanEnterParts, CanEnterYoung, HasMovedBounds, IsEntry};
+ghost use Rattle.clr_compact.specs.PartBricks.{IsYoungPart, restored_at};
+ghost use Rattle.clr_compact.specs.Rewrites.{cleared, Rewrites};
 
 use crate::entering::{enter_bricks, forget_bricks};
 use clr_bricks::Bricks;
@@ -36,10 +41,11 @@ pub(crate) fn young_part(heap: &Heap, g: u8) -> YoungPart
     }
 }
 
-// Enters the bricks of all parts of generations up to `g` anew. `part` is that of the ephemeral segment before the
+// Clears the marks of the items of all parts of generations up to `g`, and enters the bricks of the parts anew. The
+// boundaries have moved: `part` is the part of the ephemeral segment before that, where the segment ended before the
 // compaction, and `planned` has the entries that two of its bricks had before the plan.
 pub(crate) fn enter_parts(
-    heap: &Heap,
+    heap: &mut Heap,
     types: &Types,
     bricks: &mut Bricks,
     g: u8,
@@ -47,17 +53,21 @@ pub(crate) fn enter_parts(
     part: YoungPart,
 )
     requires least { g ≤ 2 }
-    requires held { IsHeld types.now heap.now }
-    requires no_contexts { heap.now.rests ≡ no_rests }
-    requires bricks { AreBricksOf (frame heap.now) bricks.old }
-    requires young { (e : ℕ) → g < 2 → e < length heap.now.segments
-        → segment_at heap.now e ≡ ephemeral (frame heap.now)
-        → CanEnterYoung types.now heap.now bricks.old e part.start part.end planned.now }
-    ensures parts { (t : ℕ) → t < length heap.now.segments → takes g (segment_at heap.now t) ≡ true
-        → AreEntered types.now (frame heap.now) (objects_in types.now heap.now) (entry_at bricks.new)
-        (segment_at heap.now t) }
-    ensures others { (t brick : ℕ) → t < length heap.now.segments → takes g (segment_at heap.now t) ≡ false
-        → IsBrickOf (segment_at heap.now t) brick → entry_at bricks.new brick ≡ entry_at bricks.old brick }
+    requires no_contexts { heap.old.rests ≡ no_rests }
+    requires parts { (was : HeapView) × HasMovedBounds g part.start was heap.old × ArePartsWalkable types.now was g }
+    requires bricks { AreBricksOf (frame heap.old) bricks.old }
+    requires young { (e : ℕ) → g < 2 → e < length heap.old.segments
+        → segment_at heap.old e ≡ ephemeral (frame heap.old)
+        → IsYoungPart heap.old e part.start part.end planned.now }
+    ensures shape { SameShape heap.old heap.new }
+    ensures words { (was : HeapView) → HasMovedBounds g part.start was heap.old
+        → Rewrites (cleared (part_items types.now was g (length was.segments))) (word_of was) (word_of heap.new) }
+    ensures parts { (final : HeapView)
+        → CanEnterParts types.now heap.old final bricks.old g part.start part.end planned.now → (t : ℕ)
+        → t < length heap.old.segments → takes g (segment_at heap.old t) ≡ true
+        → AreEntered types.now (frame final) (objects_in types.now final) (entry_at bricks.new) (segment_at final t) }
+    ensures others { (t brick : ℕ) → t < length heap.old.segments → takes g (segment_at heap.old t) ≡ false
+        → IsBrickOf (segment_at heap.old t) brick → entry_at bricks.new brick ≡ entry_at bricks.old brick }
     ensures spans { spans bricks.new ≡ spans bricks.old }
 {
     heap.lawful();
@@ -70,21 +80,29 @@ pub(crate) fn enter_parts(
 
 // The same for the ephemeral segment alone.
 fn enter_young_part(
-    heap: &Heap,
+    heap: &mut Heap,
     types: &Types,
     bricks: &mut Bricks,
     planned: &Planned,
     part: YoungPart,
 )
-    requires held { IsHeld types.now heap.now }
-    requires no_contexts { heap.now.rests ≡ no_rests }
-    requires bricks { AreBricksOf (frame heap.now) bricks.old }
-    requires young { (e : ℕ) → e < length heap.now.segments
-        → segment_at heap.now e ≡ ephemeral (frame heap.now)
-        → CanEnterYoung types.now heap.now bricks.old e part.start part.end planned.now }
-    ensures entered { AreEntered types.now (frame heap.now) (objects_in types.now heap.now) (entry_at bricks.new)
-        (ephemeral (frame heap.now)) }
-    ensures others { (brick : ℕ) → (IsBrickOf (ephemeral (frame heap.now)) brick → ⊥)
+    requires no_contexts { heap.old.rests ≡ no_rests }
+    requires walk { (e : ℕ) → e < length heap.old.segments → segment_at heap.old e ≡ ephemeral (frame heap.old)
+        → CanWalk (sight types.now heap.old e) heap.old.memories part.start (last_of heap.old e) }
+    requires bricks { AreBricksOf (frame heap.old) bricks.old }
+    requires young { (e : ℕ) → e < length heap.old.segments
+        → segment_at heap.old e ≡ ephemeral (frame heap.old)
+        → IsYoungPart heap.old e part.start part.end planned.now }
+    ensures shape { SameShape heap.old heap.new }
+    ensures words { (e : ℕ) → e < length heap.old.segments → segment_at heap.old e ≡ ephemeral (frame heap.old)
+        → Rewrites (cleared (items_between (sight types.now heap.old e) part.start (last_of heap.old e)))
+        (word_of heap.old) (word_of heap.new) }
+    ensures entered { (final : HeapView) → ((e : ℕ) → e < length heap.old.segments
+        → segment_at heap.old e ≡ ephemeral (frame heap.old)
+        → CanEnterYoung types.now heap.old final bricks.old e part.start part.end planned.now)
+        → AreEntered types.now (frame final) (objects_in types.now final) (entry_at bricks.new)
+        (ephemeral (frame final)) }
+    ensures others { (brick : ℕ) → (IsBrickOf (ephemeral (frame heap.old)) brick → ⊥)
         → entry_at bricks.new brick ≡ entry_at bricks.old brick }
     ensures spans { spans bricks.new ≡ spans bricks.old }
 {
@@ -131,16 +149,20 @@ fn restore(bricks: &mut Bricks, brick: u64, entry: i16)
     }
 }
 
-// Enters the bricks of all small segments anew.
-fn enter_whole_parts(heap: &Heap, types: &Types, bricks: &mut Bricks)
-    requires held { IsHeld types.now heap.now }
-    requires no_contexts { heap.now.rests ≡ no_rests }
-    requires bricks { AreBricksOf (frame heap.now) bricks.old }
-    ensures parts { (t : ℕ) → t < length heap.now.segments → takes 2 (segment_at heap.now t) ≡ true
-        → AreEntered types.now (frame heap.now) (objects_in types.now heap.now) (entry_at bricks.new)
-        (segment_at heap.now t) }
-    ensures others { (t brick : ℕ) → t < length heap.now.segments → takes 2 (segment_at heap.now t) ≡ false
-        → IsBrickOf (segment_at heap.now t) brick → entry_at bricks.new brick ≡ entry_at bricks.old brick }
+// Clears the marks of the items of all small segments, and enters their bricks anew.
+fn enter_whole_parts(heap: &mut Heap, types: &Types, bricks: &mut Bricks)
+    requires parts { ArePartsWalkable types.now heap.old 2 }
+    requires no_contexts { heap.old.rests ≡ no_rests }
+    requires bricks { AreBricksOf (frame heap.old) bricks.old }
+    ensures shape { SameShape heap.old heap.new }
+    ensures words { Rewrites (cleared (part_items types.now heap.old 2 (length heap.old.segments))) (word_of heap.old)
+        (word_of heap.new) }
+    ensures parts { (final : HeapView) → ((t : ℕ) → t < length heap.old.segments
+        → takes 2 (segment_at heap.old t) ≡ true → CanEnterFrom types.now heap.old final t (first_of heap.old t))
+        → (t : ℕ) → t < length heap.old.segments → takes 2 (segment_at heap.old t) ≡ true
+        → AreEntered types.now (frame final) (objects_in types.now final) (entry_at bricks.new) (segment_at final t) }
+    ensures others { (t brick : ℕ) → t < length heap.old.segments → takes 2 (segment_at heap.old t) ≡ false
+        → IsBrickOf (segment_at heap.old t) brick → entry_at bricks.new brick ≡ entry_at bricks.old brick }
     ensures spans { spans bricks.new ≡ spans bricks.old }
 {
     let count = heap.segments();
@@ -151,15 +173,17 @@ fn enter_whole_parts(heap: &Heap, types: &Types, bricks: &mut Bricks)
     }
 }
 
-// Enters the bricks of segment `k` anew.
-fn enter_whole_part(heap: &Heap, types: &Types, bricks: &mut Bricks, k: usize)
-    requires held { IsHeld types.now heap.now }
-    requires in_range { k < length heap.now.segments }
-    requires no_contexts { heap.now.rests ≡ no_rests }
-    requires bricks { AreBricksOf (frame heap.now) bricks.old }
-    ensures entered { AreEntered types.now (frame heap.now) (objects_in types.now heap.now) (entry_at bricks.new)
-        (segment_at heap.now k) }
-    ensures others { (brick : ℕ) → (IsBrickOf (segment_at heap.now k) brick → ⊥)
+// Clears the marks of the items of segment `k`, and enters its bricks anew.
+fn enter_whole_part(heap: &mut Heap, types: &Types, bricks: &mut Bricks, k: usize)
+    requires in_range { k < length heap.old.segments }
+    requires no_contexts { heap.old.rests ≡ no_rests }
+    requires walk { CanWalk (sight types.now heap.old k) heap.old.memories (first_of heap.old k) (last_of heap.old k) }
+    requires bricks { AreBricksOf (frame heap.old) bricks.old }
+    ensures shape { SameShape heap.old heap.new }
+    ensures words { Rewrites (cleared (listing types.now heap.old k)) (word_of heap.old) (word_of heap.new) }
+    ensures entered { (final : HeapView) → CanEnterFrom types.now heap.old final k (first_of heap.old k)
+        → AreEntered types.now (frame final) (objects_in types.now final) (entry_at bricks.new) (segment_at final k) }
+    ensures others { (brick : ℕ) → (IsBrickOf (segment_at heap.old k) brick → ⊥)
         → entry_at bricks.new brick ≡ entry_at bricks.old brick }
     ensures spans { spans bricks.new ≡ spans bricks.old }
 {

@@ -3,7 +3,7 @@ use Rattle.std.proofs.Common.{◌≡◌, ℕ, zero, suc, ◌+◌, ◌-◌, ◌%�
 use Rattle.std.proofs.Common.{set, refl, ap, sym, ◌∙◌, subst, arith, inl, inr, filter, find, Option, None, Some}
 use Rattle.std.proofs.Common.{is_some, ◌&&◌, ◌||◌, if◌then◌else◌, nat_le}
 use Rattle.std.specs.List.{list_any}
-use Rattle.clr_types.specs.Rising.{IsIn, first, later, IsRisingBy}
+use Rattle.clr_types.specs.Rising.{IsIn, IsRisingBy}
 use Rattle.clr_types.specs.Types.{TypeRow}
 use Rattle.clr_types.specs.Ranges.{fits, Piece}
 use Rattle.clr_types.specs.Segments.{ephemeral, fits_in_tail, Layout, rest_of}
@@ -15,7 +15,8 @@ use Rattle.clr_model.specs.Updates.{given_up, pieces_of_option}
 use Rattle.clr_view.specs.View.{HasRefilled, IsHeld, is_object, KeepsObjects, layout_in}
 use Rattle.clr_ctx.specs.Contexts.{first_fit, IsIndex, IsRelaid, share, tail_share, young_items}
 use Rattle.clr_ctx.proofs.Drawing.{fits_cases, item_at_piece}
-use Rattle.clr_ctx.proofs.Lists.{place}
+use Rattle.clr_items.proofs.FoundItems.{found_passes}
+use Rattle.clr_items.proofs.Lists.{place}
 use Rattle.clr_ctx.proofs.Resting.{rest_is, young_rises}
 use Rattle.clr_ctx.proofs.Steps.{is_young, the_young}
 
@@ -50,18 +51,6 @@ room_is layout size found is =
 pub no_room : (layout : Layout) (size : ℕ) (found : Option Piece) → found ≡ first_fit layout size
     → is_some found ≡ false → fits_in_tail (ephemeral layout) size ≡ false → has_room layout size ≡ false
 no_room layout size found is none full = room_is layout size found is ∙ (λ i. none i || full i)
-
-pub found_passes : (test : Piece → Bool) (ps : List Piece) (p : Piece) → find test ps ≡ Some p
-    → IsIn p ps × (test p ≡ true)
-found_passes test [] p e = absurd (cc)
-found_passes test (x ∷ ps) p e = go (test x) refl e (found_passes test ps p)
-  where
-    go : (b : Bool) → test x ≡ b → (if b then Some x else find test ps) ≡ Some p
-        → (find test ps ≡ Some p → IsIn p ps × (test p ≡ true)) → IsIn p (x ∷ ps) × (test p ≡ true)
-    go true t is more =
-        let same : x ≡ p = cc in
-        (subst (λ q. IsIn q (x ∷ ps)) same first, ap test (sym same) ∙ t)
-    go false t is more = let (i, passes) = more is in (later i, passes)
 
 -- ---- after a context was given up
 

@@ -25,10 +25,10 @@ use Rattle.clr_view.proofs.FreeHeads.{heads_one}
 use Rattle.clr_view.proofs.Rises.{sorted-between}
 use Rattle.clr_view.proofs.Tails.{IsEphemeral}
 use Rattle.clr_ctx.specs.Contexts.{IsRelaid, young_items}
-use Rattle.clr_ctx.proofs.Lists.{filter-put, place, put_between}
+use Rattle.clr_items.proofs.Lists.{filter-put, place, put_between}
 use Rattle.clr_ctx.proofs.Resting.{free_rises, heap_rested, others_rested, reserved_at, young_place}
-use Rattle.clr_ctx.proofs.Swapping.{clean_now, back, cells_now, free_is, free_was, front, heads_now, held_now, kept_now}
-use Rattle.clr_ctx.proofs.Swapping.{objects_now, Rests, Swaps, walkable_now}
+use Rattle.clr_view.proofs.Swapping.{back, cells_now, free_is, free_was, front, heads_now, Swaps, walkable_now}
+use Rattle.clr_ctx.proofs.Swapping.{clean_now, held_now, kept_now, objects_now, Rests}
 
 -- what the words hold after the head of a free item was written where the rest was
 pub record ClosesRest (h : HeapView) (i : ℕ) (r : Piece) (ms : List Memory) : Type 0 where
@@ -135,8 +135,6 @@ module _ (rows : List TypeRow) (h : HeapView) (k i : ℕ) (r : Piece) (ms : List
         new_heap = heap_rested rows h k i ms None heap segment.in_range young f.shape;
         held = held;
         in_range = segment.in_range;
-        young = young;
-        still_young = young;
         count = refl;
         below = cut.below;
         above = cut.above;
@@ -153,6 +151,8 @@ module _ (rows : List TypeRow) (h : HeapView) (k i : ℕ) (r : Piece) (ms : List
 
   rests : Rests rows h closed k low high (m ∷ []) (n ∷ []) swaps i None
   rests = record {
+    young = young;
+    still_young = young;
     thread = thread;
     rests = refl;
     start0 = refl;
@@ -220,7 +220,7 @@ module _ (rows : List TypeRow) (h : HeapView) (k i : ℕ) (r : Piece) (ms : List
       rests = set h.rests (sym number e) None;
       top = h.top;
     };
-    cells = cells_now rows h closed k low high (m ∷ []) (n ∷ []) swaps refl refl;
+    cells = cells_now rows h closed k low high (m ∷ []) (n ∷ []) swaps refl;
     free_heads =
         heads_now rows h closed k low high (m ∷ []) (n ∷ []) swaps
         (heads_one (word_of closed) (free_item low (high - low)) (f.header, f.mt));

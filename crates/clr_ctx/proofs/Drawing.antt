@@ -1,9 +1,9 @@
 -- A context is opened at the front of a free item of generation 0: its words are clear, and what is left of the item is
 -- still free.
-use Rattle.std.proofs.Common.{◌≡◌, ◌≢◌, ◌⊎◌, inl, inr, ℕ, ◌+◌, ◌-◌, ◌%◌, ◌<◌, ◌≤◌, true, false, Bool, List, [], ◌∷◌}
+use Rattle.std.proofs.Common.{◌≡◌, ◌≢◌, ◌⊎◌, inl, inr, ℕ, ◌+◌, ◌-◌, ◌%◌, ◌<◌, ◌≤◌, true, Bool, List, [], ◌∷◌}
 use Rattle.std.proofs.Common.{◌++◌, length, get_or, set, refl, ap, sym, ◌∙◌, subst, arith, filter, Option, None, Some}
-use Rattle.std.proofs.Common.{if◌then◌else◌, nat_le, ◌==◌}
-use Rattle.std.proofs.lemmas.Bool.{and_parts, cases_eq, eq-eqb, le-ltb, lt-ltb, ne_eqb, leb-true}
+use Rattle.std.proofs.Common.{if◌then◌else◌, nat_le}
+use Rattle.std.proofs.lemmas.Bool.{and_parts, cases_eq, le-ltb, lt-ltb, ne_eqb, leb-true}
 use Rattle.std.proofs.lemmas.List.{get_or-set_other, get_or-set_same}
 use Rattle.std.proofs.lemmas.List.Elements.{filter-append}
 use Rattle.clr_mem.specs.Words.{Memory}
@@ -14,7 +14,7 @@ use Rattle.clr_types.specs.Segments.{ephemeral, stands_in}
 use Rattle.clr_types.specs.declared.item.Item.{Item}
 use Rattle.clr_types.specs.declared.segment.SegKind.TheVariants.{Ephemeral}
 use Rattle.clr_heap.specs.Memories.{shapes, word_in}
-use Rattle.clr_heap.specs.Parts.{Among, free_item, hole_from, item_part, items_in, Part, rest_part, Spells}
+use Rattle.clr_heap.specs.Parts.{Among, hole_from, item_part, items_in, Part, rest_part, Spells}
 use Rattle.clr_heap.specs.View.{first_of, frame, HeapView, IsHeap, last_of, parts_of, PartsAre, segment_at, sight}
 use Rattle.clr_heap.specs.View.{word_of}
 use Rattle.clr_heap.proofs.Framing.{lawful_at}
@@ -25,14 +25,15 @@ use Rattle.clr_heap.proofs.Swaps.{cut_at, CutAt, drawn_swap, free_parts, hole_fr
 use Rattle.clr_model.specs.Allocation.{from_item, is_young_item, taken_from}
 use Rattle.clr_model.specs.Updates.{option_piece}
 use Rattle.clr_view.specs.View.{free_among, free_in, HaveFreeHeads, IsHeld, is_object, layout_in}
-use Rattle.clr_view.proofs.FreeHeads.{heads_none, heads_one}
+use Rattle.clr_view.proofs.Carving.{left_free, left_heads, left_objects}
 use Rattle.clr_view.proofs.Tails.{IsEphemeral}
 use Rattle.clr_ctx.specs.Contexts.{IsRelaid, young_items}
-use Rattle.clr_ctx.proofs.Lists.{apart_around, place, taken-between}
+use Rattle.clr_items.proofs.TakenItems.{filter-taken}
+use Rattle.clr_items.proofs.Lists.{apart_around, place, taken-between}
 use Rattle.clr_ctx.proofs.Resting.{free_rises, heap_rested, others_rested, young_item, YoungItem, young_place}
 use Rattle.clr_ctx.proofs.Resting.{young_rises}
-use Rattle.clr_ctx.proofs.Swapping.{clean_now, among_append, back, cells_now, free_is, free_was, front, heads_now}
-use Rattle.clr_ctx.proofs.Swapping.{held_now, kept_now, objects_now, Rests, Swaps}
+use Rattle.clr_view.proofs.Swapping.{back, cells_now, free_is, free_was, front, heads_now, Swaps}
+use Rattle.clr_ctx.proofs.Swapping.{among_append, clean_now, held_now, kept_now, objects_now, Rests}
 
 -- what the words hold after the head of what is left was written, and the words of the context were cleared
 pub record DrawsItem (h : HeapView) (p : Piece) (n : ℕ) (ms : List Memory) : Type 0 where
@@ -96,22 +97,6 @@ item_at_piece rows h k p heap held segment young listed some =
       unheld = ap (hole_from h.rests) place
           ∙ ap (λ (hs : List (Option Piece)). hole_from hs x.place) (sym (holes_young h k young)) ∙ here.0;
     }
-
--- what is left of a range after a size that fits is a free item, or nothing
-left_free : (mid high : ℕ) → (mid ≡ high) ⊎ (mid + 24 ≤ high)
-    → free_among (items_in (free_parts mid high)) ≡ range_piece mid high
-left_free mid high cut = elim cut [
-  | inl same ↦ let hit = eq-eqb mid high same in let none = le-ltb mid high (omega arith) in rw (hit, none) refl
-  | inr more ↦ let miss = ne_eqb mid high (λ same. omega arith) in let some = lt-ltb mid high (omega arith) in
-      rw (miss, some) refl
-]
-
-left_objects : (mid high : ℕ) → filter is_object (items_in (free_parts mid high)) ≡ []
-left_objects mid high = go (mid == high)
-  where
-    go : (b : Bool) → filter is_object (items_in (if b then [] else item_part (free_item mid (high - mid)) ∷ [])) ≡ []
-    go true = refl
-    go false = refl
 
 module _ (rows : List TypeRow) (h : HeapView) (k i : ℕ) (p : Piece) (n : ℕ) (ms : List Memory) (heap : IsHeap h)
     (held : IsHeld rows h) (segment : IsEphemeral h k) (young : (segment_at h k).kind ≡ Ephemeral)
@@ -218,8 +203,6 @@ module _ (rows : List TypeRow) (h : HeapView) (k i : ℕ) (p : Piece) (n : ℕ) 
         new_heap = heap_rested rows h k i ms (Some r) heap segment.in_range young f.shape;
         held = held;
         in_range = segment.in_range;
-        young = young;
-        still_young = young;
         count = refl;
         below = cut.below;
         above = cut.above;
@@ -240,6 +223,8 @@ module _ (rows : List TypeRow) (h : HeapView) (k i : ℕ) (p : Piece) (n : ℕ) 
 
   rests : Rests rows h drawn k low high (m ∷ []) ns swaps i (Some r)
   rests = record {
+    young = young;
+    still_young = young;
     thread = thread;
     rests = refl;
     start0 = refl;
@@ -290,52 +275,30 @@ module _ (rows : List TypeRow) (h : HeapView) (k i : ℕ) (p : Piece) (n : ℕ) 
   abbrev t : Piece → Bool
   t = is_young_item (layout_in rows h)
 
-  young_was : young_items (layout_in rows h) ≡ filter t fs ++ p ∷ filter t bs
-  young_was =
-      let passes = at.item.passes in
-      ap (filter t) was ∙ filter-append t fs (p ∷ bs)
-      ∙ ap (λ (b : Bool). filter t fs ++ (if b then p ∷ filter t bs else filter t bs)) passes
-
-  young_left : filter t (range_piece mid high) ≡ range_piece mid high
-  young_left = elim cuts [
-    | inl same ↦ let none = le-ltb mid high (omega arith) in rw none refl
-    | inr more ↦
-        let some = lt-ltb mid high (omega arith) in
-        let up = at.low in
-        let down = at.high in
-        let from = aged in
-        let end = (lawful_at h k heap segment.in_range).high in
-        let passes : t (record { place = mid; size = high - mid }) ≡ true =
-        young_place rows h k heap held segment (record { place = mid; size = high - mid }) (omega arith) (omega arith)
-        (omega arith) in
-        ap (λ (b : Bool). filter t (if b then record { place = mid; size = high - mid } ∷ [] else [])) some
-        ∙ ap (λ (b : Bool). if b then record { place = mid; size = high - mid } ∷ [] else []) passes
-        ∙ ap (λ (b : Bool). if b then record { place = mid; size = high - mid } ∷ [] else []) (sym some)
-  ]
+  left_young : mid < high → t (record { place = mid; size = high - mid }) ≡ true
+  left_young more =
+      let up = at.low in
+      let down = at.high in
+      let from = aged in
+      let end = (lawful_at h k heap segment.in_range).high in
+      young_place rows h k heap held segment (record { place = mid; size = high - mid }) (omega arith) (omega arith)
+      (omega arith)
 
   -- the index has what is left of the item in its place
   pub young_drawn : young_items (layout_in rows drawn) ≡ taken_from low n (young_items (layout_in rows h))
   young_drawn =
-      let rise : IsRisingBy place (filter t fs ++ p ∷ filter t bs) =
-      subst (IsRisingBy place) young_was (young_rises rows h held.walkable heap) in
-      ap (filter t) is ∙ filter-append t fs (range_piece mid high ++ bs)
-      ∙ ap (λ (ps : List Piece). filter t fs ++ ps) (filter-append t (range_piece mid high) bs
-      ∙ ap (λ (ps : List Piece). ps ++ filter t bs) young_left)
-      ∙ sym (taken-between (filter t fs) p (filter t bs) n (apart_around (filter t fs) p (filter t bs) rise))
-      ∙ ap (taken_from low n) (sym young_was)
+      ap (filter t) free_drawn
+      ∙ ap (λ (ps : List Piece). filter t (taken_from low n ps)) was
+      ∙ filter-taken t fs p bs n rising at.item.passes left_young
+      ∙ ap (λ (ps : List Piece). taken_from low n (filter t ps)) (sym was)
 
   none_was : filter is_object (items_in (m ∷ [])) ≡ []
   none_was = let free = at.item.free in rw free refl
 
   -- the head of what is left was written
-  left_heads : HaveFreeHeads (word_of drawn) (items_in ns)
-  left_heads = elim cuts [
-    | inl same ↦ let hit = eq-eqb mid high same in rw hit (heads_none (word_of drawn))
-    | inr more ↦
-        let miss = ne_eqb mid high (λ same. omega arith) in
-        let room : n + 24 ≤ p.size = omega arith in
-        rw miss (heads_one (word_of drawn) (free_item mid (high - mid)) (f.header room, (f.head room).0))
-  ]
+  heads_left : HaveFreeHeads (word_of drawn) (items_in ns)
+  heads_left = left_heads (word_of drawn) mid high cuts
+      (λ more. let room : n + 24 ≤ p.size = omega arith in (f.header room, (f.head room).0))
 
   option_is : option_piece (range_piece low mid) ≡ Some r
   option_is =
@@ -358,8 +321,8 @@ module _ (rows : List TypeRow) (h : HeapView) (k i : ℕ) (p : Piece) (n : ℕ) 
       rests = set h.rests (sym number e) (sym option_is e);
       top = h.top;
     };
-    cells = cells_now rows h drawn k low high (m ∷ []) ns swaps none_was (left_objects mid high);
-    free_heads = heads_now rows h drawn k low high (m ∷ []) ns swaps left_heads;
+    cells = cells_now rows h drawn k low high (m ∷ []) ns swaps none_was;
+    free_heads = heads_now rows h drawn k low high (m ∷ []) ns swaps heads_left;
     clean = clean_now rows h drawn k low high (m ∷ []) ns swaps i (Some r) rests none_was (left_objects mid high);
     limit = refl;
     held = held_drawn;

@@ -32,8 +32,8 @@ use Rattle.clr_view.proofs.Tails.{ephemeral-ended, IsEphemeral, segments-ended}
 use Rattle.clr_ctx.specs.Contexts.{IsRelaid, young_items}
 use Rattle.clr_ctx.proofs.Closing.{rest_at}
 use Rattle.clr_ctx.proofs.Resting.{between_some, heap_rested, other_kind}
-use Rattle.clr_ctx.proofs.Swapping.{clean_now, cells_now, free_is, free_was, heads_now, held_now, kept_now, objects_now}
-use Rattle.clr_ctx.proofs.Swapping.{Rests, same_young, Swaps}
+use Rattle.clr_view.proofs.Swapping.{cells_now, free_is, free_was, heads_now, Swaps}
+use Rattle.clr_ctx.proofs.Swapping.{clean_now, held_now, kept_now, objects_now, Rests, same_young}
 
 -- what the words hold after those of the context were cleared
 pub record ExtendsTail (h : HeapView) (low n : ℕ) (ms : List Memory) : Type 0 where
@@ -166,8 +166,6 @@ module _ (rows : List TypeRow) (h : HeapView) (k i n : ℕ) (ms : List Memory) (
         new_heap = heap_extended;
         held = held;
         in_range = segment.in_range;
-        young = young;
-        still_young = ap (λ (s : SegInfo). s.kind) here_now ∙ young;
         count = length-set h.segments k t;
         below = parts_of rows h k;
         above = [];
@@ -186,6 +184,8 @@ module _ (rows : List TypeRow) (h : HeapView) (k i n : ℕ) (ms : List Memory) (
 
   rests : Rests rows h extended k low mid [] (rest_part low mid ∷ []) swaps i (Some r)
   rests = record {
+    young = young;
+    still_young = ap (λ (s : SegInfo). s.kind) here_now ∙ young;
     thread = thread;
     rests = refl;
     start0 = refl;
@@ -251,7 +251,7 @@ module _ (rows : List TypeRow) (h : HeapView) (k i n : ℕ) (ms : List Memory) (
       rests = set h.rests (sym number e) (rest_is_option e);
       top = h.top;
     };
-    cells = cells_now rows h extended k low mid [] (rest_part low mid ∷ []) swaps refl refl;
+    cells = cells_now rows h extended k low mid [] (rest_part low mid ∷ []) swaps refl;
     free_heads = heads_now rows h extended k low mid [] (rest_part low mid ∷ []) swaps (heads_none (word_of extended));
     clean = clean_now rows h extended k low mid [] (rest_part low mid ∷ []) swaps i (Some r) rests refl refl;
     limit = refl;

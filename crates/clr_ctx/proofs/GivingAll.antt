@@ -14,7 +14,7 @@ use Rattle.clr_view.specs.Clean.{AreClean}
 use Rattle.clr_view.specs.View.{AreFreeHeads, free_in, HasGivenUp, IsHeld, is_object, KeepsObjects, layout_in}
 use Rattle.clr_ctx.specs.Contexts.{IsRelaid}
 use Rattle.clr_ctx.proofs.Choices.{keeps_both}
-use Rattle.clr_ctx.proofs.Lists.{place}
+use Rattle.clr_items.proofs.Lists.{place}
 use Rattle.clr_ctx.proofs.Resting.{free_rises, rest_is}
 use Rattle.clr_ctx.proofs.Swapping.{objects_kept}
 

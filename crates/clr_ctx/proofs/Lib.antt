@@ -1,4 +1,3 @@
-pub mod Lists
 pub mod Swapping
 pub mod Resting
 pub mod Closing

@@ -30,8 +30,9 @@ use Rattle.clr_view.specs.View.{free_in, IsHeld, is_free, layout_in}
 use Rattle.clr_view.proofs.Listings.{heap-cut, heap-rise}
 use Rattle.clr_view.proofs.Tails.{IsEphemeral}
 use Rattle.clr_ctx.specs.Contexts.{young_items}
-use Rattle.clr_ctx.proofs.Lists.{place}
-use Rattle.clr_ctx.proofs.Swapping.{items_higher, items_lower, same_young}
+use Rattle.clr_view.proofs.Swapping.{items_higher, items_lower}
+use Rattle.clr_items.proofs.Lists.{place}
+use Rattle.clr_ctx.proofs.Swapping.{same_young}
 
 -- what is left of a context, by its number in the list
 pub rest_is : (rs : List (Option Piece)) (i : ℕ) → flat_option (slice_get rs i) ≡ get_or rs i None

@@ -1,20 +1,19 @@
 -- What the calls leave that give up a context and open one.
-use Rattle.std.proofs.Common.{◌≡◌, ◌⊎◌, inl, inr, ℕ, zero, suc, ◌+◌, ◌-◌, ◌%◌, ◌<◌, ◌≤◌, true, false, Bool, List, []}
-use Rattle.std.proofs.Common.{◌∷◌, ◌++◌, length, get_or, set, refl, ap, sym, ◌∙◌, subst, arith, Option, None, Some, leb}
-use Rattle.std.proofs.Common.{ltb, if◌then◌else◌, ◌&&◌}
+use Rattle.std.proofs.Common.{◌≡◌, ◌⊎◌, inl, inr, ℕ, zero, suc, ◌+◌, ◌-◌, ◌%◌, ◌<◌, ◌≤◌, true, List, []}
+use Rattle.std.proofs.Common.{◌∷◌, ◌++◌, length, get_or, set, refl, ap, sym, ◌∙◌, subst, arith, Option, None, Some}
 use Rattle.std.specs.Option.{option_map}
-use Rattle.std.proofs.lemmas.Bool.{cases_Bool, le-leb, le-ltb, lt-leb, lt-ltb, leb-true}
+use Rattle.std.proofs.lemmas.Bool.{cases_Bool, leb-true}
 use Rattle.std.proofs.lemmas.List.{append-nil}
 use Rattle.clr_types.specs.Rising.{insert_by, IsIn}
-use Rattle.clr_types.specs.Types.{TypeRow, mt_of}
-use Rattle.clr_types.specs.Ranges.{by_place, fits, Piece, piece_end}
+use Rattle.clr_types.specs.Types.{TypeRow}
+use Rattle.clr_types.specs.Ranges.{by_place, fits, Piece}
 use Rattle.clr_types.specs.Segments.{ended_at, ephemeral, fits_in_tail, reserved_end, rest_of, same_kind}
 use Rattle.clr_types.specs.Segments.{segment_or_empty}
 use Rattle.clr_types.specs.declared.segment.SegInfo.{SegInfo}
 use Rattle.clr_types.specs.declared.segment.SegKind.{SegKind}
 use Rattle.clr_types.specs.declared.segment.SegKind.TheVariants.{Small, Ephemeral, Large}
 use Rattle.clr_types.proofs.ChangedLists.{rising-sorted, sorted_by-done}
-use Rattle.clr_heap.specs.Memories.{clears, InOne, shapes}
+use Rattle.clr_heap.specs.Memories.{clears, InOne}
 use Rattle.clr_heap.specs.View.{first_of, frame, freed, HasHead, HeapView, IsHeap, last_of, rest_between, rest_bounds}
 use Rattle.clr_heap.specs.View.{SameShape, segment_at, sight, word_of}
 use Rattle.clr_heap.proofs.Addresses.{in_one_segment, InOne-shapes}
@@ -24,12 +23,13 @@ use Rattle.clr_heap.proofs.Young.{young_number}
 use Rattle.clr_model.specs.Allocation.{from_item, from_tail, taken_from}
 use Rattle.clr_model.specs.Updates.{given_up, pieces_of_option}
 use Rattle.clr_view.specs.View.{free_in, IsHeld, layout_in, tail_of}
+use Rattle.clr_view.proofs.Carving.{carved, Carves, wiped_in, wiped_out}
 use Rattle.clr_view.proofs.Tails.{IsEphemeral}
 use Rattle.clr_ctx.specs.Contexts.{IsRelaid, young_items}
 use Rattle.clr_ctx.proofs.Closing.{ClosesRest, rest_at, RestAt, relaid_closed, young_closed}
 use Rattle.clr_ctx.proofs.Drawing.{DrawsItem, fits_cases, item_at_piece, ItemAt, relaid_drawn, young_drawn}
 use Rattle.clr_ctx.proofs.Extending.{ExtendsTail, relaid_extended, young_extended}
-use Rattle.clr_ctx.proofs.Lists.{place}
+use Rattle.clr_items.proofs.Lists.{place}
 use Rattle.clr_ctx.proofs.Resting.{between_none, between_some, free_rises, rest_is}
 
 -- ---- the ephemeral segment
@@ -56,30 +56,6 @@ pub is_young : (h : HeapView) (k : ℕ) → IsEphemeral h k → (segment_at h k)
 is_young h k e =
     kind_is (segment_at h k).kind
     (subst (λ (s : SegInfo). same_kind Ephemeral s.kind ≡ true) (sym e.is) (first_young h.segments))
-
--- ---- words
-
-pub wiped_in : (a n : ℕ) (old : ℕ → ℕ) (b : ℕ) → a ≤ b → b < a + n → clears a n old b ≡ 0
-wiped_in a n old b low high = let t = le-leb a b low in let u = lt-ltb b (a + n) high in rw (t, u) refl
-
-pub wiped_out : (a n : ℕ) (old : ℕ → ℕ) (b : ℕ) → (b < a) ⊎ (a + n ≤ b) → clears a n old b ≡ old b
-wiped_out a n old b out = elim out [
-  | inl low ↦ let t = lt-leb a b low in rw t refl
-  | inr high ↦ go (leb a b) high
-]
-  where
-    go : (c : Bool) → a + n ≤ b → (if (c && ltb b (a + n)) then 0 else old b) ≡ old b
-    go true high = let u = le-ltb b (a + n) high in rw u refl
-    go false high = refl
-
--- what is left of an item is made free first, where something is
-abbrev pub Carves : HeapView → Piece → ℕ → HeapView → Type 0
-Carves h p n mid = ((n ≡ p.size) × (mid ≡ h)) ⊎ ((n < p.size) × (mid ≡ freed h (p.place + n) (p.size - n)))
-
-pub carves_part : (h : HeapView) (p : Piece) (n low size : ℕ) (mid made : HeapView) → low ≡ p.place → size ≡ p.size
-    → n < p.size → mid ≡ made → made ≡ freed h (low + n) (size - n) → Carves h p n mid
-carves_part h p n low size mid made at all less is made_is =
-    inr (less, is ∙ made_is ∙ (λ e. freed h (at e + n) (all e - n)))
 
 -- ---- giving up
 
@@ -222,39 +198,9 @@ module _ (rows : List TypeRow) (h : HeapView) (t : ℕ) (heap : IsHeap h) (held 
     pub drawn_least : n < p.size → 24 ≤ p.size - n
     drawn_least l = elim cut [ inl same ↦ omega arith | inr more ↦ omega arith ]
 
-    record CarvedWords (mid : HeapView) : Type 0 where
-      shape : SameShape h mid
-      header : n + 24 ≤ p.size → word_of mid (p.place + n - 8) ≡ 0
-      head : n + 24 ≤ p.size → (word_of mid (p.place + n) ≡ mt_of 0) × (word_of mid (p.place + n + 8) ≡ p.size - n - 24)
-      words : (b : ℕ) → b % 8 ≡ 0 → (b + 8 < p.place) ⊎ (piece_end p ≤ b + 8) → word_of mid b ≡ word_of h b
-
-    carved : (mid : HeapView) → Carves h p n mid → CarvedWords mid
-    carved mid (inl (all, same)) = record {
-      shape = record {
-        memories = ap (λ (g : HeapView). shapes g.memories) same;
-        others = same ∙ ap (λ (g : HeapView). record h { memories = g.memories }) (sym same);
-      };
-      header = λ more. absurd (omega arith);
-      head = λ more. absurd (omega arith);
-      words = λ b z out. ap (λ (g : HeapView). word_of g b) same;
-    }
-    carved mid (inr (l, made)) =
-        let q : Placed [] h mid (p.place + n) 0 (p.size - n - 24) =
-        subst (λ g. Placed [] h g (p.place + n) 0 (p.size - n - 24)) (sym made)
-        (placed_leaves [] h (p.place + n) 0 (p.size - n - 24) (drawn_head l)) in
-        let left = drawn_least l in
-        record {
-          shape = q.shape;
-          header = λ more. q.header;
-          head = λ more. (q.mt, q.len refl);
-          words = λ b z out. q.others b z (λ same. elim out [ inl l ↦ omega arith | inr l ↦ omega arith ])
-              (λ same. elim out [ inl l ↦ omega arith | inr l ↦ omega arith ])
-              (λ same. elim out [ inl l ↦ omega arith | inr l ↦ omega arith ]);
-        }
-
     pub drawn_cells : (mid : HeapView) → Carves h p n mid → InOne mid.memories (p.place - 8) n
     drawn_cells mid carves =
-        let shape = (carved mid carves).shape.memories in
+        let shape = (carved h p n mid cut drawn_head carves).shape.memories in
         let (k, e) = the_young h heap in
         let at = item k e in
         let low = at.low in
@@ -273,7 +219,7 @@ module _ (rows : List TypeRow) (h : HeapView) (t : ℕ) (heap : IsHeap h) (held 
         ≡ taken_from p.place n (young_items (layout_in rows h)))
     drawn_step mid wiped new carves shape words rested =
         let (k, e) = the_young h heap in
-        let c = carved mid carves in
+        let c = carved h p n mid cut drawn_head carves in
         let low = drawn_low in
         let fit = drawn_within in
         let z0 = (item k e).aligned in
@@ -291,7 +237,8 @@ module _ (rows : List TypeRow) (h : HeapView) (t : ℕ) (heap : IsHeap h) (held 
           );
           words = λ b z out. words b z
               ∙ wiped_out (p.place - 8) n (word_of mid) b
-              (elim out [ inl l ↦ inl (omega arith) | inr l ↦ inr (omega arith) ]) ∙ c.words b z out;
+              (elim out [ inl l ↦ inl (omega arith) | inr l ↦ inr (omega arith) ])
+              ∙ c.words b z (elim out [ inl l ↦ inl (omega arith) | inr l ↦ inr l ]);
         } in
         let only : wiped ≡ record h { memories = wiped.memories } =
         shape.others ∙ ap (λ (g : HeapView). record g { memories = wiped.memories }) c.shape.others in

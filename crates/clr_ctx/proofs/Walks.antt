@@ -1,78 +1,28 @@
 -- A walk over the ephemeral segment meets the free items of generation 0 by rising place.
-use Rattle.std.proofs.Common.{◌≡◌, inl, inr, ℕ, ◌+◌, ◌-◌, ◌^◌, ◌<◌, ◌≤◌, true, false, Bool, List, [], ◌∷◌, ◌++◌, length}
-use Rattle.std.proofs.Common.{refl, ap, sym, ◌∙◌, subst, arith, filter, find, map, Option, Some, nat_le, ◌&&◌}
+use Rattle.std.proofs.Common.{◌≡◌, inl, inr, ℕ, ◌+◌, ◌-◌, ◌≤◌, true, false, Bool, List, [], ◌∷◌, ◌++◌, length}
+use Rattle.std.proofs.Common.{refl, ap, sym, ◌∙◌, subst, arith, filter, map, nat_le, ◌&&◌}
 use Rattle.std.proofs.Common.{if◌then◌else◌}
 use Rattle.std.specs.List.{AllByRecursion}
-use Rattle.std.proofs.lemmas.Bool.{cases_Bool, eq-eqb, le-leb}
+use Rattle.std.proofs.lemmas.Bool.{cases_Bool}
 use Rattle.std.proofs.lemmas.List.{append-nil}
 use Rattle.std.proofs.lemmas.List.Elements.{filter-append}
 use Rattle.clr_types.specs.Types.{TypeRow}
-use Rattle.clr_types.specs.Ranges.{fits, Piece}
+use Rattle.clr_types.specs.Ranges.{Piece}
 use Rattle.clr_types.specs.Segments.{ephemeral, reserved_end, stands_in}
 use Rattle.clr_types.specs.declared.item.Item.{Item}
 use Rattle.clr_types.proofs.ChangedLists.{all_imply}
 use Rattle.clr_types.proofs.SegmentFacts.{between-stands, stands-between}
 use Rattle.clr_heap.specs.Parts.{item_piece}
 use Rattle.clr_heap.specs.View.{first_of, frame, HeapView, IsHeap, last_of, listing, listings, segment_at}
-use Rattle.clr_heap.proofs.Framing.{below_top_at, lawful_at}
+use Rattle.clr_heap.proofs.Framing.{lawful_at}
 use Rattle.clr_model.specs.Allocation.{is_young_item}
 use Rattle.clr_view.specs.View.{free_among, IsHeld, is_free, layout_in}
 use Rattle.clr_view.proofs.Items.{IsItem}
 use Rattle.clr_view.proofs.Listings.{free-append, heap-cut, listing-are}
 use Rattle.clr_view.proofs.Tails.{IsEphemeral}
+use Rattle.clr_items.specs.Items.{first_fitting, free_from}
 use Rattle.clr_ctx.specs.Contexts.{first_fit, young_items}
-use Rattle.clr_ctx.proofs.Swapping.{items_higher, items_lower}
-
--- the item ends within 64 bits
-abbrev pub EndsWithin : Item → Type 0
-EndsWithin i = i.place + i.size < 2 ^ 64
-
--- the free items among items that stand from a place on, and the first of them in which a size fits
-abbrev pub young_among : ℕ → List Item → List Piece
-young_among start items = filter (λ p. nat_le start p.place) (free_among items)
-
-abbrev pub first_found : ℕ → ℕ → List Item → Option Piece
-first_found start size items = find (λ p. fits size p.size) (young_among start items)
-
--- an item that a search passes over, and one at which it stops
-pub found_not : (start size : ℕ) (i : Item) (items : List Item)
-    → (is_free i ≡ true → nat_le start i.place ≡ true → fits size i.size ≡ true → ⊥)
-    → first_found start size (i ∷ items) ≡ first_found start size items
-found_not start size i items fails = go (is_free i) refl
-  where
-    last : (b : Bool) → fits size i.size ≡ b → is_free i ≡ true → nat_le start i.place ≡ true
-        → (if b then Some (item_piece i) else first_found start size items) ≡ first_found start size items
-    last true f e g = absurd (fails e g f)
-    last false f e g = refl
-
-    next : (b : Bool) → nat_le start i.place ≡ b → is_free i ≡ true
-        → find (λ (p : Piece). fits size p.size)
-        (if b then item_piece i ∷ young_among start items else young_among start items) ≡ first_found start size items
-    next true g e = last (fits size i.size) refl e g
-    next false g e = refl
-
-    go : (b : Bool) → is_free i ≡ b
-        → find (λ (p : Piece). fits size p.size)
-        (filter (λ (p : Piece). nat_le start p.place)
-        (map item_piece (if b then i ∷ filter is_free items else filter is_free items))) ≡ first_found start size items
-    go true e = next (nat_le start i.place) refl e
-    go false e = refl
-
-pub found_here : (start size : ℕ) (i : Item) (items : List Item) → is_free i ≡ true → nat_le start i.place ≡ true
-    → fits size i.size ≡ true → first_found start size (i ∷ items) ≡ Some (item_piece i)
-found_here start size i items e g f =
-    ap (λ (b : Bool). find (λ (p : Piece). fits size p.size)
-    (filter (λ (p : Piece). nat_le start p.place)
-    (map item_piece (if b then i ∷ filter is_free items else filter is_free items)))) e
-    ∙ ap (λ (b : Bool). find (λ (p : Piece). fits size p.size)
-    (if b then item_piece i ∷ young_among start items else young_among start items)) g
-    ∙ ap (λ (b : Bool). if b then Some (item_piece i) else first_found start size items) f
-
-pub walk_stops : (start size : ℕ) (i : Item) (left items : List Item) → left ≡ i ∷ items → i.type_id.0 ≡ 0
-    → start ≤ i.place → fits size i.size ≡ true → first_found start size left ≡ Some (item_piece i)
-walk_stops start size i left items is free old f =
-    ap (first_found start size) is
-    ∙ found_here start size i items (eq-eqb i.type_id.0 0 free) (le-leb start i.place old) f
+use Rattle.clr_view.proofs.Swapping.{items_higher, items_lower}
 
 -- ---- the ephemeral segment among all
 
@@ -98,11 +48,11 @@ module _ (rows : List TypeRow) (h : HeapView) (k : ℕ) (heap : IsHeap h) (held 
   abbrev In : Item → Type 0
   In i = stands_in (ephemeral (frame h)) i.place ≡ true
 
-  all_young : (items : List Item) → AllByRecursion In items → filter t (free_among items) ≡ young_among h.start0 items
+  all_young : (items : List Item) → AllByRecursion In items → filter t (free_among items) ≡ free_from h.start0 items
   all_young [] all = refl
   all_young (i ∷ items) all = go (is_free i) (all_young items all.1)
     where
-      go : (b : Bool) → filter t (free_among items) ≡ young_among h.start0 items
+      go : (b : Bool) → filter t (free_among items) ≡ free_from h.start0 items
           → filter t (map item_piece (if b then i ∷ filter is_free items else filter is_free items)) ≡ filter
           (λ p. nat_le h.start0 p.place) (map item_piece (if b then i ∷ filter is_free items else filter is_free items))
       go true rest =
@@ -142,7 +92,7 @@ module _ (rows : List TypeRow) (h : HeapView) (k : ℕ) (heap : IsHeap h) (held 
       (listing-are rows h held.walkable k segment.in_range)
 
   -- the young free items are those that a walk over the segment meets from the start of generation 0 on
-  pub young_walked : young_items (layout_in rows h) ≡ young_among h.start0 (listing rows h k)
+  pub young_walked : young_items (layout_in rows h) ≡ free_from h.start0 (listing rows h k)
   young_walked =
       let l = segment.in_range in
       let under = listings rows h 0 k in
@@ -158,17 +108,6 @@ module _ (rows : List TypeRow) (h : HeapView) (k : ℕ) (heap : IsHeap h) (held 
       ∙ append-nil (filter t (free_among here))
       ∙ all_young here here_in
 
-  pub first_is : (size : ℕ) → first_found h.start0 size (listing rows h k) ≡ first_fit (layout_in rows h) size
-  first_is size = ap (find (λ (p : Piece). fits size p.size)) (sym young_walked)
-
-  pub all_within : AllByRecursion EndsWithin (listing rows h k)
-  all_within =
-      let end = (lawful_at h k heap segment.in_range).high in
-      let top = below_top_at h k heap segment.in_range in
-      let small = heap.top_small in
-      all_imply (IsItem rows (first_of h k) (last_of h k)) EndsWithin (listing rows h k)
-      (λ i is. let below = is.below in omega arith) (listing-are rows h held.walkable k segment.in_range)
-
-  pub first_walk : (start size : ℕ) (walked : List Item) → walked ≡ listing rows h k → start ≡ h.start0
-      → first_found start size walked ≡ first_fit (layout_in rows h) size
-  first_walk start size walked is young = (λ e. first_found (young e) size (is e)) ∙ first_is size
+  pub first_is : (size : ℕ) → first_fitting size (free_from h.start0 (listing rows h k))
+      ≡ first_fit (layout_in rows h) size
+  first_is size = ap (first_fitting size) (sym young_walked)

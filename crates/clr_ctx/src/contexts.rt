@@ -12,11 +12,10 @@ ghost use Rattle.clr_view.specs.Memory.{IsMemoryOf};
 ghost use Rattle.clr_view.specs.View.{HasGivenUp, HasRefilled, IsHeld, layout_in};
 ghost use Rattle.clr_ctx.specs.Contexts.{first_fit, IsIndex, IsRelaid, refilled, share, tail_share, young_items};
 
-use crate::items::{first_in, fits_in, insert_item, take_front};
 use crate::ranges::{close, open_behind, open_in_item};
 use crate::rooms::{first_walked, fits_behind, share_of, tail_share_of};
-use crate::young::list_free;
 use clr_heap::Heap;
+use clr_items::{first_in, fits_in, insert_item, list_free, take_front};
 use clr_types::{Span, Types};
 use std::alloc::Global;
 use std::collections::VecDeque;

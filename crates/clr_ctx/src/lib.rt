@@ -4,9 +4,7 @@
 pub use crate::contexts::Contexts;
 
 mod contexts;
-mod items;
 mod ranges;
 mod rooms;
 #[cfg(test)]
 mod tests;
-mod young;

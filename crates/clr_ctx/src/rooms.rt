@@ -6,8 +6,8 @@ ghost use Rattle.clr_model.specs.Allocation.{want};
 ghost use Rattle.clr_view.specs.View.{IsHeld, layout_in};
 ghost use Rattle.clr_ctx.specs.Contexts.{first_fit, share, tail_share};
 
-use crate::items::fits_in;
 use clr_heap::Heap;
+use clr_items::{first_free, fits_in};
 use clr_types::{Span, Types};
 
 /// How many bytes a context has where they are there.
@@ -21,13 +21,7 @@ pub fn first_walked(heap: &Heap, types: &Types, size: u64) -> Option<Span>
 {
     let k = heap.ephemeral();
     let (_, start0) = heap.boundaries();
-    let _ = heap.info(k);
-    for found in heap.walk(types, k) {
-        if found.type_id.0 == 0 && found.place >= start0 && fits_in(size, found.size) {
-            return Some(Span::between(found.place, found.place + found.size));
-        }
-    }
-    None
+    first_free(heap, types, k, start0, size)
 }
 
 /// Whether a size fits behind the end of the ephemeral segment.

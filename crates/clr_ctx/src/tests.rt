@@ -5,8 +5,8 @@ ghost use Rattle.clr_view.specs.View.{IsHeld};
 ghost use Rattle.clr_ctx.specs.Contexts.{IsIndex};
 
 use crate::Contexts;
-use crate::items::{first_in, insert_item};
 use clr_heap::Heap;
+use clr_items::{first_in, insert_item};
 use clr_types::{Span, Types};
 use std::alloc::Global;
 use std::collections::VecDeque;

@@ -1,20 +1,17 @@
 -- What a birth leaves of objects, bounds and references, and the laws after it.
-use Rattle.std.proofs.Common.{◌≡◌, ◌≢◌, ◌⊎◌, inl, inr, ℕ, zero, suc, ◌+◌, ◌-◌, ◌/◌, ◌<◌, ◌≤◌, Bool, true, false}
-use Rattle.std.proofs.Common.{if◌then◌else◌, ◌&&◌, List, [], ◌∷◌, ◌++◌, filter, map, get_or, refl, ap, sym, ◌∙◌}
+use Rattle.std.proofs.Common.{◌≡◌, ◌⊎◌, inl, inr, ℕ, ◌+◌, ◌-◌, ◌/◌, ◌<◌, ◌≤◌, Bool, true, false}
+use Rattle.std.proofs.Common.{if◌then◌else◌, ◌&&◌, List, filter, get_or, refl, ap, sym, ◌∙◌}
 use Rattle.std.proofs.Common.{subst, arith, leb, ltb, ℤ, Option, None, Some}
-use Rattle.std.specs.Prelude.{slice_get}
 use Rattle.std.proofs.lemmas.Bool.{le-leb, le-ltb, leb-true, lt-ltb, ltb-true}
 use Rattle.std.proofs.lemmas.Option.{slice_get-get_or}
 use Rattle.clr_types.specs.Ranges.{Piece, piece_end}
-use Rattle.clr_types.specs.Rising.{first, IsIn, later}
+use Rattle.clr_types.specs.Rising.{IsIn}
 use Rattle.clr_types.specs.Segments.{empty_segment, ephemeral, flat_option, generation, Layout}
 use Rattle.clr_types.specs.Segments.{reserved_end, rest_of, stands_in}
-use Rattle.clr_types.specs.Types.{form_at, size_of, slot_kinds, TypeRow}
+use Rattle.clr_types.specs.Types.{form_at, size_of, TypeRow}
 use Rattle.clr_types.specs.declared.segment.SegInfo.{SegInfo}
-use Rattle.clr_types.proofs.ChangedLists.{append_left, out_of_filter, rising-distinct}
-use Rattle.clr_types.proofs.ListMembers.{append_right, distinct_of_sorted, in_append}
-use Rattle.clr_types.proofs.RisingLists.{all_at, in_cons}
-use Rattle.clr_types.proofs.SortedLists.{into_sorted_by, IsDistinctBy, out_of_sorted_by}
+use Rattle.clr_types.proofs.ChangedLists.{out_of_filter}
+use Rattle.clr_types.proofs.TailTaken.{size-lawful}
 use Rattle.clr_covers.specs.Covers.{CoverView, is_covered}
 use Rattle.clr_heap.specs.Parts.{item_at}
 use Rattle.clr_heap.specs.View.{frame, heap_items, HeapView, IsHeap, segment_at, sight, word_of}
@@ -24,50 +21,24 @@ use Rattle.clr_heap.proofs.Holes.{hole_among}
 use Rattle.clr_heap.proofs.Spelling.{Among-bounds}
 use Rattle.clr_model.specs.Allocation.{context_front, front_of, own_fits, rest_fits}
 use Rattle.clr_model.specs.Lookups.{object_size}
-use Rattle.clr_model.specs.Machine.{Object, ref}
-use Rattle.clr_model.specs.Updates.{empty_value}
+use Rattle.clr_model.specs.Machine.{Object}
 use Rattle.clr_view.specs.Among.{AreClosedAmong}
 use Rattle.clr_view.specs.View.{HasNewborn, IsHeld, is_object, newborn_at, object_in, objects_in}
 use Rattle.clr_view.proofs.Bearing.{born-stands}
-use Rattle.clr_view.proofs.Items.{stacked-apart}
-use Rattle.clr_view.proofs.Listed.{listed-sized}
-use Rattle.clr_view.proofs.Listings.{heap-rise, heap-stacked}
 use Rattle.clr_view.proofs.ObjectItems.{in_map, stands-item}
-use Rattle.clr_view.proofs.Rises.{objects-rise}
-use Rattle.clr_view.proofs.Standing.{high_up, standing}
+use Rattle.clr_view.proofs.Standing.{standing}
 use Rattle.clr_view.proofs.Tails.{found-young, kind-young}
 use Rattle.clr_bricks.specs.Bricks.{entry_at}
 use Rattle.clr_generations.specs.Born.{with_place}
 use Rattle.clr_generations.specs.Laws.{BrickLaw, CardLaw, IsBrickOf}
 use Rattle.clr_generations.specs.Tables.{AreBricksOf}
-use Rattle.clr_generations.proofs.BarrierLaw.{named-by-place}
+use Rattle.clr_generations.proofs.AddedObjects.{apart as apart-born, came, HasOneMore, stays, unnamed-birth}
 use Rattle.clr_generations.proofs.BirthLaws.{brick_law-born, IsYoungBirth}
+use Rattle.clr_generations.proofs.CardBirths.{card_law-born}
 use Rattle.clr_generations.proofs.Covered.{brick-covered}
 use Rattle.clr_generations.proofs.FoundItems.{in-at}
 use Rattle.clr_generations.proofs.KeptTables.{bounds-from}
-use Rattle.clr_generations.proofs.SameBounds.{generation-same, HasSameBounds, units-same}
-
--- ---- lists
-
--- the last of elements without equal keys is none of those before
-apart-last : {X : Type 0} (key : X → ℕ) (xs : List X) (x y : X) → IsDistinctBy key (xs ++ x ∷ []) → IsIn y xs
-    → key y ≢ key x
-apart-last key [] x y d i = elim i [ ]
-apart-last key (z ∷ xs) x y d first = all_at (λ w. key z ≢ key w) (append_right xs first) d.0
-apart-last key (z ∷ xs) x y d (later i) = apart-last key xs x y d.1 i
-
--- what is read in a list stands in it
-in-got : {X : Type 0} (xs : List X) (j : ℕ) (x : X) → slice_get xs j ≡ Some x → IsIn x xs
-in-got [] j x e = absurd cc
-in-got (y ∷ xs) zero x e = let same : y ≡ x = cc in subst (λ z. IsIn z (y ∷ xs)) same first
-in-got (y ∷ xs) (suc j) x e = later (in-got xs j x e)
-
--- a new slot names nothing
-names-nothing : (kinds : List Bool) (j n : ℕ) → slice_get (map empty_value kinds) j ≡ Some (ref n) → n ≡ 0
-names-nothing [] j n e = absurd cc
-names-nothing (true ∷ kinds) zero n e = cc
-names-nothing (false ∷ kinds) zero n e = absurd cc
-names-nothing (kind ∷ kinds) (suc j) n e = names-nothing kinds j n e
+use Rattle.clr_generations.proofs.SameBounds.{HasSameBounds, units-same}
 
 -- ---- generations
 
@@ -109,59 +80,21 @@ module _ (rows : List TypeRow) (old new : HeapView) (thread t n : ℕ) (f : IsBo
   abbrev place : ℕ
   place = context_front (frame old) thread
 
-  abbrev newborn : Object
-  newborn = newborn_at rows place t n
+  -- one object more
+  more : HasOneMore rows old new (context_front (frame old) thread) t n
+  more = record {
+    before = f.before;
+    after = f.after;
+    held = f.held;
+    now_held = f.born.held;
+    objects = f.born.objects;
+  }
 
-  abbrev name : Object → ℕ
-  name o = o.name
-
-  -- ---- objects
-
-  came : (o : Object) → IsIn o (objects_in rows new) → (o ≡ newborn) ⊎ IsIn o (objects_in rows old)
-  came o i =
-      elim (in_append (objects_in rows old)
-      (out_of_sorted_by name o (objects_in rows old ++ newborn ∷ []) (subst (IsIn o) f.born.objects i))) [
-        | inl was ↦ inr was
-        | inr last ↦ elim (in_cons last) [ inl new_one ↦ inl new_one | inr none ↦ elim none [ ] ]
-      ]
-
-  stays : (o : Object) → IsIn o (objects_in rows old) → IsIn o (objects_in rows new)
-  stays o i =
-      subst (IsIn o) (sym f.born.objects)
-      (into_sorted_by name o (objects_in rows old ++ newborn ∷ []) (append_left (newborn ∷ []) i))
-
-  -- the objects after the birth have names of their own
-  distinct : IsDistinctBy name (objects_in rows old ++ newborn ∷ [])
-  distinct =
-      distinct_of_sorted name (objects_in rows old ++ newborn ∷ [])
-      (subst (IsDistinctBy name) f.born.objects
-      (rising-distinct name (objects_in rows new)
-      (objects-rise rows (word_of new) (heap_items rows new) (heap-rise rows new f.born.held.walkable f.after))))
-
-  -- no object stood there
-  was-free : (o : Object) → IsIn o (objects_in rows old) → o.place ≢ place
-  was-free o i at =
-      apart-last name (objects_in rows old) newborn o distinct i
-      (named-by-place rows old f.before f.held o i ∙ at)
-
-  -- no cell of another object has the place
+  -- its cell is no other's
   apart : (o : Object) → IsIn o (objects_in rows old) → (o.place + object_size rows o ≤ place) ⊎ (place < o.place)
   apart o i =
-      let held = f.born.held in
-      let found = in_map (object_in rows (word_of new)) o (filter is_object (heap_items rows new)) (stays o i) in
-      let passed = out_of_filter is_object found.0 (heap_items rows new) found.1 in
-      let there = stands-item rows new f.after held place (born-stands rows old new thread t n f.born) in
-      let j = item_at rows (word_of new) place in
-      let here = ap (λ (p : Object). p.place) found.2 in
-      let at = there.at in
-      let size : found.0.size ≡ object_size rows o =
-      listed-sized rows new found.0 f.after held passed.1 ∙ ap (object_size rows) found.2 in
-      let least = (standing rows new f.after held j there.listed).least in
-      elim (stacked-apart (heap_items rows new) found.0 j (heap-stacked rows new held.walkable f.after) passed.1
-      there.listed (λ same. was-free o i (sym here ∙ same ∙ at))) [
-        | inl before ↦ inl (omega arith)
-        | inr after ↦ inr (omega arith)
-      ]
+      let least = (size-lawful (form_at rows t) n).0 in
+      elim (apart-born rows old new place t n more o i) [ inl before ↦ inl before | inr after ↦ inr (omega arith) ]
 
   -- ---- where it stands
 
@@ -273,8 +206,11 @@ module _ (rows : List TypeRow) (old new : HeapView) (thread t n : ℕ) (f : IsBo
       → IsYoungBirth rows (frame old) (frame new) (objects_in rows old) (objects_in rows new) place
   young-birth order = record {
     same = bounds;
-    came = λ o i. elim (came o i) [ inl new_one ↦ inl (ap (λ (p : Object). p.place) new_one) | inr was ↦ inr was ];
-    stays = stays;
+    came = λ o i. elim (came rows old new place t n more o i) [
+      | inl new_one ↦ inl (ap (λ (p : Object). p.place) new_one)
+      | inr was ↦ inr was
+    ];
+    stays = stays rows old new place t n more;
     there = born-stands rows old new thread t n f.born;
     young = at-youngest (frame old) place stands-young.inside (let low = stands-young.low in omega arith)
         stands-young.low;
@@ -310,55 +246,9 @@ module _ (rows : List TypeRow) (old new : HeapView) (thread t n : ℕ) (f : IsBo
       (brick_law-born rows (frame old) (frame new) (objects_in rows old) (objects_in rows new) place
       (young-birth order) (entry_at bricks) law)
 
-  -- no object is named 0
-  no-null : (o : Object) → IsIn o (objects_in rows new) → o.name ≡ 0 → ⊥
-  no-null o i null =
-      let found = in_map (object_in rows (word_of new)) o (filter is_object (heap_items rows new)) i in
-      let passed = out_of_filter is_object found.0 (heap_items rows new) found.1 in
-      let at = ap (λ (p : Object). p.name) found.2 in
-      let high = high_up rows new f.after f.born.held found.0 passed.1 in
-      omega arith
-
-  positive-place : 0 < place
-  positive-place =
-      let there = stands-item rows new f.after f.born.held place (born-stands rows old new thread t n f.born) in
-      let at = there.at in
-      let high = high_up rows new f.after f.born.held (item_at rows (word_of new) place) there.listed in
-      omega arith
-
   -- THE CARD LAW is kept, where what is named stands
   pub cards-born : AreClosedAmong rows (word_of old) (heap_items rows old) → (is_set : ℕ → Bool)
       → CardLaw rows (frame old) (objects_in rows old) is_set → CardLaw rows (frame new) (objects_in rows new) is_set
-  cards-born closed is_set law a y = elim (came y.object y.present) [
-    | inl new_one ↦
-        let names : y.target.name ≡ 0 =
-        names-nothing (slot_kinds (form_at rows t) n) y.slot y.target.name
-        (ap (λ (o : Object). slice_get o.slots y.slot) (sym new_one) ∙ y.named) in
-        absurd (no-null y.target y.target_present names)
-    | inr was ↦ elim (came y.target y.target_present) [
-      | inl target_new ↦
-          let at : y.target.name ≡ place = ap name target_new in
-          let stands = closed y.object.name place (record {
-            object = y.object;
-            present = was;
-            named = refl;
-            slot = in-got y.object.slots y.slot (ref place) (y.named ∙ ap (λ (k : ℕ). Some (ref k)) at);
-            not_null = positive-place;
-          }) in
-          absurd (was-free stands.0 stands.1 stands.2)
-      | inr target_was ↦
-          let low = generation-same (frame old) (frame new) bounds y.target.place in
-          let high = generation-same (frame old) (frame new) bounds y.object.place in
-          let younger = y.younger in
-          law a (record {
-            object = y.object;
-            present = was;
-            slot = y.slot;
-            target = y.target;
-            target_present = target_was;
-            named = y.named;
-            address = y.address;
-            younger = omega (arith, low, high, younger);
-          })
-    ]
-  ]
+  cards-born closed =
+      card_law-born rows (frame old) (frame new) (objects_in rows old) (objects_in rows new)
+      (newborn_at rows place t n) bounds (unnamed-birth rows old new place t n more closed)

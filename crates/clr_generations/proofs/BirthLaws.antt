@@ -20,7 +20,7 @@ use Rattle.clr_generations.proofs.SameBounds.{generation-same, HasSameBounds, ma
 -- ---- entries
 
 -- an entry that names no offset up to this one names a higher one, if any
-later-above : (offset : ℕ) (e : ℤ) (o : ℕ) → names_later offset e ≡ true → e ≡ root_entry o → offset < o
+pub later-above : (offset : ℕ) (e : ℤ) (o : ℕ) → names_later offset e ≡ true → e ≡ root_entry o → offset < o
 later-above offset (pos zero) o later is = let none : zero ≡ o + 1 = cc in absurd (omega arith)
 later-above offset (pos (suc other)) o later is =
     let same : suc other ≡ o + 1 = cc in
@@ -29,7 +29,7 @@ later-above offset (pos (suc other)) o later is =
 later-above offset (negsuc n) o later is = let clash : negsuc n ≡ pos (o + 1) = is in absurd cc
 
 -- and any other names one up to it
-later-not : (offset : ℕ) (e : ℤ) → names_later offset e ≡ false → (o : ℕ) × (e ≡ root_entry o) × (o ≤ offset)
+pub later-not : (offset : ℕ) (e : ℤ) → names_later offset e ≡ false → (o : ℕ) × (e ≡ root_entry o) × (o ≤ offset)
 later-not offset (pos zero) none = absurd cc
 later-not offset (pos (suc other)) low = elim (cases_lt offset other) [
   | inl above ↦ let yes_above = lt-ltb offset other above in absurd cc
@@ -48,7 +48,7 @@ to-lead true false e = absurd cc
 to-lead false b e = absurd cc
 
 -- a path of back entries is one wherever its entries are, but for the last brick
-path-agrees : (entry other : ℕ → ℤ) (low : ℕ) {brick to n : ℕ} → LeadsBack entry low brick to n
+pub path-agrees : (entry other : ℕ → ℤ) (low : ℕ) {brick to n : ℕ} → LeadsBack entry low brick to n
     → ((i : ℕ) → to < i → i ≤ brick → other i ≡ entry i) → (to ≤ brick) × LeadsBack other low brick to n
 path-agrees entry other low here same = (omega arith, here)
 path-agrees entry other low {brick = brick} {to = to} (back k e l path) same =

@@ -20,7 +20,7 @@ use Rattle.clr_generations.proofs.Homes.{brick-of, HaveHomes, old-may_lead, stan
 -- ---- back entries that are written
 
 -- entries lead back from one brick to another, however many
-abbrev Leads : (ℕ → ℤ) → ℕ → ℕ → Type 0
+abbrev pub Leads : (ℕ → ℤ) → ℕ → ℕ → Type 0
 Leads entry from to = (count : ℕ) × LeadsBack entry 0 from to count
 
 leads-on : {entry : ℕ → ℤ} {a b c n : ℕ} → LeadsBack entry 0 a b n → Leads entry b c → Leads entry a c
@@ -49,7 +49,7 @@ hop-bounds far some = elim (cases_lt far 32767) [
 ]
 
 -- from each of these bricks they lead to the brick below the first one
-hops : (entry : ℕ → ℤ) (next to fuel brick : ℕ) → 1 ≤ next → next ≤ brick + 1 → brick + 1 ≤ next + fuel → brick < to
+pub hops : (entry : ℕ → ℤ) (next to fuel brick : ℕ) → 1 ≤ next → next ≤ brick + 1 → brick + 1 ≤ next + fuel → brick < to
     → Leads (led_back entry next to) brick (next - 1)
 hops entry next to zero brick some low high under =
     let at : brick ≡ next - 1 = omega arith in
@@ -76,7 +76,7 @@ led-alike entry other next to b same under = elim (cases_lt b next) [
 ]
 
 -- what leads back is no root
-no_root : {A : Type 0} (back offset : ℕ) → back_entry back ≡ root_entry offset → A
+pub no_root : {A : Type 0} (back offset : ℕ) → back_entry back ≡ root_entry offset → A
 no_root back offset e = absurd cc
 
 -- ---- as far as the walk has come

@@ -68,14 +68,14 @@ brick-covered h bricks now k brick heap inside has same of =
 
 module _ (rows : List TypeRow) (h : HeapView) (heap : IsHeap h) (held : IsHeld rows h) where
   -- the item that an object of the heap is
-  record IsOf (o : Object) : Type 0 where
-    item : Item
-    listed : IsIn item (heap_items rows h)
-    place : item.place ≡ o.place
-    size : item.size ≡ object_size rows o
-    at : Standing rows h item
+  pub record IsOf (o : Object) : Type 0 where
+    pub item : Item
+    pub listed : IsIn item (heap_items rows h)
+    pub place : item.place ≡ o.place
+    pub size : item.size ≡ object_size rows o
+    pub at : Standing rows h item
 
-  item-of : (o : Object) → IsIn o (objects_in rows h) → IsOf o
+  pub item-of : (o : Object) → IsIn o (objects_in rows h) → IsOf o
   item-of o l =
       let found = in_map (object_in rows (word_of h)) o (filter is_object (heap_items rows h)) l in
       let listed = (out_of_filter is_object found.0 (heap_items rows h) found.1).1 in

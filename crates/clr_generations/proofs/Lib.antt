@@ -5,8 +5,12 @@ pub mod KeptTables
 pub mod Covered
 pub mod BarrierLaw
 pub mod FoundItems
+pub mod AddedObjects
+pub mod CardBirths
 pub mod BirthLaws
 pub mod BirthFacts
+pub mod OldBirthLaws
+pub mod OldBirthFacts
 pub mod CoveredSegments
 pub mod OpeningTables
 pub mod Entered
@@ -19,3 +23,6 @@ pub mod AgedBricks
 pub mod Collected
 pub mod HeapHomes
 pub mod Homes
+pub mod NewCovers
+pub mod KeptItems
+pub mod NewSegments

@@ -19,3 +19,9 @@ is_to_lead layout entry place =
 abbrev pub with_place : Layout → (ℕ → ℤ) → ℕ → ℕ → ℤ
 with_place layout entry place brick =
     if (brick == place / 4096) && is_to_lead layout entry place then root_entry (place % 4096) else entry brick
+
+-- the entries where the brick of a place names it, which named no place up to it
+abbrev pub with_named : (ℕ → ℤ) → ℕ → ℕ → ℤ
+with_named entry place brick =
+    if (brick == place / 4096) && names_later (place % 4096) (entry (place / 4096)) then root_entry (place % 4096)
+    else entry brick

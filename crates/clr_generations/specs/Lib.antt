@@ -4,3 +4,5 @@ pub mod Barrier
 pub mod Born
 pub mod Finding
 pub mod Renewing
+pub mod OldBirths
+pub mod Acquiring

@@ -11,7 +11,7 @@ ghost use Rattle.clr_view.specs.View.{AreFreeHeads, HasNewborn, IsHeld, objects_
 ghost use Rattle.clr_view.specs.Births.{with_newborn};
 ghost use Rattle.clr_view.specs.Clean.{AreClean};
 ghost use Rattle.clr_view.specs.Marks.{IsUnmarked};
-ghost use Rattle.clr_generations.specs.Born.{names_later, with_place};
+ghost use Rattle.clr_generations.specs.Born.{names_later, with_named, with_place};
 ghost use Rattle.clr_generations.specs.Laws.{BrickLaw, CardLaw};
 ghost use Rattle.clr_generations.specs.Tables.{AreBricksOf};
 
@@ -69,11 +69,20 @@ fn enter_newborn(heap: &Heap, bricks: &mut Bricks, place: u64)
     ensures entries { (i : ℕ) → entry_at bricks.new i ≡ with_place (frame heap.now) (entry_at bricks.old) place i }
     ensures spans { spans bricks.new ≡ spans bricks.old }
 {
-    let brick = place / 4096;
     let (_, start0) = heap.boundaries();
-    if start0 > 4096 * brick {
-        return;
+    if start0 <= 4096 * (place / 4096) {
+        name_newborn(bricks, place);
     }
+}
+
+// Lets the brick of a new object's place name it, where it names no place up to it.
+#[inline]
+pub(crate) fn name_newborn(bricks: &mut Bricks, place: u64)
+    requires { is_covered bricks.old (place / 4096) ≡ true }
+    ensures entries { (i : ℕ) → entry_at bricks.new i ≡ with_named (entry_at bricks.old) place i }
+    ensures spans { spans bricks.new ≡ spans bricks.old }
+{
+    let brick = place / 4096;
     let offset = (place % 4096) as u16;
     if is_later(bricks.entry(brick), offset) {
         bricks.set_root(brick, offset);

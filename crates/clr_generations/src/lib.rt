@@ -4,16 +4,20 @@
 //! begin. The write barrier, births and what is done before a sweep see to both.
 #![tactic(auto)]
 
+mod acquiring;
 mod all_bricks;
 mod barrier;
 mod births;
 mod covering;
 mod finding;
+mod old_births;
 mod renewing;
 
+pub use crate::acquiring::acquire;
 pub use crate::all_bricks::renew_all_bricks;
 pub use crate::barrier::set_reference;
 pub use crate::births::bear;
 pub use crate::covering::cover_segments;
 pub use crate::finding::object_at;
+pub use crate::old_births::enter_old_newborn;
 pub use crate::renewing::{renew_aged_bricks, renew_bricks};

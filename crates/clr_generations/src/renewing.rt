@@ -260,7 +260,7 @@ fn name_first(bricks: &mut Bricks, first: Option<u64>, brick: u64, next: u64) ->
 }
 
 // Lets the bricks of [next, to) lead back to the one below `next`.
-fn lead_back(bricks: &mut Bricks, next: u64, to: u64)
+pub(crate) fn lead_back(bricks: &mut Bricks, next: u64, to: u64)
     requires order { next ≤ to }
     requires covered { (i : ℕ) → next ≤ i → i < to → is_covered bricks.old i ≡ true }
     ensures entries { (i : ℕ) → entry_at bricks.new i ≡ led_back (entry_at bricks.old) next to i }

@@ -153,6 +153,24 @@ hole_from-some (Some s ∷ hs) (suc j) q r none here = elim (cases_eq s.place q)
 abbrev pub free_parts : ℕ → ℕ → List Part
 free_parts low high = if low == high then [] else item_part (free_item low (high - low)) ∷ []
 
+-- where its head is written, its words spell it
+pub left_spelled : (rows : List TypeRow) (h : HeapView) (k low high : ℕ) → (low ≡ high) ⊎ (low + 24 ≤ high)
+    → low % 8 ≡ 0 → high % 8 ≡ 0 → high ≤ low + 1073741824 → (low + 24 ≤ high → hole_from (holes_of h k) low ≡ None)
+    → (low + 24 ≤ high → (word_of h low ≡ mt_of 0) × (word_of h (low + 8) ≡ high - low - 24))
+    → Spells (sight rows h k) low (free_parts low high) high
+left_spelled rows h k low high cut start aligned most clear head = elim (cases_eq low high) [
+  | inl same ↦ let hit = eq-eqb low high same in rw hit same
+  | inr apart ↦
+      let miss = ne_eqb low high apart in
+      let more : low + 24 ≤ high = elim cut [ inl l ↦ absurd (apart l) | inr l ↦ l ] in
+      let written = head more in
+      let item = free_spelled rows h k low (high - low) written.0 written.1 (clear more) (omega arith) (omega arith)
+      (omega arith) in
+      let end : low + (high - low) ≡ high = omega arith in
+      let P : ℕ → Type 0 = λ q. Spells (sight rows h k) low (item_part (free_item low (high - low)) ∷ []) q in
+      rw miss (subst P end item)
+]
+
 -- ---- one thread's rest and the words of its range change
 
 module _ (rows : List TypeRow) (h : HeapView) (k i : ℕ) (ms : List Memory) (walk : IsWalkable rows h k)
@@ -217,7 +235,9 @@ module _ (rows : List TypeRow) (h : HeapView) (k i : ℕ) (ms : List Memory) (wa
         ∙ hole_from-set_here h.rests i r thread alone ∙ ap (λ (q : ℕ). Some q) end in
         let up : mid ≤ high = elim cut [ inl l ↦ omega arith | inr l ↦ omega arith ] in
         let tail : Spells (sight rows new k) mid (free_parts mid high) high =
-        left mid r refl least start cut most clear head in
+        left_spelled rows new k mid high cut start aligned (omega arith)
+        (λ more. ap (λ (hs : List (Option Piece)). hole_from hs mid) (seen (Some r))
+        ∙ hole_from-set_none h.rests i (Some r) mid (clear more) (λ same. omega arith)) head in
         run_swapped rows h new k low high below above (rest_part low mid ∷ free_parts mid high) walk under over aligned
         (record {
           shapes = shape;
@@ -226,24 +246,3 @@ module _ (rows : List TypeRow) (h : HeapView) (k i : ℕ) (ms : List Memory) (wa
           holes = λ q out. hole_apart (Some r) q (none_old q)
               (λ at. elim out [ inl l ↦ omega arith | inr l ↦ omega arith ]);
         }) (refl, hole, least, start, tail)
-      where
-        left : (mid : ℕ) (r : Piece) → r.place ≡ low → low + 24 ≤ mid → mid % 8 ≡ 0 → (mid ≡ high) ⊎ (mid + 24 ≤ high)
-            → high ≤ low + 1073741824 → (mid + 24 ≤ high → hole_from (set h.rests i None) mid ≡ None)
-            → (mid + 24 ≤ high → (word_in ms mid ≡ mt_of 0) × (word_in ms (mid + 8) ≡ high - mid - 24))
-            → Spells (sight rows (with_rest (Some r)) k) mid (free_parts mid high) high
-        left mid r at least start cut most clear head = elim (cases_eq mid high) [
-          | inl same ↦ let hit = eq-eqb mid high same in rw hit same
-          | inr apart ↦
-              let miss = ne_eqb mid high apart in
-              let more : mid + 24 ≤ high = elim cut [ inl l ↦ absurd (apart l) | inr l ↦ l ] in
-              let none : hole_from (holes_of (with_rest (Some r)) k) mid ≡ None =
-              ap (λ (hs : List (Option Piece)). hole_from hs mid) (seen (Some r))
-              ∙ hole_from-set_none h.rests i (Some r) mid (clear more) (λ same. omega arith) in
-              let written = head more in
-              let item = free_spelled rows (with_rest (Some r)) k mid (high - mid) written.0 written.1 none
-              (omega arith) (omega arith) (omega arith) in
-              let end : mid + (high - mid) ≡ high = omega arith in
-              let P : ℕ → Type 0 =
-              λ q. Spells (sight rows (with_rest (Some r)) k) mid (item_part (free_item mid (high - mid)) ∷ []) q in
-              rw miss (subst P end item)
-        ]

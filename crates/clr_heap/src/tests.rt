@@ -218,7 +218,6 @@ fn acquire_more(
     requires no_contexts { heap.old.rests ≡ no_rests }
     ensures { heap.new.rests ≡ no_rests }
 {
-    assert!(rt; heap.top() < 0x2000_0000_0000_0000);
     let k = heap.acquire(kind, 262_144)?;
     assert!(rt; k < heap.segments());
     Ok((k, heap.info(k).base))

@@ -50,4 +50,4 @@ seals = true
 
 -- there are large segments to allocate in; without that such a size is too big
 abbrev pub has_large_heap : Bool
-has_large_heap = false
+has_large_heap = true

@@ -1,6 +1,6 @@
 // Types that are defined or refused, contexts that are used up, and want of room.
 
-ghost use Rattle.std.specs.Prelude.{◌≡◌, true};
+ghost use Rattle.std.specs.Prelude.{◌≡◌, ◌≤◌, true};
 ghost use Rattle.clr_model.specs.LineGrammar.{is_name};
 
 mod collections;
@@ -33,8 +33,16 @@ fn expect_births(
 
 // A runtime of two segments, with a class of a reference and a number, arrays of references, and arrays of bytes.
 fn small_runtime(alloc: Global) -> Result<Runtime, Fail> {
+    runtime_of_segments(alloc, 2)
+}
+
+// The same with room for so many segments.
+fn runtime_of_segments(alloc: Global, count: u64) -> Result<Runtime, Fail>
+    requires least { 2 ≤ count }
+    requires most { count ≤ 4096 }
+{
     let options = Options {
-        limit: 524_288,
+        limit: 262_144 * count,
         segment: 262_144,
         b0: 262_144,
         b1: 1_048_576,
@@ -113,5 +121,63 @@ fn a_full_compaction_makes_room(rt: HostRuntime) -> Result<(), Fail> {
     expect_births(&rt, &mut runtime, &births);
     assert_eq!(rt; runtime.copy(1, 1, 0), Ok(0x1000_1000));
     assert_eq!(rt; runtime.copy(2, 1, 0), Ok(0x1001_5c00));
+    Ok(())
+}
+
+#[test]
+fn a_full_segment_is_sealed(rt: HostRuntime) -> Result<(), Fail> {
+    let mut runtime = runtime_of_segments(rt.alloc(), 3)?;
+    let births = [
+        // four arrays that stay fill the segment, but for 4,096 bytes in front, and the limit allows one more
+        (1, b"Bytes".as_slice(), Some(64_488), Ok(0x1000_1000)),
+        (2, b"Bytes".as_slice(), Some(64_488), Ok(0x1001_0c00)),
+        (3, b"Bytes".as_slice(), Some(64_488), Ok(0x1002_0800)),
+        (4, b"Bytes".as_slice(), Some(64_488), Ok(0x1003_0400)),
+        (5, b"Bytes".as_slice(), Some(64_488), Ok(0x1008_1000)),
+        (6, b"Bytes".as_slice(), Some(64_488), Ok(0x1009_0c00)),
+        (7, b"Bytes".as_slice(), Some(64_488), Ok(0x100a_0800)),
+        (8, b"Bytes".as_slice(), Some(64_488), Ok(0x100b_0400)),
+        (9, b"Bytes".as_slice(), Some(64_488), Err(Refusal::Oom)),
+    ];
+    expect_births(&rt, &mut runtime, &births);
+    assert_eq!(rt; runtime.copy(4, 1, 0), Ok(0x1003_0400));
+    Ok(())
+}
+
+#[test]
+fn large_objects_get_segments_of_their_own(rt: HostRuntime) -> Result<(), Fail> {
+    let mut runtime = runtime_of_segments(rt.alloc(), 3)?;
+    let births = [
+        // three arrays of some 85,000 bytes leave 3,040 bytes of a large segment, and one of 84,992 bytes is small
+        (1, b"Bytes".as_slice(), Some(84_976), Ok(0x1004_1000)),
+        (2, b"Bytes".as_slice(), Some(84_984), Ok(0x1005_5c08)),
+        (3, b"Refs".as_slice(), Some(10_622), Ok(0x1006_a818)),
+        (4, b"Bytes".as_slice(), Some(84_976), Ok(0x1008_1000)),
+        (5, b"Bytes".as_slice(), Some(84_968), Ok(0x1000_1000)),
+        (6, b"Bytes".as_slice(), Some(84_976), Ok(0x1009_5c08)),
+        (7, b"Bytes".as_slice(), Some(84_976), Ok(0x100a_a810)),
+        (8, b"Bytes".as_slice(), Some(84_976), Err(Refusal::Oom)),
+        (
+            8,
+            b"Bytes".as_slice(),
+            Some(1_073_741_800),
+            Err(Refusal::Oom),
+        ),
+        (
+            8,
+            b"Bytes".as_slice(),
+            Some(1_073_741_801),
+            Err(Refusal::TooBig),
+        ),
+    ];
+    expect_births(&rt, &mut runtime, &births);
+    assert_eq!(rt; runtime.clear(2, 0), Ok(()));
+    assert_eq!(rt; runtime.clear(4, 0), Ok(()));
+    let again = [
+        // the lowest place comes first, but no free item of which 8 bytes would be left
+        (8, b"Bytes".as_slice(), Some(84_976), Ok(0x1008_1000)),
+        (9, b"Bytes".as_slice(), Some(84_984), Ok(0x1005_5c08)),
+    ];
+    expect_births(&rt, &mut runtime, &again);
     Ok(())
 }

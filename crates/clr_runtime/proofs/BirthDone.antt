@@ -1,7 +1,5 @@
 -- What a line that makes an object leaves, on what a runtime shows once room was made.
-use Rattle.std.proofs.Common.{◌≡◌, ◌∙◌, ℕ, ◌+◌, true, List, sym, ap, subst, Option, Some, None}
-use Rattle.std.proofs.Common.{unwrap_or, slice_set}
-use Rattle.clr_types.specs.Ranges.{Piece}
+use Rattle.std.proofs.Common.{◌≡◌, ◌∙◌, ℕ, ◌+◌, true, List, sym, ap, subst, Option, unwrap_or, slice_set}
 use Rattle.clr_types.specs.Types.{TypeRow}
 use Rattle.clr_types.proofs.ChangedLists.{length-slice_set}
 use Rattle.clr_heap.specs.View.{frame, HeapView}
@@ -10,7 +8,6 @@ use Rattle.clr_view.specs.Marks.{IsUnmarked}
 use Rattle.clr_view.specs.Shown.{shown}
 use Rattle.clr_view.specs.View.{AreFreeHeads, HasNewborn}
 use Rattle.clr_view.specs.World.{World}
-use Rattle.clr_ctx.specs.Contexts.{IsIndex, young_items}
 use Rattle.clr_model.specs.declared.Reply.TheVariants.{Place}
 use Rattle.clr_model.specs.Allocation.{context_front, own_fits, roomed}
 use Rattle.clr_model.specs.Instructions.{new_object}
@@ -30,12 +27,6 @@ use Rattle.clr_runtime.specs.RuntimeView.{IsShown}
 -- the sums with so many bytes more
 abbrev pub spent_more : Sums → ℕ → Sums
 spent_more sums size = record sums { spent0 = sums.spent0 + size }
-
--- a birth leaves the free items, and with them their index
-pub born_index : (rows : List TypeRow) (mid new : HeapView) (t type n : ℕ) (index : Option (List Piece))
-    → HasNewborn rows mid new t type n → IsIndex rows mid index → IsIndex rows new index
-born_index rows mid new t type n None newborn is = is
-born_index rows mid new t type n (Some ps) newborn is = is ∙ sym (ap young_items newborn.layout)
 
 -- An object of this type that was asked for, for which room was made at the front of its thread's context.
 pub record HasItsRoom (old new : Machine) (t local : ℕ) (name : List ℕ) (len : Option ℕ) (type size : ℕ) : Type 0 where

@@ -1,9 +1,10 @@
 -- The line that makes an object, on what is seen: its checks.
-use Rattle.std.proofs.Common.{◌≡◌, ℕ, ◌<◌, ◌≤◌, inr, Bool, true, false, List, length, refl, sym, ap}
+use Rattle.std.proofs.Common.{◌≡◌, ◌∙◌, ℕ, ◌<◌, ◌≤◌, nat_lt, inl, Bool, true, false, List, length, refl, sym, ap}
 use Rattle.std.proofs.Common.{subst, arith, Option, Some, None, unwrap_or, if◌then◌else◌, is_some, is_none}
 use Rattle.std.specs.Prelude.{Err}
-use Rattle.std.proofs.lemmas.Bool.{both_ways}
-use Rattle.clr_types.specs.Types.{TypeRow, form_at, has_finalizer, is_array, size_of, type_row}
+use Rattle.std.proofs.lemmas.Bool.{both_ways, ltb-false, ltb-true}
+use Rattle.clr_types.specs.Ranges.{IsLawfulSize}
+use Rattle.clr_types.specs.Types.{TypeRow, form_at, has_finalizer, is_array, type_row}
 use Rattle.clr_types.proofs.TailTaken.{size-lawful}
 use Rattle.clr_heap.specs.Parts.{IsMakeable}
 use Rattle.clr_view.specs.Shown.{shown}
@@ -16,12 +17,14 @@ use Rattle.clr_model.specs.declared.Refusal.TheVariants.{BadShape, NoSlot, TooBi
 use Rattle.clr_model.specs.Instructions.{new_object}
 use Rattle.clr_model.specs.Machine.{Machine, Options, Sums}
 use Rattle.clr_model.specs.Outcomes.{refused}
+use Rattle.clr_model.specs.LargeFollows.{FollowsLargeFails}
 use Rattle.clr_model.specs.RoomFollows.{FollowsRoom}
 use Rattle.clr_model.specs.Run.{Follows}
 use Rattle.clr_model.specs.Step.{Fails}
-use Rattle.clr_model.proofs.BirthFollows.{new_follows_local, new_follows_memory, new_follows_shape, new_follows_size}
-use Rattle.clr_model.proofs.BirthFollows.{new_follows_type}
-use Rattle.clr_model.proofs.BirthLine.{MayBear}
+use Rattle.clr_model.proofs.BirthFollows.{new_follows_large_memory, new_follows_local, new_follows_memory}
+use Rattle.clr_model.proofs.BirthFollows.{new_follows_shape, new_follows_size, new_follows_type}
+use Rattle.clr_model.proofs.BirthLine.{MayBear, MayBearLarge}
+use Rattle.clr_model.proofs.LargeFollows.{new_follows_large_fails}
 use Rattle.clr_model.proofs.LineChecks.{MayRun}
 use Rattle.clr_model.proofs.RoomFollows.{new_follows_fails}
 use Rattle.clr_runtime.specs.Births.{IsMeasured, Measured}
@@ -29,9 +32,16 @@ use Rattle.clr_runtime.specs.Checks.{thread_refusal}
 use Rattle.clr_runtime.specs.Outcomes.{refusal_of_acquire}
 use Rattle.clr_runtime.specs.Rooms.{attempt_of}
 use Rattle.clr_runtime.specs.RuntimeView.{IsShown}
+use Rattle.clr_runtime.specs.declared.births.Request.{Request}
 use Rattle.clr_runtime.proofs.NamesChecked.{may_run}
 use Rattle.clr_runtime.proofs.RuntimeKept.{room_follows}
 use Rattle.clr_runtime.proofs.TypeNumbers.{number_from-bounds}
+
+-- how a fault is told is how the attempt fails
+fails-so : (fault : AcquireFault) (r : Refusal) → r ≡ refusal_of_acquire fault
+    → Fails (attempt_of (Err fault)) (refused r)
+fails-so OverLimit r same = ap refused same
+fails-so NoMemory r same = ap refused same
 
 -- a class has no length
 no-length : (array : Bool) (given : Option ℕ) → (if array then is_some given else is_none given) ≡ true
@@ -42,31 +52,38 @@ no-length false (Some n) suited class = absurd (both_ways false refl suited)
 
 -- ---- an object that may be made
 
-module _ (rows : List TypeRow) (local : ℕ) (name : List ℕ) (len : Option ℕ) (type size : ℕ)
-    (is : IsMeasured rows local name len type size) where
+module _ (rows : List TypeRow) (local : ℕ) (name : List ℕ) (len : Option ℕ) (request : Request)
+    (is : IsMeasured rows local name len request) where
   -- the type is one of the table's, and not that of unused space
-  pub known : (0 < type) × (type ≤ length rows)
+  pub known : (0 < request.type_id.0) × (request.type_id.0 ≤ length rows)
   known =
-      let b = number_from-bounds 1 rows name type is.suited.known in
+      let b = number_from-bounds 1 rows name request.type_id.0 is.suited.known in
       let low = b.0 in
       let high = b.1 in
       (omega arith, omega arith)
 
   -- an object of this type and length may stand in the heap
-  pub makeable : IsMakeable rows type (unwrap_or len 0)
+  pub makeable : IsMakeable rows request.type_id.0 request.len
   makeable =
+      let type = request.type_id.0 in
       let lawful = size-lawful (form_at rows type) (unwrap_or len 0) in
-      let small = is.small in
-      let same = is.is in
+      let most = is.most in
+      let same = is.size_is in
       let (low, high) = known in
-      record {
+      subst (IsMakeable rows type) (sym is.len_is)
+      (record {
         known = high;
         no_length = no-length (is_array (form_at rows type)) len is.suited.suited;
         least = lawful.0;
         most = omega arith;
         whole = lawful.1;
         free = λ none. absurd (omega arith);
-      }
+      })
+
+  -- it has the bytes of one, in whole words
+  pub size_lawful : IsLawfulSize request.size
+  size_lawful =
+      subst IsLawfulSize (sym is.size_is) (size-lawful (form_at rows request.type_id.0) (unwrap_or len 0))
 
 -- ---- the checks
 
@@ -89,38 +106,70 @@ module _ {w : World} {sums : Sums} {options : Options} (is : IsShown w sums opti
     measured_follows BadShape (type, known, unsuited) = new_follows_shape s t local name len type run known unsuited
     measured_follows NoSlot (type, is, high) = new_follows_local s t local name len type run is.known is.suited high
     measured_follows TooBig (type, is, low, big) =
-        new_follows_size s t local name len type run is.known is.suited low
-        (inr (refl, subst (λ b. b ≤ size_of (form_at rows type) (unwrap_or len 0)) (sym large) big))
+        new_follows_size s t local name len type run is.known is.suited low (inl big)
     measured_follows _ none = absurd none
 
-    module _ (type size : ℕ) (measured : IsMeasured rows local name len type size) where
-      -- no check fails
-      pub may_bear : MayBear s t local name len type
-      may_bear = record {
+    module _ (request : Request) (measured : IsMeasured rows local name len request) where
+      -- no check fails, and the object is small
+      pub may_bear : request.size < 85000 → MayBear s t local name len request.type_id.0
+      may_bear small = record {
         run = run;
         known = measured.suited.known;
         shape = measured.suited.suited;
         local = measured.local;
-        small = let same = measured.is in let small = measured.small in omega (arith, large, same, small);
+        small = let same = measured.size_is in omega (arith, large, same, small);
+      }
+
+      -- or it is large
+      pub may_bear_large : 85000 ≤ request.size → MayBearLarge s t local name len request.type_id.0
+      may_bear_large least = record {
+        run = run;
+        known = measured.suited.known;
+        shape = measured.suited.suited;
+        local = measured.local;
+        is_large = let same = measured.size_is in omega (arith, large, same, least);
+        most = let same = measured.size_is in let most = measured.most in omega (arith, same, most);
       }
 
       -- there is no memory for the finalisation entry that the type wants
+      lacks-entry : has_finalizer (type_row rows request.type_id.0) ≡ true
+          → Follows s (new_object t local name len) (refused refusal.NoMemory) s
+      lacks-entry final = go (nat_lt request.size 85000) refl
+        where
+          go : (b : Bool) → nat_lt request.size 85000 ≡ b
+              → Follows s (new_object t local name len) (refused refusal.NoMemory) s
+          go true e =
+              new_follows_memory s t local name len request.type_id.0 (may_bear (ltb-true request.size 85000 e)) final
+          go false e =
+              new_follows_large_memory s t local name len request.type_id.0 refl
+              (may_bear_large (ltb-false request.size 85000 e)) final
+
+      -- the same where room was made in the queue
       pub lacks_follows : (entries ready : List ℕ) → entries ≡ w.entries → ready ≡ w.ready
-          → has_finalizer (type_row rows type) ≡ true
+          → request.finalizer ≡ true
           → Follows s (new_object t local name len) (refused refusal.NoMemory)
           (shown (record w { entries = entries; ready = ready }) sums options)
       lacks_follows entries ready kept waiting final =
           room_follows is entries ready kept waiting (new_object t local name len) (refused refusal.NoMemory)
-          (new_follows_memory s t local name len type may_bear final)
+          (lacks-entry (sym measured.entry ∙ final))
 
       -- no room was made, and what was done for it stays
-      pub fails_follows : (new : Machine) (fault : AcquireFault) (r : Refusal) → r ≡ refusal_of_acquire fault
-          → FollowsRoom (shown w sums options) t size (attempt_of (Err fault)) new
+      pub fails_follows : request.size < 85000 → (new : Machine) (fault : AcquireFault) (r : Refusal)
+          → r ≡ refusal_of_acquire fault
+          → FollowsRoom (shown w sums options) t request.size (attempt_of (Err fault)) new
           → Follows (shown w sums options) (new_object t local name len) (refused r) new
-      fails_follows new fault r told room =
-          new_follows_fails s t local name len type may_bear new (attempt_of (Err fault)) (refused r)
-          (subst (λ b. FollowsRoom s t b (attempt_of (Err fault)) new) measured.is room) (fails fault told)
-        where
-          fails : (fault : AcquireFault) → r ≡ refusal_of_acquire fault → Fails (attempt_of (Err fault)) (refused r)
-          fails OverLimit same = ap refused same
-          fails NoMemory same = ap refused same
+      fails_follows small new fault r told room =
+          new_follows_fails s t local name len request.type_id.0 (may_bear small) new (attempt_of (Err fault))
+          (refused r) (subst (λ b. FollowsRoom s t b (attempt_of (Err fault)) new) measured.size_is room)
+          (fails-so fault r told)
+
+      -- the same for a large object
+      pub large_fails_follows : 85000 ≤ request.size → (new : Machine) (fault : AcquireFault) (r : Refusal)
+          → r ≡ refusal_of_acquire fault
+          → FollowsLargeFails (shown w sums options) request.size (attempt_of (Err fault)) new
+          → Follows (shown w sums options) (new_object t local name len) (refused r) new
+      large_fails_follows least new fault r told failed =
+          new_follows_large_fails refl s t local name len request.type_id.0 (may_bear_large least) new
+          (attempt_of (Err fault)) (refused r)
+          (subst (λ b. FollowsLargeFails s b (attempt_of (Err fault)) new) measured.size_is failed)
+          (fails-so fault r told)

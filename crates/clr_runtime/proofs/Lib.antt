@@ -13,8 +13,11 @@ pub mod TypeNumbers
 pub mod RefillKept
 pub mod SealedParts
 pub mod RoomMade
+pub mod AcquiredParts
+pub mod LargeRoomMade
 pub mod BirthLines
 pub mod BirthDone
+pub mod LargeBirthDone
 pub mod HandleLines
 pub mod FinalizerLines
 pub mod TablesKept

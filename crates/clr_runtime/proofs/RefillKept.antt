@@ -18,9 +18,12 @@ use Rattle.clr_model.specs.Lookups.{is_step, is_thread, lowest_in_step, step_of,
 use Rattle.clr_model.specs.Machine.{Machine, no_step, Options, Sums, ThreadStep}
 use Rattle.clr_model.proofs.CollectedPresent.{all_idle}
 use Rattle.clr_model.proofs.ContextRefilled.{refill_lawful}
+use Rattle.clr_large.specs.Places.{large_items}
+use Rattle.clr_large.proofs.LargeKept.{large_refilled}
 use Rattle.clr_runtime.specs.Rooms.{HasNewContext, IsRefill, IsRefillInBudget}
 use Rattle.clr_runtime.specs.RuntimeView.{IsRuntime, IsShown, seen}
 use Rattle.clr_runtime.specs.declared.parts.Parts.{Parts}
+use Rattle.clr_runtime.proofs.IndexKept.{index_kept}
 
 -- the numbers from 1 to 16 are threads
 pub thread-known : (t : ℕ) → 0 < t → t ≤ 16 → is_thread t ≡ true
@@ -94,6 +97,8 @@ module _ (p : Parts) (is : IsRuntime p) (heap : IsHeap p.heap) (t size : ℕ) (l
       shown = refill_kept is.shown t size low high sized mid refilled heap;
       tables = tables-refilled p.cards p.bricks p.types p.heap mid t size refilled is.tables;
       index = listed;
+      large = index_kept large_items p.types p.types p.heap mid p.large
+          (large_refilled (seen p) is.shown.sound.lawful t size (layout_in p.types mid) refilled.layout) is.large;
       limit = refilled.limit ∙ is.limit;
       pins = is.pins;
       room = is.room;

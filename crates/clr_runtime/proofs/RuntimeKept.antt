@@ -1,5 +1,5 @@
 -- What holds of the parts of a runtime, and what of them after a line.
-use Rattle.std.proofs.Common.{◌≡◌, ◌∙◌, ℕ, ◌+◌, ◌<◌, ◌^◌, List, length, slice_set, subst, sym, arith}
+use Rattle.std.proofs.Common.{◌≡◌, ◌∙◌, ℕ, ◌+◌, ◌<◌, ◌≤◌, ◌^◌, List, length, slice_set, subst, sym, arith}
 use Rattle.std.specs.FinMap.{FinMap}
 use Rattle.std.specs.Ordering.{nat_cmp}
 use Rattle.clr_types.specs.declared.handle.Handle.{Handle}
@@ -30,6 +30,13 @@ module _ {w : World} {sums : Sums} {options : Options} (is : IsShown w sums opti
       let within = (sums_bounded s is.sound.lawful).spent0 in
       let limit = is.sound.lawful.options.limit_greatest in
       omega (arith, within, limit, small)
+
+  -- so do those of large objects
+  pub spent_large_fits : (size : ℕ) → size ≤ 1073741824 → sums.spent_large + size < 2 ^ 64
+  spent_large_fits size most =
+      let within = (sums_bounded s is.sound.lawful).spent_large in
+      let limit = is.sound.lawful.options.limit_greatest in
+      omega (arith, within, limit, most)
 
   -- whatever names objects has changed, and the heap stayed
   pub names_kept : (i : Instruction) (outcome : Outcome) (locals : List ℕ) (handles : FinMap nat_cmp Handle)
@@ -95,6 +102,7 @@ reserved_kept p finals same waiting is = record {
   shown = room_kept is.shown finals.entries finals.ready same waiting;
   tables = is.tables;
   index = is.index;
+  large = is.large;
   limit = is.limit;
   pins = is.pins;
   room = is.room;

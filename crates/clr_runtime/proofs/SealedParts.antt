@@ -1,8 +1,8 @@
 -- A new ephemeral segment: what still holds of the parts of a runtime, and that a small object has room in it.
 use Rattle.std.proofs.Common.{◌≡◌, ◌∙◌, ℕ, ◌+◌, ◌<◌, ◌≤◌, ◌&&◌, Bool, true, false, List, [], sym, ap, subst, arith, ℤ}
-use Rattle.std.proofs.Common.{Ok, Some}
+use Rattle.std.proofs.Common.{◌↔◌, inl, inr, Err, Ok, Result, Some}
 use Rattle.std.specs.List.{list_any}
-use Rattle.std.proofs.lemmas.Bool.{both_ways, le-leb, or_right}
+use Rattle.std.proofs.lemmas.Bool.{both_ways, cases_lt, le-leb, or_right}
 use Rattle.clr_types.specs.Ranges.{fits}
 use Rattle.clr_types.specs.Segments.{ephemeral, fits_in_tail, Layout, opening_segment, reserved_sum, rest_pieces}
 use Rattle.clr_types.specs.Segments.{segment_or_empty}
@@ -10,6 +10,8 @@ use Rattle.clr_types.specs.declared.segment.SegInfo.{SegInfo}
 use Rattle.clr_types.specs.declared.segment.SegKind.TheVariants.{Ephemeral}
 use Rattle.clr_covers.specs.Covers.{CoverView}
 use Rattle.clr_heap.specs.View.{acquired, frame, HeapView, IsHeap, no_rests}
+use Rattle.clr_heap.specs.declared.heap.segments.AcquireFault.{AcquireFault}
+use Rattle.clr_heap.specs.declared.heap.segments.AcquireFault.TheVariants.{OverLimit}
 use Rattle.clr_view.specs.Clean.{AreClean}
 use Rattle.clr_view.specs.Marks.{IsUnmarked}
 use Rattle.clr_view.specs.View.{AreFreeHeads, IsHeld, layout_in, objects_in, tail_of}
@@ -20,15 +22,30 @@ use Rattle.clr_model.specs.Lawful.{IsLawful, IsPlaceNamed}
 use Rattle.clr_model.specs.Machine.{Machine}
 use Rattle.clr_model.proofs.SealedLawful.{sealed_lawful}
 use Rattle.clr_model.proofs.SealedSums.{one_sealed}
+use Rattle.clr_large.specs.Places.{large_items}
+use Rattle.clr_large.proofs.LargeKept.{large_sealed}
 use Rattle.clr_runtime.specs.Rooms.{HasNewContext, IsRefill, IsSealedRefill, IsSealing, with_new_segment}
 use Rattle.clr_runtime.specs.RuntimeView.{IsRuntime, seen}
 use Rattle.clr_runtime.specs.declared.parts.Parts.{Parts}
+use Rattle.clr_runtime.proofs.IndexKept.{index_kept}
 
 -- the new segment is the ephemeral one
 ephemeral-sealed : (layout : Layout) (size : ℕ)
     → ephemeral (sealed layout size) ≡ opening_segment layout.top Ephemeral size
 ephemeral-sealed layout size =
     ap segment_or_empty (one_sealed layout.segments (opening_segment layout.top Ephemeral size))
+
+-- ---- the limit
+
+module _ (p : Parts) (is : IsRuntime p) (result : Result (Unit {0}) AcquireFault)
+    (over : (result ≡ Err OverLimit) ↔ (p.heap.limit < reserved_sum (frame p.heap) + p.options.segment)) where
+  -- where sealing doesn't come to it, it allows the segment
+  pub segment_allowed : (result ≡ Err OverLimit → ⊥)
+      → reserved_sum (frame p.heap) + p.options.segment ≤ p.options.limit
+  segment_allowed other = elim (cases_lt p.heap.limit (reserved_sum (frame p.heap) + p.options.segment)) [
+    | inl above ↦ absurd (other (over.1 above))
+    | inr within ↦ subst (λ (l : ℕ). reserved_sum (frame p.heap) + p.options.segment ≤ l) is.limit within
+  ]
 
 -- ---- what still holds
 
@@ -74,6 +91,8 @@ module _ (p : Parts) (is : IsRuntime p) (bare : p.heap.rests ≡ no_rests)
     };
     tables = tables;
     index = sym (none_young p.types new heap held young-at_end);
+    large = index_kept large_items p.types p.types p.heap new p.large
+        (ap large_items layout ∙ large_sealed (layout_in p.types p.heap) p.options.segment) is.large;
     limit = ap (λ (h : HeapView). h.limit) words ∙ is.limit;
     pins = is.pins;
     room = is.room;

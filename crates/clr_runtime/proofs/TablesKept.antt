@@ -32,7 +32,7 @@ module _ (cards : List (CoverView ℕ)) (bricks : List (CoverView ℤ)) where
 
 module _ {w : World} {sums : Sums} {options : Options} (is : IsShown w sums options) where
   -- all that a slot names stands
-  closed : AreClosedAmong w.rows (word_of w.heap) (heap_items w.rows w.heap)
+  pub closed : AreClosedAmong w.rows (word_of w.heap) (heap_items w.rows w.heap)
   closed x y e =
       let (m, here, named, idle) = whole_world is in
       slots_stand w m here named x y e

@@ -1,10 +1,16 @@
 -- The checks of a line that makes an object.
 use Rattle.std.specs.Prelude.{◌≡◌, ℕ, ◌<◌, ◌≤◌, List, Bool, true, false, Option, Some, None, is_some, is_none}
 use Rattle.std.specs.Prelude.{unwrap_or, length, Result, Ok, Err, if◌then◌else◌}
-use Rattle.clr_types.specs.Types.{TypeRow, form_at, is_array, number_of, size_of}
+use Rattle.clr_types.specs.Types.{TypeRow, form_at, has_finalizer, is_array, number_of, size_of, type_row}
 use Rattle.clr_types.specs.declared.TypeId.{TypeId}
 use Rattle.clr_model.specs.declared.Refusal.{Refusal}
 use Rattle.clr_model.specs.declared.Refusal.TheVariants.{UnknownType, BadShape, NoSlot, TooBig}
+use Rattle.clr_model.specs.Instructions.{new_object}
+use Rattle.clr_model.specs.Run.{Follows}
+use Rattle.clr_runtime.specs.Outcomes.{place_outcome}
+use Rattle.clr_runtime.specs.RuntimeView.{seen}
+use Rattle.clr_runtime.specs.declared.births.Request.{Request}
+use Rattle.clr_runtime.specs.declared.parts.Parts.{Parts}
 
 -- the type of a name that a script defined
 abbrev pub IsDefined : List TypeRow → List ℕ → Option TypeId → Type 0
@@ -23,19 +29,32 @@ pub record IsSuited (rows : List TypeRow) (name : List ℕ) (len : Option ℕ) (
   pub known : number_of rows name ≡ Some type
   pub suited : suits rows type len ≡ true
 
--- a small object of this type and size may be made
-pub record IsMeasured (rows : List TypeRow) (k : ℕ) (name : List ℕ) (len : Option ℕ) (type size : ℕ) : Type 0 where
-  pub suited : IsSuited rows name len type
+-- What is asked for: an object of this type and length, which a line may make. It has so many bytes, and wants an entry
+-- or none.
+pub record IsMeasured (rows : List TypeRow) (k : ℕ) (name : List ℕ) (len : Option ℕ) (request : Request) : Type 0 where
+  pub suited : IsSuited rows name len request.type_id.0
   pub local : k < 64
-  pub is : size ≡ measure_of rows type len
-  pub small : size < 85000
+  pub len_is : request.len ≡ unwrap_or len 0
+  pub size_is : request.size ≡ measure_of rows request.type_id.0 len
+  pub most : request.size ≤ 1073741824
+  pub entry : request.finalizer ≡ has_finalizer (type_row rows request.type_id.0)
 
--- The first of the checks that fails, or the type and the size.
-abbrev pub Measured : List TypeRow → ℕ → List ℕ → Option ℕ → Result (TypeId × ℕ) Refusal → Type 0
-Measured rows local name len (Ok made) = IsMeasured rows local name len made.0.0 made.1
+-- The first of the checks that fails, or what is asked for.
+abbrev pub Measured : List TypeRow → ℕ → List ℕ → Option ℕ → Result Request Refusal → Type 0
+Measured rows local name len (Ok request) = IsMeasured rows local name len request
 Measured rows local name len (Err UnknownType) = number_of rows name ≡ None
 Measured rows local name len (Err BadShape) = (t : ℕ) × (number_of rows name ≡ Some t) × (suits rows t len ≡ false)
 Measured rows local name len (Err NoSlot) = (t : ℕ) × IsSuited rows name len t × (64 ≤ local)
 Measured rows local name len (Err TooBig) =
-    (t : ℕ) × IsSuited rows name len t × (local < 64) × (85000 ≤ measure_of rows t len)
+    (t : ℕ) × IsSuited rows name len t × (local < 64) × (1073741824 < measure_of rows t len)
 Measured rows local name len (Err _) = ⊥
+
+-- a line asks for it by some name
+abbrev pub IsAsked : List TypeRow → ℕ → Request → Type 0
+IsAsked rows local request = (name : List ℕ) × (len : Option ℕ) × IsMeasured rows local name len request
+
+-- each line that asks for it is followed so
+abbrev pub FollowsAsked : Parts → Parts → ℕ → ℕ → Request → Result ℕ Refusal → Type 0
+FollowsAsked old new t local request result =
+    (name : List ℕ) (len : Option ℕ) → IsMeasured old.types local name len request
+    → Follows (seen old) (new_object t local name len) (place_outcome result) (seen new)

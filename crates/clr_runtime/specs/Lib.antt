@@ -4,5 +4,6 @@ pub mod Outcomes
 pub mod Checks
 pub mod Births
 pub mod Rooms
+pub mod LargeRooms
 pub mod Slots
 pub mod Handles

@@ -10,6 +10,7 @@ use Rattle.clr_model.specs.Machine.{Machine, Options, Sums}
 use Rattle.clr_model.specs.Lawful.{IsPlaceNamed}
 use Rattle.clr_ctx.specs.Contexts.{IsIndex}
 use Rattle.clr_generations.specs.Tables.{AreTablesOf}
+use Rattle.clr_large.specs.Places.{IsLargeIndex}
 use Rattle.clr_runtime.specs.Options.{options_of}
 use Rattle.clr_runtime.specs.declared.parts.Parts.{Parts}
 use Rattle.clr_runtime.specs.declared.sums.Sums as code
@@ -55,12 +56,14 @@ pub record IsShown (w : World) (sums : Sums) (options : Options) : Type 0 where
   pub clean : AreClean w.rows w.heap
   pub sound : IsPlaceNamed (shown w sums options)
 
--- what holds of each runtime: that, its cards and bricks are those of its heap, its contexts keep the index of this
--- heap, and segments are limited as the options say. No words are saved, and there is room for what a collection saves.
+-- what holds of each runtime: that, its cards and bricks are those of its heap, its contexts and its large items keep
+-- the indexes of this heap, and segments are limited as the options say. No words are saved, and there is room for what
+-- a collection saves.
 pub record IsRuntime (r : Parts) : Type 0 where
   pub shown : IsShown (world_of r) (sums_of r.sums) (options_of r.options)
   pub tables : AreTablesOf r.types r.heap r.cards r.bricks
   pub index : IsIndex r.types r.heap r.contexts
+  pub large : IsLargeIndex r.types r.heap r.large
   pub limit : r.heap.limit ≡ r.options.limit
   pub pins : r.pins.entries ≡ []
   pub room : pinned_in r.handles + 4 ≤ r.pins.spare

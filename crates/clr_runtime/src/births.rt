@@ -1,10 +1,14 @@
 //! The line that makes an object.
-ghost use Rattle.std.specs.Prelude.{◌≡◌, ◌≤◌, ◌++◌, [], ◌∷◌, OnErr, OnOk, true, if◌then◌else◌};
-ghost use Rattle.clr_runtime.specs.Births.{IsDefined, Measured};
+ghost use Rattle.std.specs.Prelude.{◌≡◌, ◌<◌, ◌≤◌, ◌++◌, [], ◌∷◌, None, OnErr, OnOk, true, if◌then◌else◌};
+ghost use Rattle.clr_runtime.specs.Births.{FollowsAsked, IsAsked, IsDefined, Measured};
+ghost use Rattle.clr_runtime.specs.Checks.{thread_refusal};
 ghost use Rattle.clr_runtime.specs.Outcomes.{refusal_of_acquire};
+ghost use Rattle.clr_runtime.specs.RuntimeView.{IsRuntime, seen};
 
 use crate::NoMemory;
 use crate::checks::index_of;
+use crate::large::make_large_room;
+use crate::parts::Parts;
 use crate::rooms::make_room;
 use crate::runtime::{LOCALS_OF_A_THREAD, Runtime};
 use clr_final::Finals;
@@ -16,27 +20,44 @@ use clr_types::{TypeId, Types};
 /// Objects of this many bytes and more are large.
 const LARGE: u64 = 85_000;
 
+/// What a line that makes an object asks for: its type and, where that is an array, how many elements; its bytes, and
+/// whether it is to be finalised.
+#[derive(Clone, Copy)]
+pub struct Request {
+    type_id: TypeId,
+    len: u64,
+    size: u64,
+    finalizer: bool,
+}
+
 impl Runtime {
     ghost use Rattle.clr_model.specs.Instructions.{new_object};
     ghost use Rattle.clr_model.specs.Run.{Follows};
     ghost use Rattle.clr_runtime.specs.Outcomes.{place_outcome};
 
-    /// Makes an object of the type of this name, with `len` elements where it is an array, at the front of the context
-    /// of thread `t`, and gives its place, which the local takes.
+    /// Makes an object of the type of this name, with `len` elements where it is an array, and gives its place, which
+    /// the local of thread `t` takes. Where the type has a finaliser, the object is put among those that are to be
+    /// finalised.
     ///
-    /// Where the type has a finaliser, the object is put among those that are to be finalised.
+    /// It is refused for an unknown thread or type, a length that doesn't suit the type, a local from 64 on, and more
+    /// than 2^30 bytes, in this order; then with `NoMemory` where a finalisation entry is wanted and there is no
+    /// memory for it. Such a line changes nothing.
     ///
-    /// It is refused for an unknown thread or type, a length that doesn't suit the type, a local from 64 on, and 85,000
-    /// bytes and more, in this order; then with `NoMemory` where a finalisation entry is wanted and there is no memory
-    /// for it. Such a line changes nothing.
+    /// An object of less than 85,000 bytes stands at the front of the context of its thread. Where that has no room,
+    /// the thread gets a new one: from the first free item of generation 0 in which the object fits, or from the tail
+    /// of its segment. Where the bytes of such objects that were born since the last collection would pass the budget
+    /// `b0` with it, or where no new context has room, the line collects first, as the option `compact` decides:
+    /// generation 0, and generation 1 too where the bytes promoted to it passed `b1`, and then all where also those
+    /// promoted to generation 2 passed `b2`. Where there is no room then, either, it makes a full compacting
+    /// collection. Where there is none after that, the ephemeral segment is sealed: all in it is old from then on, and
+    /// the new context is in a new segment.
     ///
-    /// Where the context has no room, the thread gets a new one: from the first free item of generation 0 in which the
-    /// object fits, or from the tail of its segment. Where the bytes that were born since the last collection would
-    /// pass the budget `b0` with the object, or where no new context has room, the line collects first, as the option
-    /// `compact` decides: generation 0, and generation 1 too where the bytes promoted to it passed `b1`, and then all
-    /// where also those promoted to generation 2 passed `b2`. Where there is no room then, either, it makes a full
-    /// compacting collection. Where there is none after that, the ephemeral segment is sealed: all in it is old from
-    /// then on, and the new context is in a new segment.
+    /// A larger one stands in a large segment, at the lowest place at which it fits: the front of a free item, or the
+    /// bytes behind a segment's end. Where the bytes of large objects that were born since the last full collection
+    /// would pass the budget `bl` with it, or where there is no such place, the line makes a full collection, as the
+    /// option `compact` decides. Where there is none then, either, it makes a full compacting one. Where there is none
+    /// after that, the object stands in a new large segment, of the size that the options say, or of as many whole
+    /// pages as it takes behind the first, where these are more.
     ///
     /// It is refused with `Oom` exactly where there is no room after the full compacting collection and the limit
     /// allows no segment more, and with `NoMemory` also where it allows one and there is no memory for it. What the
@@ -53,31 +74,77 @@ impl Runtime {
         if let Some(refusal) = self.refused_thread(t) {
             return Err(refusal);
         }
-        let (type_id, size) = match measure(&self.parts.types, local, name, len) {
-            Ok(measured) => measured,
+        let request = match measure(&self.parts.types, local, name, len) {
+            Ok(request) => request,
             Err(refusal) => return Err(refusal),
         };
-        let finalizer = self.parts.types.finalizer(type_id);
-        let Ok(()) = reserve_entry(&mut self.parts.finals, finalizer) else {
+        let Ok(()) = reserve_entry(&mut self.parts.finals, request.finalizer) else {
             return Err(Refusal::NoMemory);
         };
-        let thread = t as usize;
-        if let Err(fault) = make_room(&mut self.parts, thread, size) {
-            return Err(refusal_of(fault));
+        if request.size < LARGE {
+            return make_small(&mut self.parts, t, local, request);
         }
-        let place = bear(
-            &mut self.parts.heap,
-            &self.parts.types,
-            &mut self.parts.bricks,
-            thread,
-            type_id,
-            len.unwrap_or(0),
-        );
-        register_entry(&mut self.parts.finals, finalizer, place);
-        self.parts.locals[index_of(t, local)] = place;
-        self.parts.sums.spent0 += size;
-        Ok(place)
+        make_large(&mut self.parts, t, local, request)
     }
+}
+
+// Makes a small object, which the local takes, at the front of the context of thread `t`. There is room for its entry.
+// It is refused as `new_object` is, once room was sought.
+fn make_small(parts: &mut Parts, t: u64, local: u64, request: Request) -> Result<u64, Refusal>
+    requires runtime { IsRuntime parts.old }
+    requires passed { thread_refusal (seen parts.old) t ≡ None }
+    requires asked { IsAsked parts.old.types local request }
+    requires entry { request.finalizer ≡ true → 1 ≤ parts.old.finals.spare }
+    requires small { request.size < 85000 }
+    ensures made { FollowsAsked parts.old parts.new t local request result }
+    ensures runtime { IsRuntime parts.new }
+{
+    let thread = t as usize;
+    if let Err(fault) = make_room(parts, thread, request.size) {
+        return Err(refusal_of(fault));
+    }
+    let place = bear(
+        &mut parts.heap,
+        &parts.types,
+        &mut parts.bricks,
+        thread,
+        request.type_id,
+        request.len,
+    );
+    register_entry(&mut parts.finals, request.finalizer, place);
+    parts.locals[index_of(t, local)] = place;
+    parts.sums.spent0 += request.size;
+    Ok(place)
+}
+
+// Makes a large object, which the local of thread `t` takes, in a large segment. There is room for its entry. It is
+// refused as `new_object` is, once a place was sought.
+fn make_large(parts: &mut Parts, t: u64, local: u64, request: Request) -> Result<u64, Refusal>
+    requires runtime { IsRuntime parts.old }
+    requires passed { thread_refusal (seen parts.old) t ≡ None }
+    requires asked { IsAsked parts.old.types local request }
+    requires entry { request.finalizer ≡ true → 1 ≤ parts.old.finals.spare }
+    requires large { 85000 ≤ request.size }
+    ensures made { FollowsAsked parts.old parts.new t local request result }
+    ensures runtime { IsRuntime parts.new }
+{
+    if let Err(fault) = make_large_room(parts, request.size) {
+        return Err(refusal_of(fault));
+    }
+    let Some(place) = parts.large.bear(
+        &mut parts.heap,
+        &parts.types,
+        &mut parts.bricks,
+        request.type_id,
+        request.len,
+    )
+    else {
+        unreachable!()
+    };
+    register_entry(&mut parts.finals, request.finalizer, place);
+    parts.locals[index_of(t, local)] = place;
+    parts.sums.spent_large += request.size;
+    Ok(place)
 }
 
 // The type that a script defined under this name.
@@ -91,13 +158,8 @@ fn defined(types: &Types, name: &[u8]) -> Option<TypeId>
     }
 }
 
-// The type and the size in bytes of an object that a line would make, or the first of the checks on it that fails.
-fn measure(
-    types: &Types,
-    local: u64,
-    name: &[u8],
-    len: Option<u64>,
-) -> Result<(TypeId, u64), Refusal>
+// What a line that makes an object asks for, or the first of the checks on it that fails.
+fn measure(types: &Types, local: u64, name: &[u8], len: Option<u64>) -> Result<Request, Refusal>
     ensures { Measured types.now local name.now len result }
 {
     let Some(type_id) = defined(types, name) else {
@@ -109,9 +171,15 @@ fn measure(
     if local >= LOCALS_OF_A_THREAD {
         return Err(Refusal::NoSlot);
     }
-    match types.size_of(type_id, len.unwrap_or(0)) {
-        Some(size) if size < LARGE => Ok((type_id, size)),
-        _ => Err(Refusal::TooBig),
+    let len = len.unwrap_or(0);
+    match types.size_of(type_id, len) {
+        Some(size) => Ok(Request {
+            type_id,
+            len,
+            size,
+            finalizer: types.finalizer(type_id),
+        }),
+        None => Err(Refusal::TooBig),
     }
 }
 

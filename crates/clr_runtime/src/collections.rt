@@ -44,7 +44,8 @@ impl Runtime {
 }
 
 // Collects generation `g` and all younger ones, as `how` says. No thread has a context afterwards. The finalisation
-// queue still has room for as many entries.
+// queue still has room for as many entries. The index of free items of large segments is dropped, and made anew where
+// room is next wanted there.
 pub(crate) fn collect_parts(parts: &mut Parts, g: u8, how: How) -> Collected
     requires generation { g ≤ 2 }
     requires runtime { IsRuntime parts.old }
@@ -74,5 +75,6 @@ pub(crate) fn collect_parts(parts: &mut Parts, g: u8, how: How) -> Collected
     parts.sums = parts
         .sums
         .collected(g, collected.promoted1, collected.promoted2);
+    parts.large.lose();
     collected
 }

@@ -10,6 +10,7 @@ mod checks;
 mod collections;
 mod finalizers;
 mod handles;
+mod large;
 mod options;
 mod parts;
 mod rooms;

@@ -16,6 +16,7 @@ use clr_final::Finals;
 use clr_generations::cover_segments;
 use clr_handles::Handles;
 use clr_heap::Heap;
+use clr_large::LargeItems;
 use clr_mark::Marker;
 use clr_model::Refusal;
 use clr_pinq::PinQueue;
@@ -113,6 +114,7 @@ impl Runtime {
             cards,
             bricks,
             contexts: Contexts::new(alloc),
+            large: LargeItems::new(alloc),
             marker,
             locals,
             handles: Handles::new(alloc),

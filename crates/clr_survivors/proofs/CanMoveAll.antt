@@ -33,6 +33,7 @@ use Rattle.clr_moves.specs.declared.planned.Planned.{Planned}
 use Rattle.clr_moves.proofs.PlacesInPlugs.{none_at_zero, outside_stays}
 use Rattle.clr_pinq.specs.declared.entry.PinEntry.{PinEntry}
 use Rattle.clr_plugs.specs.BrickEntries.{BricksView}
+use Rattle.clr_survivors.specs.Condemned.{condemned_from}
 use Rattle.clr_survivors.specs.Phases.{CanMove, HasPlannedPinned}
 use Rattle.clr_survivors.specs.Survivors.{AreClosed, IsNullOrLeft, NameLeft, world_with}
 use Rattle.clr_survivors.proofs.LeftGoes.{left-goes, none-null}
@@ -69,12 +70,12 @@ module _ (rows : List TypeRow) (old new : HeapView) (cards : List (CoverView ℕ
 
   -- the heap with its pins, as it was otherwise
   pub frame-view : frame p.view ≡ frame old
-  frame-view = frame-kept rows old p.view table given.heap given.held true p.pins
+  frame-view = frame-kept rows old p.view table (condemned_from old g) given.heap given.held true p.pins
 
   pub left-view : (o : Object) → IsIn o (objects_in rows old) → is_left p.view g o ≡ is_left old g o
   left-view o i =
       ap (λ (b : Bool). not (is_reached_by p.view g o.place) || b)
-      (marked-kept rows old p.view table given.heap given.held true p.pins o i)
+      (marked-kept rows old p.view table (condemned_from old g) given.heap given.held true p.pins o i)
       ∙ ap (λ (h : HeapView). not (is_reached_by h g o.place) || is_marked old o) p.pins.shape.others
 
   pub holds-plan : HoldsPlan rows p.view new bricks entries g p.plan.moves planned.start1 planned.start0

@@ -42,6 +42,7 @@ use Rattle.clr_moves.proofs.PlacesInPlugs.{in_part-same, outside_stays}
 use Rattle.clr_compact.proofs.Gone.{into_parts}
 use Rattle.clr_compact.proofs.MemoryItems.{part_whole}
 use Rattle.clr_moves.proofs.PlannedMoves.{seen-laid}
+use Rattle.clr_survivors.specs.Condemned.{condemned_from}
 use Rattle.clr_survivors.specs.Phases.{HasSettled}
 use Rattle.clr_survivors.specs.Pins.{IsPinnedBelow, pinned_header}
 use Rattle.clr_survivors.specs.Survivors.{left_objects}
@@ -51,6 +52,7 @@ use Rattle.clr_survivors.proofs.ItemsOf.{item-of}
 use Rattle.clr_survivors.proofs.LeftGoes.{left-in-part, part-test}
 use Rattle.clr_survivors.proofs.LeftObjects.{left-spared, pins-stand}
 use Rattle.clr_survivors.proofs.MovedList.{in-moved, placed, placed-left}
+use Rattle.clr_survivors.proofs.PartsAbove.{moves-above}
 use Rattle.clr_survivors.proofs.PaddingWords.{no-reference, none-starts}
 use Rattle.clr_survivors.proofs.CanMoveAll.{left-stands, left-view}
 use Rattle.clr_survivors.proofs.PinsTold.{none-pinned}
@@ -80,9 +82,9 @@ pin-none w off =
     ap (λ (b : Bool). if false && not b then w + 0x20000000 else if not false && b then w - 0x20000000 else w) off
 
 -- a pinned handle's target has gone with it
-pinned-moved : (to : ℕ → ℕ) (table : FinMap nat_cmp Handle) (place : ℕ) → 0 < to place
-    → IsPinnedBelow table 65536 place → IsPinnedBelow (map_values (relocated to) table) 65536 (to place)
-pinned-moved to table place some q = record {
+pinned-moved : (to : ℕ → ℕ) (table : FinMap nat_cmp Handle) (low place : ℕ) → 0 < to place → low ≤ to place
+    → IsPinnedBelow table low 65536 place → IsPinnedBelow (map_values (relocated to) table) low 65536 (to place)
+pinned-moved to table low place some above q = record {
   number = q.number;
   below = q.below;
   row = relocated to q.row;
@@ -90,10 +92,11 @@ pinned-moved to table place some q = record {
   pinned = q.pinned;
   target = ap to q.target;
   some = some;
+  high = above;
 }
 
 module _ (s : Stages) (m : Machine) (kept : ℕ → Bool) (c : IsCourse s m kept) (new : HeapView)
-    (e : HasSettled s.rows s.moved new s.table_after s.g) (heap : IsHeap new) (held : IsHeld s.rows new) where
+    (e : HasSettled s.rows s.moved new s.table_after s.low s.g) (heap : IsHeap new) (held : IsHeld s.rows new) where
   -- an item of the new heap, and the one that it was
   record HasGone (i : Item) : Type 0 where
     object : Object
@@ -149,6 +152,15 @@ module _ (s : Stages) (m : Machine) (kept : ℕ → Bool) (c : IsCourse s m kept
       (λ t is. both_ways (is_in_parts c.begun.view s.g x) away
       (part-test s.rows c.begun.view s.g c.begun.plan.moves m kept c.begun.plan.after c.run.given.generation
       c.begun.plan.compaction t x (in_part-same c.begun.view s.ready s.g t x c.begun.plan.overlaid.shape is))))
+
+  -- nothing from the first condemned place on goes below it
+  low-kept : (x : ℕ) → s.low ≤ x → s.low ≤ moved_by c.begun.plan.moves x
+  low-kept x high =
+      let view_low : condemned_from c.begun.view s.g ≡ s.low =
+      ap (λ (h : HeapView). condemned_from h s.g) c.begun.pins.shape.others ∙ sym c.run.low_is in
+      subst (λ (n : ℕ). n ≤ moved_by c.begun.plan.moves x) view_low
+      (moves-above c.begun.view s.g c.begun.plan.moves c.begun.plan.overlaid.moves x
+      (subst (λ (n : ℕ). n ≤ x) (sym view_low) high))
 
   outside-cell : (j : Item) → IsIn j (heap_items s.rows c.begun.view) → is_in_parts c.begun.view s.g j.place ≡ false
       → (b : ℕ) → j.place ≤ b + 8 → b + 8 < j.place + j.size → IsOutside c.begun.view s.g b
@@ -274,7 +286,7 @@ module _ (s : Stages) (m : Machine) (kept : ℕ → Bool) (c : IsCourse s m kept
     -- ---- before the moves
 
     -- words inside of the cell are not pinned headers
-    old-stands : (x : ℕ) → IsPinnedBelow s.table 65536 x → StandsAt s.rows s.old x
+    old-stands : (x : ℕ) → IsPinnedBelow s.table (condemned_from s.old s.g) 65536 x → StandsAt s.rows s.old x
     old-stands x q =
         subst (StandsAt s.rows s.old) q.target
         (left-stands s.rows s.old s.g q.row.target (subst (λ (n : ℕ). 0 < n) (sym q.target) q.some)
@@ -292,7 +304,7 @@ module _ (s : Stages) (m : Machine) (kept : ℕ → Bool) (c : IsCourse s m kept
 
     -- ---- after the moves
 
-    moved-stands : (x : ℕ) → IsPinnedBelow s.table_after 65536 x → StandsAt s.rows s.moved x
+    moved-stands : (x : ℕ) → IsPinnedBelow s.table_after s.low 65536 x → StandsAt s.rows s.moved x
     moved-stands x q =
         subst (StandsAt s.rows s.moved) q.target
         (pins-stand s m kept c q.number q.row q.in_use q.pinned (subst (λ (n : ℕ). 0 < n) (sym q.target) q.some))
@@ -388,11 +400,13 @@ module _ (s : Stages) (m : Machine) (kept : ℕ → Bool) (c : IsCourse s m kept
               miss.1 ∙ moved-header
               ∙ elim (c.begun.pins.words (j.place - 8) (omega (arith, low, zo))) [
                 | inl was ↦
-                    let pinned = subst (IsPinnedBelow s.table 65536) back_old was.0 in
-                    let gone = pinned-moved (moved_by c.begun.plan.moves) s.table j.place (omega (arith, place, up))
-                    pinned in
-                    absurd (miss.0 (subst (IsPinnedBelow s.table_after 65536) (sym place ∙ sym back)
-                    (subst (λ (t : FinMap nat_cmp Handle). IsPinnedBelow t 65536 (moved_by c.begun.plan.moves j.place))
+                    let pinned = subst₂ (λ (low : ℕ). IsPinnedBelow s.table low 65536) (sym c.run.low_is) back_old
+                    was.0 in
+                    let gone = pinned-moved (moved_by c.begun.plan.moves) s.table s.low j.place
+                    (omega (arith, place, up)) (low-kept j.place pinned.high) pinned in
+                    absurd (miss.0 (subst (IsPinnedBelow s.table_after s.low 65536) (sym place ∙ sym back)
+                    (subst (λ (t : FinMap nat_cmp Handle). IsPinnedBelow t s.low 65536
+                    (moved_by c.begun.plan.moves j.place))
                     (sym c.went.gone.table_is) gone)))
                 | inr was ↦ was.1
               ]

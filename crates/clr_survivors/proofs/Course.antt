@@ -22,6 +22,7 @@ use Rattle.clr_view.specs.View.{AreFreeHeads, layout_in}
 use Rattle.clr_moves.specs.declared.planned.Planned.{Planned}
 use Rattle.clr_pinq.specs.declared.entry.PinEntry.{PinEntry}
 use Rattle.clr_plugs.specs.BrickEntries.{BricksView}
+use Rattle.clr_survivors.specs.Condemned.{condemned_from}
 use Rattle.clr_survivors.specs.Phases.{CanMove, HasMovedBy, HasPlannedPinned}
 use Rattle.clr_survivors.proofs.CanMoveAll.{can-move, IsGiven}
 use Rattle.clr_survivors.proofs.PlannedPins.{laid-with, memory-with, with_handles}
@@ -45,6 +46,7 @@ pub record Stages : Type 0 where
   pub queues : Queues
   pub queues_after : Queues
   pub g : ℕ
+  pub low : ℕ
   pub to1 : ℕ
   pub to2 : ℕ
   pub slides : ℕ
@@ -61,6 +63,7 @@ Goes s view vs = HasMovedBy s.rows view s.moved s.g vs s.planned s.locals s.loca
 -- What the phases say.
 pub record IsRun (s : Stages) : Type 0 where
   pub given : IsGiven s.rows s.old s.cards s.before s.locals s.table s.queues s.g
+  pub low_is : s.low ≡ condemned_from s.old s.g
   pub ready_lawful : IsHeap s.ready
   pub moved_lawful : IsHeap s.moved
   pub plans : (m : Machine) (kept : ℕ → Bool) → IsMemoryOf s.rows s.old m → m.handles ≡ s.table

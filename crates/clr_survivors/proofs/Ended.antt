@@ -20,7 +20,7 @@ use Rattle.clr_survivors.proofs.LargeTold.{tells-large}
 use Rattle.clr_survivors.proofs.MovedList.{objects-young, unmarked-young}
 
 module _ (s : Stages) (m : Machine) (kept : ℕ → Bool) (c : IsCourse s m kept) (new : HeapView)
-    (e : HasSettled s.rows s.moved new s.table_after s.g) where
+    (e : HasSettled s.rows s.moved new s.table_after s.low s.g) where
   -- a young collection sweeps nothing, a full one large segments
   pub by-kind : (P : Type 0) → (s.g ≤ 1 → new ≡ e.bare → P)
       → (s.g ≡ 2 → HasSweptLarge s.rows e.bare new → P) → P

@@ -74,7 +74,7 @@ same-members rows xs ys is = record {
 }
 
 module _ (s : Stages) (m : Machine) (kept : ℕ → Bool) (c : IsCourse s m kept) (new : HeapView)
-    (e : HasSettled s.rows s.moved new s.table_after s.g) where
+    (e : HasSettled s.rows s.moved new s.table_after s.low s.g) where
   pub segments-ended : {X : Type 0} (f : SegInfo → X) → ((end : ℕ) (u : SegInfo) → f (ended_at end u) ≡ f u)
       → map f new.segments ≡ map f s.old.segments
   segments-ended f same =

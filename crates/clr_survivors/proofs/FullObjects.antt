@@ -23,6 +23,7 @@ use Rattle.clr_moves.specs.Objects.{is_in_parts, is_spared}
 use Rattle.clr_moves.specs.Overlaid.{IsOutside}
 use Rattle.clr_moves.proofs.PlacesInPlugs.{in_part-same, moved_in_plug, outside_stays}
 use Rattle.clr_compact.proofs.Gone.{into_parts}
+use Rattle.clr_survivors.specs.Condemned.{condemned_from}
 use Rattle.clr_survivors.specs.Pins.{HasPins}
 use Rattle.clr_survivors.specs.Survivors.{left_objects}
 use Rattle.clr_survivors.proofs.Course.{IsCourse, Stages}
@@ -185,7 +186,7 @@ module _ (s : Stages) (m : Machine) (kept : ℕ → Bool) (c : IsCourse s m kept
         high = omega (arith, at, low, high, end);
       })
 
-  module _ (bare : HeapView) (pins : HasPins s.rows s.moved bare s.table_after 65536 false) where
+  module _ (bare : HeapView) (pins : HasPins s.rows s.moved bare s.table_after s.low 65536 false) where
     abbrev stays : Object → Bool
     stays q = not (is_large_place bare q.place) || is_marked bare q
 
@@ -207,8 +208,8 @@ module _ (s : Stages) (m : Machine) (kept : ℕ → Bool) (c : IsCourse s m kept
         (let least = generation-least (frame s.old) o.place in omega (arith, least, full)))
 
     pub mark-view : (o : Object) → IsIn o (objects_in s.rows s.old) → is_marked c.begun.view o ≡ is_marked s.old o
-    mark-view o i = marked-kept s.rows s.old c.begun.view s.table c.run.given.heap c.run.given.held true c.begun.pins o
-        i
+    mark-view o i = marked-kept s.rows s.old c.begun.view s.table (condemned_from s.old s.g) c.run.given.heap
+        c.run.given.held true c.begun.pins o i
 
     -- in a large segment an object keeps its mark
     pub mark-kept : (o : Object) → IsIn o (objects_in s.rows s.old) → is_in_parts c.begun.view s.g o.place ≡ false
@@ -223,7 +224,7 @@ module _ (s : Stages) (m : Machine) (kept : ℕ → Bool) (c : IsCourse s m kept
         let aligned = (place-high s.rows s.old c.run.given.heap c.run.given.held o i).1 in
         let outside : IsOutside c.went.mid s.g o.place =
         subst (λ (h : HeapView). IsOutside h s.g o.place) (sym r.others) (outside-word o there away) in
-        marked-kept s.rows s.moved bare s.table_after c.run.moved_lawful c.went.compacted.held false pins
+        marked-kept s.rows s.moved bare s.table_after s.low c.run.moved_lawful c.went.compacted.held false pins
         (placed s m kept c o) (in-moved s m kept c o i spared)
         ∙ ap (λ x. has_mark (word_of s.moved x)) at
         ∙ ap has_mark (c.went.compacted.outside o.place aligned outside)

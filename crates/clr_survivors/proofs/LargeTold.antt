@@ -141,7 +141,7 @@ module _ (s : Stages) (m : Machine) (kept : ℕ → Bool) (c : IsCourse s m kept
         ∙ filter-alike (λ o. is_marked s.old o && (base_at m.layout.segments o.place == t.base)) chosen before
         (λ o i. ap (λ (b : Bool). is_marked s.old o && b) (base-stands t there o i)))
 
-    module _ (bare : HeapView) (pins : HasPins s.rows s.moved bare s.table_after 65536 false)
+    module _ (bare : HeapView) (pins : HasPins s.rows s.moved bare s.table_after s.low 65536 false)
         (large : same_kind Large t.kind ≡ true) where
       abbrev put : Object → Object
       put = placed s m kept c
@@ -254,7 +254,7 @@ module _ (s : Stages) (m : Machine) (kept : ℕ → Bool) (c : IsCourse s m kept
           ∙ map-on (λ o. object_piece s.rows (put o)) (object_piece s.rows) (filter chosen before) chosen-piece
 
   -- THE SWEEP of large segments is told what survives there
-  pub tells-large : s.g ≡ 2 → (bare : HeapView) → HasPins s.rows s.moved bare s.table_after 65536 false
+  pub tells-large : s.g ≡ 2 → (bare : HeapView) → HasPins s.rows s.moved bare s.table_after s.low 65536 false
       → TellsLarge s.rows bare (survivors m s.g kept)
   tells-large full bare pins t i large =
       let moved = subst (λ (ss : List SegInfo). IsIn t ss)

@@ -1,22 +1,18 @@
 -- What a collection leaves stands where it has moved.
-use Rattle.std.proofs.Common.{◌≡◌, inl, inr, ℕ, ◌+◌, Bool, true, false, not, ◌||◌, List, refl, ap}
+use Rattle.std.proofs.Common.{◌≡◌, inl, inr, ℕ, Bool, true, false, not, ◌||◌, List, refl, ap}
 use Rattle.std.proofs.Common.{sym, ◌∙◌, subst}
-use Rattle.std.proofs.Common.{arith, Some, None, Option, filter, map, [], ◌∷◌, cond}
+use Rattle.std.proofs.Common.{arith, Some, None, Option, filter, map}
 use Rattle.std.specs.FinMap as finmap
 use Rattle.std.specs.FinMap.{FinMap}
-use Rattle.std.specs.List.{count_by}
 use Rattle.std.specs.Option.{option_map}
 use Rattle.std.specs.Ordering.{nat_cmp}
-use Rattle.std.proofs.lemmas.List.Sums.{sum_by-cons}
-use Rattle.clr_types.specs.Kinds.{is_pinned_kind}
 use Rattle.clr_types.specs.Maps.{map_values}
 use Rattle.clr_types.specs.Rising.{IsIn}
 use Rattle.clr_types.specs.declared.handle.Handle.{Handle}
 use Rattle.clr_types.proofs.ChangedLists.{into_filter, IsIn-map}
-use Rattle.clr_types.proofs.MapValues.{get-map_values, values-map_values}
+use Rattle.clr_types.proofs.MapValues.{get-map_values}
 use Rattle.clr_types.proofs.SortedLists.{into_sorted_by}
 use Rattle.clr_handles.specs.Laws.{relocated}
-use Rattle.clr_handles.specs.Tops.{pinned_in}
 use Rattle.clr_model.specs.Compaction.{moved_by}
 use Rattle.clr_model.specs.Machine.{Machine, Object}
 use Rattle.clr_view.specs.Memory.{is_left, is_marked, IsLeft}
@@ -31,20 +27,6 @@ use Rattle.clr_survivors.proofs.LeftGoes.{left-in-part}
 use Rattle.clr_survivors.proofs.RelocatedPlan.{turned, turned-place, turned-spared}
 
 -- ---- handles
-
-count-map : {X Y : Type 0} (f : X → Y) (p : Y → Bool) (xs : List X)
-    → count_by p (map f xs) ≡ count_by (λ x. p (f x)) xs
-count-map f p [] = refl
-count-map f p (x ∷ xs) =
-    sum_by-cons (λ y. cond (p y) 1 0) (f x) (map f xs)
-    ∙ ap (λ n. cond (p (f x)) 1 0 + n) (count-map f p xs)
-    ∙ sym (sum_by-cons (λ y. cond (p (f y)) 1 0) x xs)
-
-pub pinned-relocated : (to : ℕ → ℕ) (table : FinMap nat_cmp Handle)
-    → pinned_in (map_values (relocated to) table) ≡ pinned_in table
-pinned-relocated to table =
-    ap (count_by (λ (row : Handle). is_pinned_kind row.kind)) (values-map_values (relocated to) table)
-    ∙ count-map (relocated to) (λ row. is_pinned_kind row.kind) (finmap.values table)
 
 -- a handle that has moved is that of one before
 pub was-handle : (to : ℕ → ℕ) (table : FinMap nat_cmp Handle) (k : ℕ) (row : Handle)

@@ -15,6 +15,8 @@ pub mod NamesGone
 pub mod OldParts
 pub mod Occupied
 pub mod PaddingWords
+pub mod PartsAbove
+pub mod PinnedFrom
 pub mod Pinning
 pub mod PinsTold
 pub mod PlannedPins

@@ -26,33 +26,36 @@ use Rattle.clr_survivors.specs.Roots.{Guides, HasMoved, NamesGo, Plan}
 
 -- ---- handles
 
--- null stays, and any other place goes where it is told
-one-gone : (answers : ℕ → ℕ → Type 0) (to : ℕ → ℕ) (place moved : ℕ) → to 0 ≡ 0
-    → (answers place moved → moved ≡ to place) → IsMoved answers 0 place moved → moved ≡ to place
-one-gone answers to place moved null told is = go (place == 0 || nat_lt place 0) refl is
+-- null stays, so does what lies below `low`, and any other place goes where it is told
+one-gone : (answers : ℕ → ℕ → Type 0) (to : ℕ → ℕ) (low place moved : ℕ) → to 0 ≡ 0
+    → (place < low → place ≡ to place) → (answers place moved → moved ≡ to place) → IsMoved answers low place moved
+    → moved ≡ to place
+one-gone answers to low place moved null below told is = go (place == 0 || nat_lt place low) refl is
   where
-    zero-is : (place == 0 || nat_lt place 0) ≡ true → place ≡ 0
-    zero-is e = elim (or_cases (place == 0) (nat_lt place 0) e) [
-      | inl z ↦ eqb-true place 0 z
-      | inr low ↦ let below = ltb-true place 0 low in absurd (omega (arith, below))
+    stays : (place == 0 || nat_lt place low) ≡ true → place ≡ to place
+    stays e = elim (or_cases (place == 0) (nat_lt place low) e) [
+      | inl z ↦ let zero_is = eqb-true place 0 z in zero_is ∙ sym null ∙ ap to (sym zero_is)
+      | inr under ↦ below (ltb-true place low under)
     ]
 
-    go : (b : Bool) → (place == 0 || nat_lt place 0) ≡ b → MatchBool b (moved ≡ place) (answers place moved)
+    go : (b : Bool) → (place == 0 || nat_lt place low) ≡ b → MatchBool b (moved ≡ place) (answers place moved)
         → moved ≡ to place
-    go true e same = let z = zero-is e in same ∙ z ∙ sym null ∙ ap to (sym z)
+    go true e same = same ∙ stays e
     go false e answer = told answer
 
-pub handles-gone : (answers : ℕ → ℕ → Type 0) (to : ℕ → ℕ) (old new : Table)
-    → EachBecomes (IsRelocated answers 0) old new → to 0 ≡ 0
+pub handles-gone : (answers : ℕ → ℕ → Type 0) (to : ℕ → ℕ) (low : ℕ) (old new : Table)
+    → EachBecomes (IsRelocated answers low) old new → to 0 ≡ 0 → ((place : ℕ) → place < low → place ≡ to place)
     → ((k : ℕ) (row : Handle) (moved : ℕ) → finmap.get old k ≡ Some row → answers row.target moved
     → moved ≡ to row.target)
     → ((k : ℕ) (row : Handle) (moved : ℕ) → finmap.get old k ≡ Some row → answers row.second moved
     → moved ≡ to row.second)
     → new ≡ map_values (relocated to) old
-handles-gone answers to old new each null targets seconds =
-    each-is_map (IsRelocated answers 0) (relocated to) old new each (λ k row row' here is.
-    let target = one-gone answers to row.target row'.target null (targets k row row'.target here) is.target in
-    let second = one-gone answers to row.second row'.second null (seconds k row row'.second here) is.second in
+handles-gone answers to low old new each null below targets seconds =
+    each-is_map (IsRelocated answers low) (relocated to) old new each (λ k row row' here is.
+    let target =
+    one-gone answers to low row.target row'.target null (below row.target) (targets k row row'.target here) is.target in
+    let second =
+    one-gone answers to low row.second row'.second null (below row.second) (seconds k row row'.second here) is.second in
     λ i. record { kind = is.kind i; target = target i; second = second i })
 
 -- ---- lists

@@ -71,7 +71,7 @@ all-condemned u = go (same_kind Ephemeral u.kind)
     go false = refl
 
 module _ (s : Stages) (m : Machine) (kept : ℕ → Bool) (c : IsCourse s m kept) (new : HeapView)
-    (e : HasSettled s.rows s.moved new s.table_after s.g) where
+    (e : HasSettled s.rows s.moved new s.table_after s.low s.g) where
   -- what is left is there, where it has moved
   pub in-new : (o : Object) → IsIn o (objects_in s.rows s.old) → is_left s.old s.g o ≡ true
       → IsIn (moved_object c.begun.plan.moves (relocated_object c.begun.plan.moves o)) (objects_in s.rows new)

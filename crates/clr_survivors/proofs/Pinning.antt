@@ -2,7 +2,7 @@
 use Rattle.std.proofs.Common.{◌≡◌, ◌≢◌, ◌⊎◌, inl, inr, ℕ, ◌+◌, ◌-◌, ◌%◌, ◌<◌, ◌≤◌, Bool, true, false, not, ◌&&◌}
 use Rattle.std.proofs.Common.{List, None, Option, true≢false, ◌/◌, ◌||◌, if◌then◌else◌, refl, ap, sym, ◌∙◌, subst}
 use Rattle.std.proofs.Common.{arith, Some, nat_le}
-use Rattle.std.proofs.lemmas.Bool.{cases_eq, cases_lt, eq-eqb, eqb-false, eqb-true, le-leb, ne_eqb}
+use Rattle.std.proofs.lemmas.Bool.{cases_eq, cases_lt, eq-eqb, eqb-false, eqb-true, le-leb, ne_eqb, leb-true}
 use Rattle.std.specs.FinMap as finmap
 use Rattle.std.specs.FinMap.{FinMap}
 use Rattle.std.specs.Ordering.{nat_cmp}
@@ -22,7 +22,7 @@ use Rattle.clr_view.proofs.Headers.{header-high, header-word}
 use Rattle.clr_view.proofs.ObjectItems.{stands-item}
 use Rattle.clr_view.proofs.Stores.{elsewhere, there-now}
 use Rattle.clr_plan.specs.Pinned.{has_pin}
-use Rattle.clr_survivors.specs.Pins.{HasPins, IsPinnedBelow, pinned_header, pins_something}
+use Rattle.clr_survivors.specs.Pins.{HasPins, IsPinnedBelow, pinned_header, pins_from}
 use Rattle.clr_survivors.specs.Pins.{PinsStand}
 use Rattle.std.specs.Prelude.{MatchBool}
 use Rattle.std.proofs.Common.{◌==◌}
@@ -33,8 +33,8 @@ abbrev or_row : Handle → Option Handle → Handle
 or_row other None = other
 or_row other (Some row) = row
 
-module _ (rows : List TypeRow) (old : HeapView) (table : FinMap nat_cmp Handle) (on : Bool) where
-  pub none_pinned : IsHeld rows old → HasPins rows old old table 0 on
+module _ (rows : List TypeRow) (old : HeapView) (table : FinMap nat_cmp Handle) (low : ℕ) (on : Bool) where
+  pub none_pinned : IsHeld rows old → HasPins rows old old table low 0 on
   none_pinned held = record {
     shape = SameShape-refl old;
     objects = refl;
@@ -73,42 +73,44 @@ module _ (rows : List TypeRow) (old : HeapView) (table : FinMap nat_cmp Handle) 
           ap (λ (b : Bool). if false && not b then header + 0x20000000 else if not false && b then header - 0x20000000
           else header) is
 
-  module _ (now : HeapView) (from number : ℕ) (row : Handle) (p : HasPins rows old now table from on)
-      (next : IsNext table 1 from number row) where
+  module _ (now : HeapView) (from number : ℕ) (row : Handle) (p : HasPins rows old now table low from on)
+      (next : IsNext table low from number row) where
     -- what is pinned below the next number: what was, and what this handle pins
-    pinned_more : (place : ℕ) → IsPinnedBelow table (number + 1) place
-        → IsPinnedBelow table from place
-        ⊎ ((is_pinned_kind row.kind ≡ true) × (0 < row.target) × (place ≡ row.target))
+    pinned_more : (place : ℕ) → IsPinnedBelow table low (number + 1) place
+        → IsPinnedBelow table low from place
+        ⊎ ((is_pinned_kind row.kind ≡ true) × (0 < row.target) × (low ≤ row.target) × (place ≡ row.target))
     pinned_more place q = elim (cases_lt q.number from) [
-      | inl low ↦
+      | inl less ↦
           inl (record {
             number = q.number;
-            below = low;
+            below = less;
             row = q.row;
             in_use = q.in_use;
             pinned = q.pinned;
             target = q.target;
             some = q.some;
+            high = q.high;
           })
-      | inr high ↦ elim (cases_eq q.number number) [
+      | inr not_less ↦ elim (cases_eq q.number number) [
         | inl here ↦
             let same : q.row ≡ row = ap (or_row q.row) (sym q.in_use ∙ ap (finmap.get table) here ∙ next.in_use) in
             let target : place ≡ row.target = sym q.target ∙ ap (λ (r : Handle). r.target) same in
             inr (
               ap (λ (r : Handle). is_pinned_kind r.kind) (sym same) ∙ q.pinned,
               subst (λ (n : ℕ). 0 < n) target q.some,
+              subst (λ (n : ℕ). low ≤ n) target q.high,
               target,
             )
         | inr apart ↦
             let below = q.below in
-            let none = next.none_before q.number q.row high (omega arith) q.in_use in
-            let some : 0 < q.row.target = subst (λ (n : ℕ). 0 < n) (sym q.target) q.some in
-            absurd (true≢false (sym (ap (λ (b : Bool). b || nat_le 1 q.row.second) (le-leb 1 q.row.target some))
+            let none = next.none_before q.number q.row not_less (omega arith) q.in_use in
+            let above : low ≤ q.row.target = subst (λ (n : ℕ). low ≤ n) (sym q.target) q.high in
+            absurd (true≢false (sym (ap (λ (b : Bool). b || nat_le low q.row.second) (le-leb low q.row.target above))
             ∙ none))
       ]
     ]
 
-    was_pinned : (place : ℕ) → IsPinnedBelow table from place → IsPinnedBelow table (number + 1) place
+    was_pinned : (place : ℕ) → IsPinnedBelow table low from place → IsPinnedBelow table low (number + 1) place
     was_pinned place q =
         let below = q.below in
         let above = next.above in
@@ -120,10 +122,12 @@ module _ (rows : List TypeRow) (old : HeapView) (table : FinMap nat_cmp Handle) 
           pinned = q.pinned;
           target = q.target;
           some = q.some;
+          high = q.high;
         }
 
-    is_pinned_now : is_pinned_kind row.kind ≡ true → 0 < row.target → IsPinnedBelow table (number + 1) row.target
-    is_pinned_now kind some = record {
+    is_pinned_now : is_pinned_kind row.kind ≡ true → 0 < row.target → low ≤ row.target
+        → IsPinnedBelow table low (number + 1) row.target
+    is_pinned_now kind some above = record {
       number = number;
       below = omega arith;
       row = row;
@@ -131,11 +135,12 @@ module _ (rows : List TypeRow) (old : HeapView) (table : FinMap nat_cmp Handle) 
       pinned = kind;
       target = refl;
       some = some;
+      high = above;
     }
 
     -- a handle that pins nothing
-    pub passed_by : ((is_pinned_kind row.kind ≡ true) × (0 < row.target) → ⊥)
-        → HasPins rows old now table (number + 1) on
+    pub passed_by : ((is_pinned_kind row.kind ≡ true) × (0 < row.target) × (low ≤ row.target) → ⊥)
+        → HasPins rows old now table low (number + 1) on
     passed_by none = record {
       shape = p.shape;
       objects = p.objects;
@@ -150,7 +155,7 @@ module _ (rows : List TypeRow) (old : HeapView) (table : FinMap nat_cmp Handle) 
             inr (
               λ q. elim (pinned_more (b + 8) q) [
                 | inl was ↦ miss.0 was
-                | inr this ↦ none (this.0, this.1)
+                | inr this ↦ none (this.0, this.1, this.2)
               ],
               miss.1,
             )
@@ -159,7 +164,7 @@ module _ (rows : List TypeRow) (old : HeapView) (table : FinMap nat_cmp Handle) 
 
     -- a handle that pins an object of the heap
     module _ (heap : IsHeap now) (kind : is_pinned_kind row.kind ≡ true) (some : 0 < row.target)
-        (stands : StandsAt rows old row.target) where
+        (above : low ≤ row.target) (stands : StandsAt rows old row.target) where
       abbrev a : ℕ
       a = row.target - 8
 
@@ -195,15 +200,16 @@ module _ (rows : List TypeRow) (old : HeapView) (table : FinMap nat_cmp Handle) 
           apart
 
       words_more : (b : ℕ) → b % 8 ≡ 0
-          → (IsPinnedBelow table (number + 1) (b + 8) × (word_of (stored now a v) b ≡ pinned_header on (word_of old b)))
-          ⊎ ((IsPinnedBelow table (number + 1) (b + 8) → ⊥) × (word_of (stored now a v) b ≡ word_of old b))
+          → (IsPinnedBelow table low (number + 1) (b + 8)
+          × (word_of (stored now a v) b ≡ pinned_header on (word_of old b)))
+          ⊎ ((IsPinnedBelow table low (number + 1) (b + 8) → ⊥) × (word_of (stored now a v) b ≡ word_of old b))
       words_more b z = elim (cases_eq (b + 8) row.target) [
         | inl here ↦
             let at : b ≡ a = omega arith in
             let set : word_of (stored now a v) b ≡ pinned_header on (word_of now b) =
             ap (word_of (stored now a v)) at ∙ at_header ∙ ap (λ (n : ℕ). pinned_header on (word_of now n)) (sym at) in
             inl (
-              subst (IsPinnedBelow table (number + 1)) (sym here) (is_pinned_now kind some),
+              subst (IsPinnedBelow table low (number + 1)) (sym here) (is_pinned_now kind some above),
               elim (p.words b z) [
                 | inl hit ↦ set ∙ ap (pinned_header on) hit.1 ∙ twice (word_of old b)
                 | inr miss ↦ set ∙ ap (pinned_header on) miss.1
@@ -218,14 +224,14 @@ module _ (rows : List TypeRow) (old : HeapView) (table : FinMap nat_cmp Handle) 
                   inr (
                     λ q. elim (pinned_more (b + 8) q) [
                       | inl was ↦ miss.0 was
-                      | inr this ↦ apart this.2
+                      | inr this ↦ apart this.3
                     ],
                     same ∙ miss.1,
                   )
             ]
       ]
 
-      pub pins_more : HasPins rows old (stored now a v) table (number + 1) on
+      pub pins_more : HasPins rows old (stored now a v) table low (number + 1) on
       pins_more = record {
         shape = SameShape-stored old now a v p.shape;
         objects = written.objects ∙ p.objects;
@@ -238,39 +244,44 @@ module _ (rows : List TypeRow) (old : HeapView) (table : FinMap nat_cmp Handle) 
       }
 
 -- what the next handle leaves
-pub pins_next : (rows : List TypeRow) (old : HeapView) (table : FinMap nat_cmp Handle) (on : Bool) (now new : HeapView)
-    (from number : ℕ) (row : Handle) → IsHeap now → PinsStand rows old table → HasPins rows old now table from on
-    → IsNext table 1 from number row
-    → MatchBool (pins_something row)
+pub pins_next : (rows : List TypeRow) (old : HeapView) (table : FinMap nat_cmp Handle) (low : ℕ) (on : Bool)
+    (now new : HeapView) (from number : ℕ) (row : Handle) → IsHeap now → PinsStand rows old table
+    → HasPins rows old now table low from on → IsNext table low from number row
+    → MatchBool (pins_from low row)
     (new ≡ stored now (row.target - 8) (pinned_header on (word_of now (row.target - 8)))) (new ≡ now)
-    → HasPins rows old new table (number + 1) on
-pins_next rows old table on now new from number row heap stand p next is =
-    go (is_pinned_kind row.kind) refl (row.target == 0) refl is
+    → HasPins rows old new table low (number + 1) on
+pins_next rows old table low on now new from number row heap stand p next is =
+    go (is_pinned_kind row.kind) refl (row.target == 0) refl (nat_le low row.target) refl is
   where
     go : (k : Bool) → is_pinned_kind row.kind ≡ k → (z : Bool) → (row.target == 0) ≡ z
-        → MatchBool (k && not z)
+        → (l : Bool) → nat_le low row.target ≡ l
+        → MatchBool ((k && not z) && l)
         (new ≡ stored now (row.target - 8) (pinned_header on (word_of now (row.target - 8)))) (new ≡ now)
-        → HasPins rows old new table (number + 1) on
-    go true kind true zero same =
-        subst (λ h. HasPins rows old h table (number + 1) on) (sym same)
-        (passed_by rows old table on now from number row p next
+        → HasPins rows old new table low (number + 1) on
+    go true kind true zero l e same =
+        subst (λ h. HasPins rows old h table low (number + 1) on) (sym same)
+        (passed_by rows old table low on now from number row p next
         (λ both. let some = both.1 in let none = eqb-true row.target 0 zero in omega arith))
-    go true kind false some set =
+    go true kind false some true high set =
         let ne = eqb-false row.target 0 some in
         let above : 0 < row.target = omega arith in
-        subst (λ h. HasPins rows old h table (number + 1) on) (sym set)
-        (pins_more rows old table on now from number row p next heap kind above
+        subst (λ h. HasPins rows old h table low (number + 1) on) (sym set)
+        (pins_more rows old table low on now from number row p next heap kind above (leb-true low row.target high)
         (stand number row next.in_use kind above))
-    go false kind z e same =
-        subst (λ h. HasPins rows old h table (number + 1) on) (sym same)
-        (passed_by rows old table on now from number row p next
+    go true kind false some false under same =
+        subst (λ h. HasPins rows old h table low (number + 1) on) (sym same)
+        (passed_by rows old table low on now from number row p next
+        (λ both. true≢false (sym (le-leb low row.target both.2) ∙ under)))
+    go false kind z e l f same =
+        subst (λ h. HasPins rows old h table low (number + 1) on) (sym same)
+        (passed_by rows old table low on now from number row p next
         (λ both. true≢false (sym both.0 ∙ kind)))
 
 -- when all handles are passed
-pub pins_done : (rows : List TypeRow) (old : HeapView) (table : FinMap nat_cmp Handle) (on : Bool) (now : HeapView)
-    (from : ℕ) → from ≤ 65536 → HasPins rows old now table from on → NoneNames table 1 from 65536
-    → HasPins rows old now table 65536 on
-pins_done rows old table on now from most p none = record {
+pub pins_done : (rows : List TypeRow) (old : HeapView) (table : FinMap nat_cmp Handle) (low : ℕ) (on : Bool)
+    (now : HeapView) (from : ℕ) → from ≤ 65536 → HasPins rows old now table low from on → NoneNames table low from 65536
+    → HasPins rows old now table low 65536 on
+pins_done rows old table low on now from most p none = record {
   shape = p.shape;
   objects = p.objects;
   items = p.items;
@@ -291,6 +302,7 @@ pins_done rows old table on now from most p none = record {
             pinned = q.pinned;
             target = q.target;
             some = q.some;
+            high = q.high;
           },
           hit.1,
         )
@@ -298,20 +310,22 @@ pins_done rows old table on now from most p none = record {
   ];
 }
   where
-    lower : (place : ℕ) → IsPinnedBelow table 65536 place → IsPinnedBelow table from place
+    lower : (place : ℕ) → IsPinnedBelow table low 65536 place → IsPinnedBelow table low from place
     lower place q = elim (cases_lt q.number from) [
-      | inl low ↦
+      | inl less ↦
           record {
             number = q.number;
-            below = low;
+            below = less;
             row = q.row;
             in_use = q.in_use;
             pinned = q.pinned;
             target = q.target;
             some = q.some;
+            high = q.high;
           }
-      | inr high ↦
-          let off = none q.number q.row high q.below q.in_use in
-          let some : 0 < q.row.target = subst (λ (n : ℕ). 0 < n) (sym q.target) q.some in
-          absurd (true≢false (sym (ap (λ (b : Bool). b || nat_le 1 q.row.second) (le-leb 1 q.row.target some)) ∙ off))
+      | inr not_less ↦
+          let off = none q.number q.row not_less q.below q.in_use in
+          let above : low ≤ q.row.target = subst (λ (n : ℕ). low ≤ n) (sym q.target) q.high in
+          absurd (true≢false (sym (ap (λ (b : Bool). b || nat_le low q.row.second) (le-leb low q.row.target above))
+          ∙ off))
     ]

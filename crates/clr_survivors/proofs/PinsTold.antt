@@ -5,7 +5,7 @@ use Rattle.std.proofs.Common.{refl, ap, sym, ◌∙◌, subst, arith, Some, if�
 use Rattle.std.specs.FinMap as finmap
 use Rattle.std.specs.FinMap.{FinMap}
 use Rattle.std.specs.Ordering.{nat_cmp}
-use Rattle.std.proofs.lemmas.Bool.{and_parts, both_ways, cases_Bool, eq-eqb, eqb-true, ne_eqb}
+use Rattle.std.proofs.lemmas.Bool.{and_parts, both_ways, cases_Bool, cases_lt, eq-eqb, eqb-true, ne_eqb}
 use Rattle.clr_types.specs.Kinds.{is_pinned_kind}
 use Rattle.clr_types.specs.Rising.{IsIn, IsRisingBy}
 use Rattle.clr_types.specs.Segments.{generation}
@@ -29,6 +29,7 @@ use Rattle.clr_survivors.specs.Pins.{HasPins, IsPinnedBelow, pinned_header}
 use Rattle.clr_survivors.specs.Survivors.{pins_place}
 use Rattle.clr_survivors.proofs.FewPinned.{all_pinned, fewer}
 use Rattle.clr_survivors.proofs.ItemsOf.{item-of, place-high}
+use Rattle.clr_survivors.proofs.PinnedFrom.{or_null, pinned-relocated, pins-above, pins-under, table_from}
 
 and_from : (a b : Bool) → a ≡ true → b ≡ true → (a && b) ≡ true
 and_from true true p q = refl
@@ -63,8 +64,9 @@ none-pinned rows t header (inr flag) =
 
 module _ (table : FinMap nat_cmp Handle) (numbers : (k : ℕ) (row : Handle) → finmap.get table k ≡ Some row → k < 65536)
   where
-    pub pinned-below : (place : ℕ) → 0 < place → pins_place table place ≡ true → IsPinnedBelow table 65536 place
-    pinned-below place some e =
+    pub pinned-below : (low place : ℕ) → 0 < place → low ≤ place → pins_place table place ≡ true
+        → IsPinnedBelow table low 65536 place
+    pinned-below low place some high e =
         let (row, i, passes) =
         any-in (λ (r : Handle). is_pinned_kind r.kind && (r.target == place)) (finmap.values table)
         e in
@@ -78,19 +80,20 @@ module _ (table : FinMap nat_cmp Handle) (numbers : (k : ℕ) (row : Handle) →
           pinned = kind;
           target = eqb-true row.target place at;
           some = some;
+          high = high;
         }
 
-pub below-pinned : (table : FinMap nat_cmp Handle) (n place : ℕ) → IsPinnedBelow table n place
+pub below-pinned : (table : FinMap nat_cmp Handle) (low n place : ℕ) → IsPinnedBelow table low n place
     → pins_place table place ≡ true
-below-pinned table n place q =
+below-pinned table low n place q =
     any-from (λ (r : Handle). is_pinned_kind r.kind && (r.target == place)) (finmap.values table) q.row
     (value-among table q.number q.row q.in_use)
     (and_from (is_pinned_kind q.row.kind) (q.row.target == place) q.pinned (eq-eqb q.row.target place q.target))
 
 -- ---- the heap with the bits
 
-module _ (rows : List TypeRow) (old new : HeapView) (table : FinMap nat_cmp Handle) (heap : IsHeap old)
-    (held : IsHeld rows old) (on : Bool) (pins : HasPins rows old new table 65536 on) where
+module _ (rows : List TypeRow) (old new : HeapView) (table : FinMap nat_cmp Handle) (low : ℕ) (heap : IsHeap old)
+    (held : IsHeld rows old) (on : Bool) (pins : HasPins rows old new table low 65536 on) where
   pub frame-kept : frame new ≡ frame old
   frame-kept = ap frame pins.shape.others
 
@@ -120,10 +123,10 @@ module _ (rows : List TypeRow) (old new : HeapView) (table : FinMap nat_cmp Hand
       let same = ap (λ l. generation l o.place) frame-kept in
       tests o was (omega (arith, young, same)) ∙ sym (marked-kept o was)
 
-module _ (rows : List TypeRow) (old new : HeapView) (table : FinMap nat_cmp Handle) (heap : IsHeap old)
+module _ (rows : List TypeRow) (old new : HeapView) (table : FinMap nat_cmp Handle) (low : ℕ) (heap : IsHeap old)
     (held : IsHeld rows old) (clean : AreClean rows old)
     (numbers : (k : ℕ) (row : Handle) → finmap.get table k ≡ Some row → k < 65536)
-    (pins : HasPins rows old new table 65536 true) where
+    (pins : HasPins rows old new table low 65536 true) where
   clean-header : (o : Object) → IsIn o (objects_in rows old) → has_pin (word_of old (o.place - 8)) ≡ false
   clean-header o n =
       let k = item-of rows old o n in
@@ -132,7 +135,7 @@ module _ (rows : List TypeRow) (old new : HeapView) (table : FinMap nat_cmp Hand
       (none-pinned rows k.item.type_id.0 (word_of old (k.item.place - 8)) (clean k.item k.listed k.object).header)
 
   pub pin-told : (o : Object) → IsIn o (objects_in rows old)
-      → pins_place table o.name ≡ has_pin (word_of new (o.place - 8))
+      → pins_place (table_from low table) o.name ≡ has_pin (word_of new (o.place - 8))
   pin-told o n =
       let name = name-is-place rows old o n in
       let (up, aligned) = place-high rows old heap held o n in
@@ -140,20 +143,25 @@ module _ (rows : List TypeRow) (old new : HeapView) (table : FinMap nat_cmp Hand
       let some : 0 < o.name = omega (arith, up, name) in
       elim (pins.words (o.place - 8) (omega (arith, up, aligned))) [
         | inl hit ↦
-            let here = subst (IsPinnedBelow table 65536) (back ∙ sym name) hit.0 in
-            below-pinned table 65536 o.name here
+            let here = subst (IsPinnedBelow table low 65536) (back ∙ sym name) hit.0 in
+            pins-above low o.name some here.high table ∙ below-pinned table low 65536 o.name here
             ∙ sym (ap has_pin hit.1 ∙ pin-set (word_of old (o.place - 8)))
         | inr miss ↦
             let off : has_pin (word_of new (o.place - 8)) ≡ false = ap has_pin miss.1 ∙ clean-header o n in
-            elim (cases_Bool (pins_place table o.name)) [
-              | inl pinned ↦ absurd (miss.0 (subst (IsPinnedBelow table 65536) (name ∙ sym back)
-                  (pinned-below table numbers o.name some pinned)))
-              | inr none ↦ none ∙ sym off
+            elim (cases_lt o.name low) [
+              | inl under ↦ pins-under low o.name some under table ∙ sym off
+              | inr high ↦
+                  pins-above low o.name some high table
+                  ∙ elim (cases_Bool (pins_place table o.name)) [
+                    | inl pinned ↦ absurd (miss.0 (subst (IsPinnedBelow table low 65536) (name ∙ sym back)
+                        (pinned-below table numbers low o.name some high pinned)))
+                    | inr none ↦ none ∙ sym off
+                  ]
             ]
       ]
 
   -- THE PINS ARE TOLD
-  pub tells-pins : (m : Machine) → m.handles ≡ table → TellsPins rows new m
+  pub tells-pins : (m : Machine) → m.handles ≡ table_from low table → TellsPins rows new m
   tells-pins m same o n =
       ap (λ (t : FinMap nat_cmp Handle). pins_place t o.name) same
       ∙ pin-told o (subst (λ (os : List Object). IsIn o os) pins.objects n)
@@ -164,8 +172,9 @@ module _ (rows : List TypeRow) (old new : HeapView) (table : FinMap nat_cmp Hand
       let passes : Object → Bool = λ o. is_marked new o && has_pin (word_of new (o.place - 8)) in
       let rise : IsRisingBy (λ (o : Object). o.name) (objects_in rows old) =
       objects-rise rows (word_of old) (heap_items rows old) (heap-rise rows old held.walkable heap) in
-      let all = all_pinned (finmap.values table) (objects_in rows old) rise in
-      let some = fewer passes (λ o. pins_place table o.name) (objects_in rows old)
+      let all = all_pinned (finmap.values (table_from low table)) (objects_in rows old) rise in
+      let some = fewer passes (λ o. pins_place (table_from low table) o.name) (objects_in rows old)
       (λ o n e. pin-told o n ∙ (and_parts (is_marked new o) (has_pin (word_of new (o.place - 8))) e).1) in
       let same = ap (λ (os : List Object). length (filter passes os)) pins.objects in
-      omega (arith, all, some, same)
+      let count = pinned-relocated (or_null low) table in
+      omega (arith, all, some, same, count)

@@ -9,8 +9,8 @@ use Rattle.clr_view.specs.View.{AreFreeHeads}
 use Rattle.clr_sweep.specs.SweptLarge.{HasSweptLarge}
 use Rattle.clr_survivors.specs.Phases.{HasSettled}
 
-module _ (rows : List TypeRow) (old new : HeapView) (table : FinMap nat_cmp Handle) (g : ℕ)
-    (e : HasSettled rows old new table g) where
+module _ (rows : List TypeRow) (old new : HeapView) (table : FinMap nat_cmp Handle) (low g : ℕ)
+    (e : HasSettled rows old new table low g) where
   -- what holds of the heap without pins, and of a swept one, holds at the end
   pub settled-has : (P : HeapView → Type 0) → P e.bare → (HasSweptLarge rows e.bare new → P new) → P new
   settled-has P bare swept = go (g == 2) e.swept

@@ -1,3 +1,4 @@
+pub mod Condemned
 pub mod Pins
 pub mod Phases
 pub mod Roots

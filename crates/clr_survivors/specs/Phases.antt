@@ -20,18 +20,19 @@ use Rattle.clr_plan.specs.Planned.{HasPlanned}
 use Rattle.clr_plugs.specs.BrickEntries.{BricksView}
 use Rattle.clr_reloc.specs.Relocated.{CanRelocate, HasRelocated}
 use Rattle.clr_sweep.specs.SweptLarge.{HasSweptLarge}
+use Rattle.clr_survivors.specs.Condemned.{condemned_from}
 use Rattle.clr_survivors.specs.Pins.{HasPins}
 use Rattle.clr_survivors.specs.Roots.{HaveGone, NamesGo, Plan}
 
 -- ---- the plan
 
--- The headers of what pinned handles name say so, and heap, bricks and queue tell the plan of the compaction of this
--- machine. Entries that the plan hasn't overwritten are those of before.
+-- The headers of what pinned handles name say so, but for what stands below all parts, and heap, bricks and queue tell
+-- the plan of the compaction of this machine. Entries that the plan hasn't overwritten are those of before.
 pub record HasPlannedPinned (rows : List TypeRow) (old new : HeapView) (before bricks : BricksView)
     (entries : List PinEntry) (table : FinMap nat_cmp Handle) (g : ℕ) (m : Machine) (kept : ℕ → Bool)
     (planned : Planned) : Type 0 where
   pub view : HeapView
-  pub pins : HasPins rows old view table 65536 true
+  pub pins : HasPins rows old view table (condemned_from old g) 65536 true
   pub plan : HasPlanned rows view new bricks entries g m kept planned.start1 planned.start0
   pub remembered : AreRemembered rows view bricks g (entry_at before) planned.below planned.first
 
@@ -69,9 +70,10 @@ pub record HasMovedBy (rows : List TypeRow) (view new : HeapView) (g : ℕ) (vs 
 
 -- ---- the end
 
--- No header says any more that its object is pinned, and in a collection of generation 2 large segments are swept.
-pub record HasSettled (rows : List TypeRow) (old new : HeapView) (table : FinMap nat_cmp Handle) (g : ℕ)
+-- No header of what pinned handles name from `low` on says any more that its object is pinned, and in a collection of
+-- generation 2 large segments are swept.
+pub record HasSettled (rows : List TypeRow) (old new : HeapView) (table : FinMap nat_cmp Handle) (low g : ℕ)
     : Type 0 where
   pub bare : HeapView
-  pub pins : HasPins rows old bare table 65536 false
+  pub pins : HasPins rows old bare table low 65536 false
   pub swept : MatchBool (g == 2) (HasSweptLarge rows bare new) (new ≡ bare)

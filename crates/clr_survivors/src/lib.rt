@@ -6,6 +6,7 @@
 
 pub use crate::moving::move_survivors;
 
+mod condemned;
 mod moving;
 mod pins;
 mod roots;

@@ -24,9 +24,11 @@ ghost use Rattle.clr_generations.specs.Laws.{BrickLaw, CardLaw};
 ghost use Rattle.clr_generations.specs.Tables.{AreBricksOf};
 ghost use Rattle.clr_reloc.specs.Relocated as relocated;
 ghost use Rattle.clr_reloc.specs.Relocated.{CanRelocate, rebounded};
+ghost use Rattle.clr_survivors.specs.Condemned.{condemned_from};
 ghost use Rattle.clr_survivors.specs.Phases.{CanMove, HasMovedBy, HasPlannedPinned, HasSettled};
 ghost use Rattle.clr_survivors.specs.Pins.{PinsStand};
 
+use crate::condemned::first_condemned;
 use crate::pins::set_pins;
 use crate::roots::move_roots;
 use clr_bricks::Bricks;
@@ -97,18 +99,19 @@ pub fn move_survivors(
 {
     heap.lawful();
     handles.lawful();
-    let planned = plan_pinned(heap, types, bricks, pins, handles, g);
+    let low = first_condemned(heap, g);
+    let planned = plan_pinned(heap, types, bricks, pins, handles, g, low);
     heap.lawful();
     let promoted = move_by_plan(
         types, heap, cards, bricks, handles, finals, locals, pins, slides, g, &planned,
     );
     heap.lawful();
-    settle(heap, types, bricks, handles, g);
+    settle(heap, types, bricks, handles, g, low);
     heap.lawful();
     promoted
 }
 
-// Marks in the headers what pinned handles name, and plans.
+// Marks in the headers what pinned handles name from `low` on, below which no part has a place, and plans.
 fn plan_pinned(
     heap: &mut Heap,
     types: &Types,
@@ -116,8 +119,10 @@ fn plan_pinned(
     pins: &mut PinQueue,
     handles: &Handles,
     g: u8,
+    low: u64,
 ) -> Planned
     requires generation { g ≤ 2 }
+    requires low { low ≡ condemned_from heap.old g }
     requires held { IsHeld types.now heap.old }
     requires no_contexts { heap.old.rests ≡ no_rests }
     requires laid { (n : Machine) × IsMemoryOf types.now heap.old n × IsLaid n }
@@ -137,7 +142,7 @@ fn plan_pinned(
 {
     heap.lawful();
     handles.lawful();
-    set_pins(heap, types, handles, true);
+    set_pins(heap, types, handles, low, true);
     heap.lawful();
     plan(heap, types, bricks, pins, g)
 }
@@ -182,18 +187,18 @@ fn move_by_plan(
     promoted
 }
 
-// Takes the marks of what pinned handles name from the headers, and sweeps large segments where `g` is 2.
-fn settle(heap: &mut Heap, types: &Types, bricks: &mut Bricks, handles: &Handles, g: u8)
+// Takes the marks of what pinned handles name from `low` on from the headers, and sweeps large segments where `g` is 2.
+fn settle(heap: &mut Heap, types: &Types, bricks: &mut Bricks, handles: &Handles, g: u8, low: u64)
     requires held { IsHeld types.now heap.old }
     requires no_contexts { heap.old.rests ≡ no_rests }
     requires stand { PinsStand types.now heap.old handles.now }
     requires bricks { AreBricksOf (frame heap.old) bricks.old }
     requires brick_law { BrickLaw types.now (frame heap.old) (objects_in types.now heap.old) (entry_at bricks.old) }
-    ensures settled { HasSettled types.now heap.old heap.new handles.now g }
+    ensures settled { HasSettled types.now heap.old heap.new handles.now low g }
     ensures brick_law { BrickLaw types.now (frame heap.new) (objects_in types.now heap.new) (entry_at bricks.new) }
     ensures spans { spans bricks.new ≡ spans bricks.old }
 {
-    set_pins(heap, types, handles, false);
+    set_pins(heap, types, handles, low, false);
     if g == 2 {
         sweep_large(heap, types, bricks);
     }

@@ -4,7 +4,7 @@ ghost use Rattle.clr_heap.specs.View.{stored, word_of};
 ghost use Rattle.clr_view.specs.SlotValues.{StandsAt};
 ghost use Rattle.clr_view.specs.View.{IsHeld};
 ghost use Rattle.clr_plan.specs.Pinned as pinned;
-ghost use Rattle.clr_survivors.specs.Pins.{HasPins, pinned_header, pins_something, PinsStand};
+ghost use Rattle.clr_survivors.specs.Pins.{HasPins, pinned_header, pins_from, PinsStand};
 
 use clr_handles::Handles;
 use clr_heap::Heap;
@@ -13,30 +13,31 @@ use clr_types::{Handle, Types};
 // The bit of an object's header that says that a plan leaves it where it is.
 const PINNED: u64 = 0x2000_0000;
 
-// Says in the headers of all targets of pinned handles whether they are pinned.
-pub(crate) fn set_pins(heap: &mut Heap, types: &Types, handles: &Handles, on: bool)
+// Says in the headers of all targets of pinned handles, as far as they stand at `low` or above it, whether they are
+// pinned.
+pub(crate) fn set_pins(heap: &mut Heap, types: &Types, handles: &Handles, low: u64, on: bool)
     requires held { IsHeld types.now heap.old }
     requires stand { PinsStand types.now heap.old handles.now }
-    ensures { HasPins types.now heap.old heap.new handles.now 65536 on }
+    ensures { HasPins types.now heap.old heap.new handles.now low 65536 on }
 {
     handles.lawful();
     let mut from = 0;
-    while let Some((number, handle)) = handles.next_from(from, 1) {
+    while let Some((number, handle)) = handles.next_from(from, low) {
         heap.lawful();
-        set_pin_of(heap, types, handle, on);
+        set_pin_of(heap, types, handle, low, on);
         from = number + 1;
     }
 }
 
-// Says it in the header of the object that a handle pins, where it pins one.
-fn set_pin_of(heap: &mut Heap, types: &Types, handle: Handle, on: bool)
+// Says it in the header of the object that a handle pins, where it pins one at `low` or above it.
+fn set_pin_of(heap: &mut Heap, types: &Types, handle: Handle, low: u64, on: bool)
     requires held { IsHeld types.now heap.old }
-    requires stands { pins_something handle ≡ true → StandsAt types.now heap.old handle.target }
-    ensures { MatchBool (pins_something handle)
+    requires stands { pins_from low handle ≡ true → StandsAt types.now heap.old handle.target }
+    ensures { MatchBool (pins_from low handle)
         (heap.new ≡ stored heap.old (handle.target - 8) (pinned_header on (word_of heap.old (handle.target - 8))))
         (heap.new ≡ heap.old) }
 {
-    if handle.kind.is_pinned() && handle.target != 0 {
+    if handle.kind.is_pinned() && handle.target != 0 && low <= handle.target {
         set_pin(heap, types, handle.target, on);
     }
 }

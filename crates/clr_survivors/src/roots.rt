@@ -6,6 +6,7 @@ ghost use Rattle.clr_model.specs.Compaction.{moved_by};
 ghost use Rattle.clr_moves.specs.Overlaid.{MayGo};
 ghost use Rattle.clr_survivors.specs.Roots.{AllGo, CanGo, Guides, HandlesGo, HasMoved, HaveGone, NamesGo, Plan};
 
+use crate::condemned::first_condemned;
 use clr_bricks::Bricks;
 use clr_final::Finals;
 use clr_handles::Handles;
@@ -38,14 +39,17 @@ pub(crate) fn move_roots(
     move_locals(heap, bricks, g, locals);
 }
 
-// Relocates what handles name.
+// Relocates what handles name. What they name below all parts stays.
 fn move_handles(heap: &Heap, bricks: &Bricks, g: u8, handles: &mut Handles)
     requires least { g ≤ 2 }
     requires go { (p : Plan) × Guides p heap.now bricks.now g × HandlesGo p g handles.old }
     ensures gone { (p : Plan) → Guides p heap.now bricks.now g → HandlesGo p g handles.old → moved_by p.moves 0 ≡ 0
         → handles.new ≡ map_values (relocated (moved_by p.moves)) handles.old }
 {
-    handles.relocate(
+    heap.lawful();
+    let low = first_condemned(heap, g);
+    handles.relocate_from(
+        low,
         |place|
             requires least { g ≤ 2 }
             requires go { CanGo heap.now bricks.now g place }

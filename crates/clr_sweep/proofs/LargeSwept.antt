@@ -50,7 +50,7 @@ abbrev pub bounded_as : HeapView → HeapView → HeapView
 bounded_as old h = record h { start1 = old.start1; start0 = old.start0 }
 
 -- lists of segments that differ in others than the ephemeral one alone
-ephemerals-alike : (xs ys : List SegInfo) → length xs ≡ length ys
+pub ephemerals-alike : (xs ys : List SegInfo) → length xs ≡ length ys
     → ((j : ℕ) → j < length ys → (get_or xs j empty_segment ≡ get_or ys j empty_segment)
     ⊎ ((same_kind Ephemeral (get_or xs j empty_segment).kind ≡ false)
     × (same_kind Ephemeral (get_or ys j empty_segment).kind ≡ false)))

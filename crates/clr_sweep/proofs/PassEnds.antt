@@ -43,10 +43,10 @@ none_starts h k q e = go (same_kind (segment_at h k).kind Ephemeral)
     go false = refl
 
 module _ (rows : List TypeRow) (old : HeapView) (k : ℕ) (heap : IsHeap old) (from : ℕ)
-    (inside : k < length old.segments) (w : IsParted rows old k from) (rests : old.rests ≡ no_rests) where
-  -- what is known of the segment
-  pub home_is : IsHome rows old k from (last_of old k)
-  home_is =
+    (inside : k < length old.segments) (w : IsParted rows old k from) where
+  -- what is known of a segment where no hole starts
+  pub home_unholed : ((q : ℕ) → hole_from (holes_of old k) q ≡ None) → IsHome rows old k from (last_of old k)
+  home_unholed none =
       let lawful = lawful_at old k heap inside in
       let end = lawful.high in
       let top = below_top_at old k heap inside in
@@ -60,11 +60,17 @@ module _ (rows : List TypeRow) (old : HeapView) (k : ℕ) (heap : IsHeap old) (f
       record {
         walk = w.above;
         index = λ b lo hi. index_is_segment old k b heap inside (omega arith) (omega arith);
-        none = λ q. none_starts old k q rests;
+        none = none;
         up = up;
         most = omega (arith, low, end, sum, limit, least);
         high = omega (arith, end, top, small);
       }
+
+module _ (rows : List TypeRow) (old : HeapView) (k : ℕ) (heap : IsHeap old) (from : ℕ)
+    (inside : k < length old.segments) (w : IsParted rows old k from) (rests : old.rests ≡ no_rests) where
+  -- what is known of the segment
+  pub home_is : IsHome rows old k from (last_of old k)
+  home_is = home_unholed rows old k heap from inside w (λ q. none_starts old k q rests)
 
   -- the pass begins
   pub pass_starts : (t : Tally) → IsAtMost t from → IsPassing rows old old k from (last_of old k) t

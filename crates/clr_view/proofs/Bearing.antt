@@ -1,10 +1,10 @@
 -- For the caller that makes an object: what a test of its context says, and what its writes leave.
-use Rattle.std.proofs.Common.{◌≡◌, ◌⊎◌, inl, inr, ℕ, ◌+◌, ◌-◌, ◌%◌, ◌<◌, ◌≤◌, eqb, leb, true, List, [], ◌∷◌, ◌++◌, set}
+use Rattle.std.proofs.Common.{◌≡◌, ◌⊎◌, inl, inr, ℕ, ◌+◌, ◌-◌, ◌<◌, ◌≤◌, eqb, leb, true, List, [], ◌∷◌, ◌++◌, set}
 use Rattle.std.proofs.Common.{Option, None, Some, refl, ap, sym, ◌∙◌, subst, subst₂, arith}
 use Rattle.std.specs.Option.{option_map}
 use Rattle.std.proofs.lemmas.Bool.{cases_Bool, eqb-true, leb-true}
 use Rattle.std.proofs.lemmas.Option.{slice_get-get_or}
-use Rattle.clr_types.specs.Types.{TypeRow, form_at, is_array, size_of}
+use Rattle.clr_types.specs.Types.{TypeRow, form_at, size_of}
 use Rattle.clr_types.specs.Rising.{first, IsIn}
 use Rattle.clr_types.proofs.ListMembers.{append_right}
 use Rattle.clr_types.proofs.SortedLists.{into_sorted_by}
@@ -18,7 +18,7 @@ use Rattle.clr_view.specs.View.{HasNewborn, IsHeld, newborn_at, objects_in}
 use Rattle.clr_view.specs.SlotValues.{StandsAt}
 use Rattle.clr_view.specs.Births.{with_newborn}
 use Rattle.clr_view.proofs.Born.{born_at_front, front-is, grown, grown-is, heap-grown}
-use Rattle.clr_view.proofs.Fronts.{cell-clear, FitsFront, head, leaves, up-to}
+use Rattle.clr_view.proofs.Fronts.{cell-clear, FitsFront, head, IsClearBehind, leaves, up-to}
 
 -- a size that fits fills the range or leaves 24 bytes
 pub fits-is : (size bytes : ℕ) → fits size bytes ≡ true → (size ≡ bytes) ⊎ (size + 24 ≤ bytes)
@@ -26,14 +26,6 @@ fits-is size bytes e = elim (cases_Bool (eqb size bytes)) [
   | inl same ↦ inl (eqb-true size bytes same)
   | inr other ↦ let more : leb (size + 24) bytes ≡ true = rw other at e in inr (leb-true (size + 24) bytes more)
 ]
-
--- the words of the cell of an object of type t and length n at a are clear, but for its method table word and its
--- length word
-abbrev pub IsClearBehind : List TypeRow → (ℕ → ℕ) → ℕ → ℕ → ℕ → Type 0
-IsClearBehind rows word a t n =
-    (b : ℕ) → b % 8 ≡ 0 → a + 8 ≤ b → b + 16 ≤ a + size_of (form_at rows t) n
-    → (is_array (form_at rows t) ≡ true → a + 16 ≤ b)
-    → word b ≡ 0
 
 -- an object is asked for that fits at the front of a context
 pub record IsAsked (rows : List TypeRow) (h : HeapView) (thread t n : ℕ) : Type 0 where

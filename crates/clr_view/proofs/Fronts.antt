@@ -4,7 +4,7 @@ use Rattle.std.proofs.Common.{◌≡◌, ◌≢◌, ◌⊎◌, inl, inr, ℕ, su
 use Rattle.std.proofs.Common.{length, get_or, set, refl, ap, sym, ◌∙◌, arith, Option, None, Some}
 use Rattle.std.proofs.lemmas.Bool.{cases_Bool, cases_eq, eq-eqb, ne_eqb}
 use Rattle.std.proofs.lemmas.List.{get_or-set_other, get_or-set_same}
-use Rattle.clr_types.specs.Types.{TypeRow, Form, form_at, is_array, mt_of, size_of, slot_kinds, slot_offset}
+use Rattle.clr_types.specs.Types.{TypeRow, Form, form_at, is_array, mt_of, size_of, slot_offset}
 use Rattle.clr_types.specs.Ranges.{Piece, piece_end}
 use Rattle.clr_heap.specs.Parts.{Among, hole_from, IsMakeable, made_item, rest_part, start_of}
 use Rattle.clr_heap.specs.View.{first_of, HasHead, HeapView, IsHeap, IsWalkable, last_of, parts_of, placed}
@@ -65,6 +65,45 @@ unmeasured rows h a t n g class =
     let z2 = g.len.aligned in
     rw class (word_in-store_in_other h1.memories a (mt_of t) (a + 8) z1 z2 (λ same. omega arith)
     ∙ word_in-store_in_other h.memories (a - 8) 0 (a + 8) z0 z2 (λ same. omega arith))
+
+-- the words of the cell of an object of type t and length n at a are clear, but for its method table word and its
+-- length word
+abbrev pub IsClearBehind : List TypeRow → (ℕ → ℕ) → ℕ → ℕ → ℕ → Type 0
+IsClearBehind rows word a t n =
+    (b : ℕ) → b % 8 ≡ 0 → a + 8 ≤ b → b + 16 ≤ a + size_of (form_at rows t) n
+    → (is_array (form_at rows t) ≡ true → a + 16 ≤ b)
+    → word b ≡ 0
+
+-- where the words of a cell are clear, they are so behind a head that is written there
+pub clear-behind : (rows : List TypeRow) (h : HeapView) (a t n : ℕ) → HasHead h a
+    → ((b : ℕ) → b % 8 ≡ 0 → a + 8 ≤ b → b + 16 ≤ a + size_of (form_at rows t) n → word_of h b ≡ 0)
+    → IsClearBehind rows (word_of (placed rows h a t n)) a t n
+clear-behind rows h a t n g clear b z low end long =
+    let up = g.above in
+    let leaves = placed_leaves rows h a t n g in
+    let zero = clear b z low end in
+    elim (cases_Bool (is_array (form_at rows t))) [
+      | inl array ↦
+          let far = long array in
+          leaves.others b z (λ same. omega arith) (λ same. omega arith) (λ same. omega arith) ∙ zero
+      | inr class ↦ elim (cases_eq b (a + 8)) [
+        | inl same ↦ ap (word_of (placed rows h a t n)) same ∙ unmeasured rows h a t n g class
+            ∙ ap (word_of h) (sym same) ∙ zero
+        | inr other ↦ leaves.others b z (λ same. omega arith) (λ same. omega arith) other ∙ zero
+      ]
+    ]
+
+-- the object that a clear header and clear words behind a head hold
+pub newborn-seen : (rows : List TypeRow) (word : ℕ → ℕ) (a t n : ℕ) → a % 8 ≡ 0 → word (a - 8) ≡ 0
+    → IsClearBehind rows word a t n → object_in rows word (made_item rows a t n) ≡ newborn_at rows a t n
+newborn-seen rows word a t n z header clear =
+    let form = form_at rows t in
+    let slots = slots-empty form word a n (λ j l.
+    let at = slot-inside form n a j z l in
+    clear (slot_word form (a + slot_offset form j)) at.aligned at.above at.below
+    (λ array. above-length form a j z array)) in
+    let flag : has_suppressed_bit (word (a - 8)) ≡ false = ap has_suppressed_bit header in
+    λ i. record (newborn_at rows a t n) { slots = slots i; suppressed = flag i }
 
 -- ---- the birth
 
@@ -179,38 +218,13 @@ module _ (rows : List TypeRow) (h : HeapView) (thread : ℕ) (r : Piece) (t n : 
       ∙ own.clear b z (omega arith) up
 
   -- so are those of the new object, but for its method table word and its length word
-  pub cell-clear : (b : ℕ) → b % 8 ≡ 0 → a + 8 ≤ b → b + 16 ≤ last → (is_array form ≡ true → a + 16 ≤ b)
-      → word_of headed b ≡ 0
-  cell-clear b z low end long =
-      let up = head.above in
-      let room = up-to in
-      let zero = own.clear b z (omega arith) (omega arith) in
-      elim (cases_Bool (is_array form)) [
-        | inl array ↦
-            let far = long array in
-            leaves.others b z (λ same. omega arith) (λ same. omega arith) (λ same. omega arith) ∙ zero
-        | inr class ↦ elim (cases_eq b (a + 8)) [
-          | inl same ↦
-              ap (word_of headed) same ∙ unmeasured rows h a t n head class ∙ ap (word_of h) (sym same) ∙ zero
-          | inr other ↦ leaves.others b z (λ same. omega arith) (λ same. omega arith) other ∙ zero
-        ]
-      ]
-
-  slot-clear : (j : ℕ) → j < length (slot_kinds form n) → word_of headed (slot_word form (a + slot_offset form j)) ≡ 0
-  slot-clear j l =
-      let z = head.mt.aligned in
-      let at = slot-inside form n a j z l in
-      let above = at.above in
-      let below = at.below in
-      cell-clear (slot_word form (a + slot_offset form j)) at.aligned above below
-      (λ array. above-length form a j z array)
+  pub cell-clear : IsClearBehind rows (word_of headed) a t n
+  cell-clear = clear-behind rows h a t n head (λ b z low end. let up = up-to in
+      own.clear b z (omega arith) (omega arith))
 
   -- the object that its words hold
   pub newborn-is : object_in rows (word_of headed) (made_item rows a t n) ≡ newborn_at rows a t n
-  newborn-is =
-      let slots = slots-empty form (word_of headed) a n slot-clear in
-      let flag : has_suppressed_bit (word_of headed (a - 8)) ≡ false = ap has_suppressed_bit leaves.header in
-      λ i. record (newborn_at rows a t n) { slots = slots i; suppressed = flag i }
+  newborn-is = newborn-seen rows (word_of headed) a t n head.mt.aligned leaves.header cell-clear
 
   -- the cells below and above the context stay
   pub below-stays : CellsStay (word_of h) (word_of headed) (first_of h k) a

@@ -26,3 +26,5 @@ pub mod Among
 pub mod Standing
 pub mod Headers
 pub mod Worlds
+pub mod Swapping
+pub mod Carving

@@ -111,7 +111,8 @@ above-all : (base low : ℕ) (ss : List SegInfo) → base < low → AllByRecursi
 above-all base low [] l h = tt
 above-all base low (s ∷ ss) l h = let le = h.0 in (omega arith, above-all base low ss l h.1)
 
-changed-set : (change : SegInfo → SegInfo) (ss : List SegInfo) (k : ℕ) → AreDisjoint ss
+-- one segment is changed by its number
+pub changed-set : (change : SegInfo → SegInfo) (ss : List SegInfo) (k : ℕ) → AreDisjoint ss
     → AllByRecursion IsLawfulSegment ss → k < length ss
     → changed_by (λ s. s.base) (get_or ss k empty_segment).base change ss ≡ set ss k
     (change (get_or ss k empty_segment))

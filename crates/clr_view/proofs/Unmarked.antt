@@ -58,7 +58,7 @@ module _ (rows : List TypeRow) (h : HeapView) (heap : IsHeap h) (held : IsHeld r
       clear x (record { stands = stands; mark = ap has_mark (sym same) ∙ marked.mark })
 
 -- a method table word carries no mark
-even-mt : (t : ℕ) → has_mark (mt_of t) ≡ false
+pub even-mt : (t : ℕ) → has_mark (mt_of t) ≡ false
 even-mt t = ne_eqb (mt_of t % 2) 1 (λ e. omega arith)
 
 module _ (rows : List TypeRow) (old new : HeapView) (thread t n : ℕ) (birth : IsBirth rows old new thread t n) where

@@ -1,5 +1,5 @@
 // Segments that are acquired and released.
-ghost use Rattle.std.specs.Prelude.{◌≡◌, ◌≢◌, ◌↔◌, ℕ, ◌+◌, ◌%◌, ◌<◌, ◌≤◌, ◌^◌, [], ◌∷◌, ◌++◌, length, map, sum_by};
+ghost use Rattle.std.specs.Prelude.{◌≡◌, ◌≢◌, ◌↔◌, ℕ, ◌+◌, ◌%◌, ◌<◌, ◌≤◌, ◌^◌, [], ◌∷◌, ◌++◌, length, map, nat_le, sum_by};
 ghost use Rattle.std.specs.Prelude.{vec_len, vec_capacity, IfOk, OnOk, OnErr, drop, take};
 ghost use Rattle.std.specs.List.{remove};
 ghost use Rattle.clr_types.specs.Segments.{reserved_sum, sealed_segment};
@@ -7,6 +7,9 @@ ghost use Rattle.clr_types.specs.Segments.{reserved_sum, sealed_segment};
 use super::Heap;
 use clr_mem::{Mem, NoMemory};
 use clr_types::{SegInfo, SegKind};
+
+/// No segment is acquired above this.
+const HIGHEST_BASE: u64 = 1 << 61;
 
 /// Why no segment was acquired.
 #[derive(Clone, Copy, Debug, PartialEq, Eq)]
@@ -30,30 +33,39 @@ impl From<NoMemory> for AcquireFault {
 impl Heap {
     ghost use Rattle.clr_heap.specs.View.{acquired, frame, no_rests, segment_at};
 
+    /// Whether the limit allows that so many more bytes are reserved.
+    pub fn allows(&self, size: u64) -> bool
+        ensures { result ≡ nat_le (reserved_sum (frame self.now) + size) self.now.limit }
+    {
+        size <= self.limit - reserved_by(&self.segments)
+    }
+
     /// Acquires an empty segment of `size` bytes above all others, and answers its number. An ephemeral one has 64 MiB
     /// at most. It seals the old one, which becomes small, and no place of the new one is old. No thread may have a
     /// context then, since its rest would stand in a small segment.
     ///
-    /// `OverLimit` comes exactly where all segments together would reserve more than the limit. On both faults nothing
-    /// has changed.
+    /// `OverLimit` comes exactly where all segments together would reserve more than the limit, and `NoMemory` where
+    /// there is no memory, or no address left, for the segment. After both nothing has changed.
     pub fn acquire(&mut self, kind: SegKind, size: u64) -> Result<usize, AcquireFault>
         requires kind { kind ≢ SegKind.Small }
         requires no_contexts { kind ≡ SegKind.Ephemeral → self.old.rests ≡ no_rests }
         requires aligned { size % 4096 ≡ 0 }
         requires least { 262144 ≤ size }
         requires most { kind ≡ SegKind.Ephemeral → size ≤ 67108864 }
-        requires top { self.old.top ≤ 2 ^ 61 }
         ensures number { IfOk result (λ k. k ≡ length self.old.segments) }
         ensures acquired { OnOk result (self.new ≡ acquired self.old kind size) }
         ensures over_limit { (result ≡ Err AcquireFault.OverLimit)
             ↔ (self.old.limit < reserved_sum (frame self.old) + size) }
         ensures err { OnErr result (self.new ≡ self.old) }
     {
-        let left = self.limit - reserved_by(&self.segments);
-        if size > left {
+        if !self.allows(size) {
             return Err(AcquireFault::OverLimit);
         }
         let base = self.top;
+        // This never happens: no address is used twice, so it takes more than 2^40 segments.
+        if base > HIGHEST_BASE {
+            return Err(AcquireFault::NoMemory);
+        }
         let memory = Mem::new(self.alloc, base, size)?;
         make_room(&mut self.memories, &mut self.segments)?;
         let k = self.segments.len();

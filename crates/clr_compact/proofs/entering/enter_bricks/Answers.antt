@@ -1,16 +1,15 @@
-use Rattle.std.proofs.Common.{◌≡◌, ◌⊎◌, inl, inr, ℕ, ◌+◌, ◌*◌, ◌/◌, ◌<◌, ◌≤◌, ℤ, ap, refl, sym, ◌∙◌, subst, arith}
-use Rattle.std.proofs.Common.{max}
+use Rattle.std.proofs.Common.{◌≡◌, ◌⊎◌, inl, inr, ℕ, ◌+◌, ◌*◌, ◌/◌, ◌<◌, ◌≤◌, ap, refl, sym, ◌∙◌, subst, arith, max}
 use Rattle.std.proofs.lemmas.Bool.{cases_lt}
 use Rattle.clr_types.specs.declared.item.Item.{Item}
 use Rattle.clr_types.specs.declared.segment.SegInfo.{SegInfo}
-use Rattle.clr_bricks.specs.Bricks.{entry_at, IsRoot}
-use Rattle.clr_heap.specs.View.{frame, last_of, segment_at}
-use Rattle.clr_view.specs.View.{objects_in}
-use Rattle.clr_compact.specs.Entering.{entered_after, led_back, next_after}
-use Rattle.clr_generations.specs.Laws.{AreEntered}
-use Rattle.clr_compact.proofs.BrickWalks.{can_go_on, IsBrickWalk, walk_entered, walk_on}
-use Rattle.clr_compact.proofs.BrickWalks.{walk_others, walk_starts}
+use Rattle.clr_bricks.specs.Bricks.{entry_at}
+use Rattle.clr_heap.specs.View.{frame, HeapView, last_of, word_of}
+use Rattle.clr_heap.proofs.Spelling.{place-item_at}
 use Rattle.clr_generations.proofs.HeapHomes.{brick-covered, brick-in}
+use Rattle.clr_compact.proofs.EnteringWalks.{AreWalks, IsFirstOpen, IsSettling}
+use Rattle.clr_compact.proofs.EnteringWalks.{settling_covered, settling_ends, settling_more}
+use Rattle.clr_compact.proofs.EnteringWalks.{settling_starts, walks_end, walks_more, walks_start}
+use Rattle.clr_compact.proofs.Unmarking.{can_unmark, unmarking_ends, unmarking_more, unmarking_starts}
 use Rattle.clr_compact.proofs.entering.enter_bricks.Goals as goal
 
 pub first_open-next-requires : goal.first_open-next-requires
@@ -28,133 +27,109 @@ first_open-next-requires c =
 
 pub loop-place-init : goal.loop-place-init
 loop-place-init c =
+    let rows = c.args.types.now in
     let h = c.args.heap.now in
     let k = c.args.k in
-    let end = ap (λ (s : SegInfo). s.end) c.info-segment.ensures.value in
     let from = c.args.from in
-    let entry = entry_at c.args.bricks.now in
+    let bricks = c.args.bricks.now in
     let next = c.first_open-next.result in
-    let P : ℕ → Type 0 = λ e. (IsRoot (entry (from / 4096)) × (next ≡ from / 4096 + 1))
-    ⊎ (((e ≤ 4096 * (from / 4096)) ⊎ (IsRoot (entry (from / 4096)) → ⊥)) × (next ≡ from / 4096)) in
-    walk_starts c.args.types.now h c.lawful.ensures c.requires.held c.requires.no_contexts k c.requires.in_range
-    c.args.bricks.now from next c.requires.low c.requires.parted c.requires.whole c.requires.below
-    (subst P end c.first_open-next.ensures)
+    let P : ℕ → Type 0 = λ e. IsFirstOpen (entry_at bricks) from e next in
+    let begin = subst P (ap (λ (s : SegInfo). s.end) c.info-segment.ensures.value) c.first_open-next.ensures in
+    record {
+      rewriting = unmarking_starts rows h k from c.lawful.ensures c.requires.in_range c.requires.walk c.requires.low
+          c.requires.no_contexts;
+      settling = settling_starts h c.lawful.ensures k c.requires.in_range bricks from next c.requires.low begin;
+      walks = walks_start rows h c.requires.no_contexts k c.requires.in_range from bricks next c.requires.low begin;
+    }
 
-pub word_at-mt-requires-clause-word : goal.word_at-mt-requires-clause-word
-word_at-mt-requires-clause-word c =
-    let rows = c.args.types.now in
-    let h = c.args.heap.now in
-    let k = c.args.k in
+pub clear_mark-found-requires : goal.clear_mark-found-requires
+clear_mark-found-requires c =
     let end = ap (λ (s : SegInfo). s.end) c.info-segment.ensures.value in
     let test = c.loop-place-test.true in
-    let below : c.loop-place.place < last_of h k = omega (arith, end, test) in
-    let can = can_go_on rows h c.lawful.ensures c.requires.held c.requires.no_contexts k c.requires.in_range
-    c.args.bricks.now c.loop-place.bricks c.loop-place.place c.loop-place.next c.loop-place.invariant below in
-    can.item.mt
+    let below : c.loop-place.place < last_of c.args.heap.now c.args.k = omega (arith, end, test) in
+    let can = can_unmark c.args.types.now c.args.heap.now c.args.k c.args.from c.lawful.ensures c.requires.in_range
+    c.requires.walk c.requires.low c.requires.no_contexts c.loop-place.heap c.loop-place.place
+    c.loop-place.invariant.rewriting below in
+    let fits = can.fits in
+    let least = can.least in
+    record { item = can.item; mt_in = can.mt_in; len_in = can.len_in; room = omega (arith, fits, least) }
 
-pub word_at-mt-requires-clause-segment : goal.word_at-mt-requires-clause-segment
-word_at-mt-requires-clause-segment c =
-    let rows = c.args.types.now in
-    let h = c.args.heap.now in
-    let k = c.args.k in
-    let end = ap (λ (s : SegInfo). s.end) c.info-segment.ensures.value in
-    let test = c.loop-place-test.true in
-    let below : c.loop-place.place < last_of h k = omega (arith, end, test) in
-    let can = can_go_on rows h c.lawful.ensures c.requires.held c.requires.no_contexts k c.requires.in_range
-    c.args.bricks.now c.loop-place.bricks c.loop-place.place c.loop-place.next c.loop-place.invariant below in
-    can.mt_in
-
-pub item_of_word-found-requires-clause-item : goal.item_of_word-found-requires-clause-item
-item_of_word-found-requires-clause-item c =
-    let rows = c.args.types.now in
-    let h = c.args.heap.now in
-    let k = c.args.k in
-    let end = ap (λ (s : SegInfo). s.end) c.info-segment.ensures.value in
-    let test = c.loop-place-test.true in
-    let below : c.loop-place.place < last_of h k = omega (arith, end, test) in
-    let can = can_go_on rows h c.lawful.ensures c.requires.held c.requires.no_contexts k c.requires.in_range
-    c.args.bricks.now c.loop-place.bricks c.loop-place.place c.loop-place.next c.loop-place.invariant below in
-    can.item
-
-pub item_of_word-found-requires-clause-segment : goal.item_of_word-found-requires-clause-segment
-item_of_word-found-requires-clause-segment c =
-    let rows = c.args.types.now in
-    let h = c.args.heap.now in
-    let k = c.args.k in
-    let end = ap (λ (s : SegInfo). s.end) c.info-segment.ensures.value in
-    let test = c.loop-place-test.true in
-    let below : c.loop-place.place < last_of h k = omega (arith, end, test) in
-    let can = can_go_on rows h c.lawful.ensures c.requires.held c.requires.no_contexts k c.requires.in_range
-    c.args.bricks.now c.loop-place.bricks c.loop-place.place c.loop-place.next c.loop-place.invariant below in
-    can.len_in
+pub enter_item-next-requires-clause-above : goal.enter_item-next-requires-clause-above
+enter_item-next-requires-clause-above c = let above = c.loop-place.invariant.settling.above in omega (arith, above)
 
 pub enter_item-next-requires-clause-covered : goal.enter_item-next-requires-clause-covered
 enter_item-next-requires-clause-covered c =
-    let rows = c.args.types.now in
-    let h = c.args.heap.now in
-    let k = c.args.k in
     let end = ap (λ (s : SegInfo). s.end) c.info-segment.ensures.value in
     let test = c.loop-place-test.true in
-    let below : c.loop-place.place < last_of h k = omega (arith, end, test) in
-    let can = can_go_on rows h c.lawful.ensures c.requires.held c.requires.no_contexts k c.requires.in_range
-    c.args.bricks.now c.loop-place.bricks c.loop-place.place c.loop-place.next c.loop-place.invariant below in
-    let at = ap (λ (i : Item). i.place) c.item_of_word-found.ensures ∙ can.at in
-    let above = c.loop-place.invariant.entering.above in
-    λ i low high. brick-covered h c.args.bricks.now c.loop-place.bricks k i c.lawful.ensures c.requires.in_range
-    c.requires.bricks c.loop-place.invariant.spans
-    (brick-in h k i c.lawful.ensures c.requires.in_range (omega (arith, above, low)) (omega (arith, below, at, high)))
+    let place = ap (λ (i : Item). i.place) c.clear_mark-found.ensures.item
+    ∙ place-item_at c.args.types.now (word_of c.loop-place.heap) c.loop-place.place in
+    λ i low high. settling_covered c.args.heap.now c.lawful.ensures c.args.k c.requires.in_range c.args.bricks.now
+    c.loop-place.bricks c.loop-place.next c.loop-place.invariant.settling c.requires.bricks i low
+    (omega (arith, end, test, place, high))
 
 pub overflow_add-place : goal.overflow_add-place
 overflow_add-place c =
-    let rows = c.args.types.now in
-    let h = c.args.heap.now in
-    let k = c.args.k in
     let end = ap (λ (s : SegInfo). s.end) c.info-segment.ensures.value in
     let test = c.loop-place-test.true in
-    let below : c.loop-place.place < last_of h k = omega (arith, end, test) in
-    let can = can_go_on rows h c.lawful.ensures c.requires.held c.requires.no_contexts k c.requires.in_range
-    c.args.bricks.now c.loop-place.bricks c.loop-place.place c.loop-place.next c.loop-place.invariant below in
-    let size = ap (λ (i : Item). i.size) c.item_of_word-found.ensures in
-    let within = can.within in
-    let high = can.end in
-    omega (arith, size, within, high)
+    let below : c.loop-place.place < last_of c.args.heap.now c.args.k = omega (arith, end, test) in
+    let can = can_unmark c.args.types.now c.args.heap.now c.args.k c.args.from c.lawful.ensures c.requires.in_range
+    c.requires.walk c.requires.low c.requires.no_contexts c.loop-place.heap c.loop-place.place
+    c.loop-place.invariant.rewriting below in
+    let size = ap (λ (i : Item). i.size) c.clear_mark-found.ensures.item in
+    let fits = can.fits in
+    omega (arith, size, fits)
 
 pub loop-place-smaller : goal.loop-place-smaller
 loop-place-smaller c =
-    let rows = c.args.types.now in
-    let h = c.args.heap.now in
-    let k = c.args.k in
     let end = ap (λ (s : SegInfo). s.end) c.info-segment.ensures.value in
     let test = c.loop-place-test.true in
-    let below : c.loop-place.place < last_of h k = omega (arith, end, test) in
-    let can = can_go_on rows h c.lawful.ensures c.requires.held c.requires.no_contexts k c.requires.in_range
-    c.args.bricks.now c.loop-place.bricks c.loop-place.place c.loop-place.next c.loop-place.invariant below in
-    let size = ap (λ (i : Item). i.size) c.item_of_word-found.ensures in
+    let below : c.loop-place.place < last_of c.args.heap.now c.args.k = omega (arith, end, test) in
+    let can = can_unmark c.args.types.now c.args.heap.now c.args.k c.args.from c.lawful.ensures c.requires.in_range
+    c.requires.walk c.requires.low c.requires.no_contexts c.loop-place.heap c.loop-place.place
+    c.loop-place.invariant.rewriting below in
+    let size = ap (λ (i : Item). i.size) c.clear_mark-found.ensures.item in
     let least = can.least in
-    omega (arith, size)
+    omega (arith, size, least, test)
 
 pub loop-place-preserved : goal.loop-place-preserved
 loop-place-preserved c =
     let rows = c.args.types.now in
     let h = c.args.heap.now in
     let k = c.args.k in
+    let from = c.args.from in
+    let inv = c.loop-place.invariant in
     let end = ap (λ (s : SegInfo). s.end) c.info-segment.ensures.value in
     let test = c.loop-place-test.true in
     let below : c.loop-place.place < last_of h k = omega (arith, end, test) in
-    let can = can_go_on rows h c.lawful.ensures c.requires.held c.requires.no_contexts k c.requires.in_range
-    c.args.bricks.now c.loop-place.bricks c.loop-place.place c.loop-place.next c.loop-place.invariant below in
-    let is = c.item_of_word-found.ensures in
-    let W : Item → Type 0 = λ i. IsBrickWalk rows h k c.args.bricks.now c.enter_item-next.new.bricks
-    (c.loop-place.place + i.size) (next_after (frame h) i c.loop-place.next) in
-    let N : ℕ → Type 0 = λ n. IsBrickWalk rows h k c.args.bricks.now c.enter_item-next.new.bricks
-    (c.loop-place.place + c.item_of_word-found.result.size) n in
-    subst N (sym c.enter_item-next.ensures.next) (subst W (sym is)
-    (walk_on rows h c.lawful.ensures c.requires.held c.requires.no_contexts k c.requires.in_range
-    c.args.bricks.now c.loop-place.bricks c.loop-place.place c.loop-place.next c.loop-place.invariant below
-    c.enter_item-next.new.bricks
-    (λ b. c.enter_item-next.ensures.entries b
-    ∙ ap (λ (i : Item). entered_after (frame h) i (entry_at c.loop-place.bricks) c.loop-place.next b) is)
-    c.enter_item-next.ensures.spans))
+    let can = can_unmark rows h k from c.lawful.ensures c.requires.in_range
+    c.requires.walk c.requires.low c.requires.no_contexts c.loop-place.heap c.loop-place.place
+    inv.rewriting below in
+    let found = c.clear_mark-found.result in
+    let now = c.clear_mark-found.new.heap in
+    let size = ap (λ (i : Item). i.size) c.clear_mark-found.ensures.item in
+    let place = ap (λ (i : Item). i.place) c.clear_mark-found.ensures.item
+    ∙ place-item_at rows (word_of c.loop-place.heap) c.loop-place.place in
+    let low = c.requires.low in
+    let above = can.above in
+    let rewriting = unmarking_more rows h k from c.lawful.ensures c.requires.in_range c.requires.walk c.requires.low
+    c.requires.no_contexts c.loop-place.heap c.loop-place.place inv.rewriting below now found.size size
+    c.clear_mark-found.ensures.heap in
+    record {
+      rewriting = rewriting;
+      settling = subst (IsSettling h k c.args.bricks.now c.enter_item-next.new.bricks)
+          (sym c.enter_item-next.ensures.next)
+          (settling_more h c.lawful.ensures k c.requires.in_range c.args.bricks.now c.loop-place.bricks
+          c.loop-place.next inv.settling (frame now) found (omega (arith, low, above, place))
+          (omega (arith, below, place)) c.enter_item-next.new.bricks c.enter_item-next.ensures.entries
+          c.enter_item-next.ensures.spans);
+      walks = subst (AreWalks rows h k from c.args.bricks.now c.enter_item-next.new.bricks
+          (c.loop-place.place + found.size)) (sym c.enter_item-next.ensures.next)
+          (walks_more rows h c.requires.no_contexts k c.requires.in_range from c.args.bricks.now c.loop-place.bricks
+          c.loop-place.place c.loop-place.next inv.walks inv.rewriting.walk below found
+          (c.clear_mark-found.ensures.item ∙ can.same) (frame now)
+          (ap (λ (g : HeapView). frame g) rewriting.shape.others) c.enter_item-next.new.bricks
+          c.enter_item-next.ensures.entries);
+    }
 
 -- a brick of the stretch up to the segment's end begins below that
 stretch-below : (end past next to b : ℕ) → past ≡ (end + 4095) / 4096 → to ≡ max past next → next ≤ b → b < to
@@ -171,45 +146,44 @@ stretch-short end past next to is most = elim (cases_lt past next) [
 
 pub lead_back-requires-clause-covered : goal.lead_back-requires-clause-covered
 lead_back-requires-clause-covered c =
-    let h = c.args.heap.now in
-    let k = c.args.k in
     let end = ap (λ (s : SegInfo). s.end) c.info-segment.ensures.value in
     let last = c.info-segment.result.end in
-    let above = c.loop-place.invariant.entering.above in
     λ i low high. (let below = stretch-below last ((last + 4095) / 4096) c.loop-place.next c.max.result i refl
     c.max.ensures low high in
-    brick-covered h c.args.bricks.now c.loop-place.bricks k i c.lawful.ensures c.requires.in_range c.requires.bricks
-    c.loop-place.invariant.spans
-    (brick-in h k i c.lawful.ensures c.requires.in_range (omega (arith, above, low)) (omega (arith, end, below))))
+    settling_covered c.args.heap.now c.lawful.ensures c.args.k c.requires.in_range c.args.bricks.now
+    c.loop-place.bricks c.loop-place.next c.loop-place.invariant.settling c.requires.bricks i low
+    (omega (arith, end, below)))
+
+pub returns-clause-shape : goal.returns-clause-shape
+returns-clause-shape c = c.loop-place.invariant.rewriting.shape
+
+pub returns-clause-words : goal.returns-clause-words
+returns-clause-words c =
+    let end = ap (λ (s : SegInfo). s.end) c.info-segment.ensures.value in
+    let test = c.loop-place-test.false in
+    unmarking_ends c.args.types.now c.args.heap.now c.args.k c.args.from c.lawful.ensures c.requires.in_range
+    c.requires.walk c.requires.low c.requires.no_contexts c.loop-place.heap c.loop-place.place
+    c.loop-place.invariant.rewriting (omega (arith, end, test))
 
 pub returns-clause-entered : goal.returns-clause-entered
 returns-clause-entered c =
-    let rows = c.args.types.now in
-    let h = c.args.heap.now in
-    let k = c.args.k in
     let end = ap (λ (s : SegInfo). s.end) c.info-segment.ensures.value in
     let test = c.loop-place-test.false in
     let most = c.max.ensures in
-    let P : (ℕ → ℤ) → Type 0 = λ entry. AreEntered rows (frame h) (objects_in rows h) entry (segment_at h k) in
-    let old = entry_at c.loop-place.bricks in
-    let same : led_back old c.loop-place.next c.max.result ≡ entry_at c.lead_back.new.bricks =
-    λ x b. sym (c.lead_back.ensures.entries b) x in
-    subst P same (walk_entered rows h c.lawful.ensures c.requires.held c.requires.no_contexts k c.requires.in_range
-    c.args.bricks.now c.loop-place.bricks c.loop-place.place c.loop-place.next c.loop-place.invariant
-    (omega (arith, end, test)) c.max.result (omega (arith, most)) (omega (arith, end, most)))
+    walks_end c.args.types.now c.args.heap.now c.requires.no_contexts c.args.k c.requires.in_range c.args.from
+    c.args.bricks.now c.loop-place.bricks c.loop-place.place c.loop-place.next c.loop-place.invariant.walks
+    (omega (arith, end, test)) c.max.result (omega (arith, most)) (omega (arith, end, most)) c.lead_back.new.bricks
+    c.lead_back.ensures.entries
 
 pub returns-clause-others : goal.returns-clause-others
 returns-clause-others c =
-    let rows = c.args.types.now in
-    let h = c.args.heap.now in
-    let k = c.args.k in
     let end = ap (λ (s : SegInfo). s.end) c.info-segment.ensures.value in
     let last = c.info-segment.result.end in
-    let test = c.loop-place-test.false in
-    let most = c.max.ensures in
     let S : ℕ → Type 0 = λ e. (4096 * c.max.result < e + 4096) ⊎ (c.max.result ≡ c.loop-place.next) in
     λ b out. c.lead_back.ensures.entries b
-    ∙ walk_others rows h c.lawful.ensures c.requires.held c.requires.no_contexts k c.requires.in_range
-    c.args.bricks.now c.loop-place.bricks c.loop-place.place c.loop-place.next c.loop-place.invariant
-    (omega (arith, end, test)) c.max.result (omega (arith, most)) (omega (arith, end, most)) b out
-    (subst S end (stretch-short last ((last + 4095) / 4096) c.loop-place.next c.max.result refl most))
+    ∙ settling_ends c.args.heap.now c.lawful.ensures c.args.k c.requires.in_range c.args.bricks.now c.loop-place.bricks
+    c.loop-place.next c.loop-place.invariant.settling c.max.result
+    (subst S end (stretch-short last ((last + 4095) / 4096) c.loop-place.next c.max.result refl c.max.ensures)) b out
+
+pub returns-clause-spans : goal.returns-clause-spans
+returns-clause-spans c = c.lead_back.ensures.spans ∙ c.loop-place.invariant.settling.spans

@@ -1,46 +1,71 @@
-use Rattle.std.proofs.Common.{◌≡◌, ◌+◌, ◌<◌, ap, arith, length, subst, sym, ◌∙◌}
-use Rattle.clr_heap.specs.View.{segment_at}
+use Rattle.std.proofs.Common.{◌≡◌, ◌+◌, ◌<◌, ap, arith, length, subst, sym, ◌∙◌, true}
+use Rattle.clr_types.specs.declared.segment.SegInfo.{SegInfo}
+use Rattle.clr_heap.specs.View.{HeapView, segment_at}
 use Rattle.clr_plugs.specs.BrickEntries.{BricksView}
+use Rattle.clr_generations.specs.Laws.{IsBrickOf}
 use Rattle.clr_moves.specs.Moves.{takes}
-use Rattle.clr_compact.proofs.EnteringParts.{AreEnteredUpTo, entering-more, entering-passes, entering-starts}
+use Rattle.clr_compact.proofs.AllParts.{IsUnmarking, unmarked_same}
+use Rattle.clr_compact.proofs.EnteringParts.{AreKeptElsewhere, kept-more}
+use Rattle.clr_compact.proofs.PartWalks.{AreWholeUpTo, whole-more, whole-passes, whole-unmarked, whole-walk}
 use Rattle.clr_compact.proofs.part_bricks.enter_whole_parts.Goals.{else-takes_part, then-takes_part}
 use Rattle.clr_compact.proofs.part_bricks.enter_whole_parts.Goals as goal
 
-pub loop-k-init : goal.loop-k-init
-loop-k-init c = entering-starts c.args.types.now c.args.heap.now 2 c.args.bricks.now
-
-pub enter_whole_part-requires-clause-bricks : goal.enter_whole_part-requires-clause-bricks
-enter_whole_part-requires-clause-bricks c = c.loop-k.invariant.spans ∙ c.requires.bricks
+pub enter_whole_part-requires-clause-walk : goal.enter_whole_part-requires-clause-walk
+enter_whole_part-requires-clause-walk c =
+    let h = c.args.heap.now in
+    let k = c.loop-k.k in
+    let unmarking = c.loop-k.invariant.unmarking in
+    let n = c.segments-count.ensures.count in
+    let inside : k < length h.segments = omega (arith, n, c.loop-k-test.true) in
+    let same = ap (λ (g : HeapView). segment_at g k) unmarking.shape.others in
+    let on : takes 2 (segment_at h k) ≡ true =
+    ap (takes 2) (sym (c.info.ensures.value ∙ same)) ∙ sym c.takes_part.ensures ∙ c.if-takes_part.true in
+    whole-walk c.args.types.now h c.loop-k.heap c.segments-count.ensures.heap c.requires.parts k inside unmarking on
 
 pub loop-k-preserved : goal.loop-k-preserved
 loop-k-preserved c =
     let rows = c.args.types.now in
     let h = c.args.heap.now in
+    let mid = c.loop-k.heap in
     let k = c.loop-k.k in
+    let inv = c.loop-k.invariant in
+    let heap = c.segments-count.ensures.heap in
     let n = c.segments-count.ensures.count in
     let inside : k < length h.segments = omega (arith, n, c.loop-k-test.true) in
+    let same = ap (λ (g : HeapView). segment_at g k) inv.unmarking.shape.others in
     let told : takes 2 (segment_at h k) ≡ c.takes_part.result =
-    ap (takes 2) (sym c.info.ensures.value) ∙ sym c.takes_part.ensures in
-    let P : BricksView → Type 0 = λ b. AreEnteredUpTo rows h 2 c.args.bricks.now b (k + 1) in
+    ap (takes 2) (sym (c.info.ensures.value ∙ same)) ∙ sym c.takes_part.ensures in
+    let U : HeapView → Type 0 = λ g. IsUnmarking rows h g 2 (k + 1) in
+    let K : BricksView → Type 0 = λ b. AreKeptElsewhere h 2 c.args.bricks.now b in
+    let W : BricksView → Type 0 = λ b. AreWholeUpTo rows h b (k + 1) in
     elim c.if-takes_part.branch [
       | then-takes_part w ↦
-          subst P (sym w.bricks-is) (entering-more rows h 2 c.segments-count.ensures.heap c.requires.held
-          c.args.bricks.now c.loop-k.bricks k inside c.loop-k.invariant (told ∙ w.if-takes_part.true)
-          w.enter_whole_part.new.bricks w.enter_whole_part.ensures.entered w.enter_whole_part.ensures.others
-          w.enter_whole_part.ensures.spans)
+          let on = told ∙ w.if-takes_part.true in
+          let done = w.enter_whole_part.ensures in
+          record {
+            unmarking = subst U (sym w.heap-is)
+                (whole-unmarked rows h mid heap c.requires.parts k inside inv.unmarking on w.enter_whole_part.new.heap
+                done.shape done.words);
+            kept = subst K (sym w.bricks-is)
+                (kept-more h 2 k c.args.bricks.now c.loop-k.bricks w.enter_whole_part.new.bricks heap inside on inv.kept
+                (λ b out. done.others b (λ of. out (subst (λ (s : SegInfo). IsBrickOf s b) same of))) done.spans);
+            entered = subst W (sym w.bricks-is)
+                (whole-more rows h mid heap c.requires.parts k inside inv.unmarking c.loop-k.bricks inv.entered on
+                w.enter_whole_part.new.bricks done.entered done.others);
+          }
       | else-takes_part w ↦
-          subst P (sym w.bricks-is) (entering-passes rows h 2 c.segments-count.ensures.heap c.requires.held
-          c.args.bricks.now c.loop-k.bricks k inside c.loop-k.invariant (told ∙ w.if-takes_part.false))
+          let off = told ∙ w.if-takes_part.false in
+          record {
+            unmarking = subst U (sym w.heap-is)
+                (unmarked_same rows h 2 heap c.requires.parts mid k inside inv.unmarking off);
+            kept = subst K (sym w.bricks-is) inv.kept;
+            entered = subst W (sym w.bricks-is)
+                (whole-passes rows h mid heap c.requires.parts k inside inv.unmarking c.loop-k.bricks inv.entered off);
+          }
     ]
 
 pub returns-clause-parts : goal.returns-clause-parts
 returns-clause-parts c =
     let n = c.segments-count.ensures.count in
     let test = c.loop-k-test.false in
-    λ t inside on. c.loop-k.invariant.done t (omega (arith, n, test, inside)) inside on
-
-pub returns-clause-others : goal.returns-clause-others
-returns-clause-others c = λ t brick inside off of. c.loop-k.invariant.others t brick inside off of
-
-pub returns-clause-spans : goal.returns-clause-spans
-returns-clause-spans c = c.loop-k.invariant.spans
+    λ final can t inside on. c.loop-k.invariant.entered final can t (omega (arith, n, test, inside)) inside on

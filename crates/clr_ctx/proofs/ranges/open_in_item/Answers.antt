@@ -1,7 +1,8 @@
 use Rattle.std.proofs.Common.{◌<◌, ℕ, ◌+◌, ◌-◌, ap, inl, sym, ◌∙◌, subst, arith, set}
 use Rattle.clr_heap.specs.Memories.{clears, InOne}
 use Rattle.clr_heap.specs.View.{HasHead, rest_between, word_of}
-use Rattle.clr_ctx.proofs.Steps.{Carves, carves_part, drawn_cells, drawn_head, drawn_low, drawn_step, drawn_within}
+use Rattle.clr_view.proofs.Carving.{Carves, carves_part}
+use Rattle.clr_ctx.proofs.Steps.{drawn_cells, drawn_head, drawn_low, drawn_step, drawn_within}
 use Rattle.clr_ctx.proofs.ranges.open_in_item.Goals as goal
 use Rattle.clr_ctx.proofs.ranges.open_in_item.Goals.{then-taken-size, else-taken-size}
 

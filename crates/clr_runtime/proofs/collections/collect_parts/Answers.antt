@@ -91,6 +91,7 @@ returns-clause-runtime c =
           done.result (told before) done.ensures.held done.ensures.unmarked done.ensures.free_heads done.ensures.clean);
       tables = done.ensures.tables;
       index = done.ensures.index;
+      large = rw c.lose.ensures tt;
       limit = done.ensures.limit ∙ c.requires.runtime.limit;
       pins = done.ensures.empty;
       room = done.ensures.room;

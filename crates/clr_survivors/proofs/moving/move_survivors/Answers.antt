@@ -11,13 +11,14 @@ use Rattle.clr_survivors.proofs.CanMoveAll.{can-move, IsGiven, left-stands}
 use Rattle.clr_model.specs.Compaction.{moved_by}
 use Rattle.clr_survivors.proofs.Course.{compacted-of, course-of, heads-moved, IsRun, limit-moved, rests-moved}
 use Rattle.clr_survivors.proofs.Course.{some-course, Stages, units-moved}
-use Rattle.clr_survivors.proofs.LeftObjects.{null-moved, pinned-relocated, pins-stand}
+use Rattle.clr_survivors.proofs.LeftObjects.{null-moved, pins-stand}
 use Rattle.clr_survivors.proofs.Occupied.{occupied-ended}
 use Rattle.clr_survivors.proofs.CleanAfter.{clean-ended}
 use Rattle.clr_survivors.proofs.PromotedBytes.{promoted-ended}
 use Rattle.clr_survivors.proofs.EndedTables.{tables-ended}
 use Rattle.clr_survivors.proofs.Ended.{layout-ended, objects-ended, unmarked-ended}
 use Rattle.clr_survivors.proofs.Settled.{heads-settled, limit-settled, rests-settled, settled-has}
+use Rattle.clr_survivors.proofs.PinnedFrom.{pinned-relocated}
 use Rattle.clr_survivors.proofs.PlannedPins.{memory-with, with_handles}
 use Rattle.clr_survivors.proofs.moving.move_survivors.Goals as goal
 
@@ -78,6 +79,7 @@ settle-requires-clause-held c =
       queues = c.args.finals.now;
       queues_after = c.move_by_plan-promoted.new.finals;
       g = c.args.g;
+      low = c.first_condemned-low.result;
       to1 = c.move_by_plan-promoted.result.to1;
       to2 = c.move_by_plan-promoted.result.to2;
       slides = c.args.slides.now;
@@ -100,6 +102,7 @@ settle-requires-clause-held c =
         tables = c.requires.tables;
         numbers = c.lawful-2.ensures;
       };
+      low_is = c.first_condemned-low.ensures;
       ready_lawful = c.lawful-3.ensures;
       moved_lawful = c.lawful-4.ensures;
       plans = c.plan_pinned-planned.ensures.planned;
@@ -129,6 +132,7 @@ settle-requires-clause-no_contexts c =
       queues = c.args.finals.now;
       queues_after = c.move_by_plan-promoted.new.finals;
       g = c.args.g;
+      low = c.first_condemned-low.result;
       to1 = c.move_by_plan-promoted.result.to1;
       to2 = c.move_by_plan-promoted.result.to2;
       slides = c.args.slides.now;
@@ -151,6 +155,7 @@ settle-requires-clause-no_contexts c =
         tables = c.requires.tables;
         numbers = c.lawful-2.ensures;
       };
+      low_is = c.first_condemned-low.ensures;
       ready_lawful = c.lawful-3.ensures;
       moved_lawful = c.lawful-4.ensures;
       plans = c.plan_pinned-planned.ensures.planned;
@@ -180,6 +185,7 @@ settle-requires-clause-stand c =
       queues = c.args.finals.now;
       queues_after = c.move_by_plan-promoted.new.finals;
       g = c.args.g;
+      low = c.first_condemned-low.result;
       to1 = c.move_by_plan-promoted.result.to1;
       to2 = c.move_by_plan-promoted.result.to2;
       slides = c.args.slides.now;
@@ -202,6 +208,7 @@ settle-requires-clause-stand c =
         tables = c.requires.tables;
         numbers = c.lawful-2.ensures;
       };
+      low_is = c.first_condemned-low.ensures;
       ready_lawful = c.lawful-3.ensures;
       moved_lawful = c.lawful-4.ensures;
       plans = c.plan_pinned-planned.ensures.planned;
@@ -231,6 +238,7 @@ settle-requires-clause-bricks c =
       queues = c.args.finals.now;
       queues_after = c.move_by_plan-promoted.new.finals;
       g = c.args.g;
+      low = c.first_condemned-low.result;
       to1 = c.move_by_plan-promoted.result.to1;
       to2 = c.move_by_plan-promoted.result.to2;
       slides = c.args.slides.now;
@@ -253,6 +261,7 @@ settle-requires-clause-bricks c =
         tables = c.requires.tables;
         numbers = c.lawful-2.ensures;
       };
+      low_is = c.first_condemned-low.ensures;
       ready_lawful = c.lawful-3.ensures;
       moved_lawful = c.lawful-4.ensures;
       plans = c.plan_pinned-planned.ensures.planned;
@@ -283,6 +292,7 @@ returns-clause-moved c =
       queues = c.args.finals.now;
       queues_after = c.move_by_plan-promoted.new.finals;
       g = c.args.g;
+      low = c.first_condemned-low.result;
       to1 = c.move_by_plan-promoted.result.to1;
       to2 = c.move_by_plan-promoted.result.to2;
       slides = c.args.slides.now;
@@ -305,6 +315,7 @@ returns-clause-moved c =
         tables = c.requires.tables;
         numbers = c.lawful-2.ensures;
       };
+      low_is = c.first_condemned-low.ensures;
       ready_lawful = c.lawful-3.ensures;
       moved_lawful = c.lawful-4.ensures;
       plans = c.plan_pinned-planned.ensures.planned;
@@ -351,6 +362,7 @@ returns-clause-unmarked c =
       queues = c.args.finals.now;
       queues_after = c.move_by_plan-promoted.new.finals;
       g = c.args.g;
+      low = c.first_condemned-low.result;
       to1 = c.move_by_plan-promoted.result.to1;
       to2 = c.move_by_plan-promoted.result.to2;
       slides = c.args.slides.now;
@@ -373,6 +385,7 @@ returns-clause-unmarked c =
         tables = c.requires.tables;
         numbers = c.lawful-2.ensures;
       };
+      low_is = c.first_condemned-low.ensures;
       ready_lawful = c.lawful-3.ensures;
       moved_lawful = c.lawful-4.ensures;
       plans = c.plan_pinned-planned.ensures.planned;
@@ -402,6 +415,7 @@ returns-clause-no_contexts c =
       queues = c.args.finals.now;
       queues_after = c.move_by_plan-promoted.new.finals;
       g = c.args.g;
+      low = c.first_condemned-low.result;
       to1 = c.move_by_plan-promoted.result.to1;
       to2 = c.move_by_plan-promoted.result.to2;
       slides = c.args.slides.now;
@@ -424,6 +438,7 @@ returns-clause-no_contexts c =
         tables = c.requires.tables;
         numbers = c.lawful-2.ensures;
       };
+      low_is = c.first_condemned-low.ensures;
       ready_lawful = c.lawful-3.ensures;
       moved_lawful = c.lawful-4.ensures;
       plans = c.plan_pinned-planned.ensures.planned;
@@ -434,7 +449,8 @@ returns-clause-no_contexts c =
     } in
     let (m, kept, course) = some-course s run in
     rests-settled c.args.types.now c.move_by_plan-promoted.new.heap c.settle.new.heap
-    c.move_by_plan-promoted.new.handles c.args.g c.settle.ensures.settled ∙ rests-moved s m kept course
+    c.move_by_plan-promoted.new.handles c.first_condemned-low.result c.args.g c.settle.ensures.settled
+    ∙ rests-moved s m kept course
 
 pub returns-clause-clean : goal.returns-clause-clean
 returns-clause-clean c =
@@ -454,6 +470,7 @@ returns-clause-clean c =
       queues = c.args.finals.now;
       queues_after = c.move_by_plan-promoted.new.finals;
       g = c.args.g;
+      low = c.first_condemned-low.result;
       to1 = c.move_by_plan-promoted.result.to1;
       to2 = c.move_by_plan-promoted.result.to2;
       slides = c.args.slides.now;
@@ -476,6 +493,7 @@ returns-clause-clean c =
         tables = c.requires.tables;
         numbers = c.lawful-2.ensures;
       };
+      low_is = c.first_condemned-low.ensures;
       ready_lawful = c.lawful-3.ensures;
       moved_lawful = c.lawful-4.ensures;
       plans = c.plan_pinned-planned.ensures.planned;
@@ -487,7 +505,8 @@ returns-clause-clean c =
     let (m, kept, course) = some-course s run in
     let e = c.settle.ensures.settled in
     clean-ended s m kept course c.settle.new.heap e c.lawful-5.ensures
-    (settled-has s.rows s.moved c.settle.new.heap s.table_after s.g e (IsHeld s.rows) e.pins.held (λ swept. swept.held))
+    (settled-has s.rows s.moved c.settle.new.heap s.table_after s.low s.g e (IsHeld s.rows) e.pins.held
+    (λ swept. swept.held))
 
 pub returns-clause-free_heads : goal.returns-clause-free_heads
 returns-clause-free_heads c =
@@ -507,6 +526,7 @@ returns-clause-free_heads c =
       queues = c.args.finals.now;
       queues_after = c.move_by_plan-promoted.new.finals;
       g = c.args.g;
+      low = c.first_condemned-low.result;
       to1 = c.move_by_plan-promoted.result.to1;
       to2 = c.move_by_plan-promoted.result.to2;
       slides = c.args.slides.now;
@@ -529,6 +549,7 @@ returns-clause-free_heads c =
         tables = c.requires.tables;
         numbers = c.lawful-2.ensures;
       };
+      low_is = c.first_condemned-low.ensures;
       ready_lawful = c.lawful-3.ensures;
       moved_lawful = c.lawful-4.ensures;
       plans = c.plan_pinned-planned.ensures.planned;
@@ -539,7 +560,8 @@ returns-clause-free_heads c =
     } in
     let (m, kept, course) = some-course s run in
     heads-settled c.args.types.now c.move_by_plan-promoted.new.heap c.settle.new.heap
-    c.move_by_plan-promoted.new.handles c.args.g c.settle.ensures.settled (heads-moved s m kept course)
+    c.move_by_plan-promoted.new.handles c.first_condemned-low.result c.args.g c.settle.ensures.settled
+    (heads-moved s m kept course)
 
 pub returns-clause-tables : goal.returns-clause-tables
 returns-clause-tables c =
@@ -559,6 +581,7 @@ returns-clause-tables c =
       queues = c.args.finals.now;
       queues_after = c.move_by_plan-promoted.new.finals;
       g = c.args.g;
+      low = c.first_condemned-low.result;
       to1 = c.move_by_plan-promoted.result.to1;
       to2 = c.move_by_plan-promoted.result.to2;
       slides = c.args.slides.now;
@@ -581,6 +604,7 @@ returns-clause-tables c =
         tables = c.requires.tables;
         numbers = c.lawful-2.ensures;
       };
+      low_is = c.first_condemned-low.ensures;
       ready_lawful = c.lawful-3.ensures;
       moved_lawful = c.lawful-4.ensures;
       plans = c.plan_pinned-planned.ensures.planned;
@@ -615,6 +639,7 @@ returns-clause-occupied c =
       queues = c.args.finals.now;
       queues_after = c.move_by_plan-promoted.new.finals;
       g = c.args.g;
+      low = c.first_condemned-low.result;
       to1 = c.move_by_plan-promoted.result.to1;
       to2 = c.move_by_plan-promoted.result.to2;
       slides = c.args.slides.now;
@@ -637,6 +662,7 @@ returns-clause-occupied c =
         tables = c.requires.tables;
         numbers = c.lawful-2.ensures;
       };
+      low_is = c.first_condemned-low.ensures;
       ready_lawful = c.lawful-3.ensures;
       moved_lawful = c.lawful-4.ensures;
       plans = c.plan_pinned-planned.ensures.planned;
@@ -666,6 +692,7 @@ returns-clause-limit c =
       queues = c.args.finals.now;
       queues_after = c.move_by_plan-promoted.new.finals;
       g = c.args.g;
+      low = c.first_condemned-low.result;
       to1 = c.move_by_plan-promoted.result.to1;
       to2 = c.move_by_plan-promoted.result.to2;
       slides = c.args.slides.now;
@@ -688,6 +715,7 @@ returns-clause-limit c =
         tables = c.requires.tables;
         numbers = c.lawful-2.ensures;
       };
+      low_is = c.first_condemned-low.ensures;
       ready_lawful = c.lawful-3.ensures;
       moved_lawful = c.lawful-4.ensures;
       plans = c.plan_pinned-planned.ensures.planned;
@@ -698,7 +726,8 @@ returns-clause-limit c =
     } in
     let (m, kept, course) = some-course s run in
     limit-settled c.args.types.now c.move_by_plan-promoted.new.heap c.settle.new.heap
-    c.move_by_plan-promoted.new.handles c.args.g c.settle.ensures.settled ∙ limit-moved s m kept course
+    c.move_by_plan-promoted.new.handles c.first_condemned-low.result c.args.g c.settle.ensures.settled
+    ∙ limit-moved s m kept course
 
 pub returns-clause-pinned : goal.returns-clause-pinned
 returns-clause-pinned c =
@@ -718,6 +747,7 @@ returns-clause-pinned c =
       queues = c.args.finals.now;
       queues_after = c.move_by_plan-promoted.new.finals;
       g = c.args.g;
+      low = c.first_condemned-low.result;
       to1 = c.move_by_plan-promoted.result.to1;
       to2 = c.move_by_plan-promoted.result.to2;
       slides = c.args.slides.now;
@@ -740,6 +770,7 @@ returns-clause-pinned c =
         tables = c.requires.tables;
         numbers = c.lawful-2.ensures;
       };
+      low_is = c.first_condemned-low.ensures;
       ready_lawful = c.lawful-3.ensures;
       moved_lawful = c.lawful-4.ensures;
       plans = c.plan_pinned-planned.ensures.planned;
@@ -769,6 +800,7 @@ returns-clause-spare c =
       queues = c.args.finals.now;
       queues_after = c.move_by_plan-promoted.new.finals;
       g = c.args.g;
+      low = c.first_condemned-low.result;
       to1 = c.move_by_plan-promoted.result.to1;
       to2 = c.move_by_plan-promoted.result.to2;
       slides = c.args.slides.now;
@@ -791,6 +823,7 @@ returns-clause-spare c =
         tables = c.requires.tables;
         numbers = c.lawful-2.ensures;
       };
+      low_is = c.first_condemned-low.ensures;
       ready_lawful = c.lawful-3.ensures;
       moved_lawful = c.lawful-4.ensures;
       plans = c.plan_pinned-planned.ensures.planned;

@@ -1,7 +1,11 @@
 -- What pinned handles name is marked in the headers, and a plan is made.
-use Rattle.std.proofs.Common.{arith, refl, true}
+use Rattle.std.proofs.Common.{ℕ, ap, arith, refl, subst, true}
+use Rattle.clr_survivors.specs.Condemned.{condemned_from}
+use Rattle.clr_survivors.specs.Pins.{HasPins}
+use Rattle.clr_survivors.proofs.PinnedFrom.{table_from}
 use Rattle.clr_survivors.proofs.PinsTold.{few-pinned, memory-kept, tells-pins, tests-kept}
-use Rattle.clr_survivors.proofs.PlannedPins.{laid-with, remembered-entries, with_handles, memory-with}
+use Rattle.clr_survivors.proofs.PlannedPins.{laid-with, memory-with, planned-from, remembered-entries, survivors-from}
+use Rattle.clr_survivors.proofs.PlannedPins.{with_handles}
 use Rattle.clr_survivors.proofs.moving.plan_pinned.Goals as goal
 
 pub plan-requires-clause-laid : goal.plan-requires-clause-laid
@@ -11,19 +15,21 @@ plan-requires-clause-laid c =
     let old = c.args.heap.now in
     let new = c.set_pins.new.heap in
     let table = c.args.handles.now in
-    let m = with_handles n table in (
+    let low = c.args.low in
+    let seen = table_from low table in
+    let m = with_handles n seen in (
       m,
-      memory-kept rows old new table c.lawful.ensures c.requires.held true c.set_pins.ensures m
-          (memory-with rows old n table memory),
-      laid-with n table laid,
-      tells-pins rows old new table c.lawful.ensures c.requires.held c.requires.clean c.lawful-2.ensures
+      memory-kept rows old new table low c.lawful.ensures c.requires.held true c.set_pins.ensures m
+          (memory-with rows old n seen memory),
+      laid-with n seen laid,
+      tells-pins rows old new table low c.lawful.ensures c.requires.held c.requires.clean c.lawful-2.ensures
           c.set_pins.ensures m refl,
     )
 
 pub plan-requires-clause-spare : goal.plan-requires-clause-spare
 plan-requires-clause-spare c =
-    let few = few-pinned c.args.types.now c.args.heap.now c.set_pins.new.heap c.args.handles.now c.lawful.ensures
-    c.requires.held c.requires.clean c.lawful-2.ensures c.set_pins.ensures in
+    let few = few-pinned c.args.types.now c.args.heap.now c.set_pins.new.heap c.args.handles.now c.args.low
+    c.lawful.ensures c.requires.held c.requires.clean c.lawful-2.ensures c.set_pins.ensures in
     let room = c.requires.room in
     omega (arith, few, room)
 
@@ -33,15 +39,25 @@ returns-clause-planned c = λ m kept memory same tests.
     let old = c.args.heap.now in
     let new = c.set_pins.new.heap in
     let table = c.args.handles.now in
+    let g = c.args.g in
+    let low = condemned_from old g in
+    let heap = c.lawful.ensures in
+    let held = c.requires.held in
+    let pins = subst (λ (n : ℕ). HasPins rows old new table n 65536 true) c.requires.low c.set_pins.ensures in
+    let seen = table_from low m.handles in
     record {
       view = new;
-      pins = c.set_pins.ensures;
-      plan = c.plan.ensures.planned m kept
-          (memory-kept rows old new table c.lawful.ensures c.requires.held true c.set_pins.ensures m memory)
-          (tests-kept rows old new table c.lawful.ensures c.requires.held true c.set_pins.ensures c.args.g kept tests)
-          (tells-pins rows old new table c.lawful.ensures c.requires.held c.requires.clean c.lawful-2.ensures
-          c.set_pins.ensures m same);
-      remembered = remembered-entries rows old new table c.set_pins.ensures c.args.bricks.now c.plan.new.bricks c.args.g
+      pins = pins;
+      plan = planned-from rows new c.plan.new.heap c.plan.new.bricks c.plan.new.pins.entries g m seen kept
+          c.plan.result.start1 c.plan.result.start0
+          (survivors-from rows old g heap held m kept memory)
+          (c.plan.ensures.planned (with_handles m seen) kept
+          (memory-kept rows old new table low heap held true pins (with_handles m seen)
+          (memory-with rows old m seen memory))
+          (tests-kept rows old new table low heap held true pins g kept tests)
+          (tells-pins rows old new table low heap held c.requires.clean c.lawful-2.ensures pins (with_handles m seen)
+          (ap (table_from low) same)));
+      remembered = remembered-entries rows old new table low pins c.args.bricks.now c.plan.new.bricks g
           c.requires.brick_law c.plan.result.below c.plan.result.first c.plan.ensures.entries c.plan.ensures.below
           c.plan.ensures.first;
     }

@@ -6,13 +6,13 @@ pub loop-number-preserved : goal.loop-number-preserved
 loop-number-preserved c =
     let next = c.in-Some.ensures.found in
     let low = c.lawful.ensures c.in-Some.number c.in-Some.handle next.in_use in (
-      pins_next c.args.types.now c.args.heap.now c.args.handles.now c.args.on c.loop-number.heap c.set_pin_of.new.heap
-          c.loop-number.from c.in-Some.number c.in-Some.handle c.lawful-in-Some.ensures c.requires.stand
-          c.loop-number.invariant.0 next c.set_pin_of.ensures,
+      pins_next c.args.types.now c.args.heap.now c.args.handles.now c.args.low c.args.on c.loop-number.heap
+          c.set_pin_of.new.heap c.loop-number.from c.in-Some.number c.in-Some.handle c.lawful-in-Some.ensures
+          c.requires.stand c.loop-number.invariant.0 next c.set_pin_of.ensures,
       omega (arith, low),
     )
 
 pub returns : goal.returns
 returns c =
-    pins_done c.args.types.now c.args.heap.now c.args.handles.now c.args.on c.loop-number.heap c.loop-number.from
-    c.loop-number.invariant.1 c.loop-number.invariant.0 c.in_default.ensures.none
+    pins_done c.args.types.now c.args.heap.now c.args.handles.now c.args.low c.args.on c.loop-number.heap
+    c.loop-number.from c.loop-number.invariant.1 c.loop-number.invariant.0 c.in_default.ensures.none

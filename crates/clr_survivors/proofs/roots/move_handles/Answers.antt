@@ -1,10 +1,11 @@
-use Rattle.std.proofs.Common.{rules}
+use Rattle.std.proofs.Common.{rules, ◌<◌, subst}
 use Rattle.clr_model.specs.Compaction.{moved_by}
 use Rattle.clr_survivors.proofs.NamesGone.{handles-gone, told}
+use Rattle.clr_survivors.proofs.PartsAbove.{below-stays}
 use Rattle.clr_survivors.proofs.roots.move_handles.Goals as goal
 
-pub relocate-requires : goal.relocate-requires
-relocate-requires c =
+pub relocate_from-requires : goal.relocate_from-requires
+relocate_from-requires c =
     let (p, guides, go) = c.requires.go in
     λ h row found. (
       λ some high.
@@ -16,7 +17,10 @@ relocate-requires c =
 pub returns : goal.returns
 returns c = record {
   gone = λ p guides go null.
-      handles-gone _ (moved_by p.moves) c.args.handles.now c.relocate.new.self c.relocate.ensures null
+      handles-gone _ (moved_by p.moves) c.first_condemned-low.result
+      c.args.handles.now c.relocate_from.new.self c.relocate_from.ensures null
+      (λ place under. below-stays p.rows c.args.heap.now c.args.bricks.now c.args.g p.moves c.lawful.ensures guides.told
+      place (subst (λ low. place < low) c.first_condemned-low.ensures under))
       (λ k row moved here answer.
       let say =
       told p c.args.heap.now c.args.bricks.now c.args.g row.target moved guides (go.targets k row here) in

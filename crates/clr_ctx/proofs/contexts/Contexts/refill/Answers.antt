@@ -5,7 +5,8 @@ use Rattle.clr_types.specs.Segments.{ephemeral, fits_in_tail}
 use Rattle.clr_heap.specs.View.{frame}
 use Rattle.clr_view.specs.View.{layout_in}
 use Rattle.clr_ctx.specs.Contexts.{first_fit, young_items}
-use Rattle.clr_ctx.proofs.Choices.{found_passes, given_none, no_room, refilled_item, refilled_tail, room_is}
+use Rattle.clr_items.proofs.FoundItems.{found_passes}
+use Rattle.clr_ctx.proofs.Choices.{given_none, no_room, refilled_item, refilled_tail, room_is}
 use Rattle.clr_ctx.proofs.Choices.{still_listed}
 use Rattle.clr_ctx.proofs.contexts.Contexts.refill.Goals as goal
 use Rattle.clr_ctx.proofs.contexts.Contexts.refill.Goals.{else-is_none-via-then-is_none+else-not-fits_behind}

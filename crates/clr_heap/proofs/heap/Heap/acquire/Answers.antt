@@ -1,6 +1,8 @@
-use Rattle.std.proofs.Common.{◌≡◌, ◌≢◌, ◌^◌, ◌≤◌, refl, arith, rules}
+use Rattle.std.proofs.Common.{◌≡◌, ◌≢◌, ◌+◌, ◌^◌, ◌≤◌, refl, arith, rules}
 use Rattle.clr_types.specs.declared.segment.SegKind.{SegKind}
 use Rattle.clr_types.specs.declared.segment.SegKind.TheVariants.{Small, Ephemeral, Large}
+use Rattle.clr_types.specs.Segments.{reserved_sum}
+use Rattle.clr_heap.specs.View.{frame}
 use Rattle.clr_heap.proofs.Changing.{kept_with_ephemeral, kept_with_large}
 use Rattle.clr_heap.proofs.heap.Heap.acquire.Goals as goal
 
@@ -12,10 +14,9 @@ large_kind Large small young = refl
 pub invariant_of-self-then-eq : goal.invariant_of-self-then-eq
 invariant_of-self-then-eq c =
     let kind : c.args.kind ≡ Ephemeral = search rules in
-    let limit = c.self.invariant.heap.within_limit in
-    let left = c.if-size-left.false in
-    let sum = c.reserved_by.ensures in
-    let top : c.self.inside.top ≤ 2 ^ 61 = rw (← c.self.view_is) at c.requires.top in
+    let seen : reserved_sum (frame c.args.self.now) + c.args.size ≤ c.args.self.now.limit = search rules in
+    let allowed = rw (← c.self.view_is) at seen in
+    let top : c.self.inside.top ≤ 2 ^ 61 = search rules in
     rw (
       c.push_both.ensures.memories,
       c.push_both.ensures.segments,
@@ -27,17 +28,16 @@ invariant_of-self-then-eq c =
       c.empty-segment.ensures,
       kind,
     )
-    (kept_with_ephemeral _ _ _ c.args.size c.self.invariant c.requires.aligned c.requires.least top (omega arith)
+    (kept_with_ephemeral _ _ _ c.args.size c.self.invariant c.requires.aligned c.requires.least top allowed
     (c.requires.most kind))
 
 pub invariant_of-self-2 : goal.invariant_of-self-2
 invariant_of-self-2 c =
     let other : c.args.kind ≢ Ephemeral = search rules in
     let kind = large_kind c.args.kind c.requires.kind other in
-    let limit = c.self.invariant.heap.within_limit in
-    let left = c.if-size-left.false in
-    let sum = c.reserved_by.ensures in
-    let top : c.self.inside.top ≤ 2 ^ 61 = rw (← c.self.view_is) at c.requires.top in
+    let seen : reserved_sum (frame c.args.self.now) + c.args.size ≤ c.args.self.now.limit = search rules in
+    let allowed = rw (← c.self.view_is) at seen in
+    let top : c.self.inside.top ≤ 2 ^ 61 = search rules in
     rw (
       c.push_both-2.ensures.memories,
       c.push_both-2.ensures.segments,
@@ -47,4 +47,4 @@ invariant_of-self-2 c =
       c.empty-segment.ensures,
       kind,
     )
-    (kept_with_large _ _ _ c.args.size c.self.invariant c.requires.aligned c.requires.least top (omega arith))
+    (kept_with_large _ _ _ c.args.size c.self.invariant c.requires.aligned c.requires.least top allowed)

@@ -29,6 +29,7 @@ invariant_of-self c =
           c.index_of.ensures.index c.index-held.ensures));
       tables = c.self.invariant.tables;
       index = c.self.invariant.index;
+      large = c.self.invariant.large;
       limit = c.self.invariant.limit;
       pins = c.self.invariant.pins;
       room = c.self.invariant.room;

@@ -1,5 +1,7 @@
 -- The table has the type, or it is refused for the first reason that fits.
 use Rattle.clr_types.specs.Types.{form_of}
+use Rattle.clr_ctx.specs.Contexts.{young_items}
+use Rattle.clr_large.specs.Places.{large_items}
 use Rattle.clr_runtime.specs.Options.{options_of}
 use Rattle.clr_runtime.specs.RuntimeView.{sums_of, world_of}
 use Rattle.clr_model.specs.Step.{new_row}
@@ -45,9 +47,12 @@ invariant_of-self c =
       tables = defined_tables r.cards r.bricks r.types c.define.new.self r.heap
           (new_row c.args.name.now form c.args.finalizer) c.define.result c.self.invariant.shown.held
           c.define.ensures.defined c.define.ensures.err c.self.invariant.tables;
-      index = defined_index r.types c.define.new.self r.heap
+      index = defined_index young_items r.types c.define.new.self r.heap
           (new_row c.args.name.now form c.args.finalizer) c.define.result r.contexts c.self.invariant.shown.held
           c.define.ensures.defined c.define.ensures.err c.self.invariant.index;
+      large = defined_index large_items r.types c.define.new.self r.heap
+          (new_row c.args.name.now form c.args.finalizer) c.define.result r.large c.self.invariant.shown.held
+          c.define.ensures.defined c.define.ensures.err c.self.invariant.large;
       limit = c.self.invariant.limit;
       pins = c.self.invariant.pins;
       room = c.self.invariant.room;

@@ -32,6 +32,7 @@ invariant_of-self c =
           (sym c.get.ensures.value ∙ c.in-Some-get.is) c.index_of.result c.index_of.ensures.index);
       tables = c.self.invariant.tables;
       index = c.self.invariant.index;
+      large = c.self.invariant.large;
       limit = c.self.invariant.limit;
       pins = c.self.invariant.pins;
       room = c.self.invariant.room;

@@ -58,6 +58,7 @@ invariant_of-self-2 c =
           (done (goal.at.invariant_of-self-2 c).After-index_of);
       tables = c.self.invariant.tables;
       index = c.self.invariant.index;
+      large = c.self.invariant.large;
       limit = c.self.invariant.limit;
       pins = c.self.invariant.pins;
       room = c.self.invariant.room;

@@ -98,6 +98,7 @@ invariant_of-self c =
           (followed c);
       tables = c.self.invariant.tables;
       index = c.self.invariant.index;
+      large = c.self.invariant.large;
       limit = c.self.invariant.limit;
       pins = c.create_with_room.ensures.entries ∙ c.self.invariant.pins;
       room = c.create_with_room.ensures.room;

@@ -4,6 +4,8 @@ use Rattle.clr_model.specs.Outcomes.{answered}
 use Rattle.clr_model.specs.declared.Reply.TheVariants.{Done}
 use Rattle.clr_model.proofs.LineFollows.{set_of}
 use Rattle.clr_generations.proofs.KeptTables.{tables-referred}
+use Rattle.clr_ctx.specs.Contexts.{young_items}
+use Rattle.clr_large.specs.Places.{large_items}
 use Rattle.clr_runtime.specs.RuntimeView.{world_of}
 use Rattle.clr_runtime.proofs.IndexKept.{same_index}
 use Rattle.clr_runtime.proofs.LimitKept.{stored_limit}
@@ -56,7 +58,9 @@ invariant_of-self c =
       tables = tables-referred r.cards r.bricks r.types r.heap done.new.heap c.in-Ok.found.item c.in-Ok.found.slot
           c.index-name.result.now (record { number = c.args.index; is = has.slot }) done.ensures.stored
           done.new.cards done.ensures.spans done.ensures.law c.self.invariant.tables;
-      index = same_index r.types r.types r.heap done.new.heap r.contexts stored.layout c.self.invariant.index;
+      index = same_index young_items r.types r.types r.heap done.new.heap r.contexts stored.layout
+          c.self.invariant.index;
+      large = same_index large_items r.types r.types r.heap done.new.heap r.large stored.layout c.self.invariant.large;
       limit = stored_limit r.types r.heap done.new.heap c.in-Ok.found.item c.in-Ok.found.slot
           c.index-name.result.now done.ensures.words ∙ c.self.invariant.limit;
       pins = c.self.invariant.pins;

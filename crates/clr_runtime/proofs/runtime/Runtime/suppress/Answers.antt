@@ -8,6 +8,8 @@ use Rattle.clr_model.specs.Outcomes.{answered}
 use Rattle.clr_model.specs.Run.{Follows}
 use Rattle.clr_model.specs.declared.Reply.TheVariants.{Done}
 use Rattle.clr_model.proofs.FinalFollows.{suppress_of}
+use Rattle.clr_ctx.specs.Contexts.{young_items}
+use Rattle.clr_large.specs.Places.{large_items}
 use Rattle.clr_runtime.specs.Checks.{names_refusal}
 use Rattle.clr_runtime.specs.Options.{options_of}
 use Rattle.clr_generations.proofs.KeptTables.{tables-flagged}
@@ -87,7 +89,8 @@ invariant_of-self c =
       shown = heap_kept c.self.invariant.shown _ _ new set.flagged.held set.unmarked set.free_heads
           (set.clean (λ _. sym c.is_final.ensures ∙ c.if-not-is_final.false)) (done c);
       tables = tables-flagged r.cards r.bricks r.types r.heap new _ _ set.flagged c.self.invariant.tables;
-      index = same_index r.types r.types r.heap new r.contexts set.flagged.layout c.self.invariant.index;
+      index = same_index young_items r.types r.types r.heap new r.contexts set.flagged.layout c.self.invariant.index;
+      large = same_index large_items r.types r.types r.heap new r.large set.flagged.layout c.self.invariant.large;
       limit = ap (λ (h : HeapView). h.limit) set.words ∙ c.self.invariant.limit;
       pins = c.self.invariant.pins;
       room = c.self.invariant.room;

@@ -1,10 +1,11 @@
 -- A new runtime shows the opening state.
-use Rattle.std.proofs.Common.{◌∙◌, List, Option, ap, subst, sym}
+use Rattle.std.proofs.Common.{◌∙◌, List, Option, ap, refl, subst, sym}
 use Rattle.clr_types.specs.Ranges.{Piece}
 use Rattle.clr_heap.specs.View.{frame, HeapView}
 use Rattle.clr_final.specs.Queues.{Queues}
 use Rattle.clr_view.specs.World.{World}
-use Rattle.clr_ctx.specs.Contexts.{IsIndex}
+use Rattle.clr_ctx.specs.Contexts.{IsIndex, young_items}
+use Rattle.clr_large.specs.Places.{IsLargeIndex, large_items}
 use Rattle.clr_generations.specs.Tables.{AreBricksOf, AreCardsOf, AreTablesOf}
 use Rattle.clr_generations.proofs.OpeningTables.{tables-opening}
 use Rattle.clr_runtime.specs.Options.{options_of}
@@ -12,31 +13,31 @@ use Rattle.clr_runtime.proofs.IndexKept.{first_index}
 use Rattle.clr_runtime.proofs.PinnedRoom.{room_empty}
 use Rattle.clr_runtime.proofs.Opened.{IsFirst, new_shown, new_stands}
 use Rattle.clr_runtime.proofs.runtime.Runtime.with_mark_stack.Goals as goal
-use Rattle.clr_runtime.proofs.runtime.Runtime.with_mark_stack.Goals.{After-new-8}
+use Rattle.clr_runtime.proofs.runtime.Runtime.with_mark_stack.Goals.{After-new-9}
 
 -- its world
-abbrev made_world : After-new-8 → World
+abbrev made_world : After-new-9 → World
 made_world c =
     let made = c.in-Ok-Ok-Ok-Ok in
     record {
       rows = made.types;
       heap = made.heap;
       locals = made.locals.items;
-      handles = c.new-6.result;
-      entries = c.new-7.result.entries;
-      ready = c.new-7.result.ready;
+      handles = c.new-7.result;
+      entries = c.new-8.result.entries;
+      ready = c.new-8.result.ready;
     }
 
-first : (c : After-new-8) → IsFirst (made_world c) c.args.options.segment c.args.options.limit
+first : (c : After-new-9) → IsFirst (made_world c) c.args.options.segment c.args.options.limit
 first c =
     let made = c.in-Ok-Ok-Ok-Ok in
     record {
       rows = made.ensures;
       heap = made.ensures';
       locals = made.ensures''';
-      handles = c.new-6.ensures;
-      entries = ap (λ (q : Queues). q.entries) c.new-7.ensures;
-      ready = ap (λ (q : Queues). q.ready) c.new-7.ensures;
+      handles = c.new-7.ensures;
+      entries = ap (λ (q : Queues). q.entries) c.new-8.ensures;
+      ready = ap (λ (q : Queues). q.ready) c.new-8.ensures;
     }
 
 pub returns : goal.returns
@@ -55,9 +56,12 @@ invariant_of-result c =
           (subst (λ (h : HeapView). AreCardsOf (frame h) covered.cards) made.ensures' told.cards)
           (subst (λ (h : HeapView). AreBricksOf (frame h) covered.bricks) made.ensures' told.bricks));
       index = subst (λ (i : Option (List Piece)). IsIndex made.types made.heap i) (sym c.new-5.ensures)
-          (first_index made.types made.heap c.args.options.segment _ c.requires.lawful.segment_aligned made.ensures
-          made.ensures');
+          (first_index young_items made.types made.heap c.args.options.segment _ c.requires.lawful.segment_aligned
+          made.ensures made.ensures' refl);
+      large = subst (λ (i : Option (List Piece)). IsLargeIndex made.types made.heap i) (sym c.new-6.ensures)
+          (first_index large_items made.types made.heap c.args.options.segment _ c.requires.lawful.segment_aligned
+          made.ensures made.ensures' refl);
       limit = ap (λ (h : HeapView). h.limit) made.ensures';
       pins = c.in_ok-reserve.ensures.entries ∙ c.in_ok-pins.ensures;
-      room = room_empty c.new-6.result _ c.new-6.ensures c.in_ok-reserve.ensures.ok;
+      room = room_empty c.new-7.result _ c.new-7.ensures c.in_ok-reserve.ensures.ok;
     }

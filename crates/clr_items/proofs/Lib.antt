@@ -1,0 +1,4 @@
+pub mod Lists
+pub mod ListedItems
+pub mod FoundItems
+pub mod TakenItems

@@ -1,0 +1,9 @@
+pub mod LargeLists
+pub mod LowestPlace
+pub mod Homes
+pub mod Newborns
+pub mod ItemBirths
+pub mod TailBirths
+pub mod PlacedBirths
+pub mod LargeKept
+pub mod AcquiredLarge

@@ -1,0 +1,211 @@
+// The index of the free items of large segments, the lowest place by it, and births there.
+ghost use Rattle.std.specs.Prelude.{◌≡◌, ◌<◌, ◌^◌, ℕ, [], Bool, false, IfSome, None, Some, true};
+ghost use Rattle.clr_types.specs.Rising.{IsRisingBy};
+ghost use Rattle.clr_types.specs.Types.{form_at, size_of};
+ghost use Rattle.clr_types.specs.declared.segment.SegKind.TheVariants.{Large};
+ghost use Rattle.clr_bricks.specs.Bricks.{entry_at};
+ghost use Rattle.clr_heap.specs.Parts.{IsMakeable};
+ghost use Rattle.clr_heap.specs.View.{frame, heap_items, word_of};
+ghost use Rattle.clr_model.specs.Allocation.{has_room_in};
+ghost use Rattle.clr_view.specs.Among.{AreClosedAmong};
+ghost use Rattle.clr_view.specs.View.{IsHeld, layout_in, objects_in};
+ghost use Rattle.clr_generations.specs.Laws.{BrickLaw, CardLaw};
+ghost use Rattle.clr_generations.specs.Tables.{AreBricksOf};
+ghost use Rattle.clr_large.specs.Births.{HasLargeNewborn};
+ghost use Rattle.clr_large.specs.Places.{address_of, IsLargeIndex, IsListed, IsLowest, IsPlace, items_left};
+ghost use Rattle.clr_large.specs.Searches.{first_large};
+
+use crate::births::bear_at;
+use crate::listing::list_large;
+use crate::places::{Place, first_tail, first_walked, lower};
+use clr_bricks::Bricks;
+use clr_generations::enter_old_newborn;
+use clr_heap::Heap;
+use clr_items::{first_in, take_front};
+use clr_types::{Span, TypeId, Types};
+use std::alloc::Global;
+use std::collections::VecDeque;
+use std::marker::Model;
+
+/// What makes places of large objects fast to find: an index of the free items of large segments, by rising place.
+///
+/// Where there is no memory for it, it is dropped, and searches walk the segments. Clauses see it as the list, where it
+/// is kept.
+#[derive(Drop)]
+pub struct LargeItems {
+    items: VecDeque<Span>,
+    complete: bool,
+}
+
+impl Model for LargeItems {
+    ghost use Rattle.std.specs.Prelude.{List, Option, None, Some, if◌then◌else◌};
+    ghost use Rattle.clr_types.specs.Ranges.{Piece};
+
+    ghost Value = { Option (List Piece) };
+
+    ghost view = { λ c. if c.complete then Some c.items.items else None };
+}
+
+impl LargeItems {
+    /// The index of a heap without free items in large segments. Takes no memory.
+    pub fn new(alloc: Global) -> LargeItems
+        ensures { result ≡ Some [] }
+    {
+        LargeItems {
+            items: VecDeque::new(alloc),
+            complete: true,
+        }
+    }
+
+    /// Makes it the index of the free items of large segments, by one walk over these segments. Where there is no
+    /// memory for all of them, it is dropped: until it is made anew, searches walk the segments.
+    pub fn renew(&mut self, heap: &Heap, types: &Types)
+        requires held { IsHeld types.now heap.now }
+        ensures index { IsLargeIndex types.now heap.now self.new }
+    {
+        self.items.clear();
+        self.complete = list_large(heap, types, &mut self.items);
+    }
+
+    /// Drops the index: until it is made anew, searches walk the segments.
+    pub fn lose(&mut self)
+        ensures { self.new ≡ None }
+    {
+        self.items.clear();
+        self.complete = false;
+    }
+
+    /// Whether a size fits in a free item of a large segment or behind the end of one. Where the index was dropped, it
+    /// is made anew first, if there is memory for it.
+    pub fn room(&mut self, heap: &Heap, types: &Types, size: u64) -> bool
+        requires held { IsHeld types.now heap.now }
+        requires index { IsLargeIndex types.now heap.now self.old }
+        requires small { size < 2 ^ 62 }
+        ensures room { result ≡ has_room_in Large (layout_in types.now heap.now) size }
+        ensures index { IsLargeIndex types.now heap.now self.new }
+    {
+        if !self.complete {
+            self.renew(heap, types);
+        }
+        self.lowest_place(heap, types, size).is_some()
+    }
+
+    /// Makes an object of type `t`, with `len` elements where it is an array, in a large segment, and answers its place:
+    /// the lowest at which it fits, a free item or the bytes behind a segment's end. Its brick names it, where that names
+    /// no object below, and each brick above that it reaches into leads back to its own, where no object starts.
+    ///
+    /// Its references are null and its numbers 0. What is left of a free item stays free. All other objects, the other
+    /// free items and the rest of the layout stay. It marks nothing, and leaves heads of free items, headers and
+    /// padding clean. Cards need no change: where all that is named is an object, none names the new one.
+    ///
+    /// `None`, and nothing changes, exactly where it fits in no free item of a large segment and behind the end of none.
+    pub fn bear(
+        &mut self,
+        heap: &mut Heap,
+        types: &Types,
+        bricks: &mut Bricks,
+        t: TypeId,
+        len: u64,
+    ) -> Option<u64>
+        requires held { IsHeld types.now heap.old }
+        requires index { IsLargeIndex types.now heap.old self.old }
+        requires item { IsMakeable types.now t.0 len }
+        requires object { 0 < t.0 }
+        requires bricks { AreBricksOf (frame heap.old) bricks.old }
+        ensures none { result ≡ None
+            → (has_room_in Large (layout_in types.now heap.old) (size_of (form_at types.now t.0) len) ≡ false)
+            × (heap.new ≡ heap.old) × (bricks.new ≡ bricks.old) × (self.new ≡ self.old) }
+        ensures some { IfSome result (λ _.
+            has_room_in Large (layout_in types.now heap.old) (size_of (form_at types.now t.0) len) ≡ true) }
+        ensures born { IfSome result (λ place. HasLargeNewborn types.now heap.old heap.new place t.0 len) }
+        ensures lowest { IfSome result (λ place.
+            IsLowest (layout_in types.now heap.old) (size_of (form_at types.now t.0) len) place) }
+        ensures index { IsLargeIndex types.now heap.new self.new }
+        ensures own_bricks { AreBricksOf (frame heap.new) bricks.new }
+        ensures bricks { BrickLaw types.now (frame heap.old) (objects_in types.now heap.old) (entry_at bricks.old)
+            → BrickLaw types.now (frame heap.new) (objects_in types.now heap.new) (entry_at bricks.new) }
+        ensures cards { AreClosedAmong types.now (word_of heap.old) (heap_items types.now heap.old)
+            → (is_set : ℕ → Bool) → CardLaw types.now (frame heap.old) (objects_in types.now heap.old) is_set
+            → CardLaw types.now (frame heap.new) (objects_in types.now heap.new) is_set }
+    {
+        heap.lawful();
+        let size = types.item_size(t, len);
+        let found = self.lowest_place(heap, types, size)?;
+        let place = self.bear_placed(heap, types, found, t, len);
+        heap.lawful();
+        enter_old_newborn(bricks, place, size);
+        Some(place)
+    }
+
+    // The lowest place in the large segments at which a size fits: first fit. `None` where it fits in no free item of a
+    // large segment and behind the end of none.
+    fn lowest_place(&self, heap: &Heap, types: &Types, size: u64) -> Option<Place>
+        requires held { IsHeld types.now heap.now }
+        requires index { IsLargeIndex types.now heap.now self.now }
+        requires small { size < 2 ^ 62 }
+        ensures some { IfSome result (λ p. IsPlace types.now heap.now size p
+            × IsLowest (layout_in types.now heap.now) size (address_of heap.now p)) }
+        ensures none { result ≡ None → has_room_in Large (layout_in types.now heap.now) size ≡ false }
+    {
+        heap.lawful();
+        let item = self.first_fit(heap, types, size);
+        let tail = first_tail(heap, size);
+        match (item, tail) {
+            (Some(item), Some(k)) => Some(lower(heap, item, k)),
+            (Some(item), None) => Some(Place::Item(item)),
+            (None, Some(k)) => Some(Place::Tail(k)),
+            (None, None) => None,
+        }
+    }
+
+    // The first free item of a large segment in which a size fits.
+    fn first_fit(&self, heap: &Heap, types: &Types, size: u64) -> Option<Span>
+        requires held { IsHeld types.now heap.now }
+        requires index { IsLargeIndex types.now heap.now self.now }
+        requires small { size < 2 ^ 62 }
+        ensures { result ≡ first_large (layout_in types.now heap.now) size }
+    {
+        if self.complete {
+            first_in(&self.items, size)
+        } else {
+            first_walked(heap, types, size)
+        }
+    }
+
+    // Makes the object at a place in which it fits, and takes that place from the index.
+    fn bear_placed(
+        &mut self,
+        heap: &mut Heap,
+        types: &Types,
+        place: Place,
+        t: TypeId,
+        len: u64,
+    ) -> u64
+        requires held { IsHeld types.now heap.old }
+        requires index { IsLargeIndex types.now heap.old self.old }
+        requires item { IsMakeable types.now t.0 len }
+        requires object { 0 < t.0 }
+        requires place { IsPlace types.now heap.old (size_of (form_at types.now t.0) len) place }
+        ensures place { result ≡ address_of heap.old place }
+        ensures born { HasLargeNewborn types.now heap.old heap.new result t.0 len }
+        ensures index { IsLargeIndex types.now heap.new self.new }
+    {
+        heap.lawful();
+        let size = types.item_size(t, len);
+        if self.complete {
+            take_place(&mut self.items, &place, size);
+        }
+        bear_at(heap, types, place, t, len)
+    }
+}
+
+// Takes so many bytes from the front of an item, where the place is one.
+fn take_place(items: &mut VecDeque<Span>, place: &Place, taken: u64)
+    requires rising { IsRisingBy (λ p. p.place) items.old.items }
+    requires listed { IsListed taken place.now items.old.items }
+    ensures { items.new.items ≡ items_left taken place.now items.old.items }
+{
+    if let Place::Item(item) = place {
+        take_front(items, *item, taken);
+    }
+}

@@ -1,0 +1,103 @@
+-- A new large segment: what still holds of the parts of a runtime.
+use Rattle.std.proofs.Common.{◌≡◌, ◌∙◌, ℕ, ◌+◌, ◌<◌, ◌↔◌, Bool, true, false, nat_le, List, refl, ap, sym, subst}
+use Rattle.std.proofs.Common.{Result, Ok, Err, ℤ}
+use Rattle.std.specs.Prelude.{OnErr, OnOk}
+use Rattle.std.proofs.lemmas.Bool.{leb-false}
+use Rattle.clr_types.specs.Segments.{reserved_sum}
+use Rattle.clr_types.specs.declared.segment.SegKind.TheVariants.{Large}
+use Rattle.clr_covers.specs.Covers.{CoverView}
+use Rattle.clr_heap.specs.View.{acquired, frame, HeapView}
+use Rattle.clr_heap.specs.declared.heap.segments.AcquireFault.{AcquireFault}
+use Rattle.clr_heap.specs.declared.heap.segments.AcquireFault.TheVariants.{OverLimit}
+use Rattle.clr_view.specs.Clean.{AreClean}
+use Rattle.clr_view.specs.Marks.{IsUnmarked}
+use Rattle.clr_view.specs.View.{AreFreeHeads, IsHeld, layout_in, objects_in}
+use Rattle.clr_generations.specs.Tables.{AreTablesOf}
+use Rattle.clr_ctx.specs.Contexts.{young_items}
+use Rattle.clr_large.specs.Places.{large_items}
+use Rattle.clr_large.proofs.LargeKept.{young_with_segment}
+use Rattle.clr_model.specs.Allocation.{allows, segment_for, with_segment}
+use Rattle.clr_model.specs.Lawful.{IsPlaceNamed}
+use Rattle.clr_model.proofs.SegmentAdded.{acquired_lawful}
+use Rattle.clr_runtime.specs.LargeRooms.{with_large_segment}
+use Rattle.clr_runtime.specs.RuntimeView.{IsRuntime, seen}
+use Rattle.clr_runtime.specs.declared.parts.Parts.{Parts}
+use Rattle.clr_runtime.proofs.IndexKept.{index_kept}
+
+-- a segment was acquired
+abbrev acquired_one : Result (Unit {0}) AcquireFault
+acquired_one = Ok tt
+
+-- so many bytes may be reserved where a segment was acquired
+may-reserve : (total limit : ℕ) → ((acquired_one ≡ Err OverLimit) ↔ (limit < total)) → nat_le total limit ≡ true
+may-reserve total limit told = go (nat_le total limit) refl
+  where
+    other : acquired_one ≡ Err OverLimit → ⊥
+    other e = cc
+
+    go : (b : Bool) → nat_le total limit ≡ b → nat_le total limit ≡ true
+    go true e = e
+    go false e = absurd (other (told.1 (leb-false total limit e)))
+
+module _ (p : Parts) (is : IsRuntime p) (size : ℕ) (new : HeapView)
+    (objects : objects_in p.types new ≡ objects_in p.types p.heap) where
+  -- the bytes that the new segment reserves
+  abbrev reserved : ℕ
+  reserved = segment_for (seen p) size
+
+  -- what is seen is lawful with it
+  acquired-sound : layout_in p.types new ≡ with_segment (layout_in p.types p.heap) Large (segment_for (seen p) size)
+      → allows (seen p) (segment_for (seen p) size) ≡ true → IsPlaceNamed (seen (record p { heap = new }))
+  acquired-sound layout may =
+      let shown : seen (record p { heap = new }) ≡ with_large_segment (seen p) size =
+      λ k. record (seen p) { objects = objects k; layout = layout k } in
+      subst IsPlaceNamed (sym shown)
+      (record {
+        lawful = acquired_lawful (seen p) is.shown.sound.lawful size may;
+        places = is.shown.sound.places;
+        uncounted = is.shown.sound.uncounted;
+      })
+
+  -- what holds of the parts of a runtime still holds, whether there is a new segment or not
+  pub acquired_kept : (cards : List (CoverView ℕ)) (bricks : List (CoverView ℤ))
+      (result : Result (Unit {0}) AcquireFault)
+      → OnOk result (new ≡ acquired p.heap Large (segment_for (seen p) size))
+      → OnOk result (layout_in p.types new
+      ≡ with_segment (layout_in p.types p.heap) Large (segment_for (seen p) size))
+      → OnErr result (new ≡ p.heap)
+      → ((result ≡ Err OverLimit) ↔ (p.heap.limit < reserved_sum (frame p.heap) + segment_for (seen p) size))
+      → large_items (layout_in p.types new) ≡ large_items (layout_in p.types p.heap) → IsHeld p.types new
+      → (IsUnmarked p.types p.heap → IsUnmarked p.types new)
+      → (AreFreeHeads p.types p.heap → AreFreeHeads p.types new) → (AreClean p.types p.heap → AreClean p.types new)
+      → AreTablesOf p.types new cards bricks → IsRuntime (record p { heap = new; cards = cards; bricks = bricks })
+  acquired_kept cards bricks (Ok done) words layout stays told items held unmarked heads clean tables = record {
+    shown = record {
+      locals = is.shown.locals;
+      held = held;
+      unmarked = unmarked is.shown.unmarked;
+      free_heads = heads is.shown.free_heads;
+      clean = clean is.shown.clean;
+      sound = acquired-sound layout
+          (may-reserve (reserved_sum (frame p.heap) + reserved) p.options.limit
+          (subst (λ n. (acquired_one ≡ Err OverLimit) ↔ (n < reserved_sum (frame p.heap) + reserved)) is.limit told));
+    };
+    tables = tables;
+    index = index_kept young_items p.types p.types p.heap new p.contexts
+        (ap young_items layout ∙ young_with_segment (layout_in p.types p.heap) reserved) is.index;
+    large = index_kept large_items p.types p.types p.heap new p.large items is.large;
+    limit = ap (λ (h : HeapView). h.limit) words ∙ is.limit;
+    pins = is.pins;
+    room = is.room;
+  }
+  acquired_kept cards bricks (Err fault) words layout stays told items held unmarked heads clean tables =
+      let before : IsRuntime (record p { heap = new }) =
+      subst (λ (h : HeapView). IsRuntime (record p { heap = h })) (sym stays) is in
+      record {
+        shown = before.shown;
+        tables = tables;
+        index = before.index;
+        large = before.large;
+        limit = before.limit;
+        pins = before.pins;
+        room = before.room;
+      }

@@ -1,0 +1,122 @@
+-- The object is born in a large segment, or no place was found.
+use Rattle.std.proofs.Common.{◌≡◌, ◌+◌, ◌∙◌, ◌<◌, ◌^◌, [], ◌∷◌, ◌++◌, if◌then◌else◌, arith, refl, sym, List, Option}
+use Rattle.std.proofs.Common.{ap, subst, ℕ, unwrap_or}
+use Rattle.clr_types.specs.Types.{TypeRow, has_finalizer, type_row}
+use Rattle.clr_ctx.specs.Contexts.{young_items}
+use Rattle.clr_large.specs.Births.{HasLargeNewborn}
+use Rattle.clr_large.proofs.LargeKept.{young_placed}
+use Rattle.clr_model.proofs.Birth.{born_entries}
+use Rattle.clr_runtime.specs.Births.{IsMeasured}
+use Rattle.clr_runtime.specs.RuntimeView.{seen}
+use Rattle.clr_runtime.proofs.BirthLines.{known, large_fails_follows, makeable, may_bear_large}
+use Rattle.clr_runtime.proofs.IndexKept.{index_kept}
+use Rattle.clr_runtime.proofs.LargeBirthDone.{HasItsPlace, large_tables, placed_follows, placed_kept}
+use Rattle.clr_runtime.proofs.RuntimeKept.{spent_large_fits}
+use Rattle.clr_runtime.proofs.TablesKept.{closed}
+use Rattle.clr_runtime.proofs.births.make_large.Goals as goal
+use Rattle.clr_runtime.proofs.births.make_large.Goals.{After-register_entry, In_default}
+
+-- no place was found, and what was done for it stays
+pub returns-in-Err-clause-made : goal.returns-in-Err-clause-made
+returns-in-Err-clause-made c =
+    λ name len measured. large_fails_follows c.requires.runtime.shown refl c.args.t c.args.local name len
+    c.requires.passed c.args.request measured c.requires.large (seen c.make_large_room.new.parts) c.in-Err.fault
+    c.refusal_of.result c.refusal_of.ensures c.in-Err.ensures.err
+
+-- what is asked for, by the types once there is a place
+asked : (c : In_default) (name : List ℕ) (len : Option ℕ)
+    → IsMeasured c.args.parts.now.types c.args.local name len c.args.request
+    → IsMeasured c.make_large_room.new.parts.types c.args.local name len c.args.request
+asked c name len =
+    subst (λ (rows : List TypeRow). IsMeasured rows c.args.local name len c.args.request)
+    (sym c.in_default.ensures.types)
+
+-- the object has its place
+placed : (c : In_default) (name : List ℕ) (len : Option ℕ)
+    → IsMeasured c.args.parts.now.types c.args.local name len c.args.request
+    → HasItsPlace (seen c.args.parts.now) (seen c.make_large_room.new.parts) c.args.t c.args.local name len
+    c.args.request.type_id.0 c.args.request.size
+placed c name len measured = record {
+  sound = c.requires.runtime.shown.sound;
+  may = may_bear_large c.requires.runtime.shown refl c.args.t c.args.local name len c.requires.passed c.args.request
+      measured c.requires.large;
+  types = c.in_default.ensures.types;
+  is = measured.size_is;
+  place = c.in_default.ensures.place;
+}
+
+pub bear-requires-clause-item : goal.bear-requires-clause-item
+bear-requires-clause-item c =
+    let at = (goal.at.bear-requires-clause-item c).In_default in
+    let (name, len, measured) = c.requires.asked in
+    makeable c.make_large_room.new.parts.types c.args.local name len c.args.request (asked at name len measured)
+
+pub bear-requires-clause-object : goal.bear-requires-clause-object
+bear-requires-clause-object c =
+    let (name, len, measured) = c.requires.asked in
+    (known c.args.parts.now.types c.args.local name len c.args.request measured).0
+
+pub overflow_add-parts : goal.overflow_add-parts
+overflow_add-parts c =
+    let (name, len, measured) = c.requires.asked in
+    let fits : c.make_large_room.new.parts.sums.spent_large + c.args.request.size < 2 ^ 64 =
+    spent_large_fits c.in_default.ensures.runtime.shown c.args.request.size measured.most in
+    omega arith
+
+-- the entries with the object, where its type has a finaliser
+registered : (c : After-register_entry) (name : List ℕ) (len : Option ℕ)
+    → IsMeasured c.args.parts.now.types c.args.local name len c.args.request
+    → c.register_entry.new.finals.entries
+    ≡ born_entries (seen c.make_large_room.new.parts) c.args.request.type_id.0 c.in-Some.place
+registered c name len measured =
+    let p = c.make_large_room.new.parts in
+    let type = c.args.request.type_id.0 in
+    let final = measured.entry
+    ∙ ap (λ (rows : List TypeRow). has_finalizer (type_row rows type)) (sym c.in_default.ensures.types) in
+    c.register_entry.ensures.entries
+    ∙ (λ k. if final k then p.finals.entries ++ c.in-Some.place ∷ [] else p.finals.entries)
+
+-- the object is born, with the length that was given
+born : (c : After-register_entry) (name : List ℕ) (len : Option ℕ)
+    → IsMeasured c.args.parts.now.types c.args.local name len c.args.request
+    → HasLargeNewborn c.make_large_room.new.parts.types c.make_large_room.new.parts.heap c.bear.new.heap
+    c.in-Some.place c.args.request.type_id.0 (unwrap_or len 0)
+born c name len measured =
+    let p = c.make_large_room.new.parts in
+    subst (HasLargeNewborn p.types p.heap c.bear.new.heap c.in-Some.place c.args.request.type_id.0) measured.len_is
+    c.in-Some.ensures.born
+
+pub returns-clause-made : goal.returns-clause-made
+returns-clause-made c =
+    let at = goal.at.returns-clause-made c in
+    let finals = c.register_entry.new.finals in
+    λ name len measured. placed_follows (seen c.args.parts.now) c.in_default.ensures.runtime.shown c.args.t
+    c.args.local name len c.args.request.type_id.0 c.args.request.size (placed at.In_default name len measured)
+    c.bear.new.heap c.in-Some.place c.index_of.result finals.entries finals.ready
+    (born at.After-register_entry name len measured) c.index_of.ensures.index
+    (registered at.After-register_entry name len measured) c.register_entry.ensures.ready
+
+pub returns-clause-runtime : goal.returns-clause-runtime
+returns-clause-runtime c =
+    let at = goal.at.returns-clause-runtime c in
+    let p = c.make_large_room.new.parts in
+    let is = c.in_default.ensures.runtime in
+    let type = c.args.request.type_id.0 in
+    let new = c.bear.new in
+    let done = c.in-Some.ensures in
+    let finals = c.register_entry.new.finals in
+    let (name, len, measured) = c.requires.asked in
+    record {
+      shown = placed_kept (seen c.args.parts.now) is.shown c.args.t c.args.local name len type c.args.request.size
+          (placed at.In_default name len measured) new.heap c.in-Some.place c.index_of.result finals.entries
+          finals.ready (born at.After-register_entry name len measured) c.index_of.ensures.index
+          (registered at.After-register_entry name len measured) c.register_entry.ensures.ready;
+      tables = large_tables p.types p.heap new.heap c.in-Some.place type c.args.request.len p.cards p.bricks new.bricks
+          done.born done.own_bricks done.bricks done.cards (closed is.shown) is.tables;
+      index = index_kept young_items p.types p.types p.heap new.heap p.contexts
+          (young_placed (seen p) is.shown.sound.lawful _ c.in-Some.place _ done.born.layout) is.index;
+      large = done.index;
+      limit = done.born.limit ∙ is.limit;
+      pins = is.pins;
+      room = is.room;
+    }

@@ -1,0 +1,138 @@
+-- The object is born at the front of its thread's context, or no room was made.
+use Rattle.std.proofs.Common.{◌≡◌, ◌+◌, ◌∙◌, ◌<◌, ◌^◌, [], ◌∷◌, ◌++◌, if◌then◌else◌, arith, refl, sym, List, Option}
+use Rattle.std.proofs.Common.{ap, subst, ℕ, true, unwrap_or}
+use Rattle.clr_types.specs.Types.{TypeRow, form_at, has_finalizer, size_of, type_row}
+use Rattle.clr_ctx.specs.Contexts.{young_items}
+use Rattle.clr_heap.specs.View.{frame}
+use Rattle.clr_large.specs.Places.{large_items}
+use Rattle.clr_view.specs.View.{HasNewborn}
+use Rattle.clr_model.specs.Allocation.{own_fits}
+use Rattle.clr_model.proofs.FrontBirth.{born_entries}
+use Rattle.clr_runtime.specs.Births.{IsMeasured}
+use Rattle.clr_runtime.specs.RuntimeView.{seen}
+use Rattle.clr_runtime.proofs.BirthDone.{birth_kept, HasItsRoom, made_follows, room_fits}
+use Rattle.clr_runtime.proofs.BirthLines.{fails_follows, known, makeable, may_bear}
+use Rattle.clr_runtime.proofs.IndexKept.{index_kept}
+use Rattle.clr_runtime.proofs.LimitKept.{born_limit}
+use Rattle.clr_runtime.proofs.RuntimeKept.{spent_fits}
+use Rattle.clr_runtime.proofs.TablesKept.{birth_tables}
+use Rattle.clr_runtime.proofs.births.make_small.Goals as goal
+use Rattle.clr_runtime.proofs.births.make_small.Goals.{After-register_entry, In_default}
+
+-- no room was made, and what was done for it stays
+pub returns-in-Err-clause-made : goal.returns-in-Err-clause-made
+returns-in-Err-clause-made c =
+    λ name len measured. fails_follows c.requires.runtime.shown refl c.args.t c.args.local name len c.requires.passed
+    c.args.request measured c.requires.small (seen c.make_room.new.parts) c.in-Err.fault c.refusal_of.result
+    c.refusal_of.ensures c.in-Err.ensures.room
+
+-- what is asked for, by the types once there is room
+asked : (c : In_default) (name : List ℕ) (len : Option ℕ)
+    → IsMeasured c.args.parts.now.types c.args.local name len c.args.request
+    → IsMeasured c.make_room.new.parts.types c.args.local name len c.args.request
+asked c name len =
+    subst (λ (rows : List TypeRow). IsMeasured rows c.args.local name len c.args.request)
+    (sym c.in_default.ensures.types)
+
+-- the object has its room
+roomy : (c : In_default) (name : List ℕ) (len : Option ℕ)
+    → IsMeasured c.args.parts.now.types c.args.local name len c.args.request
+    → HasItsRoom (seen c.args.parts.now) (seen c.make_room.new.parts) c.args.t c.args.local name len
+    c.args.request.type_id.0 c.args.request.size
+roomy c name len measured = record {
+  sound = c.requires.runtime.shown.sound;
+  may = may_bear c.requires.runtime.shown refl c.args.t c.args.local name len c.requires.passed c.args.request
+      measured c.requires.small;
+  types = c.in_default.ensures.types;
+  is = measured.size_is;
+  room = c.in_default.ensures.room;
+  fits = c.in_default.ensures.fits;
+}
+
+pub bear-place-requires-clause-item : goal.bear-place-requires-clause-item
+bear-place-requires-clause-item c =
+    let at = (goal.at.bear-place-requires-clause-item c).In_default in
+    let (name, len, measured) = c.requires.asked in
+    makeable c.make_room.new.parts.types c.args.local name len c.args.request (asked at name len measured)
+
+pub bear-place-requires-clause-object : goal.bear-place-requires-clause-object
+bear-place-requires-clause-object c =
+    let (name, len, measured) = c.requires.asked in
+    (known c.args.parts.now.types c.args.local name len c.args.request measured).0
+
+pub bear-place-requires-clause-room : goal.bear-place-requires-clause-room
+bear-place-requires-clause-room c =
+    let at = (goal.at.bear-place-requires-clause-room c).In_default in
+    let (name, len, measured) = c.requires.asked in
+    let p = c.make_room.new.parts in
+    let type = c.args.request.type_id.0 in
+    subst (λ n. own_fits (frame p.heap) c.args.t (size_of (form_at p.types type) n) ≡ true) (sym measured.len_is)
+    (room_fits (seen c.args.parts.now) c.in_default.ensures.runtime.shown c.args.t c.args.local name len type
+    c.args.request.size (roomy at name len measured))
+
+pub overflow_add-parts : goal.overflow_add-parts
+overflow_add-parts c =
+    let fits : c.make_room.new.parts.sums.spent0 + c.args.request.size < 2 ^ 64 =
+    spent_fits c.in_default.ensures.runtime.shown c.args.request.size c.requires.small in
+    omega arith
+
+-- the entries with the object, where its type has a finaliser
+registered : (c : After-register_entry) (name : List ℕ) (len : Option ℕ)
+    → IsMeasured c.args.parts.now.types c.args.local name len c.args.request
+    → c.register_entry.new.finals.entries
+    ≡ born_entries (seen c.make_room.new.parts) c.args.request.type_id.0 c.bear-place.result
+registered c name len measured =
+    let p = c.make_room.new.parts in
+    let type = c.args.request.type_id.0 in
+    let final = measured.entry
+    ∙ ap (λ (rows : List TypeRow). has_finalizer (type_row rows type)) (sym c.in_default.ensures.types) in
+    c.register_entry.ensures.entries
+    ∙ (λ k. if final k then p.finals.entries ++ c.bear-place.result ∷ [] else p.finals.entries)
+
+-- the object is born, with the length that was given
+born : (c : After-register_entry) (name : List ℕ) (len : Option ℕ)
+    → IsMeasured c.args.parts.now.types c.args.local name len c.args.request
+    → HasNewborn c.make_room.new.parts.types c.make_room.new.parts.heap c.bear-place.new.heap c.args.t
+    c.args.request.type_id.0 (unwrap_or len 0)
+born c name len measured =
+    let p = c.make_room.new.parts in
+    subst (HasNewborn p.types p.heap c.bear-place.new.heap c.args.t c.args.request.type_id.0) measured.len_is
+    c.bear-place.ensures.born
+
+pub returns-clause-made : goal.returns-clause-made
+returns-clause-made c =
+    let at = goal.at.returns-clause-made c in
+    let done = c.bear-place in
+    let finals = c.register_entry.new.finals in
+    λ name len measured. made_follows (seen c.args.parts.now) c.in_default.ensures.runtime.shown c.args.t c.args.local
+    name len c.args.request.type_id.0 c.args.request.size (roomy at.In_default name len measured) done.new.heap
+    done.result c.index_of.result finals.entries finals.ready (born at.After-register_entry name len measured)
+    done.ensures.place c.index_of.ensures.index (registered at.After-register_entry name len measured)
+    c.register_entry.ensures.ready
+
+pub returns-clause-runtime : goal.returns-clause-runtime
+returns-clause-runtime c =
+    let at = goal.at.returns-clause-runtime c in
+    let p = c.make_room.new.parts in
+    let is = c.in_default.ensures.runtime in
+    let type = c.args.request.type_id.0 in
+    let done = c.bear-place in
+    let finals = c.register_entry.new.finals in
+    let (name, len, measured) = c.requires.asked in
+    let newborn = born at.After-register_entry name len measured in
+    record {
+      shown = birth_kept (seen c.args.parts.now) is.shown c.args.t c.args.local name len type c.args.request.size
+          (roomy at.In_default name len measured) done.new.heap done.result c.index_of.result finals.entries
+          finals.ready newborn done.ensures.place c.index_of.ensures.index
+          (registered at.After-register_entry name len measured) c.register_entry.ensures.ready done.ensures.unmarked
+          done.ensures.free_heads done.ensures.clean;
+      tables = birth_tables is.shown c.args.t done.new.heap type c.args.request.len p.cards p.bricks done.new.bricks
+          done.ensures.born done.ensures.spans done.ensures.bricks done.ensures.cards is.tables;
+      index = index_kept young_items p.types p.types p.heap done.new.heap p.contexts
+          (ap young_items done.ensures.born.layout) is.index;
+      large = index_kept large_items p.types p.types p.heap done.new.heap p.large
+          (ap large_items done.ensures.born.layout) is.large;
+      limit = born_limit p.types p.heap done.new.heap c.args.t type c.args.request.len done.ensures.words ∙ is.limit;
+      pins = is.pins;
+      room = is.room;
+    }

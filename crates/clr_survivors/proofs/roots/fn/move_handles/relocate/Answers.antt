@@ -1,5 +1,0 @@
-use Rattle.clr_survivors.proofs.NamesGone.{gone-by}
-use Rattle.clr_survivors.proofs.roots.fn.move_handles.relocate.Goals as goal
-
-pub returns : goal.returns
-returns c = gone-by _ _ _ _ _ c.destination.ensures.goes

@@ -1,0 +1,47 @@
+-- Locals are met one by one.
+use Rattle.std.proofs.Common.{◌+◌, get_or, arith, sym, subst}
+use Rattle.std.proofs.lemmas.Option.{slice_get-get_or}
+use Rattle.clr_sos.specs.Reaching.{HasAdded}
+use Rattle.clr_mark.proofs.Rooting.{at_in}
+use Rattle.clr_mark.specs.Roots.{IsRoot}
+use Rattle.clr_sos.proofs.Adding.{added-more, added-on, IsNamedBelow, named-all, named-back, named-null}
+use Rattle.clr_sos.proofs.reach.Reached.add_locals.Goals.{then-place-ne0+in_ok-meet, else-place-ne0}
+use Rattle.clr_sos.proofs.reach.Reached.add_locals.Goals as goal
+
+pub meet-requires-clause-stands : goal.meet-requires-clause-stands
+meet-requires-clause-stands c =
+    let some = c.if-place-ne0.true in
+    c.requires.sound.locals (get_or c.args.view.now.locals.now c.loop-i.i 0) (record {
+      listed = at_in c.args.view.now.locals.now c.loop-i.i 0 c.loop-i-test.true;
+      not_null = omega (arith, some);
+    })
+
+pub meet-requires-clause-origin : goal.meet-requires-clause-origin
+meet-requires-clause-origin c = slice_get-get_or c.args.view.now.locals.now c.loop-i.i 0 c.loop-i-test.true
+
+pub loop-i-preserved : goal.loop-i-preserved
+loop-i-preserved c =
+    let v = c.args.view.now in
+    let old = c.args.self.now.entries.items in
+    let places = v.locals.now in
+    let n = c.loop-i.i in
+    let now = c.loop-i.self.entries.items in
+    let seen = c.loop-i.self.seen.items in
+    elim c.if-place-ne0.branch [
+      | then-place-ne0+in_ok-meet w ↦
+          subst (λ s. HasAdded v old s.seen.items s.entries.items (IsNamedBelow places (n + 1))) (sym w.self-is)
+          (added-more v old now seen (IsNamedBelow places n) c.loop-i.invariant (IsNamedBelow places (n + 1))
+          (get_or places n 0) w.meet.new.self.seen.items w.meet.new.self.entries.items w.in_ok-meet.ensures.search
+          w.in_ok-meet.ensures.grown w.in_ok-meet.ensures.met (λ x is. named-back places n x is))
+      | else-place-ne0 w ↦
+          subst (λ s. HasAdded v old s.seen.items s.entries.items (IsNamedBelow places (n + 1))) (sym w.self-is)
+          (added-on v old now seen (IsNamedBelow places n) c.loop-i.invariant (IsNamedBelow places (n + 1))
+          (λ x is. named-null places n x w.if-place-ne0.false is))
+    ]
+
+pub returns : goal.returns
+returns c =
+    let past = c.loop-i-test.false in
+    added-on c.args.view.now c.args.self.now.entries.items c.loop-i.self.entries.items c.loop-i.self.seen.items
+    (IsNamedBelow c.args.view.now.locals.now c.loop-i.i) c.loop-i.invariant (IsRoot c.args.view.now.locals.now)
+    (λ x r. named-all c.args.view.now.locals.now c.loop-i.i x past r)

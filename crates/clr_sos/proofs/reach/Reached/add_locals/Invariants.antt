@@ -1,0 +1,7 @@
+use Rattle.clr_sos.specs.Reaching.{HasAdded}
+use Rattle.clr_sos.proofs.Adding.{IsNamedBelow}
+use Rattle.clr_sos.proofs.reach.Reached.add_locals.Given as goal
+
+abbrev pub invariant-loop-i : goal.invariant-loop-i
+invariant-loop-i l = HasAdded l.view l.initial.self.entries.items l.self.seen.items l.self.entries.items
+    (IsNamedBelow l.view.locals.now l.i)

@@ -1,0 +1,12 @@
+-- The segment of a word is there, and begins below it.
+use Rattle.clr_sos.proofs.Seen.{word-low, word-segment}
+use Rattle.clr_sos.proofs.reach.Reached.has.Goals as goal
+
+pub info-base-requires : goal.info-base-requires
+info-base-requires c =
+    rw c.segment_of-k.ensures (word-segment c.args.heap.now c.lawful.ensures c.args.place c.requires)
+
+pub overflow_sub-place : goal.overflow_sub-place
+overflow_sub-place c =
+    rw (c.info-base.ensures.value, c.segment_of-k.ensures)
+    (word-low c.args.heap.now c.lawful.ensures c.args.place c.requires)

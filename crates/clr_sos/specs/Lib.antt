@@ -1,0 +1,16 @@
+pub mod ObjectTexts
+pub mod TextPieces
+pub mod Views
+pub mod CheckedCells
+pub mod Faults
+pub mod CellScans
+pub mod SegmentScans
+pub mod Windows
+pub mod Faultless
+pub mod CleanStates
+pub mod Bits
+pub mod Dumping
+pub mod Reaching
+pub mod Walks
+pub mod Wants
+pub mod RootTexts

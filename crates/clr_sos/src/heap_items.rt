@@ -1,0 +1,66 @@
+// A walk over the whole heap.
+ghost use Rattle.std.specs.Prelude.{◌≡◌};
+ghost use Rattle.clr_heap.specs.View.{AreWalkable, heap_items};
+
+use clr_heap::{Heap, Walk};
+use clr_types::{Item, Types};
+use std::marker::Model;
+
+/// The items of all segments that are left of a walk over a heap, by rising place. Clauses see it as their list.
+#[derive(Drop)]
+pub(crate) struct HeapItems<'a> {
+    heap: &'a Heap,
+    types: &'a Types,
+    walk: Walk<'a>,
+    next: usize,
+    count: usize,
+}
+
+impl<'a> Model for HeapItems<'a> {
+    ghost use Rattle.std.specs.Prelude.{List};
+    ghost use Rattle.clr_types.specs.declared.item.Item.{Item};
+
+    ghost Value = { List Item };
+
+    ghost use Rattle.clr_sos.specs.Walks.{ahead, AreAhead};
+
+    ghost view = { λ items. ahead items.walk items.types.now items.heap.now items.next items.count };
+
+    ghost invariant = { λ items. AreAhead items.types.now items.heap.now items.next items.count };
+}
+
+impl<'a> Iterator for HeapItems<'a> {
+    ghost use Rattle.std.specs.Iterator.{item_count, YieldsFirst};
+
+    type Item = Item;
+
+    ghost next_gives = { YieldsFirst (λ items. items) };
+
+    ghost remaining = { item_count (λ items. items) };
+
+    #[inline]
+    fn next(&mut self) -> Option<Item> {
+        let mut found = self.walk.next();
+        while found.is_none() && self.next < self.count {
+            self.walk = self.heap.walk(self.types, self.next);
+            self.next += 1;
+            found = self.walk.next();
+        }
+        found
+    }
+}
+
+/// The items of a heap.
+pub(crate) fn items_of<'a>(types: &'a Types, heap: &'a Heap) -> HeapItems<'a>
+    requires { AreWalkable types.now heap.now }
+    ensures { result ≡ heap_items types.now heap.now }
+{
+    let count = heap.segments();
+    HeapItems {
+        heap,
+        types,
+        walk: heap.walk(types, 0),
+        next: 1,
+        count,
+    }
+}

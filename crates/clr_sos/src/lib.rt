@@ -1,0 +1,31 @@
+//! The commands that show the heap, each a text by definition.
+#![tactic(auto)]
+
+pub use crate::fault::SosFault;
+pub use crate::handles::gchandles;
+pub use crate::listing::dumpheap;
+pub use crate::object_text::dumpobj;
+pub use crate::queues::finalizequeue;
+pub use crate::roots::gcroot;
+pub use crate::segments::eeheap;
+pub use crate::verify::{clean_states_are_lawful, verifyheap, verifyheap_with_room};
+pub use crate::view::View;
+pub use crate::whereabouts::gcwhere;
+
+mod fault;
+mod handles;
+mod heap_items;
+mod listing;
+mod listing_counts;
+mod listing_lines;
+mod listing_text;
+mod object_text;
+mod queues;
+mod reach;
+mod roots;
+mod segments;
+mod text;
+mod verify;
+mod view;
+mod wanted;
+mod whereabouts;

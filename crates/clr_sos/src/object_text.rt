@@ -1,0 +1,175 @@
+//! `dumpobj`: one object with its slots.
+ghost use Rattle.std.specs.Prelude.{◌≡◌, ◌≢◌, ◌≤◌, ◌↔◌, ◌∷◌, ◌++◌, length, IfOk, OnOk, None, decimal};
+ghost use Rattle.clr_types.specs.Rising.{IsIn};
+ghost use Rattle.clr_types.specs.Types.{form_at, slot_kinds};
+ghost use Rattle.clr_bricks.specs.Bricks.{entry_at};
+ghost use Rattle.clr_heap.specs.View.{frame, heap_items};
+ghost use Rattle.clr_model.specs.Lookups.{object_at as object_of};
+ghost use Rattle.clr_model.specs.Machine.{Machine};
+ghost use Rattle.clr_model.specs.Sos.{dumpobj_text, length_words, line, more_line, slot_words};
+ghost use Rattle.clr_view.specs.View.{IsHeld, objects_in, word_value};
+ghost use Rattle.clr_generations.specs.Laws.{BrickLaw};
+ghost use Rattle.clr_generations.specs.Tables.{AreBricksOf};
+ghost use Rattle.clr_sos.specs.ObjectTexts.{head_line, item_text, slot_lines, slots_in};
+ghost use Rattle.clr_sos.specs.Views.{IsViewOf};
+
+use crate::text::{put_address, put_number, put_place};
+use crate::{SosFault, View};
+use clr_generations::object_at;
+use clr_heap::{Heap, Item};
+use clr_types::Types;
+use clr_view::slot_value;
+use std::alloc::{AllocError, Global};
+
+/// How many slots of an object are shown.
+const SHOWN_SLOTS: u64 = 16;
+
+/// Room for the text of an object whose type has no long name, in bytes.
+const ROOM: usize = 768;
+
+/// What `dumpobj` shows of the object with the place `a`:
+///
+/// ```text
+/// object 0000000010001008 Node size 168 gen 1
+/// slot 0 ref 00000000100010b0
+/// slot 1 ref null
+/// slot 2 num 7
+/// ..
+/// more 2
+/// ```
+///
+/// The first line has its place, the name of its type, its size in bytes and its generation, and of an array ` length`
+/// and the number of its elements at the end. A line for each slot follows, by rising number, 16 of them at most: the
+/// place that a reference leads to, or `null`, or a number, in an array of bytes a byte. The last line tells how many
+/// slots aren't shown, and comes only where there are any. Places are 16 hexadecimal digits, all else is decimal.
+///
+/// `NoObject` comes exactly where no object has the place, and `NoMemory` only where there is no memory for the text.
+/// The object is found by bricks, without a walk of its segment.
+pub fn dumpobj(alloc: Global, view: &View<'_>, a: u64) -> Result<Vec<u8>, SosFault>
+    requires held { IsHeld view.now.types.now view.now.heap.now }
+    requires bricks { AreBricksOf (frame view.now.heap.now) view.now.bricks.now }
+    requires law { BrickLaw view.now.types.now (frame view.now.heap.now)
+        (objects_in view.now.types.now view.now.heap.now) (entry_at view.now.bricks.now) }
+    ensures text { IfOk result (λ text. (m : Machine) → IsViewOf view.now m → text.items ≡ dumpobj_text m a) }
+    ensures no_object { (m : Machine) → IsViewOf view.now m
+        → ((result ≡ Err SosFault.NoObject) ↔ (object_of m.objects a ≡ None)) }
+    ensures no_type { result ≢ Err SosFault.UnknownType }
+{
+    view.heap.lawful();
+    let Some(item) = object_at(view.heap, view.types, view.bricks, a) else {
+        return Err(SosFault::NoObject);
+    };
+    let text = text_of(alloc, view.types, view.heap, &item)?;
+    Ok(text)
+}
+
+// The text of an object.
+fn text_of(alloc: Global, types: &Types, heap: &Heap, item: &Item) -> Result<Vec<u8>, AllocError>
+    requires held { IsHeld types.now heap.now }
+    requires listed { IsIn item.now (heap_items types.now heap.now) }
+    ensures { IfOk result (λ text. text.items ≡ item_text types.now heap.now item.now) }
+{
+    heap.lawful();
+    let mut text = Vec::with_capacity(alloc, ROOM)?;
+    put_head(&mut text, types, item, heap.gen_of(item.place))?;
+    let count = types.slot_count(item.type_id, item.len);
+    put_slots(&mut text, types, heap, item, count)?;
+    put_more(&mut text, count)?;
+    Ok(text)
+}
+
+// Puts the line of an object itself at the end.
+fn put_head(
+    text: &mut Vec<u8>,
+    types: &Types,
+    item: &Item,
+    generation: u8,
+) -> Result<(), AllocError>
+    requires { item.now.type_id.0 ≤ length types.now }
+    ensures { OnOk result (text.new.items ≡ text.old.items ++ head_line types.now generation item.now) }
+{
+    text.extend_from_slice(b"object ")?;
+    put_address(text, item.place)?;
+    text.extend_from_slice(b" ")?;
+    text.extend_from_slice(types.name(item.type_id))?;
+    text.extend_from_slice(b" size ")?;
+    put_number(text, item.size)?;
+    text.extend_from_slice(b" gen ")?;
+    put_line_end(
+        text,
+        u64::from(generation),
+        types.has_length(item.type_id),
+        item.len,
+    )
+}
+
+// Puts a number at the end, behind it the length of an array, and a line feed.
+fn put_line_end(
+    text: &mut Vec<u8>,
+    number: u64,
+    has_length: bool,
+    len: u64,
+) -> Result<(), AllocError>
+    ensures { OnOk result (text.new.items ≡ text.old.items ++ line (decimal number ∷ length_words has_length len)) }
+{
+    put_number(text, number)?;
+    if has_length {
+        text.extend_from_slice(b" length ")?;
+        put_number(text, len)?;
+    }
+    text.extend_from_slice(b"\n")?;
+    Ok(())
+}
+
+// Puts the lines of the first slots of an object at the end, of which there are `count`.
+fn put_slots(
+    text: &mut Vec<u8>,
+    types: &Types,
+    heap: &Heap,
+    item: &Item,
+    count: u64,
+) -> Result<(), AllocError>
+    requires held { IsHeld types.now heap.now }
+    requires listed { IsIn item.now (heap_items types.now heap.now) }
+    requires count { count ≡ length (slot_kinds (form_at types.now item.now.type_id.0) item.now.len) }
+    ensures { OnOk result (text.new.items
+        ≡ text.old.items ++ slot_lines 16 (slots_in types.now heap.now item.now)) }
+{
+    heap.lawful();
+    for i in 0..count.min(SHOWN_SLOTS) {
+        let slot = types.slot(item.type_id, item.len, i);
+        let value = slot_value(heap, types, item, slot);
+        put_slot(text, i, slot.reference, value)?;
+    }
+    Ok(())
+}
+
+// Puts the line of slot `i` at the end.
+fn put_slot(text: &mut Vec<u8>, i: u64, reference: bool, value: u64) -> Result<(), AllocError>
+    ensures { OnOk result (text.new.items ≡ text.old.items ++ line (slot_words (i, word_value reference value))) }
+{
+    text.extend_from_slice(b"slot ")?;
+    put_number(text, i)?;
+    if reference {
+        text.extend_from_slice(b" ref ")?;
+        put_place(text, value)?;
+    } else {
+        text.extend_from_slice(b" num ")?;
+        put_number(text, value)?;
+    }
+    text.extend_from_slice(b"\n")?;
+    Ok(())
+}
+
+// Puts the line that tells how many of `count` slots aren't shown at the end, where there are any.
+fn put_more(text: &mut Vec<u8>, count: u64) -> Result<(), AllocError>
+    ensures { OnOk result (text.new.items ≡ text.old.items ++ more_line count) }
+{
+    if count <= SHOWN_SLOTS {
+        return Ok(());
+    }
+    text.extend_from_slice(b"more ")?;
+    put_number(text, count - SHOWN_SLOTS)?;
+    text.extend_from_slice(b"\n")?;
+    Ok(())
+}

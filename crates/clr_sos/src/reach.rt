@@ -1,0 +1,240 @@
+// What the roots reach: a search beside the heap, breadth first.
+ghost use Rattle.std.specs.Prelude.{◌≡◌, ℕ, ◌+◌, ◌<◌, false, [], length, IfOk, IfSome, IfNone, OnOk};
+ghost use Rattle.clr_types.specs.Rising.{Tests};
+ghost use Rattle.clr_heap.specs.Memories.{HasWord};
+ghost use Rattle.clr_model.specs.Machine.{Machine};
+ghost use Rattle.clr_model.specs.Reach.{Live, SecondOf, SlotNames};
+ghost use Rattle.clr_view.specs.View.{objects_in};
+ghost use Rattle.clr_mark.specs.Roots.{IsRoot};
+ghost use Rattle.clr_mark.specs.Ties.{IsTarget};
+ghost use Rattle.clr_sos.specs.Reaching.{AreTies, HasAdded, HasGrown, HasRoom, is_listed, is_seen, IsListed, IsObjectOf};
+ghost use Rattle.clr_sos.specs.Reaching.{IsOrigin, IsSearch, IsSound, place_at};
+ghost use Rattle.clr_sos.specs.Views.{IsLawfulView, IsViewOf};
+
+use crate::View;
+use crate::reach::bits::Bits;
+use crate::reach::ties::{Tie, first_tie, ties_of};
+use clr_handles::MOST_HANDLES;
+use clr_heap::Heap;
+use clr_view::object_item;
+use std::alloc::{AllocError, Global};
+
+mod bits;
+mod ties;
+
+/// What led to an object: a root, or an object that was found before it.
+#[derive(Clone, Copy)]
+pub(crate) enum Origin {
+    /// A local, 64 for each thread.
+    Local(usize),
+    /// A strong or pinned handle, by its number.
+    Handle(u64),
+    /// An object of the f-reachable queue, by its index.
+    Ready(usize),
+    /// A slot or a dependent handle of an object that was found, by its index among those.
+    Through(usize),
+}
+
+/// An object that was found.
+#[derive(Clone, Copy)]
+pub(crate) struct Entry {
+    pub(crate) place: u64,
+    pub(crate) origin: Origin,
+}
+
+/// The objects that roots reach, in the order in which a search breadth first finds them. The search touches no mark
+/// of the heap: it has a bit for each word of each segment.
+#[derive(Drop)]
+pub(crate) struct Reached {
+    pub(crate) seen: Vec<Bits>,
+    pub(crate) entries: Vec<Entry>,
+}
+
+/// What the roots of a view reach. The roots come first: what locals name by threads and numbers, what strong and
+/// pinned handles hold by their numbers, and the f-reachable queue. Its time goes with the slots of what is reached, and
+/// no search is made for any of them. It takes a bit for each word of the heap's used ranges, and 24 bytes for each
+/// object that it finds.
+pub(crate) fn reach(alloc: Global, view: &View<'_>) -> Result<Reached, AllocError>
+    requires lawful { IsLawfulView view.now }
+    ensures search { IfOk result (λ r. IsSearch view.now r.seen.items r.entries.items) }
+    ensures exact { IfOk result (λ r. (m : Machine) → IsViewOf view.now m
+        → Tests (is_listed r.entries.items) (Live m)) }
+    ensures seen { IfOk result (λ r. (x : ℕ) → IsObjectOf view.now x
+        → is_seen view.now.heap.now r.seen.items x ≡ is_listed r.entries.items x) }
+{
+    view.heap.lawful();
+    let ties = ties_of(alloc, view.handles)?;
+    let mut reached = Reached::new(alloc, view.heap)?;
+    reached.add_locals(view)?;
+    reached.add_targets(view)?;
+    reached.add_ready(view)?;
+    let mut next = 0;
+    while next < reached.entries.len() {
+        reached.follow_slots(view, next)?;
+        reached.follow_ties(view, &ties, next)?;
+        next += 1;
+    }
+    Ok(reached)
+}
+
+impl Reached {
+    // Nothing, with room for marks of all objects.
+    fn new(alloc: Global, heap: &Heap) -> Result<Reached, AllocError>
+        ensures entries { IfOk result (λ r. r.entries.items ≡ []) }
+        ensures room { IfOk result (λ r. HasRoom heap.now r.seen.items) }
+        ensures clear { IfOk result (λ r. (x : ℕ) → is_seen heap.now r.seen.items x ≡ false) }
+    {
+        let mut seen = Vec::new(alloc);
+        for k in 0..heap.segments() {
+            let segment = heap.info(k);
+            let bits = Bits::new(alloc, (segment.end - segment.base) / 8)?;
+            seen.push(bits)?;
+        }
+        let entries = Vec::new(alloc);
+        Ok(Reached { seen, entries })
+    }
+
+    /// Whether an object was found.
+    pub(crate) fn has(&self, heap: &Heap, place: u64) -> bool
+        requires { HasWord heap.now.memories place }
+        ensures { result ≡ is_seen heap.now self.now.seen.items place }
+    {
+        heap.lawful();
+        let k = heap.segment_of(place);
+        let base = heap.info(k).base;
+        match self.seen.get(k) {
+            Some(bits) => bits.has((place - base) / 8),
+            None => false,
+        }
+    }
+
+    /// The index of the entry with the place.
+    pub(crate) fn find(&self, place: u64) -> Option<usize>
+        ensures some { IfSome result (λ i. (i < length self.now.entries.items)
+            × (place_at self.now.entries.items i ≡ place)) }
+        ensures none { IfNone result (is_listed self.now.entries.items place ≡ false) }
+    {
+        for i in 0..self.entries.len() {
+            if self.entries[i].place == place {
+                return Some(i);
+            }
+        }
+        None
+    }
+
+    // Adds an object, where it wasn't found before.
+    fn meet(&mut self, view: &View<'_>, place: u64, origin: Origin) -> Result<(), AllocError>
+        requires sound { IsSound view.now }
+        requires stands { IsObjectOf view.now place }
+        requires search { IsSearch view.now self.old.seen.items self.old.entries.items }
+        requires origin { IsOrigin view.now self.old.entries.items (length self.old.entries.items) place origin }
+        ensures search { OnOk result (IsSearch view.now self.new.seen.items self.new.entries.items) }
+        ensures grown { OnOk result (HasGrown self.old.entries.items self.new.entries.items) }
+        ensures met { OnOk result (IsListed self.new.entries.items place) }
+    {
+        let k = view.heap.segment_of(place);
+        let number = (place - view.heap.info(k).base) / 8;
+        let bits = &mut self.seen[k];
+        if !bits.has(number) {
+            bits.add(number);
+            self.entries.push(Entry { place, origin })?;
+        }
+        Ok(())
+    }
+
+    // Adds what locals name.
+    fn add_locals(&mut self, view: &View<'_>) -> Result<(), AllocError>
+        requires sound { IsSound view.now }
+        requires search { IsSearch view.now self.old.seen.items self.old.entries.items }
+        ensures { OnOk result (HasAdded view.now self.old.entries.items self.new.seen.items self.new.entries.items
+            (IsRoot view.now.locals.now)) }
+    {
+        for i in 0..view.locals.len() {
+            let place = view.locals[i];
+            if place != 0 {
+                self.meet(view, place, Origin::Local(i))?;
+            }
+        }
+        Ok(())
+    }
+
+    // Adds what strong and pinned handles hold.
+    fn add_targets(&mut self, view: &View<'_>) -> Result<(), AllocError>
+        requires sound { IsSound view.now }
+        requires search { IsSearch view.now self.old.seen.items self.old.entries.items }
+        ensures { OnOk result (HasAdded view.now self.old.entries.items self.new.seen.items self.new.entries.items
+            (IsTarget view.now.handles.now)) }
+    {
+        view.handles.lawful();
+        for h in 0..MOST_HANDLES as u64 {
+            if let Some(handle) = view.handles.get(h) {
+                if handle.kind.is_root() && handle.target != 0 {
+                    self.meet(view, handle.target, Origin::Handle(h))?;
+                }
+            }
+        }
+        Ok(())
+    }
+
+    // Adds the f-reachable queue.
+    fn add_ready(&mut self, view: &View<'_>) -> Result<(), AllocError>
+        requires sound { IsSound view.now }
+        requires search { IsSearch view.now self.old.seen.items self.old.entries.items }
+        ensures { OnOk result (HasAdded view.now self.old.entries.items self.new.seen.items self.new.entries.items
+            (IsRoot view.now.finals.now.ready)) }
+    {
+        let ready = view.finals.ready();
+        for i in 0..ready.len() {
+            let place = ready[i];
+            if place != 0 {
+                self.meet(view, place, Origin::Ready(i))?;
+            }
+        }
+        Ok(())
+    }
+
+    // Adds what the slots of entry `i` name.
+    fn follow_slots(&mut self, view: &View<'_>, i: usize) -> Result<(), AllocError>
+        requires sound { IsSound view.now }
+        requires search { IsSearch view.now self.old.seen.items self.old.entries.items }
+        requires below { i < length self.old.entries.items }
+        ensures { OnOk result (HasAdded view.now self.old.entries.items self.new.seen.items self.new.entries.items
+            (SlotNames (objects_in view.now.types.now view.now.heap.now) (place_at self.old.entries.items i))) }
+    {
+        let place = self.entries[i].place;
+        let item = object_item(view.heap, view.types, place);
+        if view.types.series(item.type_id).is_empty() {
+            return Ok(());
+        }
+        let k = view.heap.segment_of(place);
+        for offset in view.types.slots(item.type_id, item.len) {
+            let target = view.heap.word_at(k, place + offset);
+            if target == 0 {
+                continue;
+            }
+            self.meet(view, target, Origin::Through(i))?;
+        }
+        Ok(())
+    }
+
+    // Adds what dependent handles tie to entry `i`.
+    fn follow_ties(&mut self, view: &View<'_>, ties: &[Tie], i: usize) -> Result<(), AllocError>
+        requires sound { IsSound view.now }
+        requires search { IsSearch view.now self.old.seen.items self.old.entries.items }
+        requires ties { AreTies view.now.handles.now ties.now }
+        requires below { i < length self.old.entries.items }
+        ensures { OnOk result (HasAdded view.now self.old.entries.items self.new.seen.items self.new.entries.items
+            (SecondOf view.now.handles.now (place_at self.old.entries.items i))) }
+    {
+        let place = self.entries[i].place;
+        let start = first_tie(ties, place);
+        for j in start..ties.len() {
+            let tie = ties[j];
+            if tie.primary != place {
+                return Ok(());
+            }
+            self.meet(view, tie.second, Origin::Through(i))?;
+        }
+        Ok(())
+    }
+}

@@ -1,0 +1,148 @@
+// The segments and the contexts, as text.
+ghost use Rattle.std.specs.Prelude.{◌≡◌, ◌<◌, ◌≤◌, ◌++◌, ◌∷◌, [], codes, decimal, IfOk, OnOk};
+ghost use Rattle.std.specs.List.{enumerate_from, flat_map};
+ghost use Rattle.clr_types.specs.Segments.{reserved_sum, rest_of};
+ghost use Rattle.clr_heap.specs.View.{frame};
+ghost use Rattle.clr_model.specs.Machine.{Machine};
+ghost use Rattle.clr_model.specs.ReplyText.{segment_word};
+ghost use Rattle.clr_model.specs.Sos.{boundary_words, context_line, eeheap_text, kind_number, line, segment_line};
+ghost use Rattle.clr_sos.specs.TextPieces.{each_spaced};
+ghost use Rattle.clr_sos.specs.Views.{IsViewOf};
+
+use crate::View;
+use crate::text::{put_address, put_number};
+use clr_heap::Heap;
+use clr_mem::NoMemory;
+use clr_types::{SegInfo, SegKind};
+use std::alloc::{AllocError, Global};
+
+/// How many threads there are.
+const THREADS: usize = 16;
+
+/// The segments of the heap, the contexts of the threads, and how much is reserved.
+///
+/// First a line for each segment, by rising base: `segment BASE KIND end END reserved BYTES`. `KIND` is `small`,
+/// `ephemeral` or `large`, and `END` is the place up to which the segment is in use. The line of the ephemeral one goes
+/// on with `gen1 START gen0 START`: where generations 1 and 0 begin in it.
+///
+/// Then a line for each thread of whose context something is left, by thread, from 1 to 16:
+/// `context tTHREAD START END`, where `END` is one past its last address.
+///
+/// The last line tells how many bytes all segments reserve together, and how many they may:
+/// `reserved BYTES limit BYTES`.
+///
+/// Addresses have 16 hexadecimal digits, and counts of bytes are decimal. `NoMemory` comes only where there was no
+/// memory for the text.
+pub fn eeheap(alloc: Global, view: &View<'_>) -> Result<Vec<u8>, NoMemory>
+    ensures text { IfOk result (λ text. (m : Machine) → IsViewOf view.now m → text.items ≡ eeheap_text m) }
+{
+    let mut text = Vec::new(alloc);
+    let reserved = put_segments(&mut text, view.heap)?;
+    put_contexts(&mut text, view.heap)?;
+    put_reserved(&mut text, reserved, view.limit)?;
+    Ok(text)
+}
+
+// Puts a line for each segment at the end, and answers how many bytes they reserve together.
+fn put_segments(text: &mut Vec<u8>, heap: &Heap) -> Result<u64, AllocError>
+    ensures text { OnOk result
+        (text.new.items ≡ text.old.items ++ flat_map (segment_line (frame heap.now)) heap.now.segments) }
+    ensures reserved { IfOk result (λ bytes. bytes ≡ reserved_sum (frame heap.now)) }
+{
+    let mut reserved = 0;
+    for k in 0..heap.segments() {
+        let segment = heap.info(k);
+        put_segment(text, heap, &segment)?;
+        reserved += segment.reserved;
+    }
+    Ok(reserved)
+}
+
+// Puts the line of a segment at the end.
+fn put_segment(text: &mut Vec<u8>, heap: &Heap, segment: &SegInfo) -> Result<(), AllocError>
+    ensures { OnOk result (text.new.items ≡ text.old.items ++ segment_line (frame heap.now) segment.now) }
+{
+    text.extend_from_slice(b"segment ")?;
+    put_address(text, segment.base)?;
+    text.extend_from_slice(b" ")?;
+    text.extend_from_slice(kind_text(segment.kind))?;
+    text.extend_from_slice(b" end ")?;
+    put_address(text, segment.end)?;
+    text.extend_from_slice(b" reserved ")?;
+    put_number(text, segment.reserved)?;
+    put_boundaries(text, heap, segment.kind)?;
+    text.extend_from_slice(b"\n")?;
+    Ok(())
+}
+
+// The word of a kind of segments.
+fn kind_text(kind: SegKind) -> &'static [u8]
+    ensures { result.now ≡ segment_word (kind_number kind) }
+{
+    match kind {
+        SegKind::Small => b"small",
+        SegKind::Ephemeral => b"ephemeral",
+        SegKind::Large => b"large",
+    }
+}
+
+// Puts the boundaries of the generations at the end, for the ephemeral segment.
+fn put_boundaries(text: &mut Vec<u8>, heap: &Heap, kind: SegKind) -> Result<(), AllocError>
+    ensures { OnOk result (text.new.items ≡ text.old.items ++ each_spaced (boundary_words (frame heap.now) kind)) }
+{
+    match kind {
+        SegKind::Ephemeral => {
+            let (start1, start0) = heap.boundaries();
+            text.extend_from_slice(b" gen1 ")?;
+            put_address(text, start1)?;
+            text.extend_from_slice(b" gen0 ")?;
+            put_address(text, start0)
+        }
+        SegKind::Small | SegKind::Large => Ok(()),
+    }
+}
+
+// Puts a line for each thread of whose context something is left at the end.
+fn put_contexts(text: &mut Vec<u8>, heap: &Heap) -> Result<(), AllocError>
+    ensures { OnOk result
+        (text.new.items ≡ text.old.items ++ flat_map context_line (enumerate_from 1 heap.now.rests)) }
+{
+    heap.lawful();
+    for k in 0..THREADS {
+        put_context(text, heap, k + 1)?;
+    }
+    Ok(())
+}
+
+// Puts the line of a thread's context at the end, where something is left of it.
+fn put_context(text: &mut Vec<u8>, heap: &Heap, thread: usize) -> Result<(), AllocError>
+    requires positive { 0 < thread }
+    requires few { thread ≤ 16 }
+    ensures { OnOk result
+        (text.new.items ≡ text.old.items ++ context_line (thread, rest_of (frame heap.now) thread)) }
+{
+    let Some((low, high)) = heap.hole(thread) else {
+        return Ok(());
+    };
+    text.extend_from_slice(b"context t")?;
+    put_number(text, thread as u64)?;
+    text.extend_from_slice(b" ")?;
+    put_address(text, low)?;
+    text.extend_from_slice(b" ")?;
+    put_address(text, high)?;
+    text.extend_from_slice(b"\n")?;
+    Ok(())
+}
+
+// Puts the line of what is reserved at the end.
+fn put_reserved(text: &mut Vec<u8>, reserved: u64, limit: u64) -> Result<(), AllocError>
+    ensures { OnOk result (text.new.items ≡ text.old.items
+        ++ line (codes "reserved" ∷ decimal reserved ∷ codes "limit" ∷ decimal limit ∷ [])) }
+{
+    text.extend_from_slice(b"reserved ")?;
+    put_number(text, reserved)?;
+    text.extend_from_slice(b" limit ")?;
+    put_number(text, limit)?;
+    text.extend_from_slice(b"\n")?;
+    Ok(())
+}

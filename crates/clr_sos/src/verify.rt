@@ -1,0 +1,71 @@
+// The command that verifies a heap.
+ghost use Rattle.std.specs.Prelude.{◌≡◌, ◌<◌, ◌↔◌, length};
+ghost use Rattle.clr_heap.specs.View.{IsHeap};
+ghost use Rattle.clr_sos.specs.Faultless.{IsFaultless};
+ghost use Rattle.clr_sos.specs.Faults.{AreInside, first_fault, verdict};
+
+mod cells;
+mod laws;
+mod references;
+mod segments;
+mod starts;
+mod windows;
+
+pub use crate::verify::laws::clean_states_are_lawful;
+use crate::verify::references::names_fault;
+use crate::verify::segments::segments_fault;
+use crate::view::View;
+
+/// How many words `verifyheap` has to work in: their bits tell of 16 MiB of a heap at once.
+const ROOM: usize = 32768;
+
+/// `verifyheap`: checks the heap and the locals of a view, and answers the address of the first fault.
+///
+/// Ok, which the line shows as `clean`, is answered exactly where nothing is wrong. The faults come in this order:
+///
+/// - the segments by rising base: boundaries that don't stand in order are named by the segment's base. Of its items,
+///   by rising place, a wrong header, method table word or length is named by that word, an item that crosses a
+///   boundary, a hole or the segment's end or has the wrong size for the segment by its header, and the first byte of
+///   padding that isn't zero by its own address. The rests of contexts are passed over.
+/// - the reference with the lowest address that is neither null nor the place of an object.
+/// - a local that is neither. Its fault is the address 0.
+///
+/// The types, the limit, handles and queues aren't checked. The view may be any: its heap needn't spell items. It takes
+/// no memory. References are judged by a bit for each word of 16 MiB of places at a time, and the heap is walked once
+/// for each such range that has places: where a caller has more room, `verifyheap_with_room` is faster.
+pub fn verifyheap(view: &View<'_>) -> Result<(), u64>
+    requires holes { AreInside view.now.heap.now }
+    ensures fault { result ≡ verdict (first_fault view.now.types.now view.now.heap.now view.now.locals.now) }
+    ensures lawful { (result ≡ Ok tt) ↔ IsFaultless view.now.types.now view.now.heap.now view.now.locals.now }
+{
+    let mut room = [0; ROOM];
+    verifyheap_with_room(view, &mut room)
+}
+
+/// The same, with room to work in, whose words may be any and are lost. The heap is walked once for each range of 512
+/// bytes a word of the room that has places: with a word for each 512 bytes of the reservations one walk is enough.
+pub fn verifyheap_with_room(view: &View<'_>, room: &mut [u64]) -> Result<(), u64>
+    requires holes { AreInside view.now.heap.now }
+    requires some { 0 < length room.old }
+    ensures fault { result ≡ verdict (first_fault view.now.types.now view.now.heap.now view.now.locals.now) }
+    ensures lawful { (result ≡ Ok tt) ↔ IsFaultless view.now.types.now view.now.heap.now view.now.locals.now }
+{
+    match fault(view, room) {
+        Some(address) => Err(address),
+        None => Ok(()),
+    }
+}
+
+// The address of the first fault of a view.
+fn fault(view: &View<'_>, room: &mut [u64]) -> Option<u64>
+    requires holes { AreInside view.now.heap.now }
+    requires some { 0 < length room.old }
+    ensures heap { IsHeap view.now.heap.now }
+    ensures fault { result ≡ first_fault view.now.types.now view.now.heap.now view.now.locals.now }
+{
+    view.heap.lawful();
+    match segments_fault(view.heap, view.types) {
+        Some(address) => Some(address),
+        None => names_fault(view.heap, view.types, view.locals, room),
+    }
+}

@@ -1,0 +1,176 @@
+// The second pass: references and locals.
+ghost use Rattle.std.specs.Prelude.{◌≡◌, ℕ, ◌+◌, ◌*◌, ◌/◌, ◌%◌, ◌<◌, ◌≤◌, filter, length, not, if◌then◌else◌};
+ghost use Rattle.std.specs.List.{list_all};
+ghost use Rattle.clr_types.specs.ReferenceRuns.{SpellsReferences};
+ghost use Rattle.clr_types.specs.Rising.{IsIn};
+ghost use Rattle.clr_types.specs.Types.{form_at};
+ghost use Rattle.clr_heap.specs.Memories.{HasWord, memory_index};
+ghost use Rattle.clr_heap.specs.View.{AreWalkable, heap_items, listing, word_of};
+ghost use Rattle.clr_sos.specs.CheckedCells.{or_else};
+ghost use Rattle.clr_sos.specs.Faults.{addresses, item_addresses, locals_fault, lower, references_fault};
+ghost use Rattle.clr_sos.specs.Windows.{CanJudge, is_bad_by, lowest_bad};
+
+use crate::verify::starts::{is_marked, mark_starts};
+use crate::verify::windows::{Window, is_judged, window_from};
+use clr_heap::{Heap, Item};
+use clr_types::{ReferenceRun, Types};
+
+// What names are judged by: a heap and its types, and the bits of a window, which tell where objects stand.
+#[derive(Clone, Copy)]
+pub struct Judge<'a> {
+    pub heap: &'a Heap,
+    pub types: &'a Types,
+    pub window: Window,
+    pub bits: &'a [u64],
+}
+
+// The first fault of the references, and else that of the locals. The bits are room to work in, one for each word of a
+// window.
+pub fn names_fault(heap: &Heap, types: &Types, locals: &[u64], bits: &mut [u64]) -> Option<u64>
+    requires walkable { AreWalkable types.now heap.now }
+    requires some { 0 < length bits.old }
+    ensures { result
+        ≡ or_else (references_fault types.now heap.now) (locals_fault types.now heap.now locals.now) }
+{
+    let mut low = None;
+    let mut good = true;
+    let mut from = 0;
+    let mut more = true;
+    while more {
+        let window = window_from(heap, from, bits.len());
+        mark_starts(heap, types, window, bits);
+        let judge = Judge {
+            heap,
+            types,
+            window,
+            bits,
+        };
+        low = judge_heap(&judge, low);
+        let fine = are_good(&judge, locals);
+        good = good && fine;
+        more = !window.last;
+        from = window.end;
+    }
+    match low {
+        Some(a) => Some(a),
+        None if good => None,
+        None => Some(0),
+    }
+}
+
+// The lowest of an address and of those of the bad references of the heap, in a window.
+fn judge_heap(judge: &Judge<'_>, low: Option<u64>) -> Option<u64>
+    requires { CanJudge judge.now }
+    ensures { result ≡ lowest_bad judge.now low
+        (addresses judge.now.types.now (heap_items judge.now.types.now judge.now.heap.now)) }
+{
+    let mut low = low;
+    for k in 0..judge.heap.segments() {
+        low = judge_segment(judge, k, low);
+    }
+    low
+}
+
+// The same of the references of a segment.
+fn judge_segment(judge: &Judge<'_>, k: usize, low: Option<u64>) -> Option<u64>
+    requires in_range { k < length judge.now.heap.now.segments }
+    requires judging { CanJudge judge.now }
+    ensures { result ≡ lowest_bad judge.now low
+        (addresses judge.now.types.now (listing judge.now.types.now judge.now.heap.now k)) }
+{
+    let mut low = low;
+    for item in judge.heap.walk(judge.types, k) {
+        low = judge_item(judge, k, item, low);
+    }
+    low
+}
+
+// The same of the references of an item.
+#[inline]
+fn judge_item(judge: &Judge<'_>, k: usize, item: Item, low: Option<u64>) -> Option<u64>
+    requires in_range { k < length judge.now.heap.now.segments }
+    requires judging { CanJudge judge.now }
+    requires listed { IsIn item (listing judge.now.types.now judge.now.heap.now k) }
+    ensures { result ≡ lowest_bad judge.now low (item_addresses judge.now.types.now item) }
+{
+    judge.heap.lawful();
+    match judge.types.reference_run(item.type_id, item.len) {
+        Some(run) => judge_run(judge, k, item, run, low),
+        None => judge_slots(judge, k, item, low),
+    }
+}
+
+// The same, where the references are one run.
+#[inline]
+fn judge_run(
+    judge: &Judge<'_>,
+    k: usize,
+    item: Item,
+    run: ReferenceRun,
+    low: Option<u64>,
+) -> Option<u64>
+    requires in_range { k < length judge.now.heap.now.segments }
+    requires judging { CanJudge judge.now }
+    requires listed { IsIn item (listing judge.now.types.now judge.now.heap.now k) }
+    requires run { SpellsReferences (form_at judge.now.types.now item.type_id.0) item.len run }
+    ensures { result ≡ lowest_bad judge.now low (item_addresses judge.now.types.now item) }
+{
+    judge.heap.lawful();
+    let mut low = low;
+    for i in 0..run.count {
+        let a = item.place + (run.offset + 8 * i);
+        low = lower_if(is_bad(judge, judge.heap.word_at(k, a)), low, a);
+    }
+    low
+}
+
+// The same, slot by slot.
+fn judge_slots(judge: &Judge<'_>, k: usize, item: Item, low: Option<u64>) -> Option<u64>
+    requires in_range { k < length judge.now.heap.now.segments }
+    requires judging { CanJudge judge.now }
+    requires listed { IsIn item (listing judge.now.types.now judge.now.heap.now k) }
+    ensures { result ≡ lowest_bad judge.now low (item_addresses judge.now.types.now item) }
+{
+    judge.heap.lawful();
+    let _ = judge.types.count();
+    let mut low = low;
+    for offset in judge.types.slots(item.type_id, item.len) {
+        let a = item.place + offset;
+        low = lower_if(is_bad(judge, judge.heap.word_at(k, a)), low, a);
+    }
+    low
+}
+
+// The lower of two addresses where the second counts. The first may be missing.
+#[inline]
+fn lower_if(counts: bool, low: Option<u64>, a: u64) -> Option<u64>
+    ensures { result ≡ (if counts then lower low a else low) }
+{
+    if !counts {
+        return low;
+    }
+    match low {
+        None => Some(a),
+        Some(b) => Some(b.min(a)),
+    }
+}
+
+// Whether a name is judged in a window, isn't null and has no bit.
+#[inline]
+fn is_bad(judge: &Judge<'_>, name: u64) -> bool
+    ensures { result ≡ is_bad_by judge.now.window judge.now.bits.now name }
+{
+    name != 0 && is_judged(judge.window, name) && !is_marked(judge.window, judge.bits, name)
+}
+
+// Whether no local is bad, of those that are judged in a window.
+fn are_good(judge: &Judge<'_>, locals: &[u64]) -> bool
+    ensures { result ≡ list_all (λ name. not (is_bad_by judge.now.window judge.now.bits.now name)) locals.now }
+{
+    for name in locals {
+        if is_bad(judge, *name) {
+            return false;
+        }
+    }
+    true
+}

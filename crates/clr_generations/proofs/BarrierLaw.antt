@@ -1,5 +1,5 @@
 -- A store of a reference and the card of its slot.
-use Rattle.std.proofs.Common.{◌≡◌, inl, inr, ℕ, ◌+◌, ◌/◌, ◌<◌, ◌≤◌, Bool, true, false, List, refl, ap}
+use Rattle.std.proofs.Common.{◌≡◌, ◌⊎◌, inl, inr, ℕ, ◌+◌, ◌/◌, ◌<◌, ◌≤◌, Bool, true, false, List, refl, ap}
 use Rattle.std.proofs.Common.{if◌then◌else◌, ◌&&◌, ◌||◌, filter, sym, ◌∙◌, subst, arith, ltb, eqb, Some}
 use Rattle.std.proofs.Math.Bool.{or-true}
 use Rattle.std.proofs.lemmas.Bool.{eq-eqb}
@@ -25,7 +25,7 @@ use Rattle.clr_view.proofs.SlotReads.{reference-word, slot-told}
 use Rattle.clr_view.proofs.Standing.{standing}
 use Rattle.clr_view.proofs.StoredSlots.{kind-there, slot-there}
 use Rattle.clr_generations.specs.Barrier.{carded}
-use Rattle.clr_generations.specs.Laws.{CardLaw, NamesYounger}
+use Rattle.clr_generations.specs.Laws.{NamesYounger}
 use Rattle.clr_generations.specs.Tables.{AreCardsOf}
 use Rattle.clr_generations.proofs.ChangedObjects.{came-from, CameFrom, got-written}
 use Rattle.clr_generations.proofs.Covered.{card-covered}
@@ -58,7 +58,7 @@ younger-ephemeral layout place =
 -- ---- cards
 
 -- a card that was set is set still
-carded-before : (layout : Layout) (address value : ℕ) (is_set : ℕ → Bool) (card : ℕ) → is_set card ≡ true
+pub carded-before : (layout : Layout) (address value : ℕ) (is_set : ℕ → Bool) (card : ℕ) → is_set card ≡ true
     → carded layout address value is_set card ≡ true
 carded-before layout address value is_set card e =
     ap (λ (b : Bool). (eqb card (address / 2048) && stands_in (ephemeral layout) value) || b) e
@@ -151,82 +151,86 @@ module _ (rows : List TypeRow) (h : HeapView) (heap : IsHeap h) (held : IsHeld r
           → stands_in (ephemeral (frame h)) value ≡ b
       ephemeral-before b e = sym (ap (λ (l : Layout). stands_in (ephemeral l) value) this.layout) ∙ e
 
-      -- THE BARRIER: the law of cards is kept
-      module _ (cards after : List (CoverView ℕ))
-          (told : (i : ℕ) → is_card_set after i
-          ≡ carded (frame h) (item.place + slot.offset) value (is_card_set cards) i)
-          (law : CardLaw rows (frame h) (objects_in rows h) (is_card_set cards)) where
-        -- what was named before is told by a card that was set
-        named-before : (a : ℕ) → NamesYounger rows (frame h) (objects_in rows h) a → is_card_set after (a / 2048) ≡ true
-        named-before a y =
-            told (a / 2048)
-            ∙ carded-before (frame h) (item.place + slot.offset) value (is_card_set cards) (a / 2048) (law a y)
+      -- A reference to a younger object was there before, or it is the stored one.
+      abbrev pub WasOrIsStored : ℕ → Type 0
+      WasOrIsStored a =
+          NamesYounger rows (frame h) (objects_in rows h) a
+          ⊎ ((a ≡ item.place + slot.offset) × (generation (frame new) value < 2))
 
-        -- a younger object at the place that the slot names is told by the slot's card
-        named-now : (a : ℕ) → a ≡ item.place + slot.offset → generation (frame new) value < 2
-            → is_card_set after (a / 2048) ≡ true
-        named-now a e young =
+      module _ (a : ℕ) (y : NamesYounger rows (frame new) (objects_in rows new) a) where
+        target : (o : Object) × IsIn o (objects_in rows h) × (y.target.name ≡ o.name) × (y.target.place ≡ o.place)
+        target =
+            let c = came y.target y.target_present in
+            let same = same-name y.target c in
+            (c.0, c.1, same.0, same.1)
+
+        -- the reference stood in the slot before
+        there-before : (x : Object) → IsIn x (objects_in rows h) → y.object.place ≡ x.place → y.object.type ≡ x.type
+            → slice_get x.slots y.slot ≡ Some (ref y.target.name) → NamesYounger rows (frame h) (objects_in rows h) a
+        there-before x i place type named =
+            let low = generation-same (frame h) (frame new) bounds y.target.place
+            ∙ ap (generation (frame h)) target.3 in
+            let high = generation-same (frame h) (frame new) bounds y.object.place
+            ∙ ap (generation (frame h)) place in
+            let younger = y.younger in
+            let offset = ap (λ (t : ℕ). slot_offset (form_at rows t) y.slot) type in
+            record {
+              object = x;
+              present = i;
+              slot = y.slot;
+              target = target.0;
+              target_present = target.1;
+              named = named ∙ ap (λ (n : ℕ). Some (ref n)) target.2;
+              address = y.address ∙ λ k. place k + offset k;
+              younger = omega (arith, low, high, younger);
+            }
+
+        -- the reference was stored now
+        there-now : (x : Object) → IsIn x (objects_in rows h) → x.name ≡ item.place → y.object ≡ change x
+            → y.slot ≡ has.number → ref y.target.name ≡ ref value
+            → (a ≡ item.place + slot.offset) × (generation (frame new) value < 2)
+        there-now x i name is number written =
+            let name_is : y.target.name ≡ value = cc in
+            let place : y.target.place ≡ value =
+            target.3 ∙ sym (named-by-place target.0 target.1) ∙ sym target.2 ∙ name_is in
+            let younger = y.younger in
+            let most = generation-most (frame new) y.object.place in
+            let young = ap (generation (frame new)) place in
+            let at = ap (λ (o : Object). o.place + slot_offset (form_at rows o.type) y.slot) is
+            ∙ ap (λ (n : ℕ). x.place + slot_offset (form_at rows x.type) n) number ∙ slot-of x i name in
+            (y.address ∙ at, omega (arith, young, younger, most))
+
+        told-by : CameFrom key item.place change (objects_in rows h) y.object → WasOrIsStored a
+        told-by c = elim c.2 [
+          | inl here ↦ elim (got-written c.0.slots has.number (ref value) y.slot (ref y.target.name)
+              (ap (λ (o : Object). slice_get o.slots y.slot) (sym here.1) ∙ y.named)) [
+                | inl written ↦ inr (there-now c.0 c.1 here.0 here.1 written.0 written.1)
+                | inr kept ↦ inl (there-before c.0 c.1 (ap (λ (o : Object). o.place) here.1)
+                    (ap (λ (o : Object). o.type) here.1) kept)
+              ]
+          | inr other ↦ inl (there-before c.0 c.1 (ap (λ (o : Object). o.place) other)
+              (ap (λ (o : Object). o.type) other)
+              (ap (λ (o : Object). slice_get o.slots y.slot) (sym other) ∙ y.named))
+        ]
+
+      pub younger-stored : (a : ℕ) → NamesYounger rows (frame new) (objects_in rows new) a → WasOrIsStored a
+      younger-stored a y = told-by a y (came y.object y.present)
+
+      -- THE BARRIER: a reference to a younger object was there before, or the card of its address is set
+      pub barrier_law : (cards after : List (CoverView ℕ))
+          → ((i : ℕ) → is_card_set after i
+          ≡ carded (frame h) (item.place + slot.offset) value (is_card_set cards) i)
+          → (a : ℕ) → NamesYounger rows (frame new) (objects_in rows new) a
+          → NamesYounger rows (frame h) (objects_in rows h) a ⊎ (is_card_set after (a / 2048) ≡ true)
+      barrier_law cards after told a y = elim (younger-stored a y) [
+        | inl was ↦ inl was
+        | inr now ↦
+            let young = now.1 in
             let low = generation-same (frame h) (frame new) bounds value in
             let there = younger-ephemeral (frame h) value (omega (arith, low, young)) in
-            ap (λ (n : ℕ). is_card_set after (n / 2048)) e ∙ told ((item.place + slot.offset) / 2048)
-            ∙ carded-here (frame h) (item.place + slot.offset) value (is_card_set cards) there
-
-        module _ (a : ℕ) (y : NamesYounger rows (frame new) (objects_in rows new) a) where
-          target : (o : Object) × IsIn o (objects_in rows h) × (y.target.name ≡ o.name) × (y.target.place ≡ o.place)
-          target =
-              let c = came y.target y.target_present in
-              let same = same-name y.target c in
-              (c.0, c.1, same.0, same.1)
-
-          -- the reference stood in the slot before
-          there-before : (x : Object) → IsIn x (objects_in rows h) → y.object.place ≡ x.place → y.object.type ≡ x.type
-              → slice_get x.slots y.slot ≡ Some (ref y.target.name) → is_card_set after (a / 2048) ≡ true
-          there-before x i place type named =
-              let low = generation-same (frame h) (frame new) bounds y.target.place
-              ∙ ap (generation (frame h)) target.3 in
-              let high = generation-same (frame h) (frame new) bounds y.object.place
-              ∙ ap (generation (frame h)) place in
-              let younger = y.younger in
-              let offset = ap (λ (t : ℕ). slot_offset (form_at rows t) y.slot) type in
-              named-before a (record {
-                object = x;
-                present = i;
-                slot = y.slot;
-                target = target.0;
-                target_present = target.1;
-                named = named ∙ ap (λ (n : ℕ). Some (ref n)) target.2;
-                address = y.address ∙ λ k. place k + offset k;
-                younger = omega (arith, low, high, younger);
-              })
-
-          -- the reference was stored now
-          there-now : (x : Object) → IsIn x (objects_in rows h) → x.name ≡ item.place → y.object ≡ change x
-              → y.slot ≡ has.number → ref y.target.name ≡ ref value → is_card_set after (a / 2048) ≡ true
-          there-now x i name is number written =
-              let name_is : y.target.name ≡ value = cc in
-              let place : y.target.place ≡ value =
-              target.3 ∙ sym (named-by-place target.0 target.1) ∙ sym target.2 ∙ name_is in
-              let younger = y.younger in
-              let most = generation-most (frame new) y.object.place in
-              let young = ap (generation (frame new)) place in
-              let at = ap (λ (o : Object). o.place + slot_offset (form_at rows o.type) y.slot) is
-              ∙ ap (λ (n : ℕ). x.place + slot_offset (form_at rows x.type) n) number ∙ slot-of x i name in
-              named-now a (y.address ∙ at) (omega (arith, young, younger, most))
-
-          told-by : CameFrom key item.place change (objects_in rows h) y.object → is_card_set after (a / 2048) ≡ true
-          told-by c = elim c.2 [
-            | inl here ↦ elim (got-written c.0.slots has.number (ref value) y.slot (ref y.target.name)
-                (ap (λ (o : Object). slice_get o.slots y.slot) (sym here.1) ∙ y.named)) [
-                  | inl written ↦ there-now c.0 c.1 here.0 here.1 written.0 written.1
-                  | inr kept ↦ there-before c.0 c.1 (ap (λ (o : Object). o.place) here.1)
-                      (ap (λ (o : Object). o.type) here.1) kept
-                ]
-            | inr other ↦ there-before c.0 c.1 (ap (λ (o : Object). o.place) other) (ap (λ (o : Object). o.type) other)
-                (ap (λ (o : Object). slice_get o.slots y.slot) (sym other) ∙ y.named)
-          ]
-
-        pub barrier_law : CardLaw rows (frame new) (objects_in rows new) (is_card_set after)
-        barrier_law a y = told-by a y (came y.object y.present)
+            inr (ap (λ (n : ℕ). is_card_set after (n / 2048)) now.0 ∙ told ((item.place + slot.offset) / 2048)
+            ∙ carded-here (frame h) (item.place + slot.offset) value (is_card_set cards) there)
+      ]
 
 -- ---- what the call does to cards
 

@@ -30,11 +30,11 @@ use Rattle.clr_view.proofs.Standing.{standing}
 use Rattle.clr_view.proofs.Tails.{found-young, kind-young}
 use Rattle.clr_bricks.specs.Bricks.{entry_at}
 use Rattle.clr_generations.specs.Born.{with_place}
-use Rattle.clr_generations.specs.Laws.{BrickLaw, CardLaw, IsBrickOf}
+use Rattle.clr_generations.specs.Laws.{BrickLaw, IsBrickOf, NamesNoMore}
 use Rattle.clr_generations.specs.Tables.{AreBricksOf}
 use Rattle.clr_generations.proofs.AddedObjects.{apart as apart-born, came, HasOneMore, stays, unnamed-birth}
 use Rattle.clr_generations.proofs.BirthLaws.{brick_law-born, IsYoungBirth}
-use Rattle.clr_generations.proofs.CardBirths.{card_law-born}
+use Rattle.clr_generations.proofs.CardBirths.{younger-born}
 use Rattle.clr_generations.proofs.Covered.{brick-covered}
 use Rattle.clr_generations.proofs.FoundItems.{in-at}
 use Rattle.clr_generations.proofs.KeptTables.{bounds-from}
@@ -246,9 +246,9 @@ module _ (rows : List TypeRow) (old new : HeapView) (thread t n : ℕ) (f : IsBo
       (brick_law-born rows (frame old) (frame new) (objects_in rows old) (objects_in rows new) place
       (young-birth order) (entry_at bricks) law)
 
-  -- THE CARD LAW is kept, where what is named stands
-  pub cards-born : AreClosedAmong rows (word_of old) (heap_items rows old) → (is_set : ℕ → Bool)
-      → CardLaw rows (frame old) (objects_in rows old) is_set → CardLaw rows (frame new) (objects_in rows new) is_set
+  -- no reference to a younger object is new, where what is named stands
+  pub cards-born : AreClosedAmong rows (word_of old) (heap_items rows old)
+      → NamesNoMore rows (frame old) (objects_in rows old) (frame new) (objects_in rows new)
   cards-born closed =
-      card_law-born rows (frame old) (frame new) (objects_in rows old) (objects_in rows new)
+      younger-born rows (frame old) (frame new) (objects_in rows old) (objects_in rows new)
       (newborn_at rows place t n) bounds (unnamed-birth rows old new place t n more closed)

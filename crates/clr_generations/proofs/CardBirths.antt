@@ -1,4 +1,4 @@
--- The law of cards where an object is born, of whatever generation: its references are null, and none names it.
+-- References to younger objects where an object is born, of whatever generation: its own are null, and none names it.
 use Rattle.std.proofs.Common.{◌≡◌, ◌⊎◌, inl, inr, ℕ, zero, suc, ◌<◌, Bool, true, false}
 use Rattle.std.proofs.Common.{List, [], ◌∷◌, map, ap, sym, ◌∙◌, arith, Some}
 use Rattle.std.specs.Prelude.{slice_get}
@@ -7,7 +7,7 @@ use Rattle.clr_types.specs.Segments.{Layout}
 use Rattle.clr_types.specs.Types.{TypeRow}
 use Rattle.clr_model.specs.Machine.{Object, ref}
 use Rattle.clr_model.specs.Updates.{empty_value}
-use Rattle.clr_generations.specs.Laws.{CardLaw}
+use Rattle.clr_generations.specs.Laws.{NamesNoMore}
 use Rattle.clr_generations.proofs.SameBounds.{generation-same, HasSameBounds}
 
 -- a new slot names nothing
@@ -24,11 +24,10 @@ pub record IsUnnamedBirth (objects now : List Object) (newborn : Object) : Type 
   pub empty : (slot name : ℕ) → slice_get newborn.slots slot ≡ Some (ref name) → name ≡ 0
   pub unnamed : (o : Object) (slot : ℕ) → IsIn o objects → slice_get o.slots slot ≡ Some (ref newborn.name) → ⊥
 
--- THE LAW OF CARDS is kept
-pub card_law-born : (rows : List TypeRow) (before after : Layout) (objects now : List Object) (newborn : Object)
-    → HasSameBounds before after → IsUnnamedBirth objects now newborn → (is_set : ℕ → Bool)
-    → CardLaw rows before objects is_set → CardLaw rows after now is_set
-card_law-born rows before after objects now newborn bounds birth is_set law a y =
+-- no reference to an object of a lower generation is new
+pub younger-born : (rows : List TypeRow) (before after : Layout) (objects now : List Object) (newborn : Object)
+    → HasSameBounds before after → IsUnnamedBirth objects now newborn → NamesNoMore rows before objects after now
+younger-born rows before after objects now newborn bounds birth a y =
     elim (birth.members y.object y.present) [
       | inl new_one ↦
           let null : y.target.name ≡ 0 = birth.empty y.slot y.target.name
@@ -43,7 +42,7 @@ card_law-born rows before after objects now newborn bounds birth is_set law a y 
             let low = generation-same before after bounds y.target.place in
             let high = generation-same before after bounds y.object.place in
             let younger = y.younger in
-            law a (record {
+            record {
               object = y.object;
               present = was;
               slot = y.slot;
@@ -52,6 +51,6 @@ card_law-born rows before after objects now newborn bounds birth is_set law a y 
               named = y.named;
               address = y.address;
               younger = omega (arith, low, high, younger);
-            })
+            }
       ]
     ]

@@ -1,5 +1,5 @@
 -- The laws where objects stay at their places and of their sizes, and no reference is new.
-use Rattle.std.proofs.Common.{◌≡◌, inl, inr, ℕ, ◌+◌, ◌*◌, ◌/◌, ◌<◌, Bool, List, ap, sym, ◌∙◌}
+use Rattle.std.proofs.Common.{◌≡◌, inl, inr, ℕ, ◌+◌, ◌*◌, ◌/◌, ◌<◌, List, ap, sym, ◌∙◌}
 use Rattle.std.proofs.Common.{subst, arith, Some, ℤ}
 use Rattle.std.specs.Prelude.{slice_get}
 use Rattle.clr_types.specs.Rising.{IsIn}
@@ -8,7 +8,7 @@ use Rattle.clr_types.specs.Types.{Form, form_at, size_of, slot_offset, TypeRow}
 use Rattle.clr_types.specs.declared.segment.SegInfo.{SegInfo}
 use Rattle.clr_model.specs.Lookups.{object_size}
 use Rattle.clr_model.specs.Machine.{Object, ref}
-use Rattle.clr_generations.specs.Laws.{AreEntered, BrickLaw, CardLaw, LeadsBrick, LeadsToNearest}
+use Rattle.clr_generations.specs.Laws.{AreEntered, BrickLaw, LeadsBrick, LeadsToNearest}
 use Rattle.clr_generations.specs.Laws.{NamesYounger, ReachesInto, Stands}
 use Rattle.clr_generations.proofs.SameBounds.{generation-same, HasSameBounds, may-same, segment-was}
 
@@ -42,7 +42,8 @@ same-places before now old new h = record { were = λ o i. (h.were o i).was; sta
 
 module _ (before now : List TypeRow) (bounds layout : Layout) (old new : List Object)
     (same : HasSameBounds bounds layout) (objects : HasSameObjects before now old new) where
-  were-younger : (a : ℕ) → NamesYounger now layout new a → NamesYounger before bounds old a
+  -- no reference to an object of a lower generation is new
+  pub were-younger : (a : ℕ) → NamesYounger now layout new a → NamesYounger before bounds old a
   were-younger a y =
       let had = objects.were y.object y.present in
       let o = had.was in
@@ -63,10 +64,6 @@ module _ (before now : List TypeRow) (bounds layout : Layout) (old new : List Ob
         younger = subst (λ n. n < generation bounds o.object.place) low
             (subst (λ n. generation layout y.target.place < n) high younger);
       }
-
-  -- THE CARD LAW is kept
-  pub card_law-kept : (is_set : ℕ → Bool) → CardLaw before bounds old is_set → CardLaw now layout new is_set
-  card_law-kept is_set law a y = law a (were-younger a y)
 
 module _ (before now : List TypeRow) (bounds layout : Layout) (old new : List Object)
     (same : HasSameBounds bounds layout) (objects : HasSamePlaces before now old new) where

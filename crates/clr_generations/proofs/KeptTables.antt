@@ -9,7 +9,6 @@ use Rattle.clr_types.specs.Types.{TypeRow}
 use Rattle.clr_types.specs.declared.item.Item.{Item}
 use Rattle.clr_types.specs.declared.shape.Slot.{Slot}
 use Rattle.clr_covers.specs.Covers.{CoverView, spans}
-use Rattle.clr_cards.specs.Cards.{is_card_set}
 use Rattle.clr_bricks.specs.Bricks.{entry_at}
 use Rattle.clr_heap.specs.View.{frame, heap_items, HeapView, word_of}
 use Rattle.clr_model.specs.Allocation.{IsRefilled}
@@ -21,12 +20,12 @@ use Rattle.clr_view.specs.View.{object_in, objects_in, word_value}
 use Rattle.clr_view.proofs.ObjectItems.{in_map}
 use Rattle.clr_view.proofs.TypeMore.{item-known, objects_with_type}
 use Rattle.clr_types.proofs.ChangedLists.{out_of_filter}
-use Rattle.clr_generations.specs.Laws.{BrickLaw, CardLaw}
-use Rattle.clr_generations.specs.Tables.{AreTablesOf}
+use Rattle.clr_generations.specs.Laws.{BrickLaw, NamesNoMore, NamesYounger}
+use Rattle.clr_generations.specs.Tables.{AreTablesBy}
 use Rattle.clr_generations.proofs.ChangedObjects.{flag-changed, number-changed, same-objects, slot-changed}
 use Rattle.clr_generations.proofs.ChangedObjects.{type-added}
-use Rattle.clr_generations.proofs.KeptLaws.{brick_law-kept, card_law-kept, HasSameObjects, HasSamePlaces}
-use Rattle.clr_generations.proofs.KeptLaws.{same-places}
+use Rattle.clr_generations.proofs.KeptLaws.{brick_law-kept, HasSameObjects, HasSamePlaces, same-places}
+use Rattle.clr_generations.proofs.KeptLaws.{were-younger}
 use Rattle.clr_generations.proofs.SameBounds.{HasSameBounds, outlines, outlines_ended, units-same}
 
 -- ---- layouts
@@ -51,16 +50,23 @@ bounds-refilled old new thread size refilled = elim refilled [
   }
 ]
 
-module _ (cards : List (CoverView ℕ)) (bricks : List (CoverView ℤ)) where
+-- nor does anything that leaves the layout
+same_layout-bounds : (rows : List TypeRow) (old new : HeapView) → layout_in rows new ≡ layout_in rows old
+    → HasSameBounds (frame old) (frame new)
+same_layout-bounds rows old new e =
+    bounds-from (frame old) (frame new) (ap (λ (l : Layout). l.segments) e) (ap (λ (l : Layout). l.start1) e)
+    (ap (λ (l : Layout). l.start0) e)
+
+module _ (cards : List (CoverView ℕ)) (bricks : List (CoverView ℤ)) {Holds : ℕ → Type 0} where
   -- THE GENERAL STEP: no bound moves but ends, no object moves, and no reference is new
   pub tables-kept : (before now : List TypeRow) (old new : HeapView) → HasSameBounds (frame old) (frame new)
-      → HasSameObjects before now (objects_in before old) (objects_in now new) → AreTablesOf before old cards bricks
-      → AreTablesOf now new cards bricks
+      → HasSameObjects before now (objects_in before old) (objects_in now new) → AreTablesBy before old cards bricks Holds
+      → AreTablesBy now new cards bricks Holds
   tables-kept before now old new bounds objects t = record {
     cards = t.cards ∙ sym (units-same (frame old) (frame new) bounds 2048);
     bricks = t.bricks ∙ sym (units-same (frame old) (frame new) bounds 4096);
-    card_law = card_law-kept before now (frame old) (frame new) (objects_in before old) (objects_in now new) bounds
-        objects (is_card_set cards) t.card_law;
+    card_law = λ a y. t.card_law a (were-younger before now (frame old) (frame new) (objects_in before old)
+        (objects_in now new) bounds objects a y);
     brick_law = brick_law-kept before now (frame old) (frame new) (objects_in before old) (objects_in now new) bounds
         (same-places before now (objects_in before old) (objects_in now new) objects) (entry_at bricks) t.brick_law;
   }
@@ -68,63 +74,56 @@ module _ (cards : List (CoverView ℕ)) (bricks : List (CoverView ℤ)) where
   module _ (rows : List TypeRow) (old new : HeapView) where
     -- the objects are the same
     pub tables-same : HasSameBounds (frame old) (frame new) → objects_in rows new ≡ objects_in rows old
-        → AreTablesOf rows old cards bricks → AreTablesOf rows new cards bricks
+        → AreTablesBy rows old cards bricks Holds → AreTablesBy rows new cards bricks Holds
     tables-same bounds objects =
         tables-kept rows rows old new bounds
         (subst (HasSameObjects rows rows (objects_in rows old)) (sym objects) (same-objects rows (objects_in rows old)))
 
     -- a thread has a new context
-    pub tables-refilled : (thread size : ℕ) → HasRefilled rows old new thread size → AreTablesOf rows old cards bricks
-        → AreTablesOf rows new cards bricks
+    pub tables-refilled : (thread size : ℕ) → HasRefilled rows old new thread size
+        → AreTablesBy rows old cards bricks Holds → AreTablesBy rows new cards bricks Holds
     tables-refilled thread size r =
         let b = bounds-refilled (layout_in rows old) (layout_in rows new) thread size r.layout in
         tables-same (record { segments = b.segments; start1 = b.start1; start0 = b.start0 }) r.objects
 
     -- all contexts are given up
-    pub tables-given_up : HasGivenUp rows old new → AreTablesOf rows old cards bricks
-        → AreTablesOf rows new cards bricks
+    pub tables-given_up : HasGivenUp rows old new → AreTablesBy rows old cards bricks Holds
+        → AreTablesBy rows new cards bricks Holds
     tables-given_up g =
         tables-same (bounds-from (frame old) (frame new) (ap (λ (l : Layout). l.segments) g.layout)
         (ap (λ (l : Layout). l.start1) g.layout) (ap (λ (l : Layout). l.start0) g.layout)) g.objects
 
-    abbrev SameLayout : Type 0
-    SameLayout = layout_in rows new ≡ layout_in rows old
-
-    same_layout-bounds : SameLayout → HasSameBounds (frame old) (frame new)
-    same_layout-bounds e =
-        bounds-from (frame old) (frame new) (ap (λ (l : Layout). l.segments) e) (ap (λ (l : Layout). l.start1) e)
-        (ap (λ (l : Layout). l.start0) e)
-
     -- a finaliser is suppressed, or isn't any more
     pub tables-flagged : (place : ℕ) (flag : Bool) → HasFlagged rows old new place flag
-        → AreTablesOf rows old cards bricks → AreTablesOf rows new cards bricks
+        → AreTablesBy rows old cards bricks Holds → AreTablesBy rows new cards bricks Holds
     tables-flagged place flag f =
-        tables-kept rows rows old new (same_layout-bounds f.layout)
+        tables-kept rows rows old new (same_layout-bounds rows old new f.layout)
         (subst (HasSameObjects rows rows (objects_in rows old)) (sym f.objects)
         (flag-changed rows (objects_in rows old) place flag))
 
     -- a number slot has another number
     pub tables-number : (item : Item) (slot : Slot) (value : ℕ) → HasSlot rows item slot → slot.reference ≡ false
-        → HasStoredSlot rows old new item slot value → AreTablesOf rows old cards bricks
-        → AreTablesOf rows new cards bricks
+        → HasStoredSlot rows old new item slot value → AreTablesBy rows old cards bricks Holds
+        → AreTablesBy rows new cards bricks Holds
     tables-number item slot value has number stored =
         let s = stored has.number has.is in
         let objects = s.objects
         ∙ ap (λ (b : Bool). changed_by (λ (o : Object). o.name) item.place
         (with_slot_of has.number (word_value b value)) (objects_in rows old)) number in
-        tables-kept rows rows old new (same_layout-bounds s.layout)
+        tables-kept rows rows old new (same_layout-bounds rows old new s.layout)
         (subst (HasSameObjects rows rows (objects_in rows old)) (sym objects)
         (number-changed rows (objects_in rows old) item.place has.number value))
 
-    -- a reference was stored, and the cards after it obey their law
+    -- a reference was stored, and something holds of the addresses of those to younger objects after it
     pub tables-referred : (item : Item) (slot : Slot) (value : ℕ) → HasSlot rows item slot
         → HasStoredSlot rows old new item slot value → (after : List (CoverView ℕ)) → spans after ≡ spans cards
-        → (CardLaw rows (frame old) (objects_in rows old) (is_card_set cards)
-        → CardLaw rows (frame new) (objects_in rows new) (is_card_set after))
-        → AreTablesOf rows old cards bricks → AreTablesOf rows new after bricks
-    tables-referred item slot value has stored after spans_are law t =
+        → (Next : ℕ → Type 0)
+        → (((a : ℕ) → NamesYounger rows (frame old) (objects_in rows old) a → Holds a)
+        → (a : ℕ) → NamesYounger rows (frame new) (objects_in rows new) a → Next a)
+        → AreTablesBy rows old cards bricks Holds → AreTablesBy rows new after bricks Next
+    tables-referred item slot value has stored after spans_are Next law t =
         let s = stored has.number has.is in
-        let bounds = same_layout-bounds s.layout in
+        let bounds = same_layout-bounds rows old new s.layout in
         let places = subst (HasSamePlaces rows rows (objects_in rows old)) (sym s.objects)
         (slot-changed rows (objects_in rows old) item.place has.number (word_value slot.reference value)) in
         record {
@@ -135,27 +134,26 @@ module _ (cards : List (CoverView ℕ)) (bricks : List (CoverView ℤ)) where
               bounds places (entry_at bricks) t.brick_law;
         }
 
-    -- an object was born, and the laws are kept
+    -- an object was born, with no reference to a younger one that is new, and the law of bricks is kept
     pub tables-born : (thread t n : ℕ) → HasNewborn rows old new thread t n → (after : List (CoverView ℤ))
         → spans after ≡ spans bricks
-        → (CardLaw rows (frame old) (objects_in rows old) (is_card_set cards)
-        → CardLaw rows (frame new) (objects_in rows new) (is_card_set cards))
+        → NamesNoMore rows (frame old) (objects_in rows old) (frame new) (objects_in rows new)
         → (BrickLaw rows (frame old) (objects_in rows old) (entry_at bricks)
         → BrickLaw rows (frame new) (objects_in rows new) (entry_at after))
-        → AreTablesOf rows old cards bricks → AreTablesOf rows new cards after
-    tables-born thread t n born after spans_are card_law brick_law tables =
+        → AreTablesBy rows old cards bricks Holds → AreTablesBy rows new cards after Holds
+    tables-born thread t n born after spans_are no_more brick_law tables =
         let bounds = bounds-from (frame old) (frame new) (ap (λ (l : Layout). l.segments) born.layout)
         (ap (λ (l : Layout). l.start1) born.layout) (ap (λ (l : Layout). l.start0) born.layout) in
         record {
           cards = tables.cards ∙ sym (units-same (frame old) (frame new) bounds 2048);
           bricks = spans_are ∙ tables.bricks ∙ sym (units-same (frame old) (frame new) bounds 4096);
-          card_law = card_law tables.card_law;
+          card_law = λ a y. tables.card_law a (no_more a y);
           brick_law = brick_law tables.brick_law;
         }
 
   -- a type was added
   pub tables-typed : (rows : List TypeRow) (row : TypeRow) (h : HeapView) → IsHeld rows h
-      → AreTablesOf rows h cards bricks → AreTablesOf (rows ++ row ∷ []) h cards bricks
+      → AreTablesBy rows h cards bricks Holds → AreTablesBy (rows ++ row ∷ []) h cards bricks Holds
   tables-typed rows row h held =
       tables-kept rows (rows ++ row ∷ []) h h (bounds-from (frame h) (frame h) refl refl refl)
       (subst (HasSameObjects rows (rows ++ row ∷ []) (objects_in rows h))

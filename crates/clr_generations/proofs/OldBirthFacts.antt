@@ -1,5 +1,5 @@
 -- A heap in whose large segment an object was born: what its bricks and cards are told of it, and the laws after it.
-use Rattle.std.proofs.Common.{◌≡◌, ℕ, ◌+◌, ◌*◌, ◌/◌, ◌<◌, ◌≤◌, ◌^◌, inl, inr, Bool, true, false, List, refl, ap, sym}
+use Rattle.std.proofs.Common.{◌≡◌, ℕ, ◌+◌, ◌*◌, ◌/◌, ◌<◌, ◌≤◌, ◌^◌, inl, inr, true, false, List, refl, ap, sym}
 use Rattle.std.proofs.Common.{◌∙◌, subst, arith, ℤ}
 use Rattle.std.proofs.lemmas.Bool.{both_ways, cases_Bool, leb-true}
 use Rattle.clr_types.specs.Rising.{first, IsIn}
@@ -20,7 +20,7 @@ use Rattle.clr_model.specs.Allocation.{IsPlacedIn}
 use Rattle.clr_model.proofs.CollectedLayout.{large-not_ephemeral}
 use Rattle.clr_view.specs.Among.{AreClosedAmong}
 use Rattle.clr_view.specs.View.{layout_in, newborn_at, objects_in}
-use Rattle.clr_generations.specs.Laws.{CardLaw}
+use Rattle.clr_generations.specs.Laws.{NamesNoMore}
 use Rattle.clr_generations.specs.OldBirths.{HasOldNewborn}
 use Rattle.clr_generations.specs.Tables.{AreBricksOf}
 use Rattle.clr_generations.proofs.AddedObjects.{apart, born, came, HasOneMore, stays, unnamed-birth}
@@ -156,9 +156,9 @@ module _ (rows : List TypeRow) (old new : HeapView) (place t n : ℕ) (f : HasOn
 
   -- ---- for cards
 
-  -- THE LAW OF CARDS is kept, where what is named stands
-  pub old_newborn-cards : AreClosedAmong rows (word_of old) (heap_items rows old) → (is_set : ℕ → Bool)
-      → CardLaw rows (frame old) (objects_in rows old) is_set → CardLaw rows (frame new) (objects_in rows new) is_set
+  -- no reference to a younger object is new, where what is named stands
+  pub old_newborn-cards : AreClosedAmong rows (word_of old) (heap_items rows old)
+      → NamesNoMore rows (frame old) (objects_in rows old) (frame new) (objects_in rows new)
   old_newborn-cards closed =
       let birth = unnamed-birth rows old new place t n f closed in
       old_birth_cards rows (frame old) (frame new) (objects_in rows old) (objects_in rows new)

@@ -15,13 +15,13 @@ use Rattle.clr_model.specs.Updates.{empty_slots}
 use Rattle.clr_bricks.specs.Bricks.{IsRoot, root_entry}
 use Rattle.clr_bricks.proofs.Following.{root_above}
 use Rattle.clr_generations.specs.Born.{names_later, with_named}
-use Rattle.clr_generations.specs.Laws.{AreEntered, BrickLaw, CardLaw, IsBrickOf, LeadsBrick, LeadsToNearest}
-use Rattle.clr_generations.specs.Laws.{may_lead, ReachesInto, Stands}
+use Rattle.clr_generations.specs.Laws.{AreEntered, BrickLaw, IsBrickOf, LeadsBrick, LeadsToNearest}
+use Rattle.clr_generations.specs.Laws.{may_lead, NamesNoMore, ReachesInto, Stands}
 use Rattle.clr_generations.specs.OldBirths.{HasOldNewborn, LeadUpTo}
 use Rattle.clr_generations.specs.Renewing.{hop, led_back}
 use Rattle.clr_generations.proofs.BirthLaws.{later-above, later-not, path-agrees, same-root}
 use Rattle.clr_generations.proofs.BrickSteps.{hops, Leads, led-above, led-below, led-inside, no_root}
-use Rattle.clr_generations.proofs.CardBirths.{card_law-born, names-nothing}
+use Rattle.clr_generations.proofs.CardBirths.{names-nothing, younger-born}
 use Rattle.clr_generations.proofs.Homes.{brick-of, old-may_lead}
 use Rattle.clr_generations.proofs.SameBounds.{generation-same, HasSameBounds, may-same, segment-was}
 
@@ -426,14 +426,14 @@ brick_law-told rows before after objects now newborn entry entries place size to
 
 -- ---- cards
 
--- THE LAW OF CARDS is kept, where the newborn is as new and no other object names it
+-- no reference to a younger object is new, where the newborn is as new and no other object names it
 pub old_birth_cards : (rows : List TypeRow) (before after : Layout) (objects now : List Object) (newborn : Object)
     (t n : ℕ) → HasOldNewborn rows before after objects now newborn → newborn.slots ≡ empty_slots (form_at rows t) n
     → ((o : Object) → IsIn o now → 0 < o.name)
     → ((o : Object) (slot : ℕ) → IsIn o objects → slice_get o.slots slot ≡ Some (ref newborn.name) → ⊥)
-    → (is_set : ℕ → Bool) → CardLaw rows before objects is_set → CardLaw rows after now is_set
+    → NamesNoMore rows before objects after now
 old_birth_cards rows before after objects now newborn t n b new_slots names unnamed =
-    card_law-born rows before after objects now newborn (bounds rows before after objects now newborn b) (record {
+    younger-born rows before after objects now newborn (bounds rows before after objects now newborn b) (record {
       members = b.members;
       names = names;
       empty = λ slot name is. names-nothing (slot_kinds (form_at rows t) n) slot name

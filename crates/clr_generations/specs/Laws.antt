@@ -29,6 +29,10 @@ abbrev pub CardLaw : List TypeRow → Layout → List Object → (ℕ → Bool) 
 CardLaw rows layout objects is_set =
     (a : ℕ) → NamesYounger rows layout objects a → is_set (a / 2048) ≡ true
 
+-- a slot names an object of a lower generation only where one did before
+abbrev pub NamesNoMore : List TypeRow → Layout → List Object → Layout → List Object → Type 0
+NamesNoMore rows before old after new = (a : ℕ) → NamesYounger rows after new a → NamesYounger rows before old a
+
 -- ---- bricks
 
 -- one of the objects stands at the place

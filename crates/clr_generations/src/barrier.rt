@@ -1,5 +1,5 @@
 // The write barrier.
-ghost use Rattle.std.specs.Prelude.{◌≡◌, ℕ, ◌+◌, true};
+ghost use Rattle.std.specs.Prelude.{◌≡◌, ◌⊎◌, ℕ, ◌+◌, ◌/◌, true};
 ghost use Rattle.clr_types.specs.Rising.{IsIn};
 ghost use Rattle.clr_cards.specs.Cards.{is_card_set};
 ghost use Rattle.clr_covers.specs.Covers.{spans};
@@ -9,7 +9,7 @@ ghost use Rattle.clr_view.specs.Clean.{AreClean};
 ghost use Rattle.clr_view.specs.Marks.{IsUnmarked};
 ghost use Rattle.clr_view.specs.SlotValues.{HasSlot, HasStoredSlot, with_value};
 ghost use Rattle.clr_generations.specs.Barrier.{carded};
-ghost use Rattle.clr_generations.specs.Laws.{CardLaw};
+ghost use Rattle.clr_generations.specs.Laws.{NamesYounger};
 ghost use Rattle.clr_generations.specs.Tables.{AreCardsOf};
 
 use clr_cards::Cards;
@@ -43,8 +43,9 @@ pub fn set_reference(
     ensures card { (i : ℕ) → is_card_set cards.new i
         ≡ carded (frame heap.old) (item.now.place + slot.offset) value (is_card_set cards.old) i }
     ensures spans { spans cards.new ≡ spans cards.old }
-    ensures law { CardLaw types.now (frame heap.old) (objects_in types.now heap.old) (is_card_set cards.old)
-        → CardLaw types.now (frame heap.new) (objects_in types.now heap.new) (is_card_set cards.new) }
+    ensures law { (a : ℕ) → NamesYounger types.now (frame heap.new) (objects_in types.now heap.new) a
+        → NamesYounger types.now (frame heap.old) (objects_in types.now heap.old) a
+        ⊎ (is_card_set cards.new (a / 2048) ≡ true) }
 {
     heap.lawful();
     set_slot_value(heap, types, item, slot, value);

@@ -12,7 +12,7 @@ ghost use Rattle.clr_view.specs.Births.{with_newborn};
 ghost use Rattle.clr_view.specs.Clean.{AreClean};
 ghost use Rattle.clr_view.specs.Marks.{IsUnmarked};
 ghost use Rattle.clr_generations.specs.Born.{names_later, with_named, with_place};
-ghost use Rattle.clr_generations.specs.Laws.{BrickLaw, CardLaw};
+ghost use Rattle.clr_generations.specs.Laws.{BrickLaw, NamesNoMore};
 ghost use Rattle.clr_generations.specs.Tables.{AreBricksOf};
 
 use clr_bricks::Bricks;
@@ -53,8 +53,8 @@ pub fn bear(
         → BrickLaw types.now (frame heap.old) (objects_in types.now heap.old) (entry_at bricks.old)
         → BrickLaw types.now (frame heap.new) (objects_in types.now heap.new) (entry_at bricks.new) }
     ensures cards { AreClosedAmong types.now (word_of heap.old) (heap_items types.now heap.old)
-        → (is_set : ℕ → Bool) → CardLaw types.now (frame heap.old) (objects_in types.now heap.old) is_set
-        → CardLaw types.now (frame heap.new) (objects_in types.now heap.new) is_set }
+        → NamesNoMore types.now (frame heap.old) (objects_in types.now heap.old) (frame heap.new)
+        (objects_in types.now heap.new) }
 {
     heap.lawful();
     let place = clr_view::bear(heap, types, thread, t, len);

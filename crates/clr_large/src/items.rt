@@ -9,7 +9,7 @@ ghost use Rattle.clr_heap.specs.View.{frame, heap_items, word_of};
 ghost use Rattle.clr_model.specs.Allocation.{has_room_in};
 ghost use Rattle.clr_view.specs.Among.{AreClosedAmong};
 ghost use Rattle.clr_view.specs.View.{IsHeld, layout_in, objects_in};
-ghost use Rattle.clr_generations.specs.Laws.{BrickLaw, CardLaw};
+ghost use Rattle.clr_generations.specs.Laws.{BrickLaw, NamesNoMore};
 ghost use Rattle.clr_generations.specs.Tables.{AreBricksOf};
 ghost use Rattle.clr_large.specs.Births.{HasLargeNewborn};
 ghost use Rattle.clr_large.specs.Places.{address_of, IsLargeIndex, IsListed, IsLowest, IsPlace, items_left};
@@ -125,8 +125,8 @@ impl LargeItems {
         ensures bricks { BrickLaw types.now (frame heap.old) (objects_in types.now heap.old) (entry_at bricks.old)
             → BrickLaw types.now (frame heap.new) (objects_in types.now heap.new) (entry_at bricks.new) }
         ensures cards { AreClosedAmong types.now (word_of heap.old) (heap_items types.now heap.old)
-            → (is_set : ℕ → Bool) → CardLaw types.now (frame heap.old) (objects_in types.now heap.old) is_set
-            → CardLaw types.now (frame heap.new) (objects_in types.now heap.new) is_set }
+            → NamesNoMore types.now (frame heap.old) (objects_in types.now heap.old) (frame heap.new)
+            (objects_in types.now heap.new) }
     {
         heap.lawful();
         let size = types.item_size(t, len);

@@ -1,5 +1,5 @@
 -- The line that makes an object, on what is seen: what it does there, it does to each machine that is seen so.
-use Rattle.std.proofs.Common.{◌≡◌, ℕ, zero, suc, ◌+◌, ◌-◌, ◌<◌, ◌≤◌, ◌⊎◌, List, [], ◌∷◌, refl, sym, arith, subst, Bool}
+use Rattle.std.proofs.Common.{◌≡◌, ℕ, zero, suc, ◌+◌, ◌-◌, ◌<◌, ◌≤◌, List, [], ◌∷◌, refl, sym, arith, subst, Bool}
 use Rattle.std.proofs.Common.{true, false, if◌then◌else◌, Option, Some, None, is_some, is_none, unwrap_or}
 use Rattle.std.specs.Prelude.{slice_get, bytes_eq}
 use Rattle.clr_types.specs.Types.{TypeRow, type_row, form_at, number_from, number_of, has_finalizer, is_array}
@@ -11,7 +11,6 @@ use Rattle.clr_model.specs.Picture.{picture}
 use Rattle.clr_model.specs.Instructions.{Instruction, new_object}
 use Rattle.clr_model.specs.Allocation.{own_fits}
 use Rattle.clr_model.specs.Outcomes.{refused}
-use Rattle.clr_model.specs.Stage.{has_large_heap}
 use Rattle.clr_model.specs.Step.{born_small}
 use Rattle.clr_model.specs.Lawful.{IsBirthNamed}
 use Rattle.clr_model.specs.Run.{StandsFor, Follows}
@@ -121,13 +120,13 @@ module _ (s : Machine) (t k : ℕ) (name : List ℕ) (len : Option ℕ) where
       s (may, final))
 
   -- the same for a large object
-  pub new_follows_large_memory : (type : ℕ) → has_large_heap ≡ true → MayBearLarge s t k name len type
+  pub new_follows_large_memory : (type : ℕ) → MayBearLarge s t k name len type
       → has_finalizer (type_row s.types type) ≡ true → Follows s (new_object t k name len) (refused NoMemory) s
-  new_follows_large_memory type heap may final =
+  new_follows_large_memory type may final =
       follows s i _ _
       (refusal_carried_by i
       (λ s. MayBearLarge s t k name len type × (has_finalizer (type_row s.types type) ≡ true)) NoMemory
-      (λ m named given. new_refuses_large_memory m t k name len heap type
+      (λ m named given. new_refuses_large_memory m t k name len type
       (may_bear_large_of-picture m t k name len type given.0) given.1)
       s (may, final))
 
@@ -166,18 +165,15 @@ module _ (s : Machine) (t k : ℕ) (name : List ℕ) (len : Option ℕ) where
       (λ m named given. new_refuses_local m t k name len type given.1 (may_run_of-picture m t given.0) given.2 high)
       s (run, known, suited))
 
-  -- more bytes than an object may have, or than the small heap takes where there is no other
+  -- more bytes than an object may have
   pub new_follows_size : (type : ℕ) → MayRun s t → number_of s.types name ≡ Some type → suits_form s type len ≡ true
-      → k < 64
-      → (1073741824 < born_size s type (unwrap_or len 0))
-      ⊎ ((has_large_heap ≡ false) × (s.options.large ≤ born_size s type (unwrap_or len 0)))
+      → k < 64 → 1073741824 < born_size s type (unwrap_or len 0)
       → Follows s (new_object t k name len) (refused TooBig) s
   new_follows_size type run known suited local big =
       follows s i _ _
       (refusal_carried_by i
       (λ s. MayRun s t × (number_of s.types name ≡ Some type) × (suits_form s type len ≡ true)
-      × ((1073741824 < born_size s type l)
-      ⊎ ((has_large_heap ≡ false) × (s.options.large ≤ born_size s type l)))) TooBig
+      × (1073741824 < born_size s type l)) TooBig
       (λ m named given. new_refuses_size m t k name len type given.1
       (may_run_of-picture m t given.0) given.2 local given.3)
       s (run, known, suited, big))

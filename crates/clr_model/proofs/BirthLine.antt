@@ -10,11 +10,10 @@ use Rattle.clr_model.specs.declared.Refusal.TheVariants.{BadShape, NoSlot, TooBi
 use Rattle.clr_model.specs.Machine.{Machine}
 use Rattle.clr_model.specs.Instructions.{new_object}
 use Rattle.clr_model.specs.Checks.{refusal as first_refusal, refuse_if, with_some, first_of_all}
-use Rattle.clr_model.specs.Stage.{has_large_heap}
 use Rattle.clr_model.specs.Outcomes.{Outcome, refused}
 use Rattle.clr_model.specs.Step.{Obeys, MakesSmall, MakesLarge, WantsEntry}
 use Rattle.clr_model.specs.Lawful.{IsBirthNamed}
-use Rattle.clr_model.proofs.LineChecks.{MayRun, obeys_refusal, obeys_done}
+use Rattle.clr_model.proofs.LineChecks.{MayRun, obeys_refusal, obeys_done, unheld_passes}
 use Rattle.clr_model.proofs.Birth.{born_size}
 
 -- a length is given to an array, and none to a class
@@ -57,11 +56,11 @@ asks_large m t k name len type h = record { run = h.run; known = h.known; shape 
 
 -- ---- the checks
 
--- the checks of the line, as a function of what they see
-abbrev checks_by : ℕ → Bool → Option ℕ → Bool → Option ℕ → Bool → Bool → Bool → Option Refusal
-checks_by t thread holder stepping number suits away big = first_of_all (
+-- the checks of the line, where the check for a holder comes to `held`
+abbrev checks_behind : Bool → Option Refusal → Bool → Option ℕ → Bool → Bool → Bool → Option Refusal
+checks_behind thread held stepping number suits away big = first_of_all (
     refuse_if (not thread) UnknownThread
-    ∷ with_some holder (λ h. refuse_if (not (h == t) && not stepping) (Blocked h))
+    ∷ held
     ∷ refuse_if (stepping && true) MidStep
     ∷ refuse_if (not stepping && false) NotMidStep
     ∷ refuse_if (is_none number) UnknownType
@@ -70,28 +69,14 @@ checks_by t thread holder stepping number suits away big = first_of_all (
     ∷ None ∷ None ∷ None ∷ None ∷ None ∷ None
     ∷ refuse_if big TooBig ∷ None ∷ None ∷ [])
 
--- a size that no object has, or that only the large heap would take
+-- the same, as a function of what they see
+abbrev checks_by : ℕ → Bool → Option ℕ → Bool → Option ℕ → Bool → Bool → Bool → Option Refusal
+checks_by t thread holder stepping =
+    checks_behind thread (with_some holder (λ h. refuse_if (not (h == t) && not stepping) (Blocked h))) stepping
+
+-- a size that no object has
 abbrev too_big_by : Machine → ℕ → ℕ → Bool
-too_big_by m type len = nat_lt 1073741824 (born_size m type len) ||
-    (not has_large_heap && nat_le m.options.large (born_size m type len))
-
--- such a size: more than an object may have, or large where there is no large heap
-big_by : (over large heap : Bool) → (over ≡ true) ⊎ ((heap ≡ false) × (large ≡ true))
-    → (over || (not heap && large)) ≡ true
-big_by true large heap s = refl
-big_by false true false s = refl
-big_by false large heap (inl e) = absurd cc
-big_by false false heap (inr (e, f)) = absurd cc
-big_by false true true (inr (e, f)) = absurd cc
-
--- and one that isn't
-fits_by : (over large heap : Bool) → over ≡ false → (large ≡ false) ⊎ (heap ≡ true)
-    → (over || (not heap && large)) ≡ false
-fits_by true large heap e s = absurd cc
-fits_by false large true e s = refl
-fits_by false false false e s = refl
-fits_by false true false e (inl f) = absurd cc
-fits_by false true false e (inr f) = absurd cc
+too_big_by m type len = nat_lt 1073741824 (born_size m type len)
 
 module _ (m : Machine) (t k : ℕ) (name : List ℕ) (len : Option ℕ) where
   -- what the checks come to, by what they see
@@ -100,8 +85,9 @@ module _ (m : Machine) (t k : ℕ) (name : List ℕ) (len : Option ℕ) where
       → too_big_by m (unwrap_or (number_of m.types name) 0) (unwrap_or len 0) ≡ big
       → first_refusal m (new_object t k name len) ≡ checks_by t true None false number suits away big
   refusal-by run number suits away big is_number is_suits is_away is_big =
-      let thread = run.thread in let unheld = run.unheld in let idle = run.idle in
-      λ i. checks_by t (thread i) (unheld i) (idle i) (is_number i) (is_suits i) (is_away i) (is_big i)
+      let thread = run.thread in let idle = run.idle in
+      (λ i. checks_by t (thread i) m.holder (idle i) (is_number i) (is_suits i) (is_away i) (is_big i))
+      ∙ ap (λ held. checks_behind true held false number suits away big) (unheld_passes m.holder t run.unheld)
 
   -- a name that no type has
   pub new_refuses_type : MayRun m t → number_of m.types name ≡ None
@@ -130,26 +116,14 @@ module _ (m : Machine) (t k : ℕ) (name : List ℕ) (len : Option ℕ) where
         obeys_refusal m (new_object t k name len) NoSlot
         (refusal-by run (Some type) true true _ known (suits_is true suited) (le-leb 64 k high) refl)
 
-    -- such a size is too big
-    too_big_is : (1073741824 < born_size m type (unwrap_or len 0))
-        ⊎ ((has_large_heap ≡ false) × (m.options.large ≤ born_size m type (unwrap_or len 0)))
-        → too_big_by m type (unwrap_or len 0) ≡ true
-    too_big_is big =
-        let size = born_size m type (unwrap_or len 0) in
-        big_by (nat_lt 1073741824 size) (nat_le m.options.large size) has_large_heap (elim big [
-          | inl over ↦ inl (lt-ltb 1073741824 size over)
-          | inr large ↦ inr (large.0, le-leb m.options.large size large.1)
-        ])
-
-    -- more bytes than an object may have, or than the small heap takes where there is no other
+    -- more bytes than an object may have
     pub new_refuses_size : MayRun m t → suits_form m type len ≡ true → k < 64
-        → (1073741824 < born_size m type (unwrap_or len 0))
-        ⊎ ((has_large_heap ≡ false) × (m.options.large ≤ born_size m type (unwrap_or len 0)))
-        → Obeys m (new_object t k name len) (refused TooBig) m
+        → 1073741824 < born_size m type (unwrap_or len 0) → Obeys m (new_object t k name len) (refused TooBig) m
     new_refuses_size run suited local big =
         obeys_refusal m (new_object t k name len) TooBig
         (refusal-by run (Some type) true false true known (suits_is true suited) (lt-leb 64 k local)
-        (ap (λ n. too_big_by m n (unwrap_or len 0)) number_is ∙ too_big_is big))
+        (ap (λ n. too_big_by m n (unwrap_or len 0)) number_is
+        ∙ lt-ltb 1073741824 (born_size m type (unwrap_or len 0)) big))
 
   -- by the type's number, and by whether the object is large
   abbrev does_by : ℕ → Bool → Outcome → Machine → Type 0
@@ -183,8 +157,7 @@ module _ (m : Machine) (t k : ℕ) (name : List ℕ) (len : Option ℕ) where
         let small = h.small in
         let a = named.lawful.options.large_greatest in
         let b = named.lawful.options.segment_greatest in
-        fits_by (nat_lt 1073741824 size) (nat_le m.options.large size) has_large_heap
-        (le-ltb 1073741824 size (omega arith)) (inl (lt-leb m.options.large size small))
+        le-ltb 1073741824 size (omega arith)
 
     -- so the line does what it says of a small object
     small_obeys : (outcome : Outcome) (new : Machine) → does_by type false outcome new
@@ -205,13 +178,11 @@ module _ (m : Machine) (t k : ℕ) (name : List ℕ) (len : Option ℕ) where
 
   -- ---- a large one
 
-  module _ (heap : has_large_heap ≡ true) (type : ℕ) (h : MayBearLarge m t k name len type) where
-    -- a large one isn't where there is a large heap
+  module _ (type : ℕ) (h : MayBearLarge m t k name len type) where
+    -- nor is a large one
     large_enough : too_big_by m type (unwrap_or len 0) ≡ false
     large_enough =
-        let size = born_size m type (unwrap_or len 0) in
-        fits_by (nat_lt 1073741824 size) (nat_le m.options.large size) has_large_heap (le-ltb 1073741824 size h.most)
-        (inr heap)
+        le-ltb 1073741824 (born_size m type (unwrap_or len 0)) h.most
 
     -- so the line does what it says of a large object
     large_obeys : (outcome : Outcome) (new : Machine) → does_by type true outcome new

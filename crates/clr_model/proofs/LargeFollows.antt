@@ -10,7 +10,6 @@ use Rattle.clr_model.specs.Machine.{Options, Machine}
 use Rattle.clr_model.specs.Lookups.{lowest_in_step}
 use Rattle.clr_model.specs.Updates.{born_at}
 use Rattle.clr_model.specs.Picture.{picture}
-use Rattle.clr_model.specs.Stage.{has_large_heap}
 use Rattle.clr_model.specs.Allocation.{Attempt, roomed, waits, out_of_room, out_of_memory, has_room_in, IsPlacedIn}
 use Rattle.clr_model.specs.Allocation.{with_layout, with_segment, segment_for, allows, LargeAfterFirst, PlacesLarge}
 use Rattle.clr_model.specs.Instructions.{Instruction, new_object}
@@ -264,7 +263,7 @@ birth_left m ready type len same h = record {
   most = subst (λ (rows : List TypeRow). size_of (form_at rows type) len ≤ 1073741824) (sym same) h.most;
 }
 
-module _ (heap : has_large_heap ≡ true) (s : Machine) (t k : ℕ) (name : List ℕ) (len : Option ℕ) (type : ℕ)
+module _ (s : Machine) (t k : ℕ) (name : List ℕ) (len : Option ℕ) (type : ℕ)
     (may : MayBearLarge s t k name len type) (s' : Machine) where
   abbrev i : Instruction
   i = new_object t k name len
@@ -298,7 +297,7 @@ module _ (heap : has_large_heap ≡ true) (s : Machine) (t k : ℕ) (name : List
       let birth = birth_left m ready type l leaves.types
       (asked_birth m t k name len type (asks_large m t k name len type h) h.most) in (
         born_large ready layout t k place type l,
-        new_obeys_large m t k name len heap type h _ _ (
+        new_obeys_large m t k name len type h _ _ (
           roomed,
           with_layout ready layout,
           place,
@@ -332,7 +331,7 @@ module _ (heap : has_large_heap ≡ true) (s : Machine) (t k : ℕ) (name : List
       large_fails_followed (picture m) (born_size m type l) attempt s' given.1 m
       (record { lawful = named; seen_is = refl }) in (
         ready,
-        new_obeys_large m t k name len heap type (may_bear_large_of-picture m t k name len type given.0) _ _
+        new_obeys_large m t k name len type (may_bear_large_of-picture m t k name len type given.0) _ _
             (attempt, ready, 0, made 0, inr (fails, refl)),
         after,
       ))

@@ -29,11 +29,22 @@ use Rattle.clr_model.specs.Step.{Obeys, Does, stored_number, name_in, number_in}
 
 -- ---- who may run
 
--- there is such a thread, it isn't in mid-step, and no thread holds the others
+-- another thread than this one holds all others
+abbrev pub is_held_off : Option ℕ → ℕ → Bool
+is_held_off None t = false
+is_held_off (Some h) t = not (h == t)
+
+-- there is such a thread, it isn't in mid-step, and no other thread holds it
 pub record MayRun (m : Machine) (t : ℕ) : Type 0 where
   pub thread : is_thread t ≡ true
   pub idle : is_step (step_of m t) ≡ false
-  pub unheld : m.holder ≡ None
+  pub unheld : is_held_off m.holder t ≡ false
+
+-- so it isn't refused for what another one holds
+pub unheld_passes : (holder : Option ℕ) (t : ℕ) → is_held_off holder t ≡ false
+    → with_some holder (λ h. refuse_if (not (h == t) && not false) (Blocked h)) ≡ None
+unheld_passes None t e = refl
+unheld_passes (Some h) t e = ap (λ b. refuse_if (b && not false) (Blocked h)) e
 
 is_step-renamed : (to : ℕ → ℕ) (s : ThreadStep) → is_step (renamed_step to s) ≡ is_step s
 is_step-renamed to no_step = refl
@@ -86,16 +97,22 @@ refuses_thread s i t of none =
 abbrev pub is_away : List ℕ → Bool
 is_away locals = list_any (λ k. nat_le 64 k) locals
 
--- the checks of a line of a thread that names locals and makes no object, as a function of what they see
-abbrev pub line_checks : ℕ → Bool → Option ℕ → Bool → Bool → List (Option Refusal) → Option Refusal
-line_checks t thread holder stepping away more = first_of_all (
+-- the checks of a line of a thread that names locals and makes no object, where the check for a holder comes to `held`
+abbrev pub line_checks_by : Bool → Option Refusal → Bool → Bool → List (Option Refusal) → Option Refusal
+line_checks_by thread held stepping away more = first_of_all (
     refuse_if (not thread) UnknownThread
-    ∷ with_some holder (λ h. refuse_if (not (h == t) && not stepping) (Blocked h))
+    ∷ held
     ∷ refuse_if (stepping && true) MidStep
     ∷ refuse_if (not stepping && false) NotMidStep
     ∷ None ∷ None ∷ None ∷ None
     ∷ refuse_if away NoSlot
     ∷ more)
+
+-- the same, as a function of what they see
+abbrev pub line_checks : ℕ → Bool → Option ℕ → Bool → Bool → List (Option Refusal) → Option Refusal
+line_checks t thread holder stepping away more =
+    line_checks_by thread (with_some holder (λ h. refuse_if (not (h == t) && not stepping) (Blocked h))) stepping away
+    more
 
 -- The line is one of this thread, names these locals, and is then checked by more.
 pub record IsThreadLine (i : Instruction) (t : ℕ) (locals : List ℕ) (more : Machine
@@ -161,8 +178,9 @@ module _ (i : Instruction) (t : ℕ) (locals : List ℕ) (more : Machine
 
   refusal-by : MayRun s t → (away : Bool) → is_away locals ≡ away
       → first_refusal s i ≡ line_checks t true None false away (more s)
-  refusal-by run away e = let thread = run.thread in let unheld = run.unheld in let idle = run.idle in
-      line.checks s ∙ (λ j. line_checks t (thread j) (unheld j) (idle j) (e j) (more s))
+  refusal-by run away e = let thread = run.thread in let idle = run.idle in
+      line.checks s ∙ (λ j. line_checks t (thread j) s.holder (idle j) (e j) (more s))
+      ∙ ap (λ held. line_checks_by true held false away (more s)) (unheld_passes s.holder t run.unheld)
 
   -- a local that there is not
   pub line_refuses_local : MayRun s t → (k : ℕ) → IsIn k locals → 64 ≤ k → Obeys s i (refused NoSlot) s

@@ -4,7 +4,6 @@ use Rattle.std.proofs.Common.{Bool, true, false, if◌then◌else◌, ◌&&◌, 
 use Rattle.std.proofs.Common.{inl, inr}
 use Rattle.std.specs.Prelude.{slice_get}
 use Rattle.std.specs.List.{AllByRecursion}
-use Rattle.std.proofs.lemmas.Bool.{and_parts}
 use Rattle.clr_types.specs.Ranges.{Piece, IsLawfulSize}
 use Rattle.clr_types.specs.Types.{TypeRow, number_of, form_at, size_of}
 use Rattle.clr_types.specs.Segments.{Layout, flat_option, rest_pieces, rest_of}
@@ -16,7 +15,6 @@ use Rattle.clr_model.specs.Machine.{ThreadStep, no_step, Options, Machine}
 use Rattle.clr_model.specs.Lookups.{is_thread, is_step, step_or_none, step_of, lowest_in_step}
 use Rattle.clr_model.specs.Picture.{picture}
 use Rattle.clr_model.specs.Collection.{Collects, which}
-use Rattle.clr_model.specs.Stage.{seals}
 use Rattle.clr_model.specs.Allocation.{Attempt, roomed, waits, out_of_room, out_of_memory, has_room, rest_fits}
 use Rattle.clr_model.specs.Allocation.{own_fits, context_front, IsRefilled, sealed, allows, with_layout}
 use Rattle.clr_model.specs.Allocation.{SmallAfterFull, SmallAfterFirst, MakesRoom}
@@ -26,7 +24,7 @@ use Rattle.clr_model.specs.Step.{Fails, born_small}
 use Rattle.clr_model.specs.Run.{StandsFor, Follows}
 use Rattle.clr_model.specs.RoomFollows.{HasCollected, FollowsRoom}
 use Rattle.clr_model.proofs.Carried.{carried, follows}
-use Rattle.clr_model.proofs.LineChecks.{MayRun, is_step-picture}
+use Rattle.clr_model.proofs.LineChecks.{MayRun, is_held_off, is_step-picture}
 use Rattle.clr_model.proofs.CollectionLaws.{names_dont_matter}
 use Rattle.clr_model.proofs.CollectedPresent.{all_idle}
 use Rattle.clr_model.proofs.CollectedLawful.{rests_gone, stays_birth_named}
@@ -149,13 +147,12 @@ left_refill s m t size layout thread sized refilled left =
     (none_fits m.layout t size left.bare)) refilled left.stands
 
 -- a new segment after a collection, where the limit allows it
-left_sealed : (s m : Machine) → (seals && allows m m.options.segment) ≡ true → IsLeft s m
+left_sealed : (s m : Machine) → allows m m.options.segment ≡ true → IsLeft s m
     → IsLeft (with_layout s (sealed s.layout s.options.segment)) (with_layout m (sealed m.layout m.options.segment))
 left_sealed s m may left = record {
   stands = record {
     lawful = record {
-      lawful = sealed_lawful m left.stands.lawful.lawful left.bare
-          (and_parts seals (allows m m.options.segment) may).1;
+      lawful = sealed_lawful m left.stands.lawful.lawful left.bare may;
       born = left.stands.lawful.born;
     };
     seen_is = ap (λ (w : Machine). with_layout w (sealed w.layout w.options.segment)) left.stands.seen_is;
@@ -289,21 +286,21 @@ module _ (s : Machine) (t size : ℕ) where
           none_of m stands = of_picture (λ w. has_room w.layout size ≡ false) s2 m stands none
 
           -- else there is no room, where the limit allows no segment more
-          pub room_none : (seals && allows s2 s2.options.segment) ≡ false → FollowsRoom s t size out_of_room s2
+          pub room_none : allows s2 s2.options.segment ≡ false → FollowsRoom s t size out_of_room s2
           room_none barred =
               by_full out_of_room s2
               (λ m left. (
                 m,
                 full_none t size out_of_room m m (none_of m left.stands)
-                    (of_picture (λ w. (seals && allows w w.options.segment) ≡ false) s2 m left.stands barred) refl
+                    (of_picture (λ w. allows w w.options.segment ≡ false) s2 m left.stands barred) refl
                     refl,
                 left.stands,
               ))
 
-          module _ (may : (seals && allows s2 s2.options.segment) ≡ true) where
+          module _ (may : allows s2 s2.options.segment ≡ true) where
             -- and so it does in a machine that is seen so
-            may_of : (m : Machine) → StandsFor s2 m → (seals && allows m m.options.segment) ≡ true
-            may_of m stands = of_picture (λ w. (seals && allows w w.options.segment) ≡ true) s2 m stands may
+            may_of : (m : Machine) → StandsFor s2 m → allows m m.options.segment ≡ true
+            may_of m stands = of_picture (λ w. allows w w.options.segment ≡ true) s2 m stands may
 
             -- where the limit allows one, a new segment, and a refill from that
             pub room_sealed : (layout : Layout) → is_thread t ≡ true → IsLawfulSize size
@@ -380,7 +377,7 @@ may_bear-left m ready t k name len type leaves h =
     let run : MayRun ready t = record {
       thread = h.run.thread;
       idle = ap (λ (ss : List ThreadStep). is_step (step_or_none (slice_get ss (t - 1)))) leaves.steps ∙ h.run.idle;
-      unheld = leaves.holder ∙ h.run.unheld;
+      unheld = ap (λ h. is_held_off h t) leaves.holder ∙ h.run.unheld;
     } in
     record {
       run = run;

@@ -1,9 +1,8 @@
 -- The ladder of a small object: how each of its steps is taken, and what holds of all that it may come to.
-use Rattle.std.proofs.Common.{◌≡◌, ℕ, ◌+◌, inl, inr, refl, subst, sym, ◌⊎◌, Bool, true, false, ◌&&◌, ◌||◌, not, nat_le}
+use Rattle.std.proofs.Common.{◌≡◌, ℕ, ◌+◌, inl, inr, refl, subst, sym, ◌⊎◌, Bool, true, false, ◌&&◌, nat_le}
 use Rattle.std.proofs.Common.{Option, None, Some}
 use Rattle.std.specs.Prelude.{MatchOption}
 use Rattle.std.specs.Bool.{MatchBool}
-use Rattle.std.proofs.lemmas.Bool.{and_parts}
 use Rattle.clr_types.specs.Segments.{Layout}
 use Rattle.clr_model.specs.declared.How.{How}
 use Rattle.clr_model.specs.declared.How.TheVariants.{Decide, Compact}
@@ -11,7 +10,6 @@ use Rattle.clr_model.specs.declared.Collected.{Collected}
 use Rattle.clr_model.specs.Machine.{Machine}
 use Rattle.clr_model.specs.Lookups.{lowest_in_step}
 use Rattle.clr_model.specs.Collection.{Collects, which}
-use Rattle.clr_model.specs.Stage.{allocation_collects, seals}
 use Rattle.clr_model.specs.Allocation.{Attempt, roomed, waits, out_of_room, out_of_memory, has_room, own_fits}
 use Rattle.clr_model.specs.Allocation.{IsRefilled, with_layout, sealed, allows, RoomedByRefill, SmallAfterFull}
 use Rattle.clr_model.specs.Allocation.{SmallAfterFirst, SmallByCollection, MakesRoom}
@@ -44,7 +42,7 @@ module _ (t size : ℕ) (attempt : Attempt) (new : Machine) where
 
   -- the budget and the heap have room
   abbrev spare : Machine → Bool
-  spare m = (not allocation_collects || nat_le (m.sums.spent0 + size) m.options.b0) && has_room m.layout size
+  spare m = nat_le (m.sums.spent0 + size) m.options.b0 && has_room m.layout size
 
   -- the machine stays, and there is room, or a thread is waited for, or there is none
   abbrev Stays : Machine → Type 0
@@ -79,32 +77,28 @@ module _ (t size : ℕ) (attempt : Attempt) (new : Machine) where
       → MakesRoom m t size attempt new
   makes_own m own is same =
       chosen (own_fits m.layout t size) (Stays m)
-      (MatchBool (spare m) (RoomedByRefill m t size attempt new)
-      (MatchBool allocation_collects (Collecting m) (FindsNone m)))
-      own (is, same)
+      (MatchBool (spare m) (RoomedByRefill m t size attempt new) (Collecting m)) own (is, same)
 
   module _ (m : Machine) (own : own_fits m.layout t size ≡ false) where
     -- where the size doesn't fit there, the next steps decide
-    lacks_own : MatchBool (spare m) (RoomedByRefill m t size attempt new)
-        (MatchBool allocation_collects (Collecting m) (FindsNone m)) → MakesRoom m t size attempt new
+    lacks_own : MatchBool (spare m) (RoomedByRefill m t size attempt new) (Collecting m)
+        → MakesRoom m t size attempt new
     lacks_own =
         passed_on (own_fits m.layout t size) (Stays m)
-        (MatchBool (spare m) (RoomedByRefill m t size attempt new)
-        (MatchBool allocation_collects (Collecting m) (FindsNone m))) own
+        (MatchBool (spare m) (RoomedByRefill m t size attempt new) (Collecting m)) own
 
     -- a refill within the budget
     pub makes_refill : nat_le (m.sums.spent0 + size) m.options.b0 ≡ true → has_room m.layout size ≡ true
         → RoomedByRefill m t size attempt new → MakesRoom m t size attempt new
     makes_refill within room refilled =
-        lacks_own (chosen (spare m) (RoomedByRefill m t size attempt new)
-        (MatchBool allocation_collects (Collecting m) (FindsNone m)) (λ i. within i && room i) refilled)
+        lacks_own (chosen (spare m) (RoomedByRefill m t size attempt new) (Collecting m)
+        (λ i. within i && room i) refilled)
 
     module _ (none : (nat_le (m.sums.spent0 + size) m.options.b0 && has_room m.layout size) ≡ false) where
       -- where there is none to spare, waits and collections decide
       lacks_spare : Collecting m → MakesRoom m t size attempt new
       lacks_spare collecting =
-          lacks_own (passed_on (spare m) (RoomedByRefill m t size attempt new)
-          (MatchBool allocation_collects (Collecting m) (FindsNone m)) none collecting)
+          lacks_own (passed_on (spare m) (RoomedByRefill m t size attempt new) (Collecting m) none collecting)
 
       -- a thread is in mid-step
       pub makes_wait : (k : ℕ) → lowest_in_step m ≡ Some k → attempt ≡ waits k → new ≡ m
@@ -136,23 +130,23 @@ module _ (t size : ℕ) (attempt : Attempt) (new : Machine) where
       → SmallAfterFull m t size attempt new
   full_refill m =
       chosen (has_room m.layout size) (RoomedByRefill m t size attempt new)
-      (MatchBool (seals && allows m m.options.segment) (TakesSegment m) (FindsNone m))
+      (MatchBool (allows m m.options.segment) (TakesSegment m) (FindsNone m))
 
   -- none, and the limit allows a segment more
-  pub full_seals : (m : Machine) → has_room m.layout size ≡ false → (seals && allows m m.options.segment) ≡ true
+  pub full_seals : (m : Machine) → has_room m.layout size ≡ false → allows m m.options.segment ≡ true
       → TakesSegment m → SmallAfterFull m t size attempt new
   full_seals m none may made =
       passed_on (has_room m.layout size) (RoomedByRefill m t size attempt new)
-      (MatchBool (seals && allows m m.options.segment) (TakesSegment m) (FindsNone m)) none
-      (chosen (seals && allows m m.options.segment) (TakesSegment m) (FindsNone m) may made)
+      (MatchBool (allows m m.options.segment) (TakesSegment m) (FindsNone m)) none
+      (chosen (allows m m.options.segment) (TakesSegment m) (FindsNone m) may made)
 
   -- none, and it doesn't
-  pub full_none : (m : Machine) → has_room m.layout size ≡ false → (seals && allows m m.options.segment) ≡ false
+  pub full_none : (m : Machine) → has_room m.layout size ≡ false → allows m m.options.segment ≡ false
       → attempt ≡ out_of_room → new ≡ m → SmallAfterFull m t size attempt new
   full_none m none barred is same =
       passed_on (has_room m.layout size) (RoomedByRefill m t size attempt new)
-      (MatchBool (seals && allows m m.options.segment) (TakesSegment m) (FindsNone m)) none
-      (passed_on (seals && allows m m.options.segment) (TakesSegment m) (FindsNone m) barred (is, same))
+      (MatchBool (allows m m.options.segment) (TakesSegment m) (FindsNone m)) none
+      (passed_on (allows m m.options.segment) (TakesSegment m) (FindsNone m) barred (is, same))
 
   -- ---- what it may come to
 
@@ -178,12 +172,12 @@ module _ (t size : ℕ) (attempt : Attempt) (new : Machine) where
       -- after the full compacting collection
       after_full : (m : Machine) → SmallAfterFull m t size attempt new → Comes m
       after_full m h =
-          let may = seals && allows m m.options.segment in
+          let may = allows m m.options.segment in
           either (has_room m.layout size) (RoomedByRefill m t size attempt new)
           (MatchBool may (TakesSegment m) (FindsNone m)) h (λ e. by_refill m)
           (λ e more.
           either may (TakesSegment m) (FindsNone m) more
-          (λ f. by_seal m (and_parts seals (allows m m.options.segment) f).1)
+          (λ f. by_seal m f)
           (λ f same. stays m same.1))
 
       -- by that collection
@@ -204,13 +198,8 @@ module _ (t size : ℕ) (attempt : Attempt) (new : Machine) where
       pub comes_by : (m : Machine) → MakesRoom m t size attempt new → Comes m
       comes_by m h =
           either (own_fits m.layout t size) (Stays m)
-          (MatchBool (spare m) (RoomedByRefill m t size attempt new)
-          (MatchBool allocation_collects (Collecting m) (FindsNone m))) h (λ e same. stays m same.1)
+          (MatchBool (spare m) (RoomedByRefill m t size attempt new) (Collecting m)) h (λ e same. stays m same.1)
           (λ e more.
-          either (spare m) (RoomedByRefill m t size attempt new)
-          (MatchBool allocation_collects (Collecting m) (FindsNone m)) more (λ f. by_refill m)
-          (λ f rest.
-          either allocation_collects (Collecting m) (FindsNone m) rest
-          (λ q c. either_option (lowest_in_step m) (SmallByCollection m t size attempt new) (Waits m) c
-          (by_collection m) (λ k same. stays m same.1))
-          (λ q same. stays m same.1)))
+          either (spare m) (RoomedByRefill m t size attempt new) (Collecting m) more (λ f. by_refill m)
+          (λ f rest. either_option (lowest_in_step m) (SmallByCollection m t size attempt new) (Waits m) rest
+          (by_collection m) (λ k same. stays m same.1)))

@@ -1,6 +1,6 @@
 -- Room for a new object: contexts, refills, the ladders of small and of large objects.
 use Rattle.std.specs.Prelude.{◌≡◌, ◌==◌, ℕ, ◌+◌, max, List, [], ◌∷◌, ◌++◌, map, if◌then◌else◌, nat_le, Bool, false}
-use Rattle.std.specs.Prelude.{◌&&◌, ◌||◌, not, ◌⊎◌, IsTrue, Option, Some, None, MatchOption, MatchBool}
+use Rattle.std.specs.Prelude.{◌&&◌, ◌||◌, ◌⊎◌, IsTrue, Option, Some, None, MatchOption, MatchBool}
 use Rattle.std.specs.List.{flat_map, list_any}
 use Rattle.clr_types.specs.Rising.{IsIn}
 use Rattle.clr_types.specs.Ranges.{Piece, piece_end, fits, range_piece, rounded_up}
@@ -10,7 +10,6 @@ use Rattle.clr_model.specs.Machine.{Machine}
 use Rattle.clr_model.specs.Lookups.{lowest_in_step}
 use Rattle.clr_model.specs.Updates.{given_up, with_rest}
 use Rattle.clr_model.specs.Collection.{Collects, which}
-use Rattle.clr_model.specs.Stage.{allocation_collects, seals}
 use Rattle.clr_types.specs.declared.segment.SegKind.{SegKind}
 use Rattle.clr_types.specs.declared.segment.SegKind.TheVariants.{Ephemeral, Large}
 use Rattle.clr_types.specs.declared.segment.SegInfo.{SegInfo}
@@ -138,7 +137,7 @@ abbrev pub SmallAfterFull : Machine → ℕ → ℕ → Attempt → Machine → 
 SmallAfterFull m t size attempt new =
     MatchBool (has_room m.layout size)
     (RoomedByRefill m t size attempt new)
-    (MatchBool (seals && allows m m.options.segment)
+    (MatchBool (allows m m.options.segment)
     (RoomedByRefill (with_layout m (sealed m.layout m.options.segment)) t size attempt new
     ⊎ ((attempt ≡ out_of_memory) × (new ≡ m)))
     ((attempt ≡ out_of_room) × (new ≡ m)))
@@ -163,11 +162,9 @@ abbrev pub MakesRoom : Machine → ℕ → ℕ → Attempt → Machine → Type 
 MakesRoom m t size attempt new =
     MatchBool (own_fits m.layout t size)
     ((attempt ≡ roomed) × (new ≡ m))
-    (MatchBool ((not allocation_collects || nat_le (m.sums.spent0 + size) m.options.b0) && has_room m.layout size)
+    (MatchBool (nat_le (m.sums.spent0 + size) m.options.b0 && has_room m.layout size)
     (RoomedByRefill m t size attempt new)
-    (MatchBool allocation_collects
-    (MatchOption (lowest_in_step m) (SmallByCollection m t size attempt new) (λ k. (attempt ≡ waits k) × (new ≡ m)))
-    ((attempt ≡ out_of_room) × (new ≡ m))))
+    (MatchOption (lowest_in_step m) (SmallByCollection m t size attempt new) (λ k. (attempt ≡ waits k) × (new ≡ m))))
 
 -- ---- large objects
 

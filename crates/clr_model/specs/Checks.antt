@@ -20,7 +20,6 @@ use Rattle.clr_model.specs.Instructions.{read_number, copy_local, clear_local, s
 use Rattle.clr_model.specs.Instructions.{collect_heap, suspend_others, resume_others, begin_set, begin_new, finish_step}
 use Rattle.clr_model.specs.Instructions.{create_handle, fetch_target, fetch_second, free_handle, take_ready, dump_heap}
 use Rattle.clr_model.specs.Instructions.{dump_object, show_root, where_is}
-use Rattle.clr_model.specs.Stage.{has_large_heap}
 
 -- ---- what a line speaks of
 
@@ -221,8 +220,7 @@ abbrev pub too_big : Machine → Instruction → Option Refusal
 too_big m (begin_new t local name len) =
     refuse_if (nat_lt 1073741824 (made_size m name len) || nat_le m.options.large (made_size m name len)) TooBig
 too_big m i = with_some (made_by i) (λ made.
-    refuse_if (nat_lt 1073741824 (made_size m made.0 made.1) ||
-    (not has_large_heap && nat_le m.options.large (made_size m made.0 made.1))) TooBig)
+    refuse_if (nat_lt 1073741824 (made_size m made.0 made.1)) TooBig)
 
 -- the address that a line shows
 abbrev pub address_of : Instruction → Option ℕ

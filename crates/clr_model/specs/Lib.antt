@@ -10,7 +10,6 @@ pub mod Compaction
 pub mod Updates
 pub mod Collection
 pub mod Instructions
-pub mod Stage
 pub mod Allocation
 pub mod ReplyText
 pub mod LineGrammar

@@ -8,4 +8,6 @@ mod finals;
 #[cfg(test)]
 mod handles;
 #[cfg(test)]
+mod made;
+#[cfg(test)]
 mod script;

@@ -1,5 +1,5 @@
 use clr_model::{Collected, Refusal, Reply, Where};
-use clr_script::{Line, put_refusal, put_reply, read_line};
+use clr_script::{put_refusal, put_reply, read_line, read_quick};
 use std::test::Fail;
 
 // Each form of line, and the command that it is. The name `N` is the byte 78, and `rn` the bytes 114 and 110.
@@ -156,6 +156,7 @@ fn refuses_other_lines(rt: HostRuntime) {
             Some(Refusal::Syntax),
             "at {line:?}"
         );
+        assert!(rt; read_quick(line.as_bytes()).is_none(), "at {line:?}");
     }
 }
 
@@ -169,16 +170,101 @@ fn reads_as_many_bytes_as_a_line_may_have(rt: HostRuntime) -> Result<(), Fail> {
     Ok(())
 }
 
+// Lines that the quick reader is there for, and the command that each is.
+const QUICK_LINES: [(&str, &str); 20] = [
+    ("t1 get l2 l3 4", "Get { t: 1, to: 2, from: 3, index: 4 }"),
+    (
+        "t16 get l63 l10 1000000000000000000",
+        "Get { t: 16, to: 63, from: 10, index: 1000000000000000000 }",
+    ),
+    ("t1 set l2 3 l4", "Set { t: 1, into: 2, index: 3, from: 4 }"),
+    (
+        "t1 put l2 0 9999999999999999999",
+        "Put { t: 1, into: 2, index: 0, value: 9999999999999999999 }",
+    ),
+    ("t0 read l2 30", "Read { t: 0, from: 2, index: 30 }"),
+    ("t17 copy l2 l3", "Copy { t: 17, to: 2, from: 3 }"),
+    ("t1 null l20", "Clear { t: 1, local: 20 }"),
+    (
+        "t1 new l12 N",
+        "New { t: 1, local: 12, name: [78], len: None }",
+    ),
+    (
+        "t1 new l12 _9 40",
+        "New { t: 1, local: 12, name: [95, 57], len: Some(40) }",
+    ),
+    (
+        "t1 new l12 Z.[]<>+,z",
+        "New { t: 1, local: 12, name: [90, 46, 91, 93, 60, 62, 43, 44, 122], len: None }",
+    ),
+    ("t1 collect 0", "Collect { t: 1, g: 0, how: Decide }"),
+    (
+        "t1 collect 1 compacting",
+        "Collect { t: 1, g: 1, how: Compact }",
+    ),
+    (
+        "t1 collect 2 sweeping",
+        "Collect { t: 1, g: 2, how: Sweep }",
+    ),
+    (
+        "t1 handle strong l2",
+        "Handle { t: 1, kind: Strong, local: 2, second: None }",
+    ),
+    (
+        "t1 handle pinned l2",
+        "Handle { t: 1, kind: Pinned, local: 2, second: None }",
+    ),
+    (
+        "t1 handle weak l2",
+        "Handle { t: 1, kind: Weak, local: 2, second: None }",
+    ),
+    (
+        "t1 handle weaklong l2",
+        "Handle { t: 1, kind: WeakLong, local: 2, second: None }",
+    ),
+    (
+        "t1 handle dependent l2 l3",
+        "Handle { t: 1, kind: Dependent, local: 2, second: Some(3) }",
+    ),
+    ("t1 fetch l2 h3", "Fetch { t: 1, to: 2, h: 3 }"),
+    ("t1 free h65535", "Free { t: 1, h: 65535 }"),
+];
+
+#[test]
+fn reads_frequent_lines_quickly(rt: HostRuntime) -> Result<(), Fail> {
+    for (line, wanted) in QUICK_LINES {
+        match read_quick(line.as_bytes()) {
+            Some(command) => {
+                let text = format!(in rt.alloc(); "{command:?}")?;
+                assert_eq!(rt; text.as_str(), wanted);
+            }
+            None => assert!(rt; false, "{line}"),
+        }
+    }
+    Ok(())
+}
+
+#[test]
+fn reads_quickly_what_is_read(rt: HostRuntime) -> Result<(), Fail> {
+    for (line, wanted) in LINES {
+        if let Some(command) = read_quick(line.as_bytes()) {
+            let text = format!(in rt.alloc(); "{command:?}")?;
+            assert_eq!(rt; text.as_str(), wanted);
+        }
+    }
+    Ok(())
+}
+
 #[test]
 fn shows_replies_and_refusals(rt: HostRuntime) {
-    let mut line = Line::new();
+    let mut line = [b'x'; 256];
     for (reply, wanted) in [
-        (Reply::Done, "ok"),
-        (Reply::Place(0), "null"),
-        (Reply::Place(0x1000_1018), "0000000010001018"),
-        (Reply::Number(10_203), "10203"),
-        (Reply::Mt(0x7ff0_0000_0040), "mt 00007ff000000040"),
-        (Reply::HandleNumber(7), "h7"),
+        (Reply::Done, "ok\n"),
+        (Reply::Place(0), "null\n"),
+        (Reply::Place(0x1000_1018), "0000000010001018\n"),
+        (Reply::Number(10_203), "10203\n"),
+        (Reply::Mt(0x7ff0_0000_0040), "mt 00007ff000000040\n"),
+        (Reply::HandleNumber(7), "h7\n"),
         (
             Reply::Collected(Collected {
                 generation: 1,
@@ -188,12 +274,12 @@ fn shows_replies_and_refusals(rt: HostRuntime) {
                 promoted1: 4,
                 promoted2: 5,
             }),
-            "collected 1 compact kept 2 freed 3",
+            "collected 1 compact kept 2 freed 3\n",
         ),
-        (Reply::Clean, "clean"),
+        (Reply::Clean, "clean\n"),
     ] {
-        put_reply(&reply, &mut line);
-        assert_eq!(rt; line.bytes(), wanted.as_bytes());
+        let len = put_reply(&reply, &mut line);
+        assert_eq!(rt; &line[..len], wanted.as_bytes());
     }
     let found = Where {
         generation: 2,
@@ -201,18 +287,17 @@ fn shows_replies_and_refusals(rt: HostRuntime) {
         base: 0x1000_1000,
         size: 24,
     };
-    put_reply(&Reply::Where(found), &mut line);
-    line.end();
+    let len = put_reply(&Reply::Where(found), &mut line);
     assert_eq!(rt;
-        line.bytes(),
+        &line[..len],
         b"gen 2 ephemeral 0000000010001000 size 24\n".as_slice()
     );
     for (refusal, wanted) in [
-        (Refusal::TooLong, "refused too-long"),
-        (Refusal::Blocked(3), "refused blocked 3"),
-        (Refusal::NoMemory, "refused nomem"),
+        (Refusal::TooLong, "refused too-long\n"),
+        (Refusal::Blocked(3), "refused blocked 3\n"),
+        (Refusal::NoMemory, "refused nomem\n"),
     ] {
-        put_refusal(&refusal, &mut line);
-        assert_eq!(rt; line.bytes(), wanted.as_bytes());
+        let len = put_refusal(&refusal, &mut line);
+        assert_eq!(rt; &line[..len], wanted.as_bytes());
     }
 }

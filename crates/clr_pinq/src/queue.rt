@@ -3,7 +3,7 @@ ghost use Rattle.std.specs.Prelude.{false, true};
 ghost use Rattle.std.specs.Prelude.{◌≡◌, ◌≢◌, ℕ, ◌+◌, ◌-◌, ◌%◌, ◌<◌, ◌≤◌, ◌^◌, ◌⊎◌, ◌↔◌, ◌==◌, if◌then◌else◌, IsTrue};
 ghost use Rattle.std.specs.Prelude.{[], ◌∷◌, ◌++◌, length, get_or, set, map, None, IsSome, IfOk, OnOk, OnErr, is_some, nat_le};
 ghost use Rattle.std.specs.Prelude.{vec_len, vec_capacity};
-ghost use Rattle.clr_heap.specs.Memories.{HasWord};
+ghost use Rattle.clr_heap.specs.Memories.{HasWord, memory_index};
 ghost use Rattle.clr_heap.specs.View.{SameShape, stored, word_of};
 ghost use Rattle.clr_pinq.specs.Queue.{AreInOrder, AreRising, ComesAfter, entry_with, entry_word, IsPlain, last_end};
 ghost use Rattle.clr_pinq.specs.Queue.{logical, option_word, or_else, queue_with, queue_word};
@@ -118,6 +118,22 @@ impl PinQueue {
         }
     }
 
+    /// The logical word at the address `a` of segment `k`, faster than `logical_word`.
+    #[inline]
+    pub fn logical_word_at(&self, heap: &Heap, k: usize, near: usize, a: u64) -> u64
+        requires word { HasWord heap.now.memories a }
+        requires segment { k ≡ memory_index heap.now.memories a }
+        ensures { result ≡ logical self.now.entries (word_of heap.now) a }
+    {
+        if a < self.low || self.high <= a {
+            return heap.word_at(k, a);
+        }
+        if let Some(word) = saved_in(&self.entries, near, a) {
+            return word;
+        }
+        heap.word_at(k, a)
+    }
+
     /// Writes the logical word at the address `a`: the saved one, and the heap's own where none is saved. All other
     /// logical words stay.
     pub fn set_logical_word(&mut self, heap: &mut Heap, near: usize, a: u64, v: u64)
@@ -135,6 +151,27 @@ impl PinQueue {
             return;
         }
         heap.set_word(a, v);
+    }
+
+    /// Writes the logical word at the address `a` of segment `k`, faster than `set_logical_word`. All other logical
+    /// words stay.
+    #[inline]
+    pub fn set_logical_word_at(&mut self, heap: &mut Heap, k: usize, near: usize, a: u64, v: u64)
+        requires word { HasWord heap.old.memories a }
+        requires segment { k ≡ memory_index heap.old.memories a }
+        ensures words { (b : ℕ) → b % 8 ≡ 0 → logical self.new.entries (word_of heap.new) b
+            ≡ (if b == a then v else logical self.old.entries (word_of heap.old) b) }
+        ensures entries { self.new ≡ record self.old { entries = queue_with self.old.entries a v } }
+        ensures heap { heap.new ≡ (if is_some (queue_word self.old.entries a) then heap.old else stored heap.old a v) }
+    {
+        if a < self.low || self.high <= a {
+            heap.set_word_at(k, a, v);
+            return;
+        }
+        if write_saved(&mut self.entries, near, a, v) {
+            return;
+        }
+        heap.set_word_at(k, a, v);
     }
 
     /// The lowest address at or above `a` for which a word is saved, and `u64::MAX` where there is none. The heap's

@@ -3,7 +3,9 @@ pub mod Heads
 pub mod Seen
 pub mod Stores
 pub mod Telling
+pub mod OneSegment
 pub mod OneObject
+pub mod ObjectLoops
 pub mod OneItem
 pub mod ManyItems
 pub mod Plugs

@@ -9,10 +9,12 @@ use Rattle.clr_types.specs.Types.{TypeRow}
 use Rattle.clr_types.specs.declared.item.Item.{Item}
 use Rattle.clr_covers.specs.Covers.{CoverView, is_covered, spans}
 use Rattle.clr_covers.proofs.Spans.{is_covered-spans}
-use Rattle.clr_heap.specs.View.{heap_items, HeapView, IsHeap}
+use Rattle.clr_heap.specs.Memories.{HasWord}
+use Rattle.clr_heap.specs.View.{heap_items, HeapView, IsHeap, SameShape}
+use Rattle.clr_heap.proofs.Storing.{HasWord-shapes}
 use Rattle.clr_model.specs.Compaction.{Move, moved_by}
 use Rattle.clr_view.specs.View.{IsHeld}
-use Rattle.clr_view.proofs.Standing.{standing}
+use Rattle.clr_view.proofs.Standing.{cell_has, mt_in, standing}
 use Rattle.clr_reloc.specs.Relocating.{AreCarded, GoesDown, HasGone, HaveCardsDown, IsAhead, IsItemAhead, Tracks}
 use Rattle.clr_reloc.proofs.Cells.{left_inside}
 
@@ -37,6 +39,15 @@ pub track_first : (rows : List TypeRow) (view : HeapView) (is : List Item) (p e 
 track_first rows view [] p e t l = absurd (omega (arith, t, l))
 track_first rows view (i ∷ is) p e t l =
     record { item = i; rest = is; at = t.0; listed = t.1; track = t.2 }
+
+-- where it starts stands a word
+pub track_has : (rows : List TypeRow) (view h : HeapView) (heap : IsHeap view) (held : IsHeld rows view)
+    → SameShape view h → (is : List Item) (p e : ℕ) → Tracks rows view is p e → p < e → HasWord h.memories p
+track_has rows view h heap held same is p e t l =
+    let f = track_first rows view is p e t l in
+    HasWord-shapes view.memories h.memories p same.memories
+    (subst (HasWord view.memories) f.at
+    (cell_has rows view heap held f.item f.item.place f.listed (mt_in rows view heap held f.item f.listed)))
 
 pub gone_none : (rows : List TypeRow) (view now : HeapView) (g : ℕ) (vs : List Move) (p : ℕ)
     → HasGone rows view now now g vs p p

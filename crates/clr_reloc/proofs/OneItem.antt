@@ -8,7 +8,7 @@ use Rattle.clr_types.specs.Segments.{generation, Layout}
 use Rattle.clr_types.specs.Types.{form_at, is_array, mt_of, size_of, TypeRow}
 use Rattle.clr_types.specs.declared.item.Item.{Item}
 use Rattle.clr_covers.specs.Covers.{CoverView}
-use Rattle.clr_heap.specs.Memories.{HasWord}
+use Rattle.clr_heap.specs.Memories.{HasWord, memory_index}
 use Rattle.clr_heap.specs.Parts.{item_at, length_at, NamesItem, type_number}
 use Rattle.clr_heap.specs.View.{frame, HeapView, IsHeap, word_of}
 use Rattle.clr_heap.proofs.Storing.{HasWord-shapes}
@@ -24,6 +24,7 @@ use Rattle.clr_reloc.specs.References.{references_of}
 use Rattle.clr_reloc.specs.Relocating.{AreCarded, HasGone, IsCarded, IsItemAhead, is_left_at, IsLeftItem}
 use Rattle.clr_reloc.specs.Relocating.{IsRelocating}
 use Rattle.clr_reloc.proofs.Cells.{left_inside, one_item}
+use Rattle.clr_reloc.proofs.OneSegment.{cell_segment}
 
 -- an item is read from two words
 pub item_same : (rows : List TypeRow) (v w : ℕ → ℕ) (p : ℕ) → w p ≡ v p → w (p + 8) ≡ v (p + 8)
@@ -84,6 +85,13 @@ module _ (rows : List TypeRow) (view now h : HeapView) (bricks : BricksView) (en
   len_has = HasWord-shapes view.memories h.memories (place + 8) r.shape.memories
       (subst (λ n. HasWord view.memories (n + 8)) q.at (cell_has rows view heap held i (i.place + 8) q.listed
       (len_in rows view heap held i q.listed)))
+
+  -- the length stands in the segment of the place
+  pub len_segment : (k : ℕ) → k ≡ memory_index h.memories place → k ≡ memory_index h.memories (place + 8)
+  len_segment k is =
+      subst (λ n. k ≡ memory_index h.memories (n + 8)) q.at (cell_segment rows view heap held i q.listed h h r.shape
+      r.shape k (subst (λ n. k ≡ memory_index h.memories n) (sym q.at) is) (i.place + 8)
+      (len_in rows view heap held i q.listed))
 
   pub low_place : place + i.size ≤ 2 ^ 62
   low_place = let l = listed-low rows view i heap held q.listed in let e = q.at in omega (arith, l, e)

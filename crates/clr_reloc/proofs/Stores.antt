@@ -20,6 +20,7 @@ use Rattle.clr_moves.specs.Overlaid.{HoldsPlan, MayGo}
 use Rattle.clr_reloc.specs.Relocating.{IsKept, IsLeftReference, IsRelocating, IsSlotAhead, IsUnderway}
 use Rattle.clr_reloc.specs.Relocating.{KeepsTelling, SavesSame}
 use Rattle.clr_reloc.proofs.Cells.{InItem, left_goes, left_inside}
+use Rattle.clr_reloc.proofs.OneObject.{keeps_refl, saves_refl}
 use Rattle.clr_reloc.proofs.Seen.{may_go_now, plan_now}
 use Rattle.clr_reloc.proofs.Telling.{tells_on}
 
@@ -91,6 +92,41 @@ module _ (rows : List TypeRow) (view now h : HeapView) (bricks : BricksView) (en
     ];
   }
 
+  module _ (new : HeapView) (saved : List PinEntry) (saves : SavesSame entries saved)
+      (keeps : KeepsTelling rows view g vs entries h new)
+      (words : (b : ℕ) → b % 8 ≡ 0 → logical saved (word_of new) b
+      ≡ (if b == a then goal_word else logical entries (word_of h) b)) where
+    -- the logical word at a is the place where its target goes, and all others are as before
+    slot_gone : IsRelocating rows view (stored now a goal_word) new bricks saved g vs start1 start0
+    slot_gone = record {
+      begun = r.begun;
+      underway = underway_next;
+      shape = SameShape-trans view h new r.shape keeps.shape;
+      words = λ b z kept. words b z ∙ elim (cases_eq b a) [
+        | inl same ↦ ap (λ t. if t then goal_word else logical entries (word_of h) b) (eq-eqb b a same)
+            ∙ sym (ap (word_of (stored now a goal_word)) same ∙ next_same)
+        | inr differ ↦ ap (λ t. if t then goal_word else logical entries (word_of h) b) (ne_eqb b a differ)
+            ∙ r.words b z kept ∙ sym (next_other b z differ)
+      ];
+      saved = λ b z some. r.saved b z ((saves b).1 some);
+      hidden = λ k b l z info. elim (r.hidden k b l z info) [
+        | inl some ↦ inl ((saves b).0 some)
+        | inr none ↦ inr none
+      ];
+      told = tells_on rows view now h new bricks entries g vs start1 start0 least r keeps;
+    }
+
+  -- nothing is written where the target stays
+  pub slot_stays : word_of view a ≡ goal_word
+      → IsRelocating rows view (stored now a goal_word) h bricks entries g vs start1 start0
+  slot_stays e =
+      slot_gone h entries (saves_refl entries) (keeps_refl rows view g vs entries h)
+      (λ b z. elim (cases_eq b a) [
+        | inl same ↦ ap (logical entries (word_of h)) same ∙ slot_word_is ∙ e
+            ∙ sym (ap (λ t. if t then goal_word else logical entries (word_of h) b) (eq-eqb b a same))
+        | inr differ ↦ sym (ap (λ t. if t then goal_word else logical entries (word_of h) b) (ne_eqb b a differ))
+      ])
+
   module _ (new : HeapView) (saved : List PinEntry) (target : ℕ) (is : target ≡ goal_word)
       (heap_is : new ≡ (if is_some (queue_word entries a) then h else stored h a target))
       (entries_are : saved ≡ queue_with entries a target)
@@ -102,8 +138,7 @@ module _ (rows : List TypeRow) (view now h : HeapView) (bricks : BricksView) (en
         go : (t : Bool) → is_some (queue_word entries a) ≡ t → KeepsTelling rows view g vs entries h new
         go true e =
             let same : new ≡ h = heap_is ∙ ap (λ t. if t then h else stored h a target) e in
-            subst (KeepsTelling rows view g vs entries h) (sym same)
-            (record { shape = SameShape-refl h; words = λ b z. inl refl })
+            subst (KeepsTelling rows view g vs entries h) (sym same) (keeps_refl rows view g vs entries h)
         go false e =
             let same : new ≡ stored h a target = heap_is ∙ ap (λ t. if t then h else stored h a target) e in
             subst (KeepsTelling rows view g vs entries h) (sym same)
@@ -121,24 +156,7 @@ module _ (rows : List TypeRow) (view now h : HeapView) (bricks : BricksView) (en
               ];
             })
 
-    saves : SavesSame entries saved
-    saves = subst (SavesSame entries) (sym entries_are) (saves_with entries a target)
-
     pub slot_stored : IsRelocating rows view (stored now a goal_word) new bricks saved g vs start1 start0
-    slot_stored = record {
-      begun = r.begun;
-      underway = underway_next;
-      shape = SameShape-trans view h new r.shape slot_keeps.shape;
-      words = λ b z kept. words b z ∙ elim (cases_eq b a) [
-        | inl same ↦ ap (λ t. if t then target else logical entries (word_of h) b) (eq-eqb b a same) ∙ is
-            ∙ sym (ap (word_of (stored now a goal_word)) same ∙ next_same)
-        | inr differ ↦ ap (λ t. if t then target else logical entries (word_of h) b) (ne_eqb b a differ)
-            ∙ r.words b z kept ∙ sym (next_other b z differ)
-      ];
-      saved = λ b z some. r.saved b z ((saves b).1 some);
-      hidden = λ k b l z info. elim (r.hidden k b l z info) [
-        | inl some ↦ inl ((saves b).0 some)
-        | inr none ↦ inr none
-      ];
-      told = tells_on rows view now h new bricks entries g vs start1 start0 least r slot_keeps;
-    }
+    slot_stored =
+        slot_gone new saved (subst (SavesSame entries) (sym entries_are) (saves_with entries a target)) slot_keeps
+        (λ b z. words b z ∙ ap (λ v. if b == a then v else logical entries (word_of h) b) is)

@@ -1,5 +1,6 @@
 pub mod References
 pub mod Relocated
 pub mod Relocating
+pub mod Relocations
 pub mod Outside
 pub mod Scanning

@@ -7,57 +7,58 @@ ghost use Rattle.clr_heap.specs.View.{frame, HeapView};
 ghost use Rattle.clr_model.specs.Compaction.{Move};
 ghost use Rattle.clr_scan.specs.SetCards.{AreClear};
 ghost use Rattle.clr_reloc.specs.Relocated.{rebounded};
-ghost use Rattle.clr_reloc.specs.Relocating.{AreCarded, GoesDown, HasGone, HaveCardsDown, IsAhead, IsRelocating};
+ghost use Rattle.clr_reloc.specs.Relocations.{IsRelocatingBy};
+ghost use Rattle.clr_reloc.specs.Relocating.{AreCarded, GoesDown, HasGone, HaveCardsDown, IsAhead};
 ghost use Rattle.clr_reloc.specs.Relocating.{KeepsTelling, SavesSame, Tracks};
 ghost use Rattle.clr_reloc.specs.Scanning.{AreEntriesSound, AreInRow, AreQuietWhereClear, entry_before, HaveEntries};
 
 use crate::entries::nearest;
+use crate::relocation::Relocation;
 use crate::stretches::relocate_items;
-use clr_bricks::Bricks;
 use clr_cards::Cards;
 use clr_heap::Heap;
-use clr_moves::Planned;
 use clr_pinq::PinQueue;
-use clr_types::Types;
 
 // Relocates the references of what is left among the items from the place `first` up to `end`, where nothing goes and
-// cards tell all references to what goes or is younger. A part begins in the brick `border`.
+// cards tell all references to what goes or is younger. A part begins in the brick `border`. `segment` is a guess of
+// the segment that they stand in.
 pub(crate) fn relocate_carded(
     heap: &mut Heap,
-    types: &Types,
+    work: &Relocation<'_>,
     cards: &mut Cards,
-    bricks: &Bricks,
     pins: &mut PinQueue,
-    g: u8,
-    planned: &Planned,
+    segment: usize,
     border: u64,
     first: u64,
     end: u64,
 )
-    requires least { g ≤ 2 }
+    requires least { work.now.g ≤ 2 }
     requires small { end ≤ 2 ^ 62 }
     requires can { (view : HeapView) × (now : HeapView) × (vs : List Move) × (is : List Item)
-        × IsRelocating types.now view now heap.old bricks.now pins.old.entries g vs planned.now.start1
-        planned.now.start0
-        × Tracks types.now view is first end × IsAhead view now g vs first end × GoesDown vs first end 0
-        × AreEntriesSound types.now view (entry_before bricks.now planned.now.below planned.now.first border) first end
-        × AreQuietWhereClear types.now view g vs (rebounded (frame view) planned.now)
+        × IsRelocatingBy work.now view now heap.old pins.old.entries vs
+        × Tracks work.now.types.now view is first end × IsAhead view now work.now.g vs first end
+        × GoesDown vs first end 0
+        × AreEntriesSound work.now.types.now view (entry_before work.now.bricks.now work.now.planned.below
+        work.now.planned.first border) first end
+        × AreQuietWhereClear work.now.types.now view work.now.g vs (rebounded (frame view) work.now.planned)
         (is_card_set cards.old) first end }
     requires cards { HaveCardsDown cards.old first end 0 }
     requires row { AreInRow cards.old first end }
-    requires entries { HaveEntries bricks.now first end }
+    requires entries { HaveEntries work.now.bricks.now first end }
     ensures gone { (view now : HeapView) (vs : List Move) (is : List Item)
-        → IsRelocating types.now view now heap.old bricks.now pins.old.entries g vs planned.now.start1
-        planned.now.start0
-        → Tracks types.now view is first end → IsAhead view now g vs first end → GoesDown vs first end 0
-        → AreEntriesSound types.now view (entry_before bricks.now planned.now.below planned.now.first border) first end
-        → AreQuietWhereClear types.now view g vs (rebounded (frame view) planned.now) (is_card_set cards.old) first end
+        → IsRelocatingBy work.now view now heap.old pins.old.entries vs
+        → Tracks work.now.types.now view is first end → IsAhead view now work.now.g vs first end
+        → GoesDown vs first end 0
+        → AreEntriesSound work.now.types.now view (entry_before work.now.bricks.now work.now.planned.below
+        work.now.planned.first border) first end
+        → AreQuietWhereClear work.now.types.now view work.now.g vs (rebounded (frame view) work.now.planned)
+        (is_card_set cards.old) first end
         → (next : HeapView)
-        × IsRelocating types.now view next heap.new bricks.now pins.new.entries g vs planned.now.start1
-        planned.now.start0
-        × HasGone types.now view now next g vs first end
-        × KeepsTelling types.now view g vs pins.old.entries heap.old heap.new
-        × AreCarded types.now view g vs (rebounded (frame view) planned.now) (is_card_set cards.new) first end }
+        × IsRelocatingBy work.now view next heap.new pins.new.entries vs
+        × HasGone work.now.types.now view now next work.now.g vs first end
+        × KeepsTelling work.now.types.now view work.now.g vs pins.old.entries heap.old heap.new
+        × AreCarded work.now.types.now view work.now.g vs (rebounded (frame view) work.now.planned) (is_card_set
+        cards.new) first end }
     ensures saved { SavesSame pins.old.entries pins.new.entries }
     ensures kept { (c : ℕ) → is_card_set cards.old c ≡ true → is_card_set cards.new c ≡ true }
     ensures cards { spans cards.new ≡ spans cards.old }
@@ -66,10 +67,8 @@ pub(crate) fn relocate_carded(
 {
     let mut cursor = first;
     while let Some((lo, hi)) = next_run(cards, cursor, end) {
-        let from = nearest(bricks, planned, border, first, cursor, lo);
-        cursor = relocate_items(
-            heap, types, cards, bricks, pins, g, planned, 0, from, hi, end, 0,
-        );
+        let from = nearest(work.bricks, &work.planned, border, first, cursor, lo);
+        cursor = relocate_items(heap, work, cards, pins, segment, 0, from, hi, end, 0);
     }
 }
 

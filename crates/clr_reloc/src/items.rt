@@ -1,6 +1,6 @@
 // Items, as the heap's words and the saved ones tell them together.
 ghost use Rattle.std.specs.Prelude.{◌≡◌, ℕ, ◌+◌, ◌<◌, ◌≤◌, ◌^◌, length};
-ghost use Rattle.clr_heap.specs.Memories.{HasWord};
+ghost use Rattle.clr_heap.specs.Memories.{HasWord, memory_index};
 ghost use Rattle.clr_heap.specs.Parts.{item_at, length_at, NamesItem, type_number};
 ghost use Rattle.clr_heap.specs.View.{word_of};
 ghost use Rattle.clr_pinq.specs.Queue.{logical};
@@ -9,12 +9,13 @@ use clr_heap::{Heap, Item};
 use clr_pinq::PinQueue;
 use clr_types::{TypeId, Types};
 
-// The item that starts at `place`, where `mt` is its method table word.
+// The item that starts at `place` in segment `k`, where `mt` is its method table word.
 #[tactic(auto, unfolding(clr_heap::specs::Parts::item_at))]
 pub(crate) fn logical_item(
     heap: &Heap,
     types: &Types,
     pins: &PinQueue,
+    k: usize,
     near: usize,
     place: u64,
     mt: u64,
@@ -22,11 +23,12 @@ pub(crate) fn logical_item(
     requires names { NamesItem types.now (logical pins.now.entries (word_of heap.now)) place }
     requires word { mt ≡ logical pins.now.entries (word_of heap.now) place }
     requires len { HasWord heap.now.memories (place + 8) }
+    requires segment { k ≡ memory_index heap.now.memories (place + 8) }
     requires room { place + 8 < 2 ^ 64 }
     ensures { result ≡ item_at types.now (logical pins.now.entries (word_of heap.now)) place }
 {
     let type_id = types.of_mt(mt / 2 * 2);
-    let len = logical_length(heap, types, pins, near, place, type_id);
+    let len = logical_length(heap, types, pins, k, near, place, type_id);
     let size = types.item_size(type_id, len);
     Item {
         place,
@@ -36,12 +38,13 @@ pub(crate) fn logical_item(
     }
 }
 
-// The length of the item at `place`, 0 where its type has none.
+// The length of the item at `place` in segment `k`, 0 where its type has none.
 #[tactic(auto, unfolding(clr_heap::specs::Parts::length_at))]
 fn logical_length(
     heap: &Heap,
     types: &Types,
     pins: &PinQueue,
+    k: usize,
     near: usize,
     place: u64,
     type_id: TypeId,
@@ -50,10 +53,11 @@ fn logical_length(
     requires known { type_id.0 ≤ length types.now }
     requires number { type_id.0 ≡ type_number (logical pins.now.entries (word_of heap.now) place) }
     requires len { HasWord heap.now.memories (place + 8) }
+    requires segment { k ≡ memory_index heap.now.memories (place + 8) }
     ensures { result ≡ length_at types.now (logical pins.now.entries (word_of heap.now)) place }
 {
     if types.has_length(type_id) {
-        pins.logical_word(heap, near, place + 8)
+        pins.logical_word_at(heap, k, near, place + 8)
     } else {
         0
     }

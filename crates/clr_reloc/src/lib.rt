@@ -10,4 +10,5 @@ mod entries;
 mod items;
 mod objects;
 mod relocating;
+mod relocation;
 mod stretches;

@@ -10,13 +10,15 @@ ghost use Rattle.clr_moves.specs.Overlaid.{HoldsPlan};
 ghost use Rattle.clr_reloc.specs.Outside.{AreAheadOutside, AreCardedOutside, AreCardedPlugs, HaveGonePlugs};
 ghost use Rattle.clr_reloc.specs.Outside.{HaveGoneOutside, HaveNoneOver, outside_end};
 ghost use Rattle.clr_reloc.specs.Relocated.{CanRelocate, HasRelocated, left_objects, rebounded};
-ghost use Rattle.clr_reloc.specs.Relocating.{AreCarded, GoesDown, HasGone, HaveCardsDown, IsAhead, IsRelocating};
+ghost use Rattle.clr_reloc.specs.Relocations.{IsRelocatingBy};
+ghost use Rattle.clr_reloc.specs.Relocating.{AreCarded, GoesDown, HasGone, HaveCardsDown, IsAhead};
 ghost use Rattle.clr_reloc.specs.Relocating.{KeepsTelling, SavesSame, Tracks};
 ghost use Rattle.clr_reloc.specs.Scanning.{AreEntriesSound, AreInRow, AreQuietWhereClear, border_of, CanScan};
 ghost use Rattle.clr_reloc.specs.Scanning.{entry_before, HaveEntries};
 ghost use Rattle.clr_types.specs.declared.item.Item.{Item};
 
 use crate::cards::relocate_carded;
+use crate::relocation::Relocation;
 use crate::stretches::relocate_stretch;
 use clr_bricks::Bricks;
 use clr_cards::Cards;
@@ -65,47 +67,44 @@ pub fn relocate(
 {
     // A call for the evidence alone that the rows of the table are lawful.
     let _ = types.count();
-    relocate_plugs(heap, types, cards, bricks, pins, g, planned);
-    relocate_outside(heap, types, cards, bricks, pins, g, planned);
+    let work = Relocation {
+        types,
+        bricks,
+        planned: *planned,
+        g,
+    };
+    relocate_plugs(heap, &work, cards, pins);
+    relocate_outside(heap, &work, cards, pins);
 }
 
 // Relocates the references of what is kept in plugs, and sets the cards of the addresses to which they go.
-fn relocate_plugs(
-    heap: &mut Heap,
-    types: &Types,
-    cards: &mut Cards,
-    bricks: &Bricks,
-    pins: &mut PinQueue,
-    g: u8,
-    planned: &Planned,
-)
-    requires least { g ≤ 2 }
-    requires can { (view : HeapView) × (vs : List Move) × IsRelocating types.now view view heap.old bricks.now
-        pins.old.entries g vs planned.now.start1 planned.now.start0 × AreCardsOf (frame view) cards.old }
-    ensures gone { (view : HeapView) (vs : List Move) → IsRelocating types.now view view heap.old bricks.now
-        pins.old.entries g vs planned.now.start1 planned.now.start0 → AreCardsOf (frame view) cards.old
-        → (next : HeapView) × IsRelocating types.now view next heap.new bricks.now pins.new.entries g vs
-        planned.now.start1 planned.now.start0
-        × HaveGonePlugs types.now view next g vs (length vs)
-        × AreCardedPlugs types.now view g vs (rebounded (frame view) planned.now) (is_card_set cards.new)
+fn relocate_plugs(heap: &mut Heap, work: &Relocation<'_>, cards: &mut Cards, pins: &mut PinQueue)
+    requires least { work.now.g ≤ 2 }
+    requires can { (view : HeapView) × (vs : List Move)
+        × IsRelocatingBy work.now view view heap.old pins.old.entries vs × AreCardsOf (frame view) cards.old }
+    ensures gone { (view : HeapView) (vs : List Move)
+        → IsRelocatingBy work.now view view heap.old pins.old.entries vs → AreCardsOf (frame view) cards.old
+        → (next : HeapView) × IsRelocatingBy work.now view next heap.new pins.new.entries vs
+        × HaveGonePlugs work.now.types.now view next work.now.g vs (length vs)
+        × AreCardedPlugs work.now.types.now view work.now.g vs (rebounded (frame view) work.now.planned) (is_card_set
+        cards.new)
         (length vs) }
     ensures kept { (c : ℕ) → is_card_set cards.old c ≡ true → is_card_set cards.new c ≡ true }
     ensures cards { spans cards.new ≡ spans cards.old }
     ensures count { length pins.new.entries ≡ length pins.old.entries }
     ensures spare { pins.new.spare ≡ pins.old.spare }
 {
-    let mut line = PlugLine::new(heap, types, bricks, g);
-    let mut near = 0;
+    let mut line = PlugLine::new(heap, work.types, work.bricks, work.g);
+    let (mut segment, mut near) = (0, 0);
     for met in 0..u64::MAX {
-        match line.next(heap, types, bricks, g) {
+        match line.next(heap, work.types, work.bricks, work.g) {
             None => return,
             Some(plug) => {
                 let (start, down) = (plug.start(), plug.start() - plug.to());
                 let end = start + plug.size();
                 near = pins.near(near, start);
-                relocate_stretch(
-                    heap, types, cards, bricks, pins, g, planned, near, start, end, down,
-                );
+                segment = heap.segment_near(segment, start);
+                relocate_stretch(heap, work, cards, pins, segment, near, start, end, down);
             }
         }
     }
@@ -113,32 +112,28 @@ fn relocate_plugs(
 
 // Relocates the references of what is left outside of parts, where nothing goes, and sets the cards of those that name
 // an object of a lower generation then.
-fn relocate_outside(
-    heap: &mut Heap,
-    types: &Types,
-    cards: &mut Cards,
-    bricks: &Bricks,
-    pins: &mut PinQueue,
-    g: u8,
-    planned: &Planned,
-)
-    requires least { g ≤ 2 }
-    requires can { (view : HeapView) × (now : HeapView) × (vs : List Move) × IsRelocating types.now view now heap.old
-        bricks.now pins.old.entries g vs planned.now.start1 planned.now.start0
-        × AreCardsOf (frame view) cards.old × AreAheadOutside view now g (length view.segments) 0
-        × HaveNoneOver types.now view g
-        × (g < 2 → CanScan types.now view cards.old bricks.now g vs (rebounded (frame view) planned.now)
-        (is_card_set cards.old) planned.now.below planned.now.first) }
-    ensures gone { (view now : HeapView) (vs : List Move) → IsRelocating types.now view now heap.old
-        bricks.now pins.old.entries g vs planned.now.start1 planned.now.start0
-        → AreCardsOf (frame view) cards.old → AreAheadOutside view now g (length view.segments) 0
-        → HaveNoneOver types.now view g
-        → (g < 2 → CanScan types.now view cards.old bricks.now g vs (rebounded (frame view) planned.now)
-        (is_card_set cards.old) planned.now.below planned.now.first)
-        → (next : HeapView) × IsRelocating types.now view next heap.new bricks.now pins.new.entries g vs
-        planned.now.start1 planned.now.start0
-        × HaveGoneOutside types.now view now next g vs (length view.segments)
-        × AreCardedOutside types.now view g vs (rebounded (frame view) planned.now) (is_card_set cards.new)
+fn relocate_outside(heap: &mut Heap, work: &Relocation<'_>, cards: &mut Cards, pins: &mut PinQueue)
+    requires least { work.now.g ≤ 2 }
+    requires can { (view : HeapView) × (now : HeapView) × (vs : List Move)
+        × IsRelocatingBy work.now view now heap.old pins.old.entries vs
+        × AreCardsOf (frame view) cards.old × AreAheadOutside view now work.now.g (length view.segments) 0
+        × HaveNoneOver work.now.types.now view work.now.g
+        × (work.now.g < 2
+        → CanScan work.now.types.now view cards.old work.now.bricks.now work.now.g vs (rebounded (frame view)
+        work.now.planned)
+        (is_card_set cards.old) work.now.planned.below work.now.planned.first) }
+    ensures gone { (view now : HeapView) (vs : List Move)
+        → IsRelocatingBy work.now view now heap.old pins.old.entries vs
+        → AreCardsOf (frame view) cards.old → AreAheadOutside view now work.now.g (length view.segments) 0
+        → HaveNoneOver work.now.types.now view work.now.g
+        → (work.now.g < 2
+        → CanScan work.now.types.now view cards.old work.now.bricks.now work.now.g vs (rebounded (frame view)
+        work.now.planned)
+        (is_card_set cards.old) work.now.planned.below work.now.planned.first)
+        → (next : HeapView) × IsRelocatingBy work.now view next heap.new pins.new.entries vs
+        × HaveGoneOutside work.now.types.now view now next work.now.g vs (length view.segments)
+        × AreCardedOutside work.now.types.now view work.now.g vs (rebounded (frame view) work.now.planned)
+        (is_card_set cards.new)
         (length view.segments) }
     ensures kept { (c : ℕ) → is_card_set cards.old c ≡ true → is_card_set cards.new c ≡ true }
     ensures cards { spans cards.new ≡ spans cards.old }
@@ -148,70 +143,64 @@ fn relocate_outside(
     let count = heap.segments();
     for k in 0..count {
         let first = heap.info(k).base + FIRST_OFFSET;
-        let end = end_outside(heap, g, k);
-        let border = border_brick(heap, g, k, end);
-        relocate_segment(
-            heap, types, cards, bricks, pins, g, planned, border, first, end,
-        );
+        let end = end_outside(heap, work.g, k);
+        let border = border_brick(heap, work.g, k, end);
+        relocate_segment(heap, work, cards, pins, k, border, first, end);
     }
 }
 
-// The same for the places from `first` up to `end` of one segment, where a part may begin in the brick `border`. In a
-// collection of less than all generations set cards tell the references that count.
+// The same for the places from `first` up to `end` of one segment, whose number `segment` guesses. A part may begin in
+// the brick `border` of it. In a collection of less than all generations set cards tell the references that count.
 fn relocate_segment(
     heap: &mut Heap,
-    types: &Types,
+    work: &Relocation<'_>,
     cards: &mut Cards,
-    bricks: &Bricks,
     pins: &mut PinQueue,
-    g: u8,
-    planned: &Planned,
+    segment: usize,
     border: u64,
     first: u64,
     end: u64,
 )
-    requires least { g ≤ 2 }
+    requires least { work.now.g ≤ 2 }
     requires small { end ≤ 2 ^ 62 }
     requires can { (view : HeapView) × (now : HeapView) × (vs : List Move) × (is : List Item)
-        × IsRelocating types.now view now heap.old bricks.now pins.old.entries g vs planned.now.start1
-        planned.now.start0
-        × Tracks types.now view is first end × IsAhead view now g vs first end × GoesDown vs first end 0
-        × (g < 2 → AreEntriesSound types.now view
-        (entry_before bricks.now planned.now.below planned.now.first border) first end)
-        × (g < 2 → AreQuietWhereClear types.now view g vs (rebounded (frame view) planned.now)
+        × IsRelocatingBy work.now view now heap.old pins.old.entries vs
+        × Tracks work.now.types.now view is first end × IsAhead view now work.now.g vs first end
+        × GoesDown vs first end 0
+        × (work.now.g < 2 → AreEntriesSound work.now.types.now view
+        (entry_before work.now.bricks.now work.now.planned.below work.now.planned.first border) first end)
+        × (work.now.g < 2
+        → AreQuietWhereClear work.now.types.now view work.now.g vs (rebounded (frame view) work.now.planned)
         (is_card_set cards.old) first end) }
     requires cards { HaveCardsDown cards.old first end 0 }
-    requires row { g < 2 → AreInRow cards.old first end }
-    requires entries { g < 2 → HaveEntries bricks.now first end }
+    requires row { work.now.g < 2 → AreInRow cards.old first end }
+    requires entries { work.now.g < 2 → HaveEntries work.now.bricks.now first end }
     ensures gone { (view now : HeapView) (vs : List Move) (is : List Item)
-        → IsRelocating types.now view now heap.old bricks.now pins.old.entries g vs planned.now.start1
-        planned.now.start0
-        → Tracks types.now view is first end → IsAhead view now g vs first end → GoesDown vs first end 0
-        → (g < 2 → AreEntriesSound types.now view
-        (entry_before bricks.now planned.now.below planned.now.first border) first end)
-        → (g < 2 → AreQuietWhereClear types.now view g vs (rebounded (frame view) planned.now)
+        → IsRelocatingBy work.now view now heap.old pins.old.entries vs
+        → Tracks work.now.types.now view is first end → IsAhead view now work.now.g vs first end
+        → GoesDown vs first end 0
+        → (work.now.g < 2 → AreEntriesSound work.now.types.now view
+        (entry_before work.now.bricks.now work.now.planned.below work.now.planned.first border) first end)
+        → (work.now.g < 2
+        → AreQuietWhereClear work.now.types.now view work.now.g vs (rebounded (frame view) work.now.planned)
         (is_card_set cards.old) first end)
         → (next : HeapView)
-        × IsRelocating types.now view next heap.new bricks.now pins.new.entries g vs planned.now.start1
-        planned.now.start0
-        × HasGone types.now view now next g vs first end
-        × KeepsTelling types.now view g vs pins.old.entries heap.old heap.new
-        × AreCarded types.now view g vs (rebounded (frame view) planned.now) (is_card_set cards.new) first end }
+        × IsRelocatingBy work.now view next heap.new pins.new.entries vs
+        × HasGone work.now.types.now view now next work.now.g vs first end
+        × KeepsTelling work.now.types.now view work.now.g vs pins.old.entries heap.old heap.new
+        × AreCarded work.now.types.now view work.now.g vs (rebounded (frame view) work.now.planned) (is_card_set
+        cards.new) first end }
     ensures saved { SavesSame pins.old.entries pins.new.entries }
     ensures kept { (c : ℕ) → is_card_set cards.old c ≡ true → is_card_set cards.new c ≡ true }
     ensures cards { spans cards.new ≡ spans cards.old }
     ensures count { length pins.new.entries ≡ length pins.old.entries }
     ensures spare { pins.new.spare ≡ pins.old.spare }
 {
-    if g == 2 {
-        relocate_stretch(
-            heap, types, cards, bricks, pins, g, planned, 0, first, end, 0,
-        );
+    if work.g == 2 {
+        relocate_stretch(heap, work, cards, pins, segment, 0, first, end, 0);
         return;
     }
-    relocate_carded(
-        heap, types, cards, bricks, pins, g, planned, border, first, end,
-    );
+    relocate_carded(heap, work, cards, pins, segment, border, first, end);
 }
 
 // The brick in which the part of segment `k` begins, whose places outside end at `end`, and no brick where it has none.

@@ -1,10 +1,11 @@
 pub mod ByteStreams
 pub mod Outputs
 pub mod LineLists
-pub mod Listings
 pub mod Feeds
 pub mod SessionSteps
 pub mod ScriptLoop
-pub mod HeapListings
 pub mod LineSteps
 pub mod TopGrows
+pub mod LookChecks
+pub mod LookLines
+pub mod RuntimeViews

@@ -7,7 +7,7 @@ use Rattle.std.proofs.lemmas.Grind.{flat_map-append}
 use Rattle.clr_model.specs.Machine.{Machine}
 use Rattle.clr_model.specs.LineGrammar.{script_lines, ended_lines, onto_first, onto_first_ended}
 use Rattle.clr_model.specs.Outcomes.{Outcome, outcome_text}
-use Rattle.clr_model.specs.Run.{Step, too_long, no_syntax, obeyed, Reads, Run, run_text}
+use Rattle.clr_run.specs.Runs.{Step, too_long, no_syntax, obeyed, Reads, Run, run_text}
 use Rattle.clr_run.specs.Progress.{begun, begun_on}
 use Rattle.clr_run.specs.LineStretch.{IsUnfed}
 

@@ -1,6 +1,8 @@
 -- What is written and what waits, one text after another.
 use Rattle.std.proofs.Common.{◌≡◌, ℕ, ◌+◌, List, [], ◌++◌, length, take, Option, Some, None, refl, sym, append_assoc}
-use Rattle.std.proofs.Common.{append-nil}
+use Rattle.std.proofs.Common.{append-nil, ap, ◌∙◌, arith, inl, inr}
+use Rattle.std.proofs.lemmas.Bool.{cases_lt}
+use Rattle.std.proofs.lemmas.List.{take_all, take-append-le}
 use Rattle.std.proofs.Math.Seq.{take-append-add}
 use Rattle.clr_run.specs.Faults.{Appended}
 use Rattle.clr_run.specs.Output.{Wrote, WroteSome}
@@ -59,3 +61,33 @@ wrote_then_some before mid after waiting text n first second = record {
   count = length waiting + n;
   appended = appended_more before mid after waiting (take n text) _ first second (sym (take-append-add waiting text n));
 }
+
+-- room was made, and then a text waits behind what is left
+pub wrote_behind : (before after : Option (List ℕ)) (waiting left new text : List ℕ) → Wrote before after waiting left []
+    → new ≡ left ++ text → Wrote before after waiting new text
+wrote_behind before after waiting left new text room e = record {
+  out = room.out;
+  appended = room.appended;
+  kept = rw (e, ← append_assoc, room.kept, append-nil) refl;
+}
+
+-- a part of what waited was written, before a text
+pub some_before : (before after : Option (List ℕ)) (waiting text : List ℕ) → WroteSome before after waiting
+    → WroteSome before after (waiting ++ text)
+some_before before after waiting text some = elim (cases_lt some.count (length waiting)) [
+  | inl lt ↦ record {
+    count = some.count;
+    appended = rw (take-append-le some.count waiting text (omega arith)) some.appended;
+  }
+  | inr ge ↦
+      let whole : take (length waiting) (waiting ++ text) ≡ take some.count waiting =
+      take-append-le (length waiting) waiting text (omega arith)
+      ∙ (take_all (length waiting) waiting (omega arith) ∙ sym (take_all some.count waiting ge)) in
+      record { count = length waiting; appended = rw whole some.appended }
+]
+
+-- what was lent of a buffer and given back is what waited, and a text behind it
+pub behind_waiting : (items back lent held waiting text : List ℕ) (at end : ℕ) → items ≡ back
+    → take end back ≡ take at lent ++ text → lent ≡ held → take at held ≡ waiting → take end items ≡ waiting ++ text
+behind_waiting items back lent held waiting text at end returned is taken waits =
+    ap (take end) returned ∙ (is ∙ ap (λ (front : List ℕ). front ++ text) (ap (take at) taken ∙ waits))

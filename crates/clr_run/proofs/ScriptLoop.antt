@@ -6,7 +6,8 @@ use Rattle.std.proofs.Math.Seq.{take-append-add}
 use Rattle.clr_model.specs.Machine.{Machine, Options}
 use Rattle.clr_model.specs.LineGrammar.{script_lines, ended_lines}
 use Rattle.clr_model.specs.Outcomes.{Outcome}
-use Rattle.clr_model.specs.Run.{IsRunOf, StandsFor, run_text}
+use Rattle.clr_run.specs.Runs.{IsRunOf, run_text}
+use Rattle.clr_model.specs.Run.{StandsFor}
 use Rattle.clr_run.specs.Faults.{Appended, Taken}
 use Rattle.clr_run.specs.Output.{Wrote, WroteSome}
 use Rattle.clr_run.specs.Progress.{RunOver, Answered, CutShort, begun}

@@ -8,7 +8,8 @@ use Rattle.std.proofs.Math.Seq.{take-append-add}
 use Rattle.clr_model.specs.Machine.{Machine, Options}
 use Rattle.clr_model.specs.LineGrammar.{script_lines, ended_lines}
 use Rattle.clr_model.specs.Outcomes.{Outcome, outcome_text}
-use Rattle.clr_model.specs.Run.{Step, FollowsLine, StandsFor, run_text, opening}
+use Rattle.clr_run.specs.Runs.{Step, FollowsLine, run_text}
+use Rattle.clr_model.specs.Run.{StandsFor, opening}
 use Rattle.clr_run.specs.Output.{Wrote, WroteSome}
 use Rattle.clr_run.specs.LineStretch.{IsUnfed}
 use Rattle.clr_run.specs.Progress.{RunOver, Progress, begun}

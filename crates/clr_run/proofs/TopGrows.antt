@@ -3,7 +3,7 @@ use Rattle.std.proofs.Common.{◌≡◌, ℕ, ◌+◌, ◌≤◌, ◌^◌, List,
 use Rattle.clr_model.specs.Machine.{Machine}
 use Rattle.clr_model.specs.Lawful.{IsLawful, IsPlaceNamed}
 use Rattle.clr_model.specs.Outcomes.{Outcome}
-use Rattle.clr_model.specs.Run.{Step, too_long, no_syntax, obeyed, FollowsLine}
+use Rattle.clr_run.specs.Runs.{Step, too_long, no_syntax, obeyed, FollowsLine}
 use Rattle.clr_model.proofs.SeenStands.{sound_stands}
 use Rattle.clr_model.proofs.TopGrowsByLine.{line_reserves}
 

@@ -1,3 +1,4 @@
+pub mod Runs
 pub mod Faults
 pub mod Output
 pub mod Memory
@@ -5,8 +6,7 @@ pub mod MemoryViews
 pub mod Codes
 pub mod LineStretch
 pub mod Outcomes
-pub mod Dumping
 pub mod Progress
 pub mod Sessions
 pub mod Commands
-pub mod HandleCommands
+pub mod CommandKinds

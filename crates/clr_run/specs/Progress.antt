@@ -3,7 +3,8 @@ use Rattle.std.specs.Prelude.{◌≡◌, ◌==◌, ◌≤◌, ℕ, Bool, List, [
 use Rattle.clr_model.specs.Machine.{Machine, Options}
 use Rattle.clr_model.specs.LineGrammar.{script_lines, ended_lines}
 use Rattle.clr_model.specs.Outcomes.{Outcome}
-use Rattle.clr_model.specs.Run.{Run, StandsFor, run_text, opening}
+use Rattle.clr_run.specs.Runs.{Run, run_text}
+use Rattle.clr_model.specs.Run.{StandsFor, opening}
 use Rattle.clr_run.specs.Faults.{Taken, Appended}
 
 -- a run of the machine over these lines, from the opening state with these options

@@ -3,7 +3,8 @@ use Rattle.std.specs.Prelude.{◌≡◌, ℕ, List, [], ◌++◌, Option}
 use Rattle.clr_model.specs.Machine.{Machine, Options}
 use Rattle.clr_model.specs.LineGrammar.{script_lines, ended_lines}
 use Rattle.clr_model.specs.Outcomes.{Outcome}
-use Rattle.clr_model.specs.Run.{run_text, StandsFor}
+use Rattle.clr_run.specs.Runs.{run_text}
+use Rattle.clr_model.specs.Run.{StandsFor}
 use Rattle.clr_run.specs.Output.{Wrote, WroteSome}
 use Rattle.clr_run.specs.Progress.{RunOver, Progress}
 use Rattle.clr_run.specs.declared.script.session.Session.{Session}

@@ -1,23 +1,22 @@
 //! What a line on handles or finalisers does: one call of the runtime.
-ghost use Rattle.std.specs.Prelude.{◌≡◌, ◌≤◌, length, true};
-ghost use Rattle.clr_model.specs.Run.{FollowsLine};
-ghost use Rattle.clr_script.specs.Readings.{IsReadAs};
-ghost use Rattle.clr_run.specs.HandleCommands.{is_on_handles};
+ghost use Rattle.std.specs.Prelude.{◌≡◌, true};
+ghost use Rattle.clr_model.specs.Instructions.{instruction_of};
+ghost use Rattle.clr_model.specs.LineGrammar.{IsWellFormed};
+ghost use Rattle.clr_model.specs.Run.{Follows};
+ghost use Rattle.clr_run.specs.CommandKinds.{is_on_handles};
 ghost use Rattle.clr_run.specs.Outcomes.{outcome_of, CanShow};
 
 use crate::outcome::{Outcome, told_done, told_handle, told_place};
 use clr_model::Command;
 use clr_runtime::Runtime;
 
-/// Does what such a command of a line says, and tells its outcome. A line that is refused leaves the state as it was.
-pub fn obey_handle(runtime: &mut Runtime, line: &[u8], command: Command<'_>) -> Outcome
-    requires short { length line.now ≤ 4096 }
-    requires read { IsReadAs line.now command }
+/// Does what such a command says, and tells its outcome. A line that is refused leaves the state as it was.
+pub fn obey_handle(runtime: &mut Runtime, command: Command<'_>) -> Outcome
     requires handles { is_on_handles command ≡ true }
-    ensures follows { FollowsLine runtime.old line.now (outcome_of result) runtime.new }
+    requires formed { IsWellFormed (instruction_of command) }
+    ensures follows { Follows runtime.old (instruction_of command.entry) (outcome_of result) runtime.new }
     ensures shows { CanShow result }
 {
-    let _ = line;
     match command {
         Command::Handle {
             t,

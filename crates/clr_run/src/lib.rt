@@ -1,14 +1,15 @@
 //! A script from bytes to bytes: sources, sinks, and the run of a script.
 #![tactic(auto)]
 
-mod access;
-mod dump;
 mod execute;
 mod handles;
+mod looks;
 mod outcome;
 mod script;
+mod slots;
 mod status;
 mod streams;
+mod threads;
 mod words;
 
 pub use clr_runtime::{NoMemory, Runtime};

@@ -1,17 +1,19 @@
 //! What a line is answered, and its text.
-ghost use Rattle.std.specs.Prelude.{◌≡◌, ◌++◌, OnOk, OnErr};
+ghost use Rattle.std.specs.Prelude.{◌≡◌, ◌≤◌, ◌++◌, IfSome, OnOk, OnErr};
 ghost use Rattle.clr_model.specs.Outcomes.{outcome_text};
 ghost use Rattle.clr_runtime.specs.Outcomes.{collected_outcome, done_outcome, handle_outcome, mt_outcome};
 ghost use Rattle.clr_runtime.specs.Outcomes.{number_outcome, place_outcome};
+ghost use Rattle.clr_runtime.specs.Steps.{step_outcome};
 ghost use Rattle.clr_run.specs.Faults.{Rose};
 ghost use Rattle.clr_run.specs.Output.{Wrote, WroteSome};
-ghost use Rattle.clr_run.specs.Outcomes.{outcome_of, CanShow};
+ghost use Rattle.clr_run.specs.Outcomes.{found_outcome, outcome_of, refusal_of, text_outcome, where_outcome, CanShow};
 
+use crate::NoMemory;
 use crate::streams::Failed;
 use crate::streams::pending::Pending;
 use crate::streams::sink::Sink;
-use clr_model::{Collected, Refusal, Reply};
-use clr_script::{Line, put_refusal, put_reply};
+use clr_model::{Collected, Refusal, Reply, Where};
+use clr_sos::SosFault;
 
 /// What a line is answered.
 #[derive(Drop)]
@@ -87,13 +89,69 @@ pub fn told_done(told: Result<(), Refusal>) -> Outcome
     }
 }
 
-/// Puts the text of what a line was answered behind what waits to be written. `line` is where a reply is written first;
-/// what stood there is lost.
+/// The outcome of a command that shows a text, or finds that there is nothing to show.
+pub fn told_found(told: Result<Vec<u8>, SosFault>) -> Outcome
+    ensures is { outcome_of result ≡ found_outcome told }
+    ensures shows { CanShow result }
+{
+    match told {
+        Ok(text) => Outcome::Text(text),
+        Err(fault) => Outcome::Refused(refusal_of(fault)),
+    }
+}
+
+/// The outcome of a command that shows a text where there is memory for it.
+pub fn told_text(told: Result<Vec<u8>, NoMemory>) -> Outcome
+    ensures is { outcome_of result ≡ text_outcome told }
+    ensures shows { CanShow result }
+{
+    match told {
+        Ok(text) => Outcome::Text(text),
+        Err(_) => Outcome::Refused(Refusal::NoMemory),
+    }
+}
+
+/// The outcome of a command that tells where an object stands.
+pub fn told_where(told: Option<Where>) -> Outcome
+    requires kind { IfSome told (λ place. place.kind ≤ 2) }
+    ensures is { outcome_of result ≡ where_outcome told }
+    ensures shows { CanShow result }
+{
+    match told {
+        Some(place) => Outcome::Reply(Reply::Where(place)),
+        None => Outcome::Refused(Refusal::NoObject),
+    }
+}
+
+// How it is told that there is nothing to show.
+fn refusal_of(fault: SosFault) -> Refusal
+    ensures { result ≡ refusal_of fault }
+{
+    match fault {
+        SosFault::UnknownType => Refusal::UnknownType,
+        SosFault::NoObject => Refusal::NoObject,
+        SosFault::NoMemory => Refusal::NoMemory,
+    }
+}
+
+/// The outcome of a call that finishes a step: of a birth it gives a place, and of a store nothing.
+pub fn told_step(told: Result<Option<u64>, Refusal>) -> Outcome
+    ensures is { outcome_of result ≡ step_outcome told }
+    ensures shows { CanShow result }
+{
+    match told {
+        Ok(Some(place)) => Outcome::Reply(Reply::Place(place)),
+        Ok(None) => Outcome::Reply(Reply::Done),
+        Err(refusal) => Outcome::Refused(refusal),
+    }
+}
+
+/// Puts the text of what a line was answered behind what waits to be written.
+#[inline]
 pub fn put_outcome<K: Sink>(
     pending: &mut Pending,
     sink: &mut K,
     outcome: &Outcome,
-    line: &mut Line,
 ) -> Result<(), Failed>
     requires { CanShow outcome.now }
     ensures wrote { OnOk result (Wrote (K.written sink.old) (K.written sink.new)
@@ -104,10 +162,8 @@ pub fn put_outcome<K: Sink>(
     ensures cause { OnErr result (Rose (K.faults sink.old) (K.faults sink.new)) }
 {
     match outcome {
-        Outcome::Reply(reply) => put_reply(reply, line),
-        Outcome::Refused(refusal) => put_refusal(refusal, line),
-        Outcome::Text(text) => return pending.put(sink, text),
+        Outcome::Reply(reply) => pending.put_reply(sink, reply),
+        Outcome::Refused(refusal) => pending.put_refusal(sink, refusal),
+        Outcome::Text(text) => pending.put(sink, text),
     }
-    line.end();
-    pending.put(sink, line.bytes())
 }

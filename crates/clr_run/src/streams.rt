@@ -1,6 +1,7 @@
 //! Where scripts come from and where replies go.
 
 pub mod adapter;
+pub mod buffer;
 pub mod memory;
 pub mod pending;
 pub mod plain;

@@ -4,6 +4,7 @@ ghost use Rattle.std.specs.Prelude.{◌<◌};
 mod adapters;
 mod faults;
 mod lines;
+mod looks;
 mod scripts;
 
 use clr_run::{MemorySink, MemorySource, Sink, Source, Status, Words, run};

@@ -23,6 +23,7 @@ use Rattle.clr_runtime.specs.LargeRooms.{with_large_segment}
 use Rattle.clr_runtime.specs.RuntimeView.{IsRuntime, seen}
 use Rattle.clr_runtime.specs.declared.parts.Parts.{Parts}
 use Rattle.clr_runtime.proofs.IndexKept.{index_kept}
+use Rattle.clr_runtime.proofs.StepsKept.{tables-carded}
 
 -- a segment was acquired
 abbrev acquired_one : Result (Unit {0}) AcquireFault
@@ -81,7 +82,9 @@ module _ (p : Parts) (is : IsRuntime p) (size : ℕ) (new : HeapView)
           (may-reserve (reserved_sum (frame p.heap) + reserved) p.options.limit
           (subst (λ n. (acquired_one ≡ Err OverLimit) ↔ (n < reserved_sum (frame p.heap) + reserved)) is.limit told));
     };
-    tables = tables;
+    tables = tables-carded cards p.safe bricks p.types new tables;
+    owed = is.owed;
+    finalizers = is.finalizers;
     index = index_kept young_items p.types p.types p.heap new p.contexts
         (ap young_items layout ∙ young_with_segment (layout_in p.types p.heap) reserved) is.index;
     large = index_kept large_items p.types p.types p.heap new p.large items is.large;
@@ -94,7 +97,9 @@ module _ (p : Parts) (is : IsRuntime p) (size : ℕ) (new : HeapView)
       subst (λ (h : HeapView). IsRuntime (record p { heap = h })) (sym stays) is in
       record {
         shown = before.shown;
-        tables = tables;
+        tables = tables-carded cards p.safe bricks p.types new tables;
+        owed = before.owed;
+        finalizers = before.finalizers;
         index = before.index;
         large = before.large;
         limit = before.limit;

@@ -5,7 +5,8 @@ use Rattle.clr_types.proofs.ChangedLists.{length-slice_set}
 use Rattle.clr_heap.specs.View.{frame, HeapView}
 use Rattle.clr_view.specs.Clean.{AreClean}
 use Rattle.clr_view.specs.Marks.{IsUnmarked}
-use Rattle.clr_view.specs.Shown.{shown}
+use Rattle.clr_safe.specs.Threads.{Threads}
+use Rattle.clr_runtime.specs.Shown.{shown}
 use Rattle.clr_view.specs.View.{AreFreeHeads, HasNewborn}
 use Rattle.clr_view.specs.World.{World}
 use Rattle.clr_model.specs.declared.Reply.TheVariants.{Place}
@@ -37,11 +38,12 @@ pub record HasItsRoom (old new : Machine) (t local : ℕ) (name : List ℕ) (len
   pub room : FollowsRoom old t size roomed new
   pub fits : own_fits new.layout t size ≡ true
 
-module _ (old : Machine) {w : World} {sums : Sums} {options : Options} (is : IsShown w sums options) (t local : ℕ)
+module _ (old : Machine) {w : World} {sums : Sums} {options : Options} {threads : Threads}
+    (is : IsShown w sums options threads) (t local : ℕ)
     (name : List ℕ) (len : Option ℕ) (type size : ℕ)
-    (has : HasItsRoom old (shown w sums options) t local name len type size) where
+    (has : HasItsRoom old (shown w sums options threads) t local name len type size) where
   abbrev s : Machine
-  s = shown w sums options
+  s = shown w sums options threads
 
   abbrev rows : List TypeRow
   rows = w.rows
@@ -63,13 +65,13 @@ module _ (old : Machine) {w : World} {sums : Sums} {options : Options} (is : IsS
   module _ (new : HeapView) (place j : ℕ) (entries ready : List ℕ)
       (newborn : HasNewborn rows h new t type (unwrap_or len 0)) (at : place ≡ context_front (frame h) t)
       (index : j ≡ local_index t local)
-      (registered : entries ≡ born_entries (shown w sums options) type place) (waiting : ready ≡ w.ready) where
+      (registered : entries ≡ born_entries (shown w sums options threads) type place) (waiting : ready ≡ w.ready) where
     -- the world with the object
     abbrev born_world : World
     born_world = record w { heap = new; locals = slice_set w.locals j place; entries = entries; ready = ready }
 
     abbrev after : Machine
-    after = shown born_world (spent_more sums size) options
+    after = shown born_world (spent_more sums size) options threads
 
     -- what is seen with the object
     born-shown : seen_at_front s t local type n ≡ after
@@ -88,7 +90,7 @@ module _ (old : Machine) {w : World} {sums : Sums} {options : Options} (is : IsS
     -- the object is born
     pub made_follows : Follows old (new_object t local name len) (answered (Place place))
         (shown (record w { heap = new; locals = slice_set w.locals j place; entries = entries; ready = ready })
-        (spent_more sums size) options)
+        (spent_more sums size) options threads)
     made_follows =
         subst (λ p. Follows old (new_object t local name len) (answered (Place p)) after) (sym at)
         (subst (Follows old (new_object t local name len) (answered (Place (context_front (frame h) t)))) born-shown
@@ -100,7 +102,7 @@ module _ (old : Machine) {w : World} {sums : Sums} {options : Options} (is : IsS
     pub birth_kept : (IsUnmarked rows h → IsUnmarked rows new) → (AreFreeHeads rows h → AreFreeHeads rows new)
         → (AreClean rows h → AreClean rows new)
         → IsShown (record w { heap = new; locals = slice_set w.locals j place; entries = entries; ready = ready })
-        (spent_more sums size) options
+        (spent_more sums size) options threads
     birth_kept unmarked heads clean = record {
       locals = length-slice_set w.locals j place ∙ is.locals;
       held = newborn.held;

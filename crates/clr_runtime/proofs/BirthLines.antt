@@ -1,5 +1,5 @@
 -- The line that makes an object, on what is seen: its checks.
-use Rattle.std.proofs.Common.{◌≡◌, ◌∙◌, ℕ, ◌<◌, ◌≤◌, nat_lt, inl, Bool, true, false, List, length, refl, sym, ap}
+use Rattle.std.proofs.Common.{◌≡◌, ◌∙◌, ℕ, ◌<◌, ◌≤◌, nat_lt, Bool, true, false, List, length, refl, sym, ap}
 use Rattle.std.proofs.Common.{subst, arith, Option, Some, None, unwrap_or, if◌then◌else◌, is_some, is_none}
 use Rattle.std.specs.Prelude.{Err}
 use Rattle.std.proofs.lemmas.Bool.{both_ways, ltb-false, ltb-true}
@@ -7,9 +7,9 @@ use Rattle.clr_types.specs.Ranges.{IsLawfulSize}
 use Rattle.clr_types.specs.Types.{TypeRow, form_at, has_finalizer, is_array, type_row}
 use Rattle.clr_types.proofs.TailTaken.{size-lawful}
 use Rattle.clr_heap.specs.Parts.{IsMakeable}
-use Rattle.clr_view.specs.Shown.{shown}
+use Rattle.clr_safe.specs.Threads.{Threads}
+use Rattle.clr_runtime.specs.Shown.{shown}
 use Rattle.clr_view.specs.World.{World}
-use Rattle.clr_heap.specs.declared.heap.segments.AcquireFault.{AcquireFault}
 use Rattle.clr_heap.specs.declared.heap.segments.AcquireFault.TheVariants.{NoMemory, OverLimit}
 use Rattle.clr_model.specs.declared.Refusal.{Refusal}
 use Rattle.clr_model.specs.declared.Refusal.TheVariants as refusal
@@ -29,19 +29,21 @@ use Rattle.clr_model.proofs.LineChecks.{MayRun}
 use Rattle.clr_model.proofs.RoomFollows.{new_follows_fails}
 use Rattle.clr_runtime.specs.Births.{IsMeasured, Measured}
 use Rattle.clr_runtime.specs.Checks.{thread_refusal}
-use Rattle.clr_runtime.specs.Outcomes.{refusal_of_acquire}
+use Rattle.clr_runtime.specs.Outcomes.{refusal_of_room}
 use Rattle.clr_runtime.specs.Rooms.{attempt_of}
 use Rattle.clr_runtime.specs.RuntimeView.{IsShown}
 use Rattle.clr_runtime.specs.declared.births.Request.{Request}
+use Rattle.clr_runtime.specs.declared.rooms.NoRoom.{NoRoom}
+use Rattle.clr_runtime.specs.declared.rooms.NoRoom.TheVariants.{Acquire, Wait}
 use Rattle.clr_runtime.proofs.NamesChecked.{may_run}
 use Rattle.clr_runtime.proofs.RuntimeKept.{room_follows}
 use Rattle.clr_runtime.proofs.TypeNumbers.{number_from-bounds}
 
--- how a fault is told is how the attempt fails
-fails-so : (fault : AcquireFault) (r : Refusal) → r ≡ refusal_of_acquire fault
-    → Fails (attempt_of (Err fault)) (refused r)
-fails-so OverLimit r same = ap refused same
-fails-so NoMemory r same = ap refused same
+-- how it is told that there is no room is how the attempt fails
+pub fails-so : (why : NoRoom) (r : Refusal) → r ≡ refusal_of_room why → Fails (attempt_of (Err why)) (refused r)
+fails-so (Wait k) r same = ap refused same
+fails-so (Acquire OverLimit) r same = ap refused same
+fails-so (Acquire NoMemory) r same = ap refused same
 
 -- a class has no length
 no-length : (array : Bool) (given : Option ℕ) → (if array then is_some given else is_none given) ≡ true
@@ -87,17 +89,18 @@ module _ (rows : List TypeRow) (local : ℕ) (name : List ℕ) (len : Option ℕ
 
 -- ---- the checks
 
-module _ {w : World} {sums : Sums} {options : Options} (is : IsShown w sums options) (large : options.large ≡ 85000)
+module _ {w : World} {sums : Sums} {options : Options} {threads : Threads} (is : IsShown w sums options threads)
+    (large : options.large ≡ 85000)
     (t local : ℕ) (name : List ℕ) (len : Option ℕ) where
   abbrev s : Machine
-  s = shown w sums options
+  s = shown w sums options threads
 
   abbrev rows : List TypeRow
   rows = w.rows
 
   module _ (passed : thread_refusal s t ≡ None) where
     run : MayRun s t
-    run = may_run s t refl passed
+    run = may_run s t passed
 
     -- the line is refused for the first of the checks on the object that fails
     pub measured_follows : (r : Refusal) → Measured rows local name len (Err r)
@@ -106,7 +109,7 @@ module _ {w : World} {sums : Sums} {options : Options} (is : IsShown w sums opti
     measured_follows BadShape (type, known, unsuited) = new_follows_shape s t local name len type run known unsuited
     measured_follows NoSlot (type, is, high) = new_follows_local s t local name len type run is.known is.suited high
     measured_follows TooBig (type, is, low, big) =
-        new_follows_size s t local name len type run is.known is.suited low (inl big)
+        new_follows_size s t local name len type run is.known is.suited low big
     measured_follows _ none = absurd none
 
     module _ (request : Request) (measured : IsMeasured rows local name len request) where
@@ -141,35 +144,35 @@ module _ {w : World} {sums : Sums} {options : Options} (is : IsShown w sums opti
           go true e =
               new_follows_memory s t local name len request.type_id.0 (may_bear (ltb-true request.size 85000 e)) final
           go false e =
-              new_follows_large_memory s t local name len request.type_id.0 refl
+              new_follows_large_memory s t local name len request.type_id.0
               (may_bear_large (ltb-false request.size 85000 e)) final
 
       -- the same where room was made in the queue
       pub lacks_follows : (entries ready : List ℕ) → entries ≡ w.entries → ready ≡ w.ready
           → request.finalizer ≡ true
           → Follows s (new_object t local name len) (refused refusal.NoMemory)
-          (shown (record w { entries = entries; ready = ready }) sums options)
+          (shown (record w { entries = entries; ready = ready }) sums options threads)
       lacks_follows entries ready kept waiting final =
           room_follows is entries ready kept waiting (new_object t local name len) (refused refusal.NoMemory)
           (lacks-entry (sym measured.entry ∙ final))
 
       -- no room was made, and what was done for it stays
-      pub fails_follows : request.size < 85000 → (new : Machine) (fault : AcquireFault) (r : Refusal)
-          → r ≡ refusal_of_acquire fault
-          → FollowsRoom (shown w sums options) t request.size (attempt_of (Err fault)) new
-          → Follows (shown w sums options) (new_object t local name len) (refused r) new
-      fails_follows small new fault r told room =
-          new_follows_fails s t local name len request.type_id.0 (may_bear small) new (attempt_of (Err fault))
-          (refused r) (subst (λ b. FollowsRoom s t b (attempt_of (Err fault)) new) measured.size_is room)
-          (fails-so fault r told)
+      pub fails_follows : request.size < 85000 → (new : Machine) (why : NoRoom) (r : Refusal)
+          → r ≡ refusal_of_room why
+          → FollowsRoom (shown w sums options threads) t request.size (attempt_of (Err why)) new
+          → Follows (shown w sums options threads) (new_object t local name len) (refused r) new
+      fails_follows small new why r told room =
+          new_follows_fails s t local name len request.type_id.0 (may_bear small) new (attempt_of (Err why))
+          (refused r) (subst (λ b. FollowsRoom s t b (attempt_of (Err why)) new) measured.size_is room)
+          (fails-so why r told)
 
       -- the same for a large object
-      pub large_fails_follows : 85000 ≤ request.size → (new : Machine) (fault : AcquireFault) (r : Refusal)
-          → r ≡ refusal_of_acquire fault
-          → FollowsLargeFails (shown w sums options) request.size (attempt_of (Err fault)) new
-          → Follows (shown w sums options) (new_object t local name len) (refused r) new
-      large_fails_follows least new fault r told failed =
-          new_follows_large_fails refl s t local name len request.type_id.0 (may_bear_large least) new
-          (attempt_of (Err fault)) (refused r)
-          (subst (λ b. FollowsLargeFails s b (attempt_of (Err fault)) new) measured.size_is failed)
-          (fails-so fault r told)
+      pub large_fails_follows : 85000 ≤ request.size → (new : Machine) (why : NoRoom) (r : Refusal)
+          → r ≡ refusal_of_room why
+          → FollowsLargeFails (shown w sums options threads) request.size (attempt_of (Err why)) new
+          → Follows (shown w sums options threads) (new_object t local name len) (refused r) new
+      large_fails_follows least new why r told failed =
+          new_follows_large_fails s t local name len request.type_id.0 (may_bear_large least) new
+          (attempt_of (Err why)) (refused r)
+          (subst (λ b. FollowsLargeFails s b (attempt_of (Err why)) new) measured.size_is failed)
+          (fails-so why r told)

@@ -1,6 +1,6 @@
 -- Collections of a runtime's parts, and the line that collects, on what is seen.
 use Rattle.std.proofs.Common.{◌≡◌, ◌≢◌, ◌∙◌, ℕ, ◌+◌, ◌^◌, ◌<◌, ◌≤◌, ◌==◌, if◌then◌else◌, Bool, List, [], ◌∷◌}
-use Rattle.std.proofs.Common.{length, map, refl, ap, subst, sym, arith, replicate, Option, None, Some}
+use Rattle.std.proofs.Common.{length, map, refl, ap, subst, sym, arith, replicate, MatchOption, Option, None, Some}
 use Rattle.std.proofs.lemmas.Bool.{ne_eqb}
 use Rattle.std.proofs.lemmas.List.{length-map}
 use Rattle.clr_types.specs.Ranges.{Piece}
@@ -8,25 +8,31 @@ use Rattle.clr_types.specs.Segments.{Layout, rest_pieces}
 use Rattle.clr_heap.specs.View.{no_rests}
 use Rattle.clr_view.specs.Clean.{AreClean}
 use Rattle.clr_view.specs.Marks.{IsUnmarked}
-use Rattle.clr_view.specs.Shown.{shown}
+use Rattle.clr_safe.specs.Threads.{steps_of, Threads}
+use Rattle.clr_runtime.specs.Shown.{shown}
 use Rattle.clr_view.specs.View.{AreFreeHeads, IsHeld, layout_in, objects_in}
 use Rattle.clr_view.specs.World.{IsWorldOf, World}
 use Rattle.clr_model.specs.declared.Collected.{Collected}
 use Rattle.clr_model.specs.declared.How.{How}
+use Rattle.clr_model.specs.declared.Refusal.TheVariants as refusal
 use Rattle.clr_model.specs.declared.Reply.TheVariants as reply
 use Rattle.clr_model.specs.Collection.{Collects, sums_after}
 use Rattle.clr_model.specs.Instructions.{collect_heap}
 use Rattle.clr_model.specs.Lawful.{IsPlaceNamed}
 use Rattle.clr_model.specs.Lookups.{lowest_in_step, lowest_step_from, place_of}
 use Rattle.clr_model.specs.Machine.{begun_new, begun_store, Machine, no_step, Options, Sums, ThreadStep}
-use Rattle.clr_model.specs.Outcomes.{answered}
+use Rattle.clr_model.specs.Outcomes.{answered, refused}
 use Rattle.clr_model.specs.Picture.{picture, renamed_step}
+use Rattle.clr_model.specs.RoomFollows.{HasCollected}
 use Rattle.clr_model.specs.Run.{Follows}
 use Rattle.clr_model.proofs.CollectedLawful.{rests_gone}
-use Rattle.clr_model.proofs.CollectFollows.{collect_follows}
-use Rattle.clr_model.proofs.LineChecks.{MayRun}
+use Rattle.clr_model.proofs.Carried.{follows, refusal_carried_by}
+use Rattle.clr_model.proofs.CollectFollows.{collect_follows, collect_line, lowest_in_step-picture}
+use Rattle.clr_model.proofs.LineChecks.{line_passes, may_run_of-picture, MayRun, no_more, obeys_done}
 use Rattle.clr_model.proofs.PieceBytes.{sums_bounded}
-use Rattle.clr_model.proofs.SeenStands.{follows_sound}
+use Rattle.clr_model.proofs.RoomFollows.{collection_left}
+use Rattle.clr_model.proofs.SeenSound.{seen_sound}
+use Rattle.clr_model.proofs.SeenStands.{sound_stands}
 use Rattle.clr_collect.specs.Collecting.{CountsSlides}
 use Rattle.clr_runtime.specs.RuntimeView.{collected_sums, IsShown}
 
@@ -93,6 +99,33 @@ collect_done s t g how run idle least answer new (after, collects, is) =
     subst (Follows s (collect_heap t g how) (answered (reply.Collected answer))) (sym is)
     (collect_follows s t g how answer after least run idle collects)
 
+-- a thread is waited for, which is in mid-step
+pub collect_waits : (s : Machine) (t g : ℕ) (how : How) → MayRun s t → (k : ℕ) → lowest_in_step s ≡ Some k
+    → Follows s (collect_heap t g how) (refused (refusal.Wait k)) s
+collect_waits s t g how run k busy =
+    let i = collect_heap t g how in
+    follows s i (refused (refusal.Wait k)) s
+    (refusal_carried_by i (λ w. MayRun w t × (lowest_in_step w ≡ Some k)) (refusal.Wait k)
+    (λ m named given.
+    let stays : lowest_in_step m ≡ Some k = sym (lowest_in_step-picture m) ∙ given.1 in
+    obeys_done m i (refused (refusal.Wait k)) m
+    (line_passes i t [] (λ w. None ∷ None ∷ None ∷ no_more) (collect_line t g how) m
+    (may_run_of-picture m t given.0) tt)
+    (subst (λ (r : Option ℕ). MatchOption r
+    ((answer : Collected) × Collects m g how answer m × (refused (refusal.Wait k) ≡ answered (reply.Collected answer)))
+    (λ q. (refused (refusal.Wait k) ≡ refused (refusal.Wait q)) × (m ≡ m))) (sym stays) (refl, refl)))
+    s (run, busy))
+
+-- what is seen after a collection is sound
+collected-sound : (s : Machine) → IsPlaceNamed s → lowest_in_step s ≡ None → (g : ℕ) → g ≤ 2 → (how : How)
+    (new : Machine) → HasCollected s g how new → IsPlaceNamed new
+collected-sound s sound idle g least how new collected =
+    let (m, stands) = sound_stands s sound in
+    let still : lowest_in_step m ≡ None =
+    sym (lowest_in_step-picture m) ∙ ap lowest_in_step stands.seen_is ∙ idle in
+    let (answer, mid, done, left) = collection_left s g how new least collected m stands still in
+    seen_sound new mid left.stands
+
 -- ---- the parts of a runtime
 
 -- both sums of promoted bytes are words
@@ -101,8 +134,9 @@ record HaveSmallSums (sums : Sums) : Type 0 where
   second : sums.promoted2 < 2 ^ 64
 
 -- the world of a runtime is that of what it shows
-pub world-seen : {w : World} {sums : Sums} {options : Options} → IsWorldOf w (shown w sums options)
-world-seen = record {
+pub world-seen : {w : World} {sums : Sums} {options : Options} (threads : Threads)
+    → IsWorldOf w (shown w sums options threads)
+world-seen threads = record {
   memory = record { types = refl; objects = refl; layout = refl };
   locals = refl;
   handles = refl;
@@ -110,55 +144,60 @@ world-seen = record {
   ready = refl;
 }
 
-pub whole_world : {w : World} {sums : Sums} {options : Options} → IsShown w sums options
+pub whole_world : {w : World} {sums : Sums} {options : Options} {threads : Threads} → IsShown w sums options threads
+    → lowest_step_from 1 (steps_of threads) ≡ None
     → (m : Machine) × IsWorldOf w m × IsPlaceNamed m × (lowest_in_step m ≡ None)
-whole_world {w = w} {sums = sums} {options = options} is = (shown w sums options, world-seen, is.sound, refl)
+whole_world {w = w} {sums = sums} {options = options} {threads = threads} is idle =
+    (shown w sums options threads, world-seen threads, is.sound, idle)
 
 -- there is a collection of what is shown that leaves this world
-abbrev pub Told : World → Sums → Options → ℕ → How → World → Collected → Type 0
-Told w sums options g how new answer =
-    (after : Machine) × Collects (shown w sums options) g how answer after × IsWorldOf new (picture after)
+abbrev pub Told : World → Sums → Options → Threads → ℕ → How → World → Collected → Type 0
+Told w sums options threads g how new answer =
+    (after : Machine) × Collects (shown w sums options threads) g how answer after × IsWorldOf new (picture after)
 
 -- it is what a collection tells of all machines that have this world, whose locals may have another spelling
-pub told_of : (w : World) (sums : Sums) (options : Options) → IsShown w sums options → (g : ℕ) (how : How)
-    (locals : List ℕ) → locals ≡ w.locals → (new : World) (answer : Collected) (before after : ℕ)
+pub told_of : (w : World) (sums : Sums) (options : Options) (threads : Threads) → IsShown w sums options threads
+    → lowest_step_from 1 (steps_of threads) ≡ None → (g : ℕ) (how : How) (locals : List ℕ) → locals ≡ w.locals
+    → (new : World) (answer : Collected) (before after : ℕ)
     → ((m : Machine) → IsWorldOf (record w { locals = locals }) m → IsPlaceNamed m → lowest_in_step m ≡ None
     → m.options.compact ≡ options.compact → (left : Machine) × (c : Collects m g how answer left)
     × IsWorldOf new (picture left) × CountsSlides c.moves answer before after)
-    → Told w sums options g how new answer
-told_of w sums options is g how locals same new answer before after collected =
+    → Told w sums options threads g how new answer
+told_of w sums options threads is idle g how locals same new answer before after collected =
     let (left, collects, world, counts) =
-    collected (shown w sums options)
-    (subst (λ (ls : List ℕ). IsWorldOf (record w { locals = ls }) (shown w sums options)) (sym same) world-seen)
-    is.sound refl refl in
+    collected (shown w sums options threads)
+    (subst (λ (ls : List ℕ). IsWorldOf (record w { locals = ls }) (shown w sums options threads)) (sym same)
+    (world-seen threads))
+    is.sound idle refl in
     (left, collects, world)
 
-module _ {w : World} {sums : Sums} {options : Options} (is : IsShown w sums options) (g : ℕ) (least : g ≤ 2)
-    (how : How) (new : World) (answer : Collected) (told : Told w sums options g how new answer) where
+module _ {w : World} {sums : Sums} {options : Options} {threads : Threads} (is : IsShown w sums options threads)
+    (idle : lowest_step_from 1 (steps_of threads) ≡ None) (g : ℕ) (least : g ≤ 2) (how : How) (new : World)
+    (answer : Collected) (told : Told w sums options threads g how new answer) where
   abbrev s : Machine
-  s = shown w sums options
+  s = shown w sums options threads
 
   -- the sums afterwards
   abbrev after_sums : Sums
   after_sums = collected_sums sums g answer.promoted1 answer.promoted2
 
   -- what is seen afterwards is the picture of what a collection of what is seen leaves
-  pub has_collected : (after : Machine) × Collects (shown w sums options) g how answer after
-      × (shown new (collected_sums sums g answer.promoted1 answer.promoted2) options ≡ picture after)
+  pub has_collected : (after : Machine) × Collects (shown w sums options threads) g how answer after
+      × (shown new (collected_sums sums g answer.promoted1 answer.promoted2) options threads ≡ picture after)
   has_collected =
       let (after, collects, world) = told in
-      (after, collects, sym (collected_picture s g how answer after refl collects new world))
+      (after, collects, sym (collected_picture s g how answer after idle collects new world))
 
-  -- it is sound, as after the line that collects
-  sound-after : IsPlaceNamed (shown new after_sums options)
+  -- it is sound
+  sound-after : IsPlaceNamed (shown new after_sums options threads)
   sound-after =
-      follows_sound s (collect_heap 1 g how) (answered (reply.Collected answer)) (shown new after_sums options) is.sound
-      (collect_done s 1 g how (record { thread = refl; idle = refl; unheld = refl }) refl least answer
-      (shown new after_sums options) has_collected)
+      let (after, collects, is_seen) = has_collected in
+      collected-sound s is.sound idle g least how (shown new after_sums options threads)
+      (answer, after, collects, is_seen)
 
   bounded-after : HaveSmallSums after_sums
   bounded-after =
-      let bounds = sums_bounded (shown new after_sums options) sound-after.lawful in
+      let bounds = sums_bounded (shown new after_sums options threads) sound-after.lawful in
       let limit = sound-after.lawful.options.limit_greatest in
       let first = bounds.promoted1 in
       let second = bounds.promoted2 in
@@ -189,14 +228,14 @@ module _ {w : World} {sums : Sums} {options : Options} (is : IsShown w sums opti
   no_contexts-after =
       let (after, collects, world) = told in
       let none = ap (λ (l : Layout). rest_pieces l.rests) (sym world.memory.layout)
-      ∙ rests_gone s is.sound.lawful refl g least how answer after collects in
+      ∙ rests_gone s is.sound.lawful idle g least how answer after collects in
       none_rest new.heap.rests none
       ∙ ap (λ n. replicate n None) sound-after.lawful.laid.layout.threads
 
   -- what holds of the parts of a runtime still holds
   pub collect_kept : IsHeld new.rows new.heap → IsUnmarked new.rows new.heap
       → AreFreeHeads new.rows new.heap → AreClean new.rows new.heap
-      → IsShown new (collected_sums sums g answer.promoted1 answer.promoted2) options
+      → IsShown new (collected_sums sums g answer.promoted1 answer.promoted2) options threads
   collect_kept held unmarked heads clean = record {
     locals = locals-after;
     held = held;

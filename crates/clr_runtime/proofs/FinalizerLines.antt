@@ -2,7 +2,8 @@
 use Rattle.std.proofs.Common.{◌≡◌, ◌≢◌, ℕ, List, [], ◌∷◌, ◌++◌, refl, sym, ap, subst, ◌∙◌, slice_set, true, false, None}
 use Rattle.clr_heap.specs.View.{HeapView}
 use Rattle.clr_view.specs.Flags.{HasFlagged, is_final_at, is_suppressed_at}
-use Rattle.clr_view.specs.Shown.{shown}
+use Rattle.clr_safe.specs.Threads.{Threads}
+use Rattle.clr_runtime.specs.Shown.{shown}
 use Rattle.clr_view.specs.World.{World}
 use Rattle.clr_model.specs.declared.Refusal.TheVariants.{Empty, NoMemory, Null}
 use Rattle.clr_model.specs.declared.Reply.TheVariants.{Done, Place}
@@ -20,13 +21,13 @@ use Rattle.clr_model.proofs.LineChecks.{AreLocals, MayRun}
 use Rattle.clr_runtime.specs.Checks.{names_refusal}
 use Rattle.clr_runtime.proofs.NamesChecked.{names_passed, once}
 
-module _ (w : World) (sums : Sums) (options : Options) (t k : ℕ) where
+module _ (w : World) (sums : Sums) (options : Options) (threads : Threads) (t k : ℕ) where
   abbrev s : Machine
-  s = shown w sums options
+  s = shown w sums options threads
 
   module _ (passed : names_refusal s t (k ∷ k ∷ []) ≡ None) where
     ran : MayRun s t × AreLocals (k ∷ [])
-    ran = names_passed s t (k ∷ []) refl (once s t k None passed)
+    ran = names_passed s t (k ∷ []) (once s t k None passed)
 
     -- ---- the object of a local
 
@@ -51,12 +52,12 @@ module _ (w : World) (sums : Sums) (options : Options) (t k : ℕ) where
 
         -- the machine with the flag is that of the heap in which the object has it
         flag-shown : (new : HeapView) (flag : _) → HasFlagged w.rows w.heap new place flag
-            → with_flag s (local_of s t k) flag ≡ shown (record w { heap = new }) sums options
+            → with_flag s (local_of s t k) flag ≡ shown (record w { heap = new }) sums options threads
         flag-shown new flag flagged =
             let objects = flagged.objects in
             let layout = flagged.layout in
             ap (λ p. with_flag s p flag) (sym at)
-            ∙ (λ n. record (shown (record w { heap = new }) sums options) {
+            ∙ (λ n. record (shown (record w { heap = new }) sums options threads) {
               objects = sym objects n;
               layout = sym layout n;
             })
@@ -68,7 +69,7 @@ module _ (w : World) (sums : Sums) (options : Options) (t k : ℕ) where
 
         pub suppressed : is_final_at w.rows w.heap place ≡ true → (new : HeapView)
             → HasFlagged w.rows w.heap new place true
-            → Follows s (suppress_object t k) (answered Done) (shown (record w { heap = new }) sums options)
+            → Follows s (suppress_object t k) (answered Done) (shown (record w { heap = new }) sums options threads)
         suppressed final new flagged =
             subst (Follows s (suppress_object t k) (answered Done)) (flag-shown new true flagged)
             (suppress_done s t ran.0 k ran.1.0 is_some true (final-seen true final))
@@ -81,7 +82,7 @@ module _ (w : World) (sums : Sums) (options : Options) (t k : ℕ) where
         module _ (final : is_final_at w.rows w.heap place ≡ true) where
           pub allowed : is_suppressed_at w.rows w.heap place ≡ true → (new : HeapView)
               → HasFlagged w.rows w.heap new place false
-              → Follows s (reregister_object t k) (answered Done) (shown (record w { heap = new }) sums options)
+              → Follows s (reregister_object t k) (answered Done) (shown (record w { heap = new }) sums options threads)
           allowed suppressed new flagged =
               subst (Follows s (reregister_object t k) (answered Done)) (flag-shown new false flagged)
               (reregister_done_flag s t ran.0 k ran.1.0 is_some (final-seen true final)
@@ -95,11 +96,11 @@ module _ (w : World) (sums : Sums) (options : Options) (t k : ℕ) where
 
             pub reregistered : (entries ready : List ℕ) → entries ≡ w.entries ++ place ∷ [] → ready ≡ w.ready
                 → Follows s (reregister_object t k) (answered Done)
-                (shown (record w { entries = entries; ready = ready }) sums options)
+                (shown (record w { entries = entries; ready = ready }) sums options threads)
             reregistered entries ready listed waiting =
                 subst (Follows s (reregister_object t k) (answered Done))
                 (ap (with_entry s) (sym at)
-                ∙ (λ n. shown (record w { entries = sym listed n; ready = sym waiting n }) sums options))
+                ∙ (λ n. shown (record w { entries = sym listed n; ready = sym waiting n }) sums options threads))
                 (reregister_done_entry s t ran.0 k ran.1.0 is_some (final-seen true final)
                 (suppressed-seen false free))
 
@@ -113,12 +114,13 @@ module _ (w : World) (sums : Sums) (options : Options) (t k : ℕ) where
     pub taken : (place j : ℕ) (entries ready : List ℕ) → w.ready ≡ place ∷ ready → entries ≡ w.entries
         → j ≡ local_index t k
         → Follows s (take_ready t k) (answered (Place place))
-        (shown (record w { locals = slice_set w.locals j place; entries = entries; ready = ready }) sums options)
+        (shown (record w { locals = slice_set w.locals j place; entries = entries; ready = ready }) sums
+        options threads)
     taken place j entries ready waits kept written =
         subst (Follows s (take_ready t k) (answered (Place place)))
         (λ n. shown (record w {
           locals = slice_set w.locals (sym written n) place;
           entries = sym kept n;
           ready = ready;
-        }) sums options)
+        }) sums options threads)
         (take_done s t ran.0 k ran.1.0 place ready waits)

@@ -12,7 +12,8 @@ use Rattle.clr_types.proofs.MapValues.{map_values-same}
 use Rattle.clr_handles.specs.declared.fault.CreateFault.{CreateFault}
 use Rattle.clr_handles.specs.declared.fault.CreateFault.TheVariants as fault
 use Rattle.clr_handles.proofs.Lookups.{get-remove_other, get-removed}
-use Rattle.clr_view.specs.Shown.{shown}
+use Rattle.clr_safe.specs.Threads.{Threads}
+use Rattle.clr_runtime.specs.Shown.{shown}
 use Rattle.clr_view.specs.World.{World}
 use Rattle.clr_model.specs.declared.Refusal.{Refusal}
 use Rattle.clr_model.specs.declared.Refusal.TheVariants.{HandleKind, NoHandle, Null}
@@ -57,15 +58,15 @@ pub named_once : (s : Machine) (t local : ℕ) (second : Option ℕ) (r : Option
 named_once s t local None r e = once s t local r e
 named_once s t local (Some k) r e = e
 
-module _ (w : World) (sums : Sums) (options : Options) (t : ℕ) where
+module _ (w : World) (sums : Sums) (options : Options) (threads : Threads) (t : ℕ) where
   abbrev s : Machine
-  s = shown w sums options
+  s = shown w sums options threads
 
   -- ---- lines that follow a handle
 
   module _ (to h : ℕ) (passed : names_refusal s t (to ∷ to ∷ []) ≡ None) where
     ran : MayRun s t × AreLocals (to ∷ [])
-    ran = names_passed s t (to ∷ []) refl (once s t to None passed)
+    ran = names_passed s t (to ∷ []) (once s t to None passed)
 
     -- a number that isn't in use
     pub fetch_missing : finmap.get w.handles h ≡ None → Follows s (fetch_target t to h) (refused NoHandle) s
@@ -78,7 +79,7 @@ module _ (w : World) (sums : Sums) (options : Options) (t : ℕ) where
       -- `fetch`
       pub fetched : (j : ℕ) → j ≡ local_index t to
           → Follows s (fetch_target t to h) (answered (Place row.target))
-          (shown (record w { locals = slice_set w.locals j row.target }) sums options)
+          (shown (record w { locals = slice_set w.locals j row.target }) sums options threads)
       fetched j at =
           local_written s (fetch_target t to h) (answered (Place row.target)) t to row.target j at
           (fetch_done s t ran.0 to ran.1.0 h row found)
@@ -89,7 +90,7 @@ module _ (w : World) (sums : Sums) (options : Options) (t : ℕ) where
 
       pub second_fetched : is_dependent row.kind ≡ true → (j : ℕ) → j ≡ local_index t to
           → Follows s (fetch_second t to h) (answered (Place row.second))
-          (shown (record w { locals = slice_set w.locals j row.second }) sums options)
+          (shown (record w { locals = slice_set w.locals j row.second }) sums options threads)
       second_fetched dependent j at =
           local_written s (fetch_second t to h) (answered (Place row.second)) t to row.second j at
           (second_done s t ran.0 to ran.1.0 h row found dependent)
@@ -99,22 +100,22 @@ module _ (w : World) (sums : Sums) (options : Options) (t : ℕ) where
   module _ (h : ℕ) (passed : thread_refusal s t ≡ None) (new : FinMap nat_cmp Handle)
       (table : new ≡ finmap.remove w.handles h) where
     run : MayRun s t
-    run = may_run s t refl passed
+    run = may_run s t passed
 
     -- a number that isn't in use
     pub free_missing : finmap.get w.handles h ≡ None
-        → Follows s (free_handle t h) (refused NoHandle) (shown (record w { handles = new }) sums options)
+        → Follows s (free_handle t h) (refused NoHandle) (shown (record w { handles = new }) sums options threads)
     free_missing none =
         subst (λ (m : FinMap nat_cmp Handle). Follows s (free_handle t h) (refused NoHandle)
-        (shown (record w { handles = m }) sums options)) (sym (table ∙ removed-none w.handles h none))
+        (shown (record w { handles = m }) sums options threads)) (sym (table ∙ removed-none w.handles h none))
         (handle_follows_missing s (free_of t h) h false refl run tt none)
 
     -- the handle is taken out of use
     pub freed : (row : Handle) → finmap.get w.handles h ≡ Some row
-        → Follows s (free_handle t h) (answered Done) (shown (record w { handles = new }) sums options)
+        → Follows s (free_handle t h) (answered Done) (shown (record w { handles = new }) sums options threads)
     freed row found =
         subst (λ (m : FinMap nat_cmp Handle). Follows s (free_handle t h) (answered Done)
-        (shown (record w { handles = m }) sums options)) (sym table) (free_done s t run h row found)
+        (shown (record w { handles = m }) sums options threads)) (sym table) (free_done s t run h row found)
 
   -- ---- `handle`
 
@@ -122,7 +123,7 @@ module _ (w : World) (sums : Sums) (options : Options) (t : ℕ) where
       (passed : names_refusal s t (local ∷ unwrap_or second local ∷ []) ≡ None) (target : ℕ)
       (at : target ≡ local_of s t local) where
     all : MayRun s t × AreLocals (local ∷ list_of second)
-    all = names_passed s t (local ∷ list_of second) refl (named_once s t local second None passed)
+    all = names_passed s t (local ∷ list_of second) (named_once s t local second None passed)
 
     -- a dependent handle has a primary
     pub create_null : is_dependent kind ≡ true → target ≡ 0
@@ -151,7 +152,7 @@ module _ (w : World) (sums : Sums) (options : Options) (t : ℕ) where
 
       -- the handle is made
       pub created : (h : ℕ) → result ≡ Ok h → Follows s (create_handle t kind local second) (answered (HandleNumber h))
-          (shown (record w { handles = new }) sums options)
+          (shown (record w { handles = new }) sums options threads)
       created h is =
           let low : h < 65536 = subst (λ r. IfOk r (λ h. h < 65536)) is told.below in
           let free : finmap.get w.handles h ≡ None =
@@ -162,18 +163,18 @@ module _ (w : World) (sums : Sums) (options : Options) (t : ℕ) where
           let table : new ≡ finmap.insert w.handles h made =
           subst (λ r. IfOk r (λ h. new ≡ finmap.insert w.handles h made)) is told.created in
           subst (λ (m : FinMap nat_cmp Handle). Follows s (create_handle t kind local second)
-          (answered (HandleNumber h)) (shown (record w { handles = m }) sums options))
+          (answered (HandleNumber h)) (shown (record w { handles = m }) sums options threads))
           (ap (finmap.insert w.handles h) row ∙ sym table)
           (create_done s t kind local second form all.0 all.1 primary (few (Ok h) is (λ e. cc)) h low free)
 
       -- or there is no room for it
       pub create_refused : (f : CreateFault) → result ≡ Err f
           → Follows s (create_handle t kind local second) (refused (refusal_of_create f))
-          (shown (record w { handles = new }) sums options)
+          (shown (record w { handles = new }) sums options threads)
       create_refused f is =
           let same = subst (λ r. OnErr r (new ≡ w.handles)) is told.err in
           subst (λ (m : FinMap nat_cmp Handle). Follows s (create_handle t kind local second)
-          (refused (refusal_of_create f)) (shown (record w { handles = m }) sums options)) (sym same) (go f is)
+          (refused (refusal_of_create f)) (shown (record w { handles = m }) sums options threads)) (sym same) (go f is)
         where
           go : (f : CreateFault) → result ≡ Err f
               → Follows s (create_handle t kind local second) (refused (refusal_of_create f)) s

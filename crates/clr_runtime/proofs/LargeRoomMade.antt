@@ -1,6 +1,6 @@
 -- The ladder of a large object, on what is seen of a runtime's parts: what each of its exits comes to.
 use Rattle.std.proofs.Common.{◌≡◌, ◌∙◌, ℕ, ◌+◌, ◌&&◌, true, false, [], ◌∷◌, ◌++◌, refl, ap, sym, subst, arith}
-use Rattle.std.proofs.Common.{Result, Ok, Err, None}
+use Rattle.std.proofs.Common.{Result, Ok, Err, None, Some}
 use Rattle.std.specs.Prelude.{OnErr, OnOk}
 use Rattle.std.proofs.lemmas.Bool.{le-leb, or_right}
 use Rattle.std.specs.List.{list_any}
@@ -15,7 +15,7 @@ use Rattle.clr_heap.specs.declared.heap.segments.AcquireFault.{AcquireFault}
 use Rattle.clr_heap.specs.declared.heap.segments.AcquireFault.TheVariants.{NoMemory, OverLimit}
 use Rattle.clr_model.specs.declared.Collected.{Collected}
 use Rattle.clr_model.specs.declared.How.TheVariants.{Compact, Decide}
-use Rattle.clr_model.specs.Allocation.{has_room_in, out_of_memory, out_of_room, segment_for, stands_in_kind}
+use Rattle.clr_model.specs.Allocation.{has_room_in, out_of_memory, out_of_room, segment_for, stands_in_kind, waits}
 use Rattle.clr_model.specs.Collection.{Collects}
 use Rattle.clr_model.specs.LargeFollows.{FollowsLargeFails, FollowsToPlace}
 use Rattle.clr_model.specs.Lookups.{lowest_in_step}
@@ -23,15 +23,22 @@ use Rattle.clr_model.specs.Machine.{Machine}
 use Rattle.clr_model.specs.Picture.{picture}
 use Rattle.clr_model.specs.RoomFollows.{HasCollected}
 use Rattle.clr_model.proofs.LargeFollows.{place_acquired, place_first, place_full, place_lacks, place_none}
-use Rattle.clr_model.proofs.LargeFollows.{place_within}
+use Rattle.clr_model.proofs.LargeFollows.{place_waits, place_within}
 use Rattle.clr_runtime.specs.LargeRooms.{has_place_in_budget, IsAcquired, with_large_segment}
 use Rattle.clr_runtime.specs.Rooms.{attempt_of}
-use Rattle.clr_runtime.proofs.RoomMade.{collected_of}
+use Rattle.clr_runtime.proofs.RoomMade.{collected_of, room_result}
 
 module _ (size : ℕ) (s : Machine) where
   -- a place within the budget
   pub placed_within : (new : Machine) → has_place_in_budget s size ≡ true → new ≡ s → FollowsToPlace s size new
   placed_within new spare same = subst (FollowsToPlace s size) (sym same) (place_within s size spare)
+
+  -- a wait for a thread that is in mid-step
+  pub placed_after_wait : has_place_in_budget s size ≡ false → (tried : Machine) → tried ≡ s → (k : ℕ)
+      → lowest_in_step tried ≡ Some k → FollowsLargeFails s size (waits k) tried
+  placed_after_wait spare tried same k busy =
+      subst (FollowsLargeFails s size (waits k)) (sym same)
+      (place_waits s size spare k (sym (ap lowest_in_step same) ∙ busy))
 
   module _ (idle : lowest_in_step s ≡ None) (spare : has_place_in_budget s size ≡ false) (tried : Machine)
       (kept : tried ≡ s) (s1 : Machine) (answer : Collected)
@@ -71,7 +78,7 @@ module _ (size : ℕ) (s : Machine) where
         -- or none
         pub placed_nowhere : (new : Machine) (result : Result (Unit {0}) AcquireFault)
             → IsAcquired last new size result
-            → OnErr result (FollowsLargeFails s size (attempt_of result) new)
+            → OnErr result (FollowsLargeFails s size (attempt_of (room_result result)) new)
         placed_nowhere new (Ok done) made = tt
         placed_nowhere new (Err OverLimit) made =
             let (barred, same) = subst (λ (m : Machine). IsAcquired m new size (Err OverLimit)) is made in

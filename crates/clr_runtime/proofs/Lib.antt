@@ -1,4 +1,6 @@
 pub mod NamesChecked
+pub mod StepsSeen
+pub mod StepsKept
 pub mod SlotsChecked
 pub mod LocalsSeen
 pub mod LocalLines
@@ -22,3 +24,13 @@ pub mod HandleLines
 pub mod FinalizerLines
 pub mod TablesKept
 pub mod PinnedRoom
+pub mod StepChanged
+pub mod SuspendLines
+pub mod BeginSetLines
+pub mod FinishLines
+pub mod BeginNewLines
+pub mod StepsBegun
+pub mod BegunStores
+pub mod FinishedStores
+pub mod BegunBirths
+pub mod FinishedBirths

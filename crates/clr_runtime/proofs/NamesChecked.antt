@@ -13,7 +13,8 @@ use Rattle.clr_model.specs.Checks.{unknown_thread, with_some}
 use Rattle.clr_model.specs.Outcomes.{refused}
 use Rattle.clr_model.specs.Run.{Follows}
 use Rattle.clr_model.proofs.Carried.{follows, follows_alike, IsAlike, refusal_carried_by}
-use Rattle.clr_model.proofs.LineChecks.{AreLocals, is_away, is_step-picture, IsThreadLine, MayRun, obeys_refusal}
+use Rattle.clr_model.proofs.LineChecks.{AreLocals, is_away, is_held_off, is_step-picture, IsThreadLine, MayRun}
+use Rattle.clr_model.proofs.LineChecks.{obeys_refusal}
 use Rattle.clr_runtime.specs.Checks.{names_refusal, thread_refusal}
 
 -- ---- the first check that fails
@@ -118,20 +119,33 @@ module _ (i : Instruction) (t : ℕ) (locals : List ℕ) (more : Machine → Lis
 
 -- ---- a line that goes on
 
--- where no check on its thread fails and no thread holds the others, it may run
-pub may_run : (s : Machine) (t : ℕ) → s.holder ≡ None → thread_refusal s t ≡ None → MayRun s t
-may_run s t unheld e = go (is_thread t) (is_step (step_of s t)) refl refl e
+-- where no check on its thread fails, it may run
+pub may_run : (s : Machine) (t : ℕ) → thread_refusal s t ≡ None → MayRun s t
+may_run s t e = go (is_thread t) (is_step (step_of s t)) s.holder refl refl refl e
   where
-    go : (known stepping : Bool) → is_thread t ≡ known → is_step (step_of s t) ≡ stepping
-        → first_of_all (thread_by t known s.holder stepping) ≡ None → MayRun s t
-    go known stepping is_known is_stepping e =
-        by known stepping is_known is_stepping (ap (λ h. first_of_all (thread_by t known h stepping)) (sym unheld) ∙ e)
+    go : (known stepping : Bool) (holder : Option ℕ) → is_thread t ≡ known → is_step (step_of s t) ≡ stepping
+        → s.holder ≡ holder → first_of_all (thread_by t known holder stepping) ≡ None → MayRun s t
+    go false stepping holder is_known is_stepping is_holder e = absurd cc
+    go true true None is_known is_stepping is_holder e = absurd cc
+    go true false None is_known is_stepping is_holder e = record {
+      thread = is_known;
+      idle = is_stepping;
+      unheld = ap (λ (o : Option ℕ). is_held_off o t) is_holder;
+    }
+    go true stepping (Some h) is_known is_stepping is_holder e = by (not (h == t)) stepping refl is_stepping e
       where
-        by : (known stepping : Bool) → is_thread t ≡ known → is_step (step_of s t) ≡ stepping
-            → first_of_all (thread_by t known None stepping) ≡ None → MayRun s t
-        by false stepping is_known is_stepping e = absurd cc
-        by true true is_known is_stepping e = absurd cc
-        by true false is_known is_stepping e = record { thread = is_known; idle = is_stepping; unheld = unheld }
+        by : (off stepping : Bool) → not (h == t) ≡ off → is_step (step_of s t) ≡ stepping
+            → first_of_all (None ∷ refuse_if (off && not stepping) (Blocked h) ∷ refuse_if (stepping && true) MidStep
+            ∷ refuse_if (not stepping && false) NotMidStep ∷ []) ≡ None
+            → MayRun s t
+        by true true is_off is_stepping e = absurd cc
+        by true false is_off is_stepping e = absurd cc
+        by false true is_off is_stepping e = absurd cc
+        by false false is_off is_stepping e = record {
+          thread = is_known;
+          idle = is_stepping;
+          unheld = ap (λ (o : Option ℕ). is_held_off o t) is_holder ∙ is_off;
+        }
 
 all-locals : (locals : List ℕ) → is_away locals ≡ false → AreLocals locals
 all-locals [] e = tt
@@ -143,16 +157,16 @@ all-locals (k ∷ ks) e = go (nat_le 64 k) refl e (all-locals ks)
     go false is e rest = (leb-false 64 k is, rest e)
 
 -- and where no check on its locals fails, they are there, too
-pub names_passed : (s : Machine) (t : ℕ) (locals : List ℕ) → s.holder ≡ None → names_refusal s t locals ≡ None
+pub names_passed : (s : Machine) (t : ℕ) (locals : List ℕ) → names_refusal s t locals ≡ None
     → MayRun s t × AreLocals locals
-names_passed s t locals unheld e = go (thread_refusal s t) refl
+names_passed s t locals e = go (thread_refusal s t) refl
   where
     go : (o : Option Refusal) → thread_refusal s t ≡ o → MayRun s t × AreLocals locals
     go (Some r) is = absurd (none-some r (sym e ∙ names-thread s t locals r is))
       where
         none-some : (r : Refusal) → None ≡ Some r → ⊥
         none-some r e = cc
-    go None is = (may_run s t unheld is, all-locals locals (away (is_away locals) refl))
+    go None is = (may_run s t is, all-locals locals (away (is_away locals) refl))
       where
         away : (b : Bool) → is_away locals ≡ b → is_away locals ≡ false
         away false is_away = is_away

@@ -1,5 +1,6 @@
 -- What a new runtime shows.
-use Rattle.std.proofs.Common.{◌≡◌, ◌∙◌, ℕ, ◌%◌, List, [], length, sym, ap, subst, replicate}
+use Rattle.std.proofs.Common.{◌≡◌, ◌∙◌, ℕ, zero, suc, ◌≤◌, ◌%◌, List, [], length, arith, sym, ap, subst, replicate}
+use Rattle.std.specs.List.{AllByRecursion}
 use Rattle.std.specs.FinMap as finmap
 use Rattle.std.proofs.lemmas.List.{length-replicate}
 use Rattle.clr_types.specs.Types.{TypeRow}
@@ -7,7 +8,7 @@ use Rattle.clr_heap.specs.View as heap
 use Rattle.clr_heap.specs.View.{HeapView}
 use Rattle.clr_view.specs.Clean.{AreClean}
 use Rattle.clr_view.specs.Marks.{IsUnmarked}
-use Rattle.clr_view.specs.Shown.{shown}
+use Rattle.clr_runtime.specs.Shown.{shown}
 use Rattle.clr_view.specs.View.{AreFreeHeads, IsHeld}
 use Rattle.clr_view.specs.World.{bare_world, World}
 use Rattle.clr_view.proofs.CleanWords.{clean_at_start}
@@ -19,14 +20,16 @@ use Rattle.clr_model.specs.Machine.{Machine, Options, Sums}
 use Rattle.clr_model.specs.Run.{opening, StandsFor}
 use Rattle.clr_model.proofs.Opening.{opening_stands}
 use Rattle.clr_model.proofs.SeenSound.{seen_sound}
-use Rattle.clr_runtime.specs.RuntimeView.{IsShown}
+use Rattle.clr_safe.specs.Threads.{births_owed, no_threads, Threads}
+use Rattle.clr_safe.specs.declared.begun.Begun.TheVariants.{Nothing}
+use Rattle.clr_runtime.specs.RuntimeView.{IsShown, TellsFinalizer}
 
 abbrev pub no_sums : Sums
 no_sums = record { spent0 = 0; spent_large = 0; promoted1 = 0; promoted2 = 0 }
 
 -- with null locals and an empty heap the opening state is shown
 opening-shown : (options : Options) (limit : ℕ) → options.segment % 4096 ≡ 0
-    → shown (bare_world [] (heap.opening_heap options.segment limit) (replicate 1024 0)) no_sums options
+    → shown (bare_world [] (heap.opening_heap options.segment limit) (replicate 1024 0)) no_sums options no_threads
     ≡ opening options
 unfolding opening
 opening-shown options limit aligned =
@@ -43,8 +46,21 @@ pub record IsFirst (w : World) (segment limit : ℕ) : Type 0 where
   pub entries : w.entries ≡ []
   pub ready : w.ready ≡ []
 
-module _ (w : World) (options : Options) (limit : ℕ) (lawful : AreLawfulOptions options)
-    (is : IsFirst w options.segment limit) where
+-- nothing is begun, so no entry is owed, and nothing is told of finalisers
+nothing-told : (rows : List TypeRow) (n : ℕ) → AllByRecursion (TellsFinalizer rows) (replicate n Nothing)
+nothing-told rows zero = tt
+nothing-told rows (suc n) = (tt, nothing-told rows n)
+
+module _ (threads : Threads) (none : threads ≡ no_threads) where
+  pub none_owed : (spare : ℕ) → births_owed threads ≤ spare
+  none_owed spare = subst (λ (t : Threads). births_owed t ≤ spare) (sym none) (omega arith)
+
+  pub none_told : (rows : List TypeRow) → AllByRecursion (TellsFinalizer rows) threads.begun
+  none_told rows =
+      subst (λ (t : Threads). AllByRecursion (TellsFinalizer rows) t.begun) (sym none) (nothing-told rows 16)
+
+module _ (w : World) (threads : Threads) (none : threads ≡ no_threads) (options : Options) (limit : ℕ)
+    (lawful : AreLawfulOptions options) (is : IsFirst w options.segment limit) where
   first-world : w ≡ bare_world [] (heap.opening_heap options.segment limit) (replicate 1024 0)
   first-world = λ i. record {
     rows = is.rows i;
@@ -56,11 +72,11 @@ module _ (w : World) (options : Options) (limit : ℕ) (lawful : AreLawfulOption
   }
 
   -- it shows the opening state
-  pub new_stands : StandsFor (shown w no_sums options) (opening options)
+  pub new_stands : StandsFor (shown w no_sums options threads) (opening options)
   new_stands =
       subst (λ (s : Machine). StandsFor s (opening options))
-      (sym (ap (λ (v : World). shown v no_sums options) first-world
-      ∙ opening-shown options limit lawful.segment_aligned)) (opening_stands options lawful)
+      (sym ((λ i. shown (first-world i) no_sums options (none i)) ∙ opening-shown options limit lawful.segment_aligned))
+      (opening_stands options lawful)
 
   -- what holds of no types and the first heap
   at-first : (P : List TypeRow → HeapView → Type 0) → P [] (heap.opening_heap options.segment limit)
@@ -68,12 +84,12 @@ module _ (w : World) (options : Options) (limit : ℕ) (lawful : AreLawfulOption
   at-first P first = subst (λ (v : World). P v.rows v.heap) (sym first-world) first
 
   -- and what holds of every runtime holds of it
-  pub new_shown : IsShown w no_sums options
+  pub new_shown : IsShown w no_sums options threads
   new_shown = record {
     locals = ap length is.locals ∙ length-replicate {A = ℕ} 1024 0;
     held = at-first IsHeld (held_at_start [] options.segment limit lawful.segment_aligned);
     unmarked = at-first IsUnmarked (unmarked_at_start [] options.segment limit lawful.segment_aligned);
     free_heads = at-first AreFreeHeads (heads_at_start [] options.segment limit lawful.segment_aligned);
     clean = at-first AreClean (clean_at_start [] options.segment limit lawful.segment_aligned);
-    sound = seen_sound (shown w no_sums options) (opening options) new_stands;
+    sound = seen_sound (shown w no_sums options threads) (opening options) new_stands;
   }

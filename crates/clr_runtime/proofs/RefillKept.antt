@@ -7,8 +7,9 @@ use Rattle.std.proofs.lemmas.Bool.{le-leb, lt-leb}
 use Rattle.clr_types.specs.Ranges.{IsLawfulSize, Piece}
 use Rattle.clr_heap.specs.View.{HeapView, IsHeap}
 use Rattle.clr_ctx.specs.Contexts.{IsIndex}
-use Rattle.clr_view.specs.Shown.{shown}
-use Rattle.clr_view.specs.View.{HasRefilled, layout_in}
+use Rattle.clr_safe.specs.Threads.{Threads}
+use Rattle.clr_runtime.specs.Shown.{shown}
+use Rattle.clr_view.specs.View.{HasRefilled, layout_in, objects_in}
 use Rattle.clr_view.specs.World.{World}
 use Rattle.clr_view.proofs.Unmarked.{unmarked_kept}
 use Rattle.clr_generations.proofs.KeptTables.{tables-refilled}
@@ -24,6 +25,7 @@ use Rattle.clr_runtime.specs.Rooms.{HasNewContext, IsRefill, IsRefillInBudget}
 use Rattle.clr_runtime.specs.RuntimeView.{IsRuntime, IsShown, seen}
 use Rattle.clr_runtime.specs.declared.parts.Parts.{Parts}
 use Rattle.clr_runtime.proofs.IndexKept.{index_kept}
+use Rattle.clr_runtime.proofs.StepsKept.{stayed-same, tables-told}
 
 -- the numbers from 1 to 16 are threads
 pub thread-known : (t : ℕ) → 0 < t → t ≤ 16 → is_thread t ≡ true
@@ -41,28 +43,31 @@ thread-idle s t none = go s.steps (t - 1) (all_idle 1 s.steps none)
 
 -- ---- what is seen with a new context
 
-module _ {w : World} {sums : Sums} {options : Options} (is : IsShown w sums options) (t size : ℕ) (low : 0 < t)
-    (high : t ≤ 16) (sized : IsLawfulSize size) (mid : HeapView) (refilled : HasRefilled w.rows w.heap mid t size) where
+module _ {w : World} {sums : Sums} {options : Options} {threads : Threads} (is : IsShown w sums options threads)
+    (t size : ℕ) (low : 0 < t)
+    (high : t ≤ 16) (idle : is_step (step_of (shown w sums options threads) t) ≡ false) (sized : IsLawfulSize size)
+    (mid : HeapView) (refilled : HasRefilled w.rows w.heap mid t size) where
   abbrev s : Machine
-  s = shown w sums options
+  s = shown w sums options threads
 
   abbrev relaid : Machine
   relaid = with_layout s (layout_in w.rows mid)
 
-  relaid-shown : shown (record w { heap = mid }) sums options ≡ relaid
-  relaid-shown = λ k. record (shown (record w { heap = mid }) sums options) { objects = refilled.objects k }
+  relaid-shown : shown (record w { heap = mid }) sums options threads ≡ relaid
+  relaid-shown = λ k. record (shown (record w { heap = mid }) sums options threads) { objects = refilled.objects k }
 
   relaid-lawful : IsLawful relaid × (own_fits (layout_in w.rows mid) t size ≡ true)
   relaid-lawful =
-      refill_lawful s is.sound.lawful t (thread-known t low high) (thread-idle s t refl) size sized
+      refill_lawful s is.sound.lawful t (thread-known t low high) idle size sized
       (layout_in w.rows mid) refilled.layout
 
   -- it is the machine of before with that context
-  pub has_context : HasNewContext (shown w sums options) (shown (record w { heap = mid }) sums options) t size
+  pub has_context : HasNewContext (shown w sums options threads) (shown (record w { heap = mid }) sums options threads)
+      t size
   has_context = record { refilled = refilled.layout; same = relaid-shown; fits = relaid-lawful.1 }
 
   -- and what holds of the parts still holds
-  pub refill_kept : IsHeap w.heap → IsShown (record w { heap = mid }) sums options
+  pub refill_kept : IsHeap w.heap → IsShown (record w { heap = mid }) sums options threads
   refill_kept heap = record {
     locals = is.locals;
     held = refilled.held;
@@ -76,7 +81,8 @@ module _ {w : World} {sums : Sums} {options : Options} (is : IsShown w sums opti
 -- ---- what a refill answers
 
 module _ (p : Parts) (is : IsRuntime p) (heap : IsHeap p.heap) (t size : ℕ) (low : 0 < t) (high : t ≤ 16)
-    (sized : IsLawfulSize size) (mid : HeapView) (index : Option (List Piece)) where
+    (idle : is_step (step_of (seen p) t) ≡ false) (sized : IsLawfulSize size) (mid : HeapView)
+    (index : Option (List Piece)) where
   -- the parts with another heap and another index
   abbrev relaid_parts : Parts
   relaid_parts = record p { heap = mid; contexts = index }
@@ -92,10 +98,14 @@ module _ (p : Parts) (is : IsRuntime p) (heap : IsHeap p.heap) (t size : ℕ) (l
       let parts : relaid_parts ≡ p = λ k. record p { heap = same k; contexts = kept k } in
       ((full, parts), subst IsRuntime (sym parts) is)
   refill_answers (Some _) none refilled listed = (
-    has_context is.shown t size low high sized mid refilled,
+    has_context is.shown t size low high idle sized mid refilled,
     record {
-      shown = refill_kept is.shown t size low high sized mid refilled heap;
-      tables = tables-refilled p.cards p.bricks p.types p.heap mid t size refilled is.tables;
+      shown = refill_kept is.shown t size low high idle sized mid refilled heap;
+      tables = tables-told p.cards p.safe p.bricks p.types p.types p.heap mid
+          (stayed-same p.types (objects_in p.types p.heap) (objects_in p.types mid) refilled.objects)
+          (tables-refilled p.cards p.bricks p.types p.heap mid t size refilled is.tables);
+      owed = is.owed;
+      finalizers = is.finalizers;
       index = listed;
       large = index_kept large_items p.types p.types p.heap mid p.large
           (large_refilled (seen p) is.shown.sound.lawful t size (layout_in p.types mid) refilled.layout) is.large;

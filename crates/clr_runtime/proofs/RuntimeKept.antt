@@ -1,5 +1,6 @@
 -- What holds of the parts of a runtime, and what of them after a line.
-use Rattle.std.proofs.Common.{◌≡◌, ◌∙◌, ℕ, ◌+◌, ◌<◌, ◌≤◌, ◌^◌, List, length, slice_set, subst, sym, arith}
+use Rattle.std.proofs.Common.{◌≡◌, ◌∙◌, ℕ, ◌+◌, ◌<◌, ◌≤◌, ◌^◌, List, length, slice_set, subst, sym, arith, refl}
+use Rattle.std.proofs.Common.{Bool, true, false, if◌then◌else◌}
 use Rattle.std.specs.FinMap.{FinMap}
 use Rattle.std.specs.Ordering.{nat_cmp}
 use Rattle.clr_types.specs.declared.handle.Handle.{Handle}
@@ -8,7 +9,8 @@ use Rattle.clr_final.specs.Queues.{Queues}
 use Rattle.clr_heap.specs.View.{HeapView}
 use Rattle.clr_view.specs.Clean.{AreClean}
 use Rattle.clr_view.specs.Marks.{IsUnmarked}
-use Rattle.clr_view.specs.Shown.{shown}
+use Rattle.clr_safe.specs.Threads.{Threads}
+use Rattle.clr_runtime.specs.Shown.{shown}
 use Rattle.clr_view.specs.View.{AreFreeHeads, IsHeld}
 use Rattle.clr_view.specs.World.{World}
 use Rattle.clr_model.specs.Instructions.{Instruction}
@@ -20,9 +22,9 @@ use Rattle.clr_model.proofs.SeenStands.{follows_sound}
 use Rattle.clr_runtime.specs.RuntimeView.{IsRuntime, IsShown}
 use Rattle.clr_runtime.specs.declared.parts.Parts.{Parts}
 
-module _ {w : World} {sums : Sums} {options : Options} (is : IsShown w sums options) where
+module _ {w : World} {sums : Sums} {options : Options} {threads : Threads} (is : IsShown w sums options threads) where
   abbrev s : Machine
-  s = shown w sums options
+  s = shown w sums options threads
 
   -- the bytes that were born stay a word: they are within the limit
   pub spent_fits : (size : ℕ) → size < 85000 → sums.spent0 + size < 2 ^ 64
@@ -42,8 +44,8 @@ module _ {w : World} {sums : Sums} {options : Options} (is : IsShown w sums opti
   pub names_kept : (i : Instruction) (outcome : Outcome) (locals : List ℕ) (handles : FinMap nat_cmp Handle)
       (entries ready : List ℕ) → length locals ≡ 1024
       → Follows s i outcome
-      (shown (record w { locals = locals; handles = handles; entries = entries; ready = ready }) sums options)
-      → IsShown (record w { locals = locals; handles = handles; entries = entries; ready = ready }) sums options
+      (shown (record w { locals = locals; handles = handles; entries = entries; ready = ready }) sums options threads)
+      → IsShown (record w { locals = locals; handles = handles; entries = entries; ready = ready }) sums options threads
   names_kept i outcome locals handles entries ready count follows = record {
     locals = count;
     held = is.held;
@@ -55,8 +57,8 @@ module _ {w : World} {sums : Sums} {options : Options} (is : IsShown w sums opti
 
   -- a local was written
   pub local_kept : (i : Instruction) (outcome : Outcome) (j v : ℕ)
-      → Follows s i outcome (shown (record w { locals = slice_set w.locals j v }) sums options)
-      → IsShown (record w { locals = slice_set w.locals j v }) sums options
+      → Follows s i outcome (shown (record w { locals = slice_set w.locals j v }) sums options threads)
+      → IsShown (record w { locals = slice_set w.locals j v }) sums options threads
   local_kept i outcome j v =
       names_kept i outcome (slice_set w.locals j v) w.handles w.entries w.ready
       (length-slice_set w.locals j v ∙ is.locals)
@@ -66,41 +68,49 @@ module _ {w : World} {sums : Sums} {options : Options} (is : IsShown w sums opti
     same-world : w ≡ record w { entries = entries; ready = ready }
     same-world = λ k. record w { entries = sym same k; ready = sym waiting k }
 
-    pub room_follows : (i : Instruction) (outcome : Outcome) → Follows s i outcome (shown w sums options)
-        → Follows s i outcome (shown (record w { entries = entries; ready = ready }) sums options)
-    room_follows i outcome = subst (λ (v : World). Follows s i outcome (shown v sums options)) same-world
+    pub room_follows : (i : Instruction) (outcome : Outcome) → Follows s i outcome (shown w sums options threads)
+        → Follows s i outcome (shown (record w { entries = entries; ready = ready }) sums options threads)
+    room_follows i outcome = subst (λ (v : World). Follows s i outcome (shown v sums options threads)) same-world
 
     -- a line that goes on from there goes on from before
     pub follows_reserved : (i : Instruction) (outcome : Outcome) (new : Machine)
-        → Follows (shown (record w { entries = entries; ready = ready }) sums options) i outcome new
-        → Follows (shown w sums options) i outcome new
+        → Follows (shown (record w { entries = entries; ready = ready }) sums options threads) i outcome new
+        → Follows (shown w sums options threads) i outcome new
     follows_reserved i outcome new =
-        subst (λ (v : World). Follows (shown v sums options) i outcome new) (sym same-world)
+        subst (λ (v : World). Follows (shown v sums options threads) i outcome new) (sym same-world)
 
-    pub room_kept : IsShown (record w { entries = entries; ready = ready }) sums options
-    room_kept = subst (λ (v : World). IsShown v sums options) same-world is
+    pub room_kept : IsShown (record w { entries = entries; ready = ready }) sums options threads
+    room_kept = subst (λ (v : World). IsShown v sums options threads) same-world is
 
   -- words of objects were written
   pub heap_kept : (i : Instruction) (outcome : Outcome) (new : HeapView) → IsHeld w.rows new
       → (IsUnmarked w.rows w.heap → IsUnmarked w.rows new) → (AreFreeHeads w.rows w.heap → AreFreeHeads w.rows new)
       → (AreClean w.rows w.heap → AreClean w.rows new)
-      → Follows s i outcome (shown (record w { heap = new }) sums options)
-      → IsShown (record w { heap = new }) sums options
+      → Follows s i outcome (shown (record w { heap = new }) sums options threads)
+      → IsShown (record w { heap = new }) sums options threads
   heap_kept i outcome new held unmarked heads clean follows = record {
     locals = is.locals;
     held = held;
     unmarked = unmarked is.unmarked;
     free_heads = heads is.free_heads;
     clean = clean is.clean;
-    sound = follows_sound s i outcome (shown (record w { heap = new }) sums options) is.sound follows;
+    sound = follows_sound s i outcome (shown (record w { heap = new }) sums options threads) is.sound follows;
   }
+
+-- There is still room for the entries that are owed, where there was one more for the one that was taken.
+pub owed_left : (wanted : Bool) (owed spare left : ℕ) → (wanted ≡ true → owed + 1 ≤ spare) → owed ≤ spare
+    → left + (if wanted then 1 else 0) ≡ spare → owed ≤ left
+owed_left true owed spare left more within taken = let entry = more refl in omega (arith, entry, taken)
+owed_left false owed spare left more within taken = omega (arith, within, taken)
 
 -- room was made for entries in the finalisation queue of a runtime
 pub reserved_kept : (p : Parts) (finals : Queues) → finals.entries ≡ p.finals.entries → finals.ready ≡ p.finals.ready
-    → IsRuntime p → IsRuntime (record p { finals = finals })
-reserved_kept p finals same waiting is = record {
+    → p.finals.spare ≤ finals.spare → IsRuntime p → IsRuntime (record p { finals = finals })
+reserved_kept p finals same waiting more is = record {
   shown = room_kept is.shown finals.entries finals.ready same waiting;
   tables = is.tables;
+  owed = let owed = is.owed in omega (arith, owed, more);
+  finalizers = is.finalizers;
   index = is.index;
   large = is.large;
   limit = is.limit;

@@ -28,6 +28,7 @@ use Rattle.clr_runtime.specs.Rooms.{HasNewContext, IsRefill, IsSealedRefill, IsS
 use Rattle.clr_runtime.specs.RuntimeView.{IsRuntime, seen}
 use Rattle.clr_runtime.specs.declared.parts.Parts.{Parts}
 use Rattle.clr_runtime.proofs.IndexKept.{index_kept}
+use Rattle.clr_runtime.proofs.StepsKept.{tables-carded}
 
 -- the new segment is the ephemeral one
 ephemeral-sealed : (layout : Layout) (size : ℕ)
@@ -89,7 +90,9 @@ module _ (p : Parts) (is : IsRuntime p) (bare : p.heap.rests ≡ no_rests)
       clean = clean is.shown.clean;
       sound = sealed-sound;
     };
-    tables = tables;
+    tables = tables-carded cards p.safe bricks p.types new tables;
+    owed = is.owed;
+    finalizers = is.finalizers;
     index = sym (none_young p.types new heap held young-at_end);
     large = index_kept large_items p.types p.types p.heap new p.large
         (ap large_items layout ∙ large_sealed (layout_in p.types p.heap) p.options.segment) is.large;

@@ -6,7 +6,8 @@ use Rattle.clr_types.specs.Types.{form_at}
 use Rattle.clr_types.specs.declared.item.Item.{Item}
 use Rattle.clr_types.specs.declared.shape.Slot.{Slot}
 use Rattle.clr_heap.specs.View.{HeapView, word_of}
-use Rattle.clr_view.specs.Shown.{shown}
+use Rattle.clr_safe.specs.Threads.{Threads}
+use Rattle.clr_runtime.specs.Shown.{shown}
 use Rattle.clr_view.specs.View.{HasStored, object_in, word_value}
 use Rattle.clr_view.specs.World.{World}
 use Rattle.clr_view.proofs.SlotReads.{slot-kind}
@@ -31,24 +32,24 @@ use Rattle.clr_runtime.proofs.SlotsChecked.{slot_refused, works}
 value-of : (b : Bool) (v : ℕ) (kind : Bool) → b ≡ kind → word_value b v ≡ word_value kind v
 value-of b v kind e = ap (λ k. word_value k v) e
 
-module _ (w : World) (sums : Sums) (options : Options) where
+module _ (w : World) (sums : Sums) (options : Options) (threads : Threads) where
   abbrev s : Machine
-  s = shown w sums options
+  s = shown w sums options threads
 
   -- the line is refused for the first check on the object and the slot that fails
   pub refused_slot : (l : SlotLine) (place : ℕ) → names_refusal s l.thread l.locals ≡ None
       → place ≡ local_of s l.thread l.object → (r : Refusal) → IsFound w.rows w.heap place l.index l.wants (Err r)
       → Follows s l.instruction (refused r) s
   refused_slot l place passed at r fails =
-      let (run, locals) = names_passed s l.thread l.locals refl passed in
+      let (run, locals) = names_passed s l.thread l.locals passed in
       slot_refused w.rows w.heap s refl l run locals place at r fails
 
   module _ (t place index : ℕ) (i : Item) (slot : Slot) (has : HasItsSlot w.rows w.heap place index i slot) where
     -- the line works on the object that has the slot
-    on : (l : SlotLine) → names_refusal s l.thread l.locals ≡ None → place ≡ local_of s l.thread l.object
+    pub on : (l : SlotLine) → names_refusal s l.thread l.locals ≡ None → place ≡ local_of s l.thread l.object
         → WorksOn s l (object_in w.rows (word_of w.heap) i)
     on l passed at =
-        let (run, locals) = names_passed s l.thread l.locals refl passed in
+        let (run, locals) = names_passed s l.thread l.locals passed in
         works w.rows w.heap s refl l run locals place at i has.some has.object
 
     -- `get`
@@ -57,7 +58,7 @@ module _ (w : World) (sums : Sums) (options : Options) where
         → slice_get (object_in w.rows (word_of w.heap) i).slots index ≡ Some (word_value slot.reference v)
         → j ≡ local_index t to
         → Follows s (get_slot t to from index) (answered (Place v))
-        (shown (record w { locals = slice_set w.locals j v }) sums options)
+        (shown (record w { locals = slice_set w.locals j v }) sums options threads)
     got to from j v passed at kind e written =
         local_written s (get_slot t to from index) (answered (Place v)) t to v j written
         (get_done s t to from index (object_in w.rows (word_of w.heap) i) (on (get_of t to from index) passed at) v
@@ -76,7 +77,7 @@ module _ (w : World) (sums : Sums) (options : Options) where
     -- ---- stores
 
     -- the slot is of this kind, whatever it holds
-    kind-held : (kind : Bool) → slot.reference ≡ kind
+    pub kind-held : (kind : Bool) → slot.reference ≡ kind
         → (v : ℕ) × (slice_get (object_in w.rows (word_of w.heap) i).slots index ≡ Some (word_value kind v))
     kind-held kind e =
         let (v, held) = slot-kind w.rows (word_of w.heap) i index slot has.slot in
@@ -84,14 +85,14 @@ module _ (w : World) (sums : Sums) (options : Options) where
 
     module _ (new : HeapView) where
       -- the machine that the heap shows, with another value in the slot
-      stored-shown : (name v : ℕ) (kind : Bool) → i.place ≡ name → slot.reference ≡ kind
+      pub stored-shown : (name v : ℕ) (kind : Bool) → i.place ≡ name → slot.reference ≡ kind
           → HasStored w.rows w.heap new i.place index (word_value slot.reference v)
-          → with_slot s name index (word_value kind v) ≡ shown (record w { heap = new }) sums options
+          → with_slot s name index (word_value kind v) ≡ shown (record w { heap = new }) sums options threads
       stored-shown name v kind there is stored =
           let objects = stored.objects in
           let layout = stored.layout in
           (λ k. with_slot s (sym there k) index (sym (value-of slot.reference v kind is) k))
-          ∙ (λ k. record (shown (record w { heap = new }) sums options) {
+          ∙ (λ k. record (shown (record w { heap = new }) sums options threads) {
             objects = sym objects k;
             layout = sym layout k;
           })
@@ -100,11 +101,12 @@ module _ (w : World) (sums : Sums) (options : Options) where
       pub was_set : (into from v : ℕ) → names_refusal s t (into ∷ from ∷ []) ≡ None → place ≡ local_of s t into
           → v ≡ local_of s t from → slot.reference ≡ true
           → HasStored w.rows w.heap new i.place index (word_value slot.reference v)
-          → Follows s (set_slot t into index from) (answered Done) (shown (record w { heap = new }) sums options)
+          → Follows s (set_slot t into index from) (answered Done)
+          (shown (record w { heap = new }) sums options threads)
       was_set into from v passed at is kind stored =
           let (name, held) = kind-held true kind in
           let after : with_slot s (local_of s t into) index (ref (local_of s t from))
-          ≡ shown (record w { heap = new }) sums options =
+          ≡ shown (record w { heap = new }) sums options threads =
           ap (λ n. with_slot s (local_of s t into) index (ref n)) (sym is)
           ∙ stored-shown (local_of s t into) v true (has.object.at ∙ at) kind stored in
           subst (Follows s (set_slot t into index from) (answered Done)) after
@@ -115,11 +117,12 @@ module _ (w : World) (sums : Sums) (options : Options) where
       pub was_put : (into value number : ℕ) → value < 2 ^ 64 → names_refusal s t (into ∷ into ∷ []) ≡ None
           → place ≡ local_of s t into → number ≡ stored_number (form_at w.rows i.type_id.0) value
           → slot.reference ≡ false → HasStored w.rows w.heap new i.place index (word_value slot.reference number)
-          → Follows s (put_number t into index value) (answered Done) (shown (record w { heap = new }) sums options)
+          → Follows s (put_number t into index value) (answered Done)
+          (shown (record w { heap = new }) sums options threads)
       was_put into value number word passed at is kind stored =
           let (old, held) = kind-held false kind in
           let after : with_slot s (local_of s t into) index (num (stored_number (form_at w.rows i.type_id.0) value))
-          ≡ shown (record w { heap = new }) sums options =
+          ≡ shown (record w { heap = new }) sums options threads =
           ap (λ n. with_slot s (local_of s t into) index (num n)) (sym is)
           ∙ stored-shown (local_of s t into) number false (has.object.at ∙ at) kind stored in
           subst (Follows s (put_number t into index value) (answered Done)) after

@@ -6,7 +6,8 @@ use Rattle.clr_types.specs.Types.{TypeRow, Form, is_lawful_form, mt_of, number_w
 use Rattle.clr_types.specs.declared.TypeId.{TypeId}
 use Rattle.clr_types.specs.declared.fault.DefineFault.{DefineFault}
 use Rattle.clr_types.specs.declared.fault.DefineFault.TheVariants as fault
-use Rattle.clr_view.specs.Shown.{shown}
+use Rattle.clr_safe.specs.Threads.{Threads}
+use Rattle.clr_runtime.specs.Shown.{shown}
 use Rattle.clr_view.specs.View.{IsHeld}
 use Rattle.clr_view.specs.World.{World}
 use Rattle.clr_view.proofs.CleanWords.{clean_with_type}
@@ -31,13 +32,13 @@ use Rattle.clr_runtime.specs.RuntimeView.{IsShown}
 -- ---- a type more
 
 -- the machine that is shown has the type, too
-shown-defined : (w : World) (row : TypeRow) (sums : Sums) (options : Options) → IsHeld w.rows w.heap
-    → shown (record w { rows = w.rows ++ row ∷ [] }) sums options
-    ≡ with_type (shown w sums options) row.name row.form row.finalizer
-shown-defined w row sums options held =
+shown-defined : (w : World) (row : TypeRow) (sums : Sums) (options : Options) (threads : Threads) → IsHeld w.rows w.heap
+    → shown (record w { rows = w.rows ++ row ∷ [] }) sums options threads
+    ≡ with_type (shown w sums options threads) row.name row.form row.finalizer
+shown-defined w row sums options threads held =
     let objects = objects_with_type w.rows row w.heap held.walkable in
     let layout = layout_with_type w.rows row w.heap held.walkable in
-    λ i. record (shown w sums options) {
+    λ i. record (shown w sums options threads) {
       types = w.rows ++ row ∷ [];
       objects = objects i;
       layout = layout i;
@@ -61,12 +62,13 @@ true_is : (b : Bool) → (b ≡ false → ⊥) → b ≡ true
 true_is true h = refl
 true_is false h = absurd (h refl)
 
-module _ (w : World) (sums : Sums) (options : Options) (name : List ℕ) (form : Form) (finalizer : Bool) where
+module _ (w : World) (sums : Sums) (options : Options) (threads : Threads) (name : List ℕ) (form : Form)
+    (finalizer : Bool) where
   abbrev rows : List TypeRow
   rows = w.rows
 
   abbrev before : Machine
-  before = shown w sums options
+  before = shown w sums options threads
 
   room_in : (m : Machine) → StandsFor before m → length rows ≤ 1000
   room_in m stands =
@@ -76,11 +78,11 @@ module _ (w : World) (sums : Sums) (options : Options) (name : List ℕ) (form :
   -- the type is defined
   pub defined_follows : IsHeld rows w.heap → is_name name ≡ true → IsOpenTo rows name form finalizer
       → Follows before (define_type name form finalizer) (answered (Mt (mt_of (length rows + 1))))
-      (shown (record w { rows = rows ++ new_row name form finalizer ∷ [] }) sums options)
+      (shown (record w { rows = rows ++ new_row name form finalizer ∷ [] }) sums options threads)
   defined_follows held spelled open_to =
       let unknown = none_is (number_with_free rows name) open_to.name_free in
       let lawful = true_is (is_lawful_form form finalizer) (open_to.form_lawful unknown) in
-      let new_is = shown-defined w (new_row name form finalizer) sums options held in
+      let new_is = shown-defined w (new_row name form finalizer) sums options threads held in
       subst (Follows before (define_type name form finalizer) (answered (Mt (mt_of (length rows + 1))))) (sym new_is)
       (follows before (define_type name form finalizer) _ _ (λ m stands.
       let few = room_in m stands in
@@ -159,42 +161,43 @@ module _ (rows : List TypeRow) (name : List ℕ) (form : Form) (finalizer : Bool
 -- ---- what is seen
 
 module _ (w : World) (name : List ℕ) (form : Form) (finalizer : Bool) (result : Result TypeId DefineFault)
-    (told : IsTold w.rows name form finalizer result) (sums : Sums) (options : Options) where
+    (told : IsTold w.rows name form finalizer result) (sums : Sums) (options : Options) (threads : Threads) where
   abbrev shown_before : Machine
-  shown_before = shown w sums options
+  shown_before = shown w sums options threads
 
   -- a type that was defined
   pub told-ok : is_name name ≡ true → (t : TypeId) → result ≡ Ok t → IsHeld w.rows w.heap
       → Follows shown_before (define_type name form finalizer) (answered (Mt (mt_of (length w.rows + 1))))
-      (shown (record w { rows = w.rows ++ new_row name form finalizer ∷ [] }) sums options)
+      (shown (record w { rows = w.rows ++ new_row name form finalizer ∷ [] }) sums options threads)
   told-ok spelled t ok held =
-      defined_follows w sums options name form finalizer held spelled
+      defined_follows w sums options threads name form finalizer held spelled
       (open-ok w.rows name form finalizer result told t ok)
 
   -- and one that was refused
   pub told-err : (f : DefineFault) → result ≡ Err f
       → Follows shown_before (define_type name form finalizer) (refused (refusal_of_fault f)) shown_before
-  told-err fault.Duplicate err = name_follows w sums options name form finalizer (told.duplicate.0 err)
-  told-err fault.BadShape err = form_follows w sums options name form finalizer (told.bad_shape.0 err)
-  told-err fault.TooManyTypes err = count_follows w sums options name form finalizer (told.too_many.0 err)
+  told-err fault.Duplicate err = name_follows w sums options threads name form finalizer (told.duplicate.0 err)
+  told-err fault.BadShape err = form_follows w sums options threads name form finalizer (told.bad_shape.0 err)
+  told-err fault.TooManyTypes err = count_follows w sums options threads name form finalizer (told.too_many.0 err)
   told-err fault.NoMemory err =
-      lacks_follows w sums options name form finalizer (open-lack w.rows name form finalizer result told err)
+      lacks_follows w sums options threads name form finalizer (open-lack w.rows name form finalizer result told err)
 
 -- what holds of the parts of a runtime holds of them after a definition, whether it was refused or not
-pub defined_kept : (w : World) (after : List TypeRow) (sums : Sums) (options : Options) (name : List ℕ) (form : Form)
-    (finalizer : Bool) (result : Result TypeId DefineFault) → IsShown w sums options → is_name name ≡ true
+pub defined_kept : (w : World) (after : List TypeRow) (sums : Sums) (options : Options) (threads : Threads)
+    (name : List ℕ) (form : Form)
+    (finalizer : Bool) (result : Result TypeId DefineFault) → IsShown w sums options threads → is_name name ≡ true
     → OnOk result (after ≡ w.rows ++ new_row name form finalizer ∷ []) → OnErr result (after ≡ w.rows)
-    → IsTold w.rows name form finalizer result → IsShown (record w { rows = after }) sums options
-defined_kept w after sums options name form finalizer (Ok t) is spelled grown kept told =
+    → IsTold w.rows name form finalizer result → IsShown (record w { rows = after }) sums options threads
+defined_kept w after sums options threads name form finalizer (Ok t) is spelled grown kept told =
     let row = new_row name form finalizer in
-    subst (λ (rs : List TypeRow). IsShown (record w { rows = rs }) sums options) (sym grown) (record {
+    subst (λ (rs : List TypeRow). IsShown (record w { rows = rs }) sums options threads) (sym grown) (record {
       locals = is.locals;
       held = held_with_type w.rows row w.heap is.held;
       unmarked = unmarked_with_type w.rows row w.heap is.held is.unmarked;
       free_heads = heads_with_type w.rows row w.heap is.held is.free_heads;
       clean = clean_with_type w.rows row w.heap is.held is.clean;
       sound = follows_sound _ _ _ _ is.sound
-          (told-ok w name form finalizer (Ok t) told sums options spelled t refl is.held);
+          (told-ok w name form finalizer (Ok t) told sums options threads spelled t refl is.held);
     })
-defined_kept w after sums options name form finalizer (Err f) is spelled grown kept told =
-    subst (λ (rs : List TypeRow). IsShown (record w { rows = rs }) sums options) (sym kept) is
+defined_kept w after sums options threads name form finalizer (Err f) is spelled grown kept told =
+    subst (λ (rs : List TypeRow). IsShown (record w { rows = rs }) sums options threads) (sym kept) is

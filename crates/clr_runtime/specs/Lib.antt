@@ -1,4 +1,5 @@
 pub mod Options
+pub mod Shown
 pub mod RuntimeView
 pub mod Outcomes
 pub mod Checks
@@ -7,3 +8,4 @@ pub mod Rooms
 pub mod LargeRooms
 pub mod Slots
 pub mod Handles
+pub mod Steps

@@ -8,9 +8,10 @@ use Rattle.clr_types.specs.declared.fault.DefineFault.{DefineFault}
 use Rattle.clr_types.specs.declared.fault.DefineFault.TheVariants as fault
 use Rattle.clr_handles.specs.declared.fault.CreateFault.{CreateFault}
 use Rattle.clr_handles.specs.declared.fault.CreateFault.TheVariants as creation
-use Rattle.clr_heap.specs.declared.heap.segments.AcquireFault.{AcquireFault}
 use Rattle.clr_heap.specs.declared.heap.segments.AcquireFault.TheVariants as acquisition
 use Rattle.clr_model.specs.Outcomes as model
+use Rattle.clr_runtime.specs.declared.rooms.NoRoom.{NoRoom}
+use Rattle.clr_runtime.specs.declared.rooms.NoRoom.TheVariants as room
 
 -- what a call tells that gives a method table word
 abbrev pub mt_outcome : Result ℕ Refusal → model.Outcome
@@ -54,7 +55,8 @@ abbrev pub refusal_of_create : CreateFault → Refusal
 refusal_of_create creation.TooManyHandles = refusal.TooManyHandles
 refusal_of_create creation.NoMemory = refusal.NoMemory
 
--- how it is told that there is no room for an object, and no segment was acquired
-abbrev pub refusal_of_acquire : AcquireFault → Refusal
-refusal_of_acquire acquisition.OverLimit = refusal.Oom
-refusal_of_acquire acquisition.NoMemory = refusal.NoMemory
+-- how it is told that there is no room for an object: a thread is waited for, or no segment was acquired
+abbrev pub refusal_of_room : NoRoom → Refusal
+refusal_of_room (room.Wait k) = refusal.Wait k
+refusal_of_room (room.Acquire acquisition.OverLimit) = refusal.Oom
+refusal_of_room (room.Acquire acquisition.NoMemory) = refusal.NoMemory

@@ -3,9 +3,11 @@ use Rattle.std.specs.Prelude.{◌≡◌, ◌+◌, ◌&&◌, ℕ, Bool, true, fal
 use Rattle.clr_heap.specs.declared.heap.segments.AcquireFault.{AcquireFault}
 use Rattle.clr_heap.specs.declared.heap.segments.AcquireFault.TheVariants.{NoMemory, OverLimit}
 use Rattle.clr_model.specs.Allocation.{allows, Attempt, has_room, IsRefilled, out_of_memory, out_of_room, own_fits}
-use Rattle.clr_model.specs.Allocation.{roomed, sealed, with_layout}
+use Rattle.clr_model.specs.Allocation.{roomed, sealed, waits, with_layout}
 use Rattle.clr_model.specs.Machine.{Machine}
 use Rattle.clr_runtime.specs.RuntimeView.{seen}
+use Rattle.clr_runtime.specs.declared.rooms.NoRoom.{NoRoom}
+use Rattle.clr_runtime.specs.declared.rooms.NoRoom.TheVariants.{Acquire, Wait}
 use Rattle.clr_runtime.specs.declared.parts.Parts.{Parts}
 
 -- The old machine with a new context for the thread, in which the size fits.
@@ -55,8 +57,9 @@ IsSealedRefill old new t size (Err NoMemory) = (allows_segment old ≡ true) × 
 
 -- ---- the ladder
 
--- what the ladder comes to, by the fault of its last step
-abbrev pub attempt_of : Result (Unit {0}) AcquireFault → Attempt
+-- what the ladder comes to
+abbrev pub attempt_of : Result (Unit {0}) NoRoom → Attempt
 attempt_of (Ok done) = roomed
-attempt_of (Err OverLimit) = out_of_room
-attempt_of (Err NoMemory) = out_of_memory
+attempt_of (Err (Wait k)) = waits k
+attempt_of (Err (Acquire OverLimit)) = out_of_room
+attempt_of (Err (Acquire NoMemory)) = out_of_memory

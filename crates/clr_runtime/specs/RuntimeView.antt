@@ -1,15 +1,24 @@
 -- What holds of the parts of a runtime, and the machine that they show.
-use Rattle.std.specs.Prelude.{◌≡◌, ℕ, ◌+◌, ◌≤◌, ◌==◌, if◌then◌else◌, length, []}
+use Rattle.std.specs.Prelude.{◌≡◌, ℕ, ◌+◌, ◌/◌, ◌≤◌, ◌==◌, if◌then◌else◌, length, List, [], true, ◌⊎◌}
+use Rattle.std.specs.List.{AllByRecursion}
+use Rattle.clr_types.specs.Rising.{IsIn}
+use Rattle.clr_types.specs.Types.{form_at, has_finalizer, slot_offset, type_row, TypeRow}
+use Rattle.clr_covers.specs.Covers.{CoverView}
+use Rattle.clr_cards.specs.Cards.{is_card_set}
+use Rattle.clr_heap.specs.View.{HeapView}
 use Rattle.clr_handles.specs.Tops.{pinned_in}
 use Rattle.clr_view.specs.Clean.{AreClean}
 use Rattle.clr_view.specs.Marks.{IsUnmarked}
-use Rattle.clr_view.specs.Shown.{shown}
-use Rattle.clr_view.specs.View.{AreFreeHeads, IsHeld}
+use Rattle.clr_runtime.specs.Shown.{shown}
+use Rattle.clr_view.specs.View.{AreFreeHeads, IsHeld, objects_in}
 use Rattle.clr_view.specs.World.{World}
-use Rattle.clr_model.specs.Machine.{Machine, Options, Sums}
+use Rattle.clr_model.specs.Machine.{begun_store, Machine, Object, Options, Sums, ThreadStep}
 use Rattle.clr_model.specs.Lawful.{IsPlaceNamed}
 use Rattle.clr_ctx.specs.Contexts.{IsIndex}
-use Rattle.clr_generations.specs.Tables.{AreTablesOf}
+use Rattle.clr_generations.specs.Tables.{AreTablesBy}
+use Rattle.clr_safe.specs.Threads.{births_owed, steps_of, Threads}
+use Rattle.clr_safe.specs.declared.begun.Begun.{Begun}
+use Rattle.clr_safe.specs.declared.begun.Begun.TheVariants.{Birth, Nothing, Store}
 use Rattle.clr_large.specs.Places.{IsLargeIndex}
 use Rattle.clr_runtime.specs.Options.{options_of}
 use Rattle.clr_runtime.specs.declared.parts.Parts.{Parts}
@@ -44,24 +53,46 @@ world_of r = record {
 }
 
 abbrev pub seen : Parts → Machine
-seen r = shown (world_of r) (sums_of r.sums) (options_of r.options)
+seen r = shown (world_of r) (sums_of r.sums) (options_of r.options) r.safe
 
 -- What holds of the parts of a runtime. What is seen is lawful, and its objects are named by their places. Between
 -- lines no object is marked, and no free item's head is. The headers and the padding of objects say nothing else.
-pub record IsShown (w : World) (sums : Sums) (options : Options) : Type 0 where
+pub record IsShown (w : World) (sums : Sums) (options : Options) (threads : Threads) : Type 0 where
   pub locals : length w.locals ≡ 1024
   pub held : IsHeld w.rows w.heap
   pub unmarked : IsUnmarked w.rows w.heap
   pub free_heads : AreFreeHeads w.rows w.heap
   pub clean : AreClean w.rows w.heap
-  pub sound : IsPlaceNamed (shown w sums options)
+  pub sound : IsPlaceNamed (shown w sums options threads)
 
--- what holds of each runtime: that, its cards and bricks are those of its heap, its contexts and its large items keep
--- the indexes of this heap, and segments are limited as the options say. No words are saved, and there is room for what
--- a collection saves.
+-- a thread has begun a store into the slot at this address of one of the objects
+pub record IsBegunStore (rows : List TypeRow) (objects : List Object) (steps : List ThreadStep) (a : ℕ) : Type 0 where
+  pub object : Object
+  pub present : IsIn object objects
+  pub slot : ℕ
+  pub begun : IsIn (begun_store object.name slot) steps
+  pub address : a ≡ object.place + slot_offset (form_at rows object.type) slot
+
+-- the card of the address is set, or the step is still to set it
+abbrev pub IsToldBy : List TypeRow → HeapView → List (CoverView ℕ) → Threads → ℕ → Type 0
+IsToldBy rows h cards threads a =
+    (is_card_set cards (a / 2048) ≡ true) ⊎ IsBegunStore rows (objects_in rows h) (steps_of threads) a
+
+-- what is begun tells of an object whether its type has a finaliser
+abbrev pub TellsFinalizer : List TypeRow → Begun → Type 0
+TellsFinalizer rows Nothing = Unit {0}
+TellsFinalizer rows (Store object slot) = Unit {0}
+TellsFinalizer rows (Birth type len local finalizer) = finalizer ≡ has_finalizer (type_row rows type.0)
+
+-- What holds of each runtime: that, its cards and bricks are those of its heap, its contexts and its large items keep
+-- the indexes of this heap, and segments are limited as the options say. Cards tell all references to younger objects
+-- but those of begun stores. There is room for the finalisation entries of the objects that are begun. No words are
+-- saved, and there is room for what a collection saves.
 pub record IsRuntime (r : Parts) : Type 0 where
-  pub shown : IsShown (world_of r) (sums_of r.sums) (options_of r.options)
-  pub tables : AreTablesOf r.types r.heap r.cards r.bricks
+  pub shown : IsShown (world_of r) (sums_of r.sums) (options_of r.options) r.safe
+  pub tables : AreTablesBy r.types r.heap r.cards r.bricks (IsToldBy r.types r.heap r.cards r.safe)
+  pub owed : births_owed r.safe ≤ r.finals.spare
+  pub finalizers : AllByRecursion (TellsFinalizer r.types) r.safe.begun
   pub index : IsIndex r.types r.heap r.contexts
   pub large : IsLargeIndex r.types r.heap r.large
   pub limit : r.heap.limit ≡ r.options.limit

@@ -1,15 +1,16 @@
 //! The line that makes an object.
-ghost use Rattle.std.specs.Prelude.{◌≡◌, ◌<◌, ◌≤◌, ◌++◌, [], ◌∷◌, None, OnErr, OnOk, true, if◌then◌else◌};
+ghost use Rattle.std.specs.Prelude.{◌≡◌, ◌+◌, ◌<◌, ◌≤◌, ◌++◌, [], ◌∷◌, None, OnErr, OnOk, true, if◌then◌else◌};
+ghost use Rattle.clr_safe.specs.Threads.{births_owed};
 ghost use Rattle.clr_runtime.specs.Births.{FollowsAsked, IsAsked, IsDefined, Measured};
 ghost use Rattle.clr_runtime.specs.Checks.{thread_refusal};
-ghost use Rattle.clr_runtime.specs.Outcomes.{refusal_of_acquire};
+ghost use Rattle.clr_runtime.specs.Outcomes.{refusal_of_room};
 ghost use Rattle.clr_runtime.specs.RuntimeView.{IsRuntime, seen};
 
 use crate::NoMemory;
 use crate::checks::index_of;
 use crate::large::make_large_room;
 use crate::parts::Parts;
-use crate::rooms::make_room;
+use crate::rooms::{NoRoom, make_room};
 use crate::runtime::{LOCALS_OF_A_THREAD, Runtime};
 use clr_final::Finals;
 use clr_generations::bear;
@@ -18,16 +19,16 @@ use clr_model::Refusal;
 use clr_types::{TypeId, Types};
 
 /// Objects of this many bytes and more are large.
-const LARGE: u64 = 85_000;
+pub(crate) const LARGE: u64 = 85_000;
 
 /// What a line that makes an object asks for: its type and, where that is an array, how many elements; its bytes, and
 /// whether it is to be finalised.
 #[derive(Clone, Copy)]
 pub struct Request {
-    type_id: TypeId,
-    len: u64,
-    size: u64,
-    finalizer: bool,
+    pub(crate) type_id: TypeId,
+    pub(crate) len: u64,
+    pub(crate) size: u64,
+    pub(crate) finalizer: bool,
 }
 
 impl Runtime {
@@ -39,8 +40,9 @@ impl Runtime {
     /// the local of thread `t` takes. Where the type has a finaliser, the object is put among those that are to be
     /// finalised.
     ///
-    /// It is refused for an unknown thread or type, a length that doesn't suit the type, a local from 64 on, and more
-    /// than 2^30 bytes, in this order; then with `NoMemory` where a finalisation entry is wanted and there is no
+    /// It is refused for an unknown thread, with `Blocked` where another thread holds all others, with `MidStep` where
+    /// the thread is in mid-step, for an unknown type, a length that doesn't suit the type, a local from 64 on, and
+    /// more than 2^30 bytes, in this order; then with `NoMemory` where a finalisation entry is wanted and there is no
     /// memory for it. Such a line changes nothing.
     ///
     /// An object of less than 85,000 bytes stands at the front of the context of its thread. Where that has no room,
@@ -52,16 +54,17 @@ impl Runtime {
     /// collection. Where there is none after that, the ephemeral segment is sealed: all in it is old from then on, and
     /// the new context is in a new segment.
     ///
-    /// A larger one stands in a large segment, at the lowest place at which it fits: the front of a free item, or the
-    /// bytes behind a segment's end. Where the bytes of large objects that were born since the last full collection
-    /// would pass the budget `bl` with it, or where there is no such place, the line makes a full collection, as the
-    /// option `compact` decides. Where there is none then, either, it makes a full compacting one. Where there is none
-    /// after that, the object stands in a new large segment, of the size that the options say, or of as many whole
-    /// pages as it takes behind the first, where these are more.
+    /// A larger one stands in a large segment, at a place at which it fits: the front of a free item, or the bytes
+    /// behind a segment's end. Where the bytes of large objects that were born since the last full collection would
+    /// pass the budget `bl` with it, or where there is no such place, the line makes a full collection, as the option
+    /// `compact` decides. Where there is none then, either, it makes a full compacting one. Where there is none after
+    /// that, the object stands in a new large segment, of the size that the options say, or of as many whole pages as
+    /// it takes behind the first, where these are more.
     ///
-    /// It is refused with `Oom` exactly where there is no room after the full compacting collection and the limit
-    /// allows no segment more, and with `NoMemory` also where it allows one and there is no memory for it. What the
-    /// collections left stays.
+    /// Where the line would collect and another thread is in mid-step, it is refused with `Wait` for the lowest of
+    /// these, and changes nothing. It is refused with `Oom` exactly where there is no room after the full compacting
+    /// collection and the limit allows no segment more, and with `NoMemory` also where it allows one and there is no
+    /// memory for it. What the collections left stays.
     pub fn new_object(
         &mut self,
         t: u64,
@@ -78,7 +81,8 @@ impl Runtime {
             Ok(request) => request,
             Err(refusal) => return Err(refusal),
         };
-        let Ok(()) = reserve_entry(&mut self.parts.finals, request.finalizer) else {
+        let owed = self.parts.safe.births_owed();
+        let Ok(()) = reserve_entry(&mut self.parts.finals, owed, request.finalizer) else {
             return Err(Refusal::NoMemory);
         };
         if request.size < LARGE {
@@ -94,14 +98,14 @@ fn make_small(parts: &mut Parts, t: u64, local: u64, request: Request) -> Result
     requires runtime { IsRuntime parts.old }
     requires passed { thread_refusal (seen parts.old) t ≡ None }
     requires asked { IsAsked parts.old.types local request }
-    requires entry { request.finalizer ≡ true → 1 ≤ parts.old.finals.spare }
+    requires entry { request.finalizer ≡ true → births_owed parts.old.safe + 1 ≤ parts.old.finals.spare }
     requires small { request.size < 85000 }
     ensures made { FollowsAsked parts.old parts.new t local request result }
     ensures runtime { IsRuntime parts.new }
 {
     let thread = t as usize;
-    if let Err(fault) = make_room(parts, thread, request.size) {
-        return Err(refusal_of(fault));
+    if let Err(why) = make_room(parts, thread, request.size) {
+        return Err(refusal_of(why));
     }
     let place = bear(
         &mut parts.heap,
@@ -123,13 +127,13 @@ fn make_large(parts: &mut Parts, t: u64, local: u64, request: Request) -> Result
     requires runtime { IsRuntime parts.old }
     requires passed { thread_refusal (seen parts.old) t ≡ None }
     requires asked { IsAsked parts.old.types local request }
-    requires entry { request.finalizer ≡ true → 1 ≤ parts.old.finals.spare }
+    requires entry { request.finalizer ≡ true → births_owed parts.old.safe + 1 ≤ parts.old.finals.spare }
     requires large { 85000 ≤ request.size }
     ensures made { FollowsAsked parts.old parts.new t local request result }
     ensures runtime { IsRuntime parts.new }
 {
-    if let Err(fault) = make_large_room(parts, request.size) {
-        return Err(refusal_of(fault));
+    if let Err(why) = make_large_room(parts, request.size) {
+        return Err(refusal_of(why));
     }
     let Some(place) = parts.large.bear(
         &mut parts.heap,
@@ -159,7 +163,12 @@ fn defined(types: &Types, name: &[u8]) -> Option<TypeId>
 }
 
 // What a line that makes an object asks for, or the first of the checks on it that fails.
-fn measure(types: &Types, local: u64, name: &[u8], len: Option<u64>) -> Result<Request, Refusal>
+pub(crate) fn measure(
+    types: &Types,
+    local: u64,
+    name: &[u8],
+    len: Option<u64>,
+) -> Result<Request, Refusal>
     ensures { Measured types.now local name.now len result }
 {
     let Some(type_id) = defined(types, name) else {
@@ -183,22 +192,29 @@ fn measure(types: &Types, local: u64, name: &[u8], len: Option<u64>) -> Result<R
     }
 }
 
-// Makes room for an entry, where one is wanted.
-fn reserve_entry(finals: &mut Finals, wanted: bool) -> Result<(), NoMemory>
-    ensures ok { OnOk result (wanted ≡ true → 1 ≤ finals.new.spare) }
+// Makes room for an entry beside those that are owed to objects that threads have begun, where one is wanted.
+pub(crate) fn reserve_entry(finals: &mut Finals, owed: usize, wanted: bool) -> Result<(), NoMemory>
+    requires few { owed ≤ 16 }
+    ensures ok { OnOk result (wanted ≡ true → owed + 1 ≤ finals.new.spare) }
     ensures err { OnErr result (wanted ≡ true) }
     ensures entries { finals.new.entries ≡ finals.old.entries }
     ensures ready { finals.new.ready ≡ finals.old.ready }
+    ensures spare { finals.old.spare ≤ finals.new.spare }
 {
-    if wanted { finals.reserve(1) } else { Ok(()) }
+    if wanted {
+        finals.reserve(owed + 1)
+    } else {
+        Ok(())
+    }
 }
 
 // Adds an entry for the object at a place, where one is wanted.
-fn register_entry(finals: &mut Finals, wanted: bool, place: u64)
+pub(crate) fn register_entry(finals: &mut Finals, wanted: bool, place: u64)
     requires { wanted ≡ true → 1 ≤ finals.old.spare }
     ensures entries { finals.new.entries
         ≡ (if wanted then finals.old.entries ++ place ∷ [] else finals.old.entries) }
     ensures ready { finals.new.ready ≡ finals.old.ready }
+    ensures spare { finals.new.spare + (if wanted then 1 else 0) ≡ finals.old.spare }
 {
     if wanted {
         finals.register(place);
@@ -206,11 +222,12 @@ fn register_entry(finals: &mut Finals, wanted: bool, place: u64)
 }
 
 // How it is told that there is no room for an object.
-fn refusal_of(fault: AcquireFault) -> Refusal
-    ensures { result ≡ refusal_of_acquire fault }
+pub(crate) fn refusal_of(why: NoRoom) -> Refusal
+    ensures { result ≡ refusal_of_room why }
 {
-    match fault {
-        AcquireFault::OverLimit => Refusal::Oom,
-        AcquireFault::NoMemory => Refusal::NoMemory,
+    match why {
+        NoRoom::Wait(k) => Refusal::Wait(k),
+        NoRoom::Acquire(AcquireFault::OverLimit) => Refusal::Oom,
+        NoRoom::Acquire(AcquireFault::NoMemory) => Refusal::NoMemory,
     }
 }

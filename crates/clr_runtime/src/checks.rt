@@ -11,16 +11,21 @@ const THREADS: u64 = 16;
 impl Runtime {
     ghost use Rattle.clr_runtime.specs.Checks.{names_refusal, thread_refusal};
 
-    // Why a line of a thread is refused before it looks at anything.
+    // Why a line of a thread that finishes no step is refused before it looks at anything. A thread in mid-step may
+    // only finish that, whoever holds the others.
     pub(crate) fn refused_thread(&self, t: u64) -> Option<Refusal>
         ensures value { result ≡ thread_refusal self.now t }
         ensures known { result ≡ None → is_thread t ≡ true }
     {
-        let _ = &self.parts.sums;
-        if is_known(t) {
-            None
-        } else {
-            Some(Refusal::UnknownThread)
+        if !is_known(t) {
+            return Some(Refusal::UnknownThread);
+        }
+        if self.parts.safe.in_step(t) {
+            return Some(Refusal::MidStep);
+        }
+        match self.parts.safe.holder() {
+            Some(h) if h != t => Some(Refusal::Blocked(h as u32)),
+            _ => None,
         }
     }
 
@@ -42,7 +47,7 @@ impl Runtime {
 }
 
 // Whether there is a thread of this number.
-fn is_known(t: u64) -> bool
+pub(crate) fn is_known(t: u64) -> bool
     ensures { result ≡ is_thread t }
 {
     1 <= t && t <= THREADS

@@ -1,7 +1,8 @@
 //! The line that collects, and the collections that it and allocations make.
-ghost use Rattle.std.specs.Prelude.{◌≡◌, ◌≤◌};
+ghost use Rattle.std.specs.Prelude.{◌≡◌, ◌≤◌, None};
 ghost use Rattle.clr_heap.specs.View.{no_rests};
 ghost use Rattle.clr_model.specs.Collection.{Collects};
+ghost use Rattle.clr_model.specs.Lookups.{lowest_in_step};
 ghost use Rattle.clr_model.specs.Machine.{Machine};
 ghost use Rattle.clr_model.specs.Picture.{picture};
 ghost use Rattle.clr_runtime.specs.RuntimeView.{IsRuntime, seen};
@@ -25,13 +26,19 @@ impl Runtime {
     /// leaves them where they are, and each is one generation older, up to 2; a compaction takes those of the small
     /// heap down to where they fit, but for what pinned handles name. Entries of objects that only finalisation would
     /// reach are woken, or dropped where the finaliser is suppressed, and weak and dependent handles lose what goes.
-    /// It is refused for an unknown thread, and needs no memory.
+    ///
+    /// It is refused for an unknown thread, with `Blocked` where another thread holds all others, with `MidStep` where
+    /// the thread is in mid-step itself, and with `Wait` for the lowest other thread in mid-step, in this order. It
+    /// needs no memory.
     pub fn collect(&mut self, t: u64, g: u8, how: How) -> Result<Collected, Refusal>
         requires generation { g ≤ 2 }
         ensures { Follows self.old (collect_heap t g how) (collected_outcome result) self.new }
     {
         if let Some(refusal) = self.refused_thread(t) {
             return Err(refusal);
+        }
+        if let Err(k) = self.parts.safe.all_safe() {
+            return Err(Refusal::Wait(k as u32));
         }
         Ok(collect_parts(&mut self.parts, g, how))
     }
@@ -43,18 +50,20 @@ impl Runtime {
     }
 }
 
-// Collects generation `g` and all younger ones, as `how` says. No thread has a context afterwards. The finalisation
-// queue still has room for as many entries. The index of free items of large segments is dropped, and made anew where
-// room is next wanted there.
+// Collects generation `g` and all younger ones, as `how` says. No thread is in mid-step, and none has a context
+// afterwards. The finalisation queue still has room for as many entries. The index of free items of large segments is
+// dropped, and made anew where room is next wanted there.
 pub(crate) fn collect_parts(parts: &mut Parts, g: u8, how: How) -> Collected
     requires generation { g ≤ 2 }
     requires runtime { IsRuntime parts.old }
+    requires idle { lowest_in_step (seen parts.old) ≡ None }
     ensures collected { (after : Machine) × Collects (seen parts.old) g how result after
         × (seen parts.new ≡ picture after) }
     ensures no_contexts { parts.new.heap.rests ≡ no_rests }
     ensures runtime { IsRuntime parts.new }
     ensures spare { parts.old.finals.spare ≤ parts.new.finals.spare }
     ensures types { parts.new.types ≡ parts.old.types }
+    ensures safe { parts.new.safe ≡ parts.old.safe }
 {
     let collected = collect(
         &parts.types,

@@ -13,7 +13,7 @@ impl Runtime {
     /// and the suppression with them. What waits for its finaliser already still waits. Nothing changes where its
     /// type has no finaliser.
     ///
-    /// It is refused for an unknown thread, a local from 64 on, and a null local, in this order.
+    /// It is refused for a thread that may not go on, a local from 64 on, and a null local, in this order.
     pub fn suppress(&mut self, t: u64, local: u64) -> Result<(), Refusal>
         ensures { Follows self.old (suppress_object t local) (done_outcome result) self.new }
     {
@@ -52,7 +52,8 @@ impl Runtime {
             set_suppressed(&mut self.parts.heap, &self.parts.types, place, false);
             return Ok(());
         }
-        let Ok(()) = self.parts.finals.reserve(1) else {
+        let owed = self.parts.safe.births_owed();
+        let Ok(()) = self.parts.finals.reserve(owed + 1) else {
             return Err(Refusal::NoMemory);
         };
         self.parts.finals.register(place);
@@ -62,7 +63,7 @@ impl Runtime {
     /// Local `to` of thread `t` takes the first object of the f-reachable queue, which the queue loses, and the call
     /// gives its place.
     ///
-    /// It is refused for an unknown thread, a local from 64 on, and an empty queue, in this order.
+    /// It is refused for a thread that may not go on, a local from 64 on, and an empty queue, in this order.
     pub fn finalizer(&mut self, t: u64, to: u64) -> Result<u64, Refusal>
         ensures { Follows self.old (take_ready t to) (place_outcome result) self.new }
     {

@@ -23,9 +23,9 @@ impl Runtime {
     /// Makes a handle whose target is what the local of thread `t` holds, and gives its number, one below 65,536 that
     /// wasn't in use. A dependent one also takes what local `second` holds; the other kinds have no second local.
     ///
-    /// It is refused for an unknown thread, a local from 64 on, a null `local` where the kind is dependent (what
-    /// `second` holds may be null), and where 65,536 handles are in use, in this order; then with `NoMemory` where
-    /// there is no memory for it.
+    /// It is refused for a thread that may not go on, a local from 64 on, a null `local` where the kind is dependent
+    /// (what `second` holds may be null), and where 65,536 handles are in use, in this order; then with `NoMemory`
+    /// where there is no memory for it.
     pub fn handle(
         &mut self,
         t: u64,
@@ -58,7 +58,8 @@ impl Runtime {
 
     /// Local `to` of thread `t` takes the target of handle `h`, and the call gives its place, 0 for null.
     ///
-    /// It is refused for an unknown thread, a local from 64 on, and a number that isn't in use, in this order.
+    /// It is refused for a thread that may not go on, a local from 64 on, and a number that isn't in use, in this
+    /// order.
     pub fn fetch(&mut self, t: u64, to: u64, h: u64) -> Result<u64, Refusal>
         ensures { Follows self.old (fetch_target t to h) (place_outcome result) self.new }
     {
@@ -94,7 +95,7 @@ impl Runtime {
 
     /// Takes handle `h` out of use.
     ///
-    /// It is refused for an unknown thread, and a number that isn't in use, in this order.
+    /// It is refused for a thread that may not go on, and a number that isn't in use, in this order.
     pub fn free(&mut self, t: u64, h: u64) -> Result<(), Refusal>
         ensures { Follows self.old (free_handle t h) (done_outcome result) self.new }
     {

@@ -1,14 +1,16 @@
 //! A place for a large object, by collections and a new segment where it takes them.
-ghost use Rattle.std.specs.Prelude.{◌≡◌, ◌%◌, ◌≤◌, OnErr, OnOk, true};
+ghost use Rattle.std.specs.Prelude.{◌≡◌, ◌%◌, ◌≤◌, None, OnErr, OnOk, true};
 ghost use Rattle.clr_types.specs.declared.segment.SegKind.TheVariants.{Large};
 ghost use Rattle.clr_model.specs.Allocation.{has_room_in};
 ghost use Rattle.clr_model.specs.LargeFollows.{FollowsLargeFails, FollowsToPlace};
+ghost use Rattle.clr_model.specs.Lookups.{lowest_in_step};
 ghost use Rattle.clr_runtime.specs.LargeRooms.{has_place_in_budget, IsAcquired};
 ghost use Rattle.clr_runtime.specs.Rooms.{attempt_of};
 ghost use Rattle.clr_runtime.specs.RuntimeView.{IsRuntime, seen};
 
 use crate::collections::collect_parts;
 use crate::parts::Parts;
+use crate::rooms::NoRoom;
 use clr_heap::AcquireFault;
 use clr_large::acquire_large;
 use clr_model::How;
@@ -19,9 +21,10 @@ const PAGE: u64 = 4096;
 // Makes room of this size in a large segment. It is the first of these steps that serves: a place within the budget,
 // one after a full collection, one after a full compacting one, one in a new segment.
 //
-// `OverLimit` comes exactly where all but the last of them find no place and the limit allows no segment more, and
-// `NoMemory` where it allows one and there is no memory for it. What the collections left stays.
-pub(crate) fn make_large_room(parts: &mut Parts, size: u64) -> Result<(), AcquireFault>
+// `Wait` comes exactly where there is no place within the budget and a thread is in mid-step, `OverLimit` where all but
+// the last of these steps find no place and the limit allows no segment more, and `NoMemory` where it allows one and
+// there is no memory for it. What the collections left stays.
+pub(crate) fn make_large_room(parts: &mut Parts, size: u64) -> Result<(), NoRoom>
     requires runtime { IsRuntime parts.old }
     requires least { 85000 ≤ size }
     requires whole { size % 8 ≡ 0 }
@@ -32,9 +35,13 @@ pub(crate) fn make_large_room(parts: &mut Parts, size: u64) -> Result<(), Acquir
     ensures runtime { IsRuntime parts.new }
     ensures spare { parts.old.finals.spare ≤ parts.new.finals.spare }
     ensures types { parts.new.types ≡ parts.old.types }
+    ensures safe { parts.new.safe ≡ parts.old.safe }
 {
     if has_room_in_budget(parts, size) {
         return Ok(());
+    }
+    if let Err(k) = parts.safe.all_safe() {
+        return Err(NoRoom::Wait(k as u32));
     }
     let _ = collect_parts(parts, 2, How::Decide);
     if has_large_room(parts, size) {
@@ -44,7 +51,10 @@ pub(crate) fn make_large_room(parts: &mut Parts, size: u64) -> Result<(), Acquir
     if has_large_room(parts, size) {
         return Ok(());
     }
-    acquire_for(parts, size)
+    match acquire_for(parts, size) {
+        Ok(()) => Ok(()),
+        Err(fault) => Err(NoRoom::Acquire(fault)),
+    }
 }
 
 // Whether there is a place for that many bytes more, and these are within the budget.
@@ -56,6 +66,7 @@ fn has_room_in_budget(parts: &mut Parts, size: u64) -> bool
     ensures runtime { IsRuntime parts.new }
     ensures finals { parts.new.finals ≡ parts.old.finals }
     ensures types { parts.new.types ≡ parts.old.types }
+    ensures safe { parts.new.safe ≡ parts.old.safe }
 {
     if parts.sums.spent_large + size > parts.options.bl {
         return false;
@@ -72,22 +83,26 @@ fn has_large_room(parts: &mut Parts, size: u64) -> bool
     ensures runtime { IsRuntime parts.new }
     ensures finals { parts.new.finals ≡ parts.old.finals }
     ensures types { parts.new.types ≡ parts.old.types }
+    ensures safe { parts.new.safe ≡ parts.old.safe }
 {
     parts.large.room(&parts.heap, &parts.types, size)
 }
 
 // Acquires a large segment in which the size fits, where the limit allows one and there is memory for it. It reserves
 // as many bytes as the options say, or as many whole pages as the object takes behind the first, where these are more.
+// No thread is in mid-step.
 //
 // `OverLimit` comes exactly where the limit allows no such segment, and `NoMemory` where there is no memory for it, its
 // cards or its bricks. Nothing that is seen changes then.
 fn acquire_for(parts: &mut Parts, size: u64) -> Result<(), AcquireFault>
     requires runtime { IsRuntime parts.old }
+    requires idle { lowest_in_step (seen parts.old) ≡ None }
     requires most { size ≤ 1073741824 }
     ensures acquired { IsAcquired (seen parts.old) (seen parts.new) size result }
     ensures runtime { IsRuntime parts.new }
     ensures finals { parts.new.finals ≡ parts.old.finals }
     ensures types { parts.new.types ≡ parts.old.types }
+    ensures safe { parts.new.safe ≡ parts.old.safe }
 {
     let pages = (size + PAGE - 1) / PAGE;
     let reserved = parts.options.segment.max(PAGE + pages * PAGE);

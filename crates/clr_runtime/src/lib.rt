@@ -17,4 +17,6 @@ mod rooms;
 mod runtime;
 mod sealing;
 mod slots;
+mod steps;
 mod sums;
+mod suspending;

@@ -11,6 +11,7 @@ use clr_heap::Heap;
 use clr_large::LargeItems;
 use clr_mark::Marker;
 use clr_pinq::PinQueue;
+use clr_safe::Safe;
 use clr_types::Types;
 
 /// Everything that a runtime works on.
@@ -32,6 +33,8 @@ pub(crate) struct Parts {
     pub(crate) finals: Finals,
     pub(crate) pins: PinQueue,
     pub(crate) slides: Slides,
+    /// What threads have begun, and who holds them.
+    pub(crate) safe: Safe,
     pub(crate) sums: Sums,
     pub(crate) options: Options,
 }

@@ -1,8 +1,9 @@
 //! Room for a new object, by collections and a new segment where it takes them.
-ghost use Rattle.std.specs.Prelude.{◌≡◌, ◌%◌, ◌<◌, ◌≤◌, OnOk, true};
+ghost use Rattle.std.specs.Prelude.{◌≡◌, ◌%◌, ◌<◌, ◌≤◌, None, OnOk, false, true};
 ghost use Rattle.clr_heap.specs.View.{no_rests};
 ghost use Rattle.clr_model.specs.Allocation.{own_fits};
 ghost use Rattle.clr_model.specs.Collection.{which};
+ghost use Rattle.clr_model.specs.Lookups.{is_step, lowest_in_step, step_of};
 ghost use Rattle.clr_model.specs.RoomFollows.{FollowsRoom};
 ghost use Rattle.clr_runtime.specs.Rooms.{attempt_of, IsRefill, IsRefillInBudget, IsSealedRefill};
 ghost use Rattle.clr_runtime.specs.RuntimeView.{IsRuntime, seen};
@@ -13,16 +14,27 @@ use crate::sealing::seal_parts;
 use clr_heap::AcquireFault;
 use clr_model::How;
 
-// Makes room of this size at the front of the thread's context. It is the first of these steps that serves: the context
-// as it is, a new one within the budget, one after a collection of the generation that the sums choose, one after a
-// full compacting collection, one in a new segment.
+/// Why there is no room for an object.
+#[derive(Clone, Copy)]
+pub(crate) enum NoRoom {
+    /// The ladder comes to a collection, and this thread is the lowest in mid-step. Nothing has changed.
+    Wait(u32),
+    /// No collection found room, and no segment was acquired.
+    Acquire(AcquireFault),
+}
+
+// Makes room of this size at the front of the context of a thread, which isn't in mid-step. It is the first of these
+// steps that serves: the context as it is, a new one within the budget, one after a collection of the generation that
+// the sums choose, one after a full compacting collection, one in a new segment.
 //
-// `OverLimit` comes exactly where all but the last of them find no room and the limit allows no segment more, and
-// `NoMemory` where it allows one and there is no memory for it. What the collections left stays.
-pub(crate) fn make_room(parts: &mut Parts, thread: usize, size: u64) -> Result<(), AcquireFault>
+// `Wait` comes exactly where the first two find no room and a thread is in mid-step, `OverLimit` where all but the last
+// find none and the limit allows no segment more, and `NoMemory` where it allows one and there is no memory for it.
+// What the collections left stays.
+pub(crate) fn make_room(parts: &mut Parts, thread: usize, size: u64) -> Result<(), NoRoom>
     requires runtime { IsRuntime parts.old }
     requires positive { 0 < thread }
     requires few { thread ≤ 16 }
+    requires idle { is_step (step_of (seen parts.old) thread) ≡ false }
     requires least { 24 ≤ size }
     requires whole { size % 8 ≡ 0 }
     requires small { size < 85000 }
@@ -31,12 +43,16 @@ pub(crate) fn make_room(parts: &mut Parts, thread: usize, size: u64) -> Result<(
     ensures runtime { IsRuntime parts.new }
     ensures spare { parts.old.finals.spare ≤ parts.new.finals.spare }
     ensures types { parts.new.types ≡ parts.old.types }
+    ensures safe { parts.new.safe ≡ parts.old.safe }
 {
     if fits_in_context(parts, thread, size) {
         return Ok(());
     }
     if refill_in_budget(parts, thread, size) {
         return Ok(());
+    }
+    if let Err(k) = parts.safe.all_safe() {
+        return Err(NoRoom::Wait(k as u32));
     }
     let g = generation_due(parts);
     let _ = collect_parts(parts, g, How::Decide);
@@ -47,7 +63,10 @@ pub(crate) fn make_room(parts: &mut Parts, thread: usize, size: u64) -> Result<(
     if refill(parts, thread, size) {
         return Ok(());
     }
-    refill_by_sealing(parts, thread, size)
+    match refill_by_sealing(parts, thread, size) {
+        Ok(()) => Ok(()),
+        Err(fault) => Err(NoRoom::Acquire(fault)),
+    }
 }
 
 // Whether the size fits at the front of the thread's context as it is.
@@ -75,12 +94,13 @@ fn generation_due(parts: &Parts) -> u8
     }
 }
 
-// Gives the thread a new context in which the size fits, where that many bytes more are within the budget and there is
-// room without a collection, and tells whether it did. Else nothing changes.
+// Gives the thread, which isn't in mid-step, a new context in which the size fits, where that many bytes more are
+// within the budget and there is room without a collection, and tells whether it did. Else nothing changes.
 fn refill_in_budget(parts: &mut Parts, thread: usize, size: u64) -> bool
     requires runtime { IsRuntime parts.old }
     requires positive { 0 < thread }
     requires few { thread ≤ 16 }
+    requires idle { is_step (step_of (seen parts.old) thread) ≡ false }
     requires least { 24 ≤ size }
     requires whole { size % 8 ≡ 0 }
     requires small { size < 85000 }
@@ -88,6 +108,7 @@ fn refill_in_budget(parts: &mut Parts, thread: usize, size: u64) -> bool
     ensures runtime { IsRuntime parts.new }
     ensures finals { parts.new.finals ≡ parts.old.finals }
     ensures types { parts.new.types ≡ parts.old.types }
+    ensures safe { parts.new.safe ≡ parts.old.safe }
 {
     if parts.sums.spent0 + size > parts.options.b0 {
         return false;
@@ -95,12 +116,13 @@ fn refill_in_budget(parts: &mut Parts, thread: usize, size: u64) -> bool
     refill(parts, thread, size)
 }
 
-// Gives the thread a new context in which the size fits, where there is room without a collection, and tells whether it
-// did. Else nothing changes.
+// Gives the thread, which isn't in mid-step, a new context in which the size fits, where there is room without a
+// collection, and tells whether it did. Else nothing changes.
 fn refill(parts: &mut Parts, thread: usize, size: u64) -> bool
     requires runtime { IsRuntime parts.old }
     requires positive { 0 < thread }
     requires few { thread ≤ 16 }
+    requires idle { is_step (step_of (seen parts.old) thread) ≡ false }
     requires least { 24 ≤ size }
     requires whole { size % 8 ≡ 0 }
     requires small { size < 85000 }
@@ -108,6 +130,7 @@ fn refill(parts: &mut Parts, thread: usize, size: u64) -> bool
     ensures runtime { IsRuntime parts.new }
     ensures finals { parts.new.finals ≡ parts.old.finals }
     ensures types { parts.new.types ≡ parts.old.types }
+    ensures safe { parts.new.safe ≡ parts.old.safe }
 {
     parts.heap.lawful();
     let refilled = parts
@@ -117,9 +140,10 @@ fn refill(parts: &mut Parts, thread: usize, size: u64) -> bool
 }
 
 // Gives the thread a context in a new segment, where the limit allows one and there is memory for it. No thread has a
-// context.
+// context, and none is in mid-step.
 fn refill_by_sealing(parts: &mut Parts, thread: usize, size: u64) -> Result<(), AcquireFault>
     requires runtime { IsRuntime parts.old }
+    requires idle { lowest_in_step (seen parts.old) ≡ None }
     requires no_contexts { parts.old.heap.rests ≡ no_rests }
     requires positive { 0 < thread }
     requires few { thread ≤ 16 }
@@ -130,6 +154,7 @@ fn refill_by_sealing(parts: &mut Parts, thread: usize, size: u64) -> Result<(), 
     ensures runtime { IsRuntime parts.new }
     ensures finals { parts.new.finals ≡ parts.old.finals }
     ensures types { parts.new.types ≡ parts.old.types }
+    ensures safe { parts.new.safe ≡ parts.old.safe }
 {
     seal_parts(parts)?;
     let _ = refill(parts, thread, size);

@@ -1,5 +1,5 @@
 //! What the lines of a script work on: types, heap, locals, handles, and the finalisation queue.
-ghost use Rattle.std.specs.Prelude.{◌≡◌, ◌≤◌, IfOk, length, replicate, true};
+ghost use Rattle.std.specs.Prelude.{◌≡◌, ◌≤◌, ◌/◌, ◌⊎◌, ℕ, IfOk, length, replicate, true};
 ghost use Rattle.clr_types.specs.Types.{form_of};
 ghost use Rattle.clr_runtime.specs.Options.{options_of};
 ghost use Rattle.clr_runtime.specs.Outcomes.{refusal_of_fault};
@@ -20,6 +20,7 @@ use clr_large::LargeItems;
 use clr_mark::Marker;
 use clr_model::Refusal;
 use clr_pinq::PinQueue;
+use clr_safe::Safe;
 use clr_types::{DefineFault, Shape, Types};
 use std::alloc::{AllocError, Global};
 use std::marker::Model;
@@ -40,6 +41,9 @@ pub(crate) const LOCALS_OF_A_THREAD: u64 = 64;
 /// Contracts see the machine whose objects are named by their places. After each call the runtime stands for the next
 /// state of each graph machine that it stood for before, and the answer is that step's reply. A refused call leaves the
 /// state as it was, but for one of `new_object` that finds no room after it has collected.
+///
+/// A thread may not go on where its number isn't one from 1 to 16, where another thread holds all others (`Blocked`),
+/// and where it is in mid-step itself (`MidStep`). Each line of a thread is refused for that first, in this order.
 #[derive(Drop)]
 pub struct Runtime {
     pub(crate) parts: Parts,
@@ -73,7 +77,8 @@ impl Runtime {
     ghost use Rattle.clr_view.specs.View.{AreFreeHeads, IsHeld, layout_in, objects_in};
     ghost use Rattle.clr_bricks.specs.Bricks.{entry_at};
     ghost use Rattle.clr_cards.specs.Cards.{is_card_set};
-    ghost use Rattle.clr_generations.specs.Laws.{BrickLaw, CardLaw};
+    ghost use Rattle.clr_generations.specs.Laws.{BrickLaw, NamesYounger};
+    ghost use Rattle.clr_runtime.specs.RuntimeView.{IsBegunStore};
     ghost use Rattle.clr_generations.specs.Tables.{AreBricksOf, AreCardsOf};
     ghost use Rattle.clr_runtime.specs.Outcomes.{mt_outcome};
 
@@ -121,6 +126,7 @@ impl Runtime {
             finals: Finals::new(alloc),
             pins,
             slides: Slides::new(),
+            safe: Safe::new(),
             sums: Sums::NONE,
             options,
         };
@@ -148,9 +154,9 @@ impl Runtime {
         &self.parts.types
     }
 
-    /// The heap, of which the options limit the segments. No object is marked, each free item has the head of free
-    /// space without a mark, and the headers and the padding of objects say nothing else. What is seen is a lawful
-    /// state whose objects are named by their places.
+    /// The heap, of which the options limit the segments. Objects of 85,000 bytes and more stand in its large segments.
+    /// No object is marked, each free item has the head of free space without a mark, and the headers and the padding of
+    /// objects say nothing else. What is seen is a lawful state whose objects are named by their places.
     pub fn heap(&self) -> &Heap
         ensures objects { self.now.objects ≡ objects_in self.now.types result.now }
         ensures layout { self.now.layout ≡ layout_in self.now.types result.now }
@@ -159,16 +165,20 @@ impl Runtime {
         ensures free_heads { AreFreeHeads self.now.types result.now }
         ensures clean { AreClean self.now.types result.now }
         ensures limit { result.now.limit ≡ self.now.options.limit }
+        ensures large { self.now.options.large ≡ 85000 }
         ensures sound { IsPlaceNamed self.now }
     {
         &self.parts.heap
     }
 
     /// The cards of the heap: each segment has cards for all that it reserves. Where a slot of an object names one of
-    /// a lower generation, the card of the slot's address is set.
+    /// a lower generation, the card of the slot's address is set, but for the slot of a store that a thread has begun
+    /// and not finished.
     pub fn cards(&self) -> &Cards
         ensures covers { AreCardsOf self.now.layout result.now }
-        ensures law { CardLaw self.now.types self.now.layout self.now.objects (is_card_set result.now) }
+        ensures law { (a : ℕ) → NamesYounger self.now.types self.now.layout self.now.objects a
+            → (is_card_set result.now (a / 2048) ≡ true)
+            ⊎ IsBegunStore self.now.types self.now.objects self.now.steps a }
     {
         &self.parts.cards
     }
@@ -189,6 +199,29 @@ impl Runtime {
         ensures count { length result.now ≡ 1024 }
     {
         &self.parts.locals
+    }
+
+    /// The handles in use, by their numbers.
+    pub fn handles(&self) -> &Handles
+        ensures { result.now ≡ self.now.handles }
+    {
+        &self.parts.handles
+    }
+
+    /// The finalisation queue: the objects that are to be finalised once they die, and those that wait for their
+    /// finaliser.
+    pub fn finals(&self) -> &Finals
+        ensures entries { result.now.entries ≡ self.now.entries }
+        ensures ready { result.now.ready ≡ self.now.ready }
+    {
+        &self.parts.finals
+    }
+
+    /// How many bytes all segments may reserve together.
+    pub fn limit(&self) -> u64
+        ensures { result ≡ self.now.options.limit }
+    {
+        self.parts.options.limit
     }
 }
 

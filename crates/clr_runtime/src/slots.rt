@@ -17,8 +17,8 @@ use clr_view::{object_item, set_slot_value, slot_value};
 /// A slot of an object, and what its type says of it.
 #[derive(Clone, Copy)]
 pub struct Found {
-    item: Item,
-    slot: Slot,
+    pub(crate) item: Item,
+    pub(crate) slot: Slot,
 }
 
 impl Runtime {
@@ -30,8 +30,8 @@ impl Runtime {
     /// Local `to` of thread `t` takes what slot `index` of the object of local `from` names, and the call gives its
     /// place, 0 for null.
     ///
-    /// It is refused for an unknown thread, a local from 64 on, a null local, an index that no slot of the object has,
-    /// and a slot that holds a number, in this order.
+    /// It is refused for a thread that may not go on, a local from 64 on, a null local, an index that no slot of the
+    /// object has, and a slot that holds a number, in this order.
     pub fn get(&mut self, t: u64, to: u64, from: u64, index: u64) -> Result<u64, Refusal>
         ensures { Follows self.old (get_slot t to from index) (place_outcome result) self.new }
     {
@@ -122,7 +122,7 @@ impl Runtime {
 
     /// Local `to` of thread `t` takes what local `from` holds, and the call gives its place, 0 for null.
     ///
-    /// It is refused for an unknown thread and a local from 64 on, in this order.
+    /// It is refused for a thread that may not go on and a local from 64 on, in this order.
     pub fn copy(&mut self, t: u64, to: u64, from: u64) -> Result<u64, Refusal>
         ensures { Follows self.old (copy_local t to from) (place_outcome result) self.new }
     {
@@ -150,7 +150,7 @@ impl Runtime {
 
 // Slot `index` of the object at a place, where it holds a reference or a number, as is wanted; else the first of the
 // checks that fails.
-fn find_slot(
+pub(crate) fn find_slot(
     heap: &Heap,
     types: &Types,
     place: u64,

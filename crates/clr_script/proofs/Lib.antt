@@ -3,3 +3,7 @@ pub mod Numerals
 pub mod WholeLines
 pub mod Digits
 pub mod FrontDigits
+pub mod NameFronts
+pub mod SpelledLines
+pub mod MadeLines
+pub mod MadeChoices

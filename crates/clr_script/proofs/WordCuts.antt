@@ -9,11 +9,12 @@ use Rattle.std.proofs.lemmas.List.Splits.{slice_split_none, slice_split_first, l
 use Rattle.clr_model.specs.LineGrammar.{words}
 use Rattle.clr_model.specs.Parsing.{none_in}
 
-cond_none : (b : Bool) (x : ℕ) → cond b (Some x) None ≡ None → b ≡ false
+-- what a choice between `Some` and `None` says of its test
+pub cond_none : (b : Bool) (x : ℕ) → cond b (Some x) None ≡ None → b ≡ false
 cond_none true x e = cc
 cond_none false x e = refl
 
-cond_some : (b : Bool) (x y : ℕ) → cond b (Some x) None ≡ Some y → (b ≡ true) × (x ≡ y)
+pub cond_some : (b : Bool) (x y : ℕ) → cond b (Some x) None ≡ Some y → (b ≡ true) × (x ≡ y)
 cond_some true x y e = (refl, cc)
 cond_some false x y e = cc
 

@@ -3,4 +3,5 @@ pub mod Readings
 pub mod Choices
 pub mod ReplyLines
 pub mod NameBytes
-pub mod Accesses
+pub mod Fronts
+pub mod Made

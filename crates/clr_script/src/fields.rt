@@ -77,14 +77,16 @@ pub fn read_handle(word: &[u8]) -> Option<u64>
     read_numbered(b'h', word)
 }
 
-// Whether a name may begin with this byte.
-fn starts(b: u8) -> bool
+/// Whether a name may begin with this byte.
+#[inline]
+pub fn starts_name(b: u8) -> bool
     ensures { result ≡ is_name_start b }
 {
     matches!(b, b'A'..=b'Z' | b'a'..=b'z' | b'_')
 }
 
 // Whether this byte, which is no letter, may stand in a name.
+#[inline]
 fn is_sign(b: u8) -> bool
     ensures { result ≡ is_name_sign b }
 {
@@ -94,8 +96,9 @@ fn is_sign(b: u8) -> bool
     )
 }
 
-// Whether this byte may stand in a name.
-fn goes_on(b: u8) -> bool
+/// Whether this byte may stand in a name.
+#[inline]
+pub fn continues_name(b: u8) -> bool
     ensures { result ≡ is_name_byte b }
 {
     b.is_ascii_lowercase() || b.is_ascii_uppercase() || is_sign(b)
@@ -105,7 +108,7 @@ fn goes_on(b: u8) -> bool
 fn all_go_on(bytes: &[u8]) -> bool
     ensures { result ≡ list_all is_name_byte bytes.now }
 {
-    bytes.iter().all(|b| goes_on(*b))
+    bytes.iter().all(|b| continues_name(*b))
 }
 
 // Whether the word is a name: at most 128 bytes, and the first one no digit or sign.
@@ -114,7 +117,7 @@ fn is_name(word: &[u8]) -> bool
 {
     match word.split_first() {
         None => false,
-        Some((first, rest)) => starts(*first) && all_go_on(rest) && rest.len() <= 127,
+        Some((first, rest)) => starts_name(*first) && all_go_on(rest) && rest.len() <= 127,
     }
 }
 

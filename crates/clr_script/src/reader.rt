@@ -1,57 +1,31 @@
 //! The reader of lines.
 ghost use Rattle.std.specs.Prelude.{◌≡◌, ◌<◌, ◌≤◌, ◌↔◌, ◌⊎◌, ℕ, length, IfOk, IfErr};
 ghost use Rattle.std.specs.Option.{option_map};
-ghost use Rattle.clr_model.specs.Instructions.{dump_heap, dump_object, show_root, where_is};
-ghost use Rattle.clr_model.specs.Parsing.{options_in, address_after_in, heaps_in, other_in, line_in, thread_in};
+ghost use Rattle.clr_model.specs.Instructions.{show_segments};
+ghost use Rattle.clr_model.specs.Parsing.{heaps_in, other_in, line_in, thread_in};
 ghost use Rattle.clr_script.specs.Cuts.{words_left};
 ghost use Rattle.clr_script.specs.Readings.{Reads, IsReadAs, IsNoLine};
 
 use crate::arguments::read_one_address;
-use crate::cut::{Rest, next_word, one_word};
+use crate::cut::{Rest, next_word, no_word, one_word};
 use crate::fields::read_thread;
 use crate::options::read_filter;
 use crate::shapes::read_define;
-use crate::threads::{read_alone, read_threaded};
+use crate::table::{by_row, other_rows};
+use crate::threads::read_threaded;
 use clr_model::{Command, Refusal};
 
 /// How many bytes the longest line has that is read.
 pub const LONGEST: usize = 4096;
 
-fn read_dump<'a>(rest: Rest<'a>) -> Option<Command<'a>>
-    ensures { Reads result (option_map dump_heap (options_in (words_left rest.entry))) }
-{
-    let filter = read_filter(rest)?;
-    Some(Command::DumpHeap { filter })
-}
-
-fn read_object<'a>(rest: Rest<'a>) -> Option<Command<'a>>
-    ensures { Reads result (option_map dump_object (address_after_in (words_left rest.entry))) }
-{
-    let a = read_one_address(rest)?;
-    Some(Command::DumpObj { a })
-}
-
-fn read_root<'a>(rest: Rest<'a>) -> Option<Command<'a>>
-    ensures { Reads result (option_map show_root (address_after_in (words_left rest.entry))) }
-{
-    let a = read_one_address(rest)?;
-    Some(Command::GcRoot { a })
-}
-
-fn read_where<'a>(rest: Rest<'a>) -> Option<Command<'a>>
-    ensures { Reads result (option_map where_is (address_after_in (words_left rest.entry))) }
-{
-    let a = read_one_address(rest)?;
-    Some(Command::GcWhere { a })
-}
-
+// Whether the one word behind `eeheap` is `-gc`.
 #[tactic(auto, unfolding(clr_model::specs::Parsing::heaps_in))]
-fn read_heaps<'a>(rest: Rest<'a>) -> Option<Command<'a>>
-    ensures { Reads result (heaps_in (words_left rest.entry)) }
+fn read_gc(rest: Rest<'_>) -> Option<()>
+    ensures { option_map (λ u. show_segments) result ≡ heaps_in (words_left rest.entry) }
 {
     let word = one_word(rest)?;
     if word == b"-gc".as_slice() {
-        Some(Command::EeHeap)
+        Some(())
     } else {
         None
     }
@@ -62,34 +36,7 @@ fn read_heaps<'a>(rest: Rest<'a>) -> Option<Command<'a>>
 fn read_other<'a>(word: &'a [u8], rest: Rest<'a>) -> Option<Command<'a>>
     ensures { Reads result (other_in word.now (words_left rest.entry)) }
 {
-    if word == b"type".as_slice() {
-        return read_define(rest);
-    }
-    if word == b"gcwhere".as_slice() {
-        return read_where(rest);
-    }
-    if word == b"dumpobj".as_slice() {
-        return read_object(rest);
-    }
-    if word == b"gcroot".as_slice() {
-        return read_root(rest);
-    }
-    if word == b"dumpheap".as_slice() {
-        return read_dump(rest);
-    }
-    if word == b"eeheap".as_slice() {
-        return read_heaps(rest);
-    }
-    if word == b"verifyheap".as_slice() {
-        return read_alone(Command::VerifyHeap, rest);
-    }
-    if word == b"gchandles".as_slice() {
-        return read_alone(Command::GcHandles, rest);
-    }
-    if word == b"finalizequeue".as_slice() {
-        return read_alone(Command::FinalizeQueue, rest);
-    }
-    None
+    other_rows!(word, rest)
 }
 
 // The command that a first word and the words behind it spell.

@@ -1,4 +1,4 @@
-//! Replies and refusals as text.
+//! Replies and refusals as text, each written once, where it waits to be sent.
 ghost use Rattle.std.specs.Prelude.{◌≡◌, ◌+◌, ◌≤◌, ◌<◌, ◌++◌, ◌∷◌, [], take, drop, length, decimal, codes, ℕ};
 ghost use Rattle.clr_nums.specs.Numbers.{hex16};
 ghost use Rattle.clr_model.specs.ReplyText.{place_text, refusal_text, reply_text};
@@ -6,26 +6,9 @@ ghost use Rattle.clr_script.specs.ReplyLines.{IsShowable, IsRefusalName};
 
 use clr_model::{Collected, Refusal, Reply, Where};
 use clr_nums::{put_dec, put_hex16};
-use std::marker::Model;
-
-/// A line of text of at most 256 bytes.
-#[derive(Drop)]
-pub struct Line {
-    bytes: [u8; 256],
-    len: usize,
-}
-
-impl Model for Line {
-    ghost use Rattle.std.specs.Prelude.{List, ℕ, take, ◌≤◌};
-
-    ghost Value = { List ℕ };
-
-    ghost view = { λ l. take l.len l.bytes };
-
-    ghost invariant = { λ l. l.len ≤ 256 };
-}
 
 // Writes 16 hexadecimal digits at the front. The bytes behind them stay.
+#[inline]
 fn put_hex_digits(v: u64, into: &mut [u8])
     requires { 16 ≤ length into.old }
     ensures { into.new ≡ hex16 v ++ drop 16 into.old }
@@ -36,6 +19,7 @@ fn put_hex_digits(v: u64, into: &mut [u8])
 }
 
 // Writes decimal digits at the front, and gives their count.
+#[inline]
 fn put_digits(v: u64, into: &mut [u8]) -> usize
     requires { 20 ≤ length into.old }
     ensures fits { result ≤ 20 }
@@ -48,190 +32,183 @@ fn put_digits(v: u64, into: &mut [u8]) -> usize
     }
 }
 
-impl Line {
-    /// An empty line.
-    pub fn new() -> Line
-        ensures { result ≡ [] }
-    {
-        Line {
-            bytes: [0; 256],
-            len: 0,
-        }
-    }
+// Writes a text behind the first `at` bytes, and gives where it ends.
+#[inline]
+fn append(into: &mut [u8; 256], at: usize, text: &[u8]) -> usize
+    requires { at + length text.now ≤ 256 }
+    ensures end { result ≡ at + length text.now }
+    ensures text { take result into.new ≡ take at into.old ++ text.now }
+{
+    let end = at + text.len();
+    into[at..end].copy_from_slice(text);
+    end
+}
 
-    /// The text.
-    pub fn bytes(&self) -> &[u8]
-        ensures { result.now ≡ self.now }
-    {
-        &self.bytes[..self.len]
-    }
+// Writes 16 hexadecimal digits behind the first `at` bytes, and gives where they end.
+#[inline]
+fn append_hex(into: &mut [u8; 256], at: usize, v: u64) -> usize
+    requires { at ≤ 240 }
+    ensures end { result ≡ at + 16 }
+    ensures text { take result into.new ≡ take at into.old ++ hex16 v }
+{
+    put_hex_digits(v, &mut into[at..]);
+    at + 16
+}
 
-    // Makes this a text.
-    fn start(&mut self, text: &[u8])
-        requires { length text.now ≤ 256 }
-        ensures { self.new ≡ text.now }
-    {
-        self.len = 0;
-        self.append(text);
-    }
+// Writes decimal digits behind the first `at` bytes, and gives where they end.
+#[inline]
+fn append_decimal(into: &mut [u8; 256], at: usize, v: u64) -> usize
+    requires { at ≤ 236 }
+    ensures end { result ≤ at + 20 }
+    ensures text { take result into.new ≡ take at into.old ++ decimal v }
+{
+    let count = put_digits(v, &mut into[at..]);
+    at + count
+}
 
-    // Puts a text at the end.
-    fn append(&mut self, text: &[u8])
-        requires { length self.old + length text.now ≤ 256 }
-        ensures { self.new ≡ self.old ++ text.now }
-    {
-        let end = self.len + text.len();
-        self.bytes[self.len..end].copy_from_slice(text);
-        self.len = end;
-    }
+// Writes a space and a word behind the first `at` bytes, and gives where the word ends.
+#[inline]
+fn append_word(into: &mut [u8; 256], at: usize, text: &[u8]) -> usize
+    requires { at + length text.now < 256 }
+    ensures end { result ≡ at + 1 + length text.now }
+    ensures text { take result into.new ≡ take at into.old ++ 32 ∷ text.now }
+{
+    let at = append(into, at, b" ");
+    append(into, at, text)
+}
 
-    // Puts 16 hexadecimal digits at the end.
-    fn append_hex(&mut self, v: u64)
-        requires { length self.old ≤ 240 }
-        ensures text { self.new ≡ self.old ++ hex16 v }
-        ensures longer { length self.new ≡ length self.old + 16 }
-    {
-        put_hex_digits(v, &mut self.bytes[self.len..]);
-        self.len += 16;
-    }
+// Writes a space and a number behind the first `at` bytes, and gives where the number ends.
+#[inline]
+fn append_number(into: &mut [u8; 256], at: usize, v: u64) -> usize
+    requires { at ≤ 235 }
+    ensures end { result ≤ at + 21 }
+    ensures text { take result into.new ≡ take at into.old ++ 32 ∷ decimal v }
+{
+    let at = append(into, at, b" ");
+    append_decimal(into, at, v)
+}
 
-    // Puts decimal digits at the end.
-    fn append_number(&mut self, v: u64)
-        requires { length self.old ≤ 236 }
-        ensures text { self.new ≡ self.old ++ decimal v }
-        ensures longer { length self.new ≤ length self.old + 20 }
-    {
-        let count = put_digits(v, &mut self.bytes[self.len..]);
-        self.len += count;
-    }
+// Writes a space and an address behind the first `at` bytes, and gives where the address ends.
+#[inline]
+fn append_address(into: &mut [u8; 256], at: usize, v: u64) -> usize
+    requires { at ≤ 235 }
+    ensures end { result ≡ at + 17 }
+    ensures text { take result into.new ≡ take at into.old ++ 32 ∷ hex16 v }
+{
+    let at = append(into, at, b" ");
+    append_hex(into, at, v)
+}
 
-    // Puts a space and a word at the end.
-    fn word(&mut self, text: &[u8])
-        requires { length self.old + length text.now < 256 }
-        ensures text { self.new ≡ self.old ++ 32 ∷ text.now }
-        ensures longer { length self.new ≡ length self.old + 1 + length text.now }
-    {
-        self.append(b" ");
-        self.append(text);
-    }
-
-    // Puts a space and a number at the end.
-    fn number(&mut self, v: u64)
-        requires { length self.old ≤ 235 }
-        ensures text { self.new ≡ self.old ++ 32 ∷ decimal v }
-        ensures longer { length self.new ≤ length self.old + 21 }
-    {
-        self.append(b" ");
-        self.append_number(v);
-    }
-
-    // Puts a space and an address at the end.
-    fn address(&mut self, v: u64)
-        requires { length self.old ≤ 235 }
-        ensures text { self.new ≡ self.old ++ 32 ∷ hex16 v }
-        ensures longer { length self.new ≤ length self.old + 17 }
-    {
-        self.append(b" ");
-        self.append_hex(v);
-    }
-
-    // Makes this a place, or `null`.
-    fn put_place(&mut self, place: u64)
-        ensures text { self.new ≡ place_text place }
-        ensures short { length self.new ≤ 16 }
-    {
-        if place == 0 {
-            self.start(b"null");
-            return;
-        }
-        self.len = 0;
-        self.append_hex(place);
-    }
-
-    // Makes this a number behind a text of a few bytes.
-    fn put_number(&mut self, front: &[u8], v: u64)
-        requires { length front.now ≤ 200 }
-        ensures text { self.new ≡ front.now ++ decimal v }
-        ensures short { length self.new ≤ length front.now + 20 }
-    {
-        self.start(front);
-        self.append_number(v);
-    }
-
-    fn put_collected(&mut self, collected: &Collected)
-        ensures text { self.new ≡ reply_text (Reply.Collected collected.now) }
-        ensures short { length self.new < 256 }
-    {
-        self.start(b"collected");
-        self.number(u64::from(collected.generation));
-        self.word(if collected.compacted {
-            b"compact".as_slice()
-        } else {
-            b"sweep".as_slice()
-        });
-        self.word(b"kept");
-        self.number(collected.kept);
-        self.word(b"freed");
-        self.number(collected.freed);
-    }
-
-    fn put_where(&mut self, found: &Where)
-        requires { found.now.kind ≤ 2 }
-        ensures text { self.new ≡ reply_text (Reply.Where found.now) }
-        ensures short { length self.new < 256 }
-    {
-        self.start(b"gen");
-        self.number(u64::from(found.generation));
-        self.word(match found.kind {
-            0 => b"small".as_slice(),
-            1 => b"ephemeral".as_slice(),
-            _ => b"large".as_slice(),
-        });
-        self.address(found.base);
-        self.word(b"size");
-        self.number(found.size);
-    }
-
-    /// Puts a line feed at the end.
-    pub fn end(&mut self)
-        requires { length self.old < 256 }
-        ensures { self.new ≡ self.old ++ 10 ∷ [] }
-    {
-        self.append(b"\n");
+// Writes a place, or `null`, and gives its length.
+#[inline]
+fn put_place(place: u64, into: &mut [u8; 256]) -> usize
+    ensures short { result < 256 }
+    ensures text { take result into.new ≡ place_text place }
+{
+    if place == 0 {
+        append(into, 0, b"null")
+    } else {
+        append_hex(into, 0, place)
     }
 }
 
-/// Makes this the text of a reply, without a line feed. Nothing stays of what stood in the line.
-pub fn put_reply(reply: &Reply, into: &mut Line)
+// Writes what a collection did, and gives its length.
+fn put_collected(collected: &Collected, into: &mut [u8; 256]) -> usize
+    ensures short { result < 256 }
+    ensures text { take result into.new ≡ reply_text (Reply.Collected collected.now) }
+{
+    let at = append(into, 0, b"collected");
+    let at = append_number(into, at, u64::from(collected.generation));
+    let phase = if collected.compacted {
+        b"compact".as_slice()
+    } else {
+        b"sweep".as_slice()
+    };
+    let at = append_word(into, at, phase);
+    let at = append_word(into, at, b"kept");
+    let at = append_number(into, at, collected.kept);
+    let at = append_word(into, at, b"freed");
+    append_number(into, at, collected.freed)
+}
+
+// Writes where an object stands, and gives its length.
+fn put_where(found: &Where, into: &mut [u8; 256]) -> usize
+    requires { found.now.kind ≤ 2 }
+    ensures short { result < 256 }
+    ensures text { take result into.new ≡ reply_text (Reply.Where found.now) }
+{
+    let at = append(into, 0, b"gen");
+    let at = append_number(into, at, u64::from(found.generation));
+    let segment = match found.kind {
+        0 => b"small".as_slice(),
+        1 => b"ephemeral".as_slice(),
+        _ => b"large".as_slice(),
+    };
+    let at = append_word(into, at, segment);
+    let at = append_address(into, at, found.base);
+    let at = append_word(into, at, b"size");
+    append_number(into, at, found.size)
+}
+
+// Writes the text of a reply, and gives its length.
+#[inline]
+fn put_text(reply: &Reply, into: &mut [u8; 256]) -> usize
     requires { IsShowable reply.now }
-    ensures text { into.new ≡ reply_text reply.now }
-    ensures short { length into.new < 256 }
+    ensures short { result < 256 }
+    ensures text { take result into.new ≡ reply_text reply.now }
 {
     match reply {
-        Reply::Done => into.start(b"ok"),
-        Reply::Place(place) => into.put_place(*place),
-        Reply::Number(number) => into.put_number(b"", *number),
+        Reply::Done => append(into, 0, b"ok"),
+        Reply::Place(place) => put_place(*place, into),
+        Reply::Number(n) => append_decimal(into, 0, *n),
         Reply::Mt(mt) => {
-            into.start(b"mt");
-            into.address(*mt);
+            let at = append(into, 0, b"mt");
+            append_address(into, at, *mt)
         }
-        Reply::HandleNumber(h) => into.put_number(b"h", *h),
-        Reply::Collected(collected) => into.put_collected(collected),
-        Reply::Where(found) => into.put_where(found),
-        Reply::Clean => into.start(b"clean"),
+        Reply::HandleNumber(h) => {
+            let at = append(into, 0, b"h");
+            append_decimal(into, at, *h)
+        }
+        Reply::Collected(collected) => put_collected(collected, into),
+        Reply::Where(found) => put_where(found, into),
+        Reply::Clean => append(into, 0, b"clean"),
     }
 }
 
-/// Makes this the text of a refusal, without a line feed. Nothing stays of what stood in the line.
-pub fn put_refusal(refusal: &Refusal, into: &mut Line)
-    ensures text { into.new ≡ refusal_text refusal.now }
-    ensures short { length into.new < 256 }
+// Writes the text of a refusal, and gives its length.
+#[inline]
+fn put_reason(refusal: &Refusal, into: &mut [u8; 256]) -> usize
+    ensures short { result < 256 }
+    ensures text { take result into.new ≡ refusal_text refusal.now }
 {
-    into.start(b"refused");
-    into.word(refusal_name(refusal));
+    let at = append(into, 0, b"refused");
+    let at = append_word(into, at, refusal_name(refusal));
     if let Refusal::Blocked(t) | Refusal::Wait(t) = refusal {
-        into.number(u64::from(*t));
+        return append_number(into, at, u64::from(*t));
     }
+    at
+}
+
+/// Writes the text of a reply and a line feed at the front of `into`, and gives their length. The bytes behind them
+/// may be any.
+#[inline]
+pub fn put_reply(reply: &Reply, into: &mut [u8; 256]) -> usize
+    requires { IsShowable reply.now }
+    ensures fits { result ≤ 256 }
+    ensures text { take result into.new ≡ reply_text reply.now ++ 10 ∷ [] }
+{
+    let at = put_text(reply, into);
+    append(into, at, b"\n")
+}
+
+/// Writes the text of a refusal and a line feed at the front of `into`, and gives their length. The bytes behind them
+/// may be any.
+pub fn put_refusal(refusal: &Refusal, into: &mut [u8; 256]) -> usize
+    ensures fits { result ≤ 256 }
+    ensures text { take result into.new ≡ refusal_text refusal.now ++ 10 ∷ [] }
+{
+    let at = put_reason(refusal, into);
+    append(into, at, b"\n")
 }
 
 // The first word that names a refusal.

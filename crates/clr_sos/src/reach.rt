@@ -51,9 +51,9 @@ pub(crate) struct Reached {
 }
 
 /// What the roots of a view reach. The roots come first: what locals name by threads and numbers, what strong and
-/// pinned handles hold by their numbers, and the f-reachable queue. Its time goes with the slots of what is reached, and
-/// no search is made for any of them. It takes a bit for each word of the heap's used ranges, and 24 bytes for each
-/// object that it finds.
+/// pinned handles hold by their numbers, and the f-reachable queue. Each slot of what is reached is followed once, and a
+/// bit tells whether its object was found before. It takes such a bit for each word of the heap's used ranges, and 24
+/// bytes for each object that it finds. `find` then goes over all that was found.
 pub(crate) fn reach(alloc: Global, view: &View<'_>) -> Result<Reached, AllocError>
     requires lawful { IsLawfulView view.now }
     ensures search { IfOk result (λ r. IsSearch view.now r.seen.items r.entries.items) }

@@ -14,7 +14,7 @@ use Rattle.clr_cards.specs.Cards.{is_card_set}
 use Rattle.clr_covers.specs.Covers.{CoverView, spans}
 use Rattle.clr_generations.specs.Laws.{BrickLaw, CardLaw}
 use Rattle.clr_generations.specs.Tables.{AreTablesOf, units_of}
-use Rattle.clr_generations.proofs.KeptLaws.{card_law-kept, HasSameObjects}
+use Rattle.clr_generations.proofs.KeptLaws.{HasSameObjects, were-younger}
 use Rattle.clr_generations.proofs.SameBounds.{HasSameBounds}
 use Rattle.clr_heap.specs.View.{frame, HeapView}
 use Rattle.clr_model.specs.Compaction.{compacted_end}
@@ -139,11 +139,11 @@ module _ (s : Stages) (m : Machine) (kept : ℕ → Bool) (c : IsCourse s m kept
   tables-ended cards bricks same_cards same_bricks card_law brick_law = record {
     cards = same_cards ∙ c.run.given.tables.cards ∙ sym (segments-ended (units_of 2048) (λ end u. refl));
     bricks = same_bricks ∙ c.run.given.tables.bricks ∙ sym (segments-ended (units_of 4096) (λ end u. refl));
-    card_law = card_law-kept s.rows s.rows (rebounded (frame c.begun.view) s.planned) (frame new)
+    card_law = λ a y. card_law a
+        (were-younger s.rows s.rows (rebounded (frame c.begun.view) s.planned) (frame new)
         (relocated.left_objects s.rows c.begun.view s.g c.begun.plan.moves) (objects_in s.rows new) same-bounds
         (same-members s.rows (relocated.left_objects s.rows c.begun.view s.g c.begun.plan.moves)
         (objects_in s.rows new)
-        (objects-ended s m kept c new e ∙ ap (sorted_by (λ (o : Object). o.name)) (sym left-lists)))
-        (is_card_set cards) card_law;
+        (objects-ended s m kept c new e ∙ ap (sorted_by (λ (o : Object). o.name)) (sym left-lists))) a y);
     brick_law = brick_law;
   }

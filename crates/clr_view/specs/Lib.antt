@@ -4,7 +4,6 @@ pub mod Births
 pub mod SlotValues
 pub mod Marks
 pub mod World
-pub mod Shown
 pub mod Flags
 pub mod Memory
 pub mod Clean

@@ -3,7 +3,8 @@ ghost use Rattle.std.specs.Prelude.{◌≡◌, ◌≢◌, ◌+◌, ◌*◌, ◌^
 ghost use Rattle.std.specs.Prelude.{IfOk, IfSome, IsSome, IsSomeAnd, ◌⊎◌, option_map, codes, IsTrue, ◌↔◌};
 ghost use Rattle.clr_model.specs.Machine.{Machine, Options};
 ghost use Rattle.clr_model.specs.LineGrammar.{script_lines, ended_lines};
-ghost use Rattle.clr_model.specs.Run.{IsRunOf, StandsFor};
+ghost use Rattle.clr_run.specs.Runs.{IsRunOf};
+ghost use Rattle.clr_model.specs.Run.{StandsFor};
 ghost use Rattle.clr_run.specs.Commands.{SaysRun, SaysNothing};
 ghost use Rattle.clr_run.specs.Faults.{Rose, Taken, Appended};
 ghost use Rattle.clr_run.specs.Progress.{Answered, CutShort};

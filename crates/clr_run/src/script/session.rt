@@ -7,11 +7,10 @@ use crate::NoMemory;
 use crate::execute::execute;
 use crate::outcome::{Outcome, put_outcome};
 use crate::streams::Failed;
-use crate::streams::memory::push_all;
+use crate::streams::buffer::push_all;
 use crate::streams::pending::Pending;
 use crate::streams::sink::Sink;
 use clr_runtime::{Options, Runtime};
-use clr_script::Line;
 use memchr::memchr;
 use std::alloc::Global;
 
@@ -37,15 +36,13 @@ fn keep(line: &mut Vec<u8>, more: &[u8])
     push_all(line, &more[..count]);
 }
 
-/// A script that runs: its core, the line that is begun, the replies that wait to be written, and where each is written
-/// first.
+/// A script that runs: its core, the line that is begun, and the replies that wait to be written.
 #[derive(Drop)]
 pub struct Session {
     alloc: Global,
     runtime: Runtime,
     line: Vec<u8>,
     pending: Pending,
-    reply: Line,
     ghost short: { vec_len line ≤ 4097 },
     ghost room: { 4097 ≤ vec_capacity line },
 }
@@ -54,7 +51,7 @@ impl Session {
     ghost use Rattle.clr_run.specs.Sessions.{IsAt, Goes, GoesWritten, Ends, EndsWritten, Stops, StopsLast};
     ghost use Rattle.clr_run.specs.Outcomes.{outcome_of, CanShow};
     ghost use Rattle.clr_model.specs.Lawful.{AreLawfulOptions};
-    ghost use Rattle.clr_model.specs.Run.{FollowsLine};
+    ghost use Rattle.clr_run.specs.Runs.{FollowsLine};
     ghost use Rattle.clr_runtime.specs.Options.{options_of};
 
     /// A script of which nothing was read yet, over a runtime with these options. Takes the memory of its buffers here.
@@ -77,7 +74,6 @@ impl Session {
             runtime,
             line,
             pending,
-            reply: Line::new(),
         })
     }
 
@@ -113,7 +109,7 @@ impl Session {
         ensures grows { self.new.runtime.layout.top ≤ self.old.runtime.layout.top + 2 ^ 30 }
     {
         let outcome = self.execute(rest);
-        put_outcome(&mut self.pending, sink, &outcome, &mut self.reply)
+        put_outcome(&mut self.pending, sink, &outcome)
     }
 
     // Answers the lines that the next bytes of the script end, and keeps what is behind them.
@@ -147,7 +143,7 @@ impl Session {
             return Ok(());
         }
         let outcome = self.execute(&[]);
-        put_outcome(&mut self.pending, sink, &outcome, &mut self.reply)
+        put_outcome(&mut self.pending, sink, &outcome)
     }
 
     /// Takes the next bytes of the script, and writes the replies to the lines that they end.
@@ -186,7 +182,6 @@ impl Session {
             runtime,
             line: _,
             pending: _,
-            reply: _,
         } = self;
         runtime
     }

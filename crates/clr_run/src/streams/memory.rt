@@ -6,20 +6,11 @@ ghost use Rattle.clr_run.specs.Memory.{next_call};
 
 use crate::NoMemory;
 use crate::streams::Failed;
+use crate::streams::buffer::{copy_front, push_all};
 use crate::streams::sink::Sink;
 use crate::streams::source::Source;
 use std::alloc::Global;
 use std::marker::Model;
-
-/// Copies from the front as many bytes as there are and fit, but at most `most`, and gives their count.
-pub(crate) fn copy_front(from: &[u8], into: &mut [u8], most: usize) -> usize
-    ensures count { result ≡ min (min (length into.new) most) (length from.now) }
-    ensures copied { take result into.new ≡ take result from.now }
-{
-    let count = into.len().min(most).min(from.len());
-    into[..count].copy_from_slice(&from[..count]);
-    count
-}
 
 /// The bytes of a `Vec`, in pieces.
 #[derive(Drop)]
@@ -180,17 +171,5 @@ impl Sink for MemorySink {
         let count = piece.len().min(self.piece).min(room);
         push_all(&mut self.bytes, &piece[..count]);
         Ok(count)
-    }
-}
-
-/// Puts bytes at the end, for which there is room.
-pub(crate) fn push_all(bytes: &mut Vec<u8>, more: &[u8])
-    requires { vec_len bytes.old + length more.now ≤ vec_capacity bytes.old }
-    ensures items { bytes.new.items ≡ bytes.old.items ++ more.now }
-    ensures capacity { vec_capacity bytes.old ≤ vec_capacity bytes.new }
-{
-    match bytes.extend_from_slice(more) {
-        Ok(()) => {}
-        Err(_) => unreachable!(),
     }
 }

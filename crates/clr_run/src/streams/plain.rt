@@ -2,7 +2,7 @@
 ghost use Rattle.std.specs.Prelude.{◌≡◌, Some, None, Ok, length};
 
 use crate::streams::Failed;
-use crate::streams::memory::copy_front;
+use crate::streams::buffer::copy_front;
 use crate::streams::sink::Sink;
 use crate::streams::source::Source;
 use std::marker::Model;

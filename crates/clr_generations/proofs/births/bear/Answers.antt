@@ -45,6 +45,6 @@ returns-clause-bricks c = λ order law.
     c.bear-place.ensures.place) law
 
 pub returns-clause-cards : goal.returns-clause-cards
-returns-clause-cards c = λ closed is_set law.
+returns-clause-cards c = λ closed.
     cards-born c.args.types.now c.args.heap.now c.bear-place.new.heap c.args.thread c.args.t.0 c.args.len (birth c)
-    closed is_set law
+    closed

@@ -1,4 +1,4 @@
-use Rattle.std.proofs.Common.{◌-◌, ◌+◌, ◌<◌, ◌≤◌, ◌∙◌, length, sym, arith}
+use Rattle.std.proofs.Common.{◌-◌, ◌+◌, ◌∙◌, sym, arith}
 use Rattle.std.proofs.lemmas.Bool.{leb-false, leb-true}
 use Rattle.clr_pinq.proofs.Lookups.{all_above, all_below}
 use Rattle.clr_pinq.proofs.queue.are_below.Goals as goal

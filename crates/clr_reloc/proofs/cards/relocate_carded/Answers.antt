@@ -19,9 +19,9 @@ loop-lo-init c = record {
     is,
     r,
     track,
-    gone_none c.args.types.now view now c.args.g vs c.args.first,
-    keeps_refl c.args.types.now view c.args.g vs c.args.pins.now.entries c.args.heap.now,
-    carded_none c.args.types.now view c.args.g vs (rebounded (frame view) c.args.planned.now)
+    gone_none c.args.work.now.types.now view now c.args.work.now.g vs c.args.first,
+    keeps_refl c.args.work.now.types.now view c.args.work.now.g vs c.args.pins.now.entries c.args.heap.now,
+    carded_none c.args.work.now.types.now view c.args.work.now.g vs (rebounded (frame view) c.args.work.now.planned)
         (is_card_set c.args.cards.now) c.args.first,
   );
   saved = saves_refl c.args.pins.now.entries;
@@ -42,22 +42,23 @@ pub relocate_items-cursor-requires-clause-can : goal.relocate_items-cursor-requi
 relocate_items-cursor-requires-clause-can c =
     let (view, now, vs, is, r, track, ahead, goes, sound, quiet) = c.requires.can in
     let inv = c.loop-lo.invariant in
-    let rows = c.args.types.now in
-    let layout = rebounded (frame view) c.args.planned.now in
+    let rows = c.args.work.now.types.now in
+    let layout = rebounded (frame view) c.args.work.now.planned in
     let heap = r.begun.plan.overlaid.heap in
     let held = r.begun.plan.held in
     let (next, rest, q, left, gone, keeps, carded) = inv.gone view now vs is r track ahead goes sound quiet in
     let under = c.in-Some.ensures.some.2 in
     let some = c.in-Some.ensures.some.1 in
-    let entry = entry_before c.args.bricks.now c.args.planned.now.below c.args.planned.now.first c.args.border in
-    let b = begin_at rows view now next c.args.g vs layout heap held (is_card_set c.args.cards.now)
+    let entry = entry_before c.args.work.now.bricks.now c.args.work.now.planned.below c.args.work.now.planned.first
+    c.args.border in
+    let b = begin_at rows view now next c.args.work.now.g vs layout heap held (is_card_set c.args.cards.now)
     (is_card_set c.loop-lo.cards) inv.kept c.args.first c.args.end c.loop-lo.cursor inv.low quiet ahead goes rest left
     gone carded c.in-Some.lo c.nearest-from.result (omega (arith, under, some)) c.in-Some.ensures.some.3
     (entry_stands rows view entry c.args.first c.args.end c.in-Some.lo c.nearest-from.result c.loop-lo.cursor
     (omega (arith, under, some)) sound c.nearest-from.ensures) in
     let above = b.above in
     let low = inv.low in
-    let near = sub_ahead view now next c.args.g vs rows c.args.first c.args.end c.nearest-from.result
+    let near = sub_ahead view now next c.args.work.now.g vs rows c.args.first c.args.end c.nearest-from.result
     (omega (arith, above, low)) ahead b.has_gone in
     let stays : GoesDown vs c.nearest-from.result c.args.end 0 = λ x lo_x hi_x. goes x
     (omega (arith, above, low, lo_x)) hi_x in
@@ -67,22 +68,23 @@ pub relocate_items-cursor-requires-clause-cards : goal.relocate_items-cursor-req
 relocate_items-cursor-requires-clause-cards c x from to =
     let (view, now, vs, is, r, track, ahead, goes, sound, quiet) = c.requires.can in
     let inv = c.loop-lo.invariant in
-    let rows = c.args.types.now in
-    let layout = rebounded (frame view) c.args.planned.now in
+    let rows = c.args.work.now.types.now in
+    let layout = rebounded (frame view) c.args.work.now.planned in
     let heap = r.begun.plan.overlaid.heap in
     let held = r.begun.plan.held in
     let (next, rest, q, left, gone, keeps, carded) = inv.gone view now vs is r track ahead goes sound quiet in
     let under = c.in-Some.ensures.some.2 in
     let some = c.in-Some.ensures.some.1 in
-    let entry = entry_before c.args.bricks.now c.args.planned.now.below c.args.planned.now.first c.args.border in
-    let b = begin_at rows view now next c.args.g vs layout heap held (is_card_set c.args.cards.now)
+    let entry = entry_before c.args.work.now.bricks.now c.args.work.now.planned.below c.args.work.now.planned.first
+    c.args.border in
+    let b = begin_at rows view now next c.args.work.now.g vs layout heap held (is_card_set c.args.cards.now)
     (is_card_set c.loop-lo.cards) inv.kept c.args.first c.args.end c.loop-lo.cursor inv.low quiet ahead goes rest left
     gone carded c.in-Some.lo c.nearest-from.result (omega (arith, under, some)) c.in-Some.ensures.some.3
     (entry_stands rows view entry c.args.first c.args.end c.in-Some.lo c.nearest-from.result c.loop-lo.cursor
     (omega (arith, under, some)) sound c.nearest-from.ensures) in
     let above = b.above in
     let low = inv.low in
-    let near = sub_ahead view now next c.args.g vs rows c.args.first c.args.end c.nearest-from.result
+    let near = sub_ahead view now next c.args.work.now.g vs rows c.args.first c.args.end c.nearest-from.result
     (omega (arith, above, low)) ahead b.has_gone in
     let stays : GoesDown vs c.nearest-from.result c.args.end 0 = λ x lo_x hi_x. goes x
     (omega (arith, above, low, lo_x)) hi_x in
@@ -95,15 +97,16 @@ loop-lo-preserved c =
     record {
       low = (
           let (view, now, vs, is, r, track, ahead, goes, sound, quiet) = c.requires.can in
-          let rows = c.args.types.now in
-          let layout = rebounded (frame view) c.args.planned.now in
+          let rows = c.args.work.now.types.now in
+          let layout = rebounded (frame view) c.args.work.now.planned in
           let heap = r.begun.plan.overlaid.heap in
           let held = r.begun.plan.held in
           let (next, rest, q, left, gone, keeps, carded) = inv.gone view now vs is r track ahead goes sound quiet in
           let under = c.in-Some.ensures.some.2 in
           let some = c.in-Some.ensures.some.1 in
-          let entry = entry_before c.args.bricks.now c.args.planned.now.below c.args.planned.now.first c.args.border in
-          let b = begin_at rows view now next c.args.g vs layout heap held (is_card_set c.args.cards.now)
+          let entry = entry_before c.args.work.now.bricks.now c.args.work.now.planned.below
+          c.args.work.now.planned.first c.args.border in
+          let b = begin_at rows view now next c.args.work.now.g vs layout heap held (is_card_set c.args.cards.now)
           (is_card_set c.loop-lo.cards) inv.kept c.args.first c.args.end c.loop-lo.cursor inv.low quiet ahead goes rest
           left
           gone carded c.in-Some.lo c.nearest-from.result (omega (arith, under, some)) c.in-Some.ensures.some.3
@@ -111,22 +114,23 @@ loop-lo-preserved c =
           (omega (arith, under, some)) sound c.nearest-from.ensures) in
           let above = b.above in
           let low = inv.low in
-          let near = sub_ahead view now next c.args.g vs rows c.args.first c.args.end c.nearest-from.result
+          let near = sub_ahead view now next c.args.work.now.g vs rows c.args.first c.args.end c.nearest-from.result
           (omega (arith, above, low)) ahead b.has_gone in
           let stays : GoesDown vs c.nearest-from.result c.args.end 0 = λ x lo_x hi_x. goes x
           (omega (arith, above, low, lo_x)) hi_x in
           let from = c.relocate_items-cursor.ensures.from in
           omega (arith, above, low, from));
       gone = λ view now vs is r track ahead goes sound quiet.
-          let rows = c.args.types.now in
-          let layout = rebounded (frame view) c.args.planned.now in
+          let rows = c.args.work.now.types.now in
+          let layout = rebounded (frame view) c.args.work.now.planned in
           let heap = r.begun.plan.overlaid.heap in
           let held = r.begun.plan.held in
           let (next, rest, q, left, gone, keeps, carded) = inv.gone view now vs is r track ahead goes sound quiet in
           let under = c.in-Some.ensures.some.2 in
           let some = c.in-Some.ensures.some.1 in
-          let entry = entry_before c.args.bricks.now c.args.planned.now.below c.args.planned.now.first c.args.border in
-          let b = begin_at rows view now next c.args.g vs layout heap held (is_card_set c.args.cards.now)
+          let entry = entry_before c.args.work.now.bricks.now c.args.work.now.planned.below
+          c.args.work.now.planned.first c.args.border in
+          let b = begin_at rows view now next c.args.work.now.g vs layout heap held (is_card_set c.args.cards.now)
           (is_card_set c.loop-lo.cards) inv.kept c.args.first c.args.end c.loop-lo.cursor inv.low quiet ahead goes rest
           left
           gone carded c.in-Some.lo c.nearest-from.result (omega (arith, under, some)) c.in-Some.ensures.some.3
@@ -134,7 +138,7 @@ loop-lo-preserved c =
           (omega (arith, under, some)) sound c.nearest-from.ensures) in
           let above = b.above in
           let low = inv.low in
-          let near = sub_ahead view now next c.args.g vs rows c.args.first c.args.end c.nearest-from.result
+          let near = sub_ahead view now next c.args.work.now.g vs rows c.args.first c.args.end c.nearest-from.result
           (omega (arith, above, low)) ahead b.has_gone in
           let stays : GoesDown vs c.nearest-from.result c.args.end 0 = λ x lo_x hi_x. goes x
           (omega (arith, above, low, lo_x)) hi_x in
@@ -145,11 +149,11 @@ loop-lo-preserved c =
             left_items,
             s,
             t,
-            gone_both rows view now next after c.args.g vs heap held c.args.first c.nearest-from.result
+            gone_both rows view now next after c.args.work.now.g vs heap held c.args.first c.nearest-from.result
                 c.relocate_items-cursor.result (omega (arith, above, low)) from b.has_gone more,
-            keeps_trans rows view c.args.g vs c.args.pins.now.entries c.loop-lo.pins.entries c.args.heap.now
+            keeps_trans rows view c.args.work.now.g vs c.args.pins.now.entries c.loop-lo.pins.entries c.args.heap.now
                 c.loop-lo.heap c.relocate_items-cursor.new.heap inv.saved keeps tells,
-            carded_both rows view c.args.g vs layout (is_card_set c.loop-lo.cards)
+            carded_both rows view c.args.work.now.g vs layout (is_card_set c.loop-lo.cards)
                 (is_card_set c.relocate_items-cursor.new.cards) c.args.first c.nearest-from.result
                 c.relocate_items-cursor.result c.relocate_items-cursor.ensures.kept b.are_carded set,
           );
@@ -163,11 +167,12 @@ loop-lo-preserved c =
 
 pub returns-clause-gone : goal.returns-clause-gone
 returns-clause-gone c view now vs is r track ahead goes sound quiet =
-    let rows = c.args.types.now in
+    let rows = c.args.work.now.types.now in
     let inv = c.loop-lo.invariant in
-    let layout = rebounded (frame view) c.args.planned.now in
+    let layout = rebounded (frame view) c.args.work.now.planned in
     let (next, rest, q, left, gone, keeps, carded) = inv.gone view now vs is r track ahead goes sound quiet in
-    let (all, set) = all_passed rows view now next c.args.g vs layout r.begun.plan.overlaid.heap r.begun.plan.held
+    let (all, set) = all_passed rows view now next c.args.work.now.g vs layout r.begun.plan.overlaid.heap
+    r.begun.plan.held
     (is_card_set c.args.cards.now) (is_card_set c.loop-lo.cards) inv.kept c.args.first c.args.end c.loop-lo.cursor
     inv.low quiet ahead goes rest left gone carded c.in_default.ensures.none in
     (next, q, all, keeps, set)

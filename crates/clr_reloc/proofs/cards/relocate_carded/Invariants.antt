@@ -14,18 +14,24 @@ abbrev pub invariant-loop-lo : goal.invariant-loop-lo
 invariant-loop-lo l = record {
   low : l.first ≤ l.cursor;
   gone : (view now : HeapView) (vs : List Move) (is : List Item)
-      → IsRelocating l.types view now l.initial.heap l.bricks l.initial.pins.entries l.g vs l.planned.start1
-      l.planned.start0
-      → Tracks l.types view is l.first l.end → IsAhead view now l.g vs l.first l.end → GoesDown vs l.first l.end 0
-      → AreEntriesSound l.types view (entry_before l.bricks l.planned.below l.planned.first l.border) l.first l.end
-      → AreQuietWhereClear l.types view l.g vs (rebounded (frame view) l.planned) (is_card_set l.initial.cards)
+      → IsRelocating l.work.types.now view now l.initial.heap l.work.bricks.now l.initial.pins.entries l.work.g vs
+      l.work.planned.start1
+      l.work.planned.start0
+      → Tracks l.work.types.now view is l.first l.end → IsAhead view now l.work.g vs l.first l.end → GoesDown vs
+      l.first l.end 0
+      → AreEntriesSound l.work.types.now view (entry_before l.work.bricks.now l.work.planned.below l.work.planned.first
+      l.border) l.first l.end
+      → AreQuietWhereClear l.work.types.now view l.work.g vs (rebounded (frame view) l.work.planned) (is_card_set
+      l.initial.cards)
       l.first l.end
       → (next : HeapView) × (rest : List Item)
-      × IsRelocating l.types view next l.heap l.bricks l.pins.entries l.g vs l.planned.start1 l.planned.start0
-      × Tracks l.types view rest l.cursor l.end
-      × HasGone l.types view now next l.g vs l.first l.cursor
-      × KeepsTelling l.types view l.g vs l.initial.pins.entries l.initial.heap l.heap
-      × AreCarded l.types view l.g vs (rebounded (frame view) l.planned) (is_card_set l.cards) l.first l.cursor;
+      × IsRelocating l.work.types.now view next l.heap l.work.bricks.now l.pins.entries l.work.g vs
+      l.work.planned.start1 l.work.planned.start0
+      × Tracks l.work.types.now view rest l.cursor l.end
+      × HasGone l.work.types.now view now next l.work.g vs l.first l.cursor
+      × KeepsTelling l.work.types.now view l.work.g vs l.initial.pins.entries l.initial.heap l.heap
+      × AreCarded l.work.types.now view l.work.g vs (rebounded (frame view) l.work.planned) (is_card_set l.cards)
+      l.first l.cursor;
   saved : SavesSame l.initial.pins.entries l.pins.entries;
   kept : (c : ℕ) → is_card_set l.initial.cards c ≡ true → is_card_set l.cards c ≡ true;
   cards : spans l.cards ≡ spans l.initial.cards;

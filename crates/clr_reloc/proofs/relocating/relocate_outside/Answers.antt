@@ -21,7 +21,7 @@ loop-k-init c = record {
   gone = λ view now vs r of ahead over scan. (
     now,
     r,
-    none_outside c.args.types.now view now c.args.g vs,
+    none_outside c.args.work.now.types.now view now c.args.work.now.g vs,
     λ t l. absurd (omega (arith, l)),
   );
   kept = λ i on. on;
@@ -44,7 +44,7 @@ pub relocate_segment-requires-clause-can : goal.relocate_segment-requires-clause
 relocate_segment-requires-clause-can c =
     let (view, now, vs, r, of, ahead, over, scan) = c.requires.can in
     let (next, q, gone, carded) = c.loop-k.invariant.gone view now vs r of ahead over scan in
-    let rows = c.args.types.now in
+    let rows = c.args.work.now.types.now in
     let k = c.loop-k.k in
     let plan = r.begun.plan in
     let l : k < length view.segments =
@@ -55,33 +55,39 @@ relocate_segment-requires-clause-can c =
     in
     let first : c.info-first.result.base + 4096 ≡ first_of view k =
     ap first_place c.info-first.ensures.value ∙ ap (λ (h : HeapView). first_of h k) q.shape.others in
-    let end : c.end_outside-end.result ≡ outside_end view c.args.g k =
-    c.end_outside-end.ensures ∙ ap (λ (h : HeapView). outside_end h c.args.g k) q.shape.others in
-    let track = outside_track rows view c.args.g vs plan.overlaid.heap plan.held plan.no_contexts plan.overlaid.moves
+    let end : c.end_outside-end.result ≡ outside_end view c.args.work.now.g k =
+    c.end_outside-end.ensures ∙ ap (λ (h : HeapView). outside_end h c.args.work.now.g k) q.shape.others in
+    let track = outside_track rows view c.args.work.now.g vs plan.overlaid.heap plan.held plan.no_contexts
+    plan.overlaid.moves
     plan.overlaid.starts over k l in
-    let near = segment_ahead rows view c.args.g vs plan.overlaid.heap plan.held plan.no_contexts plan.overlaid.moves
+    let near = segment_ahead rows view c.args.work.now.g vs plan.overlaid.heap plan.held plan.no_contexts
+    plan.overlaid.moves
     plan.overlaid.starts over now next k l ahead gone in
-    let stays = outside_stays rows view c.args.g vs plan.overlaid.heap plan.held plan.no_contexts plan.overlaid.moves
+    let stays = outside_stays rows view c.args.work.now.g vs plan.overlaid.heap plan.held plan.no_contexts
+    plan.overlaid.moves
     plan.overlaid.starts over k l in
-    let border : c.border_brick-border.result ≡ border_of view c.args.g k =
-    c.border_brick-border.ensures ∙ ap (λ (h : HeapView). border_of h c.args.g k) q.shape.others in (
+    let border : c.border_brick-border.result ≡ border_of view c.args.work.now.g k =
+    c.border_brick-border.ensures ∙ ap (λ (h : HeapView). border_of h c.args.work.now.g k) q.shape.others in (
       view,
       next,
       vs,
       track.0,
       q,
       subst₂ (λ x y. Tracks rows view track.0 x y) (sym first) (sym end) track.1,
-      subst₂ (λ x y. IsAhead view next c.args.g vs x y) (sym first) (sym end) near,
+      subst₂ (λ x y. IsAhead view next c.args.work.now.g vs x y) (sym first) (sym end) near,
       subst₂ (λ x y. GoesDown vs x y 0) (sym first) (sym end) stays,
-      λ young. subst₂ (λ x y. AreEntriesSound rows view (entry_before c.args.bricks.now c.args.planned.now.below
-          c.args.planned.now.first c.border_brick-border.result) x y) (sym first) (sym end)
-          (subst (λ n. AreEntriesSound rows view (entry_before c.args.bricks.now c.args.planned.now.below
-          c.args.planned.now.first n) (first_of view k) (outside_end view c.args.g k)) (sym border)
+      λ young. subst₂ (λ x y. AreEntriesSound rows view (entry_before c.args.work.now.bricks.now
+          c.args.work.now.planned.below
+          c.args.work.now.planned.first c.border_brick-border.result) x y) (sym first) (sym end)
+          (subst (λ n. AreEntriesSound rows view (entry_before c.args.work.now.bricks.now c.args.work.now.planned.below
+          c.args.work.now.planned.first n) (first_of view k) (outside_end view c.args.work.now.g k)) (sym border)
           ((scan young).sound k l)),
-      λ young. subst₂ (λ x y. AreQuietWhereClear rows view c.args.g vs (rebounded (frame view) c.args.planned.now)
+      λ young. subst₂ (λ x y. AreQuietWhereClear rows view c.args.work.now.g vs (rebounded (frame view)
+          c.args.work.now.planned)
           (is_card_set c.loop-k.cards) x y) (sym first) (sym end)
-          (quiet_on rows view c.args.g vs (rebounded (frame view) c.args.planned.now) (is_card_set c.args.cards.now)
-          (is_card_set c.loop-k.cards) (first_of view k) (outside_end view c.args.g k) c.loop-k.invariant.kept
+          (quiet_on rows view c.args.work.now.g vs (rebounded (frame view) c.args.work.now.planned) (is_card_set
+          c.args.cards.now)
+          (is_card_set c.loop-k.cards) (first_of view k) (outside_end view c.args.work.now.g k) c.loop-k.invariant.kept
           ((scan young).quiet k l)),
     )
 
@@ -89,7 +95,7 @@ pub relocate_segment-requires-clause-cards : goal.relocate_segment-requires-clau
 relocate_segment-requires-clause-cards c =
     let (view, now, vs, r, of, ahead, over, scan) = c.requires.can in
     let (next, q, gone, carded) = c.loop-k.invariant.gone view now vs r of ahead over scan in
-    let rows = c.args.types.now in
+    let rows = c.args.work.now.types.now in
     let k = c.loop-k.k in
     let plan = r.begun.plan in
     let l : k < length view.segments =
@@ -100,16 +106,16 @@ relocate_segment-requires-clause-cards c =
     in
     let first : c.info-first.result.base + 4096 ≡ first_of view k =
     ap first_place c.info-first.ensures.value ∙ ap (λ (h : HeapView). first_of h k) q.shape.others in
-    let end : c.end_outside-end.result ≡ outside_end view c.args.g k =
-    c.end_outside-end.ensures ∙ ap (λ (h : HeapView). outside_end h c.args.g k) q.shape.others in
+    let end : c.end_outside-end.result ≡ outside_end view c.args.work.now.g k =
+    c.end_outside-end.ensures ∙ ap (λ (h : HeapView). outside_end h c.args.work.now.g k) q.shape.others in
     subst₂ (λ x y. HaveCardsDown c.loop-k.cards x y 0) (sym first) (sym end)
-    (outside_cards rows view c.args.g vs plan.overlaid.heap plan.held plan.no_contexts plan.overlaid.moves
+    (outside_cards rows view c.args.work.now.g vs plan.overlaid.heap plan.held plan.no_contexts plan.overlaid.moves
     plan.overlaid.starts over k l c.loop-k.cards (c.loop-k.invariant.cards ∙ of))
 
 pub loop-k-preserved : goal.loop-k-preserved
 loop-k-preserved c =
     let inv = c.loop-k.invariant in
-    let rows = c.args.types.now in
+    let rows = c.args.work.now.types.now in
     let k = c.loop-k.k in
     record {
       gone = λ view now vs r of ahead over scan.
@@ -123,40 +129,42 @@ loop-k-preserved c =
           in
           let first : c.info-first.result.base + 4096 ≡ first_of view k =
           ap first_place c.info-first.ensures.value ∙ ap (λ (h : HeapView). first_of h k) q.shape.others in
-          let end : c.end_outside-end.result ≡ outside_end view c.args.g k =
-          c.end_outside-end.ensures ∙ ap (λ (h : HeapView). outside_end h c.args.g k) q.shape.others in
-          let track = outside_track rows view c.args.g vs plan.overlaid.heap plan.held plan.no_contexts
+          let end : c.end_outside-end.result ≡ outside_end view c.args.work.now.g k =
+          c.end_outside-end.ensures ∙ ap (λ (h : HeapView). outside_end h c.args.work.now.g k) q.shape.others in
+          let track = outside_track rows view c.args.work.now.g vs plan.overlaid.heap plan.held plan.no_contexts
           plan.overlaid.moves plan.overlaid.starts over k l in
-          let near = segment_ahead rows view c.args.g vs plan.overlaid.heap plan.held plan.no_contexts
+          let near = segment_ahead rows view c.args.work.now.g vs plan.overlaid.heap plan.held plan.no_contexts
           plan.overlaid.moves plan.overlaid.starts over now next k l ahead gone in
-          let stays = outside_stays rows view c.args.g vs plan.overlaid.heap plan.held plan.no_contexts
+          let stays = outside_stays rows view c.args.work.now.g vs plan.overlaid.heap plan.held plan.no_contexts
           plan.overlaid.moves plan.overlaid.starts over k l in
-          let layout = rebounded (frame view) c.args.planned.now in
-          let border : c.border_brick-border.result ≡ border_of view c.args.g k =
-          c.border_brick-border.ensures ∙ ap (λ (h : HeapView). border_of h c.args.g k) q.shape.others in
+          let layout = rebounded (frame view) c.args.work.now.planned in
+          let border : c.border_brick-border.result ≡ border_of view c.args.work.now.g k =
+          c.border_brick-border.ensures ∙ ap (λ (h : HeapView). border_of h c.args.work.now.g k) q.shape.others in
           let is_set = is_card_set c.relocate_segment.new.cards in
           let (after, s, h, keeps, set) = c.relocate_segment.ensures.gone view next vs track.0 q
           (subst₂ (λ x y. Tracks rows view track.0 x y) (sym first) (sym end) track.1)
-          (subst₂ (λ x y. IsAhead view next c.args.g vs x y) (sym first) (sym end) near)
+          (subst₂ (λ x y. IsAhead view next c.args.work.now.g vs x y) (sym first) (sym end) near)
           (subst₂ (λ x y. GoesDown vs x y 0) (sym first) (sym end) stays)
-          (λ young. subst₂ (λ x y. AreEntriesSound rows view (entry_before c.args.bricks.now c.args.planned.now.below
-          c.args.planned.now.first c.border_brick-border.result) x y) (sym first) (sym end)
-          (subst (λ n. AreEntriesSound rows view (entry_before c.args.bricks.now c.args.planned.now.below
-          c.args.planned.now.first n) (first_of view k) (outside_end view c.args.g k)) (sym border)
+          (λ young. subst₂ (λ x y. AreEntriesSound rows view (entry_before c.args.work.now.bricks.now
+          c.args.work.now.planned.below
+          c.args.work.now.planned.first c.border_brick-border.result) x y) (sym first) (sym end)
+          (subst (λ n. AreEntriesSound rows view (entry_before c.args.work.now.bricks.now c.args.work.now.planned.below
+          c.args.work.now.planned.first n) (first_of view k) (outside_end view c.args.work.now.g k)) (sym border)
           ((scan young).sound k l)))
-          (λ young. subst₂ (λ x y. AreQuietWhereClear rows view c.args.g vs layout
+          (λ young. subst₂ (λ x y. AreQuietWhereClear rows view c.args.work.now.g vs layout
           (is_card_set c.loop-k.cards) x y) (sym first) (sym end)
-          (quiet_on rows view c.args.g vs layout (is_card_set c.args.cards.now)
-          (is_card_set c.loop-k.cards) (first_of view k) (outside_end view c.args.g k) inv.kept
+          (quiet_on rows view c.args.work.now.g vs layout (is_card_set c.args.cards.now)
+          (is_card_set c.loop-k.cards) (first_of view k) (outside_end view c.args.work.now.g k) inv.kept
           ((scan young).quiet k l))) in (
             after,
             s,
-            segments_more rows view c.args.g vs plan.overlaid.heap plan.held plan.no_contexts plan.overlaid.moves
+            segments_more rows view c.args.work.now.g vs plan.overlaid.heap plan.held plan.no_contexts
+                plan.overlaid.moves
                 plan.overlaid.starts over now next k l ahead gone after
-                (subst₂ (λ x y. HasGone rows view next after c.args.g vs x y) first end h),
-            carded_outside_more rows view c.args.g vs layout (is_card_set c.loop-k.cards) is_set k
+                (subst₂ (λ x y. HasGone rows view next after c.args.work.now.g vs x y) first end h),
+            carded_outside_more rows view c.args.work.now.g vs layout (is_card_set c.loop-k.cards) is_set k
                 c.relocate_segment.ensures.kept carded
-                (subst₂ (λ x y. AreCarded rows view c.args.g vs layout is_set x y) first end set),
+                (subst₂ (λ x y. AreCarded rows view c.args.work.now.g vs layout is_set x y) first end set),
           );
       kept = λ i on. c.relocate_segment.ensures.kept i (inv.kept i on);
       cards = c.relocate_segment.ensures.cards ∙ inv.cards;
@@ -174,8 +182,9 @@ returns-clause-gone c view now vs r of ahead over scan =
     let all : c.loop-k.k ≡ length view.segments = omega (arith, count, start, test, far) in (
       next,
       q,
-      subst (HaveGoneOutside c.args.types.now view now next c.args.g vs) all gone,
-      subst (AreCardedOutside c.args.types.now view c.args.g vs (rebounded (frame view) c.args.planned.now)
+      subst (HaveGoneOutside c.args.work.now.types.now view now next c.args.work.now.g vs) all gone,
+      subst (AreCardedOutside c.args.work.now.types.now view c.args.work.now.g vs (rebounded (frame view)
+          c.args.work.now.planned)
           (is_card_set c.loop-k.cards)) all carded,
     )
 
@@ -183,7 +192,7 @@ pub relocate_segment-requires-clause-small : goal.relocate_segment-requires-clau
 relocate_segment-requires-clause-small c =
     let (view, now, vs, r, of, ahead, over, scan) = c.requires.can in
     let (next, q, gone, carded) = c.loop-k.invariant.gone view now vs r of ahead over scan in
-    let rows = c.args.types.now in
+    let rows = c.args.work.now.types.now in
     let k = c.loop-k.k in
     let plan = r.begun.plan in
     let l : k < length view.segments =
@@ -192,9 +201,10 @@ relocate_segment-requires-clause-small c =
     let test = c.loop-k-test.true in
     omega (arith, count, start, test)
     in
-    let end : c.end_outside-end.result ≡ outside_end view c.args.g k =
-    c.end_outside-end.ensures ∙ ap (λ (h : HeapView). outside_end h c.args.g k) q.shape.others in
-    let high = outside_high rows view c.args.g vs plan.overlaid.heap plan.held plan.no_contexts plan.overlaid.moves
+    let end : c.end_outside-end.result ≡ outside_end view c.args.work.now.g k =
+    c.end_outside-end.ensures ∙ ap (λ (h : HeapView). outside_end h c.args.work.now.g k) q.shape.others in
+    let high = outside_high rows view c.args.work.now.g vs plan.overlaid.heap plan.held plan.no_contexts
+    plan.overlaid.moves
     plan.overlaid.starts over k l in
     let room = below_top_at view k plan.overlaid.heap l in
     let top = plan.overlaid.heap.top_small in
@@ -213,8 +223,8 @@ relocate_segment-requires-clause-row c young =
     in
     let first : c.info-first.result.base + 4096 ≡ first_of view k =
     ap first_place c.info-first.ensures.value ∙ ap (λ (h : HeapView). first_of h k) q.shape.others in
-    let end : c.end_outside-end.result ≡ outside_end view c.args.g k =
-    c.end_outside-end.ensures ∙ ap (λ (h : HeapView). outside_end h c.args.g k) q.shape.others in
+    let end : c.end_outside-end.result ≡ outside_end view c.args.work.now.g k =
+    c.end_outside-end.ensures ∙ ap (λ (h : HeapView). outside_end h c.args.work.now.g k) q.shape.others in
     subst₂ (λ x y. AreInRow c.loop-k.cards x y) (sym first) (sym end)
     (λ a b la ha lb hb. share_cover-spans c.loop-k.cards c.args.cards.now (a / 2048) (b / 2048)
     c.loop-k.invariant.cards ∙ (scan young).row k l a b la ha lb hb)
@@ -232,6 +242,6 @@ relocate_segment-requires-clause-entries c young =
     in
     let first : c.info-first.result.base + 4096 ≡ first_of view k =
     ap first_place c.info-first.ensures.value ∙ ap (λ (h : HeapView). first_of h k) q.shape.others in
-    let end : c.end_outside-end.result ≡ outside_end view c.args.g k =
-    c.end_outside-end.ensures ∙ ap (λ (h : HeapView). outside_end h c.args.g k) q.shape.others in
-    subst₂ (λ x y. HaveEntries c.args.bricks.now x y) (sym first) (sym end) ((scan young).entries k l)
+    let end : c.end_outside-end.result ≡ outside_end view c.args.work.now.g k =
+    c.end_outside-end.ensures ∙ ap (λ (h : HeapView). outside_end h c.args.work.now.g k) q.shape.others in
+    subst₂ (λ x y. HaveEntries c.args.work.now.bricks.now x y) (sym first) (sym end) ((scan young).entries k l)

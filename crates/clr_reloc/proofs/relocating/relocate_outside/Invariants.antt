@@ -13,16 +13,20 @@ use Rattle.clr_reloc.proofs.relocating.relocate_outside.Given as goal
 abbrev pub invariant-loop-k : goal.invariant-loop-k
 invariant-loop-k l = record {
   gone : (view now : HeapView) (vs : List Move)
-      → IsRelocating l.types view now l.initial.heap l.bricks l.initial.pins.entries l.g vs l.planned.start1
-      l.planned.start0
-      → AreCardsOf (frame view) l.initial.cards → AreAheadOutside view now l.g (length view.segments) 0
-      → HaveNoneOver l.types view l.g
-      → (l.g < 2 → CanScan l.types view l.initial.cards l.bricks l.g vs (rebounded (frame view) l.planned)
-      (is_card_set l.initial.cards) l.planned.below l.planned.first)
+      → IsRelocating l.work.types.now view now l.initial.heap l.work.bricks.now l.initial.pins.entries l.work.g vs
+      l.work.planned.start1
+      l.work.planned.start0
+      → AreCardsOf (frame view) l.initial.cards → AreAheadOutside view now l.work.g (length view.segments) 0
+      → HaveNoneOver l.work.types.now view l.work.g
+      → (l.work.g < 2 → CanScan l.work.types.now view l.initial.cards l.work.bricks.now l.work.g vs (rebounded (frame
+      view) l.work.planned)
+      (is_card_set l.initial.cards) l.work.planned.below l.work.planned.first)
       → (next : HeapView)
-      × IsRelocating l.types view next l.heap l.bricks l.pins.entries l.g vs l.planned.start1 l.planned.start0
-      × HaveGoneOutside l.types view now next l.g vs l.k
-      × AreCardedOutside l.types view l.g vs (rebounded (frame view) l.planned) (is_card_set l.cards) l.k;
+      × IsRelocating l.work.types.now view next l.heap l.work.bricks.now l.pins.entries l.work.g vs
+      l.work.planned.start1 l.work.planned.start0
+      × HaveGoneOutside l.work.types.now view now next l.work.g vs l.k
+      × AreCardedOutside l.work.types.now view l.work.g vs (rebounded (frame view) l.work.planned) (is_card_set
+      l.cards) l.k;
   kept : (c : ℕ) → is_card_set l.initial.cards c ≡ true → is_card_set l.cards c ≡ true;
   cards : spans l.cards ≡ spans l.initial.cards;
   count : length l.pins.entries ≡ length l.initial.pins.entries;

@@ -6,7 +6,7 @@ use Rattle.clr_view.proofs.Standing.{standing}
 use Rattle.clr_reloc.specs.Relocated.{rebounded}
 use Rattle.clr_reloc.specs.Relocating.{AreCarded, HasGone, Tracks}
 use Rattle.clr_reloc.proofs.ManyItems.{carded_both, carded_none, gone_both, gone_none, item_ahead}
-use Rattle.clr_reloc.proofs.ManyItems.{below_end, track_first}
+use Rattle.clr_reloc.proofs.ManyItems.{below_end, track_first, track_has}
 use Rattle.clr_reloc.proofs.OneObject.{keeps_refl, keeps_trans, saves_refl, saves_trans}
 use Rattle.clr_reloc.proofs.stretches.relocate_items.Goals as goal
 
@@ -18,9 +18,9 @@ loop-place-init c = record {
     is,
     r,
     track,
-    gone_none c.args.types.now view now c.args.g vs c.args.from,
-    keeps_refl c.args.types.now view c.args.g vs c.args.pins.now.entries c.args.heap.now,
-    carded_none c.args.types.now view c.args.g vs (rebounded (frame view) c.args.planned.now)
+    gone_none c.args.work.now.types.now view now c.args.work.now.g vs c.args.from,
+    keeps_refl c.args.work.now.types.now view c.args.work.now.g vs c.args.pins.now.entries c.args.heap.now,
+    carded_none c.args.work.now.types.now view c.args.work.now.g vs (rebounded (frame view) c.args.work.now.planned)
         (is_card_set c.args.cards.now) c.args.from,
   );
   saved = saves_refl c.args.pins.now.entries;
@@ -38,11 +38,19 @@ overflow_sub-place c =
     let down = goes c.loop-place.place low below in
     omega (arith, down)
 
+pub segment_near-segment-requires : goal.segment_near-segment-requires
+segment_near-segment-requires c =
+    let (view, now, vs, is, r, track, ahead, goes) = c.requires.can in
+    let (next, rest, q, left, gone, keeps, carded) = c.loop-place.invariant.gone view now vs is r track ahead goes in
+    let below = (below_end c.loop-place.place c.args.hi c.args.end c.loop-place-test.true c.requires.within) in
+    track_has c.args.work.now.types.now view c.loop-place.heap r.begun.plan.overlaid.heap r.begun.plan.held q.shape rest
+    c.loop-place.place c.args.end left below
+
 pub relocate_item-place-requires-clause-can : goal.relocate_item-place-requires-clause-can
 relocate_item-place-requires-clause-can c =
     let (view, now, vs, is, r, track, ahead, goes) = c.requires.can in
     let inv = c.loop-place.invariant in
-    let rows = c.args.types.now in
+    let rows = c.args.work.now.types.now in
     let (next, rest, q, left, gone, keeps, carded) = inv.gone view now vs is r track ahead goes in
     let below = (below_end c.loop-place.place c.args.hi c.args.end c.loop-place-test.true c.requires.within) in
     let t = track_first rows view rest c.loop-place.place c.args.end left below in (
@@ -51,7 +59,7 @@ relocate_item-place-requires-clause-can c =
       vs,
       t.item,
       q,
-      item_ahead rows view now next c.args.g vs r.begun.plan.overlaid.heap r.begun.plan.held c.args.from
+      item_ahead rows view now next c.args.work.now.g vs r.begun.plan.overlaid.heap r.begun.plan.held c.args.from
           c.loop-place.place c.args.end c.args.down c.loop-place.cards inv.low below ahead goes gone t c.args.cards.now
           c.requires.cards inv.cards,
     )
@@ -60,11 +68,12 @@ pub overflow_add-place : goal.overflow_add-place
 overflow_add-place c =
     let (view, now, vs, is, r, track, ahead, goes) = c.requires.can in
     let inv = c.loop-place.invariant in
-    let rows = c.args.types.now in
+    let rows = c.args.work.now.types.now in
     let (next, rest, q, left, gone, keeps, carded) = inv.gone view now vs is r track ahead goes in
     let below = (below_end c.loop-place.place c.args.hi c.args.end c.loop-place-test.true c.requires.within) in
     let t = track_first rows view rest c.loop-place.place c.args.end left below in
-    let there = item_ahead rows view now next c.args.g vs r.begun.plan.overlaid.heap r.begun.plan.held c.args.from
+    let there = item_ahead rows view now next c.args.work.now.g vs r.begun.plan.overlaid.heap r.begun.plan.held
+    c.args.from
     c.loop-place.place c.args.end c.args.down c.loop-place.cards inv.low below ahead goes gone t c.args.cards.now
     c.requires.cards inv.cards in
     let (size, more) = c.relocate_item-place.ensures.gone view next vs t.item q there in
@@ -76,11 +85,12 @@ pub loop-place-smaller : goal.loop-place-smaller
 loop-place-smaller c =
     let (view, now, vs, is, r, track, ahead, goes) = c.requires.can in
     let inv = c.loop-place.invariant in
-    let rows = c.args.types.now in
+    let rows = c.args.work.now.types.now in
     let (next, rest, q, left, gone, keeps, carded) = inv.gone view now vs is r track ahead goes in
     let below = (below_end c.loop-place.place c.args.hi c.args.end c.loop-place-test.true c.requires.within) in
     let t = track_first rows view rest c.loop-place.place c.args.end left below in
-    let there = item_ahead rows view now next c.args.g vs r.begun.plan.overlaid.heap r.begun.plan.held c.args.from
+    let there = item_ahead rows view now next c.args.work.now.g vs r.begun.plan.overlaid.heap r.begun.plan.held
+    c.args.from
     c.loop-place.place c.args.end c.args.down c.loop-place.cards inv.low below ahead goes gone t c.args.cards.now
     c.requires.cards inv.cards in
     let (size, more) = c.relocate_item-place.ensures.gone view next vs t.item q there in
@@ -90,7 +100,7 @@ loop-place-smaller c =
 pub loop-place-preserved : goal.loop-place-preserved
 loop-place-preserved c =
     let inv = c.loop-place.invariant in
-    let rows = c.args.types.now in
+    let rows = c.args.work.now.types.now in
     let below = (below_end c.loop-place.place c.args.hi c.args.end c.loop-place-test.true c.requires.within) in
     record {
       low = let low = inv.low in omega (arith, low);
@@ -99,24 +109,27 @@ loop-place-preserved c =
           let heap = r.begun.plan.overlaid.heap in
           let held = r.begun.plan.held in
           let t = track_first rows view rest c.loop-place.place c.args.end left below in
-          let there = item_ahead rows view now next c.args.g vs heap held c.args.from c.loop-place.place c.args.end
+          let there = item_ahead rows view now next c.args.work.now.g vs heap held c.args.from c.loop-place.place
+          c.args.end
           c.args.down c.loop-place.cards inv.low below ahead goes gone t c.args.cards.now c.requires.cards inv.cards in
           let (size, (after, s, more, tells, set)) = c.relocate_item-place.ensures.gone view next vs t.item q there in
-          let layout = rebounded (frame view) c.args.planned.now in
+          let layout = rebounded (frame view) c.args.work.now.planned in
           let to = c.loop-place.place + t.item.size in
           let ends : c.loop-place.place + c.relocate_item-place.result ≡ to = ap (λ n. c.loop-place.place + n) size in (
             after,
             t.rest,
             s,
             subst (λ p. Tracks rows view t.rest p c.args.end) (sym ends) t.track,
-            subst (HasGone rows view now after c.args.g vs c.args.from) (sym ends)
-                (gone_both rows view now next after c.args.g vs heap held c.args.from c.loop-place.place to inv.low
+            subst (HasGone rows view now after c.args.work.now.g vs c.args.from) (sym ends)
+                (gone_both rows view now next after c.args.work.now.g vs heap held c.args.from c.loop-place.place to
+                inv.low
                 (omega arith) gone more),
-            keeps_trans rows view c.args.g vs c.args.pins.now.entries c.loop-place.pins.entries c.args.heap.now
+            keeps_trans rows view c.args.work.now.g vs c.args.pins.now.entries c.loop-place.pins.entries c.args.heap.now
                 c.loop-place.heap c.relocate_item-place.new.heap inv.saved keeps tells,
-            subst (AreCarded rows view c.args.g vs layout (is_card_set c.relocate_item-place.new.cards) c.args.from)
+            subst (AreCarded rows view c.args.work.now.g vs layout (is_card_set c.relocate_item-place.new.cards)
+                c.args.from)
                 (sym ends)
-                (carded_both rows view c.args.g vs layout (is_card_set c.loop-place.cards)
+                (carded_both rows view c.args.work.now.g vs layout (is_card_set c.loop-place.cards)
                 (is_card_set c.relocate_item-place.new.cards) c.args.from c.loop-place.place to
                 c.relocate_item-place.ensures.kept carded set),
           );

@@ -13,15 +13,19 @@ abbrev pub invariant-loop-place : goal.invariant-loop-place
 invariant-loop-place l = record {
   low : l.from ≤ l.place;
   gone : (view now : HeapView) (vs : List Move) (is : List Item)
-      → IsRelocating l.types view now l.initial.heap l.bricks l.initial.pins.entries l.g vs l.planned.start1
-      l.planned.start0
-      → Tracks l.types view is l.from l.end → IsAhead view now l.g vs l.from l.end → GoesDown vs l.from l.end l.down
+      → IsRelocating l.work.types.now view now l.initial.heap l.work.bricks.now l.initial.pins.entries l.work.g vs
+      l.work.planned.start1
+      l.work.planned.start0
+      → Tracks l.work.types.now view is l.from l.end → IsAhead view now l.work.g vs l.from l.end → GoesDown vs l.from
+      l.end l.down
       → (next : HeapView) × (rest : List Item)
-      × IsRelocating l.types view next l.heap l.bricks l.pins.entries l.g vs l.planned.start1 l.planned.start0
-      × Tracks l.types view rest l.place l.end
-      × HasGone l.types view now next l.g vs l.from l.place
-      × KeepsTelling l.types view l.g vs l.initial.pins.entries l.initial.heap l.heap
-      × AreCarded l.types view l.g vs (rebounded (frame view) l.planned) (is_card_set l.cards) l.from l.place;
+      × IsRelocating l.work.types.now view next l.heap l.work.bricks.now l.pins.entries l.work.g vs
+      l.work.planned.start1 l.work.planned.start0
+      × Tracks l.work.types.now view rest l.place l.end
+      × HasGone l.work.types.now view now next l.work.g vs l.from l.place
+      × KeepsTelling l.work.types.now view l.work.g vs l.initial.pins.entries l.initial.heap l.heap
+      × AreCarded l.work.types.now view l.work.g vs (rebounded (frame view) l.work.planned) (is_card_set l.cards)
+      l.from l.place;
   saved : SavesSame l.initial.pins.entries l.pins.entries;
   kept : (c : ℕ) → is_card_set l.initial.cards c ≡ true → is_card_set l.cards c ≡ true;
   cards : spans l.cards ≡ spans l.initial.cards;

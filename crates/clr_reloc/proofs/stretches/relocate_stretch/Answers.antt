@@ -8,15 +8,15 @@ use Rattle.clr_reloc.proofs.stretches.relocate_stretch.Goals as goal
 
 pub returns-clause-gone : goal.returns-clause-gone
 returns-clause-gone c view now vs is r track ahead goes =
-    let rows = c.args.types.now in
+    let rows = c.args.work.now.types.now in
     let (next, rest, q, left, gone, keeps, carded) = c.relocate_items.ensures.gone view now vs is r track ahead goes in
     let past = c.relocate_items.ensures.past in
     let order = track_order rows view rest c.relocate_items.result c.args.end left in
     let at : c.relocate_items.result ≡ c.args.end = omega (arith, past, order) in (
       next,
       q,
-      subst (HasGone rows view now next c.args.g vs c.args.from) at gone,
+      subst (HasGone rows view now next c.args.work.now.g vs c.args.from) at gone,
       keeps,
-      subst (AreCarded rows view c.args.g vs (rebounded (frame view) c.args.planned.now)
+      subst (AreCarded rows view c.args.work.now.g vs (rebounded (frame view) c.args.work.now.planned)
           (is_card_set c.relocate_items.new.cards) c.args.from) at carded,
     )

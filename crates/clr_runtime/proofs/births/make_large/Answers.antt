@@ -11,7 +11,8 @@ use Rattle.clr_runtime.specs.RuntimeView.{seen}
 use Rattle.clr_runtime.proofs.BirthLines.{known, large_fails_follows, makeable, may_bear_large}
 use Rattle.clr_runtime.proofs.IndexKept.{index_kept}
 use Rattle.clr_runtime.proofs.LargeBirthDone.{HasItsPlace, large_tables, placed_follows, placed_kept}
-use Rattle.clr_runtime.proofs.RuntimeKept.{spent_large_fits}
+use Rattle.clr_safe.specs.Threads.{births_owed}
+use Rattle.clr_runtime.proofs.RuntimeKept.{owed_left, spent_large_fits}
 use Rattle.clr_runtime.proofs.TablesKept.{closed}
 use Rattle.clr_runtime.proofs.births.make_large.Goals as goal
 use Rattle.clr_runtime.proofs.births.make_large.Goals.{After-register_entry, In_default}
@@ -20,7 +21,7 @@ use Rattle.clr_runtime.proofs.births.make_large.Goals.{After-register_entry, In_
 pub returns-in-Err-clause-made : goal.returns-in-Err-clause-made
 returns-in-Err-clause-made c =
     λ name len measured. large_fails_follows c.requires.runtime.shown refl c.args.t c.args.local name len
-    c.requires.passed c.args.request measured c.requires.large (seen c.make_large_room.new.parts) c.in-Err.fault
+    c.requires.passed c.args.request measured c.requires.large (seen c.make_large_room.new.parts) c.in-Err.why
     c.refusal_of.result c.refusal_of.ensures c.in-Err.ensures.err
 
 -- what is asked for, by the types once there is a place
@@ -55,6 +56,12 @@ pub bear-requires-clause-object : goal.bear-requires-clause-object
 bear-requires-clause-object c =
     let (name, len, measured) = c.requires.asked in
     (known c.args.parts.now.types c.args.local name len c.args.request measured).0
+
+pub register_entry-requires : goal.register_entry-requires
+register_entry-requires c = λ wanted.
+    let entry = c.requires.entry wanted in
+    let more = c.in_default.ensures.spare in
+    omega (arith, entry, more)
 
 pub overflow_add-parts : goal.overflow_add-parts
 overflow_add-parts c =
@@ -111,8 +118,15 @@ returns-clause-runtime c =
           (placed at.In_default name len measured) new.heap c.in-Some.place c.index_of.result finals.entries
           finals.ready (born at.After-register_entry name len measured) c.index_of.ensures.index
           (registered at.After-register_entry name len measured) c.register_entry.ensures.ready;
-      tables = large_tables p.types p.heap new.heap c.in-Some.place type c.args.request.len p.cards p.bricks new.bricks
-          done.born done.own_bricks done.bricks done.cards (closed is.shown) is.tables;
+      tables = large_tables p.types p.heap new.heap c.in-Some.place type c.args.request.len p.cards p.safe p.bricks
+          new.bricks done.born done.own_bricks done.bricks done.cards (closed is.shown) is.tables;
+      owed = owed_left c.args.request.finalizer (births_owed p.safe) p.finals.spare finals.spare
+          (λ wanted.
+          let entry = c.requires.entry wanted in
+          let same = ap births_owed c.in_default.ensures.safe in
+          let more = c.in_default.ensures.spare in
+          omega (arith, entry, same, more)) is.owed c.register_entry.ensures.spare;
+      finalizers = is.finalizers;
       index = index_kept young_items p.types p.types p.heap new.heap p.contexts
           (young_placed (seen p) is.shown.sound.lawful _ c.in-Some.place _ done.born.layout) is.index;
       large = done.index;

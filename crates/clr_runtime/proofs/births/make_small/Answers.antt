@@ -13,17 +13,22 @@ use Rattle.clr_runtime.specs.RuntimeView.{seen}
 use Rattle.clr_runtime.proofs.BirthDone.{birth_kept, HasItsRoom, made_follows, room_fits}
 use Rattle.clr_runtime.proofs.BirthLines.{fails_follows, known, makeable, may_bear}
 use Rattle.clr_runtime.proofs.IndexKept.{index_kept}
+use Rattle.clr_runtime.proofs.NamesChecked.{may_run}
 use Rattle.clr_runtime.proofs.LimitKept.{born_limit}
-use Rattle.clr_runtime.proofs.RuntimeKept.{spent_fits}
+use Rattle.clr_safe.specs.Threads.{births_owed}
+use Rattle.clr_runtime.proofs.RuntimeKept.{owed_left, spent_fits}
 use Rattle.clr_runtime.proofs.TablesKept.{birth_tables}
 use Rattle.clr_runtime.proofs.births.make_small.Goals as goal
 use Rattle.clr_runtime.proofs.births.make_small.Goals.{After-register_entry, In_default}
+
+pub make_room-requires-clause-idle : goal.make_room-requires-clause-idle
+make_room-requires-clause-idle c = (may_run (seen c.args.parts.now) c.args.t c.requires.passed).idle
 
 -- no room was made, and what was done for it stays
 pub returns-in-Err-clause-made : goal.returns-in-Err-clause-made
 returns-in-Err-clause-made c =
     λ name len measured. fails_follows c.requires.runtime.shown refl c.args.t c.args.local name len c.requires.passed
-    c.args.request measured c.requires.small (seen c.make_room.new.parts) c.in-Err.fault c.refusal_of.result
+    c.args.request measured c.requires.small (seen c.make_room.new.parts) c.in-Err.why c.refusal_of.result
     c.refusal_of.ensures c.in-Err.ensures.room
 
 -- what is asked for, by the types once there is room
@@ -69,6 +74,12 @@ bear-place-requires-clause-room c =
     subst (λ n. own_fits (frame p.heap) c.args.t (size_of (form_at p.types type) n) ≡ true) (sym measured.len_is)
     (room_fits (seen c.args.parts.now) c.in_default.ensures.runtime.shown c.args.t c.args.local name len type
     c.args.request.size (roomy at name len measured))
+
+pub register_entry-requires : goal.register_entry-requires
+register_entry-requires c = λ wanted.
+    let entry = c.requires.entry wanted in
+    let more = c.in_default.ensures.spare in
+    omega (arith, entry, more)
 
 pub overflow_add-parts : goal.overflow_add-parts
 overflow_add-parts c =
@@ -128,6 +139,13 @@ returns-clause-runtime c =
           done.ensures.free_heads done.ensures.clean;
       tables = birth_tables is.shown c.args.t done.new.heap type c.args.request.len p.cards p.bricks done.new.bricks
           done.ensures.born done.ensures.spans done.ensures.bricks done.ensures.cards is.tables;
+      owed = owed_left c.args.request.finalizer (births_owed p.safe) p.finals.spare finals.spare
+          (λ wanted.
+          let entry = c.requires.entry wanted in
+          let same = ap births_owed c.in_default.ensures.safe in
+          let more = c.in_default.ensures.spare in
+          omega (arith, entry, same, more)) is.owed c.register_entry.ensures.spare;
+      finalizers = is.finalizers;
       index = index_kept young_items p.types p.types p.heap done.new.heap p.contexts
           (ap young_items done.ensures.born.layout) is.index;
       large = index_kept large_items p.types p.types p.heap done.new.heap p.large

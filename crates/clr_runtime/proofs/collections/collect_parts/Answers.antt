@@ -1,5 +1,5 @@
 -- The parts after a collection show the picture of what it leaves of the machine that is seen.
-use Rattle.std.proofs.Common.{◌≡◌, ◌∙◌, ℕ, List, sym, subst}
+use Rattle.std.proofs.Common.{◌≡◌, ◌∙◌, ℕ, List, arith, sym, subst}
 use Rattle.std.specs.Vec.{with_items}
 use Rattle.std.proofs.lemmas.List.{with_items_is}
 use Rattle.clr_view.specs.World.{World}
@@ -7,6 +7,7 @@ use Rattle.clr_collect.specs.Collecting.{world_with}
 use Rattle.clr_runtime.specs.Options.{options_of}
 use Rattle.clr_runtime.specs.RuntimeView.{sums_of, world_of}
 use Rattle.clr_runtime.proofs.CollectLines.{collect_kept, first_fits, has_collected, locals-after, no_contexts-after}
+use Rattle.clr_runtime.proofs.StepsKept.{tables-carded, tables-idle}
 use Rattle.clr_runtime.proofs.CollectLines.{second_fits, Told, told_of, whole_world}
 use Rattle.clr_runtime.proofs.collections.collect_parts.Goals as goal
 use Rattle.clr_runtime.proofs.collections.collect_parts.Goals.{After-collect-collected}
@@ -26,32 +27,40 @@ new_world c =
 
 -- the collection of the machine that is seen
 left : (c : After-collect-collected) → Told (world_of c.args.parts.now) (sums_of c.args.parts.now.sums)
-    (options_of c.args.parts.now.options) c.args.g c.args.how (left_world c) c.collect-collected.result
+    (options_of c.args.parts.now.options) c.args.parts.now.safe c.args.g c.args.how (left_world c)
+    c.collect-collected.result
 left c =
     let p = c.args.parts.now in
     let done = c.collect-collected in
-    told_of (world_of p) (sums_of p.sums) (options_of p.options) c.requires.runtime.shown c.args.g c.args.how
-    c.deref_mut.result.now c.deref_mut.ensures.value (left_world c) done.result p.slides done.new.slides
-    done.ensures.collected
+    told_of (world_of p) (sums_of p.sums) (options_of p.options) p.safe c.requires.runtime.shown c.requires.idle
+    c.args.g c.args.how c.deref_mut.result.now c.deref_mut.ensures.value (left_world c) done.result p.slides
+    done.new.slides done.ensures.collected
 
 same_locals : (c : After-collect-collected)
     → (with_items c.args.parts.now.locals c.collect-collected.new.locals).items ≡ c.collect-collected.new.locals
 same_locals c =
     let p = c.args.parts.now in
     with_items_is p.locals c.collect-collected.new.locals
-    (locals-after c.requires.runtime.shown c.args.g c.requires.generation c.args.how (left_world c)
+    (locals-after c.requires.runtime.shown c.requires.idle c.args.g c.requires.generation c.args.how (left_world c)
     c.collect-collected.result (left c) ∙ sym c.requires.runtime.shown.locals ∙ sym p.locals.ok.0)
 
 told : (c : After-collect-collected) → Told (world_of c.args.parts.now) (sums_of c.args.parts.now.sums)
-    (options_of c.args.parts.now.options) c.args.g c.args.how (new_world c) c.collect-collected.result
+    (options_of c.args.parts.now.options) c.args.parts.now.safe c.args.g c.args.how (new_world c)
+    c.collect-collected.result
 told c =
     let p = c.args.parts.now in
     let new = c.collect-collected.new in
-    subst (λ (ls : List ℕ). Told (world_of p) (sums_of p.sums) (options_of p.options) c.args.g c.args.how
+    subst (λ (ls : List ℕ). Told (world_of p) (sums_of p.sums) (options_of p.options) p.safe c.args.g c.args.how
     (world_with p.types new.heap ls new.handles new.finals) c.collect-collected.result) (sym (same_locals c)) (left c)
 
 pub collect-collected-requires-clause-world : goal.collect-collected-requires-clause-world
-collect-collected-requires-clause-world c = rw c.deref_mut.ensures.value (whole_world c.requires.runtime.shown)
+collect-collected-requires-clause-world c =
+    rw c.deref_mut.ensures.value (whole_world c.requires.runtime.shown c.requires.idle)
+
+pub collect-collected-requires-clause-tables : goal.collect-collected-requires-clause-tables
+collect-collected-requires-clause-tables c =
+    let p = c.args.parts.now in
+    tables-idle p.cards p.safe p.bricks p.types p.heap c.requires.idle c.requires.runtime.tables
 
 pub collect-collected-requires-clause-free_heads : goal.collect-collected-requires-clause-free_heads
 collect-collected-requires-clause-free_heads c = c.requires.runtime.shown.free_heads
@@ -59,37 +68,45 @@ collect-collected-requires-clause-free_heads c = c.requires.runtime.shown.free_h
 pub collected-parts-requires-clause-first : goal.collected-parts-requires-clause-first
 collected-parts-requires-clause-first c =
     let before = (goal.at.collected-parts-requires-clause-first c).After-collect-collected in
-    first_fits c.requires.runtime.shown c.args.g c.requires.generation c.args.how (new_world before)
+    first_fits c.requires.runtime.shown c.requires.idle c.args.g c.requires.generation c.args.how (new_world before)
     c.collect-collected.result (told before)
 
 pub collected-parts-requires-clause-second : goal.collected-parts-requires-clause-second
 collected-parts-requires-clause-second c =
     let before = (goal.at.collected-parts-requires-clause-second c).After-collect-collected in
-    second_fits c.requires.runtime.shown c.args.g c.requires.generation c.args.how (new_world before)
+    second_fits c.requires.runtime.shown c.requires.idle c.args.g c.requires.generation c.args.how (new_world before)
     c.collect-collected.result (told before)
 
 pub returns-clause-collected : goal.returns-clause-collected
 returns-clause-collected c =
     let before = (goal.at.returns-clause-collected c).After-collect-collected in
     rw c.collected-parts.ensures
-    (has_collected c.requires.runtime.shown c.args.g c.requires.generation c.args.how (new_world before)
+    (has_collected c.requires.runtime.shown c.requires.idle c.args.g c.requires.generation c.args.how (new_world before)
     c.collect-collected.result (told before))
 
 pub returns-clause-no_contexts : goal.returns-clause-no_contexts
 returns-clause-no_contexts c =
     let before = (goal.at.returns-clause-no_contexts c).After-collect-collected in
-    no_contexts-after c.requires.runtime.shown c.args.g c.requires.generation c.args.how (new_world before)
+    no_contexts-after c.requires.runtime.shown c.requires.idle c.args.g c.requires.generation c.args.how
+    (new_world before)
     c.collect-collected.result (told before)
 
 pub returns-clause-runtime : goal.returns-clause-runtime
 returns-clause-runtime c =
+    let p = c.args.parts.now in
     let done = c.collect-collected in
     let before = (goal.at.returns-clause-runtime c).After-collect-collected in
     record {
       shown = rw c.collected-parts.ensures
-          (collect_kept c.requires.runtime.shown c.args.g c.requires.generation c.args.how (new_world before)
+          (collect_kept c.requires.runtime.shown c.requires.idle c.args.g c.requires.generation c.args.how
+          (new_world before)
           done.result (told before) done.ensures.held done.ensures.unmarked done.ensures.free_heads done.ensures.clean);
-      tables = done.ensures.tables;
+      tables = tables-carded done.new.cards p.safe done.new.bricks p.types done.new.heap done.ensures.tables;
+      owed =
+          let owed = c.requires.runtime.owed in
+          let more = done.ensures.spare in
+          omega (arith, owed, more);
+      finalizers = c.requires.runtime.finalizers;
       index = done.ensures.index;
       large = rw c.lose.ensures tt;
       limit = done.ensures.limit ∙ c.requires.runtime.limit;

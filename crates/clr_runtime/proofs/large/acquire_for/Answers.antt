@@ -3,7 +3,13 @@ use Rattle.std.proofs.Common.{◌≡◌, arith}
 use Rattle.clr_model.specs.Allocation.{segment_for}
 use Rattle.clr_runtime.specs.RuntimeView.{seen}
 use Rattle.clr_runtime.proofs.AcquiredParts.{acquired_kept}
+use Rattle.clr_runtime.proofs.StepsKept.{tables-idle}
 use Rattle.clr_runtime.proofs.large.acquire_for.Goals as goal
+
+pub acquire_large-requires-clause-tables : goal.acquire_large-requires-clause-tables
+acquire_large-requires-clause-tables c =
+    let p = c.args.parts.now in
+    tables-idle p.cards p.safe p.bricks p.types p.heap c.requires.idle c.requires.runtime.tables
 
 pub returns-clause-runtime : goal.returns-clause-runtime
 returns-clause-runtime c =

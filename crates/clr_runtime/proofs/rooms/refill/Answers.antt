@@ -18,8 +18,8 @@ answered : (c : After-is_some)
 answered c =
     let done = c.refill-refilled in
     refill_answers c.args.parts.now c.requires.runtime c.lawful.ensures c.args.thread c.args.size c.requires.positive
-    c.requires.few (c.requires.least, c.requires.whole) done.new.heap done.new.self done.result done.ensures.none
-    done.ensures.refilled done.ensures.index
+    c.requires.few c.requires.idle (c.requires.least, c.requires.whole) done.new.heap done.new.self done.result
+    done.ensures.none done.ensures.refilled done.ensures.index
 
 pub returns-clause-refilled : goal.returns-clause-refilled
 returns-clause-refilled c = rw c.is_some.ensures (answered c).0

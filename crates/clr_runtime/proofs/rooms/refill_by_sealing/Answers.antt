@@ -1,6 +1,14 @@
 -- The new segment has room for the context.
+use Rattle.clr_runtime.specs.RuntimeView.{seen}
+use Rattle.clr_runtime.proofs.RefillKept.{thread-idle}
+use Rattle.clr_runtime.proofs.StepsSeen.{still_calm}
 use Rattle.clr_runtime.proofs.SealedParts.{sealing_refilled}
 use Rattle.clr_runtime.proofs.rooms.refill_by_sealing.Goals as goal
+
+pub refill-requires-clause-idle : goal.refill-requires-clause-idle
+refill-requires-clause-idle c =
+    thread-idle (seen c.seal_parts.new.parts) c.args.thread
+    (still_calm c.args.parts.now.safe c.seal_parts.new.parts.safe c.seal_parts.ensures.safe c.requires.idle)
 
 pub returns-clause-refilled : goal.returns-clause-refilled
 returns-clause-refilled c =

@@ -1,7 +1,13 @@
 -- What holds of a runtime holds of its parts with a new segment.
 use Rattle.std.proofs.Common.{Ok}
 use Rattle.clr_runtime.proofs.SealedParts.{sealed_kept, segment_allowed}
+use Rattle.clr_runtime.proofs.StepsKept.{tables-idle}
 use Rattle.clr_runtime.proofs.sealing.seal_parts.Goals as goal
+
+pub seal-requires-clause-tables : goal.seal-requires-clause-tables
+seal-requires-clause-tables c =
+    let p = c.args.parts.now in
+    tables-idle p.cards p.safe p.bricks p.types p.heap c.requires.idle c.requires.runtime.tables
 
 pub returns-clause-runtime : goal.returns-clause-runtime
 returns-clause-runtime c =

@@ -67,7 +67,7 @@ returns-clause-bricks c = λ law.
     (old_newborn rows old new place c.args.t.0 c.args.len (more d) c.bear_placed-place.ensures.born.layout) law
 
 pub returns-clause-cards : goal.returns-clause-cards
-returns-clause-cards c = λ closed is_set law.
+returns-clause-cards c = λ closed.
     let d = (goal.at.returns-clause-cards c).After-lawful-2 in
     old_newborn-cards c.args.types.now c.args.heap.now c.bear_placed-place.new.heap c.bear_placed-place.result
-    c.args.t.0 c.args.len (more d) c.bear_placed-place.ensures.born.layout closed is_set law
+    c.args.t.0 c.args.len (more d) c.bear_placed-place.ensures.born.layout closed

@@ -21,9 +21,11 @@ invariant_of-self c =
     let passed = rw (← c.self.view_is) at (sym c.refused_names.ensures.value ∙ c.in_default.is) in
     record {
       shown = local_kept c.self.invariant.shown _ (answered Done) c.index_of.result 0
-          (cleared (world_of r) _ _ c.args.t c.args.local c.index_of.result
+          (cleared (world_of r) _ _ _ c.args.t c.args.local c.index_of.result
           passed c.index_of.ensures.index);
       tables = c.self.invariant.tables;
+      owed = c.self.invariant.owed;
+      finalizers = c.self.invariant.finalizers;
       index = c.self.invariant.index;
       large = c.self.invariant.large;
       limit = c.self.invariant.limit;
@@ -36,5 +38,5 @@ returns c =
     let r = c.self.inside.parts in
     let passed = rw (← c.self.view_is) at (sym c.refused_names.ensures.value ∙ c.in_default.is) in
     rw (← c.self.view_is)
-    (cleared (world_of r) _ _ c.args.t c.args.local c.index_of.result
+    (cleared (world_of r) _ _ _ c.args.t c.args.local c.index_of.result
     passed c.index_of.ensures.index)

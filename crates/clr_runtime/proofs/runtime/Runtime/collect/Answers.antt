@@ -2,7 +2,7 @@
 use Rattle.std.proofs.Common.{◌∙◌, sym, refl}
 use Rattle.clr_model.specs.Instructions.{collect_heap}
 use Rattle.clr_runtime.specs.RuntimeView.{seen}
-use Rattle.clr_runtime.proofs.CollectLines.{collect_done}
+use Rattle.clr_runtime.proofs.CollectLines.{collect_done, collect_waits}
 use Rattle.clr_runtime.proofs.NamesChecked.{may_run, thread_refused}
 use Rattle.clr_runtime.proofs.runtime.Runtime.collect.Goals as goal
 
@@ -11,10 +11,18 @@ returns-in-Some c =
     thread_refused (collect_heap c.args.t c.args.g c.args.how) c.args.t refl refl c.args.self.now c.in-Some.refusal
     (sym c.refused_thread.ensures.value ∙ c.in-Some.is)
 
+pub returns-in-Err : goal.returns-in-Err
+returns-in-Err c =
+    let s = seen c.self.inside.parts in
+    let passed = rw (← c.self.view_is) at (sym c.refused_thread.ensures.value ∙ c.in_default.is) in
+    rw (← c.self.view_is)
+    (collect_waits s c.args.t c.args.g c.args.how (may_run s c.args.t passed) c.in-Err.k c.in-Err.ensures.busy)
+
 pub returns : goal.returns
 returns c =
     let s = seen c.self.inside.parts in
     let passed = rw (← c.self.view_is) at (sym c.refused_thread.ensures.value ∙ c.in_default.is) in
     rw (← c.self.view_is)
-    (collect_done s c.args.t c.args.g c.args.how (may_run s c.args.t refl passed) refl c.requires.generation
+    (collect_done s c.args.t c.args.g c.args.how (may_run s c.args.t passed) c.in_default-all_safe.ensures.safe
+    c.requires.generation
     c.collect_parts.result (seen c.collect_parts.new.parts) c.collect_parts.ensures.collected)

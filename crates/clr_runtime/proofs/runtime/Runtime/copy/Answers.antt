@@ -23,11 +23,13 @@ invariant_of-self c =
     let is = c.self.invariant.shown in
     record {
       shown = local_kept is _ (answered (Place c.index-held.result.now)) c.index_of-2.result c.index-held.result.now
-          (copied (world_of r) _ _ c.args.t c.args.to c.args.from c.index_of-2.result
+          (copied (world_of r) _ _ _ c.args.t c.args.to c.args.from c.index_of-2.result
           c.index-held.result.now passed c.index_of-2.ensures.index
           (local-read is c.args.t c.args.from c.index_of.result c.index-held.result.now c.index_of.ensures.within
           c.index_of.ensures.index c.index-held.ensures));
       tables = c.self.invariant.tables;
+      owed = c.self.invariant.owed;
+      finalizers = c.self.invariant.finalizers;
       index = c.self.invariant.index;
       large = c.self.invariant.large;
       limit = c.self.invariant.limit;
@@ -40,7 +42,7 @@ returns c =
     let r = c.self.inside.parts in
     let passed = rw (← c.self.view_is) at (sym c.refused_names.ensures.value ∙ c.in_default.is) in
     rw (← c.self.view_is)
-    (copied (world_of r) _ _ c.args.t c.args.to c.args.from c.index_of-2.result
+    (copied (world_of r) _ _ _ c.args.t c.args.to c.args.from c.index_of-2.result
     c.index-held.result.now passed c.index_of-2.ensures.index
     (local-read c.self.invariant.shown c.args.t c.args.from c.index_of.result c.index-held.result.now
     c.index_of.ensures.within c.index_of.ensures.index c.index-held.ensures))

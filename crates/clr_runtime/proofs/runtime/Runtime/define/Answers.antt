@@ -6,7 +6,7 @@ use Rattle.clr_runtime.specs.Options.{options_of}
 use Rattle.clr_runtime.specs.RuntimeView.{sums_of, world_of}
 use Rattle.clr_model.specs.Step.{new_row}
 use Rattle.clr_runtime.proofs.IndexKept.{defined_index}
-use Rattle.clr_runtime.proofs.TablesKept.{defined_tables}
+use Rattle.clr_runtime.proofs.TablesKept.{defined_finalizers, defined_tables}
 use Rattle.clr_runtime.proofs.TypeLines.{defined_kept, IsTold, told-err, told-ok}
 use Rattle.clr_runtime.proofs.runtime.Runtime.define.Goals as goal
 use Rattle.clr_runtime.proofs.runtime.Runtime.define.Goals.{in-Ok, in-Err}
@@ -24,10 +24,10 @@ returns c =
     elim c.match-define.branch [
       | in-Ok w ↦ rw (w.result-is, w.mt.ensures, w.in-Ok.ensures.number, w.in-Ok.ensures.defined)
           (told-ok (world_of r) c.args.name.now form c.args.finalizer c.define.result told (sums_of r.sums)
-          (options_of r.options) c.requires w.in-Ok.t w.in-Ok.is c.self.invariant.shown.held)
+          (options_of r.options) r.safe c.requires w.in-Ok.t w.in-Ok.is c.self.invariant.shown.held)
       | in-Err w ↦ rw (w.result-is, w.refusal_of.ensures, w.in-Err.ensures.err)
           (told-err (world_of r) c.args.name.now form c.args.finalizer c.define.result told (sums_of r.sums)
-          (options_of r.options) w.in-Err.fault w.in-Err.is)
+          (options_of r.options) r.safe w.in-Err.fault w.in-Err.is)
     ]
 
 pub invariant_of-self : goal.invariant_of-self
@@ -36,17 +36,20 @@ invariant_of-self c =
     let form = form_of c.args.shape in
     record {
       shown =
-          defined_kept (world_of r) c.define.new.self (sums_of r.sums) (options_of r.options) c.args.name.now form
-          c.args.finalizer c.define.result c.self.invariant.shown c.requires c.define.ensures.defined
+          defined_kept (world_of r) c.define.new.self (sums_of r.sums) (options_of r.options) r.safe c.args.name.now
+          form c.args.finalizer c.define.result c.self.invariant.shown c.requires c.define.ensures.defined
           c.define.ensures.err
           (record {
             duplicate = c.define.ensures.duplicate;
             bad_shape = c.define.ensures.bad_shape;
             too_many = c.define.ensures.too_many;
           });
-      tables = defined_tables r.cards r.bricks r.types c.define.new.self r.heap
-          (new_row c.args.name.now form c.args.finalizer) c.define.result c.self.invariant.shown.held
-          c.define.ensures.defined c.define.ensures.err c.self.invariant.tables;
+      tables = defined_tables c.self.invariant.shown c.define.new.self (new_row c.args.name.now form c.args.finalizer)
+          r.cards r.bricks c.define.result c.define.ensures.defined c.define.ensures.err c.self.invariant.tables;
+      owed = c.self.invariant.owed;
+      finalizers = defined_finalizers c.self.invariant.shown c.define.new.self
+          (new_row c.args.name.now form c.args.finalizer) c.define.result c.define.ensures.defined c.define.ensures.err
+          c.self.invariant.finalizers;
       index = defined_index young_items r.types c.define.new.self r.heap
           (new_row c.args.name.now form c.args.finalizer) c.define.result r.contexts c.self.invariant.shown.held
           c.define.ensures.defined c.define.ensures.err c.self.invariant.index;

@@ -1,7 +1,7 @@
 -- The first object that waits is taken.
-use Rattle.std.proofs.Common.{sym, slice_set, ◌∙◌}
+use Rattle.std.proofs.Common.{arith, sym, slice_set, ◌∙◌}
 use Rattle.clr_types.proofs.ChangedLists.{length-slice_set}
-use Rattle.clr_view.specs.Shown.{shown}
+use Rattle.clr_runtime.specs.Shown.{shown}
 use Rattle.clr_model.specs.declared.Reply.TheVariants.{Place}
 use Rattle.clr_model.specs.Instructions.{take_ready}
 use Rattle.clr_model.specs.Outcomes.{answered}
@@ -29,7 +29,7 @@ returns-in_default-next c =
     rw (← c.self.view_is)
     (room_follows c.self.invariant.shown finals.entries finals.ready c.next.ensures.entries
     (sym c.in_default-next.ensures.taken) (take_ready c.args.t c.args.to) _
-    (take_empty (world_of c.self.inside.parts) _ _ c.args.t c.args.to passed c.in_default-next.ensures.none))
+    (take_empty (world_of c.self.inside.parts) _ _ _ c.args.t c.args.to passed c.in_default-next.ensures.none))
 
 -- the local takes the first that waits
 done : (c : After-index_of) → Follows (seen c.self.inside.parts) (take_ready c.args.t c.args.to)
@@ -38,11 +38,11 @@ done : (c : After-index_of) → Follows (seen c.self.inside.parts) (take_ready c
       locals = slice_set c.self.inside.parts.locals.items c.index_of.result c.in-Some-next.place;
       entries = c.next.new.self.entries;
       ready = c.next.new.self.ready;
-    }) (sums_of c.self.inside.parts.sums) (options_of c.self.inside.parts.options))
+    }) (sums_of c.self.inside.parts.sums) (options_of c.self.inside.parts.options) c.self.inside.parts.safe)
 done c =
     let passed = rw (← c.self.view_is) at (sym c.refused_names.ensures.value ∙ c.in_default.is) in
     let finals = c.next.new.self in
-    taken (world_of c.self.inside.parts) _ _ c.args.t c.args.to passed c.in-Some-next.place c.index_of.result
+    taken (world_of c.self.inside.parts) _ _ _ c.args.t c.args.to passed c.in-Some-next.place c.index_of.result
     finals.entries
     finals.ready c.in-Some-next.ensures.taken c.next.ensures.entries c.index_of.ensures.index
 
@@ -57,6 +57,11 @@ invariant_of-self-2 c =
           (length-slice_set r.locals.items c.index_of.result c.in-Some-next.place ∙ is.locals)
           (done (goal.at.invariant_of-self-2 c).After-index_of);
       tables = c.self.invariant.tables;
+      owed =
+          let owed = c.self.invariant.owed in
+          let more = c.next.ensures.spare in
+          omega (arith, owed, more);
+      finalizers = c.self.invariant.finalizers;
       index = c.self.invariant.index;
       large = c.self.invariant.large;
       limit = c.self.invariant.limit;

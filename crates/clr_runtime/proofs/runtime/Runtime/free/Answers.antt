@@ -5,7 +5,7 @@ use Rattle.clr_model.specs.declared.Refusal.TheVariants.{NoHandle}
 use Rattle.clr_model.specs.declared.Reply.TheVariants.{Done}
 use Rattle.clr_model.specs.Outcomes.{answered, refused}
 use Rattle.clr_model.specs.Run.{Follows}
-use Rattle.clr_view.specs.Shown.{shown}
+use Rattle.clr_runtime.specs.Shown.{shown}
 use Rattle.clr_runtime.specs.Options.{options_of}
 use Rattle.clr_runtime.specs.RuntimeView.{seen, sums_of, world_of}
 use Rattle.clr_runtime.proofs.HandleLines.{free_missing, freed}
@@ -23,10 +23,10 @@ returns-in-Some c =
 -- a number that isn't in use
 missing : (c : In_default-free) → Follows (seen c.self.inside.parts) (free_handle c.args.t c.args.h) (refused NoHandle)
     (shown (record (world_of c.self.inside.parts) { handles = c.free.new.self }) (sums_of c.self.inside.parts.sums)
-    (options_of c.self.inside.parts.options))
+    (options_of c.self.inside.parts.options) c.self.inside.parts.safe)
 missing c =
     let passed = rw (← c.self.view_is) at (sym c.refused_thread.ensures.value ∙ c.in_default.is) in
-    free_missing (world_of c.self.inside.parts) _ _ c.args.t c.args.h passed c.free.new.self c.free.ensures.table
+    free_missing (world_of c.self.inside.parts) _ _ _ c.args.t c.args.h passed c.free.new.self c.free.ensures.table
     c.in_default-free.ensures.err
 
 pub invariant_of-self : goal.invariant_of-self
@@ -36,6 +36,8 @@ invariant_of-self c =
     record {
       shown = names_kept is _ _ r.locals.items c.free.new.self r.finals.entries r.finals.ready is.locals (missing c);
       tables = c.self.invariant.tables;
+      owed = c.self.invariant.owed;
+      finalizers = c.self.invariant.finalizers;
       index = c.self.invariant.index;
       large = c.self.invariant.large;
       limit = c.self.invariant.limit;
@@ -49,10 +51,10 @@ returns-in_default-free c = rw (← c.self.view_is) (missing c)
 -- the handle is freed
 done : (c : In-Ok) → Follows (seen c.self.inside.parts) (free_handle c.args.t c.args.h) (answered Done)
     (shown (record (world_of c.self.inside.parts) { handles = c.free.new.self }) (sums_of c.self.inside.parts.sums)
-    (options_of c.self.inside.parts.options))
+    (options_of c.self.inside.parts.options) c.self.inside.parts.safe)
 done c =
     let passed = rw (← c.self.view_is) at (sym c.refused_thread.ensures.value ∙ c.in_default.is) in
-    freed (world_of c.self.inside.parts) _ _ c.args.t c.args.h passed c.free.new.self c.free.ensures.table
+    freed (world_of c.self.inside.parts) _ _ _ c.args.t c.args.h passed c.free.new.self c.free.ensures.table
     c.in-Ok.field-0
     c.in-Ok.ensures.freed
 
@@ -63,6 +65,8 @@ invariant_of-self-2 c =
     record {
       shown = names_kept is _ _ r.locals.items c.free.new.self r.finals.entries r.finals.ready is.locals (done c);
       tables = c.self.invariant.tables;
+      owed = c.self.invariant.owed;
+      finalizers = c.self.invariant.finalizers;
       index = c.self.invariant.index;
       large = c.self.invariant.large;
       limit = c.self.invariant.limit;

@@ -1,7 +1,7 @@
 -- The handle is made, or the line is refused for the first check that fails.
 use Rattle.std.proofs.Common.{◌≡◌, ◌≢◌, [], ◌∷◌, inl, inr, true, None, unwrap_or, sym, ap, ◌∙◌}
 use Rattle.std.proofs.lemmas.Bool.{both_ways}
-use Rattle.clr_view.specs.Shown.{shown}
+use Rattle.clr_runtime.specs.Shown.{shown}
 use Rattle.clr_model.specs.Instructions.{create_handle}
 use Rattle.clr_model.specs.Lookups.{local_of}
 use Rattle.clr_types.specs.Kinds.{is_dependent}
@@ -45,7 +45,7 @@ pub returns-then-target-eq0 : goal.returns-then-target-eq0
 returns-then-target-eq0 c =
     let at = goal.at.returns-then-target-eq0 c in
     rw (← c.self.view_is)
-    (create_null (world_of c.self.inside.parts) _ _ c.args.t c.args.kind c.args.local c.args.second c.requires.form
+    (create_null (world_of c.self.inside.parts) _ _ _ c.args.t c.args.kind c.args.local c.args.second c.requires.form
     (passed at.In_default) c.index-target.result.now (target-is at.After-is_dependent)
     (sym c.is_dependent.ensures ∙ c.if-is_dependent.true) c.if-target-eq0.true)
 
@@ -54,7 +54,7 @@ followed : (c : Joined-create_with_room) → Follows (seen c.self.inside.parts)
     (create_handle c.args.t c.args.kind c.args.local c.args.second) (handle_outcome c.match-create_with_room.result)
     (shown (record (world_of c.self.inside.parts) { handles = c.create_with_room.new.handles })
     (sums_of c.self.inside.parts.sums)
-    (options_of c.self.inside.parts.options))
+    (options_of c.self.inside.parts.options) c.self.inside.parts.safe)
 followed c =
     let r = c.self.inside.parts in
     let at = goal.at.returns c in
@@ -76,13 +76,13 @@ followed c =
     } in
     elim c.match-create_with_room.branch [
       | in-Ok w ↦ rw w.result-is
-          (created (world_of r) _ _ c.args.t c.args.kind c.args.local c.args.second c.requires.form
+          (created (world_of r) _ _ _ c.args.t c.args.kind c.args.local c.args.second c.requires.form
           (passed at.In_default) c.index-target.result.now (target-is at.After-is_dependent) some c.held_by-other.result
           (rw c.deref.ensures.value at c.held_by-other.ensures)
           c.create_with_room.new.handles c.create_with_room.result told w.in-Ok.h
           w.in-Ok.is)
       | in-Err w ↦ rw (w.result-is, w.refusal_of.ensures)
-          (create_refused (world_of r) _ _ c.args.t c.args.kind c.args.local c.args.second c.requires.form
+          (create_refused (world_of r) _ _ _ c.args.t c.args.kind c.args.local c.args.second c.requires.form
           (passed at.In_default) c.index-target.result.now (target-is at.After-is_dependent) some c.held_by-other.result
           (rw c.deref.ensures.value at c.held_by-other.ensures)
           c.create_with_room.new.handles c.create_with_room.result told w.in-Err.fault
@@ -97,6 +97,8 @@ invariant_of-self c =
       shown = names_kept is _ _ r.locals.items c.create_with_room.new.handles r.finals.entries r.finals.ready is.locals
           (followed c);
       tables = c.self.invariant.tables;
+      owed = c.self.invariant.owed;
+      finalizers = c.self.invariant.finalizers;
       index = c.self.invariant.index;
       large = c.self.invariant.large;
       limit = c.self.invariant.limit;

@@ -3,7 +3,6 @@ use Rattle.std.proofs.Common.{sym, ◌∙◌}
 use Rattle.clr_model.specs.Outcomes.{answered}
 use Rattle.clr_model.specs.declared.Reply.TheVariants.{Done}
 use Rattle.clr_model.proofs.LineFollows.{put_of}
-use Rattle.clr_generations.proofs.KeptTables.{tables-number}
 use Rattle.clr_ctx.specs.Contexts.{young_items}
 use Rattle.clr_large.specs.Places.{large_items}
 use Rattle.clr_runtime.specs.RuntimeView.{seen, world_of}
@@ -12,6 +11,7 @@ use Rattle.clr_runtime.proofs.LimitKept.{stored_limit}
 use Rattle.clr_runtime.proofs.LocalsSeen.{local-read, local-stands}
 use Rattle.clr_runtime.proofs.NamesChecked.{names_refused, once}
 use Rattle.clr_runtime.proofs.RuntimeKept.{heap_kept}
+use Rattle.clr_runtime.proofs.StepsKept.{numbered_tables}
 use Rattle.clr_runtime.proofs.SlotLines.{refused_slot, was_put}
 use Rattle.clr_runtime.proofs.runtime.Runtime.put.Goals as goal
 
@@ -32,7 +32,7 @@ returns-in-Err c =
     let r = c.self.inside.parts in
     let passed = rw (← c.self.view_is) at (sym c.refused_names.ensures.value ∙ c.in_default.is) in
     rw (← c.self.view_is)
-    (refused_slot (world_of r) _ _
+    (refused_slot (world_of r) _ _ _
     (put_of c.args.t c.args.into c.args.index c.args.value c.ranges.value.fits) c.index-place.result.now
     (once (seen r) c.args.t c.args.into _ passed)
     (local-read c.self.invariant.shown c.args.t c.args.into c.index_of.result c.index-place.result.now
@@ -50,14 +50,16 @@ invariant_of-self c =
     record {
       shown = heap_kept is _ (answered Done) done.new.heap stored.held done.ensures.unmarked
           done.ensures.free_heads done.ensures.clean
-          (was_put (world_of r) _ _ c.args.t c.index-place.result.now c.args.index c.in-Ok.found.item
+          (was_put (world_of r) _ _ _ c.args.t c.index-place.result.now c.args.index c.in-Ok.found.item
           c.in-Ok.found.slot has done.new.heap c.args.into c.args.value number.result c.ranges.value.fits
           passed
           (local-read is c.args.t c.args.into c.index_of.result c.index-place.result.now c.index_of.ensures.within
           c.index_of.ensures.index c.index-place.ensures) number.ensures kind stored);
-      tables = tables-number r.cards r.bricks r.types r.heap done.new.heap c.in-Ok.found.item c.in-Ok.found.slot
-          number.result (record { number = c.args.index; is = has.slot }) kind done.ensures.stored
+      tables = numbered_tables r.cards r.safe r.bricks r.types r.heap done.new.heap c.in-Ok.found.item
+          c.in-Ok.found.slot number.result (record { number = c.args.index; is = has.slot }) kind done.ensures.stored
           c.self.invariant.tables;
+      owed = c.self.invariant.owed;
+      finalizers = c.self.invariant.finalizers;
       index = same_index young_items r.types r.types r.heap done.new.heap r.contexts stored.layout
           c.self.invariant.index;
       large = same_index large_items r.types r.types r.heap done.new.heap r.large stored.layout c.self.invariant.large;
@@ -75,7 +77,7 @@ returns c =
     let done = c.set_slot_value in
     let number = c.narrowed-number in
     rw (← c.self.view_is)
-    (was_put (world_of r) _ _ c.args.t c.index-place.result.now c.args.index c.in-Ok.found.item
+    (was_put (world_of r) _ _ _ c.args.t c.index-place.result.now c.args.index c.in-Ok.found.item
     c.in-Ok.found.slot has done.new.heap c.args.into c.args.value number.result c.ranges.value.fits
     passed
     (local-read c.self.invariant.shown c.args.t c.args.into c.index_of.result c.index-place.result.now

@@ -1,7 +1,7 @@
 -- The object's finaliser is asked for again, where there is one.
-use Rattle.std.proofs.Common.{◌≡◌, [], ◌∷◌, ◌++◌, None, sym, ap, ◌∙◌, true≢false}
+use Rattle.std.proofs.Common.{◌≡◌, [], ◌∷◌, ◌++◌, None, sym, ap, arith, ◌∙◌, true≢false}
 use Rattle.clr_heap.specs.View.{HeapView}
-use Rattle.clr_view.specs.Shown.{shown}
+use Rattle.clr_runtime.specs.Shown.{shown}
 use Rattle.clr_model.specs.Instructions.{reregister_object}
 use Rattle.clr_model.specs.Lookups.{local_of}
 use Rattle.clr_model.specs.Outcomes.{answered}
@@ -12,7 +12,6 @@ use Rattle.clr_ctx.specs.Contexts.{young_items}
 use Rattle.clr_large.specs.Places.{large_items}
 use Rattle.clr_runtime.specs.Checks.{names_refusal}
 use Rattle.clr_runtime.specs.Options.{options_of}
-use Rattle.clr_generations.proofs.KeptTables.{tables-flagged}
 use Rattle.clr_runtime.specs.RuntimeView.{seen, sums_of, world_of}
 use Rattle.clr_runtime.proofs.FinalizerLines.{allowed, reregister_lacks, reregister_null, reregister_plain}
 use Rattle.clr_runtime.proofs.FinalizerLines.{reregistered}
@@ -20,6 +19,7 @@ use Rattle.clr_runtime.proofs.IndexKept.{same_index}
 use Rattle.clr_runtime.proofs.LocalsSeen.{local-read, local-stands}
 use Rattle.clr_runtime.proofs.NamesChecked.{names_refused, once}
 use Rattle.clr_runtime.proofs.RuntimeKept.{heap_kept, names_kept, room_follows}
+use Rattle.clr_runtime.proofs.StepsKept.{flagged_tables}
 use Rattle.clr_runtime.proofs.runtime.Runtime.reregister.Goals as goal
 use Rattle.clr_runtime.proofs.runtime.Runtime.reregister.Goals.{After-index-place, After-register, After-set_suppressed}
 
@@ -44,7 +44,7 @@ pub returns-then-place-eq0 : goal.returns-then-place-eq0
 returns-then-place-eq0 c =
     let at = (goal.at.returns-then-place-eq0 c).After-index-place in
     rw (← c.self.view_is)
-    (reregister_null (world_of c.self.inside.parts) _ _ c.args.t c.args.local (passed at) c.index-place.result.now
+    (reregister_null (world_of c.self.inside.parts) _ _ _ c.args.t c.args.local (passed at) c.index-place.result.now
     (place-is at) c.if-place-eq0.true)
 
 pub is_final-requires-clause-stands : goal.is_final-requires-clause-stands
@@ -58,7 +58,7 @@ pub returns-then-not-is_final : goal.returns-then-not-is_final
 returns-then-not-is_final c =
     let at = (goal.at.returns-then-not-is_final c).After-index-place in
     rw (← c.self.view_is)
-    (reregister_plain (world_of c.self.inside.parts) _ _ c.args.t c.args.local (passed at) c.index-place.result.now
+    (reregister_plain (world_of c.self.inside.parts) _ _ _ c.args.t c.args.local (passed at) c.index-place.result.now
     (place-is at) c.if-place-eq0.false (sym c.is_final.ensures ∙ c.if-not-is_final.true))
 
 pub is_suppressed-requires-clause-stands : goal.is_suppressed-requires-clause-stands
@@ -76,11 +76,11 @@ set_suppressed-requires-clause-stands c =
 -- one that isn't suppressed any more
 freed : (c : After-set_suppressed) → Follows (seen c.self.inside.parts) (reregister_object c.args.t c.args.local)
     (answered Done) (shown (record (world_of c.self.inside.parts) { heap = c.set_suppressed.new.heap })
-    (sums_of c.self.inside.parts.sums) (options_of c.self.inside.parts.options))
+    (sums_of c.self.inside.parts.sums) (options_of c.self.inside.parts.options) c.self.inside.parts.safe)
 freed c =
     let at = (goal.at.returns-then-is_suppressed c).After-index-place in
-    allowed (world_of c.self.inside.parts) _ _ c.args.t c.args.local (passed at) c.index-place.result.now (place-is at)
-    c.if-place-eq0.false (sym c.is_final.ensures ∙ c.if-not-is_final.false)
+    allowed (world_of c.self.inside.parts) _ _ _ c.args.t c.args.local (passed at) c.index-place.result.now
+    (place-is at) c.if-place-eq0.false (sym c.is_final.ensures ∙ c.if-not-is_final.false)
     (sym c.is_suppressed.ensures ∙ c.if-is_suppressed.true) c.set_suppressed.new.heap c.set_suppressed.ensures.flagged
 
 pub invariant_of-self : goal.invariant_of-self
@@ -91,7 +91,9 @@ invariant_of-self c =
     record {
       shown = heap_kept c.self.invariant.shown _ _ new set.flagged.held set.unmarked set.free_heads
           (set.clean (λ never. absurd (true≢false (sym never)))) (freed c);
-      tables = tables-flagged r.cards r.bricks r.types r.heap new _ _ set.flagged c.self.invariant.tables;
+      tables = flagged_tables r.cards r.safe r.bricks r.types r.heap new _ _ set.flagged c.self.invariant.tables;
+      owed = c.self.invariant.owed;
+      finalizers = c.self.invariant.finalizers;
       index = same_index young_items r.types r.types r.heap new r.contexts set.flagged.layout c.self.invariant.index;
       large = same_index large_items r.types r.types r.heap new r.large set.flagged.layout c.self.invariant.large;
       limit = ap (λ (h : HeapView). h.limit) set.words ∙ c.self.invariant.limit;
@@ -110,7 +112,7 @@ returns-in_default-reserve c =
     rw (← c.self.view_is)
     (room_follows c.self.invariant.shown finals.entries finals.ready c.reserve.ensures.entries c.reserve.ensures.ready
     (reregister_object c.args.t c.args.local) _
-    (reregister_lacks (world_of c.self.inside.parts) _ _ c.args.t c.args.local (passed at) c.index-place.result.now
+    (reregister_lacks (world_of c.self.inside.parts) _ _ _ c.args.t c.args.local (passed at) c.index-place.result.now
     (place-is at) c.if-place-eq0.false (sym c.is_final.ensures ∙ c.if-not-is_final.false)
     (sym c.is_suppressed.ensures ∙ c.if-is_suppressed.false)))
 
@@ -120,10 +122,10 @@ entered : (c : After-register) → Follows (seen c.self.inside.parts) (reregiste
     (shown (record (world_of c.self.inside.parts) {
       entries = c.register.new.self.entries;
       ready = c.register.new.self.ready;
-    }) (sums_of c.self.inside.parts.sums) (options_of c.self.inside.parts.options))
+    }) (sums_of c.self.inside.parts.sums) (options_of c.self.inside.parts.options) c.self.inside.parts.safe)
 entered c =
     let at = (goal.at.returns c).After-index-place in
-    reregistered (world_of c.self.inside.parts) _ _ c.args.t c.args.local (passed at) c.index-place.result.now
+    reregistered (world_of c.self.inside.parts) _ _ _ c.args.t c.args.local (passed at) c.index-place.result.now
     (place-is at)
     c.if-place-eq0.false (sym c.is_final.ensures ∙ c.if-not-is_final.false)
     (sym c.is_suppressed.ensures ∙ c.if-is_suppressed.false) c.register.new.self.entries c.register.new.self.ready
@@ -138,6 +140,12 @@ invariant_of-self-2 c =
     record {
       shown = names_kept is _ _ r.locals.items r.handles finals.entries finals.ready is.locals (entered c);
       tables = c.self.invariant.tables;
+      owed =
+          let room = c.in-Ok.ensures.ok in
+          let less = c.register.ensures.spare in
+          let count = c.births_owed-owed.ensures.count in
+          omega (arith, room, less, count);
+      finalizers = c.self.invariant.finalizers;
       index = c.self.invariant.index;
       large = c.self.invariant.large;
       limit = c.self.invariant.limit;

@@ -3,7 +3,6 @@ use Rattle.std.proofs.Common.{sym, ◌∙◌}
 use Rattle.clr_model.specs.Outcomes.{answered}
 use Rattle.clr_model.specs.declared.Reply.TheVariants.{Done}
 use Rattle.clr_model.proofs.LineFollows.{set_of}
-use Rattle.clr_generations.proofs.KeptTables.{tables-referred}
 use Rattle.clr_ctx.specs.Contexts.{young_items}
 use Rattle.clr_large.specs.Places.{large_items}
 use Rattle.clr_runtime.specs.RuntimeView.{world_of}
@@ -12,6 +11,7 @@ use Rattle.clr_runtime.proofs.LimitKept.{stored_limit}
 use Rattle.clr_runtime.proofs.LocalsSeen.{local-read, local-stands}
 use Rattle.clr_runtime.proofs.NamesChecked.{names_refused}
 use Rattle.clr_runtime.proofs.RuntimeKept.{heap_kept}
+use Rattle.clr_runtime.proofs.StepsKept.{referred_tables}
 use Rattle.clr_runtime.proofs.SlotLines.{refused_slot, was_set}
 use Rattle.clr_runtime.proofs.runtime.Runtime.set.Goals as goal
 
@@ -32,7 +32,7 @@ returns-in-Err c =
     let r = c.self.inside.parts in
     let passed = rw (← c.self.view_is) at (sym c.refused_names.ensures.value ∙ c.in_default.is) in
     rw (← c.self.view_is)
-    (refused_slot (world_of r) _ _ (set_of c.args.t c.args.into c.args.index c.args.from)
+    (refused_slot (world_of r) _ _ _ (set_of c.args.t c.args.into c.args.index c.args.from)
     c.index-place.result.now passed
     (local-read c.self.invariant.shown c.args.t c.args.into c.index_of.result c.index-place.result.now
     c.index_of.ensures.within c.index_of.ensures.index c.index-place.ensures) c.in-Err.refusal c.in-Err.ensures)
@@ -48,16 +48,19 @@ invariant_of-self c =
     record {
       shown = heap_kept is _ (answered Done) done.new.heap stored.held done.ensures.unmarked
           done.ensures.free_heads done.ensures.clean
-          (was_set (world_of r) _ _ c.args.t c.index-place.result.now c.args.index c.in-Ok.found.item
+          (was_set (world_of r) _ _ _ c.args.t c.index-place.result.now c.args.index c.in-Ok.found.item
           c.in-Ok.found.slot has done.new.heap c.args.into c.args.from c.index-name.result.now
           passed
           (local-read is c.args.t c.args.into c.index_of.result c.index-place.result.now c.index_of.ensures.within
           c.index_of.ensures.index c.index-place.ensures)
           (local-read is c.args.t c.args.from c.index_of-2.result c.index-name.result.now
           c.index_of-2.ensures.within c.index_of-2.ensures.index c.index-name.ensures) kind stored);
-      tables = tables-referred r.cards r.bricks r.types r.heap done.new.heap c.in-Ok.found.item c.in-Ok.found.slot
-          c.index-name.result.now (record { number = c.args.index; is = has.slot }) done.ensures.stored
-          done.new.cards done.ensures.spans done.ensures.law c.self.invariant.tables;
+      tables = referred_tables r.cards r.safe r.bricks r.types r.heap done.new.heap c.in-Ok.found.item
+          c.in-Ok.found.slot c.index-name.result.now (record { number = c.args.index; is = has.slot })
+          done.ensures.stored done.new.cards done.ensures.spans done.ensures.card done.ensures.law
+          c.self.invariant.tables;
+      owed = c.self.invariant.owed;
+      finalizers = c.self.invariant.finalizers;
       index = same_index young_items r.types r.types r.heap done.new.heap r.contexts stored.layout
           c.self.invariant.index;
       large = same_index large_items r.types r.types r.heap done.new.heap r.large stored.layout c.self.invariant.large;
@@ -75,7 +78,7 @@ returns c =
     let (has, kind) = c.in-Ok.ensures in
     let done = c.set_reference in
     rw (← c.self.view_is)
-    (was_set (world_of r) _ _ c.args.t c.index-place.result.now c.args.index c.in-Ok.found.item
+    (was_set (world_of r) _ _ _ c.args.t c.index-place.result.now c.args.index c.in-Ok.found.item
     c.in-Ok.found.slot has done.new.heap c.args.into c.args.from c.index-name.result.now
     passed
     (local-read is c.args.t c.args.into c.index_of.result c.index-place.result.now c.index_of.ensures.within

@@ -1,7 +1,7 @@
 -- The object's finaliser is suppressed, where there is one.
 use Rattle.std.proofs.Common.{◌≡◌, [], ◌∷◌, None, sym, ap, ◌∙◌}
 use Rattle.clr_heap.specs.View.{HeapView}
-use Rattle.clr_view.specs.Shown.{shown}
+use Rattle.clr_runtime.specs.Shown.{shown}
 use Rattle.clr_model.specs.Instructions.{suppress_object}
 use Rattle.clr_model.specs.Lookups.{local_of}
 use Rattle.clr_model.specs.Outcomes.{answered}
@@ -12,13 +12,13 @@ use Rattle.clr_ctx.specs.Contexts.{young_items}
 use Rattle.clr_large.specs.Places.{large_items}
 use Rattle.clr_runtime.specs.Checks.{names_refusal}
 use Rattle.clr_runtime.specs.Options.{options_of}
-use Rattle.clr_generations.proofs.KeptTables.{tables-flagged}
 use Rattle.clr_runtime.specs.RuntimeView.{seen, sums_of, world_of}
 use Rattle.clr_runtime.proofs.FinalizerLines.{suppress_null, suppress_plain, suppressed}
 use Rattle.clr_runtime.proofs.IndexKept.{same_index}
 use Rattle.clr_runtime.proofs.LocalsSeen.{local-read, local-stands}
 use Rattle.clr_runtime.proofs.NamesChecked.{names_refused, once}
 use Rattle.clr_runtime.proofs.RuntimeKept.{heap_kept}
+use Rattle.clr_runtime.proofs.StepsKept.{flagged_tables}
 use Rattle.clr_runtime.proofs.runtime.Runtime.suppress.Goals as goal
 use Rattle.clr_runtime.proofs.runtime.Runtime.suppress.Goals.{After-index-place, After-set_suppressed}
 
@@ -43,7 +43,7 @@ pub returns-then-place-eq0 : goal.returns-then-place-eq0
 returns-then-place-eq0 c =
     let at = (goal.at.returns-then-place-eq0 c).After-index-place in
     rw (← c.self.view_is)
-    (suppress_null (world_of c.self.inside.parts) _ _ c.args.t c.args.local (passed at) c.index-place.result.now
+    (suppress_null (world_of c.self.inside.parts) _ _ _ c.args.t c.args.local (passed at) c.index-place.result.now
     (place-is at)
     c.if-place-eq0.true)
 
@@ -58,7 +58,7 @@ pub returns-then-not-is_final : goal.returns-then-not-is_final
 returns-then-not-is_final c =
     let at = (goal.at.returns-then-not-is_final c).After-index-place in
     rw (← c.self.view_is)
-    (suppress_plain (world_of c.self.inside.parts) _ _ c.args.t c.args.local (passed at) c.index-place.result.now
+    (suppress_plain (world_of c.self.inside.parts) _ _ _ c.args.t c.args.local (passed at) c.index-place.result.now
     (place-is at) c.if-place-eq0.false (sym c.is_final.ensures ∙ c.if-not-is_final.true))
 
 pub set_suppressed-requires-clause-stands : goal.set_suppressed-requires-clause-stands
@@ -72,10 +72,10 @@ done : (c : After-set_suppressed) → Follows (seen c.self.inside.parts) (suppre
     (answered Done)
     (shown (record (world_of c.self.inside.parts) { heap = c.set_suppressed.new.heap })
     (sums_of c.self.inside.parts.sums)
-    (options_of c.self.inside.parts.options))
+    (options_of c.self.inside.parts.options) c.self.inside.parts.safe)
 done c =
     let at = (goal.at.returns c).After-index-place in
-    suppressed (world_of c.self.inside.parts) _ _ c.args.t c.args.local (passed at) c.index-place.result.now
+    suppressed (world_of c.self.inside.parts) _ _ _ c.args.t c.args.local (passed at) c.index-place.result.now
     (place-is at)
     c.if-place-eq0.false (sym c.is_final.ensures ∙ c.if-not-is_final.false) c.set_suppressed.new.heap
     c.set_suppressed.ensures.flagged
@@ -88,7 +88,9 @@ invariant_of-self c =
     record {
       shown = heap_kept c.self.invariant.shown _ _ new set.flagged.held set.unmarked set.free_heads
           (set.clean (λ _. sym c.is_final.ensures ∙ c.if-not-is_final.false)) (done c);
-      tables = tables-flagged r.cards r.bricks r.types r.heap new _ _ set.flagged c.self.invariant.tables;
+      tables = flagged_tables r.cards r.safe r.bricks r.types r.heap new _ _ set.flagged c.self.invariant.tables;
+      owed = c.self.invariant.owed;
+      finalizers = c.self.invariant.finalizers;
       index = same_index young_items r.types r.types r.heap new r.contexts set.flagged.layout c.self.invariant.index;
       large = same_index large_items r.types r.types r.heap new r.large set.flagged.layout c.self.invariant.large;
       limit = ap (λ (h : HeapView). h.limit) set.words ∙ c.self.invariant.limit;

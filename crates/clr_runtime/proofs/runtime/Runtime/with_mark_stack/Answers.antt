@@ -11,12 +11,13 @@ use Rattle.clr_generations.proofs.OpeningTables.{tables-opening}
 use Rattle.clr_runtime.specs.Options.{options_of}
 use Rattle.clr_runtime.proofs.IndexKept.{first_index}
 use Rattle.clr_runtime.proofs.PinnedRoom.{room_empty}
-use Rattle.clr_runtime.proofs.Opened.{IsFirst, new_shown, new_stands}
+use Rattle.clr_runtime.proofs.Opened.{IsFirst, new_shown, new_stands, none_owed, none_told}
+use Rattle.clr_runtime.proofs.StepsKept.{tables-carded}
 use Rattle.clr_runtime.proofs.runtime.Runtime.with_mark_stack.Goals as goal
-use Rattle.clr_runtime.proofs.runtime.Runtime.with_mark_stack.Goals.{After-new-9}
+use Rattle.clr_runtime.proofs.runtime.Runtime.with_mark_stack.Goals.{After-new-10}
 
 -- its world
-abbrev made_world : After-new-9 → World
+abbrev made_world : After-new-10 → World
 made_world c =
     let made = c.in-Ok-Ok-Ok-Ok in
     record {
@@ -28,7 +29,7 @@ made_world c =
       ready = c.new-8.result.ready;
     }
 
-first : (c : After-new-9) → IsFirst (made_world c) c.args.options.segment c.args.options.limit
+first : (c : After-new-10) → IsFirst (made_world c) c.args.options.segment c.args.options.limit
 first c =
     let made = c.in-Ok-Ok-Ok-Ok in
     record {
@@ -41,7 +42,8 @@ first c =
     }
 
 pub returns : goal.returns
-returns c = new_stands (made_world c) (options_of c.args.options) _ c.requires.lawful (first c)
+returns c = new_stands (made_world c) c.new-10.result c.new-10.ensures (options_of c.args.options) _ c.requires.lawful
+    (first c)
 
 pub invariant_of-result : goal.invariant_of-result
 invariant_of-result c =
@@ -49,12 +51,16 @@ invariant_of-result c =
     let covered = c.cover_segments.new in
     let told = c.in_ok-cover_segments.ensures in
     record {
-      shown = new_shown (made_world c) (options_of c.args.options) _ c.requires.lawful (first c);
-      tables = subst (λ (h : HeapView). AreTablesOf made.types h covered.cards covered.bricks) (sym made.ensures')
+      shown = new_shown (made_world c) c.new-10.result c.new-10.ensures (options_of c.args.options) _ c.requires.lawful
+          (first c);
+      tables = tables-carded covered.cards c.new-10.result covered.bricks made.types made.heap
+          (subst (λ (h : HeapView). AreTablesOf made.types h covered.cards covered.bricks) (sym made.ensures')
           (tables-opening made.types c.args.options.segment c.args.options.limit c.requires.lawful.segment_aligned
           covered.cards covered.bricks told.unnamed
           (subst (λ (h : HeapView). AreCardsOf (frame h) covered.cards) made.ensures' told.cards)
-          (subst (λ (h : HeapView). AreBricksOf (frame h) covered.bricks) made.ensures' told.bricks));
+          (subst (λ (h : HeapView). AreBricksOf (frame h) covered.bricks) made.ensures' told.bricks)));
+      owed = none_owed c.new-10.result c.new-10.ensures _;
+      finalizers = none_told c.new-10.result c.new-10.ensures made.types;
       index = subst (λ (i : Option (List Piece)). IsIndex made.types made.heap i) (sym c.new-5.ensures)
           (first_index young_items made.types made.heap c.args.options.segment _ c.requires.lawful.segment_aligned
           made.ensures made.ensures' refl);

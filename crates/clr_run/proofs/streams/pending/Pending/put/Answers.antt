@@ -1,7 +1,12 @@
 -- What waited is written first, and then the text.
-use Rattle.std.proofs.lemmas.Result.{on_ok_weaker, on_err_weaker}
-use Rattle.clr_run.proofs.Outputs.{wrote_all, wrote_then_some}
+use Rattle.std.proofs.lemmas.Result.{err_from_is_err_and, on_ok_weaker, on_err_weaker}
+use Rattle.clr_run.proofs.Outputs.{some_before, wrote_all, wrote_then_some}
 use Rattle.clr_run.proofs.streams.pending.Pending.put.Goals as goal
+
+pub returns-in_err-flush-clause-part : goal.returns-in_err-flush-clause-part
+returns-in_err-flush-clause-part g c =
+    let p = err_from_is_err_and c.from_residual.result c.from_residual.ensures.1 in
+    rw p.1 (some_before _ (g.K.Sink.written c.flush.new.sink) c.args.self.now _ c.in_err-flush.ensures.part)
 
 pub returns-clause-wrote : goal.returns-clause-wrote
 returns-clause-wrote g c = on_ok_weaker c.write_all.result

@@ -1,0 +1,9 @@
+use Rattle.clr_types.specs.Descriptors.{offsets_from}
+use Rattle.clr_reloc.proofs.ObjectLoops.{HasPassed}
+use Rattle.clr_reloc.proofs.objects.relocate_run.Given as goal
+
+abbrev pub invariant-loop-i : goal.invariant-loop-i
+invariant-loop-i l =
+    HasPassed l.work.types.now l.work.bricks.now l.work.g l.work.planned l.found l.to l.initial.heap l.initial.pins
+    l.initial.cards
+    l.heap l.pins l.cards (offsets_from l.run.offset l.i)

@@ -1,0 +1,11 @@
+use Rattle.std.proofs.Common.{◌≡◌, ◌++◌}
+use Rattle.clr_reloc.proofs.ObjectLoops.{HasPassed}
+use Rattle.clr_reloc.proofs.objects.relocate_slots.Given as goal
+
+abbrev pub invariant-loop-offset : goal.invariant-loop-offset
+invariant-loop-offset l = record {
+  walked : l.yielded ++ l.offset-iterator ≡ l.initial.offset-iterator;
+  passed : HasPassed l.work.types.now l.work.bricks.now l.work.g l.work.planned l.found l.to l.initial.heap
+      l.initial.pins l.initial.cards
+      l.heap l.pins l.cards l.yielded;
+}

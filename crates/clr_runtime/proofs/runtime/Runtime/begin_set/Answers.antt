@@ -1,0 +1,119 @@
+-- The slot takes what the local holds, and the thread is in mid-step.
+use Rattle.std.proofs.Common.{◌≡◌, ◌∙◌, ◌-◌, [], ◌∷◌, ap, false, refl, subst, sym, arith, true≢false}
+use Rattle.clr_ctx.specs.Contexts.{young_items}
+use Rattle.clr_large.specs.Places.{large_items}
+use Rattle.clr_model.specs.declared.Reply.TheVariants.{Done}
+use Rattle.clr_model.specs.Instructions.{begin_set}
+use Rattle.clr_model.specs.Lookups.{is_step}
+use Rattle.clr_model.specs.Outcomes.{answered}
+use Rattle.clr_model.specs.Run.{Follows}
+use Rattle.clr_model.proofs.SeenStands.{follows_sound}
+use Rattle.clr_safe.specs.Threads.{begun_by, step_by, Threads}
+use Rattle.clr_safe.specs.declared.begun.Begun.TheVariants.{Store}
+use Rattle.clr_safe.proofs.Entries.{owed-no_more}
+use Rattle.clr_view.proofs.SlotReads.{reference-word}
+use Rattle.clr_runtime.specs.Options.{options_of}
+use Rattle.clr_runtime.specs.RuntimeView.{IsRuntime, seen, sums_of, world_of}
+use Rattle.clr_runtime.proofs.BeginSetLines.{begin_set_of}
+use Rattle.clr_runtime.proofs.BegunStores.{begun_tables, store_begun}
+use Rattle.clr_runtime.proofs.IndexKept.{same_index}
+use Rattle.clr_runtime.proofs.LimitKept.{stored_limit}
+use Rattle.clr_runtime.proofs.LocalsSeen.{local-read, local-stands}
+use Rattle.clr_runtime.proofs.NamesChecked.{names_passed, names_refused}
+use Rattle.clr_runtime.proofs.SlotLines.{refused_slot}
+use Rattle.clr_runtime.proofs.StepsBegun.{begun-within, finalizers-begun}
+use Rattle.clr_runtime.proofs.StepsSeen.{step-seen}
+use Rattle.clr_runtime.proofs.runtime.Runtime.begin_set.Goals as goal
+
+pub returns-in-Some : goal.returns-in-Some
+returns-in-Some c =
+    let l = begin_set_of c.args.t c.args.into c.args.index c.args.from in
+    names_refused l.instruction l.thread l.locals _ l.line l.alike c.args.self.now c.in-Some.refusal
+    (sym c.refused_names.ensures.value ∙ c.in-Some.is)
+
+pub find_slot-requires-clause-object : goal.find_slot-requires-clause-object
+find_slot-requires-clause-object c =
+    local-stands c.self.invariant.shown c.args.t c.args.into c.index-place.result.now
+    (local-read c.self.invariant.shown c.args.t c.args.into c.index_of.result c.index-place.result.now
+    c.index_of.ensures.within c.index_of.ensures.index c.index-place.ensures)
+
+pub returns-in-Err : goal.returns-in-Err
+returns-in-Err c =
+    let r = c.self.inside.parts in
+    let passed = rw (← c.self.view_is) at (sym c.refused_names.ensures.value ∙ c.in_default.is) in
+    rw (← c.self.view_is)
+    (refused_slot (world_of r) _ _ _ (begin_set_of c.args.t c.args.into c.args.index c.args.from)
+    c.index-place.result.now passed
+    (local-read c.self.invariant.shown c.args.t c.args.into c.index_of.result c.index-place.result.now
+    c.index_of.ensures.within c.index_of.ensures.index c.index-place.ensures) c.in-Err.refusal c.in-Err.ensures)
+
+pub set_slot_value-requires-clause-byte : goal.set_slot_value-requires-clause-byte
+set_slot_value-requires-clause-byte c = λ bytes.
+    let (has, kind) = c.in-Ok.ensures in
+    absurd (true≢false (sym bytes ∙ reference-word c.self.inside.parts.types c.in-Ok.found.item c.in-Ok.found.slot
+    (record { number = c.args.index; is = has.slot }) kind))
+
+pub invariant_of-self : goal.invariant_of-self
+invariant_of-self c =
+    let r = c.self.inside.parts in
+    let passed = rw (← c.self.view_is) at (sym c.refused_names.ensures.value ∙ c.in_default.is) in
+    let is = c.self.invariant.shown in
+    let (has, kind) = c.in-Ok.ensures in
+    let done = c.set_slot_value in
+    let stored = done.ensures.stored c.args.index has.slot in
+    let place = c.index-place.result.now in
+    let name = c.index-name.result.now in
+    let run = (names_passed (seen r) c.args.t (c.args.into ∷ c.args.from ∷ []) passed).0 in
+    let within = begun-within is c.args.t run.thread in
+    let idle : is_step (step_by (begun_by r.safe c.args.t)) ≡ false =
+    sym (ap is_step (step-seen (world_of r) (sums_of r.sums) (options_of r.options) r.safe c.args.t)) ∙ run.idle in
+    let less = owed-no_more r.safe.begun (c.args.t - 1) (Store place c.args.index) within refl in
+    subst (λ (threads : Threads). IsRuntime (record r { heap = done.new.heap; safe = threads })) (sym c.begin.ensures)
+    (record {
+      shown = record {
+        locals = is.locals;
+        held = stored.held;
+        unmarked = done.ensures.unmarked is.unmarked;
+        free_heads = done.ensures.free_heads is.free_heads;
+        clean = done.ensures.clean is.clean;
+        sound = follows_sound (seen r) (begin_set c.args.t c.args.into c.args.index c.args.from) (answered Done) _
+            is.sound
+            (store_begun (world_of r) _ _ _ c.args.t place c.args.index c.in-Ok.found.item c.in-Ok.found.slot has
+            done.new.heap c.args.into c.args.from name passed
+            (local-read is c.args.t c.args.into c.index_of.result place c.index_of.ensures.within
+            c.index_of.ensures.index c.index-place.ensures)
+            (local-read is c.args.t c.args.from c.index_of-2.result name c.index_of-2.ensures.within
+            c.index_of-2.ensures.index c.index-name.ensures) kind stored);
+      };
+      tables = begun_tables r.cards r.safe r.bricks r.types r.heap done.new.heap c.lawful.ensures is.held c.args.t
+          place c.args.index name c.in-Ok.found.item c.in-Ok.found.slot has kind done.ensures.stored within idle
+          c.self.invariant.tables;
+      owed = let owed = c.self.invariant.owed in omega (arith, owed, less);
+      finalizers = finalizers-begun r.types r.safe c.args.t (Store place c.args.index) c.self.invariant.finalizers tt;
+      index = same_index young_items r.types r.types r.heap done.new.heap r.contexts stored.layout
+          c.self.invariant.index;
+      large = same_index large_items r.types r.types r.heap done.new.heap r.large stored.layout c.self.invariant.large;
+      limit = stored_limit r.types r.heap done.new.heap c.in-Ok.found.item c.in-Ok.found.slot name
+          done.ensures.words ∙ c.self.invariant.limit;
+      pins = c.self.invariant.pins;
+      room = c.self.invariant.room;
+    })
+
+pub returns : goal.returns
+returns c =
+    let r = c.self.inside.parts in
+    let passed = rw (← c.self.view_is) at (sym c.refused_names.ensures.value ∙ c.in_default.is) in
+    let is = c.self.invariant.shown in
+    let (has, kind) = c.in-Ok.ensures in
+    let done = c.set_slot_value in
+    let place = c.index-place.result.now in
+    let name = c.index-name.result.now in
+    rw (← c.self.view_is)
+    (subst (λ (threads : Threads). Follows (seen r) (begin_set c.args.t c.args.into c.args.index c.args.from)
+    (answered Done) (seen (record r { heap = done.new.heap; safe = threads }))) (sym c.begin.ensures)
+    (store_begun (world_of r) _ _ _ c.args.t place c.args.index c.in-Ok.found.item c.in-Ok.found.slot has
+    done.new.heap c.args.into c.args.from name passed
+    (local-read is c.args.t c.args.into c.index_of.result place c.index_of.ensures.within c.index_of.ensures.index
+    c.index-place.ensures)
+    (local-read is c.args.t c.args.from c.index_of-2.result name c.index_of-2.ensures.within
+    c.index_of-2.ensures.index c.index-name.ensures) kind (done.ensures.stored c.args.index has.slot)))

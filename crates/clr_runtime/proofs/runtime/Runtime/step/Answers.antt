@@ -1,0 +1,26 @@
+-- The step is finished, or the line is refused.
+use Rattle.std.proofs.Common.{◌≡◌, ◌∙◌, ap, false, sym}
+use Rattle.clr_model.specs.declared.Refusal.TheVariants.{UnknownThread}
+use Rattle.clr_model.specs.Lookups.{is_step, is_thread}
+use Rattle.clr_safe.specs.Threads.{step_by}
+use Rattle.clr_runtime.specs.Options.{options_of}
+use Rattle.clr_runtime.specs.RuntimeView.{sums_of, world_of}
+use Rattle.clr_runtime.proofs.FinishLines.{finish_refused, finish_unknown}
+use Rattle.clr_runtime.proofs.StepsSeen.{step-seen}
+use Rattle.clr_runtime.proofs.runtime.Runtime.step.Goals as goal
+
+pub returns-then-not-is_known : goal.returns-then-not-is_known
+returns-then-not-is_known c =
+    let none : is_thread c.args.t ≡ false = sym c.is_known.ensures ∙ c.if-not-is_known.true in
+    finish_refused c.args.self.now c.args.t UnknownThread (finish_unknown c.args.self.now c.args.t none)
+
+pub refused_idle-requires-clause-idle : goal.refused_idle-requires-clause-idle
+refused_idle-requires-clause-idle c =
+    let r = c.self.inside.parts in
+    rw (← c.self.view_is)
+    (ap is_step (step-seen (world_of r) (sums_of r.sums) (options_of r.options) r.safe c.args.t
+    ∙ ap step_by (sym c.in-Nothing.ensures)))
+
+pub returns-in-Nothing : goal.returns-in-Nothing
+returns-in-Nothing c =
+    finish_refused c.args.self.now c.args.t c.refused_idle.result c.refused_idle.ensures

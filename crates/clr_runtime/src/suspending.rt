@@ -1,0 +1,37 @@
+//! The lines by which a thread holds all others, and lets them go.
+use crate::runtime::Runtime;
+use clr_model::Refusal;
+
+impl Runtime {
+    ghost use Rattle.clr_model.specs.Instructions.{resume_others, suspend_others};
+    ghost use Rattle.clr_model.specs.Run.{Follows};
+    ghost use Rattle.clr_runtime.specs.Outcomes.{done_outcome};
+
+    /// Thread `t` holds all others from now on: each of their lines is refused, but for the `step` of one that is in
+    /// mid-step. Where it holds them already, nothing changes.
+    ///
+    /// It is refused for an unknown thread, with `Blocked` where another thread holds all others, and with `MidStep`
+    /// where the thread is in mid-step, in this order.
+    pub fn suspend(&mut self, t: u64) -> Result<(), Refusal>
+        ensures { Follows self.old (suspend_others t) (done_outcome result) self.new }
+    {
+        if let Some(refusal) = self.refused_thread(t) {
+            return Err(refusal);
+        }
+        self.parts.safe.suspend(t);
+        Ok(())
+    }
+
+    /// Thread `t` lets all others go. Where no thread holds them, nothing changes.
+    ///
+    /// It is refused as `suspend` is.
+    pub fn resume(&mut self, t: u64) -> Result<(), Refusal>
+        ensures { Follows self.old (resume_others t) (done_outcome result) self.new }
+    {
+        if let Some(refusal) = self.refused_thread(t) {
+            return Err(refusal);
+        }
+        self.parts.safe.resume();
+        Ok(())
+    }
+}

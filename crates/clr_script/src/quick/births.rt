@@ -1,0 +1,111 @@
+//! The lines that make objects and collect them. Each reader takes the text behind the letters of the verb that its
+//! contract names.
+ghost use Rattle.std.specs.Prelude.{◌≡◌, ◌∷◌, ◌++◌, ℕ, IfSome, IsTrue, codes, position, not};
+ghost use Rattle.std.specs.List.{list_all};
+ghost use Rattle.clr_model.specs.LineGrammar.{is_name, is_name_byte, how_words, number_words, IsWord};
+ghost use Rattle.clr_script.specs.Fronts.{behind, SpellsBehind};
+
+use crate::fields::{continues_name, starts_name};
+use crate::quick::digits::{last_number, take_local, take_number};
+use clr_model::{Command, How};
+
+// Where the first byte stands that may not stand in a name.
+#[inline]
+fn first_other(text: &[u8]) -> Option<usize>
+    ensures { result ≡ position (λ b. not (is_name_byte b)) text.now }
+{
+    text.iter().position(|b| !continues_name(*b))
+}
+
+// The bytes in front that may stand in a name, and what is behind them.
+#[inline]
+fn cut_name(text: &[u8]) -> (&[u8], &[u8])
+    ensures whole { text.now ≡ result.0.now ++ result.1.now }
+    ensures named { IsTrue (list_all is_name_byte result.0.now) }
+{
+    match first_other(text) {
+        None => (text, &[]),
+        Some(at) => text.split_at(at),
+    }
+}
+
+// The name in front, and what is behind it. A name goes as far as its bytes do.
+#[inline]
+fn front_name(text: &[u8]) -> Option<(&[u8], &[u8])>
+    ensures { IfSome result (λ p. (text.now ≡ p.0.now ++ p.1.now) × IsTrue (is_name p.0.now)) }
+{
+    let (name, rest) = cut_name(text);
+    let (first, more) = name.split_first()?;
+    if starts_name(*first) && more.len() <= 127 {
+        Some((name, rest))
+    } else {
+        None
+    }
+}
+
+// The name that is the next word, and what is behind it.
+#[inline]
+fn take_name(text: &[u8]) -> Option<(&[u8], &[u8])>
+    ensures { IfSome result (λ p. (text.now ≡ (32 ∷ p.0.now) ++ p.1.now) × IsTrue (is_name p.0.now)) }
+{
+    match text {
+        [b' ', word @ ..] => front_name(word),
+        _ => None,
+    }
+}
+
+// The length that is the last word, or nothing.
+#[inline]
+fn last_length(text: &[u8]) -> Option<Option<u64>>
+    ensures { IfSome result (λ len. (text.now ≡ behind (number_words len)) × IfSome len IsWord) }
+{
+    if text.is_empty() {
+        return Some(None);
+    }
+    Some(Some(last_number(text)?))
+}
+
+/// Which type is made, how long, and for which local.
+#[inline]
+pub fn read_new<'a>(t: u64, text: &'a [u8]) -> Option<Command<'a>>
+    ensures { IfSome result (λ command. SpellsBehind t (codes "new") text.now command) }
+{
+    let (local, rest) = take_local(text)?;
+    let (name, rest) = take_name(rest)?;
+    let len = last_length(rest)?;
+    Some(Command::New {
+        t,
+        local,
+        name,
+        len,
+    })
+}
+
+// How to collect: the last word, or nothing.
+fn last_how(text: &[u8]) -> Option<How>
+    ensures { IfSome result (λ how. text.now ≡ behind (how_words how)) }
+{
+    if text.is_empty() {
+        return Some(How::Decide);
+    }
+    if text == b" compacting".as_slice() {
+        return Some(How::Compact);
+    }
+    if text == b" sweeping".as_slice() {
+        return Some(How::Sweep);
+    }
+    None
+}
+
+/// Which generation is collected, and how.
+pub fn read_collect<'a>(t: u64, text: &'a [u8]) -> Option<Command<'a>>
+    ensures { IfSome result (λ command. SpellsBehind t (codes "collect") text.now command) }
+{
+    let (g, rest) = take_number(text)?;
+    let how = last_how(rest)?;
+    if g <= 2 {
+        Some(Command::Collect { t, g: g as u8, how })
+    } else {
+        None
+    }
+}

@@ -1,0 +1,101 @@
+//! The lines on handles. Each reader takes the text behind the letters of the verb that its contract names.
+ghost use Rattle.std.specs.Prelude.{◌≡◌, ◌∷◌, ◌++◌, ℕ, IfSome, codes};
+ghost use Rattle.clr_model.specs.LineGrammar.{local_words, IsHandleForm};
+ghost use Rattle.clr_model.specs.ReplyText.{kind_word};
+ghost use Rattle.clr_script.specs.Fronts.{behind, SpellsBehind};
+
+use crate::quick::digits::{last_handle, last_local, take_local};
+use clr_model::Command;
+use clr_types::Kind;
+
+// Which of the two weak kinds it is whose word begins with `weak`, and what is behind that word.
+#[inline]
+fn take_weak(text: &[u8]) -> (Kind, &[u8])
+    ensures { codes "weak" ++ text.now ≡ kind_word result.0 ++ result.1.now }
+{
+    match text {
+        [b'l', b'o', b'n', b'g', rest @ ..] => (Kind::WeakLong, rest),
+        _ => (Kind::Weak, text),
+    }
+}
+
+// The kind whose word begins with `depen`, if it goes on so, and what is behind that word.
+#[inline]
+fn take_dependent(text: &[u8]) -> Option<(Kind, &[u8])>
+    ensures { IfSome result (λ p. codes "depen" ++ text.now ≡ kind_word p.0 ++ p.1.now) }
+{
+    match text {
+        [b'd', b'e', b'n', b't', rest @ ..] => Some((Kind::Dependent, rest)),
+        _ => None,
+    }
+}
+
+// The kind of the next word, and what is behind it.
+#[inline]
+fn take_kind(text: &[u8]) -> Option<(Kind, &[u8])>
+    ensures { IfSome result (λ p. text.now ≡ (32 ∷ kind_word p.0) ++ p.1.now) }
+{
+    match text {
+        [b' ', b's', b't', b'r', b'o', b'n', b'g', rest @ ..] => Some((Kind::Strong, rest)),
+        [b' ', b'p', b'i', b'n', b'n', b'e', b'd', rest @ ..] => Some((Kind::Pinned, rest)),
+        [b' ', b'w', b'e', b'a', b'k', rest @ ..] => Some(take_weak(rest)),
+        [b' ', b'd', b'e', b'p', b'e', b'n', rest @ ..] => take_dependent(rest),
+        _ => None,
+    }
+}
+
+// The second local of a handle of this kind: the last word of a dependent one, and nothing of another.
+#[inline]
+fn last_second(kind: Kind, text: &[u8]) -> Option<Option<u64>>
+    ensures { IfSome result (λ second. (text.now ≡ behind (local_words second)) × IsHandleForm kind second) }
+{
+    if kind == Kind::Dependent {
+        return Some(Some(last_local(text)?));
+    }
+    if text.is_empty() { Some(None) } else { None }
+}
+
+// What stands behind `handle`.
+fn read_create<'a>(t: u64, text: &'a [u8]) -> Option<Command<'a>>
+    ensures { IfSome result (λ command. SpellsBehind t (codes "handle") text.now command) }
+{
+    let (kind, rest) = take_kind(text)?;
+    let (local, rest) = take_local(rest)?;
+    let second = last_second(kind, rest)?;
+    Some(Command::Handle {
+        t,
+        kind,
+        local,
+        second,
+    })
+}
+
+/// Which kind of handle is made, and on which locals.
+#[inline]
+pub fn read_handle<'a>(t: u64, text: &'a [u8]) -> Option<Command<'a>>
+    ensures { IfSome result (λ command. SpellsBehind t (codes "h") text.now command) }
+{
+    match text {
+        [b'a', b'n', b'd', b'l', b'e', rest @ ..] => read_create(t, rest),
+        _ => None,
+    }
+}
+
+/// Which handle's target is fetched, and whereto.
+#[inline]
+pub fn read_fetch<'a>(t: u64, text: &'a [u8]) -> Option<Command<'a>>
+    ensures { IfSome result (λ command. SpellsBehind t (codes "fetch") text.now command) }
+{
+    let (to, rest) = take_local(text)?;
+    let h = last_handle(rest)?;
+    Some(Command::Fetch { t, to, h })
+}
+
+/// Which handle is freed.
+#[inline]
+pub fn read_free<'a>(t: u64, text: &'a [u8]) -> Option<Command<'a>>
+    ensures { IfSome result (λ command. SpellsBehind t (codes "free") text.now command) }
+{
+    let h = last_handle(text)?;
+    Some(Command::Free { t, h })
+}

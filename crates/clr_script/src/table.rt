@@ -1,0 +1,73 @@
+//! The table of commands. A row has the word of a command, what its reader finds in the words behind it, and the
+//! command with that.
+
+// The command of the row with this word. `None` where no row has it, or where other words than those wanted stand
+// behind it.
+macro_rules! by_row {
+    ($word:ident; $($text:literal: $found:pat = $reader:expr => $command:expr,)*) => {{
+        $(if $word == $text.as_slice() {
+            let $found = $reader?;
+            return Some($command);
+        })*
+        None
+    }};
+}
+
+// The lines that are no thread's.
+macro_rules! other_rows {
+    ($word:ident, $rest:ident) => {
+        by_row! { $word;
+            b"type": command = read_define($rest) => command,
+            b"gcwhere": a = read_one_address($rest) => Command::GcWhere { a },
+            b"dumpobj": a = read_one_address($rest) => Command::DumpObj { a },
+            b"gcroot": a = read_one_address($rest) => Command::GcRoot { a },
+            b"dumpheap": filter = read_filter($rest) => Command::DumpHeap { filter },
+            b"eeheap": () = read_gc($rest) => Command::EeHeap,
+            b"verifyheap": () = no_word($rest) => Command::VerifyHeap,
+            b"gchandles": () = no_word($rest) => Command::GcHandles,
+            b"finalizequeue": () = no_word($rest) => Command::FinalizeQueue,
+        }
+    };
+}
+
+// The lines of a thread, by their verbs.
+macro_rules! thread_rows {
+    ($t:ident, $verb:ident, $rest:ident) => {
+        by_row! { $verb;
+            b"get": (to, from, index) = read_load($rest) => Command::Get { t: $t, to, from, index },
+            b"set": (into, index, from) = read_store($rest) => Command::Set { t: $t, into, index, from },
+            b"put": (into, index, value) = read_number_store($rest) => Command::Put { t: $t, into, index, value },
+            b"new": (local, name, len) = read_birth($rest) => Command::New { t: $t, local, name, len },
+            b"read": (from, index) = read_local_and_number($rest) => Command::Read { t: $t, from, index },
+            b"copy": (to, from) = read_locals($rest) => Command::Copy { t: $t, to, from },
+            b"null": local = read_one_local($rest) => Command::Clear { t: $t, local },
+            b"begin": command = read_begin($t, $rest) => command,
+            b"step": () = no_word($rest) => Command::Step { t: $t },
+            b"collect": command = read_collect($t, $rest) => command,
+            b"suspend": () = no_word($rest) => Command::Suspend { t: $t },
+            b"resume": () = no_word($rest) => Command::Resume { t: $t },
+            b"handle": command = read_create($t, $rest) => command,
+            b"fetch": (to, h) = read_local_and_handle($rest) => Command::Fetch { t: $t, to, h },
+            b"second": (to, h) = read_local_and_handle($rest) => Command::Second { t: $t, to, h },
+            b"free": h = read_one_handle($rest) => Command::Free { t: $t, h },
+            b"finalizer": to = read_one_local($rest) => Command::Finalizer { t: $t, to },
+            b"suppress": local = read_one_local($rest) => Command::Suppress { t: $t, local },
+            b"reregister": local = read_one_local($rest) => Command::Reregister { t: $t, local },
+        }
+    };
+}
+
+// What a thread begins, by the word behind `begin`.
+macro_rules! begin_rows {
+    ($t:ident, $verb:ident, $rest:ident) => {
+        by_row! { $verb;
+            b"set": (into, index, from) = read_store($rest) => Command::BeginSet { t: $t, into, index, from },
+            b"new": (local, name, len) = read_birth($rest) => Command::BeginNew { t: $t, local, name, len },
+        }
+    };
+}
+
+pub(crate) use begin_rows;
+pub(crate) use by_row;
+pub(crate) use other_rows;
+pub(crate) use thread_rows;

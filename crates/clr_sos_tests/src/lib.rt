@@ -1,0 +1,7 @@
+//! Tests of clr_sos on heaps whose words are wrong.
+//!
+//! They stand in a crate of their own because a crate with tests is proved twice, and clr_sos takes minutes.
+#![tactic(auto)]
+
+#[cfg(test)]
+mod faults;

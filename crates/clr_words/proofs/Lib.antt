@@ -1,0 +1,11 @@
+pub mod Pass
+pub mod Turns
+pub mod Rules
+pub mod Walked
+pub mod Levels
+pub mod Looks
+pub mod Spelled
+pub mod Numbers
+pub mod Taken
+pub mod Meaning
+pub mod Answering

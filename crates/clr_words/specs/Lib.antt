@@ -1,0 +1,6 @@
+pub mod Grammar
+pub mod Parser
+pub mod Reading
+pub mod Settings
+pub mod CommandLines
+pub mod Laws

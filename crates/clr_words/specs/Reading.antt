@@ -1,0 +1,27 @@
+-- The numbers that are read from what the parser found.
+use Rattle.std.specs.Prelude.{◌≡◌, ℕ, ◌^◌, List, Option, Some, None, if◌then◌else◌, ◌&&◌, nat_lt, codes}
+use Rattle.std.specs.Str.Parse.{digits_value}
+use Rattle.clap.specs.Walk.{Row, Text, first_of}
+use Rattle.clr_nums.specs.Numbers.{is_decimal_form}
+use Rattle.clr_model.specs.Machine.{Options}
+use Rattle.clr_model.specs.Run.{defaults}
+
+-- the number that a text is, where it fits a `u64`
+abbrev pub number_in : Text → Option ℕ
+number_in text = if is_decimal_form text && nat_lt (digits_value 10 text) (2 ^ 64) then Some (digits_value 10 text) else None
+
+-- the same of a text that may be left out
+abbrev pub number_or : ℕ → Option Text → Option ℕ
+number_or default None = Some default
+number_or default (Some text) = number_in text
+
+-- each option is the number of its text, or its default
+pub record AreRead (rows : List Row) (options : Options) : Type 0 where
+  pub limit : number_or defaults.limit (first_of (codes "limit") rows) ≡ Some options.limit
+  pub segment : number_or defaults.segment (first_of (codes "segment") rows) ≡ Some options.segment
+  pub b0 : number_or defaults.b0 (first_of (codes "b0") rows) ≡ Some options.b0
+  pub b1 : number_or defaults.b1 (first_of (codes "b1") rows) ≡ Some options.b1
+  pub b2 : number_or defaults.b2 (first_of (codes "b2") rows) ≡ Some options.b2
+  pub bl : number_or defaults.bl (first_of (codes "bl") rows) ≡ Some options.bl
+  pub compact : number_or defaults.compact (first_of (codes "compact") rows) ≡ Some options.compact
+  pub large : defaults.large ≡ options.large

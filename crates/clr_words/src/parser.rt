@@ -1,0 +1,83 @@
+//! The words, read by `clap`.
+ghost use Rattle.std.specs.Prelude.{◌≡◌, ◌≢◌, [], IfOk, MatchOption, false, map, string_bytes};
+ghost use Rattle.clap.specs.Faults.{fault_of};
+ghost use Rattle.clap.specs.Simple.{app_of, subcommand_of, subcommand_rows_of};
+ghost use Rattle.clap.specs.Walk.{rule_of};
+ghost use Rattle.clap.specs.declared.builder.command.Command.TheViews.{out-Command};
+ghost use Rattle.clr_words.specs.Parser.{option_rule, place_rule, program, with_options};
+
+use crate::NoMemory;
+use clap::error::ErrorKind;
+use clap::{Arg, ArgMatches, Command};
+use std::alloc::{AllocError, Global};
+
+/// What the parser finds of the words. There is none where it doesn't take them.
+pub(crate) fn parse<'a>(
+    alloc: Global,
+    words: &'a [String],
+) -> Result<Option<ArgMatches<'a>>, NoMemory>
+    ensures { IfOk result (λ found. MatchOption found
+        (fault_of program (map string_bytes words.entry.now) ≢ [])
+        (λ matches. (fault_of program (map string_bytes words.entry.now) ≡ [])
+        × (subcommand_rows_of matches ≡ subcommand_of program (map string_bytes words.entry.now)))) }
+{
+    let Ok(program) = make_program(alloc) else {
+        return Err(NoMemory);
+    };
+    match program.try_get_matches_from(words) {
+        Ok(matches) => Ok(Some(matches)),
+        Err(error) => match error.kind() {
+            ErrorKind::OutOfMemory => Err(NoMemory),
+            _ => Ok(None),
+        },
+    }
+}
+
+// The program with its two commands.
+fn make_program<'a>(alloc: Global) -> Result<Command<'a>, AllocError>
+    ensures { IfOk result (λ command. app_of command ≡ program) }
+{
+    let run = add_options(alloc, Command::new(alloc, "run"))?;
+    let soak = add_options(alloc, Command::new(alloc, "soak"))?
+        .arg(make_place(alloc, "SEED"))?
+        .arg(make_place(alloc, "N"))?;
+    Command::new(alloc, "clrheap")
+        .no_binary_name(true)
+        .disable_help_flag(true)
+        .disable_help_subcommand(true)
+        .disable_version_flag(true)
+        .subcommand_required(true)
+        .subcommand(run)?
+        .subcommand(soak)
+}
+
+// Adds the options of a command.
+fn add_options<'a>(alloc: Global, command: Command<'a>) -> Result<Command<'a>, AllocError>
+    ensures shape { IfOk result (λ made. app_of made ≡ with_options (app_of command.entry)) }
+    ensures local { (out-Command command.entry).has_globals ≡ false → IfOk result (λ made. (out-Command made).has_globals ≡ false) }
+{
+    command
+        .arg(make_option(alloc, "limit"))?
+        .arg(make_option(alloc, "segment"))?
+        .arg(make_option(alloc, "b0"))?
+        .arg(make_option(alloc, "b1"))?
+        .arg(make_option(alloc, "b2"))?
+        .arg(make_option(alloc, "bl"))?
+        .arg(make_option(alloc, "compact"))
+}
+
+// An option that takes a number.
+fn make_option<'a>(alloc: Global, name: &'a str) -> Arg<'a>
+    ensures rule { rule_of result ≡ option_rule name.entry.now }
+    ensures local { result.global ≡ false }
+{
+    Arg::new(alloc, name).long(name)
+}
+
+// A place that has to have a number.
+fn make_place<'a>(alloc: Global, name: &'a str) -> Arg<'a>
+    ensures rule { rule_of result ≡ place_rule name.entry.now }
+    ensures local { result.global ≡ false }
+{
+    Arg::new(alloc, name).required(true)
+}

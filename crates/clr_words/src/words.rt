@@ -1,0 +1,81 @@
+ghost use Rattle.std.specs.Prelude.{◌≡◌, ◌<◌, ◌∷◌, ◌++◌, [], List, ℕ, length, map, OnOk, OnErr, IfOk, slice_get, None, Some};
+ghost use Rattle.clr_model.specs.Machine.{Options};
+ghost use Rattle.clr_words.specs.CommandLines.{IsSaid};
+ghost use Rattle.clr_words.specs.Grammar.{SaysNothing, SaysRun, SaysSoak};
+ghost use Rattle.clr_words.specs.Settings.{options_of};
+ghost use Rattle.clr_words.specs.declared.command_line.CommandLine.TheVariants.{Run, Soak};
+ghost use Rattle.clr_words.specs.declared.settings.Settings.{Settings};
+
+use crate::NoMemory;
+use crate::command_line::{self, CommandLine};
+use std::alloc::Global;
+use std::marker::Model;
+
+/// The words of a command line.
+#[derive(Drop)]
+pub struct Words {
+    alloc: Global,
+    texts: Vec<String>,
+}
+
+impl Model for Words {
+    ghost use Rattle.std.specs.Prelude.{List, ℕ, map, string_bytes};
+
+    ghost Value = { List (List ℕ) };
+
+    ghost view = { λ w. map string_bytes w.texts.items };
+}
+
+impl Words {
+    /// No words yet.
+    pub fn new(alloc: Global) -> Result<Words, NoMemory>
+        ensures { IfOk result (λ words. words ≡ []) }
+    {
+        let texts = Vec::new(alloc);
+        Ok(Words { alloc, texts })
+    }
+
+    /// Appends a word. Where there is no memory nothing changes.
+    pub fn push(&mut self, word: &str) -> Result<(), NoMemory>
+        ensures ok { OnOk result (self.new ≡ self.old ++ word.now ∷ []) }
+        ensures err { OnErr result (self.new ≡ self.old) }
+    {
+        let Ok(text) = String::from_str(self.alloc, word) else {
+            return Err(NoMemory);
+        };
+        if self.texts.push(text).is_err() {
+            return Err(NoMemory);
+        }
+        Ok(())
+    }
+
+    /// How many words there are.
+    pub fn count(&self) -> usize
+        ensures { result ≡ length self.now }
+    {
+        self.texts.len()
+    }
+
+    /// Word `i`, counted from 0. There has to be one.
+    pub fn get(&self, i: usize) -> &str
+        requires { i < length self.now }
+        ensures { slice_get self.now i ≡ Some result.now }
+    {
+        self.texts[i].as_str()
+    }
+
+    /// The command that the words say. There is none where they say no command.
+    pub fn command(&self) -> Result<Option<CommandLine>, NoMemory>
+        // What is answered is said.
+        ensures said { IfOk result (λ line. IsSaid self.now line) }
+
+        // What is said is answered.
+        ensures run { (options : Options) → SaysRun self.now options →
+            IfOk result (λ line. (settings : Settings) × (line ≡ Some (Run settings)) × (options_of settings ≡ options)) }
+        ensures soak { (options : Options) (seed count : ℕ) → SaysSoak self.now options seed count →
+            IfOk result (λ line. (settings : Settings) × (line ≡ Some (Soak settings seed count)) × (options_of settings ≡ options)) }
+        ensures nothing { SaysNothing self.now → IfOk result (λ line. line ≡ None) }
+    {
+        command_line::read(self.alloc, self.texts.as_slice())
+    }
+}

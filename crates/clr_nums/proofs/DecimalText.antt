@@ -1,10 +1,11 @@
 -- Numbers as decimal digits.
-use Rattle.std.proofs.Common.{◌≡◌, ℕ, zero, suc, ◌+◌, ◌-◌, ◌*◌, ◌/◌, ◌%◌, ◌<◌, ◌≤◌, ◌^◌, true, false, List, [], ◌∷◌}
-use Rattle.std.proofs.Common.{◌++◌, length, take, get_or, decimal, refl, sym, ◌∙◌, ap, inl, inr, arith, rules, eqb, not}
-use Rattle.std.proofs.Common.{Option, Some, None, Ok, SomeIff, IfOk, ◌↔◌}
+use Rattle.std.proofs.Common.{◌≡◌, ℕ, ◌+◌, ◌-◌, ◌*◌, ◌/◌, ◌%◌, ◌<◌, ◌≤◌, ◌^◌, true, false, List, [], ◌∷◌}
+use Rattle.std.proofs.Common.{◌++◌, length, take, drop, set, get_or, decimal, refl, sym, ◌∙◌, ap, inl, inr, arith}
+use Rattle.std.proofs.Common.{rules, eqb, not, Option, Some, None, Ok, SomeIff, IfOk, ◌↔◌}
 use Rattle.std.specs.Prelude.{ok_or}
-use Rattle.std.proofs.lemmas.Bool.{cases_lt, cases_eq, and_parts, and_from, ne_eqb, eqb-false, not-true}
-use Rattle.std.proofs.lemmas.List.{append_assoc, length-append, take_more}
+use Rattle.std.proofs.lemmas.Bool.{cases_eq, and_parts, and_from, ne_eqb, eqb-false, not-true}
+use Rattle.std.proofs.lemmas.List.{append_assoc, length-append, take_more, take_at}
+use Rattle.std.proofs.lemmas.Slice.{drop-append-drop}
 use Rattle.std.proofs.lemmas.Str.Parse.{IsNumeralModel, numerals_by_value, digit_at, digits_value-take-le}
 use Rattle.std.proofs.lemmas.Str.{digit_value_digit}
 use Rattle.std.proofs.lemmas.Fmt.{decimal_digit, decimal_step, decimal_nonempty, first_decimal, digits_decimal}
@@ -12,40 +13,89 @@ use Rattle.std.proofs.lemmas.Fmt.{digits_value-decimal, decimal-digits_value, le
 use Rattle.std.specs.List.{list_all}
 use Rattle.std.specs.Str.Parse.{digits_value, digits_value_after}
 use Rattle.std.specs.Char.{digit_value, is_ascii_digit}
-use Rattle.clr_nums.specs.Numbers.{is_decimal_form}
+use Rattle.clr_nums.specs.Numbers.{decimal_pair, is_decimal_form}
 
 -- std's lemmas on digits, for the test of each byte
 own : IsNumeralModel (λ ds. list_all is_ascii_digit ds ≡ true) (digits_value 10)
 own = numerals_by_value _ (search rules)
 
--- the last `count` decimal digits of n, followed by more
-abbrev pub decimal_onto : ℕ → ℕ → List ℕ → List ℕ
-decimal_onto zero n more = more
-decimal_onto (suc count) n more = decimal_onto count (n / 10) ((48 + n % 10) ∷ more)
-
--- the last digit is one
-pub length-decimal-step : (n : ℕ) → 10 ≤ n → n < 2 ^ 64 → length (decimal n) ≡ length (decimal (n / 10)) + 1
-length-decimal-step n high small = rw (decimal_step n high small, length-append) refl
-
 -- below ten there is one digit
 pub length-decimal-digit : (n : ℕ) → n < 10 → length (decimal n) ≡ 1
 length-decimal-digit n low = rw (decimal_digit n low) refl
 
--- as many digits as the number has are its text
-pub decimal_onto-all : (count n : ℕ) (more : List ℕ) → n < 2 ^ 64 → length (decimal n) ≡ count
-    → decimal_onto count n more ≡ decimal n ++ more
-decimal_onto-all zero n more small count_is = absurd (omega (arith, decimal_nonempty n small))
-decimal_onto-all (suc count) n more small count_is =
-    elim (cases_lt n 10) [
-      | inl low ↦
-          let one : count ≡ 0 = omega (arith, length-decimal-digit n low) in
-          let itself : n % 10 ≡ n = omega arith in
-          rw (one, itself, decimal_digit n low) refl
-      | inr high ↦
-          let front : length (decimal (n / 10)) ≡ count = omega (arith, length-decimal-step n high small) in
-          rw (decimal_step n high small, append_assoc)
-          (decimal_onto-all count (n / 10) ((48 + n % 10) ∷ more) (omega arith) front)
-    ]
+-- from 10 on, below 100, there are two
+pub decimal-two : (n : ℕ) → 10 ≤ n → n < 100 → decimal n ≡ decimal_pair n
+decimal-two n high low = rw (decimal_step n high (omega arith), decimal_digit (n / 10) (omega arith)) refl
+
+-- from 100 on the last two stand behind the others
+pub decimal-pair : (n : ℕ) → 100 ≤ n → n < 2 ^ 64 → decimal n ≡ decimal (n / 100) ++ decimal_pair (n % 100)
+decimal-pair n high small =
+    let front : n / 10 / 10 ≡ n / 100 = omega arith in
+    let tens : n / 10 % 10 ≡ n % 100 / 10 = omega arith in
+    let ones : n % 10 ≡ n % 100 % 10 = omega arith in
+    rw (
+      decimal_step n (omega arith) small,
+      decimal_step (n / 10) (omega arith) (omega arith),
+      append_assoc,
+      front,
+      tens,
+      ones,
+    ) refl
+
+pub length-decimal-pair : (n : ℕ) → 100 ≤ n → n < 2 ^ 64 → length (decimal n) ≡ length (decimal (n / 100)) + 2
+length-decimal-pair n high small = rw (decimal-pair n high small, length-append) refl
+
+-- and from 10,000 on the last four
+pub decimal-two_pairs : (n : ℕ) → 10000 ≤ n → n < 2 ^ 64
+    → decimal n ≡ decimal (n / 10000) ++ decimal_pair (n % 10000 / 100) ++ decimal_pair (n % 100)
+decimal-two_pairs n high small =
+    let front : n / 100 / 100 ≡ n / 10000 = omega arith in
+    let first : n / 100 % 100 ≡ n % 10000 / 100 = omega arith in
+    rw (decimal-pair n (omega arith) small, decimal-pair (n / 100) (omega arith) (omega arith), front, first) refl
+
+pub length-decimal-two_pairs : (n : ℕ) → 10000 ≤ n → n < 2 ^ 64
+    → length (decimal n) ≡ length (decimal (n / 10000)) + 4
+length-decimal-two_pairs n high small =
+    let two = length-decimal-pair n (omega arith) small in
+    let more = length-decimal-pair (n / 100) (omega arith) (omega arith) in
+    let front : n / 100 / 100 ≡ n / 10000 = omega arith in
+    omega (arith, ap (λ m. length (decimal m)) front)
+
+-- there are at most 20 digits
+pub length-decimal-most : (n : ℕ) → n < 2 ^ 64 → length (decimal n) ≤ 20
+length-decimal-most n small = length-decimal-le 20 n (omega arith) (omega arith) small
+
+-- a text whose first byte is written
+pub first_set : (text : List ℕ) (byte : ℕ) → 0 < length text → set text 0 byte ≡ byte ∷ drop 1 text
+first_set [] byte some = absurd (omega arith)
+first_set (first ∷ rest) byte some = refl
+
+-- a text of n digits, and a pair that is put behind it
+pub pair_put : (digits old mid new pair : List ℕ) (n spelled : ℕ) → n ≡ length digits → mid ≡ digits ++ drop n old
+    → pair ≡ decimal_pair spelled → new ≡ take n mid ++ pair ++ drop (n + 2) mid
+    → new ≡ digits ++ decimal_pair spelled ++ drop (n + 2) old
+pair_put digits old mid new pair n spelled count stands is put =
+    rw (
+      put,
+      is,
+      stands,
+      take_at digits (drop n old) n (sym count),
+      drop-append-drop n old digits (n + 2) (omega arith) (sym count),
+    ) refl
+
+-- and two pairs
+pub pairs_put : (digits old mid more new one two : List ℕ) (n first second : ℕ) → n ≡ length digits
+    → mid ≡ digits ++ drop n old
+    → one ≡ decimal_pair first → more ≡ take n mid ++ one ++ drop (n + 2) mid
+    → two ≡ decimal_pair second → new ≡ take (n + 2) more ++ two ++ drop (n + 2 + 2) more
+    → new ≡ digits ++ decimal_pair first ++ decimal_pair second ++ drop (n + 4) old
+pairs_put digits old mid more new one two n first second count stands one_is put two_is then_put =
+    let longer : n + 2 ≡ length (digits ++ decimal_pair first) =
+    omega (arith, count, length-append digits (decimal_pair first)) in
+    let four : n + 2 + 2 ≡ n + 4 = omega arith in
+    let both = pair_put (digits ++ decimal_pair first) old more new two (n + 2) second longer
+    (pair_put digits old mid more one n first count stands one_is put) two_is then_put in
+    rw four at both
 
 -- the form, from its three facts
 form_from : (ds : List ℕ) → list_all is_ascii_digit ds ≡ true → 0 < length ds → (get_or ds 0 0 ≡ 48 → length ds ≡ 1)
@@ -129,14 +179,6 @@ too_large ds i n all within so_far large small =
     let more = digits_value-take_more ds i all within in
     let least = digits_value-so_far ds (i + 1) in
     large (omega arith)
-
--- one digit of the number is counted at its end
-pub digits_counted : (count rest v : ℕ) → rest < 2 ^ 64 → v < 2 ^ 64
-    → count + length (decimal rest) ≡ length (decimal v) + 1 → count ≤ 20
-digits_counted count rest v small_rest small counted =
-    let some = decimal_nonempty rest small_rest in
-    let few : length (decimal v) ≤ 20 = length-decimal-le 20 v (omega arith) (omega arith) small in
-    omega arith
 
 -- what a reader may say that has the value of each text of the form, where that is below 2 ^ 64
 pub ok_value : {E : Type 0} (ds : List ℕ) (read : Option ℕ) (e : E) → is_decimal_form ds ≡ true →

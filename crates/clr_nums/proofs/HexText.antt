@@ -4,9 +4,11 @@ use Rattle.std.proofs.Common.{length, drop, take, get_or, refl, sym, ◌∙◌, 
 use Rattle.std.proofs.Common.{None, MatchOption, IsSome, ◌↔◌}
 use Rattle.std.proofs.lemmas.Bool.{cases_lt, agree_below_at, lt-ltb, le-ltb, both_ways}
 use Rattle.std.proofs.Math.Nat.{pow-suc, pow-le-pow_right}
-use Rattle.std.proofs.lemmas.List.{drop_all, take_more, take_all}
+use Rattle.std.proofs.lemmas.List.{append_assoc, append-nil, drop_all, drop_at, drop-drop, take_at, take_more, take_all}
+use Rattle.std.proofs.lemmas.List.{length-take-le}
+use borrow.Rule.Slice.PartMut.{put_mid}
 use Rattle.std.specs.List.{list_all}
-use Rattle.clr_nums.specs.Numbers.{hex_digit, hex_onto, hex16, is_hex_digit, is_hex_form}
+use Rattle.clr_nums.specs.Numbers.{hex_digit, hex_onto, hex16, hex_pair, is_hex_digit, is_hex_form}
 
 -- what stands behind the digits stays there
 pub hex_onto-append : (count n : ℕ) (xs ys : List ℕ) → hex_onto count n xs ++ ys ≡ hex_onto count n (xs ++ ys)
@@ -85,10 +87,45 @@ pub is_hex_form-hex16 : (n : ℕ) → is_hex_form (hex16 n) ≡ true
 unfolding hex16
 is_hex_form-hex16 n = rw (length-hex_onto 16 n []) (list_all-hex_onto 16 n [] refl)
 
--- 16 digits with nothing behind them
-pub hex_onto-hex16 : (n : ℕ) (digits : List ℕ) → length digits ≡ 16 → hex_onto 16 n (drop 16 digits) ≡ hex16 n
+-- a pair of digits, written before those that stand
+pub hex_onto-pair : (old new : List ℕ) (first pairs n : ℕ) (all : List ℕ) → pairs ≡ first + 1
+    → 2 * pairs ≤ length old
+    → new ≡ take (2 * first) old ++ hex_pair (n % 256) ++ drop (2 * first + 2) old
+    → hex_onto (2 * pairs) n (drop (2 * pairs) old) ≡ all
+    → hex_onto (2 * first) (n / 256) (drop (2 * first) new) ≡ all
+hex_onto-pair old new first pairs n all next within written stands =
+    let count : 2 * pairs ≡ suc (suc (2 * first)) = omega arith in
+    let behind : 2 * first + 2 ≡ suc (suc (2 * first)) = omega arith in
+    let high : n / 256 ≡ n / 16 / 16 = omega arith in
+    let first_digit : n % 256 / 16 ≡ n / 16 % 16 = omega arith in
+    let second_digit : n % 256 % 16 ≡ n % 16 = omega arith in
+    let front : length (take (2 * first) old) ≡ 2 * first = length-take-le (2 * first) old (omega arith) in
+    rw (
+      written,
+      append_assoc,
+      drop_at (take (2 * first) old) _ (2 * first) front,
+      behind,
+      high,
+      first_digit,
+      second_digit,
+    ) (rw count at stands)
+
+-- the upper eight digits of 16 before the lower eight
+pub hex_onto-halves : (n high : ℕ) → high ≡ n / 4294967296 → hex_onto 8 high [] ++ hex_onto 8 n [] ≡ hex16 n
 unfolding hex16
-hex_onto-hex16 n digits whole = let none = drop_all 16 digits (omega arith) in rw none refl
+hex_onto-halves n high shifted =
+    let upper : high ≡ n / 16 / 16 / 16 / 16 / 16 / 16 / 16 / 16 = omega arith in
+    rw upper (hex_onto-append 8 (n / 16 / 16 / 16 / 16 / 16 / 16 / 16 / 16) [] (hex_onto 8 n []))
+
+-- written into the two halves of 16 bytes
+pub hex16-put : (old text front back : List ℕ) (n : ℕ) → length old ≡ 16
+    → text ≡ front ++ drop 8 old → front ≡ hex_onto 8 (n / 4294967296) [] → back ≡ hex_onto 8 n []
+    → put_mid 8 8 text back ≡ hex16 n
+hex16-put old text front back n whole put upper lower =
+    let half : length front ≡ 8 = rw upper (length-hex_onto 8 (n / 4294967296) []) in
+    let rest : drop 8 (drop 8 old) ≡ [] = rw (drop-drop 8 8 old) (drop_all 16 old (omega arith)) in
+    rw (put, take_at front (drop 8 old) 8 half, drop_at front (drop 8 old) 8 half, rest, append-nil, upper, lower)
+    (hex_onto-halves n (n / 4294967296) refl)
 
 -- a number of i digits, and one digit more
 pub hex_bound : (i n d : ℕ) → d < 16 → n < 16 ^ i → n * 16 + d < 16 ^ (i + 1)

@@ -1,3 +1,4 @@
 pub mod DecimalText
 pub mod HexText
+pub mod PairTables
 pub mod Units

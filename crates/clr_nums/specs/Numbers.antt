@@ -19,6 +19,10 @@ is_decimal_form [] = false
 is_decimal_form (digit ∷ []) = is_ascii_digit digit
 is_decimal_form (first ∷ second ∷ more) = not (first == 48) && list_all is_ascii_digit (first ∷ second ∷ more)
 
+-- the two decimal digits of a number below 100
+abbrev pub decimal_pair : ℕ → List ℕ
+decimal_pair n = (48 + n / 10) ∷ (48 + n % 10) ∷ []
+
 -- the byte of the hexadecimal digit d, in lower case: 48 is that of 0, and 97 that of a
 abbrev pub hex_digit : ℕ → ℕ
 hex_digit d = if nat_lt d 10 then 48 + d else 87 + d
@@ -27,6 +31,10 @@ hex_digit d = if nat_lt d 10 then 48 + d else 87 + d
 abbrev pub hex_onto : ℕ → ℕ → List ℕ → List ℕ
 hex_onto zero n more = more
 hex_onto (suc count) n more = hex_onto count (n / 16) (hex_digit (n % 16) ∷ more)
+
+-- the two hexadecimal digits of a byte
+abbrev pub hex_pair : ℕ → List ℕ
+hex_pair byte = hex_digit (byte / 16) ∷ hex_digit (byte % 16) ∷ []
 
 -- 16 hexadecimal digits
 unfoldable pub hex16 : ℕ → List ℕ

@@ -23,3 +23,4 @@ pub mod HighestSegment
 pub mod Retiled
 pub mod MapValues
 pub mod ListSums
+pub mod SameTexts

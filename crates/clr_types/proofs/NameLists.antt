@@ -1,9 +1,13 @@
 -- What the index set's look-ups say of the names as lists of bytes.
 use Rattle.std.proofs.Common.{◌≡◌, ℕ, ◌+◌, Bool, true, false, List, [], ◌∷◌, map, Vec, Global, Some, None, position}
-use Rattle.std.proofs.Common.{eqb, refl, sym, ◌∙◌, inl, inr}
+use Rattle.std.proofs.Common.{eqb, refl, sym, ap, ◌∙◌, inl, inr, zero, suc, ◌<◌, length, get_or, arith}
+use Rattle.std.proofs.Common.{ltb, ltb-true, zero-add}
+use Rattle.std.proofs.lemmas.List.{length-map}
 use Rattle.std.specs.Str.{bytes_eq}
-use Rattle.std.specs.List.{list_any, position_from}
+use Rattle.std.specs.List.{list_any, position_from, IsDistinct}
 use Rattle.std.proofs.lemmas.Bool.{cases_Bool}
+use Rattle.std.proofs.lemmas.List.Elements.{All-from_recursion, All-get_or}
+use Rattle.std.proofs.lemmas.Map.Keys.{IsDistinct-head, IsDistinct-tail}
 use Rattle.std.proofs.lemmas.Slice.Eq.{bytes_eq-Decides}
 use Rattle.std.proofs.lemmas.Iterator.Adapters.{position_from-zero}
 use lib.Pointwise.{pointwise}
@@ -49,3 +53,43 @@ no_key n name (key ∷ keys) none =
       | inr miss ↦ let there : bytes_eq key.items name ≡ false = turned ∙ miss in
           rw miss (no_key (n + 1) name keys (rw there at none))
     ]
+
+-- the test of two keys
+abbrev pub same_key : Vec ℕ Global → Vec ℕ Global → Bool
+same_key key other = pointwise eqb key.items other.items
+
+-- where no two keys are the same, the number of a name is the place of the key that has it
+pub name_number-at : (n i : ℕ) (name : List ℕ) (keys : List (Vec ℕ Global)) (key : Vec ℕ Global)
+    → IsDistinct same_key keys → i < length keys → (get_or keys i key).items ≡ name
+    → name_number n (map bytes_of keys) name ≡ Some (n + i)
+name_number-at n i name [] key distinct within same = absurd (omega arith)
+name_number-at n zero name (first ∷ keys) key distinct within same =
+    let hit : bytes_eq first.items name ≡ true = (bytes_eq-Decides _ _).1 same in
+    let here : n ≡ n + 0 = omega arith in
+    rw hit (ap Some here)
+name_number-at n (suc i) name (first ∷ keys) key distinct within same =
+    let others = All-from_recursion _ keys (IsDistinct-head same_key first keys distinct) in
+    let other : bytes_eq first.items (get_or keys i key).items ≡ false =
+    All-get_or (λ later. same_key first later ≡ false) keys i key (omega arith) others in
+    let miss : bytes_eq first.items name ≡ false = rw same at other in
+    let next : n + 1 + i ≡ n + suc i = omega arith in
+    rw miss (name_number-at (n + 1) i name keys key (IsDistinct-tail same_key first keys distinct) (omega arith) same
+    ∙ ap Some next)
+
+-- which a set's slice of keys tells
+pub found_below : (names : List (List ℕ)) (keys slice : List (Vec ℕ Global)) (i : ℕ) → map bytes_of keys ≡ names
+    → slice ≡ keys → true ≡ ltb i (length slice) → i < length names
+found_below names keys slice i seen told below =
+    let count : length (map bytes_of keys) ≡ length names = ap length seen in
+    omega (arith, ltb-true i (length slice) (sym below), ap length told, length-map keys bytes_of, count)
+
+pub name_number-found : (names : List (List ℕ)) (keys slice : List (Vec ℕ Global)) (known : Vec ℕ Global)
+    (name : List ℕ) (i : ℕ) → map bytes_of keys ≡ names → slice ≡ keys → IsDistinct same_key keys
+    → true ≡ ltb i (length slice) → known ≡ get_or slice i known → known.items ≡ name
+    → name_number 0 names name ≡ Some i
+name_number-found names keys slice known name i seen told distinct below found same =
+    let within : i < length keys = rw told at (ltb-true i (length slice) (sym below)) in
+    let here : known ≡ get_or keys i known = rw told at found in
+    let is_name : (get_or keys i known).items ≡ name =
+    ap bytes_of (sym here) ∙ same in
+    rw (← seen) (name_number-at 0 i name keys known distinct within is_name ∙ ap Some (zero-add i))

@@ -8,6 +8,7 @@ ghost use Rattle.clr_types.specs.Descriptors.{SeriesLaw, RisingOffsetsLaw, Insid
 
 pub mod descriptors;
 pub mod fault;
+mod guesses;
 pub mod handle;
 pub mod item;
 mod method_table;

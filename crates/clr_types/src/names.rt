@@ -1,9 +1,11 @@
 //! Names in order of definition.
 
-ghost use Rattle.std.specs.Prelude.{◌≡◌, ◌<◌, [], ◌∷◌, ◌++◌, length, get_or, None, IfOk, IfSome, OnErr};
+ghost use Rattle.std.specs.Prelude.{◌≡◌, ◌<◌, [], ◌∷◌, ◌++◌, length, get_or};
+ghost use Rattle.std.specs.Prelude.{None, Some, IfOk, IfSome, IsTrue, OnErr};
 ghost use Rattle.clr_types.specs.Table.{name_number};
 
 use crate::NoMemory;
+use crate::guesses::Guesses;
 use indexmap::IndexSet;
 use std::alloc::Global;
 use std::marker::Model;
@@ -12,6 +14,7 @@ use std::marker::Model;
 #[derive(Drop)]
 pub(crate) struct Names {
     set: IndexSet<Vec<u8>>,
+    guesses: Guesses,
 }
 
 impl Model for Names {
@@ -30,11 +33,39 @@ impl Names {
     {
         Names {
             set: IndexSet::new(alloc),
+            guesses: Guesses::new(),
         }
     }
 
     /// The number of a name.
+    #[inline]
     pub(crate) fn number(&self, name: &[u8]) -> Option<usize>
+        ensures value { result ≡ name_number 0 self.now name.now }
+        ensures below { IfSome result (λ number. number < length self.now) }
+    {
+        let guess = self.guesses.of(name);
+        if self.is_name(guess, name) {
+            Some(guess)
+        } else {
+            self.search(name)
+        }
+    }
+
+    // Whether a number has this name.
+    #[inline]
+    fn is_name(&self, number: usize, name: &[u8]) -> bool
+        ensures value { IsTrue result → name_number 0 self.now name.now ≡ Some number }
+        ensures below { IsTrue result → number < length self.now }
+    {
+        match self.set.as_slice().get(number) {
+            Some(known) => is_same(known.as_slice(), name),
+            None => false,
+        }
+    }
+
+    // The number of a name, by its hash.
+    #[inline(never)]
+    fn search(&self, name: &[u8]) -> Option<usize>
         ensures value { result ≡ name_number 0 self.now name.now }
         ensures below { IfSome result (λ number. number < length self.now) }
     {
@@ -56,7 +87,21 @@ impl Names {
         ensures err { OnErr result (self.new ≡ self.old) }
     {
         let owned = Vec::from_slice(alloc, name)?;
+        let number = self.set.len();
         self.set.insert(owned)?;
+        self.guesses.keep(name, number);
         Ok(())
     }
+}
+
+// Whether two texts are equal. Most names have four to eight bytes: two words, which may overlap, cover these.
+#[inline]
+fn is_same(text: &[u8], other: &[u8]) -> bool
+    ensures { IsTrue result → text.now ≡ other.now }
+{
+    if text.len() != other.len() || text.len() < 4 || 8 < text.len() {
+        return text == other;
+    }
+    text.first_chunk::<4>() == other.first_chunk::<4>()
+        && text.last_chunk::<4>() == other.last_chunk::<4>()
 }

@@ -1,7 +1,10 @@
--- All digits are left to write.
-use Rattle.std.proofs.Common.{sym}
-use Rattle.clr_nums.proofs.DecimalText.{decimal_onto-all}
+-- Some digits are written.
+use Rattle.std.proofs.Common.{arith}
+use Rattle.std.proofs.lemmas.Fmt.{decimal_nonempty}
 use Rattle.clr_nums.proofs.write.put_dec.Goals as goal
 
-pub loop-at-init : goal.loop-at-init
-loop-at-init c = decimal_onto-all _ c.args.v _ c.ranges.v.fits (sym c.digit_count-count.ensures.count)
+pub returns-then-v-lt10000-clause-some : goal.returns-then-v-lt10000-clause-some
+returns-then-v-lt10000-clause-some c = omega (arith, decimal_nonempty c.args.v (omega arith))
+
+pub returns-else-v-lt10000-clause-some : goal.returns-else-v-lt10000-clause-some
+returns-else-v-lt10000-clause-some c = omega (arith, decimal_nonempty c.args.v (omega arith))

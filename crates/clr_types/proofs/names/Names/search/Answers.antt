@@ -1,6 +1,6 @@
 use Rattle.std.proofs.Common.{◌∙◌, sym}
 use Rattle.clr_types.proofs.NameLists.{name_number-position}
-use Rattle.clr_types.proofs.names.Names.number.Goals as goal
+use Rattle.clr_types.proofs.names.Names.search.Goals as goal
 
 pub returns-clause-value : goal.returns-clause-value
 returns-clause-value c = rw (← c.self.view_is)

@@ -34,3 +34,4 @@ pub mod BegunStores
 pub mod FinishedStores
 pub mod BegunBirths
 pub mod FinishedBirths
+pub mod QuietThreads

@@ -33,7 +33,7 @@ first-none (None ∷ checks) more e = first-none checks more e
 first-none (Some q ∷ checks) more e = absurd cc
 
 -- the checks on a thread, as functions of what they see
-abbrev thread_by : ℕ → Bool → Option ℕ → Bool → List (Option Refusal)
+abbrev pub thread_by : ℕ → Bool → Option ℕ → Bool → List (Option Refusal)
 thread_by t known holder stepping =
     refuse_if (not known) UnknownThread
     ∷ with_some holder (λ h. refuse_if (not (h == t) && not stepping) (Blocked h))

@@ -13,6 +13,7 @@ impl Runtime {
 
     // Why a line of a thread that finishes no step is refused before it looks at anything. A thread in mid-step may
     // only finish that, whoever holds the others.
+    #[inline]
     pub(crate) fn refused_thread(&self, t: u64) -> Option<Refusal>
         ensures value { result ≡ thread_refusal self.now t }
         ensures known { result ≡ None → is_thread t ≡ true }
@@ -20,6 +21,18 @@ impl Runtime {
         if !is_known(t) {
             return Some(Refusal::UnknownThread);
         }
+        if self.parts.safe.is_quiet() {
+            return None;
+        }
+        self.refused_beside(t)
+    }
+
+    // The same of a thread that there is, where a thread has begun something or holds the others.
+    #[inline(never)]
+    fn refused_beside(&self, t: u64) -> Option<Refusal>
+        requires { is_thread t ≡ true }
+        ensures { result ≡ thread_refusal self.now t }
+    {
         if self.parts.safe.in_step(t) {
             return Some(Refusal::MidStep);
         }
@@ -30,6 +43,7 @@ impl Runtime {
     }
 
     // Why a line of a thread that names these two locals is refused before it looks at any object.
+    #[inline]
     pub(crate) fn refused_names(&self, t: u64, first: u64, second: u64) -> Option<Refusal>
         ensures value { result ≡ names_refusal self.now t (first ∷ second ∷ []) }
         ensures known { result ≡ None → is_thread t ≡ true }
@@ -47,6 +61,7 @@ impl Runtime {
 }
 
 // Whether there is a thread of this number.
+#[inline]
 pub(crate) fn is_known(t: u64) -> bool
     ensures { result ≡ is_thread t }
 {
@@ -54,6 +69,7 @@ pub(crate) fn is_known(t: u64) -> bool
 }
 
 /// Where local `k` of a thread stands among all locals.
+#[inline]
 pub fn index_of(t: u64, k: u64) -> usize
     requires thread { is_thread t ≡ true }
     requires local { k < 64 }

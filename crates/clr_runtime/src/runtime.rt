@@ -148,6 +148,7 @@ impl Runtime {
     }
 
     /// The table of types.
+    #[inline]
     pub fn types(&self) -> &Types
         ensures { result.now ≡ self.now.types }
     {
@@ -157,6 +158,7 @@ impl Runtime {
     /// The heap, of which the options limit the segments. Objects of 85,000 bytes and more stand in its large segments.
     /// No object is marked, each free item has the head of free space without a mark, and the headers and the padding of
     /// objects say nothing else. What is seen is a lawful state whose objects are named by their places.
+    #[inline]
     pub fn heap(&self) -> &Heap
         ensures objects { self.now.objects ≡ objects_in self.now.types result.now }
         ensures layout { self.now.layout ≡ layout_in self.now.types result.now }
@@ -174,6 +176,7 @@ impl Runtime {
     /// The cards of the heap: each segment has cards for all that it reserves. Where a slot of an object names one of
     /// a lower generation, the card of the slot's address is set, but for the slot of a store that a thread has begun
     /// and not finished.
+    #[inline]
     pub fn cards(&self) -> &Cards
         ensures covers { AreCardsOf self.now.layout result.now }
         ensures law { (a : ℕ) → NamesYounger self.now.types self.now.layout self.now.objects a
@@ -186,6 +189,7 @@ impl Runtime {
     /// The bricks of the heap: each segment has bricks for all that it reserves. A brick names the first object that
     /// starts in it, or nothing; where an object of generation 1 or 2 reaches into one in which none starts, back
     /// entries lead to the nearest one below in which an object starts.
+    #[inline]
     pub fn bricks(&self) -> &Bricks
         ensures covers { AreBricksOf self.now.layout result.now }
         ensures law { BrickLaw self.now.types self.now.layout self.now.objects (entry_at result.now) }
@@ -194,6 +198,7 @@ impl Runtime {
     }
 
     /// The locals, 64 for each of 16 threads, by thread. Null is 0.
+    #[inline]
     pub fn locals(&self) -> &[u64]
         ensures value { result.now ≡ self.now.locals }
         ensures count { length result.now ≡ 1024 }
@@ -202,6 +207,7 @@ impl Runtime {
     }
 
     /// The handles in use, by their numbers.
+    #[inline]
     pub fn handles(&self) -> &Handles
         ensures { result.now ≡ self.now.handles }
     {
@@ -210,6 +216,7 @@ impl Runtime {
 
     /// The finalisation queue: the objects that are to be finalised once they die, and those that wait for their
     /// finaliser.
+    #[inline]
     pub fn finals(&self) -> &Finals
         ensures entries { result.now.entries ≡ self.now.entries }
         ensures ready { result.now.ready ≡ self.now.ready }
@@ -218,6 +225,7 @@ impl Runtime {
     }
 
     /// How many bytes all segments may reserve together.
+    #[inline]
     pub fn limit(&self) -> u64
         ensures { result ≡ self.now.options.limit }
     {

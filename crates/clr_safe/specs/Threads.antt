@@ -1,6 +1,8 @@
 -- What threads have begun, and who holds the others, as contracts see it.
 use Rattle.std.specs.Prelude.{ℕ, ◌+◌, ◌-◌, if◌then◌else◌, List, [], ◌∷◌, map, replicate, get_or, Bool, false}
-use Rattle.std.specs.Prelude.{Option, None}
+use Rattle.std.specs.Prelude.{Option, None, Some, ◌≡◌, length, not}
+use Rattle.std.specs.List.{list_all}
+use Rattle.clr_model.specs.Lookups.{is_step}
 use Rattle.clr_model.specs.Machine.{ThreadStep, no_step, begun_store, begun_new}
 use Rattle.clr_safe.specs.declared.begun.Begun.{Begun}
 use Rattle.clr_safe.specs.declared.begun.Begun.TheVariants.{Nothing, Store, Birth}
@@ -43,3 +45,17 @@ owed_in (what ∷ more) = owed_by what + owed_in more
 -- how many such objects are begun
 abbrev pub births_owed : Threads → ℕ
 births_owed threads = owed_in threads.begun
+
+-- whether no thread has begun anything
+abbrev pub are_idle : List Begun → Bool
+are_idle begun = list_all (λ what. not (is_step (step_by what))) begun
+
+-- and none holds the others
+abbrev pub are_quiet : List Begun → Option ℕ → Bool
+are_quiet begun None = are_idle begun
+are_quiet begun (Some t) = false
+
+-- what holds of what is kept: each thread has its place, and `quiet` says whether all rest
+pub record IsSafe (begun : List Begun) (holder : Option ℕ) (is_quiet : Bool) : Type 0 where
+  pub all : length begun ≡ 16
+  pub quiet : is_quiet ≡ are_quiet begun holder

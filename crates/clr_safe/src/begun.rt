@@ -27,6 +27,7 @@ pub enum Begun {
 
 impl Begun {
     /// Whether this is half a step: a thread that has begun it is in mid-step.
+    #[inline]
     pub fn is_step(&self) -> bool
         ensures { result ≡ is_step (step_by self.now) }
     {

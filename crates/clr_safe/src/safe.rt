@@ -1,7 +1,7 @@
 //! What all threads have begun, and who holds them.
-ghost use Rattle.std.specs.Prelude.{◌≡◌, ◌<◌, ◌≤◌, ◌-◌, ℕ, Err, IfErr, None, Ok, OnOk, Some, set, true};
+ghost use Rattle.std.specs.Prelude.{◌≡◌, ◌<◌, ◌≤◌, ◌-◌, ◌↔◌, ℕ, Err, IfErr, IsTrue, None, Ok, OnOk, Some, set, true};
 ghost use Rattle.clr_model.specs.Lookups.{is_step, is_thread, lowest_step_from};
-ghost use Rattle.clr_safe.specs.Threads.{begun_by, births_owed, no_threads, step_by, steps_of};
+ghost use Rattle.clr_safe.specs.Threads.{are_idle, are_quiet, begun_by, births_owed, no_threads, step_by, steps_of};
 
 use crate::begun::Begun;
 use std::marker::Model;
@@ -12,17 +12,18 @@ use std::marker::Model;
 pub struct Safe {
     begun: [Begun; 16],
     holder: Option<u64>,
+    // Whether nothing is begun, and no thread holds the others.
+    quiet: bool,
 }
 
 impl Model for Safe {
-    ghost use Rattle.std.specs.Prelude.{◌≡◌, length};
-    ghost use Rattle.clr_safe.specs.Threads.{Threads};
+    ghost use Rattle.clr_safe.specs.Threads.{IsSafe, Threads};
 
     ghost Value = { Threads };
 
     ghost view = { λ s. record { begun = s.begun; holder = s.holder } };
 
-    ghost invariant = { λ s. length s.begun ≡ 16 };
+    ghost invariant = { λ s. IsSafe s.begun s.holder s.quiet };
 }
 
 impl Safe {
@@ -33,10 +34,20 @@ impl Safe {
         Safe {
             begun: [Begun::Nothing; 16],
             holder: None,
+            quiet: true,
         }
     }
 
+    /// Whether no thread has begun anything, and none holds the others.
+    #[inline]
+    pub fn is_quiet(&self) -> bool
+        ensures { IsTrue result ↔ (self.now ≡ no_threads) }
+    {
+        self.quiet
+    }
+
     /// What a thread has begun.
+    #[inline]
     pub fn begun(&self, t: u64) -> Begun
         requires { is_thread t ≡ true }
         ensures { result ≡ begun_by self.now t }
@@ -45,11 +56,12 @@ impl Safe {
     }
 
     /// Whether a thread has begun something.
+    #[inline]
     pub fn in_step(&self, t: u64) -> bool
         requires { is_thread t ≡ true }
         ensures { result ≡ is_step (step_by (begun_by self.now t)) }
     {
-        self.begun(t).is_step()
+        self.begun[(t - 1) as usize].is_step()
     }
 
     /// A thread begins something, in the place of what it had begun before.
@@ -58,6 +70,7 @@ impl Safe {
         ensures { self.new ≡ record self.old { begun = set self.old.begun (t - 1) what } }
     {
         self.begun[(t - 1) as usize] = what;
+        self.quiet = !what.is_step() && are_quiet(&self.begun, self.holder);
     }
 
     /// A thread has finished what it had begun.
@@ -66,9 +79,11 @@ impl Safe {
         ensures { self.new ≡ record self.old { begun = set self.old.begun (t - 1) Begun.Nothing } }
     {
         self.begun[(t - 1) as usize] = Begun::Nothing;
+        self.quiet = are_quiet(&self.begun, self.holder);
     }
 
     /// The thread that holds all others, if one does.
+    #[inline]
     pub fn holder(&self) -> Option<u64>
         ensures { result ≡ self.now.holder }
     {
@@ -80,6 +95,7 @@ impl Safe {
         ensures { self.new ≡ record self.old { holder = Some t } }
     {
         self.holder = Some(t);
+        self.quiet = false;
     }
 
     /// No thread holds the others any more.
@@ -87,6 +103,7 @@ impl Safe {
         ensures { self.new ≡ record self.old { holder = None } }
     {
         self.holder = None;
+        self.quiet = are_quiet(&self.begun, self.holder);
     }
 
     /// Ok exactly where no thread has begun anything, and else the lowest thread that has.
@@ -104,7 +121,20 @@ impl Safe {
     }
 
     /// How many of the objects that threads have begun are to have a finalisation entry.
+    #[inline]
     pub fn births_owed(&self) -> usize
+        ensures count { result ≡ births_owed self.now }
+        ensures few { result ≤ 16 }
+    {
+        if self.quiet {
+            return 0;
+        }
+        self.count_owed()
+    }
+
+    // The same, by a look at each thread.
+    #[inline(never)]
+    fn count_owed(&self) -> usize
         ensures count { result ≡ births_owed self.now }
         ensures few { result ≤ 16 }
     {
@@ -120,4 +150,18 @@ impl Safe {
         }
         owed
     }
+}
+
+// Whether nothing is begun, and no thread holds the others.
+fn are_quiet(begun: &[Begun; 16], holder: Option<u64>) -> bool
+    ensures { result ≡ are_quiet begun.now holder }
+{
+    holder.is_none() && are_idle(begun)
+}
+
+// Whether no thread has begun anything.
+fn are_idle(begun: &[Begun]) -> bool
+    ensures { result ≡ are_idle begun.now }
+{
+    begun.iter().all(|what| !what.is_step())
 }

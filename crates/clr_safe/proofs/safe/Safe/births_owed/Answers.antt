@@ -1,11 +1,11 @@
-use Rattle.std.proofs.Common.{◌≡◌, ◌≤◌, length, sym, ap, ◌∙◌, arith}
-use Rattle.clr_safe.specs.Threads.{Threads}
-use Rattle.clr_safe.proofs.Entries.{owed_past}
+-- Where all threads rest, nothing is begun.
+use Rattle.std.proofs.Common.{ap, sym}
+use Rattle.clr_safe.specs.Threads.{births_owed}
+use Rattle.clr_safe.proofs.Quiet.{quiet-exact}
 use Rattle.clr_safe.proofs.safe.Safe.births_owed.Goals as goal
 
-pub returns-clause-count : goal.returns-clause-count
-returns-clause-count c =
-    let all : length c.args.self.now.begun ≡ 16 =
-    ap (λ (s : Threads). length s.begun) (sym c.self.view_is) ∙ c.self.invariant in
-    let end : length c.args.self.now.begun ≤ c.loop-what.what-index = omega arith in
-    omega (arith, c.loop-what.invariant.counted, owed_past c.args.self.now.begun c.loop-what.what-index end)
+pub returns-then-self-clause-count : goal.returns-then-self-clause-count
+returns-then-self-clause-count c =
+    let none = (quiet-exact c.args.self.now c.self.inside.begun c.self.inside.holder c.self.inside.quiet c.self.view_is
+    c.self.invariant.all c.self.invariant.quiet).0 c.if-self.true in
+    ap births_owed (sym none)

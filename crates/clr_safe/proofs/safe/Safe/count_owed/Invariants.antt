@@ -1,6 +1,6 @@
 use Rattle.std.proofs.Common.{◌≡◌, ◌+◌, ◌≤◌, drop}
 use Rattle.clr_safe.specs.Threads.{owed_in}
-use Rattle.clr_safe.proofs.safe.Safe.births_owed.Given as goal
+use Rattle.clr_safe.proofs.safe.Safe.count_owed.Given as goal
 
 abbrev pub invariant-loop-what : goal.invariant-loop-what
 invariant-loop-what l = record {

@@ -18,7 +18,7 @@ ghost use Rattle.clr_handles.specs.Tops.{pinned_in};
 ghost use Rattle.clr_collect.specs.Collecting.{CountsSlides, HasMarkedAlive, HasMarkedKept, world_with};
 ghost use Rattle.clr_collect.specs.Released.{HasReleased};
 
-use crate::deciding::compacts;
+use crate::deciding::counted_to_compact;
 use crate::judging::{clear_long_and_dependent, clear_short, judge_entries};
 use crate::releasing::release_empty;
 use clr_bricks::Bricks;
@@ -33,7 +33,7 @@ use clr_model::{Collected, How};
 use clr_pinq::PinQueue;
 use clr_scan::mark_from;
 use clr_survivors::move_survivors;
-use clr_sweep::{Tally, count, sweep};
+use clr_sweep::{Tally, sweep};
 use clr_types::Types;
 
 /// A collection of generation `g` and of all younger ones: the contexts are given up, and of the objects of these
@@ -110,14 +110,13 @@ pub fn collect(
     mark_kept(
         types, heap, cards, bricks, marker, contexts, handles, finals, locals, g,
     );
-    if !compacts(heap, types, g, how, threshold) {
-        let tally = sweep(heap, types, bricks, g);
+    let Some(tally) = counted_to_compact(heap, types, g, how, threshold) else {
+        let swept = sweep(heap, types, bricks, g);
         heap.lawful();
         release_after(heap, types, cards, bricks, g);
         contexts.forget();
-        return answer(g, false, tally);
-    }
-    let tally = count(heap, types, g);
+        return answer(g, false, swept);
+    };
     let promoted = move_survivors(
         types, heap, cards, bricks, handles, finals, locals, pins, slides, g,
     );

@@ -1,5 +1,5 @@
 -- What is kept is swept or moved, and empty segments are given back.
-use Rattle.std.proofs.Common.{◌∙◌, refl, sym, arith, true}
+use Rattle.std.proofs.Common.{◌∙◌, ap, is_some, refl, sym, arith, true}
 use Rattle.clr_model.specs.declared.How.TheVariants.{Compact}
 use Rattle.clr_collect.specs.Collecting.{world_with}
 use Rattle.clr_collect.proofs.AfterRelease.{clean_still, heads_still}
@@ -14,22 +14,15 @@ use Rattle.clr_collect.proofs.collecting.collect.Goals as goal
 pub mark_kept-requires-clause-world : goal.mark_kept-requires-clause-world
 mark_kept-requires-clause-world c = let (m, w, named, idle) = c.requires.world in (m, w, named)
 
-pub compacts-requires-clause-laid : goal.compacts-requires-clause-laid
-compacts-requires-clause-laid c =
+pub counted_to_compact-requires-clause-laid : goal.counted_to_compact-requires-clause-laid
+counted_to_compact-requires-clause-laid c =
     memory_laid
     (world_with c.args.types.now c.args.heap.now c.args.locals.now c.args.handles.now c.args.finals.now)
     c.mark_kept.new.heap c.mark_kept.new.handles c.mark_kept.new.finals c.args.g c.requires.generation
     c.mark_kept.ensures.kept c.requires.world
 
-pub sweep-tally-requires-clause-laid : goal.sweep-tally-requires-clause-laid
-sweep-tally-requires-clause-laid c =
-    memory_laid
-    (world_with c.args.types.now c.args.heap.now c.args.locals.now c.args.handles.now c.args.finals.now)
-    c.mark_kept.new.heap c.mark_kept.new.handles c.mark_kept.new.finals c.args.g c.requires.generation
-    c.mark_kept.ensures.kept c.requires.world
-
-pub count-tally-requires-clause-laid : goal.count-tally-requires-clause-laid
-count-tally-requires-clause-laid c =
+pub sweep-swept-requires-clause-laid : goal.sweep-swept-requires-clause-laid
+sweep-swept-requires-clause-laid c =
     memory_laid
     (world_with c.args.types.now c.args.heap.now c.args.locals.now c.args.handles.now c.args.finals.now)
     c.mark_kept.new.heap c.mark_kept.new.handles c.mark_kept.new.finals c.args.g c.requires.generation
@@ -47,7 +40,7 @@ release_after-requires-clause-no_contexts c =
     none_given
     (world_with c.args.types.now c.args.heap.now c.args.locals.now c.args.handles.now c.args.finals.now)
     c.mark_kept.new.heap c.mark_kept.new.handles c.mark_kept.new.finals c.args.g c.requires.generation
-    c.mark_kept.ensures.kept c.sweep-tally.new.heap c.lawful-then-not-compacts.ensures c.sweep-tally.ensures.swept
+    c.mark_kept.ensures.kept c.sweep-swept.new.heap c.lawful-in_default.ensures c.sweep-swept.ensures.swept
     c.requires.world
 
 pub release_after-requires-clause-tables : goal.release_after-requires-clause-tables
@@ -55,63 +48,64 @@ release_after-requires-clause-tables c =
     whole_tables
     (world_with c.args.types.now c.args.heap.now c.args.locals.now c.args.handles.now c.args.finals.now)
     c.mark_kept.new.heap c.mark_kept.new.handles c.mark_kept.new.finals c.args.g c.requires.generation
-    c.mark_kept.ensures.kept c.sweep-tally.new.heap c.lawful-then-not-compacts.ensures c.sweep-tally.ensures.swept
+    c.mark_kept.ensures.kept c.sweep-swept.new.heap c.lawful-in_default.ensures c.sweep-swept.ensures.swept
     c.requires.world
-    c.mark_kept.new.cards c.args.bricks.now c.sweep-tally.new.bricks c.mark_kept.ensures.tables
-    c.sweep-tally.ensures.spans c.sweep-tally.ensures.brick_law
+    c.mark_kept.new.cards c.args.bricks.now c.sweep-swept.new.bricks c.mark_kept.ensures.tables
+    c.sweep-swept.ensures.spans c.sweep-swept.ensures.brick_law
 
-pub returns-then-not-compacts-clause-collected : goal.returns-then-not-compacts-clause-collected
-returns-then-not-compacts-clause-collected c =
+pub returns-in_default-clause-collected : goal.returns-in_default-clause-collected
+returns-in_default-clause-collected c =
     whole_collected_as
     (world_with c.args.types.now c.args.heap.now c.args.locals.now c.args.handles.now c.args.finals.now)
     c.mark_kept.new.heap c.mark_kept.new.handles c.mark_kept.new.finals c.args.g c.requires.generation
-    c.mark_kept.ensures.kept c.sweep-tally.new.heap c.lawful-then-not-compacts.ensures c.sweep-tally.ensures.swept
+    c.mark_kept.ensures.kept c.sweep-swept.new.heap c.lawful-in_default.ensures c.sweep-swept.ensures.swept
     c.release_after.new.heap c.release_after.ensures.released c.args.how c.args.threshold
-    (λ n kept memory laid marks same. sym c.if-not-compacts.true ∙ c.compacts.ensures n kept memory laid marks same)
-    c.sweep-tally.result c.sweep-tally.ensures.tally c.answer.result c.answer.ensures c.args.slides.now
+    (λ n kept memory laid marks same. sym (ap is_some c.in_default.is)
+    ∙ c.counted_to_compact.ensures.decides n kept memory laid marks same)
+    c.sweep-swept.result c.sweep-swept.ensures.tally c.answer.result c.answer.ensures c.args.slides.now
 
-pub returns-then-not-compacts-clause-unmarked : goal.returns-then-not-compacts-clause-unmarked
-returns-then-not-compacts-clause-unmarked c =
+pub returns-in_default-clause-unmarked : goal.returns-in_default-clause-unmarked
+returns-in_default-clause-unmarked c =
     none_marked
     (world_with c.args.types.now c.args.heap.now c.args.locals.now c.args.handles.now c.args.finals.now)
     c.mark_kept.new.heap c.mark_kept.new.handles c.mark_kept.new.finals c.args.g c.requires.generation
-    c.mark_kept.ensures.kept c.sweep-tally.new.heap c.lawful-then-not-compacts.ensures c.sweep-tally.ensures.swept
+    c.mark_kept.ensures.kept c.sweep-swept.new.heap c.lawful-in_default.ensures c.sweep-swept.ensures.swept
     c.release_after.new.heap c.release_after.ensures.released
 
-pub returns-then-not-compacts-clause-index : goal.returns-then-not-compacts-clause-index
-returns-then-not-compacts-clause-index c =
+pub returns-in_default-clause-index : goal.returns-in_default-clause-index
+returns-in_default-clause-index c =
     new_index
     (world_with c.args.types.now c.args.heap.now c.args.locals.now c.args.handles.now c.args.finals.now)
     c.mark_kept.new.heap c.mark_kept.new.handles c.mark_kept.new.finals c.args.g c.requires.generation
-    c.mark_kept.ensures.kept c.sweep-tally.new.heap c.lawful-then-not-compacts.ensures c.sweep-tally.ensures.swept
+    c.mark_kept.ensures.kept c.sweep-swept.new.heap c.lawful-in_default.ensures c.sweep-swept.ensures.swept
     c.release_after.new.heap c.release_after.ensures.released c.requires.world c.forget.new.self c.forget.ensures
 
-pub returns-then-not-compacts-clause-clean : goal.returns-then-not-compacts-clause-clean
-returns-then-not-compacts-clause-clean c =
+pub returns-in_default-clause-clean : goal.returns-in_default-clause-clean
+returns-in_default-clause-clean c =
     clean_after
     (world_with c.args.types.now c.args.heap.now c.args.locals.now c.args.handles.now c.args.finals.now)
     c.mark_kept.new.heap c.mark_kept.new.handles c.mark_kept.new.finals c.args.g c.requires.generation
-    c.mark_kept.ensures.kept c.sweep-tally.new.heap c.lawful-then-not-compacts.ensures c.sweep-tally.ensures.swept
+    c.mark_kept.ensures.kept c.sweep-swept.new.heap c.lawful-in_default.ensures c.sweep-swept.ensures.swept
     c.release_after.new.heap c.release_after.ensures.released c.requires.clean
 
-pub returns-then-not-compacts-clause-free_heads : goal.returns-then-not-compacts-clause-free_heads
-returns-then-not-compacts-clause-free_heads c =
+pub returns-in_default-clause-free_heads : goal.returns-in_default-clause-free_heads
+returns-in_default-clause-free_heads c =
     heads_after
     (world_with c.args.types.now c.args.heap.now c.args.locals.now c.args.handles.now c.args.finals.now)
     c.mark_kept.new.heap c.mark_kept.new.handles c.mark_kept.new.finals c.args.g c.requires.generation
-    c.mark_kept.ensures.kept c.sweep-tally.new.heap c.lawful-then-not-compacts.ensures c.sweep-tally.ensures.swept
+    c.mark_kept.ensures.kept c.sweep-swept.new.heap c.lawful-in_default.ensures c.sweep-swept.ensures.swept
     c.release_after.new.heap c.release_after.ensures.released c.requires.free_heads
 
-pub returns-then-not-compacts-clause-held : goal.returns-then-not-compacts-clause-held
-returns-then-not-compacts-clause-held c =
+pub returns-in_default-clause-held : goal.returns-in_default-clause-held
+returns-in_default-clause-held c =
     (lost
     (world_with c.args.types.now c.args.heap.now c.args.locals.now c.args.handles.now c.args.finals.now)
     c.mark_kept.new.heap c.mark_kept.new.handles c.mark_kept.new.finals c.args.g c.requires.generation
-    c.mark_kept.ensures.kept c.sweep-tally.new.heap c.lawful-then-not-compacts.ensures c.sweep-tally.ensures.swept
+    c.mark_kept.ensures.kept c.sweep-swept.new.heap c.lawful-in_default.ensures c.sweep-swept.ensures.swept
     c.release_after.new.heap c.release_after.ensures.released).held
 
-pub returns-then-not-compacts-clause-room : goal.returns-then-not-compacts-clause-room
-returns-then-not-compacts-clause-room c =
+pub returns-in_default-clause-room : goal.returns-in_default-clause-room
+returns-in_default-clause-room c =
     let same =
     pinned_kept
     (world_with c.args.types.now c.args.heap.now c.args.locals.now c.args.handles.now c.args.finals.now)
@@ -164,12 +158,12 @@ renew-requires-clause-laid c =
     c.move_survivors-promoted.new.slides c.move_survivors-promoted.ensures.moved
     c.move_survivors-promoted.ensures.occupied
     Compact 0 (λ n kept memory laid marks same. refl)
-    c.count-tally.result c.count-tally.ensures
+    c.in-Some.tally c.in-Some.ensures.counted
     (record {
       generation = c.args.g;
       compacted = true;
-      kept = c.count-tally.result.kept;
-      freed = c.count-tally.result.freed;
+      kept = c.in-Some.tally.kept;
+      freed = c.in-Some.tally.freed;
       promoted1 = c.move_survivors-promoted.result.to1;
       promoted2 = c.move_survivors-promoted.result.to2;
     }) refl m is named idle
@@ -186,8 +180,9 @@ returns-clause-collected c m is named idle option =
     c.move_survivors-promoted.new.slides c.move_survivors-promoted.ensures.moved
     c.move_survivors-promoted.ensures.occupied
     c.args.how c.args.threshold
-    (λ n kept memory laid marks same. sym c.if-not-compacts.false ∙ c.compacts.ensures n kept memory laid marks same)
-    c.count-tally.result c.count-tally.ensures c.answer-2.result c.answer-2.ensures m is named idle option
+    (λ n kept memory laid marks same. sym (ap is_some c.in-Some.is)
+    ∙ c.counted_to_compact.ensures.decides n kept memory laid marks same)
+    c.in-Some.tally c.in-Some.ensures.counted c.answer-2.result c.answer-2.ensures m is named idle option
 
 pub returns-clause-unmarked : goal.returns-clause-unmarked
 returns-clause-unmarked c =

@@ -1,12 +1,13 @@
 -- Handles that follow what they name: what stays, and how high they reach then.
 use Rattle.std.proofs.Common.{◌≡◌, ◌≢◌, ◌⊎◌, ℕ, ◌+◌, ◌*◌, ◌/◌, ◌<◌, ◌≤◌, ◌||◌, eqb, ltb, max, List, length, get_or, set}
-use Rattle.std.proofs.Common.{Some, inl, inr, refl, sym, ap, ◌∙◌, subst, arith}
+use Rattle.std.proofs.Common.{Bool, true, false, ◌&&◌, MatchBool, Some, inl, inr, refl, sym, ap, ◌∙◌, subst, arith}
 use Rattle.std.proofs.lemmas.Bool.{cases_eq, cases_lt, lt-ltb, or_right}
 use Rattle.std.proofs.lemmas.List.{get_or-set_same, get_or-set_other, length-set}
 use Rattle.std.specs.FinMap as finmap
+use Rattle.clr_types.specs.Kinds.{is_pinned_kind}
 use Rattle.clr_types.specs.declared.handle.Handle.{Handle}
 use Rattle.clr_handles.specs.Tables.{Table}
-use Rattle.clr_handles.specs.Places.{IsMoved, IsRelocated}
+use Rattle.clr_handles.specs.Places.{IsFollowed, IsMoved, IsRelocated, IsSpared}
 use Rattle.clr_handles.specs.Changes.{BecomesWithin}
 use Rattle.clr_handles.specs.Tops.{AreTops, IsTop, IsTopBetween, reach}
 use Rattle.clr_handles.proofs.Lookups.{get-inserted}
@@ -21,6 +22,26 @@ module _ (answers : ℕ → ℕ → Type 0) (low : ℕ) where
   pub relocated-below : (row : Handle) → IsBelow low row → IsRelocated answers low row row
   relocated-below row below =
       record { kind = refl; target = moved-below row.target below.target; second = moved-below row.second below.second }
+
+  -- also where targets of pinned handles are spared
+  pub followed-below : (spares : Bool) (row : Handle) → IsBelow low row → IsFollowed spares answers low row row
+  followed-below spares row below = go (spares && is_pinned_kind row.kind)
+    where
+      go : (b : Bool) → MatchBool b (IsSpared answers low row row) (IsRelocated answers low row row)
+      go true = record { kind = refl; target = refl; second = moved-below row.second below.second }
+      go false = relocated-below row below
+
+  -- a handle with other places follows what it names
+  pub followed : (spares : Bool) (old new : Handle) → new.kind ≡ old.kind
+      → MatchBool (spares && is_pinned_kind old.kind) (new.target ≡ old.target)
+      (IsMoved answers low old.target new.target) → IsMoved answers low old.second new.second
+      → IsFollowed spares answers low old new
+  followed spares old new kind target second = go (spares && is_pinned_kind old.kind) target
+    where
+      go : (b : Bool) → MatchBool b (new.target ≡ old.target) (IsMoved answers low old.target new.target)
+          → MatchBool b (IsSpared answers low old new) (IsRelocated answers low old new)
+      go true stays = record { kind = kind; target = stays; second = second }
+      go false moved = record { kind = kind; target = moved; second = second }
 
 -- ---- how high a chunk reaches, number by number
 

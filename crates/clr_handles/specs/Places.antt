@@ -1,7 +1,8 @@
 -- What is told of the places that handles name.
-use Rattle.std.specs.Prelude.{◌≡◌, ℕ, ◌+◌, ◌<◌, ◌≤◌, ◌==◌, ◌||◌, nat_lt, nat_le, Bool, true, false, MatchBool, Option}
-use Rattle.std.specs.Prelude.{Some, if◌then◌else◌}
+use Rattle.std.specs.Prelude.{◌≡◌, ℕ, ◌+◌, ◌<◌, ◌≤◌, ◌==◌, ◌||◌, ◌&&◌, nat_lt, nat_le, Bool, true, false, MatchBool}
+use Rattle.std.specs.Prelude.{Option, Some, if◌then◌else◌}
 use Rattle.std.specs.FinMap as finmap
+use Rattle.clr_types.specs.Kinds.{is_pinned_kind}
 use Rattle.clr_types.specs.declared.handle.Kind.{Kind}
 use Rattle.clr_types.specs.declared.handle.Kind.TheVariants.{Dependent}
 use Rattle.clr_types.specs.declared.handle.Handle.{Handle}
@@ -35,6 +36,17 @@ pub record IsRelocated (answers : ℕ → ℕ → Type 0) (low : ℕ) (old new :
   pub kind : new.kind ≡ old.kind
   pub target : IsMoved answers low old.target new.target
   pub second : IsMoved answers low old.second new.second
+
+-- the target of a handle stays, and its second follows what it names
+pub record IsSpared (answers : ℕ → ℕ → Type 0) (low : ℕ) (old new : Handle) : Type 0 where
+  pub kind : new.kind ≡ old.kind
+  pub target : new.target ≡ old.target
+  pub second : IsMoved answers low old.second new.second
+
+-- Both places of a handle follow what they name; but where those of pinned handles are spared, their targets stay.
+abbrev pub IsFollowed : Bool → (ℕ → ℕ → Type 0) → ℕ → Handle → Handle → Type 0
+IsFollowed spares answers low old new =
+    MatchBool (spares && is_pinned_kind old.kind) (IsSpared answers low old new) (IsRelocated answers low old new)
 
 -- this may be asked of the target of a handle of this kind, where it isn't null and doesn't lie below `low`
 abbrev pub MayAskOf : Kind → ℕ → Option Handle → (ℕ → Type 0) → Type 0

@@ -1,8 +1,9 @@
 // Handles follow the objects that they name to new places.
-ghost use Rattle.std.specs.Prelude.{◌≡◌, ℕ, ◌+◌, ◌*◌, ◌<◌, ◌≤◌, Some};
+ghost use Rattle.std.specs.Prelude.{◌≡◌, ℕ, ◌+◌, ◌*◌, ◌<◌, ◌≤◌, ◌&&◌, true, MatchBool, Some};
 ghost use Rattle.std.specs.FinMap as finmap;
+ghost use Rattle.clr_types.specs.Kinds.{is_pinned_kind};
 ghost use Rattle.clr_types.specs.declared.handle.Handle.{Handle as Row};
-ghost use Rattle.clr_handles.specs.Places.{IsMoved, IsRelocated, MayFollow, MayFollowAll};
+ghost use Rattle.clr_handles.specs.Places.{IsFollowed, IsMoved, IsRelocated, MayFollow, MayFollowAll};
 ghost use Rattle.clr_handles.specs.Changes.{BecomesAt, BecomesWithin, EachBecomes};
 ghost use Rattle.clr_handles.specs.Tops.{IsTop, pinned_in, reach};
 
@@ -16,7 +17,7 @@ impl Handles {
         requires { MayFollowAll 0 self.old (λ place. F.pre to place) }
         ensures { EachBecomes (IsRelocated (λ place moved. F.post to place moved) 0) self.old self.new }
     {
-        self.follow(0, &to);
+        self.follow(false, 0, &to);
     }
 
     /// The same where all places below `low` are known to stay, and aren't asked of.
@@ -24,18 +25,26 @@ impl Handles {
         requires { MayFollowAll low self.old (λ place. F.pre to place) }
         ensures { EachBecomes (IsRelocated (λ place moved. F.post to place moved) low) self.old self.new }
     {
-        self.follow(low, &to);
+        self.follow(false, low, &to);
     }
 
-    // Moves what handles name. Chunks that name nothing from `low` on are passed over, the tops of the others are made
-    // anew.
-    fn follow<F: Fn(u64) -> u64>(&mut self, low: u64, to: &F)
+    /// The same where what pinned handles pin is known to stay, too, and isn't asked of.
+    pub fn relocate_unpinned_from<F: Fn(u64) -> u64>(&mut self, low: u64, to: F)
+        requires { MayFollowAll low self.old (λ place. F.pre to place) }
+        ensures { EachBecomes (IsFollowed true (λ place moved. F.post to place moved) low) self.old self.new }
+    {
+        self.follow(true, low, &to);
+    }
+
+    // Moves what handles name, but spares the targets of pinned ones where `spares` says so. Chunks that name nothing
+    // from `low` on are passed over, the tops of the others are made anew.
+    fn follow<F: Fn(u64) -> u64>(&mut self, spares: bool, low: u64, to: &F)
         requires { MayFollowAll low self.old (λ place. F.pre to.now place) }
-        ensures { EachBecomes (IsRelocated (λ place moved. F.post to.now place moved) low) self.old self.new }
+        ensures { EachBecomes (IsFollowed spares (λ place moved. F.post to.now place moved) low) self.old self.new }
     {
         for chunk in 0..self.tops.len() {
             let top = self.tops[chunk];
-            self.tops[chunk] = follow_in_chunk(&mut self.rows, chunk as u64, top, low, to);
+            self.tops[chunk] = follow_in_chunk(&mut self.rows, chunk as u64, top, spares, low, to);
         }
     }
 }
@@ -45,6 +54,7 @@ fn follow_in_chunk<F: Fn(u64) -> u64>(
     rows: &mut Rows,
     chunk: u64,
     top: u64,
+    spares: bool,
     low: u64,
     to: &F,
 ) -> u64
@@ -52,7 +62,7 @@ fn follow_in_chunk<F: Fn(u64) -> u64>(
     requires top { IsTop rows.old chunk top }
     requires follow { (h : ℕ) → 64 * chunk ≤ h → h < 64 * chunk + 64
         → MayFollow low (finmap.get rows.old h) (λ place. F.pre to.now place) }
-    ensures moved { BecomesWithin (IsRelocated (λ place moved. F.post to.now place moved) low)
+    ensures moved { BecomesWithin (IsFollowed spares (λ place moved. F.post to.now place moved) low)
         rows.old rows.new (64 * chunk) (64 * chunk + 64) }
     ensures pinned { pinned_in rows.new ≡ pinned_in rows.old }
     ensures top { IsTop rows.new chunk result }
@@ -63,16 +73,16 @@ fn follow_in_chunk<F: Fn(u64) -> u64>(
     let first = CHUNK * chunk;
     let mut new_top = 0;
     for h in first..first + CHUNK {
-        let high = follow_in_row(rows, h, low, to);
+        let high = follow_in_row(rows, h, spares, low, to);
         new_top = new_top.max(high);
     }
     new_top
 }
 
 // Moves what one handle names. Answers how high it reaches then.
-fn follow_in_row<F: Fn(u64) -> u64>(rows: &mut Rows, h: u64, low: u64, to: &F) -> u64
+fn follow_in_row<F: Fn(u64) -> u64>(rows: &mut Rows, h: u64, spares: bool, low: u64, to: &F) -> u64
     requires { MayFollow low (finmap.get rows.old h) (λ place. F.pre to.now place) }
-    ensures moved { BecomesAt (IsRelocated (λ place moved. F.post to.now place moved) low) rows.old rows.new h }
+    ensures moved { BecomesAt (IsFollowed spares (λ place moved. F.post to.now place moved) low) rows.old rows.new h }
     ensures pinned { pinned_in rows.new ≡ pinned_in rows.old }
     ensures reach { (row : Row) → finmap.get rows.new h ≡ Some row → reach row ≤ result }
 {
@@ -81,11 +91,24 @@ fn follow_in_row<F: Fn(u64) -> u64>(rows: &mut Rows, h: u64, low: u64, to: &F) -
     };
     let moved = Handle {
         kind: handle.kind,
-        target: moved_place(handle.target, low, to),
+        target: moved_target(handle, spares, low, to),
         second: moved_place(handle.second, low, to),
     };
     rows.set(h, moved);
     reach_of(&moved)
+}
+
+// Where the target of a handle has moved.
+fn moved_target<F: Fn(u64) -> u64>(handle: Handle, spares: bool, low: u64, to: &F) -> u64
+    requires { 0 < handle.target → low ≤ handle.target → F.pre to.now handle.target }
+    ensures { MatchBool (spares && is_pinned_kind handle.kind) (result ≡ handle.target)
+        (IsMoved (λ place moved. F.post to.now place moved) low handle.target result) }
+{
+    if spares && handle.kind.is_pinned() {
+        handle.target
+    } else {
+        moved_place(handle.target, low, to)
+    }
 }
 
 // Where a place has moved.

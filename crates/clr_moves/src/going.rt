@@ -35,7 +35,8 @@ pub fn destination(heap: &Heap, bricks: &Bricks, g: u8, place: u64) -> u64
     with_its_plug::<Brand>(heap, bricks, place, Blank::new(1))
 }
 
-// Where a place goes that is in a plug.
+// Where a place goes that is in a plug. It stands apart, so that loops over references stay small.
+#[inline(never)]
 fn with_its_plug<L: Ledger>(heap: &Heap, bricks: &Bricks, place: u64, blank: Blank) -> u64
     requires plug { (back : ℕ) × IsNearPlug heap.now bricks.now place back }
     requires name { blank.name ≡ L.name }

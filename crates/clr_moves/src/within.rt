@@ -28,7 +28,8 @@ pub(crate) fn is_in_part(heap: &Heap, g: u8, place: u64) -> bool
     }
 }
 
-// Whether a place outside the ephemeral segment is in a small one.
+// Whether a place outside the ephemeral segment is in a small one. It stands apart, since it searches.
+#[inline(never)]
 fn is_in_small(heap: &Heap, place: u64) -> bool
     requires { stands_in (ephemeral (frame heap.now)) place ≡ false }
     ensures inside { result ≡ true → (t : ℕ) × IsInPart heap.now 2 t place }

@@ -6,6 +6,7 @@ pub mod Telling
 pub mod OneSegment
 pub mod OneObject
 pub mod ObjectLoops
+pub mod RestingWords
 pub mod OneItem
 pub mod ManyItems
 pub mod Plugs

@@ -4,3 +4,4 @@ pub mod Relocating
 pub mod Relocations
 pub mod Outside
 pub mod Scanning
+pub mod Resting

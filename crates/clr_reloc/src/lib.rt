@@ -11,4 +11,6 @@ mod items;
 mod objects;
 mod relocating;
 mod relocation;
+mod resting;
 mod stretches;
+mod words;

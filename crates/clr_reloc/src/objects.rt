@@ -17,6 +17,7 @@ ghost use Rattle.clr_reloc.specs.Relocating.{IsSlotAhead, KeepsTelling, SavesSam
 
 use crate::ages::planned_gen;
 use crate::relocation::Relocation;
+use crate::words::{MANY, relocate_words};
 use clr_cards::Cards;
 use clr_heap::{Heap, Item};
 use clr_moves::destination;
@@ -62,6 +63,9 @@ pub(crate) fn relocate_object(
 {
     let age = planned_gen(heap, &work.planned, to);
     match work.types.reference_run(found.type_id, found.len) {
+        Some(run) if work.g < 2 && run.count >= MANY => {
+            relocate_words(heap, work, cards, pins, k, near, found, to, age, run)
+        }
         Some(run) => relocate_run(heap, work, cards, pins, k, near, found, to, age, run),
         None => relocate_slots(heap, work, cards, pins, k, near, found, to, age),
     }
@@ -162,7 +166,7 @@ fn relocate_slots(
 // Relocates the reference at `a` in segment `k`, which goes to the address `to`, of an object that is of generation
 // `age` then.
 #[inline]
-fn relocate_slot(
+pub(crate) fn relocate_slot(
     heap: &mut Heap,
     work: &Relocation<'_>,
     cards: &mut Cards,

@@ -1,11 +1,14 @@
 -- References can be relocated, and all that is named may go.
 use Rattle.std.proofs.Common.{◌≡◌, inl, inr, ℕ, ◌<◌, ◌≤◌, Bool, true, not, ◌||◌, List, refl, ap, sym, ◌∙◌, subst}
 use Rattle.std.proofs.Common.{arith}
-use Rattle.std.proofs.Common.{Some}
+use Rattle.std.proofs.Common.{Some, [], ◌∷◌, ◌&&◌, ◌==◌, eq-eqb}
+use Rattle.std.proofs.lemmas.Bool.{or_right}
+use Rattle.std.specs.List.{list_any}
 use Rattle.std.specs.FinMap as finmap
 use Rattle.std.specs.FinMap.{FinMap}
 use Rattle.std.specs.Ordering.{nat_cmp}
-use Rattle.clr_types.specs.Rising.{IsIn}
+use Rattle.clr_types.specs.Kinds.{is_pinned_kind}
+use Rattle.clr_types.specs.Rising.{first, IsIn, later}
 use Rattle.clr_types.specs.Segments.{Layout}
 use Rattle.clr_types.specs.Types.{TypeRow}
 use Rattle.clr_types.specs.declared.handle.Handle.{Handle}
@@ -18,8 +21,11 @@ use Rattle.clr_generations.specs.Tables.{AreBricksOf, AreCardsOf, AreTablesOf}
 use Rattle.clr_heap.specs.View.{frame, HeapView, IsHeap, no_rests}
 use Rattle.clr_model.specs.Compaction.{moved_by}
 use Rattle.clr_model.specs.Lawful.{IsLaid}
+use Rattle.clr_model.specs.Lookups.{handle_rows, is_pinned}
 use Rattle.clr_model.specs.Machine.{Machine, Object}
 use Rattle.clr_model.specs.Reach.{SlotNames}
+use Rattle.clr_model.proofs.HandleTables.{value-among}
+use Rattle.clr_model.proofs.MovedPlaces.{pinned_stays}
 use Rattle.clr_view.specs.Clean.{AreClean}
 use Rattle.clr_mark.specs.Marks.{is_condemned_place}
 use Rattle.clr_view.specs.Marks.{Marked}
@@ -43,6 +49,14 @@ use Rattle.clr_survivors.proofs.PinsTold.{frame-kept, marked-kept}
 -- one of the objects stands at the place
 abbrev StandsIn : List Object → ℕ → Type 0
 StandsIn os place = (o : Object) × IsIn o os × (o.place ≡ place)
+
+-- a test that a handle passes, one of them passes
+any-of : (test : Handle → Bool) (rows : List Handle) (row : Handle) → IsIn row rows → test row ≡ true
+    → list_any test rows ≡ true
+any-of test [] row i passes = elim i [ ]
+any-of test (other ∷ rows) row first passes = rw passes refl
+any-of test (other ∷ rows) row (later i) passes =
+    or_right (test other) (list_any test rows) (any-of test rows row i passes)
 
 -- What is given before survivors move.
 pub record IsGiven (rows : List TypeRow) (h : HeapView) (cards : List (CoverView ℕ)) (bricks : BricksView)
@@ -115,9 +129,27 @@ module _ (rows : List TypeRow) (old new : HeapView) (cards : List (CoverView ℕ
       sym (outside_stays rows new bricks g p.plan.moves heap p.plan.told 0
       (none_at_zero rows p.view new bricks entries g p.plan.moves planned.start1 planned.start0 heap holds-plan 0 refl))
 
-  pub can-move : IsHeap new → spans bricks ≡ spans before → CanMove rows p.view new cards bricks entries g p.plan.moves
-      (entry_at before) planned locals table queues
-  can-move heap same = record {
+  -- what a pinned handle names stays
+  pub pinned-target : IsHeap new → m.handles ≡ table → (k : ℕ) (row : Handle) → finmap.get table k ≡ Some row
+      → is_pinned_kind row.kind ≡ true → moved_by p.plan.moves row.target ≡ row.target
+  pinned-target heap same k row found pinned = elim (given.named.targets k row found) [
+    | inl null ↦ ap (moved_by p.plan.moves) null ∙ null-stays heap ∙ sym null
+    | inr left ↦
+        let o = left.object in
+        let c = p.plan.compaction in
+        let place : o.place ≡ row.target = sym (name-is-place rows old o left.present) ∙ left.named in
+        let listed = subst (λ (os : List Object). IsIn o os) (sym c.memory.objects)
+        (subst (λ (os : List Object). IsIn o os) (sym p.pins.objects) left.present) in
+        let among = value-among m.handles k row (ap (λ (t : FinMap nat_cmp Handle). finmap.get t k) same ∙ found) in
+        let pins : is_pinned m o.name ≡ true = any-of (λ (r : Handle). is_pinned_kind r.kind && (r.target == o.name))
+        (handle_rows m) row among (rw (pinned, eq-eqb row.target o.name (sym left.named)) refl) in
+        ap (moved_by p.plan.moves) (sym place)
+        ∙ pinned_stays m c.laid g given.generation kept p.plan.moves p.plan.after c.compacted o listed pins ∙ place
+  ]
+
+  pub can-move : IsHeap new → m.handles ≡ table → spans bricks ≡ spans before
+      → CanMove rows p.view new cards bricks entries g p.plan.moves (entry_at before) planned locals table queues
+  can-move heap handles same = record {
     relocates = record {
       plan = holds-plan;
       followed = λ o j x i left slot.
@@ -141,6 +173,7 @@ module _ (rows : List TypeRow) (old new : HeapView) (cards : List (CoverView ℕ
       handles_go = record {
         targets = λ k row found. may-go row.target (given.named.targets k row found);
         seconds = λ k row found. may-go row.second (given.named.seconds k row found);
+        pinned = pinned-target heap handles;
       };
       entries_go = λ x i. name-goes x (given.named.entries x i);
       ready_go = λ x i. name-goes x (given.named.ready x i);

@@ -92,7 +92,7 @@ module _ (s : Stages) (run : IsRun s) where
   course-of m kept memory laid same tests =
       let p = run.plans m kept memory same tests in
       let can = can-move s.rows s.old s.ready s.cards s.before s.bricks s.locals s.table s.queues s.g s.entries
-      s.planned run.given m kept p run.ready_lawful run.spans_kept in
+      s.planned run.given m kept p run.ready_lawful same run.spans_kept in
       record {
         run = run;
         memory = memory;

@@ -7,12 +7,13 @@ use Rattle.std.proofs.Common.{take}
 use Rattle.std.specs.FinMap as finmap
 use Rattle.std.proofs.lemmas.Bool.{eqb-true, ltb-true, or_cases}
 use Rattle.std.proofs.lemmas.List.{get_or-set_other, take_more, take_more_set}
+use Rattle.clr_types.specs.Kinds.{is_pinned_kind}
 use Rattle.clr_types.specs.Maps.{map_values}
 use Rattle.clr_types.specs.Rising.{IsIn}
 use Rattle.clr_types.specs.declared.handle.Handle.{Handle}
 use Rattle.clr_handles.specs.Changes.{EachBecomes}
 use Rattle.clr_handles.specs.Laws.{relocated}
-use Rattle.clr_handles.specs.Places.{IsMoved, IsRelocated}
+use Rattle.clr_handles.specs.Places.{IsFollowed, IsMoved, IsRelocated, IsSpared}
 use Rattle.clr_handles.specs.Tables.{Table}
 use Rattle.clr_handles.proofs.MapLaws.{each-is_map}
 use Rattle.clr_heap.specs.View.{HeapView}
@@ -44,19 +45,35 @@ one-gone answers to low place moved null below told is = go (place == 0 || nat_l
     go false e answer = told answer
 
 pub handles-gone : (answers : ℕ → ℕ → Type 0) (to : ℕ → ℕ) (low : ℕ) (old new : Table)
-    → EachBecomes (IsRelocated answers low) old new → to 0 ≡ 0 → ((place : ℕ) → place < low → place ≡ to place)
+    → EachBecomes (IsFollowed true answers low) old new → to 0 ≡ 0 → ((place : ℕ) → place < low → place ≡ to place)
     → ((k : ℕ) (row : Handle) (moved : ℕ) → finmap.get old k ≡ Some row → answers row.target moved
     → moved ≡ to row.target)
+    → ((k : ℕ) (row : Handle) → finmap.get old k ≡ Some row → is_pinned_kind row.kind ≡ true
+    → to row.target ≡ row.target)
     → ((k : ℕ) (row : Handle) (moved : ℕ) → finmap.get old k ≡ Some row → answers row.second moved
     → moved ≡ to row.second)
     → new ≡ map_values (relocated to) old
-handles-gone answers to low old new each null below targets seconds =
-    each-is_map (IsRelocated answers low) (relocated to) old new each (λ k row row' here is.
-    let target =
-    one-gone answers to low row.target row'.target null (below row.target) (targets k row row'.target here) is.target in
-    let second =
-    one-gone answers to low row.second row'.second null (below row.second) (seconds k row row'.second here) is.second in
-    λ i. record { kind = is.kind i; target = target i; second = second i })
+handles-gone answers to low old new each null below targets pins seconds =
+    each-is_map (IsFollowed true answers low) (relocated to) old new each
+    (λ k row row' here is. row-gone k row row' here (is_pinned_kind row.kind) refl is)
+  where
+    second-gone : (k : ℕ) (row row' : Handle) → finmap.get old k ≡ Some row → IsMoved answers low row.second row'.second
+        → row'.second ≡ to row.second
+    second-gone k row row' here moved =
+        one-gone answers to low row.second row'.second null (below row.second) (seconds k row row'.second here) moved
+
+    row-gone : (k : ℕ) (row row' : Handle) → finmap.get old k ≡ Some row → (b : Bool) → is_pinned_kind row.kind ≡ b
+        → MatchBool b (IsSpared answers low row row') (IsRelocated answers low row row') → row' ≡ relocated to row
+    row-gone k row row' here true pinned is =
+        let target = is.target ∙ sym (pins k row here pinned) in
+        let second = second-gone k row row' here is.second in
+        λ i. record { kind = is.kind i; target = target i; second = second i }
+    row-gone k row row' here false free is =
+        let target =
+        one-gone answers to low row.target row'.target null (below row.target) (targets k row row'.target here)
+        is.target in
+        let second = second-gone k row row' here is.second in
+        λ i. record { kind = is.kind i; target = target i; second = second i }
 
 -- ---- lists
 
@@ -114,6 +131,7 @@ names-on p q g same on locals table queues names = record {
   handles_go = record {
     targets = λ k row found. on row.target (names.handles_go.targets k row found);
     seconds = λ k row found. on row.second (names.handles_go.seconds k row found);
+    pinned = λ k row found pins. ap (λ vs. moved_by vs row.target) same ∙ names.handles_go.pinned k row found pins;
   };
   entries_go = λ x i. on x (names.entries_go x i);
   ready_go = λ x i. on x (names.ready_go x i);

@@ -1,8 +1,9 @@
 -- What names objects from outside of the heap, and where a plan takes it.
-use Rattle.std.specs.Prelude.{◌≡◌, ℕ, List, map, Some}
+use Rattle.std.specs.Prelude.{◌≡◌, ℕ, true, List, map, Some}
 use Rattle.std.specs.FinMap as finmap
 use Rattle.std.specs.FinMap.{FinMap}
 use Rattle.std.specs.Ordering.{nat_cmp}
+use Rattle.clr_types.specs.Kinds.{is_pinned_kind}
 use Rattle.clr_types.specs.Maps.{map_values}
 use Rattle.clr_types.specs.Rising.{IsIn}
 use Rattle.clr_types.specs.Types.{TypeRow}
@@ -40,10 +41,12 @@ pub record HasMoved (h : HeapView) (bricks : BricksView) (g place moved : ℕ) :
 abbrev pub AllGo : Plan → ℕ → List ℕ → Type 0
 AllGo p g places = (x : ℕ) → IsIn x places → MayGo p.view g p.moves x
 
--- and all that handles name
+-- and all that handles name, of which the targets of pinned ones stay
 pub record HandlesGo (p : Plan) (g : ℕ) (table : FinMap nat_cmp Handle) : Type 0 where
   pub targets : (k : ℕ) (row : Handle) → finmap.get table k ≡ Some row → MayGo p.view g p.moves row.target
   pub seconds : (k : ℕ) (row : Handle) → finmap.get table k ≡ Some row → MayGo p.view g p.moves row.second
+  pub pinned : (k : ℕ) (row : Handle) → finmap.get table k ≡ Some row → is_pinned_kind row.kind ≡ true
+      → moved_by p.moves row.target ≡ row.target
 
 -- so it is with locals, handles, entries and the f-reachable queue
 pub record NamesGo (p : Plan) (g : ℕ) (locals : List ℕ) (table : FinMap nat_cmp Handle) (queues : Queues) : Type 0 where

@@ -39,7 +39,7 @@ pub(crate) fn move_roots(
     move_locals(heap, bricks, g, locals);
 }
 
-// Relocates what handles name. What they name below all parts stays.
+// Relocates what handles name. What they name below all parts stays, and so does what pinned ones name.
 fn move_handles(heap: &Heap, bricks: &Bricks, g: u8, handles: &mut Handles)
     requires least { g ≤ 2 }
     requires go { (p : Plan) × Guides p heap.now bricks.now g × HandlesGo p g handles.old }
@@ -48,7 +48,7 @@ fn move_handles(heap: &Heap, bricks: &Bricks, g: u8, handles: &mut Handles)
 {
     heap.lawful();
     let low = first_condemned(heap, g);
-    handles.relocate_from(
+    handles.relocate_unpinned_from(
         low,
         |place|
             requires least { g ≤ 2 }

@@ -1,23 +1,23 @@
 use Rattle.std.proofs.Common.{◌≡◌, ◌∙◌, ◌*◌, ◌+◌, ◌≤◌, ℕ, max, inr, sym, arith, refl, subst, rules}
-use Rattle.clr_handles.specs.Places.{IsRelocated}
+use Rattle.clr_handles.specs.Places.{IsFollowed}
 use Rattle.clr_handles.specs.Tops.{IsTopBetween}
 use Rattle.clr_handles.proofs.ChangedRows.{within-none, within-more}
 use Rattle.clr_handles.proofs.ClearedRows.{chunk-below, highest}
-use Rattle.clr_handles.proofs.MovedRows.{relocated-below, top-more, top-none}
+use Rattle.clr_handles.proofs.MovedRows.{followed-below, top-more, top-none}
 use Rattle.clr_handles.proofs.moving.follow_in_chunk.Goals as goal
 
 pub returns-then-top-low-clause-moved : goal.returns-then-top-low-clause-moved
 returns-then-top-low-clause-moved g c =
     let post = λ (place moved : ℕ). goal.F-post g c.args.to.now place moved in
     let fits : c.args.low ≤ highest = omega (arith, c.ranges.low) in
-    chunk-below (IsRelocated post c.args.low) c.args.rows.now c.args.chunk c.args.top c.args.low fits c.requires.top
-    c.if-top-low.true (relocated-below post c.args.low)
+    chunk-below (IsFollowed c.args.spares post c.args.low) c.args.rows.now c.args.chunk c.args.top c.args.low fits
+    c.requires.top c.if-top-low.true (followed-below post c.args.low c.args.spares)
 
 pub loop-h-init : goal.loop-h-init
 loop-h-init g c =
     let post = λ (place moved : ℕ). goal.F-post g c.args.to.now place moved in
     record {
-      moved = within-none (IsRelocated post c.args.low) c.args.rows.now (64 * c.args.chunk);
+      moved = within-none (IsFollowed c.args.spares post c.args.low) c.args.rows.now (64 * c.args.chunk);
       pinned = refl;
       top = top-none c.args.rows.now (64 * c.args.chunk);
     }
@@ -35,8 +35,8 @@ loop-h-preserved g c =
     let step = c.follow_in_row-high in
     record {
       moved =
-          within-more (IsRelocated post c.args.low) c.args.rows.now c.loop-h.rows step.new.rows (64 * c.args.chunk)
-          c.loop-h.h c.loop-h.auto.h c.loop-h.invariant.moved step.ensures.moved;
+          within-more (IsFollowed c.args.spares post c.args.low) c.args.rows.now c.loop-h.rows step.new.rows
+          (64 * c.args.chunk) c.loop-h.h c.loop-h.auto.h c.loop-h.invariant.moved step.ensures.moved;
       pinned = step.ensures.pinned ∙ c.loop-h.invariant.pinned;
       top =
           let top : c.max-new_top.result ≡ max c.loop-h.new_top step.result = search rules in

@@ -1,9 +1,6 @@
-use Rattle.std.proofs.Common.{◌-◌}
 use Rattle.clr_handles.specs.Tops.{pinned_in}
 use Rattle.clr_view.specs.View.{IsHeld}
 use Rattle.clr_bricks.specs.Bricks.{entry_at}
-use Rattle.clr_covers.specs.Covers.{spans}
-use Rattle.clr_reloc.specs.Relocated as relocated
 use Rattle.std.proofs.Common.{refl, ap, sym, ◌∙◌, arith}
 use Rattle.clr_view.specs.Memory.{is_left_name}
 use Rattle.clr_view.proofs.LeftNames.{tests_marks}
@@ -58,7 +55,7 @@ move_by_plan-promoted-requires-clause-can c =
       can-move rows old c.plan_pinned-planned.new.heap c.args.cards.now c.args.bricks.now
           c.plan_pinned-planned.new.bricks c.args.locals.now table c.args.finals.now c.args.g
           c.plan_pinned-planned.new.pins.entries c.plan_pinned-planned.result given m kept p c.lawful-3.ensures
-          c.plan_pinned-planned.ensures.spans,
+          refl c.plan_pinned-planned.ensures.spans,
     )
 
 pub settle-requires-clause-held : goal.settle-requires-clause-held

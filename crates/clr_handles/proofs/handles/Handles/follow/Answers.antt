@@ -1,6 +1,6 @@
 use Rattle.std.proofs.Common.{◌∙◌, ◌<◌, ℕ, length, inr, sym, arith, ap}
 use Rattle.std.specs.FinMap as finmap
-use Rattle.clr_handles.specs.Places.{IsRelocated}
+use Rattle.clr_handles.specs.Places.{IsFollowed}
 use Rattle.clr_handles.specs.Tables.{Table}
 use Rattle.clr_handles.proofs.ChangedRows.{within-chunk}
 use Rattle.clr_handles.proofs.MovedRows.{tops-moved}
@@ -20,7 +20,7 @@ follow_in_chunk-requires-clause-follow g c = λ h from to row here.
 
 pub loop-chunk-preserved : goal.loop-chunk-preserved
 loop-chunk-preserved g c =
-    let R = IsRelocated (λ (place moved : ℕ). goal.F-post g c.args.to.now place moved) c.args.low in
+    let R = IsFollowed c.args.spares (λ (place moved : ℕ). goal.F-post g c.args.to.now place moved) c.args.low in
     let before = c.loop-chunk.self-inside in
     let same = c.loop-chunk.invariant.same in
     let end = c.len-chunk-end.ensures in

@@ -1,0 +1,108 @@
+// Passing over references that stay as they are.
+ghost use Rattle.std.specs.Prelude.{◌≡◌, ◌&&◌, ℕ, ◌+◌, ◌*◌, ◌/◌, ◌<◌, ◌≤◌, ◌^◌, false, true, nat_le};
+ghost use Rattle.clr_types.specs.Segments.{ephemeral, generation, Layout, stands_in};
+ghost use Rattle.clr_cards.specs.Cards.{is_card_set};
+ghost use Rattle.clr_covers.specs.Covers.{is_covered};
+ghost use Rattle.clr_heap.specs.Memories.{HasWord, memory_index};
+ghost use Rattle.clr_heap.specs.View.{frame, IsHeap};
+ghost use Rattle.clr_model.specs.Sweep.{part_start};
+ghost use Rattle.clr_reloc.specs.Relocated.{rebounded};
+ghost use Rattle.clr_reloc.specs.Resting.{MayRest};
+
+use crate::relocation::Relocation;
+use clr_cards::Cards;
+use clr_heap::Heap;
+use clr_moves::Planned;
+use clr_pinq::PinQueue;
+
+// Of `count` references side by side in segment `k`, how many of the first ones may stay as they are: those before the
+// first one that names what goes, or for which a word is saved, or whose card isn't set though it names an object of a
+// lower generation. The first one stands at `a` and goes to the address `to`, and their object is of generation `age`
+// then. It looks at one card of the new addresses at most. It only reads, so that its loop does no more than that.
+#[inline]
+pub(crate) fn resting_words(
+    heap: &Heap,
+    work: &Relocation<'_>,
+    cards: &Cards,
+    pins: &PinQueue,
+    k: usize,
+    near: usize,
+    a: u64,
+    to: u64,
+    count: u64,
+    age: u8,
+) -> u64
+    requires few { work.now.g < 2 }
+    requires age { age ≤ 2 }
+    requires fits { (j : ℕ) → j < count → a + 8 * j < 2 ^ 64 }
+    requires words { (j : ℕ) → j < count → HasWord heap.now.memories (a + 8 * j) }
+    requires segment { (j : ℕ) → j < count → k ≡ memory_index heap.now.memories (a + 8 * j) }
+    requires card { is_covered cards.now (to / 2048) ≡ true }
+    ensures within { result ≤ count }
+    ensures rest { (j : ℕ) → j < result → MayRest heap.now pins.now.entries work.now.g
+        (rebounded (frame heap.now) work.now.planned) (is_card_set cards.now) age (a + 8 * j) (to + 8 * j) }
+    ensures heap { IsHeap heap.now }
+{
+    heap.lawful();
+    let low = lowest_met(heap, work, age, cards.is_set(to));
+    let plain = pins.next_saved(near, a).saturating_sub(a) / 8;
+    let most = count.min(plain).min((CARD - to % CARD) / 8);
+    for j in 0..most {
+        let target = heap.word_at(k, a + 8 * j);
+        if names_from(heap, target, low) {
+            return j;
+        }
+    }
+    most
+}
+
+// The place from which on references to places of the ephemeral segment matter: where its part begins, and, unless the
+// card is set, where what is of a lower generation than `age` begins once the plan is carried out.
+#[inline]
+fn lowest_met(heap: &Heap, work: &Relocation<'_>, age: u8, carded: bool) -> u64
+    requires few { work.now.g < 2 }
+    requires age { age ≤ 2 }
+    ensures part { result ≤ part_start (frame heap.now) work.now.g (ephemeral (frame heap.now)) }
+    ensures young { carded ≡ false → (layout : Layout) (x : ℕ)
+        → generation (rebounded layout work.now.planned) x < age → result ≤ x }
+{
+    let part = young_part(heap, work.g);
+    if carded {
+        return part;
+    }
+    part.min(lowest_young(&work.planned, age))
+}
+
+// Where the part of the ephemeral segment begins in a collection of the generations up to `g`, which is 0 or 1.
+#[inline]
+fn young_part(heap: &Heap, g: u8) -> u64
+    requires { g < 2 }
+    ensures { result ≡ part_start (frame heap.now) g (ephemeral (frame heap.now)) }
+{
+    let (start1, start0) = heap.boundaries();
+    if g == 0 { start0 } else { start1 }
+}
+
+// No place below the answer is of a lower generation than `age` once the plan is carried out.
+#[inline]
+fn lowest_young(planned: &Planned, age: u8) -> u64
+    requires { age ≤ 2 }
+    ensures { (layout : Layout) (x : ℕ) → generation (rebounded layout planned.now) x < age → result ≤ x }
+{
+    match age {
+        0 => u64::MAX,
+        1 => planned.start0,
+        _ => planned.start1,
+    }
+}
+
+// Whether a word names a place of the ephemeral segment from `low` on.
+#[inline]
+fn names_from(heap: &Heap, target: u64, low: u64) -> bool
+    ensures { result ≡ (nat_le low target && stands_in (ephemeral (frame heap.now)) target) }
+{
+    low <= target && heap.is_ephemeral(target)
+}
+
+// How many bytes a card has.
+const CARD: u64 = 2048;

@@ -1,5 +1,8 @@
 use clr_model::{Collected, Refusal, Reply, Where};
-use clr_script::{put_refusal, put_reply, read_line, read_quick};
+use clr_script::{
+    put_refusal, put_reply, read_copy, read_get, read_line, read_new, read_null, read_put,
+    read_quick, read_set, read_slot, take_thread,
+};
 use std::test::Fail;
 
 // Each form of line, and the command that it is. The name `N` is the byte 78, and `rn` the bytes 114 and 110.
@@ -171,32 +174,7 @@ fn reads_as_many_bytes_as_a_line_may_have(rt: HostRuntime) -> Result<(), Fail> {
 }
 
 // Lines that the quick reader is there for, and the command that each is.
-const QUICK_LINES: [(&str, &str); 20] = [
-    ("t1 get l2 l3 4", "Get { t: 1, to: 2, from: 3, index: 4 }"),
-    (
-        "t16 get l63 l10 1000000000000000000",
-        "Get { t: 16, to: 63, from: 10, index: 1000000000000000000 }",
-    ),
-    ("t1 set l2 3 l4", "Set { t: 1, into: 2, index: 3, from: 4 }"),
-    (
-        "t1 put l2 0 9999999999999999999",
-        "Put { t: 1, into: 2, index: 0, value: 9999999999999999999 }",
-    ),
-    ("t0 read l2 30", "Read { t: 0, from: 2, index: 30 }"),
-    ("t17 copy l2 l3", "Copy { t: 17, to: 2, from: 3 }"),
-    ("t1 null l20", "Clear { t: 1, local: 20 }"),
-    (
-        "t1 new l12 N",
-        "New { t: 1, local: 12, name: [78], len: None }",
-    ),
-    (
-        "t1 new l12 _9 40",
-        "New { t: 1, local: 12, name: [95, 57], len: Some(40) }",
-    ),
-    (
-        "t1 new l12 Z.[]<>+,z",
-        "New { t: 1, local: 12, name: [90, 46, 91, 93, 60, 62, 43, 44, 122], len: None }",
-    ),
+const QUICK_LINES: [(&str, &str); 10] = [
     ("t1 collect 0", "Collect { t: 1, g: 0, how: Decide }"),
     (
         "t1 collect 1 compacting",
@@ -231,7 +209,7 @@ const QUICK_LINES: [(&str, &str); 20] = [
 ];
 
 #[test]
-fn reads_frequent_lines_quickly(rt: HostRuntime) -> Result<(), Fail> {
+fn reads_collections_and_handles_quickly(rt: HostRuntime) -> Result<(), Fail> {
     for (line, wanted) in QUICK_LINES {
         match read_quick(line.as_bytes()) {
             Some(command) => {
@@ -242,6 +220,37 @@ fn reads_frequent_lines_quickly(rt: HostRuntime) -> Result<(), Fail> {
         }
     }
     Ok(())
+}
+
+#[test]
+fn reads_frequent_lines_from_the_front(rt: HostRuntime) {
+    assert!(rt; matches!(take_thread(b"t16 x"), Some((16, [b'x']))));
+    assert!(rt;
+        matches!(
+            read_get(b" l63 l10 1000000000000000000\nx"),
+            Some((63, 10, 1_000_000_000_000_000_000, [b'x']))
+        )
+    );
+    assert!(rt; matches!(read_set(b" l2 3 l4\nx"), Some((2, 3, 4, [b'x']))));
+    assert!(rt;
+        matches!(
+            read_put(b" l2 0 9999999999999999999\n"),
+            Some((2, 0, 9_999_999_999_999_999_999, []))
+        )
+    );
+    assert!(rt; matches!(read_slot(b" l2 30\nx"), Some((2, 30, [b'x']))));
+    assert!(rt; matches!(read_copy(b" l2 l3\n"), Some((2, 3, []))));
+    assert!(rt; matches!(read_null(b" l20\nx"), Some((20, [b'x']))));
+    assert!(rt;
+        matches!(
+            read_new(b" l12 _9 40\nx"),
+            Some((12, [b'_', b'9'], Some(40), [b'x']))
+        )
+    );
+    assert!(rt; matches!(read_new(b" l12 N\nx"), Some((12, [b'N'], None, [b'x']))));
+    assert!(rt; read_null(b" l20").is_none());
+    assert!(rt; read_null(b" l20 \n").is_none());
+    assert!(rt; read_copy(b" l02 l3\n").is_none());
 }
 
 #[test]

@@ -5,7 +5,8 @@ use Rattle.std.proofs.lemmas.Bool.{eqb-true, eq-eqb}
 use Rattle.std.proofs.lemmas.List.{take_more, take_all, take_rest, take-append-drop}
 use Rattle.std.specs.Prelude.{slice_index, Option, Some, None, MatchOption}
 use Rattle.memchr.specs.Find.{IsFirstByte, Nowhere, Passes, is_byte}
-use Rattle.clr_run.specs.LineStretch.{IsUnfed, IsFirstFeed}
+use Rattle.clr_script.specs.Fronts.{IsUnfed}
+use Rattle.clr_run.specs.LineStretch.{IsFirstFeed}
 
 -- bytes of which the first n are no line feeds
 unfed_below : (bytes : List ℕ) (n : ℕ) → n ≤ length bytes → ((k : ℕ) → k < n → slice_index bytes k ≢ 10)

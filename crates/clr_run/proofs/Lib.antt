@@ -3,9 +3,8 @@ pub mod Outputs
 pub mod LineLists
 pub mod Feeds
 pub mod SessionSteps
+pub mod FirstLines
 pub mod ScriptLoop
-pub mod LineSteps
-pub mod TopGrows
-pub mod LookChecks
-pub mod LookLines
-pub mod RuntimeViews
+pub mod SaidRuns
+pub mod SoakLoop
+pub mod SoakTexts

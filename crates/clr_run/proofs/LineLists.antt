@@ -7,9 +7,10 @@ use Rattle.std.proofs.lemmas.Grind.{flat_map-append}
 use Rattle.clr_model.specs.Machine.{Machine}
 use Rattle.clr_model.specs.LineGrammar.{script_lines, ended_lines, onto_first, onto_first_ended}
 use Rattle.clr_model.specs.Outcomes.{Outcome, outcome_text}
-use Rattle.clr_run.specs.Runs.{Step, too_long, no_syntax, obeyed, Reads, Run, run_text}
+use Rattle.clr_lines.specs.Lines.{Step, too_long, no_syntax, obeyed, Reads}
+use Rattle.clr_run.specs.Runs.{Run, run_text}
 use Rattle.clr_run.specs.Progress.{begun, begun_on}
-use Rattle.clr_run.specs.LineStretch.{IsUnfed}
+use Rattle.clr_script.specs.Fronts.{IsUnfed}
 
 ended_on : (ends : Bool) (b : ℕ) (ended : List (List ℕ)) (line : List ℕ) →
     (if ends then [] ∷ (ended ++ line ∷ []) else onto_first_ended b (ended ++ line ∷ []))

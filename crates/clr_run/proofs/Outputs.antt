@@ -62,14 +62,16 @@ wrote_then_some before mid after waiting text n first second = record {
   appended = appended_more before mid after waiting (take n text) _ first second (sym (take-append-add waiting text n));
 }
 
--- room was made, and then a text waits behind what is left
-pub wrote_behind : (before after : Option (List ℕ)) (waiting left new text : List ℕ) → Wrote before after waiting left []
-    → new ≡ left ++ text → Wrote before after waiting new text
-wrote_behind before after waiting left new text room e = record {
-  out = room.out;
-  appended = room.appended;
-  kept = rw (e, ← append_assoc, room.kept, append-nil) refl;
-}
+-- a text was put behind what waits, and then room was made
+pub wrote_with_room : (before after : Option (List ℕ)) (waiting held left text : List ℕ) → held ≡ waiting ++ text
+    → Wrote before after held left [] → Wrote before after waiting left text
+wrote_with_room before after waiting held left text e room =
+    record { out = room.out; appended = room.appended; kept = room.kept ∙ (append-nil held ∙ e) }
+
+-- or a part of both was written
+pub some_with_room : (before after : Option (List ℕ)) (waiting held text : List ℕ) → held ≡ waiting ++ text
+    → WroteSome before after held → WroteSome before after (waiting ++ text)
+some_with_room before after waiting held text e room = rw (← e) room
 
 -- a part of what waited was written, before a text
 pub some_before : (before after : Option (List ℕ)) (waiting text : List ℕ) → WroteSome before after waiting

@@ -1,6 +1,6 @@
 -- The loop over the pieces of a script.
 use Rattle.std.proofs.Common.{◌≡◌, ℕ, ◌+◌, ◌-◌, ◌≤◌, List, [], ◌∷◌, ◌++◌, length, take, Option, Some, None, option_map}
-use Rattle.std.proofs.Common.{IfSome, IsSome, ◌⊎◌, inl, inr, slice_get, refl, ap, sym, subst, ◌∙◌, arith, append_assoc}
+use Rattle.std.proofs.Common.{IfSome, IsSome, ◌⊎◌, inl, inr, refl, ap, sym, subst, ◌∙◌, arith, append_assoc}
 use Rattle.std.proofs.Common.{append-nil, length-append}
 use Rattle.std.proofs.Math.Seq.{take-append-add}
 use Rattle.clr_model.specs.Machine.{Machine, Options}
@@ -139,16 +139,6 @@ past_limit options session held held1 held2 written written1 limit left bytes ru
 
 some_same : (a b : List ℕ) → Some a ≡ Some b → a ≡ b
 some_same a b e = cc
-
--- one word
-pub one_word : (words : List (List ℕ)) (word : List ℕ) → length words ≡ 1 → slice_get words 0 ≡ Some word
-    → words ≡ word ∷ []
-one_word [] word e first = absurd (omega arith)
-one_word (w ∷ []) word e first = cc
-one_word (w ∷ v ∷ words) word e first = absurd (omega arith)
-
-pub same_word : (a b : List ℕ) → a ∷ [] ≡ b ∷ [] → a ≡ b
-same_word a b e = cc
 
 -- what is left where no other answer is
 pub status_left : (status : Status) → (status ≡ Usage → ⊥) → (status ≡ ReadFault → ⊥) → (status ≡ WriteFault → ⊥)

@@ -8,10 +8,12 @@ use Rattle.std.proofs.Math.Seq.{take-append-add}
 use Rattle.clr_model.specs.Machine.{Machine, Options}
 use Rattle.clr_model.specs.LineGrammar.{script_lines, ended_lines}
 use Rattle.clr_model.specs.Outcomes.{Outcome, outcome_text}
-use Rattle.clr_run.specs.Runs.{Step, FollowsLine, run_text}
+use Rattle.clr_lines.specs.Lines.{Step, FollowsLine}
+use Rattle.clr_lines.proofs.FrontSteps.{take-min}
+use Rattle.clr_run.specs.Runs.{run_text}
 use Rattle.clr_model.specs.Run.{StandsFor, opening}
 use Rattle.clr_run.specs.Output.{Wrote, WroteSome}
-use Rattle.clr_run.specs.LineStretch.{IsUnfed}
+use Rattle.clr_script.specs.Fronts.{IsUnfed}
 use Rattle.clr_run.specs.Progress.{RunOver, Progress, begun}
 use Rattle.clr_run.specs.Faults.{Appended}
 use Rattle.clr_run.specs.Sessions.{IsAt, Goes, Ends, EndsWritten, Stops, StopsLast}
@@ -220,14 +222,6 @@ follows_whole old new line kept rest begun outcome e is follows m stands =
     let same : kept ≡ take 4097 (begun ++ rest) = is
     ∙ (ap (λ front. take 4097 (front ++ rest)) e ∙ take-kept 4097 begun rest) in
     (next.0, whole_line m next.0 (begun ++ rest) outcome (rw same at next.1), next.2)
-
-take-min : (k : ℕ) (more : List ℕ) → take (min (length more) k) more ≡ take k more
-take-min k more = elim (cases_lt k (length more)) [
-  | inl lt ↦ ap (λ n. take n more) (let e : min (length more) k ≡ k = omega arith in e)
-  | inr ge ↦
-      let e : min (length more) k ≡ length more = omega arith in
-      ap (λ n. take n more) e ∙ (take_all (length more) more (omega arith) ∙ sym (take_all k more ge))
-]
 
 -- so many bytes as there is room for
 pub kept_front : (line more : List ℕ) (n : ℕ) → length line ≤ n

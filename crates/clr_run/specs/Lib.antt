@@ -5,8 +5,6 @@ pub mod Memory
 pub mod MemoryViews
 pub mod Codes
 pub mod LineStretch
-pub mod Outcomes
 pub mod Progress
 pub mod Sessions
-pub mod Commands
-pub mod CommandKinds
+pub mod Soak

@@ -1,10 +1,6 @@
 -- Stretches of a script without a line feed.
-use Rattle.std.specs.Prelude.{◌≡◌, ◌≢◌, ℕ, ◌+◌, ◌<◌, List, [], ◌∷◌, ◌++◌, length, take}
-use Rattle.std.specs.List.{AllByRecursion}
-
--- no byte is a line feed
-abbrev pub IsUnfed : List ℕ → Type 0
-IsUnfed = AllByRecursion (λ (b : ℕ). b ≢ 10)
+use Rattle.std.specs.Prelude.{◌≡◌, ℕ, ◌+◌, ◌<◌, List, [], ◌∷◌, ◌++◌, length, take}
+use Rattle.clr_script.specs.Fronts.{IsUnfed}
 
 -- the first line feed of the bytes stands here
 pub record IsFirstFeed (bytes : List ℕ) (at : ℕ) : Type 0 where

@@ -1,8 +1,9 @@
 -- What the parts of a session's work do, by the run of the machine.
-use Rattle.std.specs.Prelude.{◌≡◌, ℕ, List, [], ◌++◌, Option}
+use Rattle.std.specs.Prelude.{◌≡◌, ◌<◌, ◌≤◌, ℕ, List, [], ◌++◌, length, take, Option, Some, None}
 use Rattle.clr_model.specs.Machine.{Machine, Options}
 use Rattle.clr_model.specs.LineGrammar.{script_lines, ended_lines}
 use Rattle.clr_model.specs.Outcomes.{Outcome}
+use Rattle.clr_script.specs.Fronts.{IsUnfed}
 use Rattle.clr_run.specs.Runs.{run_text}
 use Rattle.clr_model.specs.Run.{StandsFor}
 use Rattle.clr_run.specs.Output.{Wrote, WroteSome}
@@ -19,6 +20,13 @@ Goes old new bytes before after = (options : Options) (taken : List ℕ) (outcom
     → IsAt options old taken outcomes →
     (more : List Outcome) × IsAt options new (taken ++ bytes) (outcomes ++ more)
     × Wrote before after old.pending new.pending (run_text more)
+
+-- The line that ends first in a text was answered, so many bytes with its line feed; or none ends in it, and nothing
+-- changed.
+abbrev pub GoesLine : Session → Session → List ℕ → Option (List ℕ) → Option (List ℕ) → Option ℕ → Type 0
+GoesLine old new text before after None = IsUnfed text × (new.runtime ≡ old.runtime) × Goes old new [] before after
+GoesLine old new text before after (Some count) =
+    (0 < count) × (count ≤ length text) × Goes old new (take count text) before after
 
 -- What was left of the input was answered, and the answers were written or wait. The runtime stands for the last state.
 abbrev pub Ends : Session → Session → Option (List ℕ) → Option (List ℕ) → Type 0

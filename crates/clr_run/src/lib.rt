@@ -1,18 +1,12 @@
 //! A script from bytes to bytes: sources, sinks, and the run of a script.
 #![tactic(auto)]
 
-mod execute;
-mod handles;
-mod looks;
-mod outcome;
 mod script;
-mod slots;
 mod status;
 mod streams;
-mod threads;
-mod words;
 
 pub use clr_runtime::{NoMemory, Runtime};
+pub use clr_words::Words;
 pub use script::run::{SCRIPT_LIMIT, run};
 pub use status::Status;
 pub use streams::Failed;
@@ -21,4 +15,3 @@ pub use streams::memory::{MemorySink, MemorySource};
 pub use streams::plain::{PlainSink, PlainSource};
 pub use streams::sink::Sink;
 pub use streams::source::Source;
-pub use words::Words;

@@ -2,3 +2,4 @@
 
 pub mod run;
 pub mod session;
+pub mod soak;

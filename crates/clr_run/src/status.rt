@@ -1,7 +1,7 @@
 /// How a command ended.
 #[derive(Clone, Copy, Debug, PartialEq, Eq)]
 pub enum Status {
-    /// The script was read to its end, and each line was answered.
+    /// The command was done to its end, and all that it writes is written.
     Done,
     /// The words say no command.
     Usage,
@@ -9,7 +9,7 @@ pub enum Status {
     ReadFault,
     /// A write failed.
     WriteFault,
-    /// There was no memory to begin with.
+    /// There was no memory for the command. Nothing was read or written.
     Memory,
     /// The script has more bytes than `SCRIPT_LIMIT`.
     TooMuch,

@@ -3,6 +3,7 @@
 pub mod adapter;
 pub mod buffer;
 pub mod memory;
+pub mod outcome;
 pub mod pending;
 pub mod plain;
 pub mod sink;

@@ -5,5 +5,6 @@ pub mod Digits
 pub mod FrontDigits
 pub mod NameFronts
 pub mod SpelledLines
+pub mod FrontLines
 pub mod MadeLines
 pub mod MadeChoices

@@ -7,7 +7,7 @@ use Rattle.clr_model.specs.ReplyText.{spaced, kind_word}
 use Rattle.clr_script.specs.Fronts.{behind}
 
 -- words behind a first one
-spaced_behind : (w : List ℕ) (ws : List (List ℕ)) → w ++ behind ws ≡ spaced (w ∷ ws)
+pub spaced_behind : (w : List ℕ) (ws : List (List ℕ)) → w ++ behind ws ≡ spaced (w ∷ ws)
 spaced_behind w [] = append-nil w
 spaced_behind w (v ∷ vs) = ap (λ l. w ++ (32 ∷ l)) (spaced_behind v vs)
 

@@ -14,6 +14,9 @@ mod table;
 mod threads;
 
 pub use made::Made;
-pub use quick::read_quick;
+pub use quick::{
+    read_copy, read_get, read_new, read_null, read_put, read_quick, read_set, read_slot,
+    take_thread,
+};
 pub use reader::{LONGEST, read_line};
-pub use reply::{put_refusal, put_reply};
+pub use reply::{put_done, put_number, put_place, put_refusal, put_reply};

@@ -101,7 +101,7 @@ fn append_address(into: &mut [u8; 256], at: usize, v: u64) -> usize
 
 // Writes a place, or `null`, and gives its length.
 #[inline]
-fn put_place(place: u64, into: &mut [u8; 256]) -> usize
+fn put_place_word(place: u64, into: &mut [u8; 256]) -> usize
     ensures short { result < 256 }
     ensures text { take result into.new ≡ place_text place }
 {
@@ -159,7 +159,7 @@ fn put_text(reply: &Reply, into: &mut [u8; 256]) -> usize
 {
     match reply {
         Reply::Done => append(into, 0, b"ok"),
-        Reply::Place(place) => put_place(*place, into),
+        Reply::Place(place) => put_place_word(*place, into),
         Reply::Number(n) => append_decimal(into, 0, *n),
         Reply::Mt(mt) => {
             let at = append(into, 0, b"mt");
@@ -198,6 +198,37 @@ pub fn put_reply(reply: &Reply, into: &mut [u8; 256]) -> usize
     ensures text { take result into.new ≡ reply_text reply.now ++ 10 ∷ [] }
 {
     let at = put_text(reply, into);
+    append(into, at, b"\n")
+}
+
+/// Writes that a line was done and a line feed at the front of `into`, and gives their length. The bytes behind them may
+/// be any.
+#[inline]
+pub fn put_done(into: &mut [u8; 256]) -> usize
+    ensures fits { result ≤ 256 }
+    ensures text { take result into.new ≡ reply_text Reply.Done ++ 10 ∷ [] }
+{
+    append(into, 0, b"ok\n")
+}
+
+/// Writes a place, 0 for null, and a line feed at the front of `into`, and gives their length. The bytes behind them may
+/// be any.
+#[inline]
+pub fn put_place(place: u64, into: &mut [u8; 256]) -> usize
+    ensures fits { result ≤ 256 }
+    ensures text { take result into.new ≡ reply_text (Reply.Place place) ++ 10 ∷ [] }
+{
+    let at = put_place_word(place, into);
+    append(into, at, b"\n")
+}
+
+/// Writes a number and a line feed at the front of `into`, and gives their length. The bytes behind them may be any.
+#[inline]
+pub fn put_number(number: u64, into: &mut [u8; 256]) -> usize
+    ensures fits { result ≤ 256 }
+    ensures text { take result into.new ≡ reply_text (Reply.Number number) ++ 10 ∷ [] }
+{
+    let at = append_decimal(into, 0, number);
     append(into, at, b"\n")
 }
 

@@ -1,22 +1,28 @@
 //! The top call: a command from its words and its source to its sink.
-ghost use Rattle.std.specs.Prelude.{◌≡◌, ◌≢◌, ◌+◌, ◌*◌, ◌^◌, ◌<◌, ◌≤◌, ◌∷◌, ◌++◌, [], List, ℕ, Some, None, length};
-ghost use Rattle.std.specs.Prelude.{IfOk, IfSome, IsSome, IsSomeAnd, ◌⊎◌, option_map, codes, IsTrue, ◌↔◌};
+ghost use Rattle.std.specs.Prelude.{◌≡◌, ◌≢◌, ◌+◌, ◌*◌, ◌^◌, ◌<◌, ◌≤◌, ◌∷◌, [], List, ℕ, Some, None, length};
+ghost use Rattle.std.specs.Prelude.{IfSome, IsSome, IsSomeAnd, ◌↔◌, ◌⊎◌, option_map};
+ghost use Rattle.clr_model.specs.Lawful.{AreLawfulOptions};
 ghost use Rattle.clr_model.specs.Machine.{Machine, Options};
 ghost use Rattle.clr_model.specs.LineGrammar.{script_lines, ended_lines};
-ghost use Rattle.clr_run.specs.Runs.{IsRunOf};
 ghost use Rattle.clr_model.specs.Run.{StandsFor};
-ghost use Rattle.clr_run.specs.Commands.{SaysRun, SaysNothing};
-ghost use Rattle.clr_run.specs.Faults.{Rose, Taken, Appended};
+ghost use Rattle.clr_runtime.specs.Options.{options_of};
+ghost use Rattle.clr_words.specs.Grammar.{SaysNothing, SaysRun, SaysSoak};
+ghost use Rattle.clr_words.specs.Settings as settings_said;
+ghost use Rattle.clr_run.specs.Faults.{Rose, Appended};
 ghost use Rattle.clr_run.specs.Progress.{Answered, CutShort};
+ghost use Rattle.clr_run.specs.Runs.{IsRunOf};
 ghost use Rattle.clr_run.specs.Sessions.{IsAt};
+ghost use Rattle.clr_run.specs.Soak.{SoakCutShort, Soaked};
 
 use crate::script::session::Session;
+use crate::script::soak::soak;
 use crate::status::Status;
+use crate::streams::buffer::make_buffer;
 use crate::streams::sink::Sink;
 use crate::streams::source::Source;
-use crate::words::Words;
 use clr_runtime::Runtime;
-use std::alloc::{AllocError, Global};
+use clr_words::{CommandLine, Settings, Words};
+use std::alloc::Global;
 
 /// A script has at most this many bytes.
 pub const SCRIPT_LIMIT: u64 = 268_435_456;
@@ -83,23 +89,88 @@ fn run_script<S: Source, K: Sink>(
     }
 }
 
-// Whether the command is `run`.
-fn is_run(words: &Words) -> bool
-    ensures { IsTrue result ↔ (words.now ≡ codes "run" ∷ []) }
+// Runs the script that the source holds, over a runtime with these options, and tells what came of it. After `Done` the
+// end state is the runtime that ran the lines.
+fn run_source<S: Source, K: Sink>(
+    alloc: Global,
+    options: clr_runtime::Options,
+    source: &mut S,
+    sink: &mut K,
+    end_state: &mut Option<Runtime>,
+) -> Status
+    requires lawful { AreLawfulOptions (options_of options) }
+    requires no_state { end_state.old ≡ None }
+    ensures headline { result ≡ Status.Done →
+        IfSome (S.held source.old) (λ script. (text : List ℕ) × (last : Machine)
+        × IsRunOf (options_of options) script text last
+        × Appended (K.written sink.old) (K.written sink.new) text
+        × (S.held source.new ≡ Some [])
+        × IsSomeAnd end_state.new (λ runtime. StandsFor runtime last)) }
+    ensures done { result ≡ Status.Done → (taken : List ℕ)
+        × (answered : Answered (options_of options) script_lines
+        (S.held source.old) (S.held source.new) (K.written sink.old) (K.written sink.new) taken)
+        × (length taken ≤ SCRIPT_LIMIT) × IsSomeAnd end_state.new (λ runtime. StandsFor runtime answered.last) }
+    ensures no_state { result ≢ Status.Done → end_state.new ≡ None }
+    ensures read_before { result ≡ Status.ReadFault → (taken : List ℕ)
+        × Answered (options_of options) ended_lines
+        (S.held source.old) (S.held source.new) (K.written sink.old) (K.written sink.new) taken
+        × (length taken ≤ SCRIPT_LIMIT) }
+    ensures read_fault { result ≡ Status.ReadFault → Rose (S.faults source.old) (S.faults source.new) }
+    ensures source_counted { result ≢ Status.ReadFault → S.faults source.new ≡ S.faults source.old }
+    ensures write_before { result ≡ Status.WriteFault →
+        CutShort (options_of options) SCRIPT_LIMIT
+        (S.held source.old) (S.held source.new) (K.written sink.old) (K.written sink.new) }
+    ensures write_fault { result ≡ Status.WriteFault → Rose (K.faults sink.old) (K.faults sink.new) }
+    ensures sink_counted { result ≢ Status.WriteFault → K.faults sink.new ≡ K.faults sink.old }
+    ensures too_much { result ≡ Status.TooMuch → (taken : List ℕ) × (byte : ℕ)
+        × Answered (options_of options) ended_lines
+        (S.held source.old) (option_map (λ rest. byte ∷ rest) (S.held source.new))
+        (K.written sink.old) (K.written sink.new) taken
+        × (length taken ≡ SCRIPT_LIMIT) }
+    ensures usage { result ≢ Status.Usage }
+    ensures memory { result ≡ Status.Memory → (source.new ≡ source.old) × (sink.new ≡ sink.old) }
+    ensures image { result ≢ Status.BadImage }
 {
-    words.count() == 1 && words.get(0) == "run"
+    let Ok(mut session) = Session::new(alloc, options) else {
+        return Status::Memory;
+    };
+    let Ok(mut buffer) = make_buffer(alloc, PIECE) else {
+        return Status::Memory;
+    };
+    match run_script(
+        &mut session,
+        buffer.as_mut_slice(),
+        SCRIPT_LIMIT,
+        source,
+        sink,
+    ) {
+        Status::Done => {
+            *end_state = Some(session.into_runtime());
+            Status::Done
+        }
+        fault => fault,
+    }
 }
 
-// A buffer of so many bytes.
-fn make_buffer(alloc: Global, size: usize) -> Result<Vec<u8>, AllocError>
-    requires { 0 < size }
-    ensures { IfOk result (λ buffer. 0 < length buffer.items) }
+// What a runtime is made with where the words say these settings.
+fn options_from(settings: Settings) -> clr_runtime::Options
+    ensures { options_of result ≡ settings_said.options_of settings }
 {
-    vec![in alloc; 0; size]
+    clr_runtime::Options {
+        limit: settings.limit,
+        segment: settings.segment,
+        b0: settings.b0,
+        b1: settings.b1,
+        b2: settings.b2,
+        bl: settings.bl,
+        compact: settings.compact,
+    }
 }
 
-/// Runs the script that the source holds, and writes its replies to the sink. The words are those of the command line,
-/// without the program's name. After `Done` the end state is the runtime that ran the lines, and else there is none.
+/// Runs the command that the words say. `run` runs the script that the source holds, and writes its replies to the
+/// sink. `soak` runs a generated script, and writes a summary of what it comes to. The words are those of the command
+/// line, without the program's name. After `Done` the end state is the runtime that ran the lines, and else there is
+/// none.
 pub fn run<S: Source, K: Sink>(
     alloc: Global,
     words: &Words,
@@ -124,7 +195,7 @@ pub fn run<S: Source, K: Sink>(
     ensures no_state { result ≢ Status.Done → end_state.new ≡ None }
 
     // Each other answer has its cause.
-    ensures usage { (result ≡ Status.Usage) ↔ SaysNothing words.now }
+    ensures usage { result ≢ Status.Memory → ((result ≡ Status.Usage) ↔ SaysNothing words.now) }
     ensures read_fault { result ≡ Status.ReadFault → Rose (S.faults source.old) (S.faults source.new) }
     ensures write_fault { result ≡ Status.WriteFault → Rose (K.faults sink.old) (K.faults sink.new) }
     ensures too_much { (options : Options) → SaysRun words.now options → result ≡ Status.TooMuch →
@@ -137,8 +208,7 @@ pub fn run<S: Source, K: Sink>(
     // A count that rises is answered, and before the first read nothing has changed.
     ensures source_counted { result ≢ Status.ReadFault → S.faults source.new ≡ S.faults source.old }
     ensures sink_counted { result ≢ Status.WriteFault → K.faults sink.new ≡ K.faults sink.old }
-    ensures memory { (options : Options) → SaysRun words.now options → result ≡ Status.Memory →
-        (source.new ≡ source.old) × (sink.new ≡ sink.old) }
+    ensures memory { result ≡ Status.Memory → (source.new ≡ source.old) × (sink.new ≡ sink.old) }
     ensures unread { result ≡ Status.Usage → (source.new ≡ source.old) × (sink.new ≡ sink.old) }
 
     // Where the words are right, the script isn't too long and no fault is counted, only memory can be wanting.
@@ -156,28 +226,33 @@ pub fn run<S: Source, K: Sink>(
     ensures write_before { (options : Options) → SaysRun words.now options → result ≡ Status.WriteFault →
         CutShort options SCRIPT_LIMIT
         (S.held source.old) (S.held source.new) (K.written sink.old) (K.written sink.new) }
+
+    // Of a generated script only the summary of the last state is written, and nothing is read.
+    ensures soak { (options : Options) (seed count : ℕ) → SaysSoak words.now options seed count →
+        result ≡ Status.Done → (soaked : Soaked options seed count (K.written sink.old) (K.written sink.new))
+        × IsSomeAnd end_state.new (λ runtime. StandsFor runtime soaked.last) }
+    ensures soak_before { (options : Options) (seed count : ℕ) → SaysSoak words.now options seed count →
+        result ≡ Status.WriteFault → SoakCutShort options seed count (K.written sink.old) (K.written sink.new) }
+    ensures soak_unread { (options : Options) (seed count : ℕ) → SaysSoak words.now options seed count →
+        source.new ≡ source.old }
+    ensures soak_complete { (options : Options) (seed count : ℕ) → SaysSoak words.now options seed count →
+        (result ≡ Status.Done) ⊎ ((result ≡ Status.WriteFault) ⊎ (result ≡ Status.Memory)) }
 {
     *end_state = None;
-    if !is_run(words) {
+    let Ok(said) = words.command() else {
+        return Status::Memory;
+    };
+    let Some(command) = said else {
         return Status::Usage;
-    }
-    let Ok(mut session) = Session::new(alloc, clr_runtime::Options::defaults()) else {
-        return Status::Memory;
     };
-    let Ok(mut buffer) = make_buffer(alloc, PIECE) else {
-        return Status::Memory;
-    };
-    match run_script(
-        &mut session,
-        buffer.as_mut_slice(),
-        SCRIPT_LIMIT,
-        source,
-        sink,
-    ) {
-        Status::Done => {
-            *end_state = Some(session.into_runtime());
-            Status::Done
+    match command {
+        CommandLine::Run(settings) => {
+            run_source(alloc, options_from(settings), source, sink, end_state)
         }
-        fault => fault,
+        CommandLine::Soak {
+            settings,
+            seed,
+            count,
+        } => soak(alloc, options_from(settings), seed, count, sink, end_state),
     }
 }

@@ -1,15 +1,17 @@
 ghost use Rattle.std.specs.Prelude.{◌≡◌, ◌+◌, ◌*◌, ◌^◌, ◌≤◌, ◌∷◌, ◌++◌, ℕ, List, [], length, MatchOption, take, OnOk};
 ghost use Rattle.std.specs.Prelude.{OnErr, IfOk, vec_len, vec_capacity, ◌<◌};
+ghost use Rattle.clr_script.specs.Fronts.{IsUnfed};
 ghost use Rattle.clr_run.specs.Faults.{Rose};
-ghost use Rattle.clr_run.specs.LineStretch.{IsUnfed, IsFirstFeed};
+ghost use Rattle.clr_run.specs.LineStretch.{IsFirstFeed};
 
 use crate::NoMemory;
-use crate::execute::execute;
-use crate::outcome::{Outcome, put_outcome};
 use crate::streams::Failed;
 use crate::streams::buffer::push_all;
+use crate::streams::outcome::put_outcome;
 use crate::streams::pending::Pending;
 use crate::streams::sink::Sink;
+use clr_lines::Outcome;
+use clr_lines::execute::execute;
 use clr_runtime::{Options, Runtime};
 use memchr::memchr;
 use std::alloc::Global;
@@ -48,10 +50,10 @@ pub struct Session {
 }
 
 impl Session {
-    ghost use Rattle.clr_run.specs.Sessions.{IsAt, Goes, GoesWritten, Ends, EndsWritten, Stops, StopsLast};
-    ghost use Rattle.clr_run.specs.Outcomes.{outcome_of, CanShow};
+    ghost use Rattle.clr_run.specs.Sessions.{IsAt, Goes, GoesLine, GoesWritten, Ends, EndsWritten, Stops, StopsLast};
+    ghost use Rattle.clr_lines.specs.Outcomes.{outcome_of, CanShow};
     ghost use Rattle.clr_model.specs.Lawful.{AreLawfulOptions};
-    ghost use Rattle.clr_run.specs.Runs.{FollowsLine};
+    ghost use Rattle.clr_lines.specs.Lines.{FollowsLine};
     ghost use Rattle.clr_runtime.specs.Options.{options_of};
 
     /// A script of which nothing was read yet, over a runtime with these options. Takes the memory of its buffers here.
@@ -112,7 +114,47 @@ impl Session {
         put_outcome(&mut self.pending, sink, &outcome)
     }
 
+    // Answers the line that ends first in these bytes, and gives where what is behind its line feed begins. `None` where no
+    // line ends in them.
+    #[inline]
+    fn answer_line<K: Sink>(&mut self, sink: &mut K, text: &[u8]) -> Result<Option<usize>, Failed>
+        requires { self.old.runtime.layout.top ≤ 2 ^ 61 }
+        ensures bytes { IfOk result (GoesLine self.old self.new text.now (K.written sink.old) (K.written sink.new)) }
+        ensures stops { OnErr result (Stops self.old text.now (K.written sink.old) (K.written sink.new)) }
+        ensures some { OnErr result (0 < length text.now) }
+        ensures counted { OnOk result (K.faults sink.new ≡ K.faults sink.old) }
+        ensures cause { OnErr result (Rose (K.faults sink.old) (K.faults sink.new)) }
+        ensures grows { self.new.runtime.layout.top ≤ self.old.runtime.layout.top + 2 ^ 30 }
+    {
+        if !self.line.is_empty() {
+            return self.answer_any(sink, text);
+        }
+        if let Some(count) = self.pending.answer_front(sink, &mut self.runtime, text)? {
+            return Ok(Some(count));
+        }
+        self.answer_any(sink, text)
+    }
+
+    // Answers the line that ends first in these bytes, as `answer_line`, whichever it is.
+    #[inline(never)]
+    fn answer_any<K: Sink>(&mut self, sink: &mut K, text: &[u8]) -> Result<Option<usize>, Failed>
+        requires { self.old.runtime.layout.top ≤ 2 ^ 61 }
+        ensures bytes { IfOk result (GoesLine self.old self.new text.now (K.written sink.old) (K.written sink.new)) }
+        ensures stops { OnErr result (Stops self.old text.now (K.written sink.old) (K.written sink.new)) }
+        ensures some { OnErr result (0 < length text.now) }
+        ensures counted { OnOk result (K.faults sink.new ≡ K.faults sink.old) }
+        ensures cause { OnErr result (Rose (K.faults sink.old) (K.faults sink.new)) }
+        ensures grows { self.new.runtime.layout.top ≤ self.old.runtime.layout.top + 2 ^ 30 }
+    {
+        let Some(at) = first_feed(text) else {
+            return Ok(None);
+        };
+        self.end_line(sink, &text[..at])?;
+        Ok(Some(at + 1))
+    }
+
     // Answers the lines that the next bytes of the script end, and keeps what is behind them.
+    #[inline(never)]
     fn answer_piece<K: Sink>(&mut self, sink: &mut K, piece: &[u8]) -> Result<(), Failed>
         requires { self.old.runtime.layout.top + 2 ^ 30 * length piece.now ≤ 2 ^ 61 }
         ensures bytes { OnOk result (Goes self.old self.new piece.now (K.written sink.old) (K.written sink.new)) }
@@ -122,9 +164,8 @@ impl Session {
         ensures grows { self.new.runtime.layout.top ≤ self.old.runtime.layout.top + 2 ^ 30 * length piece.now }
     {
         let mut from = 0;
-        while let Some(at) = first_feed(&piece[from..]) {
-            self.end_line(sink, &piece[from..from + at])?;
-            from += at + 1;
+        while let Some(count) = self.answer_line(sink, &piece[from..])? {
+            from += count;
         }
         keep(&mut self.line, &piece[from..]);
         Ok(())

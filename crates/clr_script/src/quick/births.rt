@@ -1,12 +1,13 @@
-//! The lines that make objects and collect them. Each reader takes the text behind the letters of the verb that its
-//! contract names.
+//! The lines that make objects, in front of a text, and the whole ones that collect them. Each reader takes the text
+//! behind the verb that its contract names.
 ghost use Rattle.std.specs.Prelude.{◌≡◌, ◌∷◌, ◌++◌, ℕ, IfSome, IsTrue, codes, position, not};
 ghost use Rattle.std.specs.List.{list_all};
 ghost use Rattle.clr_model.specs.LineGrammar.{is_name, is_name_byte, how_words, number_words, IsWord};
-ghost use Rattle.clr_script.specs.Fronts.{behind, SpellsBehind};
+ghost use Rattle.clr_model.specs.Instructions.{new_object};
+ghost use Rattle.clr_script.specs.Fronts.{behind, Continues, SpellsBehind};
 
 use crate::fields::{continues_name, starts_name};
-use crate::quick::digits::{last_number, take_local, take_number};
+use crate::quick::digits::{end_number, take_local, take_number};
 use clr_model::{Command, How};
 
 // Where the first byte stands that may not stand in a name.
@@ -54,31 +55,27 @@ fn take_name(text: &[u8]) -> Option<(&[u8], &[u8])>
     }
 }
 
-// The length that is the last word, or nothing.
+// The length that is the last word of a line, or nothing, and what is behind its line feed.
 #[inline]
-fn last_length(text: &[u8]) -> Option<Option<u64>>
-    ensures { IfSome result (λ len. (text.now ≡ behind (number_words len)) × IfSome len IsWord) }
+fn end_length(text: &[u8]) -> Option<(Option<u64>, &[u8])>
+    ensures { IfSome result (λ p. (text.now ≡ behind (number_words p.0) ++ 10 ∷ p.1.now) × IfSome p.0 IsWord) }
 {
-    if text.is_empty() {
-        return Some(None);
+    if let [b'\n', rest @ ..] = text {
+        return Some((None, rest));
     }
-    Some(Some(last_number(text)?))
+    let (len, rest) = end_number(text)?;
+    Some((Some(len), rest))
 }
 
-/// Which type is made, how long, and for which local.
+/// For which local, of which type and how long an object is made, and what is behind the line's feed.
 #[inline]
-pub fn read_new<'a>(t: u64, text: &'a [u8]) -> Option<Command<'a>>
-    ensures { IfSome result (λ command. SpellsBehind t (codes "new") text.now command) }
+pub fn read_new(text: &[u8]) -> Option<(u64, &[u8], Option<u64>, &[u8])>
+    ensures { IfSome result (λ p. Continues (codes "new") (λ t. new_object t p.0 p.1.now p.2) text.now p.3.now) }
 {
     let (local, rest) = take_local(text)?;
     let (name, rest) = take_name(rest)?;
-    let len = last_length(rest)?;
-    Some(Command::New {
-        t,
-        local,
-        name,
-        len,
-    })
+    let (len, rest) = end_length(rest)?;
+    Some((local, name, len, rest))
 }
 
 // How to collect: the last word, or nothing.

@@ -1,21 +1,24 @@
 //! Numbers, and words with a number, at the front of a text.
 ghost use Rattle.std.specs.Prelude.{◌≡◌, ◌<◌, ◌^◌, ◌∷◌, ◌++◌, [], ℕ, IfSome, decimal};
-ghost use Rattle.clr_model.specs.LineGrammar.{local_word, handle_word};
+ghost use Rattle.clr_model.specs.LineGrammar.{local_word, handle_word, thread_word};
 ghost use Rattle.clr_script.specs.Fronts.{behind};
 
 /// Below this number one digit more fits 64 bits.
 const ROOM: u64 = 1_000_000_000_000_000_000;
 
-/// The number whose digits stand in front, of at most 19 digits, and what is behind them.
+// The number that this digit begins and those in front of the text go on, of at most 19 digits, and what is behind them.
+// A number of one digit is the most frequent.
 #[inline]
-pub fn take_digits(text: &[u8]) -> Option<(u64, &[u8])>
-    ensures { IfSome result (λ p. (text.now ≡ decimal p.0 ++ p.1.now) × (p.0 < 2 ^ 64)) }
+fn number_from(first: u8, text: &[u8]) -> Option<(u64, &[u8])>
+    ensures { IfSome result (λ p. (first ∷ text.now ≡ decimal p.0 ++ p.1.now) × (p.0 < 2 ^ 64)) }
 {
-    let (first, rest) = text.split_first()?;
-    match first {
-        b'0' => Some((0, rest)),
-        b'1'..=b'9' => Some(more_digits(u64::from(*first - b'0'), rest)),
-        _ => None,
+    if !first.is_ascii_digit() {
+        return None;
+    }
+    let front = u64::from(first - b'0');
+    match text {
+        [b'0'..=b'9', ..] if front != 0 => Some(more_digits(front, text)),
+        _ => Some((front, text)),
     }
 }
 
@@ -42,13 +45,27 @@ fn more_digits(front: u64, text: &[u8]) -> (u64, &[u8])
     (number, rest)
 }
 
+/// The thread whose word is the first of a line, and what is behind the space after it.
+#[inline]
+pub fn take_thread(text: &[u8]) -> Option<(u64, &[u8])>
+    ensures { IfSome result (λ p. (text.now ≡ thread_word p.0 ++ 32 ∷ p.1.now) × (p.0 < 2 ^ 64)) }
+{
+    let [b't', first, rest @ ..] = text else {
+        return None;
+    };
+    match number_from(*first, rest) {
+        Some((t, [b' ', rest @ ..])) => Some((t, rest)),
+        _ => None,
+    }
+}
+
 /// The number of the next word, and what is behind it.
 #[inline]
 pub fn take_number(text: &[u8]) -> Option<(u64, &[u8])>
     ensures { IfSome result (λ p. (text.now ≡ (32 ∷ decimal p.0) ++ p.1.now) × (p.0 < 2 ^ 64)) }
 {
     match text {
-        [b' ', digits @ ..] => take_digits(digits),
+        [b' ', first, rest @ ..] => number_from(*first, rest),
         _ => None,
     }
 }
@@ -59,51 +76,73 @@ pub fn take_local(text: &[u8]) -> Option<(u64, &[u8])>
     ensures { IfSome result (λ p. (text.now ≡ (32 ∷ 108 ∷ decimal p.0) ++ p.1.now) × (p.0 < 2 ^ 64)) }
 {
     match text {
-        [b' ', b'l', digits @ ..] => take_digits(digits),
+        [b' ', b'l', first, rest @ ..] => number_from(*first, rest),
         _ => None,
     }
 }
 
-// The number whose digits are the whole text.
+// The number that this digit begins, whose others are the whole text.
 #[inline]
-fn all_digits(text: &[u8]) -> Option<u64>
-    ensures { IfSome result (λ n. (text.now ≡ decimal n) × (n < 2 ^ 64)) }
+fn whole_number(first: u8, text: &[u8]) -> Option<u64>
+    ensures { IfSome result (λ n. (first ∷ text.now ≡ decimal n) × (n < 2 ^ 64)) }
 {
-    match take_digits(text) {
+    match number_from(first, text) {
         Some((number, [])) => Some(number),
         _ => None,
     }
 }
 
-/// The number that is the last word.
-#[inline]
-pub fn last_number(text: &[u8]) -> Option<u64>
-    ensures { IfSome result (λ n. (text.now ≡ behind (decimal n ∷ [])) × (n < 2 ^ 64)) }
-{
-    match text {
-        [b' ', digits @ ..] => all_digits(digits),
-        _ => None,
-    }
-}
-
-/// The local that is the last word.
+/// The local that is the last word of a text.
 #[inline]
 pub fn last_local(text: &[u8]) -> Option<u64>
     ensures { IfSome result (λ k. (text.now ≡ behind (local_word k ∷ [])) × (k < 2 ^ 64)) }
 {
     match text {
-        [b' ', b'l', digits @ ..] => all_digits(digits),
+        [b' ', b'l', first, rest @ ..] => whole_number(*first, rest),
         _ => None,
     }
 }
 
-/// The handle that is the last word.
+/// The handle that is the last word of a text.
 #[inline]
 pub fn last_handle(text: &[u8]) -> Option<u64>
     ensures { IfSome result (λ h. (text.now ≡ behind (handle_word h ∷ [])) × (h < 2 ^ 64)) }
 {
     match text {
-        [b' ', b'h', digits @ ..] => all_digits(digits),
+        [b' ', b'h', first, rest @ ..] => whole_number(*first, rest),
+        _ => None,
+    }
+}
+
+// The number that this digit begins, whose others go up to a line feed, and what is behind that.
+#[inline]
+fn ended_number(first: u8, text: &[u8]) -> Option<(u64, &[u8])>
+    ensures { IfSome result (λ p. (first ∷ text.now ≡ decimal p.0 ++ 10 ∷ p.1.now) × (p.0 < 2 ^ 64)) }
+{
+    match number_from(first, text) {
+        Some((number, [b'\n', rest @ ..])) => Some((number, rest)),
+        _ => None,
+    }
+}
+
+/// The number that is the last word of a line, and what is behind its line feed.
+#[inline]
+pub fn end_number(text: &[u8]) -> Option<(u64, &[u8])>
+    ensures { IfSome result (λ p. (text.now ≡ (32 ∷ decimal p.0) ++ 10 ∷ p.1.now) × (p.0 < 2 ^ 64)) }
+{
+    match text {
+        [b' ', first, rest @ ..] => ended_number(*first, rest),
+        _ => None,
+    }
+}
+
+/// The local that is the last word of a line, and what is behind its line feed.
+#[inline]
+pub fn end_local(text: &[u8]) -> Option<(u64, &[u8])>
+    ensures { IfSome result (λ p. (text.now ≡ (32 ∷ 108 ∷ decimal p.0) ++ 10 ∷ p.1.now) × (p.0 < 2 ^ 64)) }
+{
+    match text {
+        [b' ', b'l', first, rest @ ..] => ended_number(*first, rest),
         _ => None,
     }
 }

@@ -55,8 +55,8 @@ fn last_second(kind: Kind, text: &[u8]) -> Option<Option<u64>>
     if text.is_empty() { Some(None) } else { None }
 }
 
-// What stands behind `handle`.
-fn read_create<'a>(t: u64, text: &'a [u8]) -> Option<Command<'a>>
+/// Which kind of handle is made, and on which locals.
+pub fn read_create<'a>(t: u64, text: &'a [u8]) -> Option<Command<'a>>
     ensures { IfSome result (λ command. SpellsBehind t (codes "handle") text.now command) }
 {
     let (kind, rest) = take_kind(text)?;
@@ -68,17 +68,6 @@ fn read_create<'a>(t: u64, text: &'a [u8]) -> Option<Command<'a>>
         local,
         second,
     })
-}
-
-/// Which kind of handle is made, and on which locals.
-#[inline]
-pub fn read_handle<'a>(t: u64, text: &'a [u8]) -> Option<Command<'a>>
-    ensures { IfSome result (λ command. SpellsBehind t (codes "h") text.now command) }
-{
-    match text {
-        [b'a', b'n', b'd', b'l', b'e', rest @ ..] => read_create(t, rest),
-        _ => None,
-    }
 }
 
 /// Which handle's target is fetched, and whereto.

@@ -1,90 +1,69 @@
-//! The lines on slots and locals. Each reader takes the text behind the letters of the verb that its contract names.
+//! The lines on slots and locals, in front of a text. Each reader takes the text behind the verb that its contract names,
+//! and gives what the line says and what is behind its line feed.
 ghost use Rattle.std.specs.Prelude.{IfSome, codes};
-ghost use Rattle.clr_script.specs.Fronts.{SpellsBehind};
+ghost use Rattle.clr_model.specs.Instructions.{get_slot, set_slot, put_number, read_number, copy_local, clear_local};
+ghost use Rattle.clr_script.specs.Fronts.{Continues};
 
-use crate::quick::digits::{last_local, last_number, take_local, take_number};
-use clr_model::Command;
+use crate::quick::digits::{end_local, end_number, take_local, take_number};
 
-/// What is loaded, and whereto.
+/// Whereto, from which object and from which slot is loaded.
 #[inline]
-pub fn read_get<'a>(t: u64, text: &'a [u8]) -> Option<Command<'a>>
-    ensures { IfSome result (λ command. SpellsBehind t (codes "g") text.now command) }
-{
-    let [b'e', b't', rest @ ..] = text else {
-        return None;
-    };
-    let (to, rest) = take_local(rest)?;
-    let (from, rest) = take_local(rest)?;
-    let index = last_number(rest)?;
-    Some(Command::Get { t, to, from, index })
-}
-
-/// Where a reference is stored, and which.
-#[inline]
-pub fn read_set<'a>(t: u64, text: &'a [u8]) -> Option<Command<'a>>
-    ensures { IfSome result (λ command. SpellsBehind t (codes "s") text.now command) }
-{
-    let [b'e', b't', rest @ ..] = text else {
-        return None;
-    };
-    let (into, rest) = take_local(rest)?;
-    let (index, rest) = take_number(rest)?;
-    let from = last_local(rest)?;
-    Some(Command::Set {
-        t,
-        into,
-        index,
-        from,
-    })
-}
-
-/// Where a number is stored, and which.
-#[inline]
-pub fn read_put<'a>(t: u64, text: &'a [u8]) -> Option<Command<'a>>
-    ensures { IfSome result (λ command. SpellsBehind t (codes "p") text.now command) }
-{
-    let [b'u', b't', rest @ ..] = text else {
-        return None;
-    };
-    let (into, rest) = take_local(rest)?;
-    let (index, rest) = take_number(rest)?;
-    let value = last_number(rest)?;
-    Some(Command::Put {
-        t,
-        into,
-        index,
-        value,
-    })
-}
-
-/// Which number is read.
-#[inline]
-pub fn read_slot<'a>(t: u64, text: &'a [u8]) -> Option<Command<'a>>
-    ensures { IfSome result (λ command. SpellsBehind t (codes "r") text.now command) }
-{
-    let [b'e', b'a', b'd', rest @ ..] = text else {
-        return None;
-    };
-    let (from, rest) = take_local(rest)?;
-    let index = last_number(rest)?;
-    Some(Command::Read { t, from, index })
-}
-
-/// Which local is copied, and whereto.
-#[inline]
-pub fn read_copy<'a>(t: u64, text: &'a [u8]) -> Option<Command<'a>>
-    ensures { IfSome result (λ command. SpellsBehind t (codes "copy") text.now command) }
+pub fn read_get(text: &[u8]) -> Option<(u64, u64, u64, &[u8])>
+    ensures { IfSome result (λ p. Continues (codes "get") (λ t. get_slot t p.0 p.1 p.2) text.now p.3.now) }
 {
     let (to, rest) = take_local(text)?;
-    let from = last_local(rest)?;
-    Some(Command::Copy { t, to, from })
+    let (from, rest) = take_local(rest)?;
+    let (index, rest) = end_number(rest)?;
+    Some((to, from, index, rest))
+}
+
+/// Into which object and which slot a reference is stored, and which.
+#[inline]
+pub fn read_set(text: &[u8]) -> Option<(u64, u64, u64, &[u8])>
+    ensures { IfSome result (λ p. Continues (codes "set") (λ t. set_slot t p.0 p.1 p.2) text.now p.3.now) }
+{
+    let (into, rest) = take_local(text)?;
+    let (index, rest) = take_number(rest)?;
+    let (stored, rest) = end_local(rest)?;
+    Some((into, index, stored, rest))
+}
+
+/// Into which object and which slot a number is stored, and which.
+#[inline]
+pub fn read_put(text: &[u8]) -> Option<(u64, u64, u64, &[u8])>
+    ensures { IfSome result (λ p. Continues (codes "put") (λ t. put_number t p.0 p.1 p.2) text.now p.3.now) }
+{
+    let (into, rest) = take_local(text)?;
+    let (index, rest) = take_number(rest)?;
+    let (value, rest) = end_number(rest)?;
+    Some((into, index, value, rest))
+}
+
+/// From which object and which slot a number is read.
+#[inline]
+pub fn read_slot(text: &[u8]) -> Option<(u64, u64, &[u8])>
+    ensures { IfSome result (λ p. Continues (codes "read") (λ t. read_number t p.0 p.1) text.now p.2.now) }
+{
+    let (from, rest) = take_local(text)?;
+    let (index, rest) = end_number(rest)?;
+    Some((from, index, rest))
+}
+
+/// Whereto and from which local is copied.
+#[inline]
+pub fn read_copy(text: &[u8]) -> Option<(u64, u64, &[u8])>
+    ensures { IfSome result (λ p. Continues (codes "copy") (λ t. copy_local t p.0 p.1) text.now p.2.now) }
+{
+    let (to, rest) = take_local(text)?;
+    let (from, rest) = end_local(rest)?;
+    Some((to, from, rest))
 }
 
 /// Which local becomes null.
 #[inline]
-pub fn read_null<'a>(t: u64, text: &'a [u8]) -> Option<Command<'a>>
-    ensures { IfSome result (λ command. SpellsBehind t (codes "null") text.now command) }
+pub fn read_null(text: &[u8]) -> Option<(u64, &[u8])>
+    ensures { IfSome result (λ p. Continues (codes "null") (λ t. clear_local t p.0) text.now p.1.now) }
 {
-    let local = last_local(text)?;
-    Some(Command::Clear { t, local })
+    let (local, rest) = end_local(text)?;
+    Some((local, rest))
 }

@@ -2,7 +2,7 @@
 use Rattle.std.proofs.Common.{arith, sym, ◌∙◌}
 use Rattle.std.proofs.lemmas.Bool.{eqb-true, eqb-false}
 use Rattle.std.proofs.lemmas.Result.{on_ok_weaker, on_err_weaker}
-use Rattle.clr_run.specs.Outcomes.{outcome_of}
+use Rattle.clr_lines.specs.Outcomes.{outcome_of}
 use Rattle.clr_run.proofs.SessionSteps.{ends_line, ends_none, stops_last}
 use Rattle.clr_run.proofs.script.session.Session.answer_end.Goals as goal
 

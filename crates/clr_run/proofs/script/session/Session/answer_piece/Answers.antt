@@ -1,46 +1,48 @@
 -- Each turn answers one line more.
-use Rattle.std.proofs.Common.{[], ◌∷◌, ◌++◌, ◌+◌, ◌-◌, take, drop, refl, ◌∙◌, sym, arith}
-use Rattle.std.proofs.lemmas.List.{take_rest, take-append-drop}
+use Rattle.std.proofs.Common.{arith, refl, ◌∙◌}
 use Rattle.std.proofs.lemmas.Result.{err_from_is_err_and}
-use Rattle.clr_run.proofs.Feeds.{piece_line}
-use Rattle.clr_run.proofs.SessionSteps.{goes_none, goes_on, goes_kept, stops_on}
+use Rattle.clr_run.proofs.FirstLines.{piece_ends, piece_goes_on, piece_rest, piece_stops}
+use Rattle.clr_run.proofs.SessionSteps.{goes_none}
 use Rattle.clr_run.proofs.script.session.Session.answer_piece.Goals as goal
 
-pub loop-at-init : goal.loop-at-init
-loop-at-init g c = record {
+pub loop-count-init : goal.loop-count-init
+loop-count-init g c = record {
   within = omega arith;
   goes = goes_none c.args.self.now _;
   grows = omega arith;
   counted = refl;
 }
 
-pub loop-at-preserved : goal.loop-at-preserved
-loop-at-preserved g c =
-    let l = piece_line c.args.piece.now c.loop-at.from c.in-Some.at c.loop-at.invariant.within c.in-Some.ensures in
+pub loop-count-preserved : goal.loop-count-preserved
+loop-count-preserved g c =
+    let turn = c.loop-count in
+    let (within, some, goes) = piece_goes_on c.args.self.now turn.self c.answer_line.new.self c.args.piece.now turn.from
+    c.in-Some.count c.in_ok-count.field-0 _ (g.K.Sink.written turn.sink) _ turn.invariant.within c.in-Some.is
+    turn.invariant.goes c.in_ok-count.ensures.bytes in
     record {
-      within = l.within;
-      goes = goes_on c.args.self.now c.loop-at.self c.end_line.new.self (take c.loop-at.from c.args.piece.now)
-          (take ((c.loop-at.from + c.in-Some.at) - c.loop-at.from) (drop c.loop-at.from c.args.piece.now) ++ 10 ∷ []) _
-          _ (g.K.Sink.written c.loop-at.sink) _ l.whole
-          c.loop-at.invariant.goes c.in_ok-end_line.ensures.bytes;
-      grows = let grown = c.end_line.ensures.grows in let before = c.loop-at.invariant.grows in
-          omega (arith, grown, before);
-      counted = c.in_ok-end_line.ensures.counted ∙ c.loop-at.invariant.counted;
+      within = within;
+      goes = goes;
+      grows = let grown = c.answer_line.ensures.grows in let before = turn.invariant.grows in
+          omega (arith, grown, before, some);
+      counted = c.in_ok-count.ensures.counted ∙ turn.invariant.counted;
     }
 
-pub returns-in_err-end_line-clause-stops : goal.returns-in_err-end_line-clause-stops
-returns-in_err-end_line-clause-stops g c =
-    let l = piece_line c.args.piece.now c.loop-at.from c.in-Some.at c.loop-at.invariant.within c.in-Some.ensures in
+pub returns-in_err-count-clause-stops : goal.returns-in_err-count-clause-stops
+returns-in_err-count-clause-stops g c =
     let p = err_from_is_err_and c.from_residual.result c.from_residual.ensures.1 in
-    rw p.1 (stops_on c.args.self.now c.loop-at.self (take c.loop-at.from c.args.piece.now)
-    (take ((c.loop-at.from + c.in-Some.at) - c.loop-at.from) (drop c.loop-at.from c.args.piece.now) ++ 10 ∷ [])
-    (drop (c.loop-at.from + (c.in-Some.at + 1)) c.args.piece.now) c.args.piece.now
-    _ (g.K.Sink.written c.loop-at.sink) _ l.split c.loop-at.invariant.goes c.in_err-end_line.ensures.stops)
+    rw p.1 (piece_stops c.args.self.now c.loop-count.self c.args.piece.now c.loop-count.from _
+    (g.K.Sink.written c.loop-count.sink) _ c.loop-count.invariant.goes c.in_err-count.ensures.stops)
+
+pub returns-in_err-count-clause-grows : goal.returns-in_err-count-clause-grows
+returns-in_err-count-clause-grows g c =
+    let grown = c.answer_line.ensures.grows in
+    let before = c.loop-count.invariant.grows in
+    let some = c.in_err-count.ensures.some in
+    let rest = piece_rest c.args.piece.now c.loop-count.from in
+    omega (arith, grown, before, some, rest)
 
 pub returns-clause-bytes : goal.returns-clause-bytes
 returns-clause-bytes g c =
-    let unfed = rw take_rest at c.in_default.ensures in
-    let kept = rw take_rest at c.keep.ensures.items in
-    goes_kept c.args.self.now c.loop-at.self (take c.loop-at.from c.args.piece.now)
-    (drop c.loop-at.from c.args.piece.now) c.args.piece.now c.keep.new.line.items _ _
-    (sym (take-append-drop c.loop-at.from c.args.piece.now)) c.loop-at.invariant.goes unfed kept
+    piece_ends c.args.self.now c.loop-count.self c.answer_line.new.self c.args.piece.now c.keep.new.line.items
+    c.loop-count.from c.in_ok-count.field-0 _ (g.K.Sink.written c.loop-count.sink) _ c.in_default.is
+    c.loop-count.invariant.goes c.in_ok-count.ensures.bytes c.keep.ensures.items

@@ -2,13 +2,13 @@ use Rattle.std.proofs.Common.{◌≡◌, ◌+◌, ◌*◌, ◌^◌, ◌≤◌, �
 use Rattle.clr_run.specs.Sessions.{Goes}
 use Rattle.clr_run.proofs.script.session.Session.answer_piece.Given as goal
 
-abbrev pub invariant-loop-at : goal.invariant-loop-at
-invariant-loop-at g l = record {
+abbrev pub invariant-loop-count : goal.invariant-loop-count
+invariant-loop-count g l = record {
   within : l.from ≤ length l.piece;
   goes : Goes l.initial.self l.self (take l.from l.piece) (g.K.Sink.written l.initial.sink) (g.K.Sink.written l.sink);
   grows : l.self.runtime.layout.top ≤ l.initial.self.runtime.layout.top + 2 ^ 30 * l.from;
   counted : g.K.Sink.faults l.sink ≡ g.K.Sink.faults l.initial.sink;
 }
 
-abbrev pub decreases-loop-at : goal.decreases-loop-at
-decreases-loop-at g l = length l.piece - l.from
+abbrev pub decreases-loop-count : goal.decreases-loop-count
+decreases-loop-count g l = length l.piece - l.from

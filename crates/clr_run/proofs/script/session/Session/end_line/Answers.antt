@@ -1,6 +1,6 @@
 -- The line is answered by one step of the machine.
 use Rattle.std.proofs.lemmas.Result.{on_ok_weaker, on_err_weaker}
-use Rattle.clr_run.specs.Outcomes.{outcome_of}
+use Rattle.clr_lines.specs.Outcomes.{outcome_of}
 use Rattle.clr_run.proofs.SessionSteps.{goes_line, stops_line}
 use Rattle.clr_run.proofs.script.session.Session.end_line.Goals as goal
 

@@ -1,0 +1,6 @@
+pub mod LineSteps
+pub mod FrontSteps
+pub mod TopGrows
+pub mod LookChecks
+pub mod LookLines
+pub mod RuntimeViews

@@ -1,0 +1,70 @@
+-- What a line does, from what its command does.
+use Rattle.std.proofs.Common.{◌≤◌, ◌<◌, ◌-◌, ◌^◌, ℕ, List, length, Option, Some, None, arith}
+use Rattle.std.proofs.Common.{refl, sym, subst}
+use Rattle.std.specs.Prelude.{unwrap_or, IfSome}
+use Rattle.clr_model.specs.declared.command.Command.{Command}
+use Rattle.clr_model.specs.declared.Refusal.TheVariants as refusal
+use Rattle.clr_model.specs.Machine.{Machine}
+use Rattle.clr_model.specs.Instructions.{Instruction, dump_heap, instruction_of, plain}
+use Rattle.clr_model.specs.LineGrammar.{IsLine, IsWellFormed, IsWord}
+use Rattle.clr_model.specs.Outcomes.{Outcome, refused}
+use Rattle.clr_model.specs.Run.{Follows}
+use Rattle.clr_script.specs.Readings.{IsNoLine, IsReadAs}
+use Rattle.clr_lines.specs.Lines.{no_syntax, obeyed, too_long, FollowsLine}
+
+-- a line that is read does what its instruction does
+pub line_follows : (old new : Machine) (bytes : List ℕ) (i : Instruction) (outcome : Outcome) → length bytes ≤ 4096
+    → IsLine bytes i → Follows old i outcome new → FollowsLine old bytes outcome new
+unfolding Follows FollowsLine
+line_follows old new bytes i outcome short line steps m stands =
+    let step = steps m stands in
+    (step.0, obeyed i (record { short = short; line = line }) step.1, step.2)
+
+-- a line that is no line of the grammar is refused
+pub unread_follows : (old : Machine) (bytes : List ℕ) → length bytes ≤ 4096 → IsNoLine bytes
+    → FollowsLine old bytes (refused refusal.Syntax) old
+unfolding FollowsLine
+unread_follows old bytes short none m stands = (m, no_syntax short (λ i r. none i r.line) refl refl, stands)
+
+-- a line that is too long is refused
+pub long_follows : (old : Machine) (bytes : List ℕ) → 4096 < length bytes
+    → FollowsLine old bytes (refused refusal.TooLong) old
+unfolding FollowsLine
+long_follows old bytes long m stands = (m, too_long long refl refl, stands)
+
+-- ---- commands
+
+-- An instruction whose options are written out does what it does without: of the sizes only what they are is told.
+plain_follows : (old new : Machine) (i : Instruction) (outcome : Outcome) → Follows old (plain i) outcome new
+    → Follows old i outcome new
+unfolding Follows
+plain_follows old new (dump_heap options) outcome steps = steps
+plain_follows old new i outcome steps = steps
+
+-- a size that isn't written is a number that can be
+size_is_word : (size : Option ℕ) (other : ℕ) → IsWord other → IfSome size IsWord → IsWord (unwrap_or size other)
+size_is_word None other low given = low
+size_is_word (Some n) other low given = given
+
+plain_formed : (i : Instruction) → IsWellFormed i → IsWellFormed (plain i)
+plain_formed (dump_heap o) formed = record {
+  mt = formed.mt;
+  name = formed.name;
+  one_type = formed.one_type;
+  least = size_is_word o.least 0 (omega arith) formed.least;
+  greatest = size_is_word o.greatest (2 ^ 64 - 1) (omega arith) formed.greatest;
+}
+plain_formed i formed = formed
+
+module _ (bytes : List ℕ) (command : Command) (short : length bytes ≤ 4096) (read : IsReadAs bytes command) where
+  -- the command's numbers and names have their form
+  pub command_formed : IsWellFormed (instruction_of command)
+  command_formed = let (i, line, e) = read in subst IsWellFormed (sym e) (plain_formed i line.formed)
+
+  -- it is obeyed
+  pub command_follows : (old new : Machine) (outcome : Outcome) → Follows old (instruction_of command) outcome new
+      → FollowsLine old bytes outcome new
+  command_follows old new outcome steps =
+      let (i, line, e) = read in
+      line_follows old new bytes i outcome short line
+      (plain_follows old new i outcome (subst (λ (j : Instruction). Follows old j outcome new) e steps))

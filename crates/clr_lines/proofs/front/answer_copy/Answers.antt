@@ -1,0 +1,14 @@
+-- What the line says is one call of the runtime.
+use Rattle.clr_model.specs.Instructions.{copy_local}
+use Rattle.clr_lines.proofs.front.answer_copy.Goals as goal
+
+pub returns-clause-done : goal.returns-clause-done
+returns-clause-done c =
+    let w = c.in_ok-to in
+    record {
+      instruction = copy_local c.args.t w.to w.from;
+      front = w.ensures c.args.t c.ranges.t.fits;
+      outcome = _;
+      follows = c.copy.ensures;
+      told = c.tell_place-written.ensures.text;
+    }

@@ -1,0 +1,14 @@
+-- What the line says is one call of the runtime.
+use Rattle.clr_model.specs.Instructions.{new_object}
+use Rattle.clr_lines.proofs.front.answer_new.Goals as goal
+
+pub returns-clause-done : goal.returns-clause-done
+returns-clause-done c =
+    let w = c.in_ok-local in
+    record {
+      instruction = new_object c.args.t w.local w.name.now w.len;
+      front = w.ensures c.args.t c.ranges.t.fits;
+      outcome = _;
+      follows = c.new_object.ensures;
+      told = c.tell_place-written.ensures.text;
+    }

@@ -1,0 +1,14 @@
+-- What the line says is one call of the runtime.
+use Rattle.clr_model.specs.Instructions.{clear_local}
+use Rattle.clr_lines.proofs.front.answer_null.Goals as goal
+
+pub returns-clause-done : goal.returns-clause-done
+returns-clause-done c =
+    let w = c.in_ok-local in
+    record {
+      instruction = clear_local c.args.t w.local;
+      front = w.ensures c.args.t c.ranges.t.fits;
+      outcome = _;
+      follows = c.clear.ensures;
+      told = c.tell_done-written.ensures.text;
+    }

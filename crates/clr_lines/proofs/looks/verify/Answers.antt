@@ -1,0 +1,12 @@
+-- What a runtime shows is lawful, so there is no fault.
+use Rattle.clr_lines.proofs.LookLines.{clean_follows}
+use Rattle.clr_lines.proofs.looks.verify.Goals as goal
+
+pub verifyheap-requires : goal.verifyheap-requires
+verifyheap-requires c = record {
+  holes =
+      (c.clean_states_are_lawful.ensures c.view_of-view.result c.args.runtime.now c.lawful.ensures c.view_of-view.ensures.clean).0;
+}
+
+pub returns-clause-follows : goal.returns-clause-follows
+returns-clause-follows c = clean_follows c.args.runtime.now

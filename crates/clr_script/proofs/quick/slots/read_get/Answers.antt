@@ -1,0 +1,18 @@
+-- The words that were read are those of the line.
+use Rattle.std.proofs.Common.{[], ◌∷◌, refl, decimal, codes}
+use Rattle.clr_model.specs.Instructions.{get_slot}
+use Rattle.clr_model.specs.LineGrammar.{local_word}
+use Rattle.clr_script.proofs.FrontLines.{front_made, local_unfed, number_unfed, text_unfed}
+use Rattle.clr_script.proofs.quick.slots.read_get.Goals as goal
+
+pub returns : goal.returns
+returns c =
+    let to = c.in_ok-to in
+    let from = c.in_ok-from in
+    let index = c.in_ok-index in
+    front_made (codes "get") (local_word to.to ∷ local_word from.from ∷ decimal index.index ∷ [])
+    (λ t. get_slot t to.to from.from index.index) c.args.text.now _ (λ t. refl) (λ t fits. (fits, to.ensures.1, from.ensures.1, index.ensures.1)) (
+      text_unfed (codes "get") refl,
+      (local_unfed to.to to.ensures.1, (local_unfed from.from from.ensures.1, (number_unfed index.index index.ensures.1, tt))),
+    )
+    (_, to.ensures.0, (_, from.ensures.0, (_, index.ensures.0, refl)))

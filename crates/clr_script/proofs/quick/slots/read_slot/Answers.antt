@@ -1,0 +1,17 @@
+-- The words that were read are those of the line.
+use Rattle.std.proofs.Common.{[], ◌∷◌, refl, decimal, codes}
+use Rattle.clr_model.specs.Instructions.{read_number}
+use Rattle.clr_model.specs.LineGrammar.{local_word}
+use Rattle.clr_script.proofs.FrontLines.{front_made, local_unfed, number_unfed, text_unfed}
+use Rattle.clr_script.proofs.quick.slots.read_slot.Goals as goal
+
+pub returns : goal.returns
+returns c =
+    let from = c.in_ok-from in
+    let index = c.in_ok-index in
+    front_made (codes "read") (local_word from.from ∷ decimal index.index ∷ [])
+    (λ t. read_number t from.from index.index) c.args.text.now _ (λ t. refl) (λ t fits. (fits, from.ensures.1, index.ensures.1)) (
+      text_unfed (codes "read") refl,
+      (local_unfed from.from from.ensures.1, (number_unfed index.index index.ensures.1, tt)),
+    )
+    (_, from.ensures.0, (_, index.ensures.0, refl))

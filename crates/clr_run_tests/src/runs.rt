@@ -6,6 +6,7 @@ mod faults;
 mod lines;
 mod looks;
 mod scripts;
+mod words;
 
 use clr_run::{MemorySink, MemorySource, Sink, Source, Status, Words, run};
 use std::alloc::Global;

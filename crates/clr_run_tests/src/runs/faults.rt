@@ -1,10 +1,8 @@
 //! How a command ends otherwise, and what stands written then.
 ghost use Rattle.std.specs.Prelude.{None, ◌<◌};
 
-use super::{EMPTY_HEAP, Trial, bytes_of, outcome_of, status_of};
-use clr_run::{Failed, MemorySink, MemorySource, SCRIPT_LIMIT, Source, Status};
-use std::alloc::Global;
-use std::process::Abort;
+use super::{EMPTY_HEAP, Trial, outcome_of, status_of};
+use clr_run::{Failed, MemorySink, SCRIPT_LIMIT, Source, Status};
 use std::test::Fail;
 
 /// Two lines. The second one has no line feed.
@@ -12,39 +10,6 @@ const TWO_LINES: &str = "dumpheap\ndumpheap";
 
 /// Their replies.
 const TWO_REPLIES: &str = "total 0 bytes 0 free 0\ntotal 0 bytes 0 free 0\n";
-
-/// Wants these words to say no command, so that nothing is read or written: the same source and sink then serve a run.
-fn expect_usage(rt: &impl Abort, alloc: Global, texts: &[&str]) -> Result<(), Fail> {
-    let mut source = MemorySource::new(bytes_of(alloc, b"dumpheap\n")?, 7, Vec::new(alloc));
-    let mut sink = MemorySink::new(alloc, 100, 7, Vec::new(alloc))?;
-    let status = status_of(alloc, texts, &mut source, &mut sink)?;
-    assert_eq!(rt; status, Status::Usage);
-    assert!(rt; sink.bytes().is_empty());
-    let status = status_of(alloc, &["run"], &mut source, &mut sink)?;
-    assert_eq!(rt; status, Status::Done);
-    assert_eq!(rt; sink.bytes(), EMPTY_HEAP.as_bytes());
-    Ok(())
-}
-
-#[test]
-fn wants_the_word_run_alone(rt: HostRuntime) -> Result<(), Fail> {
-    let wrong: [&[&str]; 10] = [
-        &[],
-        &[""],
-        &["walk"],
-        &["Run"],
-        &["run "],
-        &["ru"],
-        &["run", ""],
-        &["run", "run"],
-        &["run", "7"],
-        &["7", "run"],
-    ];
-    for texts in wrong {
-        expect_usage(&rt, rt.alloc(), texts)?;
-    }
-    Ok(())
-}
 
 #[test]
 fn answers_the_lines_before_a_failed_read(rt: HostRuntime) -> Result<(), Fail> {

@@ -85,7 +85,7 @@ impl Bricks {
     }
 
     /// Lets a brick name an offset, in bytes from its first address. All other entries stay.
-    #[inline]
+    #[inline(never)]
     pub fn set_root(&mut self, brick: u64, offset: u16)
         requires covered { is_covered self.old brick ≡ true }
         requires inside { offset < 4096 }
@@ -123,7 +123,7 @@ impl Bricks {
     }
 
     /// The entry of a brick.
-    #[inline]
+    #[inline(always)]
     pub fn entry(&self, brick: u64) -> i16
         requires { is_covered self.now brick ≡ true }
         ensures { result ≡ entry_at self.now brick }
@@ -132,7 +132,7 @@ impl Bricks {
     }
 
     /// The same with a guess.
-    #[inline]
+    #[inline(always)]
     pub fn entry_near(&self, near: usize, brick: u64) -> i16
         requires { is_covered self.now brick ≡ true }
         ensures { result ≡ entry_at self.now brick }

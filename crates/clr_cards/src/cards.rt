@@ -82,7 +82,7 @@ impl Cards {
     }
 
     /// Sets the card of the address `a`. All other cards stay.
-    #[inline]
+    #[inline(always)]
     pub fn set(&mut self, a: u64)
         requires { is_covered self.old (a / 2048) ≡ true }
         ensures value { self.new ≡ with_value self.old (a / 2048) 1 }

@@ -115,7 +115,7 @@ impl<T: Copy + Drop> Covers<T> {
     }
 
     /// The value of unit `i`.
-    #[inline]
+    #[inline(always)]
     pub fn get(&self, near: usize, i: u64) -> T
         requires { is_covered self.now i ≡ true }
         ensures { (d : _) → result ≡ value_at d self.now i }
@@ -138,7 +138,7 @@ impl<T: Copy + Drop> Covers<T> {
     }
 
     /// The number of the cover that has unit `i`.
-    #[inline]
+    #[inline(always)]
     pub fn locate(&self, near: usize, i: u64) -> usize
         requires { is_covered self.now i ≡ true }
         ensures { IsAt self.now result i }
@@ -151,7 +151,7 @@ impl<T: Copy + Drop> Covers<T> {
     }
 
     /// The value of unit `i`, which cover `k` has.
-    #[inline]
+    #[inline(always)]
     pub fn value(&self, k: usize, i: u64) -> T
         requires { IsAt self.now k i }
         ensures { (d : _) → result ≡ value_at d self.now i }
@@ -196,7 +196,7 @@ fn values_of<T: Copy + Drop>(alloc: Global, v: T, count: usize) -> Result<Vec<T>
 }
 
 // Whether cover `k` is there, and has unit `i`.
-#[inline]
+#[inline(always)]
 fn is_in<T: Copy + Drop>(covers: &Vec<Cover<T>>, k: usize, i: u64) -> bool
     ensures { result ≡ true → IsAt covers.now.items k i }
 {
@@ -251,7 +251,7 @@ fn place_for<T: Copy + Drop>(covers: &Vec<Cover<T>>, first: u64) -> usize
 }
 
 // The value of unit `i`, which cover `k` has.
-#[inline]
+#[inline(always)]
 fn value_in<T: Copy + Drop>(covers: &Vec<Cover<T>>, k: usize, i: u64) -> T
     requires at { IsAt covers.now.items k i }
     requires apart { AreApart covers.now.items }
@@ -320,7 +320,7 @@ impl<T: Copy + Drop> Cover<T> {
     }
 
     // The value of unit `i`.
-    #[inline]
+    #[inline(always)]
     fn get(&self, i: u64) -> T
         requires { has_unit self.now i ≡ true }
         ensures { (d : _) → result ≡ get_or self.now.values (i - self.now.first) d }

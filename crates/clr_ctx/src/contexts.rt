@@ -85,6 +85,7 @@ impl Contexts {
     }
 
     /// Whether an object of this size fits at the front of a thread's context.
+    #[inline(always)]
     pub fn fits(&self, heap: &Heap, t: usize, size: u64) -> bool
         requires positive { 0 < t }
         requires few { t ≤ 16 }

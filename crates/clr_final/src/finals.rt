@@ -44,6 +44,7 @@ impl Finals {
 
     /// Makes room for `n` more entries. `NoMemory` comes where there was none for them; some room may have been made
     /// then. Both lists stay in any case, and there never is less room.
+    #[inline(never)]
     pub fn reserve(&mut self, n: usize) -> Result<(), NoMemory>
         ensures ok { OnOk result (n ≤ self.new.spare) }
         ensures entries { self.new.entries ≡ self.old.entries }
@@ -64,6 +65,7 @@ impl Finals {
     }
 
     /// Adds an entry for the object at this place, for which there is room.
+    #[inline(never)]
     pub fn register(&mut self, obj: u64)
         requires { 1 ≤ self.old.spare }
         ensures entries { self.new.entries ≡ self.old.entries ++ obj ∷ [] }

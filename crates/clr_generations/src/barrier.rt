@@ -22,6 +22,7 @@ use clr_view::set_slot_value;
 ///
 /// `slot` is what the table of types says of the slot. All other slots, objects and cards stay, and so do the free
 /// items and the layout. It marks nothing, changes no head of a free item, and leaves headers and padding clean.
+#[inline(always)]
 pub fn set_reference(
     heap: &mut Heap,
     types: &Types,

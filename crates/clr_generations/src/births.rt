@@ -25,6 +25,7 @@ use clr_types::{TypeId, Types};
 /// Its references are null and its numbers 0. Of the context the bytes behind the object are left. All other objects,
 /// the free items and the rest of the layout stay. It marks nothing, changes no head of a free item, and leaves headers
 /// and padding clean. Cards need no change: where all that is named is an object, none names the new one.
+#[inline(always)]
 pub fn bear(
     heap: &mut Heap,
     types: &Types,
@@ -64,6 +65,7 @@ pub fn bear(
 }
 
 // Lets the brick of a new object's place name it, where it may and names no place up to it.
+#[inline(always)]
 fn enter_newborn(heap: &Heap, bricks: &mut Bricks, place: u64)
     requires { is_covered bricks.old (place / 4096) ≡ true }
     ensures entries { (i : ℕ) → entry_at bricks.new i ≡ with_place (frame heap.now) (entry_at bricks.old) place i }
@@ -76,7 +78,7 @@ fn enter_newborn(heap: &Heap, bricks: &mut Bricks, place: u64)
 }
 
 // Lets the brick of a new object's place name it, where it names no place up to it.
-#[inline]
+#[inline(always)]
 pub(crate) fn name_newborn(bricks: &mut Bricks, place: u64)
     requires { is_covered bricks.old (place / 4096) ≡ true }
     ensures entries { (i : ℕ) → entry_at bricks.new i ≡ with_named (entry_at bricks.old) place i }

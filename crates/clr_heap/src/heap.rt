@@ -35,6 +35,8 @@ pub struct Heap {
     limit: u64,
     ephemeral_first: u64,
     ephemeral_end: u64,
+    // A guess of the number of the ephemeral segment, where most words are.
+    near: usize,
 }
 
 impl Model for Heap {
@@ -91,6 +93,7 @@ impl Heap {
             limit,
             ephemeral_first: first,
             ephemeral_end: FIRST_BASE + segment,
+            near: 0,
         })
     }
 

@@ -10,6 +10,7 @@ use clr_types::{FREE_MT, TypeId, Types};
 
 impl Heap {
     /// The item that starts at `a`, an object or a free item, whether it is marked or not.
+    #[inline(always)]
     #[tactic(auto, unfolding(crate::specs::Parts::item_at))]
     pub fn item(&self, types: &Types, a: u64) -> Item
         requires { HasItem types.now self.now a }
@@ -49,6 +50,7 @@ impl Heap {
 
     /// Writes the head of an object of type `t` at `a`: a header of 0, the method table word, and the length where the
     /// type has one. All other words stay.
+    #[inline(always)]
     #[tactic(auto, using(crate::proofs::Rules::writes), unfolding(crate::specs::View::placed))]
     pub fn make_object(&mut self, types: &Types, a: u64, t: TypeId, len: u64)
         requires known { t.0 ≤ length types.now }
@@ -79,6 +81,7 @@ impl Heap {
 }
 
 // The length of the item at `a`, 0 where its type has none.
+#[inline(always)]
 #[tactic(auto, unfolding(crate::specs::Parts::length_at))]
 fn length_of(heap: &Heap, types: &Types, a: u64, type_id: TypeId) -> u64
     requires room { a + 8 < 2 ^ 64 }

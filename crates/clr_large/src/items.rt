@@ -99,6 +99,7 @@ impl LargeItems {
     /// padding clean. Cards need no change: where all that is named is an object, none names the new one.
     ///
     /// `None`, and nothing changes, exactly where it fits in no free item of a large segment and behind the end of none.
+    #[inline(never)]
     pub fn bear(
         &mut self,
         heap: &mut Heap,

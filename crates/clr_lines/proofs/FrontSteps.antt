@@ -1,5 +1,6 @@
 -- What the line in front of a text does, from what its instruction does.
-use Rattle.std.proofs.Common.{◌≡◌, ◌≤◌, ◌-◌, ◌+◌, ◌∙◌, ℕ, List, ◌∷◌, ◌++◌, ap, arith, append_assoc, drop, length, sym, take}
+use Rattle.std.proofs.Common.{◌≡◌, ◌≤◌, ◌-◌, ◌+◌, ◌∙◌, ℕ, List, ◌∷◌, ◌++◌, ap, arith, append_assoc, drop, length}
+use Rattle.std.proofs.Common.{sym, take}
 use Rattle.std.proofs.Common.{length-append, length-take, min, refl, inl, inr}
 use Rattle.std.proofs.lemmas.List.{take-append-drop, take_all}
 use Rattle.std.proofs.lemmas.Bool.{cases_lt}

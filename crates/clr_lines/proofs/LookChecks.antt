@@ -13,7 +13,6 @@ use Rattle.clr_types.proofs.SortedLists.{into_sorted_by, out_of_sorted_by}
 use Rattle.clr_model.specs.declared.Life.{Life}
 use Rattle.clr_model.specs.declared.Life.TheVariants as life
 use Rattle.clr_model.specs.declared.Refusal.TheVariants as refusal
-use Rattle.clr_model.specs.declared.Reply.TheVariants as reply
 use Rattle.clr_model.specs.Machine.{Object, Machine}
 use Rattle.clr_model.specs.Lookups.{object_at, place_of}
 use Rattle.clr_model.specs.Picture.{picture, renamed_object}

@@ -29,7 +29,7 @@ fn tell_refusal(refusal: Refusal, into: &mut [u8; 256]) -> usize
 }
 
 // Writes what a call tells that gives nothing.
-#[inline]
+#[inline(always)]
 fn tell_done(told: Result<(), Refusal>, into: &mut [u8; 256]) -> usize
     ensures fits { result ≤ 256 }
     ensures text { take result into.new ≡ outcome_text (done_outcome told) }
@@ -41,7 +41,7 @@ fn tell_done(told: Result<(), Refusal>, into: &mut [u8; 256]) -> usize
 }
 
 // Writes what a call tells that gives a place.
-#[inline]
+#[inline(always)]
 fn tell_place(told: Result<u64, Refusal>, into: &mut [u8; 256]) -> usize
     ensures fits { result ≤ 256 }
     ensures text { take result into.new ≡ outcome_text (place_outcome told) }
@@ -53,7 +53,7 @@ fn tell_place(told: Result<u64, Refusal>, into: &mut [u8; 256]) -> usize
 }
 
 // Writes what a call tells that gives a number.
-#[inline]
+#[inline(always)]
 fn tell_number(told: Result<u64, Refusal>, into: &mut [u8; 256]) -> usize
     ensures fits { result ≤ 256 }
     ensures text { take result into.new ≡ outcome_text (number_outcome told) }
@@ -66,7 +66,7 @@ fn tell_number(told: Result<u64, Refusal>, into: &mut [u8; 256]) -> usize
 
 // The line `get` of thread `t`. The text is what stands behind its verb. Gives the length of the reply, and what is
 // behind the line. So do the others.
-#[inline]
+#[inline(never)]
 fn answer_get<'a>(
     runtime: &mut Runtime,
     t: u64,
@@ -74,8 +74,8 @@ fn answer_get<'a>(
     into: &mut [u8; 256],
 ) -> Option<(usize, &'a [u8])>
     ensures fits { IfSome result (λ p. p.0 ≤ 256) }
-    ensures done { MatchOption result (runtime.new ≡ runtime.old)
-        (λ p. IsDone runtime.old (thread_word t ++ ((32 ∷ codes "get") ++ text.now)) p.1.now (take p.0 into.new) runtime.new) }
+    ensures done { MatchOption result (runtime.new ≡ runtime.old) (λ p. IsDone runtime.old
+        (thread_word t ++ ((32 ∷ codes "get") ++ text.now)) p.1.now (take p.0 into.new) runtime.new) }
 {
     let (to, from, index, rest) = read_get(text)?;
     let written = tell_place(runtime.get(t, to, from, index), into);
@@ -83,7 +83,7 @@ fn answer_get<'a>(
 }
 
 // The line `set`.
-#[inline]
+#[inline(never)]
 fn answer_set<'a>(
     runtime: &mut Runtime,
     t: u64,
@@ -91,8 +91,8 @@ fn answer_set<'a>(
     into: &mut [u8; 256],
 ) -> Option<(usize, &'a [u8])>
     ensures fits { IfSome result (λ p. p.0 ≤ 256) }
-    ensures done { MatchOption result (runtime.new ≡ runtime.old)
-        (λ p. IsDone runtime.old (thread_word t ++ ((32 ∷ codes "set") ++ text.now)) p.1.now (take p.0 into.new) runtime.new) }
+    ensures done { MatchOption result (runtime.new ≡ runtime.old) (λ p. IsDone runtime.old
+        (thread_word t ++ ((32 ∷ codes "set") ++ text.now)) p.1.now (take p.0 into.new) runtime.new) }
 {
     let (object, index, from, rest) = read_set(text)?;
     let written = tell_done(runtime.set(t, object, index, from), into);
@@ -100,7 +100,7 @@ fn answer_set<'a>(
 }
 
 // The line `put`.
-#[inline]
+#[inline(never)]
 fn answer_put<'a>(
     runtime: &mut Runtime,
     t: u64,
@@ -108,8 +108,8 @@ fn answer_put<'a>(
     into: &mut [u8; 256],
 ) -> Option<(usize, &'a [u8])>
     ensures fits { IfSome result (λ p. p.0 ≤ 256) }
-    ensures done { MatchOption result (runtime.new ≡ runtime.old)
-        (λ p. IsDone runtime.old (thread_word t ++ ((32 ∷ codes "put") ++ text.now)) p.1.now (take p.0 into.new) runtime.new) }
+    ensures done { MatchOption result (runtime.new ≡ runtime.old) (λ p. IsDone runtime.old
+        (thread_word t ++ ((32 ∷ codes "put") ++ text.now)) p.1.now (take p.0 into.new) runtime.new) }
 {
     let (object, index, value, rest) = read_put(text)?;
     let written = tell_done(runtime.put(t, object, index, value), into);
@@ -117,7 +117,7 @@ fn answer_put<'a>(
 }
 
 // The line `read`.
-#[inline]
+#[inline(never)]
 fn answer_read<'a>(
     runtime: &mut Runtime,
     t: u64,
@@ -125,8 +125,8 @@ fn answer_read<'a>(
     into: &mut [u8; 256],
 ) -> Option<(usize, &'a [u8])>
     ensures fits { IfSome result (λ p. p.0 ≤ 256) }
-    ensures done { MatchOption result (runtime.new ≡ runtime.old)
-        (λ p. IsDone runtime.old (thread_word t ++ ((32 ∷ codes "read") ++ text.now)) p.1.now (take p.0 into.new) runtime.new) }
+    ensures done { MatchOption result (runtime.new ≡ runtime.old) (λ p. IsDone runtime.old
+        (thread_word t ++ ((32 ∷ codes "read") ++ text.now)) p.1.now (take p.0 into.new) runtime.new) }
 {
     let (from, index, rest) = read_slot(text)?;
     let written = tell_number(runtime.read(t, from, index), into);
@@ -134,7 +134,7 @@ fn answer_read<'a>(
 }
 
 // The line `copy`.
-#[inline]
+#[inline(never)]
 fn answer_copy<'a>(
     runtime: &mut Runtime,
     t: u64,
@@ -142,8 +142,8 @@ fn answer_copy<'a>(
     into: &mut [u8; 256],
 ) -> Option<(usize, &'a [u8])>
     ensures fits { IfSome result (λ p. p.0 ≤ 256) }
-    ensures done { MatchOption result (runtime.new ≡ runtime.old)
-        (λ p. IsDone runtime.old (thread_word t ++ ((32 ∷ codes "copy") ++ text.now)) p.1.now (take p.0 into.new) runtime.new) }
+    ensures done { MatchOption result (runtime.new ≡ runtime.old) (λ p. IsDone runtime.old
+        (thread_word t ++ ((32 ∷ codes "copy") ++ text.now)) p.1.now (take p.0 into.new) runtime.new) }
 {
     let (to, from, rest) = read_copy(text)?;
     let written = tell_place(runtime.copy(t, to, from), into);
@@ -151,7 +151,7 @@ fn answer_copy<'a>(
 }
 
 // The line `null`.
-#[inline]
+#[inline(never)]
 fn answer_null<'a>(
     runtime: &mut Runtime,
     t: u64,
@@ -159,8 +159,8 @@ fn answer_null<'a>(
     into: &mut [u8; 256],
 ) -> Option<(usize, &'a [u8])>
     ensures fits { IfSome result (λ p. p.0 ≤ 256) }
-    ensures done { MatchOption result (runtime.new ≡ runtime.old)
-        (λ p. IsDone runtime.old (thread_word t ++ ((32 ∷ codes "null") ++ text.now)) p.1.now (take p.0 into.new) runtime.new) }
+    ensures done { MatchOption result (runtime.new ≡ runtime.old) (λ p. IsDone runtime.old
+        (thread_word t ++ ((32 ∷ codes "null") ++ text.now)) p.1.now (take p.0 into.new) runtime.new) }
 {
     let (local, rest) = read_null(text)?;
     let written = tell_done(runtime.clear(t, local), into);
@@ -168,7 +168,7 @@ fn answer_null<'a>(
 }
 
 // The line `new`.
-#[inline]
+#[inline(never)]
 fn answer_new<'a>(
     runtime: &mut Runtime,
     t: u64,
@@ -176,8 +176,8 @@ fn answer_new<'a>(
     into: &mut [u8; 256],
 ) -> Option<(usize, &'a [u8])>
     ensures fits { IfSome result (λ p. p.0 ≤ 256) }
-    ensures done { MatchOption result (runtime.new ≡ runtime.old)
-        (λ p. IsDone runtime.old (thread_word t ++ ((32 ∷ codes "new") ++ text.now)) p.1.now (take p.0 into.new) runtime.new) }
+    ensures done { MatchOption result (runtime.new ≡ runtime.old) (λ p. IsDone runtime.old
+        (thread_word t ++ ((32 ∷ codes "new") ++ text.now)) p.1.now (take p.0 into.new) runtime.new) }
 {
     let (local, name, len, rest) = read_new(text)?;
     let written = tell_place(runtime.new_object(t, local, name, len), into);
@@ -193,8 +193,8 @@ fn answer_verb<'a>(
     into: &mut [u8; 256],
 ) -> Option<(usize, &'a [u8])>
     ensures fits { IfSome result (λ p. p.0 ≤ 256) }
-    ensures done { MatchOption result (runtime.new ≡ runtime.old)
-        (λ p. IsDone runtime.old (thread_word t ++ 32 ∷ text.now) p.1.now (take p.0 into.new) runtime.new) }
+    ensures done { MatchOption result (runtime.new ≡ runtime.old) (λ p. IsDone runtime.old
+        (thread_word t ++ 32 ∷ text.now) p.1.now (take p.0 into.new) runtime.new) }
 {
     match text {
         [b'g', b'e', b't', words @ ..] => answer_get(runtime, t, words, into),
@@ -217,8 +217,8 @@ fn line_window(text: &[u8]) -> &[u8]
 }
 
 /// Does what the line in front of a text says where it is one of those that scripts are mostly made of, and writes its
-/// reply to the front of `into`. `None` where it is another or none ends in the text, and then nothing changes. No clause
-/// promises `Some`, since a `None` only costs the time of `execute`.
+/// reply to the front of `into`. `None` where it is another or none ends in the text, and then nothing changes. No
+/// clause promises `Some`, since a `None` only costs the time of `execute`.
 #[inline]
 pub fn answer_front(runtime: &mut Runtime, text: &[u8], into: &mut [u8; 256]) -> Option<Answered>
     ensures fits { IfSome result (λ a. a.written ≤ 256) }

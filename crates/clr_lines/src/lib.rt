@@ -1,5 +1,5 @@
-//! What a line of a script does: it is read, its command is one call of the runtime or one command over what that shows,
-//! and its outcome is told.
+//! What a line of a script does: it is read, its command is one call of the runtime or one command over what that
+//! shows, and its outcome is told.
 #![tactic(auto)]
 
 pub mod execute;

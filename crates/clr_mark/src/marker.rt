@@ -128,8 +128,21 @@ impl Marker {
             ↔ (((x ≡ obj) × (is_condemned_place heap.old self.old.oldest obj ≡ true)) ⊎ Marked types.now heap.old x) }
     {
         let _ = types.count();
-        let k = heap.segment_of(obj);
-        self.mark(heap, k, obj);
+        self.mark_condemned(heap, obj);
+    }
+
+    // Marks the object at `obj`, where it is condemned, and lets it wait where it wasn't marked. Only where it is
+    // condemned its segment is looked for.
+    #[inline]
+    fn mark_condemned(&mut self, heap: &mut Heap, obj: u64)
+        requires { HasWord heap.old.memories obj }
+        ensures heap { heap.new ≡ with_mark heap.old self.old.oldest obj }
+        ensures marker { self.new ≡ with_waiting heap.old self.old obj }
+    {
+        if self.is_condemned(heap, obj) {
+            let k = heap.segment_of(obj);
+            self.mark(heap, k, obj);
+        }
     }
 
     /// Marks what the marked objects reach over condemned ones by slots. Nothing waits then.
@@ -199,6 +212,7 @@ impl Marker {
     }
 
     // The same, where it has none.
+    #[inline(never)]
     fn mark_without_room(&mut self, heap: &mut Heap, k: usize, obj: u64)
         requires word { HasWord heap.old.memories obj }
         requires segment { k ≡ memory_index heap.old.memories obj }

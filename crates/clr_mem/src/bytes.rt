@@ -15,6 +15,7 @@ use std::mem::replace;
 const STEP: usize = 1 << 16;
 
 // Sees to it that the byte at `at` is stored. The room of all `size` bytes is reserved.
+#[inline(always)]
 pub fn reach(bytes: &mut Vec<u8>, size: usize, at: usize)
     requires reserved { IsReserved size (length bytes.old.items) (vec_capacity bytes.old) }
     requires inside { at < size }
@@ -46,6 +47,7 @@ fn store_zeros(mut bytes: Vec<u8>, len: usize) -> Vec<u8>
 }
 
 // The number that the eight bytes from `at` on spell.
+#[inline(always)]
 pub fn load_word(bytes: &Vec<u8>, at: usize) -> u64
     requires whole { length bytes.now.items % 8 ≡ 0 }
     requires aligned { at % 8 ≡ 0 }
@@ -59,6 +61,7 @@ pub fn load_word(bytes: &Vec<u8>, at: usize) -> u64
 }
 
 // Writes a number over the eight bytes from `at` on.
+#[inline(always)]
 pub fn store_word(bytes: &mut Vec<u8>, at: usize, v: u64)
     requires { at + 8 ≤ length bytes.old.items }
     ensures items { bytes.new.items ≡ take at bytes.old.items
@@ -70,6 +73,7 @@ pub fn store_word(bytes: &mut Vec<u8>, at: usize, v: u64)
 }
 
 // The byte at `at`.
+#[inline(always)]
 pub fn load_byte(bytes: &Vec<u8>, at: usize) -> u8
     ensures value { result ≡ slice_index bytes.now.items at }
     ensures fits { (j : ℕ) → slice_index bytes.now.items j < 256 }
@@ -78,6 +82,7 @@ pub fn load_byte(bytes: &Vec<u8>, at: usize) -> u8
 }
 
 // Writes the byte at `at`.
+#[inline(always)]
 pub fn store_byte(bytes: &mut Vec<u8>, at: usize, v: u8)
     requires { at < length bytes.old.items }
     ensures items { bytes.new.items ≡ set bytes.old.items at v }

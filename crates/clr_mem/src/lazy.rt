@@ -52,6 +52,7 @@ impl LazyBytes {
         Ok(LazyBytes { stored, size })
     }
 
+    #[inline(always)]
     pub fn len(&self) -> usize
         ensures { result ≡ length self.now }
     {
@@ -59,6 +60,7 @@ impl LazyBytes {
     }
 
     // The number that the eight bytes from `at` on spell.
+    #[inline(always)]
     pub fn word(&self, at: usize) -> u64
         requires { at % 8 ≡ 0 }
         ensures { result ≡ spelled (drop at self.now) }
@@ -67,6 +69,7 @@ impl LazyBytes {
     }
 
     // Writes a number over the eight bytes from `at` on.
+    #[inline(always)]
     pub fn set_word(&mut self, at: usize, v: u64)
         requires inside { at + 8 ≤ length self.old }
         requires aligned { at % 8 ≡ 0 }
@@ -78,6 +81,7 @@ impl LazyBytes {
     }
 
     // The byte at `at`.
+    #[inline(always)]
     pub fn byte(&self, at: usize) -> u8
         ensures value { result ≡ slice_index self.now at }
         ensures fits { (j : ℕ) → slice_index self.now j < 256 }
@@ -86,6 +90,7 @@ impl LazyBytes {
     }
 
     // Writes the byte at `at`.
+    #[inline(always)]
     pub fn set_byte(&mut self, at: usize, v: u8)
         requires { at < length self.old }
         ensures items { self.new ≡ set self.old at v }

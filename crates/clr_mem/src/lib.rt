@@ -64,6 +64,7 @@ impl Mem {
     }
 
     /// The first address.
+    #[inline(always)]
     pub fn base(&self) -> u64
         ensures value { result ≡ self.now.base }
         ensures aligned { self.now.base % 8 ≡ 0 }
@@ -73,6 +74,7 @@ impl Mem {
     }
 
     /// How many bytes it holds.
+    #[inline(always)]
     pub fn len(&self) -> u64
         ensures value { result ≡ 8 * length self.now.words }
         ensures aligned { self.now.base % 8 ≡ 0 }
@@ -89,6 +91,7 @@ impl Mem {
     }
 
     /// The word whose eight bytes begin at `a`, a multiple of 8.
+    #[inline(always)]
     pub fn word(&self, a: u64) -> u64
         requires { Holds self.now a 8 }
         ensures value { result ≡ word_at self.now a }
@@ -98,6 +101,7 @@ impl Mem {
     }
 
     /// Writes the word at `a`, a multiple of 8; every other word stays.
+    #[inline(always)]
     pub fn set_word(&mut self, a: u64, v: u64)
         requires { Holds self.old a 8 }
         ensures value { self.new ≡ with_word self.old a v }
@@ -108,6 +112,7 @@ impl Mem {
     }
 
     /// The byte at `a`: of its word, the lowest eight bits where `a` is a multiple of 8.
+    #[inline(always)]
     pub fn byte(&self, a: u64) -> u8
         requires { HoldsBytes self.now a 1 }
         ensures value { result ≡ byte_at self.now a }
@@ -117,6 +122,7 @@ impl Mem {
     }
 
     /// Writes the byte at `a`; every other byte stays.
+    #[inline(always)]
     pub fn set_byte(&mut self, a: u64, v: u8)
         requires { HoldsBytes self.old a 1 }
         ensures value { self.new ≡ with_byte_at self.old a v }

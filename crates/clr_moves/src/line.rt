@@ -117,6 +117,7 @@ impl PlugLine {
     }
 
     // Reads the next plug of the part, and answers where the unused bytes before it begin. `None` where none is left.
+    #[inline(always)]
     fn read(&mut self, heap: &Heap, bricks: &Bricks) -> Option<u64>
         requires { (part : PlannedPart) × (ps : List PlannedPlug)
             × CanRead heap.now bricks.now self.old.cursor part ps }
@@ -126,9 +127,9 @@ impl PlugLine {
         ensures segment { self.new.segment ≡ self.old.segment }
     {
         heap.lawful();
-        match self.cursor.next(heap, bricks) {
+        match self.cursor.next(heap, self.segment, bricks) {
             Some(start) => {
-                let told = info(heap, start);
+                let told = info(heap, self.segment, start);
                 self.start = start;
                 self.to = start - told.distance.unsigned_abs();
                 Some(start.saturating_sub(told.gap))

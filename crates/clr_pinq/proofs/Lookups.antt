@@ -126,6 +126,22 @@ saved_below low e b c some =
     elim (cases_lt (b + 8) e.end)
     [ inl less ↦ less | inr more ↦ absurd (no_some (entry_word e b) (entry_low low e b c more) some) ]
 
+-- an entry that saves a word for the address is the one that does
+pub queue_hit : (low : ℕ) (es : List PinEntry) (i a : ℕ) (d : PinEntry) → AreRising low es → i < length es
+    → IsSome (entry_word (get_or es i d) a) → queue_word es a ≡ entry_word (get_or es i d) a
+queue_hit low [] i a d r less some = absurd (omega (arith, less))
+queue_hit low (e ∷ es) zero a d r less some =
+    rw (queue_high e.end es a r.1 (saved_below low e a r.0 some)) (first_none (entry_word e a))
+queue_hit low (e ∷ es) (suc i) a d r less some =
+    let rest = queue_hit e.end es i a d r.1 (omega (arith, less)) some in
+    let P : Option ℕ → Type 0 = λ o. IsSome o in
+    let there : IsSome (queue_word es a) = subst P (sym rest) some in
+    let up : e.end ≤ a + 8 = elim (cases_lt (a + 8) e.end) [
+      | inl high ↦ absurd (no_some (queue_word es a) (queue_high e.end es a r.1 high) there)
+      | inr more ↦ more
+    ] in
+    rw (entry_low low e a r.0 up) rest
+
 -- ---- a search by halves
 
 -- all entries up to one that ends below the address end below it

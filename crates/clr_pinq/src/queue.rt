@@ -104,7 +104,7 @@ impl PinQueue {
     }
 
     /// The logical word at the address `a`: the saved one, and the heap's own where none is saved.
-    #[inline]
+    #[inline(always)]
     pub fn logical_word(&self, heap: &Heap, near: usize, a: u64) -> u64
         requires { HasWord heap.now.memories a }
         ensures { result ≡ logical self.now.entries (word_of heap.now) a }
@@ -119,7 +119,7 @@ impl PinQueue {
     }
 
     /// The logical word at the address `a` of segment `k`, faster than `logical_word`.
-    #[inline]
+    #[inline(always)]
     pub fn logical_word_at(&self, heap: &Heap, k: usize, near: usize, a: u64) -> u64
         requires word { HasWord heap.now.memories a }
         requires segment { k ≡ memory_index heap.now.memories a }
@@ -324,8 +324,24 @@ fn is_below(entry: PinEntry, a: u64) -> bool
     entry.end <= a || entry.end - a <= 8
 }
 
-// The word that is saved for `a`.
+// The word that is saved for `a`. Most often the guessed entry saves it.
+#[inline(always)]
 fn saved_in(entries: &Vec<PinEntry>, near: usize, a: u64) -> Option<u64>
+    requires { AreRising 0 entries.now.items }
+    ensures { result ≡ queue_word entries.now.items a }
+{
+    if near < entries.len() {
+        let word = entries[near].word(a);
+        if word.is_some() {
+            return word;
+        }
+    }
+    searched_in(entries, near, a)
+}
+
+// The same by a search.
+#[inline(never)]
+fn searched_in(entries: &Vec<PinEntry>, near: usize, a: u64) -> Option<u64>
     requires { AreRising 0 entries.now.items }
     ensures { result ≡ queue_word entries.now.items a }
 {

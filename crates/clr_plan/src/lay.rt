@@ -74,6 +74,7 @@ pub fn lay_plug(
         bricks,
         queue,
         &mut laying.writer,
+        home,
         plug,
         way.to,
         first,

@@ -21,12 +21,13 @@ use clr_plugs::PlanWriter;
 
 /// Writes the information of the next plug: it goes to `to`, and what is live below it ends at `below`, which is the
 /// start of its part where nothing is. What this overwrites of a live neighbour is saved first. `first` is the first
-/// place of the segment, before which no cell stands.
+/// place of the segment, before which no cell stands. `near` guesses its number.
 pub fn write_plug(
     heap: &mut Heap,
     bricks: &mut Bricks,
     queue: &mut PinQueue,
     writer: &mut PlanWriter,
+    near: usize,
     plug: Plug,
     to: u64,
     first: u64,
@@ -53,13 +54,20 @@ pub fn write_plug(
 {
     let _ = heap.segments();
     let start = plug.start();
-    save_words(heap, queue, plug, first, below);
-    writer.add(heap, bricks, start, start - below, distance(start, to));
+    save_words(heap, queue, near, plug, first, below);
+    writer.add(
+        heap,
+        bricks,
+        near,
+        start,
+        start - below,
+        distance(start, to),
+    );
 }
 
 // Saves what the information of a plug overwrites of a live neighbour, and what that of a neighbour would overwrite of
 // a pinned plug.
-fn save_words(heap: &Heap, queue: &mut PinQueue, plug: Plug, first: u64, below: u64)
+fn save_words(heap: &Heap, queue: &mut PinQueue, near: usize, plug: Plug, first: u64, below: u64)
     requires info { HasInfo heap.now plug.start }
     requires ending { HasInfo heap.now (plug_end plug) }
     requires least { 24 ≤ plug.size }
@@ -75,13 +83,13 @@ fn save_words(heap: &Heap, queue: &mut PinQueue, plug: Plug, first: u64, below: 
 {
     let start = plug.start();
     let pre = if start == below && start != first && start != end_of_queue(queue) {
-        Some(saved_at(heap, start))
+        Some(saved_at(heap, near, start))
     } else {
         None
     };
     if plug.pinned() {
         let end = plug.end();
-        let post = Some(saved_at(heap, end));
+        let post = Some(saved_at(heap, near, end));
         queue.push(PinEntry {
             start,
             end,
@@ -109,14 +117,15 @@ fn end_of_queue(queue: &PinQueue) -> u64
     queue.get(count - 1).end
 }
 
-// The three words that the information of a plug at `plug` overwrites.
-fn saved_at(heap: &Heap, plug: u64) -> Saved
+// The three words that the information of a plug at `plug` overwrites. `near` guesses their segment.
+#[inline(always)]
+fn saved_at(heap: &Heap, near: usize, plug: u64) -> Saved
     requires { HasInfo heap.now plug }
     ensures { result ≡ words_before (word_of heap.now) plug }
 {
     let _ = heap.segments();
     let at = plug - 32;
-    let k = heap.segment_of(at);
+    let k = heap.segment_near(near, at);
     Saved {
         at,
         w0: heap.word_at(k, at),

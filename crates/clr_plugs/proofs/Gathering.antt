@@ -115,6 +115,19 @@ pub at_node : (h : HeapView) (base from limit count : ℕ) → CanGather h base 
 at_node h base from limit count can some =
     node_of h base from limit count can.tree can.root can.stands can.inside can.words can.shallow can.room can.fits some
 
+-- the root of such a tree has a word of children, where there is one, and no number of it is too great
+pub child_word : (h : HeapView) (base from limit count : ℕ) → CanGather h base from limit count → from ≢ 0
+    → (16 ≤ base + (from - 1)) × HasWord h.memories (base + (from - 1) - 16)
+child_word h base from limit count can some = (at_node h base from limit count can some).word
+
+pub gather_fits : (h : HeapView) (base from limit count : ℕ) → CanGather h base from limit count → base + from < 2 ^ 64
+gather_fits h base from limit count can = go can.tree can.root can.inside can.fits where
+  go : (t : Tree) → from ≡ root_of base t → ((x : ℕ) → IsIn x (in_order t) → (base ≤ x) × (x < base + 4096))
+      → base + 4096 < 2 ^ 64 → base + from < 2 ^ 64
+  go leaf e inside fits = omega (arith, e, fits)
+  go (node l p r) e inside fits = let high = (inside p (append_right (in_order l) first)).1 in
+      omega (arith, e, high, fits)
+
 module _ (h : HeapView) (base from limit count : ℕ) (n : IsNodeOf h base from limit count) where
   -- how many there are behind the left subtree
   pub middle_is : (m left : ℕ) → left ≡ left_of (word_of h) (base + (from - 1)) → Counts h base left count m

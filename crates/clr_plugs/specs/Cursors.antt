@@ -1,10 +1,12 @@
 -- Going over the plugs of a part.
-use Rattle.std.specs.Prelude.{◌≡◌, ℕ, ◌+◌, ◌*◌, ◌/◌, ◌^◌, ◌<◌, ◌≤◌, List, ◌++◌, filter, length, nat_le, nat_lt, ◌&&◌}
+use Rattle.std.specs.Prelude.{◌≡◌, ◌≢◌, ℕ, ◌+◌, ◌-◌, ◌*◌, ◌/◌, ◌^◌, ◌<◌, ◌≤◌, List, ◌++◌, filter}
+use Rattle.std.specs.Prelude.{length, nat_le, nat_lt, ◌&&◌}
 use Rattle.clr_types.specs.Rising.{IsIn}
 use Rattle.clr_heap.specs.View.{HeapView, word_of}
 use Rattle.clr_plugs.specs.BrickEntries.{BricksView, IsCovered}
 use Rattle.clr_bricks.specs.Bricks.{entry_at}
 use Rattle.clr_plugs.specs.Builders.{HaveChildren}
+use Rattle.clr_plugs.specs.Info.{left_of, right_of}
 use Rattle.clr_plugs.specs.Plans.{IsPart, PlannedPart, plug_starts, TellsBrick}
 use Rattle.clr_plugs.specs.Trees.{in_order, levels, root_of, Stands, Tree}
 
@@ -51,3 +53,8 @@ pub record CanGather (h : HeapView) (base from limit count : ℕ) : Type 0 where
   pub shallow : levels tree ≤ limit
   pub room : count + length (in_order tree) ≤ 171
   pub fits : base + 4096 < 2 ^ 64
+
+-- the children of the plug of the brick that begins at `base`, where there is one
+abbrev pub AreChildren : (ℕ → ℕ) → ℕ → ℕ → ℕ → ℕ → Type 0
+AreChildren word base from left right = from ≢ 0
+    → (left ≡ left_of word (base + (from - 1))) × (right ≡ right_of word (base + (from - 1)))

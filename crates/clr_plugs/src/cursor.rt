@@ -1,10 +1,11 @@
 // Going over the plugs of a part, by rising start.
-ghost use Rattle.std.specs.Prelude.{◌≡◌, ℕ, ◌+◌, ◌-◌, ◌*◌, ◌/◌, ◌%◌, ◌<◌, ◌≤◌, ◌^◌, [], ◌∷◌, ◌++◌, length, take};
+ghost use Rattle.std.specs.Prelude.{◌≡◌, ◌≢◌, ℕ, ◌+◌, ◌-◌, ◌*◌, ◌/◌, ◌%◌, ◌<◌, ◌≤◌, ◌^◌, [], ◌∷◌, ◌++◌, length, take};
 ghost use Rattle.std.specs.Prelude.{MatchOption};
 ghost use Rattle.clr_types.specs.Rising.{IsIn};
+ghost use Rattle.clr_heap.specs.Memories.{HasWord};
 ghost use Rattle.clr_heap.specs.View.{word_of};
 ghost use Rattle.clr_plugs.specs.Builders.{places_from};
-ghost use Rattle.clr_plugs.specs.Cursors.{ahead, AreLeft, CanGather, TellLeft};
+ghost use Rattle.clr_plugs.specs.Cursors.{ahead, AreChildren, AreLeft, CanGather, TellLeft};
 ghost use Rattle.clr_plugs.specs.Plans.{IsPart, PlannedPart, plug_starts};
 ghost use Rattle.clr_plugs.specs.Trees.{in_order, IsBrickTree, root_of, Stands, Tree};
 
@@ -62,8 +63,9 @@ impl PlugCursor {
     }
 
     /// The place at which the next plug starts, and `None` exactly where none is left. Only the trees of the bricks
-    /// that weren't read yet are read.
-    pub fn next(&mut self, heap: &Heap, bricks: &Bricks) -> Option<u64>
+    /// that weren't read yet are read. `near` guesses the segment of the part.
+    #[inline(always)]
+    pub fn next(&mut self, heap: &Heap, near: usize, bricks: &Bricks) -> Option<u64>
         requires { AreLeft heap.now bricks.now self.old.brick self.old.past }
         ensures next { (part : PlannedPart) → IsPart heap.now part
             → TellLeft (word_of heap.now) bricks.now part self.old.brick self.old.past
@@ -76,15 +78,16 @@ impl PlugCursor {
             if self.past <= self.brick {
                 return None;
             }
-            self.load(heap, bricks);
+            self.load(heap, near, bricks);
         }
         let offset = self.offsets[self.at];
         self.at += 1;
         Some(self.base + u64::from(offset))
     }
 
-    // Reads the plugs of the next brick.
-    fn load(&mut self, heap: &Heap, bricks: &Bricks)
+    // Reads the plugs of the next brick. `near` guesses its segment.
+    #[inline(never)]
+    fn load(&mut self, heap: &Heap, near: usize, bricks: &Bricks)
         requires left { AreLeft heap.now bricks.now self.old.brick self.old.past }
         requires some { self.old.brick < self.old.past }
         requires none { self.old.at_hand ≡ [] }
@@ -98,7 +101,17 @@ impl PlugCursor {
         let brick = self.brick;
         let base = brick * BRICK;
         let (root, _) = lead(bricks, brick);
-        let count = gather(heap, 0, base, root, MOST_LEVELS, &mut self.offsets, 0);
+        let below = children_in(heap, near, base, root);
+        let count = gather(
+            heap,
+            near,
+            base,
+            root,
+            below,
+            MOST_LEVELS,
+            &mut self.offsets,
+            0,
+        );
         self.count = count;
         self.at = 0;
         self.base = base;
@@ -107,16 +120,20 @@ impl PlugCursor {
 }
 
 // Puts the offsets of a tree's plugs behind the first `count` offsets, by rising place, and answers their new number.
+// `below` are the children of its root. Those of a right child are read before the left subtree is gone over, so that
+// not each plug waits for the one before it.
 fn gather(
     heap: &Heap,
     near: usize,
     base: u64,
     root: u64,
+    below: (u64, u64),
     levels: u32,
     into: &mut [u16],
     count: usize,
 ) -> usize
     requires can { CanGather heap.now base root levels count }
+    requires below { AreChildren (word_of heap.now) base root below.0 below.1 }
     requires room { length into.old ≡ 171 }
     ensures count { (t : Tree) → Stands (word_of heap.now) base t → root ≡ root_of base t
         → result ≡ count + length (in_order t) }
@@ -127,10 +144,34 @@ fn gather(
     if root == 0 {
         return count;
     }
+    let (left, right) = below;
+    let lefts = children_in(heap, near, base, left);
+    let rights = children_in(heap, near, base, right);
+    let middle = gather(heap, near, base, left, lefts, levels - 1, into, count);
+    into[middle] = (root - 1) as u16;
+    gather(
+        heap,
+        near,
+        base,
+        right,
+        rights,
+        levels - 1,
+        into,
+        middle + 1,
+    )
+}
+
+// The children of a plug of the brick that begins at `base`, and none of no plug.
+#[inline(always)]
+fn children_in(heap: &Heap, near: usize, base: u64, root: u64) -> (u64, u64)
+    requires word { root ≢ 0 → (16 ≤ base + (root - 1)) × HasWord heap.now.memories (base + (root - 1) - 16) }
+    requires fits { base + root < 2 ^ 64 }
+    ensures { AreChildren (word_of heap.now) base root result.0 result.1 }
+{
+    if root == 0 {
+        return (0, 0);
+    }
     let plug = base + (root - 1);
     let k = heap.segment_near(near, plug - CHILDREN);
-    let (left, right) = children_of(heap, k, plug);
-    let middle = gather(heap, k, base, left, levels - 1, into, count);
-    into[middle] = (root - 1) as u16;
-    gather(heap, k, base, right, levels - 1, into, middle + 1)
+    children_of(heap, k, plug)
 }

@@ -51,7 +51,7 @@ fn lay(
         assert!(rt; free <= start);
         assert!(rt; start < high);
         assert!(rt; start % 8 == 0);
-        writer.add(heap, bricks, start, gap, distance);
+        writer.add(heap, bricks, 0, start, gap, distance);
         free = start + 24;
     }
     writer.finish(heap, bricks, high);
@@ -94,9 +94,9 @@ fn expect_walked(rt: &impl Abort, heap: &Heap, bricks: &Bricks, low: u64, high: 
     let _ = heap.segments();
     let mut cursor = PlugCursor::new(low, high);
     for want in wants {
-        assert_eq!(rt; cursor.next(heap, bricks), Some(*want));
+        assert_eq!(rt; cursor.next(heap, 0, bricks), Some(*want));
     }
-    assert_eq!(rt; cursor.next(heap, bricks), None);
+    assert_eq!(rt; cursor.next(heap, 0, bricks), None);
 }
 
 #[test]

@@ -32,27 +32,29 @@ pub struct PlugInfo {
 }
 
 /// Writes the information of the plug that starts at the place `plug` into the 24 bytes that end 8 bytes before it. All
-/// other words of the heap stay.
-pub fn put_info(heap: &mut Heap, plug: u64, info: PlugInfo)
+/// other words of the heap stay. `near` guesses their segment.
+#[inline(always)]
+pub fn put_info(heap: &mut Heap, near: usize, plug: u64, info: PlugInfo)
     requires { HasInfo heap.old plug }
     ensures told { info_at (word_of heap.new) plug ≡ info }
     ensures words { (b : ℕ) → b % 8 ≡ 0 → (b + 32 < plug) ⊎ (plug ≤ b + 8) → word_of heap.new b ≡ word_of heap.old b }
     ensures shape { SameShape heap.old heap.new }
 {
     let _ = heap.segments();
-    let k = heap.segment_of(plug - GAP);
+    let k = heap.segment_near(near, plug - GAP);
     heap.set_word_at(k, plug - GAP, info.gap);
     heap.set_word_at(k, plug - DISTANCE, info.distance.cast_unsigned());
     heap.set_word_at(k, plug - CHILDREN, both_children(info.left, info.right));
 }
 
-/// The information of the plug that starts at the place `plug`.
-pub fn info(heap: &Heap, plug: u64) -> PlugInfo
+/// The information of the plug that starts at the place `plug`. `near` guesses its segment.
+#[inline(always)]
+pub fn info(heap: &Heap, near: usize, plug: u64) -> PlugInfo
     requires { HasInfo heap.now plug }
     ensures { result ≡ info_at (word_of heap.now) plug }
 {
     let _ = heap.segments();
-    let k = heap.segment_of(plug - GAP);
+    let k = heap.segment_near(near, plug - GAP);
     let children = heap.word_at(k, plug - CHILDREN);
     PlugInfo {
         gap: heap.word_at(k, plug - GAP),

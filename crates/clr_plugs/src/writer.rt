@@ -56,8 +56,16 @@ impl PlanWriter {
 
     /// Adds the plug that starts at the place `start`, at least 24 bytes above the plugs so far. `gap` bytes before it
     /// are unused, and it goes `distance` bytes up, or down where that is negative. Words of the heap are written only
-    /// where the information of this plug and the children of earlier ones stand.
-    pub fn add(&mut self, heap: &mut Heap, bricks: &mut Bricks, start: u64, gap: u64, distance: i64)
+    /// where the information of this plug and the children of earlier ones stand. `near` guesses their segment.
+    pub fn add(
+        &mut self,
+        heap: &mut Heap,
+        bricks: &mut Bricks,
+        near: usize,
+        start: u64,
+        gap: u64,
+        distance: i64,
+    )
         requires { CanWritePlug heap.old bricks.old self.old start }
         ensures writing { (part : PlannedPart) → IsWriting heap.old bricks.old part self.old → IsPlaceIn part start
             → IsAbovePlugs part start → IsWriting heap.new bricks.new (with_plug part start gap distance) self.new }
@@ -77,7 +85,7 @@ impl PlanWriter {
             left: 0,
             right: 0,
         };
-        put_info(heap, start, info);
+        put_info(heap, near, start, info);
         self.builder.add(start);
         self.last = start;
     }

@@ -1,5 +1,6 @@
 -- The first line of a text is answered.
-use Rattle.std.proofs.Common.{◌≡◌, ◌∙◌, ℕ, ◌+◌, ◌<◌, ◌≤◌, List, [], ◌∷◌, ◌++◌, length, take, Option, Some, None, refl, sym, ap}
+use Rattle.std.proofs.Common.{◌≡◌, ◌∙◌, ℕ, ◌+◌, ◌<◌, ◌≤◌, List, [], ◌∷◌, ◌++◌, length, take, Option, Some, None}
+use Rattle.std.proofs.Common.{refl, sym, ap}
 use Rattle.std.specs.Prelude.{Result, Ok, Err, IfOk}
 use Rattle.std.proofs.Common.{arith, append_assoc, append-nil, subst, length-append, length-drop, drop, take-add, ◌-◌}
 use Rattle.std.proofs.Math.Seq.{take-append-add}
@@ -56,7 +57,8 @@ goes_front old new left text reply read before after none answered wrote =
           (λ begun kept. follows_rest old.runtime new old.line.items answered.line begun answered.outcome none kept
           answered.follows) (none_left old.line.items none) told options taken outcomes at in (
             goes.0,
-            subst (λ (l : List ℕ). Progress options new old.line.items (taken ++ l) (outcomes ++ goes.0)) first.taken goes.1,
+            subst (λ (l : List ℕ). Progress options new old.line.items (taken ++ l) (outcomes ++ goes.0)) first.taken
+                goes.1,
             goes.2,
           ),
     )
@@ -92,8 +94,9 @@ stops_feed old text at before after feed stops =
     (sym (take-append-drop (at + 1) text) ∙ ap (λ (l : List ℕ). l ++ drop (at + 1) text) feed.here) stops
 
 -- a session of the same parts goes on in the same way
-pub goes_same : (one two new : Session) (bytes : List ℕ) (before mid after : Option (List ℕ)) → two.runtime ≡ one.runtime
-    → two.line.items ≡ one.line.items → two.pending ≡ one.pending → mid ≡ before → Goes two new bytes mid after
+pub goes_same : (one two new : Session) (bytes : List ℕ) (before mid after : Option (List ℕ))
+    → two.runtime ≡ one.runtime → two.line.items ≡ one.line.items → two.pending ≡ one.pending → mid ≡ before
+    → Goes two new bytes mid after
     → Goes one new bytes before after
 goes_same one two new bytes before mid after r l p w goes options taken outcomes at =
     let g = goes options taken outcomes (rw (r, l) at) in
@@ -105,8 +108,9 @@ pub stops_same : (one two : Session) (bytes : List ℕ) (before mid after : Opti
 stops_same one two bytes before mid after r l p w stops options taken outcomes at =
     rw (← w, ← p) (stops options taken outcomes (rw (r, l) at))
 
-goes_line_same : (one two new : Session) (text : List ℕ) (before mid after : Option (List ℕ)) → two.runtime ≡ one.runtime
-    → two.line.items ≡ one.line.items → two.pending ≡ one.pending → mid ≡ before → (found : Option ℕ)
+goes_line_same : (one two new : Session) (text : List ℕ) (before mid after : Option (List ℕ))
+    → two.runtime ≡ one.runtime → two.line.items ≡ one.line.items → two.pending ≡ one.pending → mid ≡ before
+    → (found : Option ℕ)
     → GoesLine two new text mid after found → GoesLine one new text before after found
 goes_line_same one two new text before mid after r l p w None (unfed, stays, goes) =
     (unfed, stays ∙ r, goes_same one two new [] before mid after r l p w goes)
@@ -134,7 +138,8 @@ some_front {text = text} stopped =
     omega (arith, some, within)
 
 -- what is left of a piece
-pub piece_rest : (piece : List ℕ) (from : ℕ) → length (take (length piece - from) (drop from piece)) ≡ length piece - from
+pub piece_rest : (piece : List ℕ) (from : ℕ)
+    → length (take (length piece - from) (drop from piece)) ≡ length piece - from
 piece_rest piece from = ap length (take_rest piece from) ∙ length-drop from piece
 
 -- a line more of a piece
@@ -167,7 +172,8 @@ piece_ends one two new piece kept from found before mid after is goes line left 
     let (unfed, stays, none) = subst (λ (f : Option ℕ). GoesLine two new rest mid after f) is line in
     goes_kept one new (take from piece) rest piece kept before after
     (sym (take-append-drop from piece) ∙ ap (λ (l : List ℕ). take from piece ++ l) (sym (take_rest piece from)))
-    (goes_on one two new (take from piece) [] (take from piece) before mid after (sym (append-nil (take from piece))) goes
+    (goes_on one two new (take from piece) [] (take from piece) before mid after (sym (append-nil (take from piece)))
+    goes
     none) unfed left
 
 -- writing stopped at a line of a piece

@@ -25,7 +25,8 @@ AnswersFront old new text before after waiting left (Some read) =
     (reply : List ℕ) × IsAnswered old text read reply new × Wrote before after waiting left reply
 
 -- the line was answered, and a part of what was waiting and of its reply was written
-pub record StopsFront (old new : Machine) (text : List ℕ) (before after : Option (List ℕ)) (waiting : List ℕ) : Type 0 where
+pub record StopsFront (old new : Machine) (text : List ℕ) (before after : Option (List ℕ)) (waiting : List ℕ)
+    : Type 0 where
   pub read : ℕ
   pub reply : List ℕ
   pub answered : IsAnswered old text read reply new

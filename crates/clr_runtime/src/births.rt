@@ -65,6 +65,7 @@ impl Runtime {
     /// these, and changes nothing. It is refused with `Oom` exactly where there is no room after the full compacting
     /// collection and the limit allows no segment more, and with `NoMemory` also where it allows one and there is no
     /// memory for it. What the collections left stays.
+    #[inline(never)]
     pub fn new_object(
         &mut self,
         t: u64,
@@ -94,6 +95,7 @@ impl Runtime {
 
 // Makes a small object, which the local takes, at the front of the context of thread `t`. There is room for its entry.
 // It is refused as `new_object` is, once room was sought.
+#[inline(always)]
 fn make_small(parts: &mut Parts, t: u64, local: u64, request: Request) -> Result<u64, Refusal>
     requires runtime { IsRuntime parts.old }
     requires passed { thread_refusal (seen parts.old) t ≡ None }
@@ -123,6 +125,7 @@ fn make_small(parts: &mut Parts, t: u64, local: u64, request: Request) -> Result
 
 // Makes a large object, which the local of thread `t` takes, in a large segment. There is room for its entry. It is
 // refused as `new_object` is, once a place was sought.
+#[inline(always)]
 fn make_large(parts: &mut Parts, t: u64, local: u64, request: Request) -> Result<u64, Refusal>
     requires runtime { IsRuntime parts.old }
     requires passed { thread_refusal (seen parts.old) t ≡ None }
@@ -152,6 +155,7 @@ fn make_large(parts: &mut Parts, t: u64, local: u64, request: Request) -> Result
 }
 
 // The type that a script defined under this name.
+#[inline(always)]
 fn defined(types: &Types, name: &[u8]) -> Option<TypeId>
     ensures { IsDefined types.now name.now result }
 {
@@ -163,6 +167,7 @@ fn defined(types: &Types, name: &[u8]) -> Option<TypeId>
 }
 
 // What a line that makes an object asks for, or the first of the checks on it that fails.
+#[inline(always)]
 pub(crate) fn measure(
     types: &Types,
     local: u64,

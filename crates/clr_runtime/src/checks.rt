@@ -13,7 +13,7 @@ impl Runtime {
 
     // Why a line of a thread that finishes no step is refused before it looks at anything. A thread in mid-step may
     // only finish that, whoever holds the others.
-    #[inline]
+    #[inline(always)]
     pub(crate) fn refused_thread(&self, t: u64) -> Option<Refusal>
         ensures value { result ≡ thread_refusal self.now t }
         ensures known { result ≡ None → is_thread t ≡ true }
@@ -43,7 +43,7 @@ impl Runtime {
     }
 
     // Why a line of a thread that names these two locals is refused before it looks at any object.
-    #[inline]
+    #[inline(always)]
     pub(crate) fn refused_names(&self, t: u64, first: u64, second: u64) -> Option<Refusal>
         ensures value { result ≡ names_refusal self.now t (first ∷ second ∷ []) }
         ensures known { result ≡ None → is_thread t ≡ true }

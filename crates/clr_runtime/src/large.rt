@@ -24,6 +24,7 @@ const PAGE: u64 = 4096;
 // `Wait` comes exactly where there is no place within the budget and a thread is in mid-step, `OverLimit` where all but
 // the last of these steps find no place and the limit allows no segment more, and `NoMemory` where it allows one and
 // there is no memory for it. What the collections left stays.
+#[inline(never)]
 pub(crate) fn make_large_room(parts: &mut Parts, size: u64) -> Result<(), NoRoom>
     requires runtime { IsRuntime parts.old }
     requires least { 85000 ≤ size }

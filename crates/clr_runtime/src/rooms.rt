@@ -30,6 +30,7 @@ pub(crate) enum NoRoom {
 // `Wait` comes exactly where the first two find no room and a thread is in mid-step, `OverLimit` where all but the last
 // find none and the limit allows no segment more, and `NoMemory` where it allows one and there is no memory for it.
 // What the collections left stays.
+#[inline(always)]
 pub(crate) fn make_room(parts: &mut Parts, thread: usize, size: u64) -> Result<(), NoRoom>
     requires runtime { IsRuntime parts.old }
     requires positive { 0 < thread }
@@ -48,6 +49,27 @@ pub(crate) fn make_room(parts: &mut Parts, thread: usize, size: u64) -> Result<(
     if fits_in_context(parts, thread, size) {
         return Ok(());
     }
+    find_room(parts, thread, size)
+}
+
+// The same, where the size doesn't fit at the front of the context as it is.
+#[inline(never)]
+fn find_room(parts: &mut Parts, thread: usize, size: u64) -> Result<(), NoRoom>
+    requires runtime { IsRuntime parts.old }
+    requires positive { 0 < thread }
+    requires few { thread ≤ 16 }
+    requires idle { is_step (step_of (seen parts.old) thread) ≡ false }
+    requires least { 24 ≤ size }
+    requires whole { size % 8 ≡ 0 }
+    requires small { size < 85000 }
+    requires full { own_fits (seen parts.old).layout thread size ≡ false }
+    ensures room { FollowsRoom (seen parts.old) thread size (attempt_of result) (seen parts.new) }
+    ensures fits { OnOk result (own_fits (seen parts.new).layout thread size ≡ true) }
+    ensures runtime { IsRuntime parts.new }
+    ensures spare { parts.old.finals.spare ≤ parts.new.finals.spare }
+    ensures types { parts.new.types ≡ parts.old.types }
+    ensures safe { parts.new.safe ≡ parts.old.safe }
+{
     if refill_in_budget(parts, thread, size) {
         return Ok(());
     }
@@ -70,6 +92,7 @@ pub(crate) fn make_room(parts: &mut Parts, thread: usize, size: u64) -> Result<(
 }
 
 // Whether the size fits at the front of the thread's context as it is.
+#[inline(always)]
 fn fits_in_context(parts: &Parts, thread: usize, size: u64) -> bool
     requires positive { 0 < thread }
     requires few { thread ≤ 16 }

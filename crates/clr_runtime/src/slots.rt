@@ -32,6 +32,7 @@ impl Runtime {
     ///
     /// It is refused for a thread that may not go on, a local from 64 on, a null local, an index that no slot of the
     /// object has, and a slot that holds a number, in this order.
+    #[inline(always)]
     pub fn get(&mut self, t: u64, to: u64, from: u64, index: u64) -> Result<u64, Refusal>
         ensures { Follows self.old (get_slot t to from index) (place_outcome result) self.new }
     {
@@ -51,6 +52,7 @@ impl Runtime {
     /// Slot `index` of the object of local `into` of thread `t` takes what local `from` holds.
     ///
     /// It is refused as `get` is.
+    #[inline(always)]
     pub fn set(&mut self, t: u64, into: u64, index: u64, from: u64) -> Result<(), Refusal>
         ensures { Follows self.old (set_slot t into index from) (done_outcome result) self.new }
     {
@@ -77,6 +79,7 @@ impl Runtime {
     /// Number slot `index` of the object of local `into` of thread `t` takes a number, a byte the number modulo 256.
     ///
     /// It is refused as `get` is, but for a slot that holds a reference.
+    #[inline(always)]
     pub fn put(&mut self, t: u64, into: u64, index: u64, value: u64) -> Result<(), Refusal>
         ensures { Follows self.old (put_number t into index value) (done_outcome result) self.new }
     {
@@ -102,6 +105,7 @@ impl Runtime {
     /// The number in slot `index` of the object of local `from` of thread `t`. Nothing changes.
     ///
     /// It is refused as `put` is.
+    #[inline(always)]
     pub fn read(&self, t: u64, from: u64, index: u64) -> Result<u64, Refusal>
         ensures { Follows self.now (read_number t from index) (number_outcome result) self.now }
     {
@@ -123,6 +127,7 @@ impl Runtime {
     /// Local `to` of thread `t` takes what local `from` holds, and the call gives its place, 0 for null.
     ///
     /// It is refused for a thread that may not go on and a local from 64 on, in this order.
+    #[inline(always)]
     pub fn copy(&mut self, t: u64, to: u64, from: u64) -> Result<u64, Refusal>
         ensures { Follows self.old (copy_local t to from) (place_outcome result) self.new }
     {
@@ -137,6 +142,7 @@ impl Runtime {
     /// The local of thread `t` becomes null. This is the line `null`.
     ///
     /// It is refused as `copy` is.
+    #[inline(always)]
     pub fn clear(&mut self, t: u64, local: u64) -> Result<(), Refusal>
         ensures { Follows self.old (clear_local t local) (done_outcome result) self.new }
     {
@@ -150,6 +156,7 @@ impl Runtime {
 
 // Slot `index` of the object at a place, where it holds a reference or a number, as is wanted; else the first of the
 // checks that fails.
+#[inline(always)]
 pub(crate) fn find_slot(
     heap: &Heap,
     types: &Types,
@@ -179,6 +186,7 @@ pub(crate) fn find_slot(
 }
 
 // What a number slot of an object of this type keeps of a number: all of it, but a byte its lowest eight bits.
+#[inline(always)]
 fn narrowed(types: &Types, t: TypeId, value: u64) -> u64
     requires { t.0 ≤ length types.now }
     ensures { result ≡ stored_number (form_at types.now t.0) value }

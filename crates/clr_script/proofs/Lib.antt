@@ -8,3 +8,4 @@ pub mod SpelledLines
 pub mod FrontLines
 pub mod MadeLines
 pub mod MadeChoices
+pub mod NameBytes

@@ -2,6 +2,5 @@ pub mod Cuts
 pub mod Readings
 pub mod Choices
 pub mod ReplyLines
-pub mod NameBytes
 pub mod Fronts
 pub mod Made

@@ -6,7 +6,6 @@ ghost use Rattle.clr_types.specs.Types.{is_pattern_byte};
 ghost use Rattle.clr_model.specs.LineGrammar.{is_name_start, is_name_byte};
 ghost use Rattle.clr_model.specs.Parsing.{number_in, address_in, numbered_in, thread_in, local_in, handle_in, name_in};
 ghost use Rattle.clr_model.specs.Parsing.{pattern_in, kind_in, generation_in};
-ghost use Rattle.clr_script.specs.NameBytes.{is_name_sign};
 
 use clr_nums::{read_dec, read_hex};
 use clr_types::Kind;
@@ -77,31 +76,27 @@ pub fn read_handle(word: &[u8]) -> Option<u64>
     read_numbered(b'h', word)
 }
 
+// Of each byte 2 where a name may begin with it, 1 where it may stand behind that, and 0 where it may not, as digits.
+static NAME_BYTES: [u8; 256] = *b"\
+    0000000000000000000000000000000000000000000110101111111111001010\
+    0222222222222222222222222221010202222222222222222222222222200000\
+    0000000000000000000000000000000000000000000000000000000000000000\
+    0000000000000000000000000000000000000000000000000000000000000000";
+
 /// Whether a name may begin with this byte.
-#[inline]
+#[inline(always)]
 pub fn starts_name(b: u8) -> bool
     ensures { result ≡ is_name_start b }
 {
-    matches!(b, b'A'..=b'Z' | b'a'..=b'z' | b'_')
-}
-
-// Whether this byte, which is no letter, may stand in a name.
-#[inline]
-fn is_sign(b: u8) -> bool
-    ensures { result ≡ is_name_sign b }
-{
-    matches!(
-        b,
-        b'0'..=b'9' | b'_' | b'.' | b'[' | b']' | b'<' | b'>' | b'+' | b','
-    )
+    NAME_BYTES[usize::from(b)] == b'2'
 }
 
 /// Whether this byte may stand in a name.
-#[inline]
+#[inline(always)]
 pub fn continues_name(b: u8) -> bool
     ensures { result ≡ is_name_byte b }
 {
-    b.is_ascii_lowercase() || b.is_ascii_uppercase() || is_sign(b)
+    NAME_BYTES[usize::from(b)] != b'0'
 }
 
 // Whether each byte may stand in a name.

@@ -1,5 +1,5 @@
-//! Lines read in one pass over their bytes: in front of a text those that scripts are mostly made of, and whole ones that
-//! are rarer.
+//! Lines read in one pass over their bytes: in front of a text those that scripts are mostly made of, and whole ones
+//! that are rarer.
 ghost use Rattle.std.specs.Prelude.{◌≤◌, ◌∷◌, ◌++◌, [], IfSome, codes, length};
 ghost use Rattle.clr_script.specs.Fronts.{SpellsBehind};
 ghost use Rattle.clr_script.specs.Readings.{IsReadAs};
@@ -31,7 +31,8 @@ fn read_verb<'a>(t: u64, text: &'a [u8]) -> Option<Command<'a>>
 }
 
 /// Reads a line that collects, or one on handles. `None` where it is another, too long, or has a number of 20 digits.
-/// Then `read_line` says what it is. No clause promises `Some`, since a `None` only costs the time of the general reader.
+/// Then `read_line` says what it is. No clause promises `Some`, since a `None` only costs the time of the general
+/// reader.
 pub fn read_quick(line: &[u8]) -> Option<Command<'_>>
     ensures short { IfSome result (λ command. length line.now ≤ 4096) }
     ensures read { IfSome result (λ command. IsReadAs line.now command) }

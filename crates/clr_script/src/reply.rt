@@ -8,7 +8,7 @@ use clr_model::{Collected, Refusal, Reply, Where};
 use clr_nums::{put_dec, put_hex16};
 
 // Writes 16 hexadecimal digits at the front. The bytes behind them stay.
-#[inline]
+#[inline(always)]
 fn put_hex_digits(v: u64, into: &mut [u8])
     requires { 16 ≤ length into.old }
     ensures { into.new ≡ hex16 v ++ drop 16 into.old }
@@ -33,7 +33,7 @@ fn put_digits(v: u64, into: &mut [u8]) -> usize
 }
 
 // Writes a text behind the first `at` bytes, and gives where it ends.
-#[inline]
+#[inline(always)]
 fn append(into: &mut [u8; 256], at: usize, text: &[u8]) -> usize
     requires { at + length text.now ≤ 256 }
     ensures end { result ≡ at + length text.now }
@@ -45,7 +45,7 @@ fn append(into: &mut [u8; 256], at: usize, text: &[u8]) -> usize
 }
 
 // Writes 16 hexadecimal digits behind the first `at` bytes, and gives where they end.
-#[inline]
+#[inline(always)]
 fn append_hex(into: &mut [u8; 256], at: usize, v: u64) -> usize
     requires { at ≤ 240 }
     ensures end { result ≡ at + 16 }
@@ -100,7 +100,7 @@ fn append_address(into: &mut [u8; 256], at: usize, v: u64) -> usize
 }
 
 // Writes a place, or `null`, and gives its length.
-#[inline]
+#[inline(always)]
 fn put_place_word(place: u64, into: &mut [u8; 256]) -> usize
     ensures short { result < 256 }
     ensures text { take result into.new ≡ place_text place }
@@ -201,9 +201,9 @@ pub fn put_reply(reply: &Reply, into: &mut [u8; 256]) -> usize
     append(into, at, b"\n")
 }
 
-/// Writes that a line was done and a line feed at the front of `into`, and gives their length. The bytes behind them may
-/// be any.
-#[inline]
+/// Writes that a line was done and a line feed at the front of `into`, and gives their length. The bytes behind them
+/// may be any.
+#[inline(always)]
 pub fn put_done(into: &mut [u8; 256]) -> usize
     ensures fits { result ≤ 256 }
     ensures text { take result into.new ≡ reply_text Reply.Done ++ 10 ∷ [] }
@@ -211,9 +211,9 @@ pub fn put_done(into: &mut [u8; 256]) -> usize
     append(into, 0, b"ok\n")
 }
 
-/// Writes a place, 0 for null, and a line feed at the front of `into`, and gives their length. The bytes behind them may
-/// be any.
-#[inline]
+/// Writes a place, 0 for null, and a line feed at the front of `into`, and gives their length. The bytes behind them
+/// may be any.
+#[inline(always)]
 pub fn put_place(place: u64, into: &mut [u8; 256]) -> usize
     ensures fits { result ≤ 256 }
     ensures text { take result into.new ≡ reply_text (Reply.Place place) ++ 10 ∷ [] }
@@ -223,7 +223,7 @@ pub fn put_place(place: u64, into: &mut [u8; 256]) -> usize
 }
 
 /// Writes a number and a line feed at the front of `into`, and gives their length. The bytes behind them may be any.
-#[inline]
+#[inline(always)]
 pub fn put_number(number: u64, into: &mut [u8; 256]) -> usize
     ensures fits { result ≤ 256 }
     ensures text { take result into.new ≡ reply_text (Reply.Number number) ++ 10 ∷ [] }

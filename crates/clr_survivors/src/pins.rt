@@ -21,16 +21,18 @@ pub(crate) fn set_pins(heap: &mut Heap, types: &Types, handles: &Handles, low: u
     ensures { HasPins types.now heap.old heap.new handles.now low 65536 on }
 {
     handles.lawful();
+    let near = heap.ephemeral();
     let mut from = 0;
     while let Some((number, handle)) = handles.next_from(from, low) {
         heap.lawful();
-        set_pin_of(heap, types, handle, low, on);
+        set_pin_of(heap, types, near, handle, low, on);
         from = number + 1;
     }
 }
 
-// Says it in the header of the object that a handle pins, where it pins one at `low` or above it.
-fn set_pin_of(heap: &mut Heap, types: &Types, handle: Handle, low: u64, on: bool)
+// Says it in the header of the object that a handle pins, where it pins one at `low` or above it. `near` guesses its
+// segment.
+fn set_pin_of(heap: &mut Heap, types: &Types, near: usize, handle: Handle, low: u64, on: bool)
     requires held { IsHeld types.now heap.old }
     requires stands { pins_from low handle ≡ true → StandsAt types.now heap.old handle.target }
     ensures { MatchBool (pins_from low handle)
@@ -38,19 +40,20 @@ fn set_pin_of(heap: &mut Heap, types: &Types, handle: Handle, low: u64, on: bool
         (heap.new ≡ heap.old) }
 {
     if handle.kind.is_pinned() && handle.target != 0 && low <= handle.target {
-        set_pin(heap, types, handle.target, on);
+        set_pin(heap, types, near, handle.target, on);
     }
 }
 
-// Says in the header of the object at a place whether it is pinned.
-fn set_pin(heap: &mut Heap, types: &Types, place: u64, on: bool)
+// Says in the header of the object at a place whether it is pinned. `near` guesses its segment.
+fn set_pin(heap: &mut Heap, types: &Types, near: usize, place: u64, on: bool)
     requires held { IsHeld types.now heap.old }
     requires stands { StandsAt types.now heap.old place }
     ensures { heap.new ≡ stored heap.old (place - 8) (pinned_header on (word_of heap.old (place - 8))) }
 {
     heap.lawful();
-    let header = heap.word(place - 8);
-    heap.set_word(place - 8, with_pin(header, on));
+    let k = heap.segment_near(near, place - 8);
+    let header = heap.word_at(k, place - 8);
+    heap.set_word_at(k, place - 8, with_pin(header, on));
 }
 
 // The header with this in its bit.

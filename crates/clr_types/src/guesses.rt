@@ -14,7 +14,7 @@ impl Guesses {
     }
 
     /// The number that a name may have.
-    #[inline]
+    #[inline(always)]
     pub(crate) fn of(&self, name: &[u8]) -> usize {
         self.numbers[usize::from(slot(name))]
     }
@@ -26,7 +26,7 @@ impl Guesses {
 }
 
 // The slot of a name, by its first byte, its middle one and its last.
-#[inline]
+#[inline(always)]
 fn slot(name: &[u8]) -> u8 {
     if name.is_empty() {
         return 0;

@@ -101,7 +101,7 @@ impl MethodTable {
     }
 
     /// Whether objects have a length word.
-    #[inline]
+    #[inline(always)]
     pub(crate) fn has_length(&self) -> bool
         ensures { result ≡ is_array self.now.form }
     {
@@ -109,6 +109,7 @@ impl MethodTable {
     }
 
     /// The shape that the type was defined with.
+    #[inline(always)]
     pub(crate) fn shape(&self) -> Shape<'_>
         ensures { form_of result ≡ self.now.form }
     {
@@ -148,6 +149,7 @@ impl MethodTable {
     }
 
     /// How many slots an object of `len` elements has.
+    #[inline(always)]
     pub(crate) fn slot_count(&self, len: u64) -> u64
         requires { types.size_of self.now.form len ≤ 1073741824 }
         ensures { result ≡ length (slot_kinds self.now.form len) }
@@ -160,6 +162,7 @@ impl MethodTable {
     }
 
     /// Slot `i` of an object of `len` elements.
+    #[inline(always)]
     pub(crate) fn slot(&self, len: u64, i: u64) -> Slot
         requires size { types.size_of self.now.form len ≤ 1073741824 }
         requires below { i < length (slot_kinds self.now.form len) }
@@ -212,6 +215,7 @@ impl MethodTable {
     }
 
     /// The bytes of an object of `len` elements, where they are at most 2^30.
+    #[inline(always)]
     pub(crate) fn item_size(&self, len: u64) -> u64
         requires { types.size_of self.now.form len ≤ 1073741824 }
         ensures { result ≡ types.size_of self.now.form len }

@@ -38,7 +38,7 @@ impl Names {
     }
 
     /// The number of a name.
-    #[inline]
+    #[inline(always)]
     pub(crate) fn number(&self, name: &[u8]) -> Option<usize>
         ensures value { result ≡ name_number 0 self.now name.now }
         ensures below { IfSome result (λ number. number < length self.now) }
@@ -52,7 +52,7 @@ impl Names {
     }
 
     // Whether a number has this name.
-    #[inline]
+    #[inline(always)]
     fn is_name(&self, number: usize, name: &[u8]) -> bool
         ensures value { IsTrue result → name_number 0 self.now name.now ≡ Some number }
         ensures below { IsTrue result → number < length self.now }
@@ -95,7 +95,7 @@ impl Names {
 }
 
 // Whether two texts are equal. Most names have four to eight bytes: two words, which may overlap, cover these.
-#[inline]
+#[inline(always)]
 fn is_same(text: &[u8], other: &[u8]) -> bool
     ensures { IsTrue result → text.now ≡ other.now }
 {

@@ -123,6 +123,7 @@ impl Types {
     }
 
     /// The type with this name.
+    #[inline(always)]
     pub fn by_name(&self, name: &[u8]) -> Option<TypeId>
         ensures { option_map (λ (t : TypeId). t.0) result ≡ number_with_free self.now name.now }
     {
@@ -157,7 +158,7 @@ impl Types {
     }
 
     /// The type that a method table word names. The word is one of the table's.
-    #[inline]
+    #[inline(always)]
     pub fn of_mt(&self, mt: u64) -> TypeId
         requires known { (mt - FIRST_WORD) / 64 ≤ length self.now }
         requires word { mt ≡ mt_of ((mt - FIRST_WORD) / 64) }
@@ -184,7 +185,7 @@ impl Types {
     }
 
     /// Whether objects of a type have a length word, as unused space has.
-    #[inline]
+    #[inline(always)]
     pub fn has_length(&self, t: TypeId) -> bool
         requires { t.0 ≤ length self.now }
         ensures { result ≡ is_array (form_at self.now t.0) }
@@ -206,7 +207,7 @@ impl Types {
 
     /// The bytes of an item of `len` elements, where they are at most 2^30. It has no test for that, so a walk can
     /// afford it.
-    #[inline]
+    #[inline(always)]
     pub fn item_size(&self, t: TypeId, len: u64) -> u64
         requires known { t.0 ≤ length self.now }
         requires size { types.size_of (form_at self.now t.0) len ≤ 1073741824 }
@@ -216,6 +217,7 @@ impl Types {
     }
 
     /// The shape of a type. That of unused space is an array of bytes.
+    #[inline(always)]
     pub fn shape(&self, t: TypeId) -> Shape<'_>
         requires { t.0 ≤ length self.now }
         ensures { form_of result ≡ form_at self.now t.0 }
@@ -224,6 +226,7 @@ impl Types {
     }
 
     /// How many slots an object of `len` elements has.
+    #[inline(always)]
     pub fn slot_count(&self, t: TypeId, len: u64) -> u64
         requires known { t.0 ≤ length self.now }
         requires size { types.size_of (form_at self.now t.0) len ≤ 1073741824 }
@@ -233,6 +236,7 @@ impl Types {
     }
 
     /// Slot `i` of an object of `len` elements.
+    #[inline(always)]
     pub fn slot(&self, t: TypeId, len: u64, i: u64) -> Slot
         requires known { t.0 ≤ length self.now }
         requires size { types.size_of (form_at self.now t.0) len ≤ 1073741824 }
@@ -274,7 +278,7 @@ impl Types {
     }
 
     // All but the name of a type.
-    #[inline]
+    #[inline(always)]
     fn table(&self, t: TypeId) -> &MethodTable
         requires { t.0 ≤ length self.now }
         ensures form { result.now.form ≡ form_at self.now t.0 }

@@ -18,6 +18,7 @@ use clr_types::{TypeId, Types};
 /// Its references are null and its numbers 0. Of the context the bytes behind the object are left. All other objects,
 /// the free items and the rest of the layout stay. It marks nothing, changes no head of a free item, and leaves headers
 /// and padding clean.
+#[inline(always)]
 pub fn bear(heap: &mut Heap, types: &Types, thread: usize, t: TypeId, len: u64) -> u64
     requires held { IsHeld types.now heap.old }
     requires positive { 0 < thread }

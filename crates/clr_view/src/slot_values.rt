@@ -12,6 +12,7 @@ use clr_heap::{Heap, Item};
 use clr_types::{Shape, Slot, Types};
 
 /// The object that stands at a place. Its type is one of the table's, and it has at most 2^30 bytes.
+#[inline(always)]
 pub fn object_item(heap: &Heap, types: &Types, place: u64) -> Item
     requires held { IsHeld types.now heap.now }
     requires stands { StandsAt types.now heap.now place }
@@ -24,6 +25,7 @@ pub fn object_item(heap: &Heap, types: &Types, place: u64) -> Item
 /// The value of a slot of an object: the place that it refers to, 0 for null, or a number, in an array of bytes a byte.
 ///
 /// `slot` is what the table of types says of the slot.
+#[inline(always)]
 pub fn slot_value(heap: &Heap, types: &Types, item: &Item, slot: Slot) -> u64
     requires held { IsHeld types.now heap.now }
     requires listed { IsIn item.now (heap_items types.now heap.now) }
@@ -44,6 +46,7 @@ pub fn slot_value(heap: &Heap, types: &Types, item: &Item, slot: Slot) -> u64
 ///
 /// `slot` is what the table of types says of the slot. All other slots and objects stay, and so do the free items and
 /// the layout. It marks nothing, changes no head of a free item, and leaves headers and padding clean.
+#[inline(always)]
 pub fn set_slot_value(heap: &mut Heap, types: &Types, item: &Item, slot: Slot, value: u64)
     requires held { IsHeld types.now heap.old }
     requires listed { IsIn item.now (heap_items types.now heap.old) }
@@ -65,6 +68,7 @@ pub fn set_slot_value(heap: &mut Heap, types: &Types, item: &Item, slot: Slot, v
 }
 
 // Whether a slot of an item is a byte.
+#[inline(always)]
 fn is_byte(types: &Types, item: &Item, slot: Slot) -> bool
     requires known { item.now.type_id.0 ≤ length types.now }
     requires slot { HasSlot types.now item.now slot }

@@ -78,6 +78,7 @@ impl Heap {
             self.start0 = first;
             self.ephemeral_first = first;
             self.ephemeral_end = base + size;
+            self.near = k;
             self.top = base + size;
             return Ok(k);
         }
@@ -95,7 +96,13 @@ impl Heap {
     {
         let _ = self.memories.remove(k);
         let _ = self.segments.remove(k);
+        self.near = near_without(self.near, k);
     }
+}
+
+// The guess of a segment's number where segment `k` has gone.
+fn near_without(near: usize, k: usize) -> usize {
+    if k < near { near - 1 } else { near }
 }
 
 // How many bytes the segments reserve.

@@ -1,5 +1,5 @@
 // The words and bytes of the heap, by address.
-ghost use Rattle.std.specs.Prelude.{◌≡◌, ℕ, ◌+◌, ◌*◌, ◌/◌, ◌%◌, ◌<◌, ◌≤◌, ◌^◌, true, length, get_or, set};
+ghost use Rattle.std.specs.Prelude.{◌≡◌, ℕ, ◌+◌, ◌*◌, ◌/◌, ◌%◌, ◌<◌, ◌≤◌, ◌^◌, true, length, get_or, set, vec_len};
 ghost use Rattle.clr_mem.specs.Words.{byte_of, cleared, Holds, moved, with_byte};
 ghost use Rattle.clr_heap.specs.Memories.{clears, contains, HasWord, InOne, IsApart, moves, memory_index, shapes};
 ghost use Rattle.clr_heap.specs.Memories.{store_in, word_address, word_in};
@@ -11,15 +11,17 @@ impl Heap {
     ghost use Rattle.clr_heap.specs.View.{SameShape, stored, word_of};
 
     /// The word at an address.
+    #[inline(always)]
     pub fn word(&self, a: u64) -> u64
         requires { HasWord self.now.memories a }
         ensures value { result ≡ word_of self.now a }
         ensures room { a + 8 < 2 ^ 64 }
     {
-        word_of_memories(&self.memories, a)
+        word_of_memories(&self.memories, self.near, a)
     }
 
     /// The word at an address of segment `k`, faster than `word`.
+    #[inline(always)]
     pub fn word_at(&self, k: usize, a: u64) -> u64
         requires word { HasWord self.now.memories a }
         requires segment { k ≡ memory_index self.now.memories a }
@@ -29,15 +31,17 @@ impl Heap {
     }
 
     /// Writes the word at an address.
+    #[inline(always)]
     pub fn set_word(&mut self, a: u64, v: u64)
         requires { HasWord self.old.memories a }
         ensures value { self.new ≡ stored self.old a v }
         ensures room { a + 8 < 2 ^ 64 }
     {
-        set_word_of_memories(&mut self.memories, a, v);
+        set_word_of_memories(&mut self.memories, self.near, a, v);
     }
 
     /// Writes the word at an address of segment `k`, faster than `set_word`.
+    #[inline(always)]
     pub fn set_word_at(&mut self, k: usize, a: u64, v: u64)
         requires word { HasWord self.old.memories a }
         requires segment { k ≡ memory_index self.old.memories a }
@@ -47,20 +51,22 @@ impl Heap {
     }
 
     /// The byte at an address.
+    #[inline(always)]
     pub fn byte(&self, a: u64) -> u8
         requires { HasWord self.now.memories (word_address a) }
         ensures { result ≡ byte_of (word_of self.now (word_address a)) (a % 8) }
     {
-        byte_of_memories(&self.memories, a)
+        byte_of_memories(&self.memories, self.near, a)
     }
 
     /// Writes the byte at an address.
+    #[inline(always)]
     pub fn set_byte(&mut self, a: u64, v: u8)
         requires { HasWord self.old.memories (word_address a) }
         ensures { self.new
             ≡ stored self.old (word_address a) (with_byte (word_of self.old (word_address a)) (a % 8) v) }
     {
-        set_byte_of_memories(&mut self.memories, a, v);
+        set_byte_of_memories(&mut self.memories, self.near, a, v);
     }
 
     /// Moves the words of `[from, from + len)` down to `[to, to + len)`. All other words stay.
@@ -71,7 +77,7 @@ impl Heap {
         ensures shape { SameShape self.old self.new }
         ensures words { (b : ℕ) → b % 8 ≡ 0 → word_of self.new b ≡ moves from to len (word_of self.old) b }
     {
-        move_in_memories(&mut self.memories, from, to, len);
+        move_in_memories(&mut self.memories, self.near, from, to, len);
     }
 
     /// Clears the words of `[a, a + len)`. All other words stay.
@@ -80,7 +86,7 @@ impl Heap {
         ensures shape { SameShape self.old self.new }
         ensures words { (b : ℕ) → b % 8 ≡ 0 → word_of self.new b ≡ clears a len (word_of self.old) b }
     {
-        clear_in_memories(&mut self.memories, a, len);
+        clear_in_memories(&mut self.memories, self.near, a, len);
     }
 
     /// The number of the segment that an address lies in.
@@ -88,28 +94,25 @@ impl Heap {
         requires { HasWord self.now.memories a }
         ensures { result ≡ memory_index self.now.memories a }
     {
-        find(&self.memories, a)
+        find(&self.memories, self.near, a)
     }
 
     /// The number of the segment that an address lies in, at once where that is `near`, a guess: most references of an
     /// object lead into its own segment.
-    #[inline]
+    #[inline(always)]
     pub fn segment_near(&self, near: usize, a: u64) -> usize
         requires { HasWord self.now.memories a }
         ensures { result ≡ memory_index self.now.memories a }
     {
-        if is_in(&self.memories, near, a) {
-            near
-        } else {
-            find(&self.memories, a)
-        }
+        find(&self.memories, near, a)
     }
 }
 
 // Whether memory `k` is there, and an address lies in it.
-#[inline]
+#[inline(always)]
 fn is_in(memories: &Vec<Mem>, k: usize, a: u64) -> bool
-    ensures { result ≡ true → (d : _)
+    ensures there { result ≡ true → k < vec_len memories.now }
+    ensures holds { result ≡ true → (d : _)
         → (k < length memories.now.items) × (contains (get_or memories.now.items k d) a ≡ true) }
 {
     match memories.get(k) {
@@ -118,8 +121,27 @@ fn is_in(memories: &Vec<Mem>, k: usize, a: u64) -> bool
     }
 }
 
-// The number of the memory that an address lies in.
-fn find(memories: &Vec<Mem>, a: u64) -> usize
+// The number of the memory that an address lies in, at once where that is `near`, a guess.
+#[inline(always)]
+fn find(memories: &Vec<Mem>, near: usize, a: u64) -> usize
+    requires word { HasWord memories.now.items a }
+    requires apart { IsApart (shapes memories.now.items) }
+    ensures index { result ≡ memory_index memories.now.items a }
+    ensures word { (d : _) → Holds (get_or memories.now.items result d) a 8 }
+    ensures aligned { (d : _) → (get_or memories.now.items result d).base % 8 ≡ 0 }
+    ensures room { a + 8 < 2 ^ 64 }
+{
+    if !is_in(memories, near, a) {
+        return search(memories, a);
+    }
+    let memory = &memories[near];
+    let _ = memory.len();
+    near
+}
+
+// The same with no guess.
+#[inline(never)]
+fn search(memories: &Vec<Mem>, a: u64) -> usize
     requires word { HasWord memories.now.items a }
     requires apart { IsApart (shapes memories.now.items) }
     ensures index { result ≡ memory_index memories.now.items a }
@@ -143,17 +165,19 @@ fn find(memories: &Vec<Mem>, a: u64) -> usize
     low
 }
 
-fn word_of_memories(memories: &Vec<Mem>, a: u64) -> u64
+#[inline(always)]
+fn word_of_memories(memories: &Vec<Mem>, near: usize, a: u64) -> u64
     requires word { HasWord memories.now.items a }
     requires apart { IsApart (shapes memories.now.items) }
     ensures value { result ≡ word_in memories.now.items a }
     ensures room { a + 8 < 2 ^ 64 }
 {
-    let k = find(memories, a);
+    let k = find(memories, near, a);
     let memory = &memories[k];
     memory.word(a)
 }
 
+#[inline(always)]
 fn word_in_memory(memories: &Vec<Mem>, k: usize, a: u64) -> u64
     requires word { HasWord memories.now.items a }
     requires segment { k ≡ memory_index memories.now.items a }
@@ -164,6 +188,7 @@ fn word_in_memory(memories: &Vec<Mem>, k: usize, a: u64) -> u64
     memory.word(a)
 }
 
+#[inline(always)]
 fn set_word_in_memory(memories: &mut Vec<Mem>, k: usize, a: u64, v: u64)
     requires word { HasWord memories.old.items a }
     requires segment { k ≡ memory_index memories.old.items a }
@@ -176,7 +201,8 @@ fn set_word_in_memory(memories: &mut Vec<Mem>, k: usize, a: u64, v: u64)
     memory.set_word(a, v);
 }
 
-fn set_word_of_memories(memories: &mut Vec<Mem>, a: u64, v: u64)
+#[inline(always)]
+fn set_word_of_memories(memories: &mut Vec<Mem>, near: usize, a: u64, v: u64)
     requires word { HasWord memories.old.items a }
     requires apart { IsApart (shapes memories.old.items) }
     ensures items { memories.new.items ≡ store_in memories.old.items a v }
@@ -184,22 +210,24 @@ fn set_word_of_memories(memories: &mut Vec<Mem>, a: u64, v: u64)
     ensures shapes { shapes memories.new.items ≡ shapes memories.old.items }
     ensures room { a + 8 < 2 ^ 64 }
 {
-    let k = find(memories, a);
+    let k = find(memories, near, a);
     let memory = &mut memories[k];
     memory.set_word(a, v);
 }
 
-fn byte_of_memories(memories: &Vec<Mem>, a: u64) -> u8
+#[inline(always)]
+fn byte_of_memories(memories: &Vec<Mem>, near: usize, a: u64) -> u8
     requires word { HasWord memories.now.items (word_address a) }
     requires apart { IsApart (shapes memories.now.items) }
     ensures { result ≡ byte_of (word_in memories.now.items (word_address a)) (a % 8) }
 {
-    let k = find(memories, a / 8 * 8);
+    let k = find(memories, near, a / 8 * 8);
     let memory = &memories[k];
     memory.byte(a)
 }
 
-fn set_byte_of_memories(memories: &mut Vec<Mem>, a: u64, v: u8)
+#[inline(always)]
+fn set_byte_of_memories(memories: &mut Vec<Mem>, near: usize, a: u64, v: u8)
     requires word { HasWord memories.old.items (word_address a) }
     requires apart { IsApart (shapes memories.old.items) }
     ensures items { memories.new.items
@@ -207,12 +235,12 @@ fn set_byte_of_memories(memories: &mut Vec<Mem>, a: u64, v: u8)
         (with_byte (word_in memories.old.items (word_address a)) (a % 8) v) }
     ensures shapes { shapes memories.new.items ≡ shapes memories.old.items }
 {
-    let k = find(memories, a / 8 * 8);
+    let k = find(memories, near, a / 8 * 8);
     let memory = &mut memories[k];
     memory.set_byte(a, v);
 }
 
-fn move_in_memories(memories: &mut Vec<Mem>, from: u64, to: u64, len: u64)
+fn move_in_memories(memories: &mut Vec<Mem>, near: usize, from: u64, to: u64, len: u64)
     requires from_in { InOne memories.old.items from len }
     requires to_in { InOne memories.old.items to len }
     requires down { to ≤ from }
@@ -222,8 +250,8 @@ fn move_in_memories(memories: &mut Vec<Mem>, from: u64, to: u64, len: u64)
     ensures shapes { shapes memories.new.items ≡ shapes memories.old.items }
     ensures len { length memories.new.items ≡ length memories.old.items }
 {
-    let low = find(memories, to);
-    let high = find(memories, from);
+    let low = find(memories, near, to);
+    let high = find(memories, near, from);
     if low == high {
         slide_in(memories, low, from, to, len);
     } else {
@@ -258,14 +286,14 @@ fn carry_between(memories: &mut Vec<Mem>, low: usize, high: usize, from: u64, to
     target.carry(to, &back[0], from, len);
 }
 
-fn clear_in_memories(memories: &mut Vec<Mem>, a: u64, len: u64)
+fn clear_in_memories(memories: &mut Vec<Mem>, near: usize, a: u64, len: u64)
     requires held { InOne memories.old.items a len }
     requires apart { IsApart (shapes memories.old.items) }
     ensures words { (b : ℕ) → b % 8 ≡ 0 → word_in memories.new.items b ≡ clears a len (word_in memories.old.items) b }
     ensures shapes { shapes memories.new.items ≡ shapes memories.old.items }
     ensures len { length memories.new.items ≡ length memories.old.items }
 {
-    let k = find(memories, a);
+    let k = find(memories, near, a);
     clear_in(memories, k, a, len);
 }
 

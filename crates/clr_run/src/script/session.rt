@@ -114,8 +114,8 @@ impl Session {
         put_outcome(&mut self.pending, sink, &outcome)
     }
 
-    // Answers the line that ends first in these bytes, and gives where what is behind its line feed begins. `None` where no
-    // line ends in them.
+    // Answers the line that ends first in these bytes, and gives where what is behind its line feed begins. `None`
+    // where no line ends in them.
     #[inline]
     fn answer_line<K: Sink>(&mut self, sink: &mut K, text: &[u8]) -> Result<Option<usize>, Failed>
         requires { self.old.runtime.layout.top ≤ 2 ^ 61 }

@@ -11,7 +11,7 @@ use crate::quick::digits::{end_number, take_local, take_number};
 use clr_model::{Command, How};
 
 // Where the first byte stands that may not stand in a name.
-#[inline]
+#[inline(always)]
 fn first_other(text: &[u8]) -> Option<usize>
     ensures { result ≡ position (λ b. not (is_name_byte b)) text.now }
 {
@@ -19,7 +19,7 @@ fn first_other(text: &[u8]) -> Option<usize>
 }
 
 // The bytes in front that may stand in a name, and what is behind them.
-#[inline]
+#[inline(always)]
 fn cut_name(text: &[u8]) -> (&[u8], &[u8])
     ensures whole { text.now ≡ result.0.now ++ result.1.now }
     ensures named { IsTrue (list_all is_name_byte result.0.now) }
@@ -31,7 +31,7 @@ fn cut_name(text: &[u8]) -> (&[u8], &[u8])
 }
 
 // The name in front, and what is behind it. A name goes as far as its bytes do.
-#[inline]
+#[inline(always)]
 fn front_name(text: &[u8]) -> Option<(&[u8], &[u8])>
     ensures { IfSome result (λ p. (text.now ≡ p.0.now ++ p.1.now) × IsTrue (is_name p.0.now)) }
 {
@@ -45,7 +45,7 @@ fn front_name(text: &[u8]) -> Option<(&[u8], &[u8])>
 }
 
 // The name that is the next word, and what is behind it.
-#[inline]
+#[inline(always)]
 fn take_name(text: &[u8]) -> Option<(&[u8], &[u8])>
     ensures { IfSome result (λ p. (text.now ≡ (32 ∷ p.0.now) ++ p.1.now) × IsTrue (is_name p.0.now)) }
 {
@@ -56,7 +56,7 @@ fn take_name(text: &[u8]) -> Option<(&[u8], &[u8])>
 }
 
 // The length that is the last word of a line, or nothing, and what is behind its line feed.
-#[inline]
+#[inline(always)]
 fn end_length(text: &[u8]) -> Option<(Option<u64>, &[u8])>
     ensures { IfSome result (λ p. (text.now ≡ behind (number_words p.0) ++ 10 ∷ p.1.now) × IfSome p.0 IsWord) }
 {
@@ -68,7 +68,7 @@ fn end_length(text: &[u8]) -> Option<(Option<u64>, &[u8])>
 }
 
 /// For which local, of which type and how long an object is made, and what is behind the line's feed.
-#[inline]
+#[inline(always)]
 pub fn read_new(text: &[u8]) -> Option<(u64, &[u8], Option<u64>, &[u8])>
     ensures { IfSome result (λ p. Continues (codes "new") (λ t. new_object t p.0 p.1.now p.2) text.now p.3.now) }
 {

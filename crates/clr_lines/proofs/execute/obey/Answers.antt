@@ -1,5 +1,4 @@
 -- A command is obeyed.
-use Rattle.std.proofs.Common.{refl}
 use Rattle.clr_model.specs.declared.command.Command.TheVariants.{Define, New, Collect}
 use Rattle.clr_lines.proofs.LineSteps.{command_follows, command_formed}
 use Rattle.clr_lines.proofs.execute.obey.Goals as goal

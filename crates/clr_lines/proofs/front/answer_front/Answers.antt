@@ -1,6 +1,5 @@
 -- The line that was done is the first of the text.
-use Rattle.std.proofs.Common.{◌≡◌, ◌∙◌, ◌-◌, ◌∷◌, ◌++◌, List, ℕ, ap, length, sym}
-use Rattle.clr_model.specs.LineGrammar.{thread_word}
+use Rattle.std.proofs.Common.{◌∙◌, ◌-◌, List, ℕ, ap, length, sym}
 use Rattle.clr_lines.proofs.FrontSteps.{window_answered}
 use Rattle.clr_lines.proofs.TopGrows.{top_grows}
 use Rattle.clr_lines.proofs.front.answer_front.Goals as goal

@@ -7,7 +7,7 @@ word_at-requires-2-clause-word c = (info_words c.args.heap.now c.args.plug c.seg
     c.requires).distance.word
 
 pub word_at-requires-2-clause-segment : goal.word_at-requires-2-clause-segment
-word_at-requires-2-clause-segment c = c.segment_of-k.ensures
+word_at-requires-2-clause-segment c = c.segment_near-k.ensures
     ∙ (info_words c.args.heap.now c.args.plug c.segments.ensures.heap c.requires).distance.same
 
 pub word_at-requires-3-clause-word : goal.word_at-requires-3-clause-word
@@ -15,5 +15,5 @@ word_at-requires-3-clause-word c = (info_words c.args.heap.now c.args.plug c.seg
     c.requires).children.word
 
 pub word_at-requires-3-clause-segment : goal.word_at-requires-3-clause-segment
-word_at-requires-3-clause-segment c = c.segment_of-k.ensures
+word_at-requires-3-clause-segment c = c.segment_near-k.ensures
     ∙ (info_words c.args.heap.now c.args.plug c.segments.ensures.heap c.requires).children.same

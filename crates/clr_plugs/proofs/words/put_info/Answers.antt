@@ -13,7 +13,7 @@ set_word_at-requires-2 c =
     (info_words c.args.heap.now c.args.plug c.segments.ensures.heap c.requires) in
     record {
       word = rw c.set_word_at.ensures can.0;
-      segment = rw c.set_word_at.ensures (c.segment_of-k.ensures ∙ can.1);
+      segment = rw c.set_word_at.ensures (c.segment_near-k.ensures ∙ can.1);
     }
 
 pub set_word_at-requires-3 : goal.set_word_at-requires-3
@@ -22,7 +22,7 @@ set_word_at-requires-3 c =
     (info_words c.args.heap.now c.args.plug c.segments.ensures.heap c.requires) in
     record {
       word = rw (c.set_word_at-2.ensures, c.set_word_at.ensures) can.0;
-      segment = rw (c.set_word_at-2.ensures, c.set_word_at.ensures) (c.segment_of-k.ensures ∙ can.1);
+      segment = rw (c.set_word_at-2.ensures, c.set_word_at.ensures) (c.segment_near-k.ensures ∙ can.1);
     }
 
 pub returns : goal.returns

@@ -3,8 +3,33 @@ use Rattle.clr_heap.specs.View.{word_of}
 use Rattle.clr_plugs.specs.Builders.{places_from}
 use Rattle.clr_plugs.specs.Cursors.{ahead, AreLeft, CursorView, TellLeft}
 use Rattle.clr_plugs.specs.Plans.{IsPart, PlannedPart, plug_starts}
+use Rattle.clr_plugs.proofs.Gathering.{child_word, gather_fits}
 use Rattle.clr_plugs.proofs.Loading.{can_gather, loaded}
 use Rattle.clr_plugs.proofs.cursor.PlugCursor.load.Goals as goal
+
+pub children_in-below-requires-clause-word : goal.children_in-below-requires-clause-word
+children_in-below-requires-clause-word c =
+    let h = c.args.heap.now in
+    let bricks = c.args.bricks.now in
+    let P : CursorView → Type 0 = λ v. AreLeft h bricks v.brick v.past in
+    let left = subst P (sym c.self.view_is) c.requires.left in
+    let Q : CursorView → Type 0 = λ v. v.brick < v.past in
+    let some = subst Q (sym c.self.view_is) c.requires.some in
+    child_word h (c.self.inside.brick * 4096) c.lead-root.result.0 8 0
+    (can_gather h bricks c.self.inside.brick c.self.inside.past c.lead-root.result.0 c.segments.ensures.heap left some
+    (ap (λ (p : ℕ × ℕ). p.0) c.lead-root.ensures))
+
+pub children_in-below-requires-clause-fits : goal.children_in-below-requires-clause-fits
+children_in-below-requires-clause-fits c =
+    let h = c.args.heap.now in
+    let bricks = c.args.bricks.now in
+    let P : CursorView → Type 0 = λ v. AreLeft h bricks v.brick v.past in
+    let left = subst P (sym c.self.view_is) c.requires.left in
+    let Q : CursorView → Type 0 = λ v. v.brick < v.past in
+    let some = subst Q (sym c.self.view_is) c.requires.some in
+    gather_fits h (c.self.inside.brick * 4096) c.lead-root.result.0 8 0
+    (can_gather h bricks c.self.inside.brick c.self.inside.past c.lead-root.result.0 c.segments.ensures.heap left some
+    (ap (λ (p : ℕ × ℕ). p.0) c.lead-root.ensures))
 
 pub gather-count-requires-clause-can : goal.gather-count-requires-clause-can
 gather-count-requires-clause-can c =

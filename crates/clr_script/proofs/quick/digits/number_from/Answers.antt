@@ -6,8 +6,8 @@ use Rattle.clr_script.proofs.quick.digits.number_from.Goals as goal
 pub returns-in-48-to-57 : goal.returns-in-48-to-57
 returns-in-48-to-57 c = (
   first_digit c.args.first c.args.text.now c.if-not-is_ascii_digit.ensures.cases
-      ∙ (ap (λ n. decimal n ++ c.args.text.now) (sym c.from-front.ensures) ∙ c.more_digits.ensures.read),
-  c.more_digits.ensures.fits,
+      ∙ (ap (λ n. decimal n ++ c.args.text.now) (sym c.from-front.ensures) ∙ c.long_number.ensures.read),
+  c.long_number.ensures.fits,
 )
 
 pub returns-in_default : goal.returns-in_default

@@ -11,8 +11,15 @@ returns c =
     let from = c.in_ok-from in
     let index = c.in_ok-index in
     front_made (codes "get") (local_word to.to ∷ local_word from.from ∷ decimal index.index ∷ [])
-    (λ t. get_slot t to.to from.from index.index) c.args.text.now _ (λ t. refl) (λ t fits. (fits, to.ensures.1, from.ensures.1, index.ensures.1)) (
+    (λ t. get_slot t to.to from.from index.index) c.args.text.now _ (λ t. refl)
+    (λ t fits. (fits, to.ensures.1, from.ensures.1, index.ensures.1)) (
       text_unfed (codes "get") refl,
-      (local_unfed to.to to.ensures.1, (local_unfed from.from from.ensures.1, (number_unfed index.index index.ensures.1, tt))),
+      (
+        local_unfed to.to to.ensures.1,
+        (
+          local_unfed from.from from.ensures.1,
+          (number_unfed index.index index.ensures.1, tt),
+        ),
+      ),
     )
     (_, to.ensures.0, (_, from.ensures.0, (_, index.ensures.0, refl)))

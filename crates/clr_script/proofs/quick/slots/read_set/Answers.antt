@@ -11,8 +11,15 @@ returns c =
     let index = c.in_ok-index in
     let stored = c.in_ok-stored in
     front_made (codes "set") (local_word into.into ∷ decimal index.index ∷ local_word stored.stored ∷ [])
-    (λ t. set_slot t into.into index.index stored.stored) c.args.text.now _ (λ t. refl) (λ t fits. (fits, into.ensures.1, index.ensures.1, stored.ensures.1)) (
+    (λ t. set_slot t into.into index.index stored.stored) c.args.text.now _ (λ t. refl)
+    (λ t fits. (fits, into.ensures.1, index.ensures.1, stored.ensures.1)) (
       text_unfed (codes "set") refl,
-      (local_unfed into.into into.ensures.1, (number_unfed index.index index.ensures.1, (local_unfed stored.stored stored.ensures.1, tt))),
+      (
+        local_unfed into.into into.ensures.1,
+        (
+          number_unfed index.index index.ensures.1,
+          (local_unfed stored.stored stored.ensures.1, tt),
+        ),
+      ),
     )
     (_, into.ensures.0, (_, index.ensures.0, (_, stored.ensures.0, refl)))

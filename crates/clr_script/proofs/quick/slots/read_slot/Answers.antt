@@ -10,7 +10,8 @@ returns c =
     let from = c.in_ok-from in
     let index = c.in_ok-index in
     front_made (codes "read") (local_word from.from ∷ decimal index.index ∷ [])
-    (λ t. read_number t from.from index.index) c.args.text.now _ (λ t. refl) (λ t fits. (fits, from.ensures.1, index.ensures.1)) (
+    (λ t. read_number t from.from index.index) c.args.text.now _ (λ t. refl)
+    (λ t fits. (fits, from.ensures.1, index.ensures.1)) (
       text_unfed (codes "read") refl,
       (local_unfed from.from from.ensures.1, (number_unfed index.index index.ensures.1, tt)),
     )

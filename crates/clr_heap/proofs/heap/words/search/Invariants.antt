@@ -1,6 +1,6 @@
 use Rattle.std.proofs.Common.{◌-◌, ◌<◌, ◌≤◌, length}
 use Rattle.clr_heap.specs.Memories.{memory_index}
-use Rattle.clr_heap.proofs.heap.words.find.Given as goal
+use Rattle.clr_heap.proofs.heap.words.search.Given as goal
 
 abbrev pub invariant-loop-low : goal.invariant-loop-low
 invariant-loop-low l = record {

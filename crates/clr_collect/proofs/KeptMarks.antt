@@ -47,7 +47,8 @@ use Rattle.clr_collect.specs.Collecting.{HasMarkedAlive, HasMarkedKept, HasUnfla
 use Rattle.clr_collect.specs.Collecting.{LeavesKept, objects_unflagged, unflagged, world_with}
 use Rattle.clr_collect.proofs.ClearedFlags.{left_unflagged, stands_unflagged}
 use Rattle.clr_collect.proofs.HandlesAfter.{rows_after, second_cleared, second_was}
-use Rattle.clr_collect.proofs.LeftCases.{condemned-is, condemned-left, IsOlder, left-cases, older-left}
+use Rattle.clr_survivors.proofs.LeftGoes.{condemned-is}
+use Rattle.clr_collect.proofs.LeftCases.{condemned-left, IsOlder, left-cases, older-left}
 use Rattle.clr_collect.proofs.RemarkedHeads.{heads_remarked}
 use Rattle.clr_collect.proofs.WorldNames.{entries_stand, handles_stand, slots_stand}
 use Rattle.clr_collect.proofs.YoungReach.{near_reached, reached_young}

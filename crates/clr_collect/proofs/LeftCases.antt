@@ -9,11 +9,7 @@ use Rattle.clr_view.specs.Memory.{is_left_name, is_marked}
 use Rattle.clr_view.specs.SlotValues.{StandsAt}
 use Rattle.clr_view.proofs.LeftNames.{left-marked, left-name, marked-left, name-is-place, tests_left}
 use Rattle.clr_mark.specs.Marks.{is_condemned_place}
-
--- a place that is condemned, as what a collection goes over
-pub condemned-is : (h : HeapView) (g x : ℕ) → is_condemned_place h g x ≡ nat_le (generation (frame h) x) g
-unfolding is_condemned_place
-condemned-is h g x = refl
+use Rattle.clr_survivors.proofs.LeftGoes.{condemned-is}
 
 -- an object that isn't condemned stands at x
 pub record IsOlder (rows : List TypeRow) (h : HeapView) (g x : ℕ) : Type 0 where

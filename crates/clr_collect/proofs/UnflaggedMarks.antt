@@ -12,7 +12,7 @@ use Rattle.clr_mark.specs.Waiting.{IsGray, IsSettled, MarkerView}
 use Rattle.clr_collect.specs.Collecting.{HasUnflagged}
 use Rattle.clr_collect.proofs.ClearedFlags.{stands_unflagged}
 use Rattle.clr_collect.proofs.KeptMarks.{edge-was}
-use Rattle.clr_collect.proofs.LeftCases.{condemned-is}
+use Rattle.clr_survivors.proofs.LeftGoes.{condemned-is}
 
 module _ (rows : List TypeRow) (old new : HeapView) (g : ℕ) (entries : List ℕ)
     (u : HasUnflagged rows old new g entries) where

@@ -54,7 +54,7 @@ use Rattle.clr_sweep.specs.declared.tally.Tally.{Tally}
 use Rattle.clr_sweep.proofs.ObjectsSwept.{mark-elsewhere}
 use Rattle.clr_collect.specs.Collecting.{CountsSlides, HasMarkedKept, LeavesKept, objects_unflagged, world_with}
 use Rattle.clr_collect.specs.Released.{HasLost, HasReleased}
-use Rattle.clr_collect.proofs.LeftCases.{condemned-is}
+use Rattle.clr_survivors.proofs.LeftGoes.{condemned-is}
 use Rattle.clr_collect.proofs.SegmentsLost.{lost-refl, lost_heads, lost_objects}
 use Rattle.clr_collect.proofs.SweepCollects.{rests_swept, survive-plain, swept_machine, swept_memory, sweep_collects}
 use Rattle.clr_collect.proofs.SweepCollects.{sweep_collects_as, told}

@@ -20,7 +20,8 @@ use clr_heap::Heap;
 use clr_types::{TypeId, Types};
 
 /// Makes an object of type `t`, with `len` elements where it is an array, at the front of what is left of the context
-/// of a thread, 1 to 16, and answers its place. Its brick names it, where it may and names no object below.
+/// of a thread, 1 to 16, and answers its place. `size` is how many bytes it takes, which whoever found room for it has.
+/// Its brick names it, where it may and names no object below.
 ///
 /// Its references are null and its numbers 0. Of the context the bytes behind the object are left. All other objects,
 /// the free items and the rest of the layout stay. It marks nothing, changes no head of a free item, and leaves headers
@@ -33,12 +34,14 @@ pub fn bear(
     thread: usize,
     t: TypeId,
     len: u64,
+    size: u64,
 ) -> u64
     requires held { IsHeld types.now heap.old }
     requires positive { 0 < thread }
     requires few { thread ≤ 16 }
     requires item { IsMakeable types.now t.0 len }
     requires object { 0 < t.0 }
+    requires size { size ≡ size_of (form_at types.now t.0) len }
     requires room { own_fits (frame heap.old) thread (size_of (form_at types.now t.0) len) ≡ true }
     requires bricks { AreBricksOf (frame heap.old) bricks.old }
     ensures place { result ≡ context_front (frame heap.old) thread }
@@ -58,7 +61,7 @@ pub fn bear(
         (objects_in types.now heap.new) }
 {
     heap.lawful();
-    let place = clr_view::bear(heap, types, thread, t, len);
+    let place = clr_view::bear(heap, types, thread, t, len, size);
     heap.lawful();
     enter_newborn(heap, bricks, place);
     place

@@ -4,17 +4,19 @@ use Rattle.std.proofs.Common.{Bool, true, false, ◌&&◌, ◌==◌, if◌then�
 use Rattle.std.specs.Bool.{beq}
 use Rattle.std.proofs.lemmas.Bool.{and_parts, eqb-true}
 use Rattle.clr_types.specs.Types.{TypeRow}
-use Rattle.clr_types.specs.Segments.{generation}
 use Rattle.clr_types.specs.declared.item.Item.{Item}
 use Rattle.clr_types.proofs.ChangedLists.{all_imply}
+use Rattle.clr_heap.specs.Memories.{HasWord, memory_index}
 use Rattle.clr_heap.specs.Parts.{item_at}
-use Rattle.clr_heap.specs.View.{HeapView, frame, word_of, segment_at}
+use Rattle.clr_heap.specs.View.{HeapView, word_of, segment_at}
 use Rattle.clr_heap.proofs.Spelling.{place-item_at}
 use Rattle.clr_view.specs.Marks.{has_mark}
 use Rattle.clr_view.specs.View.{is_object}
 use Rattle.clr_model.specs.Compaction.{Plug, plug_end, plug_of, plugs_of, joined}
+use Rattle.clr_sweep.specs.Dead.{IsDeadKind}
 use Rattle.clr_sweep.specs.SweptItems.{stays}
-use Rattle.clr_plan.specs.Scans.{CanLook, CanScan, has_pin, survivor_in, kept_plug, is_alike, plugs_between}
+use Rattle.clr_sweep.proofs.DeadKinds.{dead-stays}
+use Rattle.clr_plan.specs.Scans.{CanLook, CanScan, survivor_in, kept_plug, is_alike, plugs_between}
 use Rattle.clr_plan.specs.Runs.{merged, IsRun, HasRun, HasNext}
 use Rattle.clr_plan.specs.declared.scan.Found.{Found}
 use Rattle.clr_plan.proofs.Scanning.{it, after, AtItem, at_item, survivors-done, survivors-more, survivors-over}
@@ -37,24 +39,47 @@ module _ (rows : List TypeRow) (h : HeapView) (k p mt : ℕ) (found : Item) (wor
   look-none off = sym (ap (λ b. if b then Some (plug_of (survivor_in h k (item_at rows (word_of h) p))) else None)
       (stays-is ∙ off))
 
-  pub look-some : (is_object found && has_mark mt) ≡ true → (plug : Plug) (base g header : ℕ) (pinned : Bool) → base
-      ≡ (segment_at h k).base → g ≡ generation (frame h) p → header ≡ word_of h (p - 8) → pinned ≡ has_pin header
-      → plug ≡ record { start = p; size = found.size; segment = base; generation = g; pinned = pinned }
+  -- then the plug of what was found is the one that is kept
+  pub look-some : (is_object found && has_mark mt) ≡ true → (plug : Plug) → plug ≡ plug_of (survivor_in h k found)
       → ◌≡◌ {A = Option Plug} (Some plug) (kept_plug h k (item_at rows (word_of h) p))
-  look-some on plug base g header pinned of age at pin plug-is =
-      ap (λ q. Some q) (plug-is ∙ same) ∙ sym (ap
+  look-some on plug plug-is =
+      ap (λ q. Some q) (plug-is ∙ ap (λ (i : Item). plug_of (survivor_in h k i)) is) ∙ sym (ap
       (λ b. if b then Some (plug_of (survivor_in h k (item_at rows (word_of h) p))) else None) (stays-is ∙ on))
-    where
-      place : p ≡ (item_at rows (word_of h) p).place
-      place = sym (place-item_at rows (word_of h) p)
 
-      same : ◌≡◌ {A = Plug} (record { start = p; size = found.size; segment = base; generation = g; pinned = pinned })
-          (plug_of (survivor_in h k (item_at rows (word_of h) p)))
-      same =
-          let size = ap (λ (i : Item). i.size) is in
-          let ages = age ∙ ap (generation (frame h)) place in
-          let pins = pin ∙ ap has_pin (at ∙ ap (λ q. word_of h (q - 8)) place) in
-          λ i. record { start = place i; size = size i; segment = of i; generation = ages i; pinned = pins i }
+-- what was found at a place that can be looked at, as the plug of it needs it
+module _ (rows : List TypeRow) (h : HeapView) (k p : ℕ) (found : Item) (is : found ≡ item_at rows (word_of h) p)
+    (can : CanLook rows h k p) where
+  -- it stands there
+  found-place : found.place ≡ p
+  found-place = ap (λ (i : Item). i.place) is ∙ place-item_at rows (word_of h) p
+
+  -- its header is a word
+  pub found-header : HasWord h.memories (found.place - 8)
+  found-header = subst (λ (n : ℕ). HasWord h.memories (n - 8)) (sym found-place) can.header
+
+  -- of the segment
+  pub found-header_in : k ≡ memory_index h.memories (found.place - 8)
+  found-header_in = can.header_in ∙ ap (λ (n : ℕ). memory_index h.memories (n - 8)) (sym found-place)
+
+  -- there is room for it below
+  pub found-above : 8 ≤ found.place
+  found-above = let above = can.above in let at = found-place in omega (arith, above, at)
+
+  -- and the item ends below 2^64
+  pub found-room : found.place + found.size < 2 ^ 64
+  found-room =
+      let room = can.room in
+      let at = found-place in
+      let size = ap (λ (i : Item). i.size) is in
+      omega (arith, room, at, size)
+
+-- an item of a dead kind isn't kept
+pub look-dead : (rows : List TypeRow) (h : HeapView) (k p mt size : ℕ)
+    → IsDeadKind rows (record { mt = mt; size = size }) → mt ≡ word_of h p
+    → ◌≡◌ {A = Option Plug} None (kept_plug h k (item_at rows (word_of h) p))
+look-dead rows h k p mt size kind word =
+    sym (ap (λ b. if b then Some (plug_of (survivor_in h k (item_at rows (word_of h) p))) else None)
+    (dead-stays rows h p mt size kind word))
 
 -- a plug is seen exactly where the item stays
 kept-some : (h : HeapView) (k : ℕ) (i : Item) (q : Plug) → ◌≡◌ {A = Option Plug} (Some q) (kept_plug h k i)

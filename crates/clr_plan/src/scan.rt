@@ -1,16 +1,18 @@
 // The plugs of a part of a segment, one after the other.
 ghost use Rattle.std.specs.Prelude.{◌≡◌, ℕ, ◌+◌, ◌-◌, ◌<◌, ◌≤◌, ◌^◌, [], ◌∷◌, ◌&&◌, MatchOption, IfSome, Some, None};
 ghost use Rattle.std.specs.Prelude.{length};
-ghost use Rattle.clr_model.specs.Compaction.{plug_end};
+ghost use Rattle.clr_model.specs.Compaction.{plug_end, plug_of};
+ghost use Rattle.clr_heap.specs.Memories.{HasWord, memory_index};
 ghost use Rattle.clr_heap.specs.Parts.{item_at};
 ghost use Rattle.clr_heap.specs.View.{segment_at, word_of};
 ghost use Rattle.clr_view.specs.Marks.{has_mark};
 ghost use Rattle.clr_view.specs.View.{is_object};
-ghost use Rattle.clr_plan.specs.Scans.{CanLook, CanScan, has_pin, kept_plug, plugs_between};
+ghost use Rattle.clr_plan.specs.Scans.{CanLook, CanScan, has_pin, kept_plug, plugs_between, survivor_in};
 ghost use Rattle.clr_plan.specs.Runs.{HasNext, HasRun, IsRun};
 
 use crate::plug::Plug;
 use clr_heap::{Heap, Item};
+use clr_sweep::{dead_size, item_and_kind};
 use clr_types::Types;
 
 /// The bit of an object's header that says that it is pinned.
@@ -42,12 +44,19 @@ pub fn next_plug(heap: &Heap, types: &Types, k: usize, from: u64, end: u64) -> O
 {
     let base = heap.info(k).base;
     let mut place = from;
+    let mut known = None;
     while place < end {
-        let seen = look(heap, types, k, base, place);
-        match seen.kept {
-            Some(plug) => return Some(whole_run(heap, types, k, base, plug, end)),
-            None => place += seen.size,
+        let mt = heap.word_at(k, place);
+        if let Some(size) = dead_size(known, mt) {
+            place += size;
+            continue;
         }
+        let found = item_and_kind(heap, types, k, place, mt, &mut known);
+        if is_kept(found, mt) {
+            let plug = plug_at(heap, k, base, found);
+            return Some(whole_run(heap, types, k, base, plug, end));
+        }
+        place += found.size;
     }
     None
 }
@@ -96,18 +105,35 @@ fn look(heap: &Heap, types: &Types, k: usize, base: u64, place: u64) -> Seen
 {
     let mt = heap.word_at(k, place);
     let found = heap.item_of_word(types, k, place, mt);
-    if !is_kept(found, mt) {
-        return Seen {
-            size: found.size,
-            kept: None,
-        };
-    }
-    let pinned = is_pinned(heap.word_at(k, place - 8));
-    let plug = Plug::of_object(place, found.size, base, heap.gen_of(place), pinned);
+    let kept = if is_kept(found, mt) {
+        Some(plug_at(heap, k, base, found))
+    } else {
+        None
+    };
     Seen {
         size: found.size,
-        kept: Some(plug),
+        kept,
     }
+}
+
+// The plug that a marked object is, where it is alone.
+#[inline(always)]
+fn plug_at(heap: &Heap, k: usize, base: u64, found: Item) -> Plug
+    requires base { base ≡ (segment_at heap.now k).base }
+    requires header { HasWord heap.now.memories (found.place - 8) }
+    requires header_in { k ≡ memory_index heap.now.memories (found.place - 8) }
+    requires above { 8 ≤ found.place }
+    requires room { found.place + found.size < 2 ^ 64 }
+    ensures { result ≡ plug_of (survivor_in heap.now k found) }
+{
+    let pinned = is_pinned(heap.word_at(k, found.place - 8));
+    Plug::of_object(
+        found.place,
+        found.size,
+        base,
+        heap.gen_of(found.place),
+        pinned,
+    )
 }
 
 // Whether an item with this method table word stays: it is an object, and marked.

@@ -116,6 +116,7 @@ fn make_small(parts: &mut Parts, t: u64, local: u64, request: Request) -> Result
         thread,
         request.type_id,
         request.len,
+        request.size,
     );
     register_entry(&mut parts.finals, request.finalizer, place);
     parts.locals[index_of(t, local)] = place;

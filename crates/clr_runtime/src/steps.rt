@@ -203,6 +203,7 @@ fn finish_birth(
         t as usize,
         type_id,
         len,
+        size,
     );
     register_entry(&mut parts.finals, finalizer, place);
     parts.locals[index_of(t, local)] = place;

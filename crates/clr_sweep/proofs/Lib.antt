@@ -32,3 +32,4 @@ pub mod LargeWhole
 pub mod Extents
 pub mod KeptSizes
 pub mod KeptBytes
+pub mod DeadKinds

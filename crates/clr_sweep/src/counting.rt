@@ -12,6 +12,7 @@ ghost use Rattle.clr_sweep.specs.Swept.{tally_of};
 ghost use Rattle.clr_sweep.specs.SweptItems.{items_from, tally_among};
 ghost use Rattle.clr_sweep.specs.SweptSegments.{IsParted};
 
+use crate::dead::{dead_size, item_and_kind};
 use crate::pass::with_item;
 use crate::sweeping::start_of;
 use crate::tally::Tally;
@@ -70,11 +71,17 @@ fn count_part(heap: &Heap, types: &Types, k: usize, from: u64, before: Tally) ->
     let end = heap.info(k).end;
     let mut place = from;
     let mut tally = before;
+    let mut known = None;
     while place < end {
         let mt = heap.word_at(k, place);
-        let found = heap.item_of_word(types, k, place, mt);
-        tally = with_item(heap, tally, found, mt);
-        place += found.size;
+        if let Some(size) = dead_size(known, mt) {
+            tally.freed += 1;
+            place += size;
+        } else {
+            let found = item_and_kind(heap, types, k, place, mt, &mut known);
+            tally = with_item(heap, tally, found, mt);
+            place += found.size;
+        }
     }
     tally
 }

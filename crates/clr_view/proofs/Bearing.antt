@@ -1,5 +1,5 @@
 -- For the caller that makes an object: what a test of its context says, and what its writes leave.
-use Rattle.std.proofs.Common.{◌≡◌, ◌⊎◌, inl, inr, ℕ, ◌+◌, ◌-◌, ◌<◌, ◌≤◌, eqb, leb, true, List, [], ◌∷◌, ◌++◌, set}
+use Rattle.std.proofs.Common.{◌≡◌, ◌⊎◌, inl, inr, ℕ, ◌+◌, ◌-◌, ◌^◌, ◌<◌, ◌≤◌, eqb, leb, true, List, [], ◌∷◌, ◌++◌, set}
 use Rattle.std.proofs.Common.{Option, None, Some, refl, ap, sym, ◌∙◌, subst, subst₂, arith}
 use Rattle.std.specs.Option.{option_map}
 use Rattle.std.proofs.lemmas.Bool.{cases_Bool, eqb-true, leb-true}
@@ -10,15 +10,18 @@ use Rattle.clr_types.proofs.ListMembers.{append_right}
 use Rattle.clr_types.proofs.SortedLists.{into_sorted_by}
 use Rattle.clr_types.specs.Ranges.{fits, Piece, piece_end}
 use Rattle.clr_types.specs.Segments.{flat_option, rest_of}
+use Rattle.clr_heap.specs.Memories.{memory_index}
 use Rattle.clr_heap.specs.Parts.{IsMakeable}
 use Rattle.clr_heap.specs.View.{frame, HasHead, HeapView, IsHeap, placed, rest_between, rest_bounds, word_of}
+use Rattle.clr_heap.proofs.Framing.{below_top_at, lawful_at}
 use Rattle.clr_model.specs.Allocation.{context_front, own_fits, rest_fits}
 use Rattle.clr_model.specs.Machine.{Object}
 use Rattle.clr_view.specs.View.{HasNewborn, IsHeld, newborn_at, objects_in}
 use Rattle.clr_view.specs.SlotValues.{StandsAt}
 use Rattle.clr_view.specs.Births.{with_newborn}
 use Rattle.clr_view.proofs.Born.{born_at_front, front-is, grown, grown-is, heap-grown}
-use Rattle.clr_view.proofs.Fronts.{cell-clear, FitsFront, head, IsClearBehind, leaves, up-to}
+use Rattle.clr_view.proofs.Fronts.{bounds, cell-clear, FitsFront, head, hole, IsClearBehind, k, leaves}
+use Rattle.clr_view.proofs.Fronts.{one-memory, up-to, young}
 
 -- a size that fits fills the range or leaves 24 bytes
 pub fits-is : (size bytes : ℕ) → fits size bytes ≡ true → (size ≡ bytes) ⊎ (size + 24 ≤ bytes)
@@ -103,6 +106,28 @@ module _ (rows : List TypeRow) (h : HeapView) (thread t n : ℕ) (asked : IsAske
     -- the head can be written
     pub front-head : HasHead h front
     front-head = subst (HasHead h) (sym context-found.front_is) (head rows h thread r t n f)
+
+    -- all of it is in one memory
+    pub front-memory : (b : ℕ) → front ≤ b + 8 → b ≤ front + 8 → memory_index h.memories (front - 8)
+        ≡ memory_index h.memories b
+    front-memory b low below =
+        let at = context-found.front_is in
+        let least = (hole rows h thread r t n f).least in
+        let above = front-head.above in
+        one-memory rows h thread r t n f (front - 8) (omega arith) (omega arith)
+        ∙ sym (one-memory rows h thread r t n f b (omega arith) (omega arith))
+
+    -- and far below the last address
+    pub front-high : front + 8 < 2 ^ 64
+    front-high =
+        let at = context-found.front_is in
+        let to = (bounds rows h thread r t n f).1 in
+        let least = (hole rows h thread r t n f).least in
+        let here = (young rows h thread r t n f).in_range in
+        let in_segment = (lawful_at h (k rows h thread r t n f) asked.heap here).high in
+        let top = below_top_at h (k rows h thread r t n f) asked.heap here in
+        let small = asked.heap.top_small in
+        omega arith
 
     -- the object ends within the context
     pub front-room : front + size_of (form_at rows t) n ≤ end

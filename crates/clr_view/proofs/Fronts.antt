@@ -6,9 +6,11 @@ use Rattle.std.proofs.lemmas.Bool.{cases_Bool, cases_eq, eq-eqb, ne_eqb}
 use Rattle.std.proofs.lemmas.List.{get_or-set_other, get_or-set_same}
 use Rattle.clr_types.specs.Types.{TypeRow, Form, form_at, is_array, mt_of, size_of, slot_offset}
 use Rattle.clr_types.specs.Ranges.{Piece, piece_end}
+use Rattle.clr_heap.specs.Memories.{memory_index}
 use Rattle.clr_heap.specs.Parts.{Among, hole_from, IsMakeable, made_item, rest_part, start_of}
 use Rattle.clr_heap.specs.View.{first_of, HasHead, HeapView, IsHeap, IsWalkable, last_of, parts_of, placed}
 use Rattle.clr_heap.specs.View.{rest_between, sight, stored, word_of}
+use Rattle.clr_heap.proofs.Addresses.{index_is_segment}
 use Rattle.clr_heap.proofs.Framing.{lawful_at}
 use Rattle.clr_heap.proofs.Holes.{hole_among, HoleAt, part_bounds}
 use Rattle.clr_heap.proofs.Placing.{head_at, Placed, placed_leaves}
@@ -171,6 +173,15 @@ module _ (rows : List TypeRow) (h : HeapView) (thread : ℕ) (r : Piece) (t n : 
       let b = part_bounds (sight rows h k) (parts_of rows h k) (rest_part a high) (first_of h k) (last_of h k)
       walk.spelled among in
       head_at rows h k a high walk b.0 b.1 hole.least
+
+  -- all of it is in one memory
+  pub one-memory : (b : ℕ) → a ≤ b + 8 → b < high → memory_index h.memories b ≡ k
+  one-memory b low below =
+      let lawful = lawful_at h k f.heap young.in_range in
+      let top = lawful.high in
+      let from = bounds.0 in
+      let to = bounds.1 in
+      index_is_segment h k b f.heap young.in_range (omega arith) (omega arith)
 
   pub leaves : Placed rows h headed a t n
   leaves = placed_leaves rows h a t n head

@@ -10,6 +10,7 @@ pub mod Rises
 pub mod Fronts
 pub mod Born
 pub mod Bearing
+pub mod Rules
 pub mod Walked
 pub mod StoredSlots
 pub mod Stores

@@ -82,7 +82,7 @@ fn birth(rt: &impl Abort, heap: &mut Heap, types: &Types, thread: usize, t: Type
 {
     let size = types.item_size(t, len);
     assert!(rt; fits_front(heap, thread, size));
-    bear(heap, types, thread, t, len)
+    bear(heap, types, thread, t, len, size)
 }
 
 // Writes a slot of the object at a place, and answers what is read back.

@@ -90,6 +90,7 @@ impl Heap {
     }
 
     /// The number of the segment that an address lies in.
+    #[inline(always)]
     pub fn segment_of(&self, a: u64) -> usize
         requires { HasWord self.now.memories a }
         ensures { result ≡ memory_index self.now.memories a }

@@ -65,6 +65,14 @@ bear-place-requires-clause-object c =
     let (name, len, measured) = c.requires.asked in
     (known c.args.parts.now.types c.args.local name len c.args.request measured).0
 
+pub bear-place-requires-clause-size : goal.bear-place-requires-clause-size
+bear-place-requires-clause-size c =
+    let at = (goal.at.bear-place-requires-clause-size c).In_default in
+    let (name, len, measured) = c.requires.asked in
+    let there = asked at name len measured in
+    let form = form_at c.make_room.new.parts.types c.args.request.type_id.0 in
+    there.size_is ∙ ap (size_of form) (sym there.len_is)
+
 pub bear-place-requires-clause-room : goal.bear-place-requires-clause-room
 bear-place-requires-clause-room c =
     let at = (goal.at.bear-place-requires-clause-room c).In_default in

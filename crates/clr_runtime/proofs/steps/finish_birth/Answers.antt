@@ -47,6 +47,9 @@ bear-place-requires-clause-object c =
     (birth_known c.args.parts.now c.requires.runtime c.args.t c.requires.thread c.args.type_id c.args.len c.args.local
     c.args.finalizer c.requires.begun).0
 
+pub bear-place-requires-clause-size : goal.bear-place-requires-clause-size
+bear-place-requires-clause-size c = c.item_size-size.ensures
+
 pub bear-place-requires-clause-room : goal.bear-place-requires-clause-room
 bear-place-requires-clause-room c =
     birth_room c.args.parts.now c.requires.runtime c.args.t c.requires.thread c.args.type_id c.args.len c.args.local

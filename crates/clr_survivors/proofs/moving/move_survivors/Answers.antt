@@ -18,6 +18,7 @@ use Rattle.clr_survivors.proofs.Settled.{heads-settled, limit-settled, rests-set
 use Rattle.clr_survivors.proofs.PinnedFrom.{pinned-relocated}
 use Rattle.clr_survivors.proofs.PlannedPins.{memory-with, with_handles}
 use Rattle.clr_survivors.proofs.moving.move_survivors.Goals as goal
+use Rattle.clr_survivors.proofs.moving.move_survivors.Goals.{After-lawful-4}
 
 pub plan_pinned-planned-requires-clause-stand : goal.plan_pinned-planned-requires-clause-stand
 plan_pinned-planned-requires-clause-stand c = λ n row here pinned some.
@@ -58,271 +59,94 @@ move_by_plan-promoted-requires-clause-can c =
           refl c.plan_pinned-planned.ensures.spans,
     )
 
+-- the collection, up to where the headers are settled
+abbrev stages : After-lawful-4 → Stages
+stages c = record {
+  rows = c.args.types.now;
+  old = c.args.heap.now;
+  ready = c.plan_pinned-planned.new.heap;
+  moved = c.move_by_plan-promoted.new.heap;
+  cards = c.args.cards.now;
+  before = c.args.bricks.now;
+  bricks = c.plan_pinned-planned.new.bricks;
+  entries = c.plan_pinned-planned.new.pins.entries;
+  locals = c.args.locals.now;
+  locals_after = c.move_by_plan-promoted.new.locals;
+  table = c.args.handles.now;
+  table_after = c.move_by_plan-promoted.new.handles;
+  queues = c.args.finals.now;
+  queues_after = c.move_by_plan-promoted.new.finals;
+  g = c.args.g;
+  low = c.first_condemned-low.result;
+  to1 = c.move_by_plan-promoted.result.to1;
+  to2 = c.move_by_plan-promoted.result.to2;
+  slides = c.args.slides.now;
+  slides_after = c.move_by_plan-promoted.new.slides;
+  planned = c.plan_pinned-planned.result;
+}
+
+ran : (c : After-lawful-4) → IsRun (stages c)
+ran c = record {
+  given = record {
+    generation = c.requires.generation;
+    heap = c.lawful.ensures;
+    held = c.requires.held;
+    no_contexts = c.requires.no_contexts;
+    laid = c.requires.laid;
+    clean = c.requires.clean;
+    free_heads = c.requires.free_heads;
+    young = c.requires.young;
+    closed = c.requires.closed;
+    stands = c.requires.stands;
+    named = c.requires.named;
+    tables = c.requires.tables;
+    numbers = c.lawful-2.ensures;
+  };
+  low_is = c.first_condemned-low.ensures;
+  ready_lawful = c.lawful-3.ensures;
+  moved_lawful = c.lawful-4.ensures;
+  plans = c.plan_pinned-planned.ensures.planned;
+  moves = c.move_by_plan-promoted.ensures.moved;
+  spans_kept = c.plan_pinned-planned.ensures.spans;
+  start1_is = c.move_by_plan-promoted.ensures.start1;
+  start0_is = c.move_by_plan-promoted.ensures.start0;
+}
+
 pub settle-requires-clause-held : goal.settle-requires-clause-held
 settle-requires-clause-held c =
-    let s : Stages = record {
-      rows = c.args.types.now;
-      old = c.args.heap.now;
-      ready = c.plan_pinned-planned.new.heap;
-      moved = c.move_by_plan-promoted.new.heap;
-      cards = c.args.cards.now;
-      before = c.args.bricks.now;
-      bricks = c.plan_pinned-planned.new.bricks;
-      entries = c.plan_pinned-planned.new.pins.entries;
-      locals = c.args.locals.now;
-      locals_after = c.move_by_plan-promoted.new.locals;
-      table = c.args.handles.now;
-      table_after = c.move_by_plan-promoted.new.handles;
-      queues = c.args.finals.now;
-      queues_after = c.move_by_plan-promoted.new.finals;
-      g = c.args.g;
-      low = c.first_condemned-low.result;
-      to1 = c.move_by_plan-promoted.result.to1;
-      to2 = c.move_by_plan-promoted.result.to2;
-      slides = c.args.slides.now;
-      slides_after = c.move_by_plan-promoted.new.slides;
-      planned = c.plan_pinned-planned.result;
-    } in
-    let run : IsRun s = record {
-      given = record {
-        generation = c.requires.generation;
-        heap = c.lawful.ensures;
-        held = c.requires.held;
-        no_contexts = c.requires.no_contexts;
-        laid = c.requires.laid;
-        clean = c.requires.clean;
-        free_heads = c.requires.free_heads;
-        young = c.requires.young;
-        closed = c.requires.closed;
-        stands = c.requires.stands;
-        named = c.requires.named;
-        tables = c.requires.tables;
-        numbers = c.lawful-2.ensures;
-      };
-      low_is = c.first_condemned-low.ensures;
-      ready_lawful = c.lawful-3.ensures;
-      moved_lawful = c.lawful-4.ensures;
-      plans = c.plan_pinned-planned.ensures.planned;
-      moves = c.move_by_plan-promoted.ensures.moved;
-      spans_kept = c.plan_pinned-planned.ensures.spans;
-      start1_is = c.move_by_plan-promoted.ensures.start1;
-      start0_is = c.move_by_plan-promoted.ensures.start0;
-    } in
-    let (m, kept, course) = some-course s run in
+    let at = (goal.at.settle-requires-clause-held c).After-lawful-4 in
+    let s = stages at in
+    let (m, kept, course) = some-course s (ran at) in
     course.went.compacted.held
 
 pub settle-requires-clause-no_contexts : goal.settle-requires-clause-no_contexts
 settle-requires-clause-no_contexts c =
-    let s : Stages = record {
-      rows = c.args.types.now;
-      old = c.args.heap.now;
-      ready = c.plan_pinned-planned.new.heap;
-      moved = c.move_by_plan-promoted.new.heap;
-      cards = c.args.cards.now;
-      before = c.args.bricks.now;
-      bricks = c.plan_pinned-planned.new.bricks;
-      entries = c.plan_pinned-planned.new.pins.entries;
-      locals = c.args.locals.now;
-      locals_after = c.move_by_plan-promoted.new.locals;
-      table = c.args.handles.now;
-      table_after = c.move_by_plan-promoted.new.handles;
-      queues = c.args.finals.now;
-      queues_after = c.move_by_plan-promoted.new.finals;
-      g = c.args.g;
-      low = c.first_condemned-low.result;
-      to1 = c.move_by_plan-promoted.result.to1;
-      to2 = c.move_by_plan-promoted.result.to2;
-      slides = c.args.slides.now;
-      slides_after = c.move_by_plan-promoted.new.slides;
-      planned = c.plan_pinned-planned.result;
-    } in
-    let run : IsRun s = record {
-      given = record {
-        generation = c.requires.generation;
-        heap = c.lawful.ensures;
-        held = c.requires.held;
-        no_contexts = c.requires.no_contexts;
-        laid = c.requires.laid;
-        clean = c.requires.clean;
-        free_heads = c.requires.free_heads;
-        young = c.requires.young;
-        closed = c.requires.closed;
-        stands = c.requires.stands;
-        named = c.requires.named;
-        tables = c.requires.tables;
-        numbers = c.lawful-2.ensures;
-      };
-      low_is = c.first_condemned-low.ensures;
-      ready_lawful = c.lawful-3.ensures;
-      moved_lawful = c.lawful-4.ensures;
-      plans = c.plan_pinned-planned.ensures.planned;
-      moves = c.move_by_plan-promoted.ensures.moved;
-      spans_kept = c.plan_pinned-planned.ensures.spans;
-      start1_is = c.move_by_plan-promoted.ensures.start1;
-      start0_is = c.move_by_plan-promoted.ensures.start0;
-    } in
-    let (m, kept, course) = some-course s run in
+    let at = (goal.at.settle-requires-clause-no_contexts c).After-lawful-4 in
+    let s = stages at in
+    let (m, kept, course) = some-course s (ran at) in
     rests-moved s m kept course
 
 pub settle-requires-clause-stand : goal.settle-requires-clause-stand
 settle-requires-clause-stand c =
-    let s : Stages = record {
-      rows = c.args.types.now;
-      old = c.args.heap.now;
-      ready = c.plan_pinned-planned.new.heap;
-      moved = c.move_by_plan-promoted.new.heap;
-      cards = c.args.cards.now;
-      before = c.args.bricks.now;
-      bricks = c.plan_pinned-planned.new.bricks;
-      entries = c.plan_pinned-planned.new.pins.entries;
-      locals = c.args.locals.now;
-      locals_after = c.move_by_plan-promoted.new.locals;
-      table = c.args.handles.now;
-      table_after = c.move_by_plan-promoted.new.handles;
-      queues = c.args.finals.now;
-      queues_after = c.move_by_plan-promoted.new.finals;
-      g = c.args.g;
-      low = c.first_condemned-low.result;
-      to1 = c.move_by_plan-promoted.result.to1;
-      to2 = c.move_by_plan-promoted.result.to2;
-      slides = c.args.slides.now;
-      slides_after = c.move_by_plan-promoted.new.slides;
-      planned = c.plan_pinned-planned.result;
-    } in
-    let run : IsRun s = record {
-      given = record {
-        generation = c.requires.generation;
-        heap = c.lawful.ensures;
-        held = c.requires.held;
-        no_contexts = c.requires.no_contexts;
-        laid = c.requires.laid;
-        clean = c.requires.clean;
-        free_heads = c.requires.free_heads;
-        young = c.requires.young;
-        closed = c.requires.closed;
-        stands = c.requires.stands;
-        named = c.requires.named;
-        tables = c.requires.tables;
-        numbers = c.lawful-2.ensures;
-      };
-      low_is = c.first_condemned-low.ensures;
-      ready_lawful = c.lawful-3.ensures;
-      moved_lawful = c.lawful-4.ensures;
-      plans = c.plan_pinned-planned.ensures.planned;
-      moves = c.move_by_plan-promoted.ensures.moved;
-      spans_kept = c.plan_pinned-planned.ensures.spans;
-      start1_is = c.move_by_plan-promoted.ensures.start1;
-      start0_is = c.move_by_plan-promoted.ensures.start0;
-    } in
-    let (m, kept, course) = some-course s run in
+    let at = (goal.at.settle-requires-clause-stand c).After-lawful-4 in
+    let s = stages at in
+    let (m, kept, course) = some-course s (ran at) in
     pins-stand s m kept course
 
 pub settle-requires-clause-bricks : goal.settle-requires-clause-bricks
 settle-requires-clause-bricks c =
-    let s : Stages = record {
-      rows = c.args.types.now;
-      old = c.args.heap.now;
-      ready = c.plan_pinned-planned.new.heap;
-      moved = c.move_by_plan-promoted.new.heap;
-      cards = c.args.cards.now;
-      before = c.args.bricks.now;
-      bricks = c.plan_pinned-planned.new.bricks;
-      entries = c.plan_pinned-planned.new.pins.entries;
-      locals = c.args.locals.now;
-      locals_after = c.move_by_plan-promoted.new.locals;
-      table = c.args.handles.now;
-      table_after = c.move_by_plan-promoted.new.handles;
-      queues = c.args.finals.now;
-      queues_after = c.move_by_plan-promoted.new.finals;
-      g = c.args.g;
-      low = c.first_condemned-low.result;
-      to1 = c.move_by_plan-promoted.result.to1;
-      to2 = c.move_by_plan-promoted.result.to2;
-      slides = c.args.slides.now;
-      slides_after = c.move_by_plan-promoted.new.slides;
-      planned = c.plan_pinned-planned.result;
-    } in
-    let run : IsRun s = record {
-      given = record {
-        generation = c.requires.generation;
-        heap = c.lawful.ensures;
-        held = c.requires.held;
-        no_contexts = c.requires.no_contexts;
-        laid = c.requires.laid;
-        clean = c.requires.clean;
-        free_heads = c.requires.free_heads;
-        young = c.requires.young;
-        closed = c.requires.closed;
-        stands = c.requires.stands;
-        named = c.requires.named;
-        tables = c.requires.tables;
-        numbers = c.lawful-2.ensures;
-      };
-      low_is = c.first_condemned-low.ensures;
-      ready_lawful = c.lawful-3.ensures;
-      moved_lawful = c.lawful-4.ensures;
-      plans = c.plan_pinned-planned.ensures.planned;
-      moves = c.move_by_plan-promoted.ensures.moved;
-      spans_kept = c.plan_pinned-planned.ensures.spans;
-      start1_is = c.move_by_plan-promoted.ensures.start1;
-      start0_is = c.move_by_plan-promoted.ensures.start0;
-    } in
-    let (m, kept, course) = some-course s run in
-    c.move_by_plan-promoted.ensures.bricks ∙ run.spans_kept ∙ c.requires.tables.bricks
+    let at = (goal.at.settle-requires-clause-bricks c).After-lawful-4 in
+    let s = stages at in
+    let (m, kept, course) = some-course s (ran at) in
+    c.move_by_plan-promoted.ensures.bricks ∙ c.plan_pinned-planned.ensures.spans ∙ c.requires.tables.bricks
     ∙ sym (units-moved s m kept course 4096)
 
 pub returns-clause-moved : goal.returns-clause-moved
 returns-clause-moved c =
-    let s : Stages = record {
-      rows = c.args.types.now;
-      old = c.args.heap.now;
-      ready = c.plan_pinned-planned.new.heap;
-      moved = c.move_by_plan-promoted.new.heap;
-      cards = c.args.cards.now;
-      before = c.args.bricks.now;
-      bricks = c.plan_pinned-planned.new.bricks;
-      entries = c.plan_pinned-planned.new.pins.entries;
-      locals = c.args.locals.now;
-      locals_after = c.move_by_plan-promoted.new.locals;
-      table = c.args.handles.now;
-      table_after = c.move_by_plan-promoted.new.handles;
-      queues = c.args.finals.now;
-      queues_after = c.move_by_plan-promoted.new.finals;
-      g = c.args.g;
-      low = c.first_condemned-low.result;
-      to1 = c.move_by_plan-promoted.result.to1;
-      to2 = c.move_by_plan-promoted.result.to2;
-      slides = c.args.slides.now;
-      slides_after = c.move_by_plan-promoted.new.slides;
-      planned = c.plan_pinned-planned.result;
-    } in
-    let run : IsRun s = record {
-      given = record {
-        generation = c.requires.generation;
-        heap = c.lawful.ensures;
-        held = c.requires.held;
-        no_contexts = c.requires.no_contexts;
-        laid = c.requires.laid;
-        clean = c.requires.clean;
-        free_heads = c.requires.free_heads;
-        young = c.requires.young;
-        closed = c.requires.closed;
-        stands = c.requires.stands;
-        named = c.requires.named;
-        tables = c.requires.tables;
-        numbers = c.lawful-2.ensures;
-      };
-      low_is = c.first_condemned-low.ensures;
-      ready_lawful = c.lawful-3.ensures;
-      moved_lawful = c.lawful-4.ensures;
-      plans = c.plan_pinned-planned.ensures.planned;
-      moves = c.move_by_plan-promoted.ensures.moved;
-      spans_kept = c.plan_pinned-planned.ensures.spans;
-      start1_is = c.move_by_plan-promoted.ensures.start1;
-      start0_is = c.move_by_plan-promoted.ensures.start0;
-    } in
+    let at = (goal.at.returns-clause-moved c).After-lawful-4 in
+    let s = stages at in
     λ m kept memory laid same tests.
-    let course = course-of s run m kept memory laid same tests in
+    let course = course-of s (ran at) m kept memory laid same tests in
     let new = c.settle.new.heap in
     let e = c.settle.ensures.settled in
     record {
@@ -343,163 +167,25 @@ returns-clause-moved c =
 
 pub returns-clause-unmarked : goal.returns-clause-unmarked
 returns-clause-unmarked c =
-    let s : Stages = record {
-      rows = c.args.types.now;
-      old = c.args.heap.now;
-      ready = c.plan_pinned-planned.new.heap;
-      moved = c.move_by_plan-promoted.new.heap;
-      cards = c.args.cards.now;
-      before = c.args.bricks.now;
-      bricks = c.plan_pinned-planned.new.bricks;
-      entries = c.plan_pinned-planned.new.pins.entries;
-      locals = c.args.locals.now;
-      locals_after = c.move_by_plan-promoted.new.locals;
-      table = c.args.handles.now;
-      table_after = c.move_by_plan-promoted.new.handles;
-      queues = c.args.finals.now;
-      queues_after = c.move_by_plan-promoted.new.finals;
-      g = c.args.g;
-      low = c.first_condemned-low.result;
-      to1 = c.move_by_plan-promoted.result.to1;
-      to2 = c.move_by_plan-promoted.result.to2;
-      slides = c.args.slides.now;
-      slides_after = c.move_by_plan-promoted.new.slides;
-      planned = c.plan_pinned-planned.result;
-    } in
-    let run : IsRun s = record {
-      given = record {
-        generation = c.requires.generation;
-        heap = c.lawful.ensures;
-        held = c.requires.held;
-        no_contexts = c.requires.no_contexts;
-        laid = c.requires.laid;
-        clean = c.requires.clean;
-        free_heads = c.requires.free_heads;
-        young = c.requires.young;
-        closed = c.requires.closed;
-        stands = c.requires.stands;
-        named = c.requires.named;
-        tables = c.requires.tables;
-        numbers = c.lawful-2.ensures;
-      };
-      low_is = c.first_condemned-low.ensures;
-      ready_lawful = c.lawful-3.ensures;
-      moved_lawful = c.lawful-4.ensures;
-      plans = c.plan_pinned-planned.ensures.planned;
-      moves = c.move_by_plan-promoted.ensures.moved;
-      spans_kept = c.plan_pinned-planned.ensures.spans;
-      start1_is = c.move_by_plan-promoted.ensures.start1;
-      start0_is = c.move_by_plan-promoted.ensures.start0;
-    } in
-    let (m, kept, course) = some-course s run in
+    let at = (goal.at.returns-clause-unmarked c).After-lawful-4 in
+    let s = stages at in
+    let (m, kept, course) = some-course s (ran at) in
     unmarked-ended s m kept course c.settle.new.heap c.settle.ensures.settled
 
 pub returns-clause-no_contexts : goal.returns-clause-no_contexts
 returns-clause-no_contexts c =
-    let s : Stages = record {
-      rows = c.args.types.now;
-      old = c.args.heap.now;
-      ready = c.plan_pinned-planned.new.heap;
-      moved = c.move_by_plan-promoted.new.heap;
-      cards = c.args.cards.now;
-      before = c.args.bricks.now;
-      bricks = c.plan_pinned-planned.new.bricks;
-      entries = c.plan_pinned-planned.new.pins.entries;
-      locals = c.args.locals.now;
-      locals_after = c.move_by_plan-promoted.new.locals;
-      table = c.args.handles.now;
-      table_after = c.move_by_plan-promoted.new.handles;
-      queues = c.args.finals.now;
-      queues_after = c.move_by_plan-promoted.new.finals;
-      g = c.args.g;
-      low = c.first_condemned-low.result;
-      to1 = c.move_by_plan-promoted.result.to1;
-      to2 = c.move_by_plan-promoted.result.to2;
-      slides = c.args.slides.now;
-      slides_after = c.move_by_plan-promoted.new.slides;
-      planned = c.plan_pinned-planned.result;
-    } in
-    let run : IsRun s = record {
-      given = record {
-        generation = c.requires.generation;
-        heap = c.lawful.ensures;
-        held = c.requires.held;
-        no_contexts = c.requires.no_contexts;
-        laid = c.requires.laid;
-        clean = c.requires.clean;
-        free_heads = c.requires.free_heads;
-        young = c.requires.young;
-        closed = c.requires.closed;
-        stands = c.requires.stands;
-        named = c.requires.named;
-        tables = c.requires.tables;
-        numbers = c.lawful-2.ensures;
-      };
-      low_is = c.first_condemned-low.ensures;
-      ready_lawful = c.lawful-3.ensures;
-      moved_lawful = c.lawful-4.ensures;
-      plans = c.plan_pinned-planned.ensures.planned;
-      moves = c.move_by_plan-promoted.ensures.moved;
-      spans_kept = c.plan_pinned-planned.ensures.spans;
-      start1_is = c.move_by_plan-promoted.ensures.start1;
-      start0_is = c.move_by_plan-promoted.ensures.start0;
-    } in
-    let (m, kept, course) = some-course s run in
+    let at = (goal.at.returns-clause-no_contexts c).After-lawful-4 in
+    let s = stages at in
+    let (m, kept, course) = some-course s (ran at) in
     rests-settled c.args.types.now c.move_by_plan-promoted.new.heap c.settle.new.heap
     c.move_by_plan-promoted.new.handles c.first_condemned-low.result c.args.g c.settle.ensures.settled
     ∙ rests-moved s m kept course
 
 pub returns-clause-clean : goal.returns-clause-clean
 returns-clause-clean c =
-    let s : Stages = record {
-      rows = c.args.types.now;
-      old = c.args.heap.now;
-      ready = c.plan_pinned-planned.new.heap;
-      moved = c.move_by_plan-promoted.new.heap;
-      cards = c.args.cards.now;
-      before = c.args.bricks.now;
-      bricks = c.plan_pinned-planned.new.bricks;
-      entries = c.plan_pinned-planned.new.pins.entries;
-      locals = c.args.locals.now;
-      locals_after = c.move_by_plan-promoted.new.locals;
-      table = c.args.handles.now;
-      table_after = c.move_by_plan-promoted.new.handles;
-      queues = c.args.finals.now;
-      queues_after = c.move_by_plan-promoted.new.finals;
-      g = c.args.g;
-      low = c.first_condemned-low.result;
-      to1 = c.move_by_plan-promoted.result.to1;
-      to2 = c.move_by_plan-promoted.result.to2;
-      slides = c.args.slides.now;
-      slides_after = c.move_by_plan-promoted.new.slides;
-      planned = c.plan_pinned-planned.result;
-    } in
-    let run : IsRun s = record {
-      given = record {
-        generation = c.requires.generation;
-        heap = c.lawful.ensures;
-        held = c.requires.held;
-        no_contexts = c.requires.no_contexts;
-        laid = c.requires.laid;
-        clean = c.requires.clean;
-        free_heads = c.requires.free_heads;
-        young = c.requires.young;
-        closed = c.requires.closed;
-        stands = c.requires.stands;
-        named = c.requires.named;
-        tables = c.requires.tables;
-        numbers = c.lawful-2.ensures;
-      };
-      low_is = c.first_condemned-low.ensures;
-      ready_lawful = c.lawful-3.ensures;
-      moved_lawful = c.lawful-4.ensures;
-      plans = c.plan_pinned-planned.ensures.planned;
-      moves = c.move_by_plan-promoted.ensures.moved;
-      spans_kept = c.plan_pinned-planned.ensures.spans;
-      start1_is = c.move_by_plan-promoted.ensures.start1;
-      start0_is = c.move_by_plan-promoted.ensures.start0;
-    } in
-    let (m, kept, course) = some-course s run in
+    let at = (goal.at.returns-clause-clean c).After-lawful-4 in
+    let s = stages at in
+    let (m, kept, course) = some-course s (ran at) in
     let e = c.settle.ensures.settled in
     clean-ended s m kept course c.settle.new.heap e c.lawful-5.ensures
     (settled-has s.rows s.moved c.settle.new.heap s.table_after s.low s.g e (IsHeld s.rows) e.pins.held
@@ -507,327 +193,51 @@ returns-clause-clean c =
 
 pub returns-clause-free_heads : goal.returns-clause-free_heads
 returns-clause-free_heads c =
-    let s : Stages = record {
-      rows = c.args.types.now;
-      old = c.args.heap.now;
-      ready = c.plan_pinned-planned.new.heap;
-      moved = c.move_by_plan-promoted.new.heap;
-      cards = c.args.cards.now;
-      before = c.args.bricks.now;
-      bricks = c.plan_pinned-planned.new.bricks;
-      entries = c.plan_pinned-planned.new.pins.entries;
-      locals = c.args.locals.now;
-      locals_after = c.move_by_plan-promoted.new.locals;
-      table = c.args.handles.now;
-      table_after = c.move_by_plan-promoted.new.handles;
-      queues = c.args.finals.now;
-      queues_after = c.move_by_plan-promoted.new.finals;
-      g = c.args.g;
-      low = c.first_condemned-low.result;
-      to1 = c.move_by_plan-promoted.result.to1;
-      to2 = c.move_by_plan-promoted.result.to2;
-      slides = c.args.slides.now;
-      slides_after = c.move_by_plan-promoted.new.slides;
-      planned = c.plan_pinned-planned.result;
-    } in
-    let run : IsRun s = record {
-      given = record {
-        generation = c.requires.generation;
-        heap = c.lawful.ensures;
-        held = c.requires.held;
-        no_contexts = c.requires.no_contexts;
-        laid = c.requires.laid;
-        clean = c.requires.clean;
-        free_heads = c.requires.free_heads;
-        young = c.requires.young;
-        closed = c.requires.closed;
-        stands = c.requires.stands;
-        named = c.requires.named;
-        tables = c.requires.tables;
-        numbers = c.lawful-2.ensures;
-      };
-      low_is = c.first_condemned-low.ensures;
-      ready_lawful = c.lawful-3.ensures;
-      moved_lawful = c.lawful-4.ensures;
-      plans = c.plan_pinned-planned.ensures.planned;
-      moves = c.move_by_plan-promoted.ensures.moved;
-      spans_kept = c.plan_pinned-planned.ensures.spans;
-      start1_is = c.move_by_plan-promoted.ensures.start1;
-      start0_is = c.move_by_plan-promoted.ensures.start0;
-    } in
-    let (m, kept, course) = some-course s run in
+    let at = (goal.at.returns-clause-free_heads c).After-lawful-4 in
+    let s = stages at in
+    let (m, kept, course) = some-course s (ran at) in
     heads-settled c.args.types.now c.move_by_plan-promoted.new.heap c.settle.new.heap
     c.move_by_plan-promoted.new.handles c.first_condemned-low.result c.args.g c.settle.ensures.settled
     (heads-moved s m kept course)
 
 pub returns-clause-tables : goal.returns-clause-tables
 returns-clause-tables c =
-    let s : Stages = record {
-      rows = c.args.types.now;
-      old = c.args.heap.now;
-      ready = c.plan_pinned-planned.new.heap;
-      moved = c.move_by_plan-promoted.new.heap;
-      cards = c.args.cards.now;
-      before = c.args.bricks.now;
-      bricks = c.plan_pinned-planned.new.bricks;
-      entries = c.plan_pinned-planned.new.pins.entries;
-      locals = c.args.locals.now;
-      locals_after = c.move_by_plan-promoted.new.locals;
-      table = c.args.handles.now;
-      table_after = c.move_by_plan-promoted.new.handles;
-      queues = c.args.finals.now;
-      queues_after = c.move_by_plan-promoted.new.finals;
-      g = c.args.g;
-      low = c.first_condemned-low.result;
-      to1 = c.move_by_plan-promoted.result.to1;
-      to2 = c.move_by_plan-promoted.result.to2;
-      slides = c.args.slides.now;
-      slides_after = c.move_by_plan-promoted.new.slides;
-      planned = c.plan_pinned-planned.result;
-    } in
-    let run : IsRun s = record {
-      given = record {
-        generation = c.requires.generation;
-        heap = c.lawful.ensures;
-        held = c.requires.held;
-        no_contexts = c.requires.no_contexts;
-        laid = c.requires.laid;
-        clean = c.requires.clean;
-        free_heads = c.requires.free_heads;
-        young = c.requires.young;
-        closed = c.requires.closed;
-        stands = c.requires.stands;
-        named = c.requires.named;
-        tables = c.requires.tables;
-        numbers = c.lawful-2.ensures;
-      };
-      low_is = c.first_condemned-low.ensures;
-      ready_lawful = c.lawful-3.ensures;
-      moved_lawful = c.lawful-4.ensures;
-      plans = c.plan_pinned-planned.ensures.planned;
-      moves = c.move_by_plan-promoted.ensures.moved;
-      spans_kept = c.plan_pinned-planned.ensures.spans;
-      start1_is = c.move_by_plan-promoted.ensures.start1;
-      start0_is = c.move_by_plan-promoted.ensures.start0;
-    } in
-    let (m, kept, course) = some-course s run in
+    let at = (goal.at.returns-clause-tables c).After-lawful-4 in
+    let s = stages at in
+    let (m, kept, course) = some-course s (ran at) in
     tables-ended s m kept course c.settle.new.heap c.settle.ensures.settled c.move_by_plan-promoted.new.cards
     c.settle.new.bricks c.move_by_plan-promoted.ensures.cards
-    (c.settle.ensures.spans ∙ c.move_by_plan-promoted.ensures.bricks ∙ run.spans_kept)
+    (c.settle.ensures.spans ∙ c.move_by_plan-promoted.ensures.bricks ∙ c.plan_pinned-planned.ensures.spans)
     (c.move_by_plan-promoted.ensures.card_law course.begun.view course.begun.plan.moves (entry_at c.args.bricks.now)
     course.can.relocates)
     c.settle.ensures.brick_law
 
 pub returns-clause-occupied : goal.returns-clause-occupied
 returns-clause-occupied c =
-    let s : Stages = record {
-      rows = c.args.types.now;
-      old = c.args.heap.now;
-      ready = c.plan_pinned-planned.new.heap;
-      moved = c.move_by_plan-promoted.new.heap;
-      cards = c.args.cards.now;
-      before = c.args.bricks.now;
-      bricks = c.plan_pinned-planned.new.bricks;
-      entries = c.plan_pinned-planned.new.pins.entries;
-      locals = c.args.locals.now;
-      locals_after = c.move_by_plan-promoted.new.locals;
-      table = c.args.handles.now;
-      table_after = c.move_by_plan-promoted.new.handles;
-      queues = c.args.finals.now;
-      queues_after = c.move_by_plan-promoted.new.finals;
-      g = c.args.g;
-      low = c.first_condemned-low.result;
-      to1 = c.move_by_plan-promoted.result.to1;
-      to2 = c.move_by_plan-promoted.result.to2;
-      slides = c.args.slides.now;
-      slides_after = c.move_by_plan-promoted.new.slides;
-      planned = c.plan_pinned-planned.result;
-    } in
-    let run : IsRun s = record {
-      given = record {
-        generation = c.requires.generation;
-        heap = c.lawful.ensures;
-        held = c.requires.held;
-        no_contexts = c.requires.no_contexts;
-        laid = c.requires.laid;
-        clean = c.requires.clean;
-        free_heads = c.requires.free_heads;
-        young = c.requires.young;
-        closed = c.requires.closed;
-        stands = c.requires.stands;
-        named = c.requires.named;
-        tables = c.requires.tables;
-        numbers = c.lawful-2.ensures;
-      };
-      low_is = c.first_condemned-low.ensures;
-      ready_lawful = c.lawful-3.ensures;
-      moved_lawful = c.lawful-4.ensures;
-      plans = c.plan_pinned-planned.ensures.planned;
-      moves = c.move_by_plan-promoted.ensures.moved;
-      spans_kept = c.plan_pinned-planned.ensures.spans;
-      start1_is = c.move_by_plan-promoted.ensures.start1;
-      start0_is = c.move_by_plan-promoted.ensures.start0;
-    } in
-    let (m, kept, course) = some-course s run in
+    let at = (goal.at.returns-clause-occupied c).After-lawful-4 in
+    let s = stages at in
+    let (m, kept, course) = some-course s (ran at) in
     occupied-ended s m kept course c.settle.new.heap c.settle.ensures.settled
 
 pub returns-clause-limit : goal.returns-clause-limit
 returns-clause-limit c =
-    let s : Stages = record {
-      rows = c.args.types.now;
-      old = c.args.heap.now;
-      ready = c.plan_pinned-planned.new.heap;
-      moved = c.move_by_plan-promoted.new.heap;
-      cards = c.args.cards.now;
-      before = c.args.bricks.now;
-      bricks = c.plan_pinned-planned.new.bricks;
-      entries = c.plan_pinned-planned.new.pins.entries;
-      locals = c.args.locals.now;
-      locals_after = c.move_by_plan-promoted.new.locals;
-      table = c.args.handles.now;
-      table_after = c.move_by_plan-promoted.new.handles;
-      queues = c.args.finals.now;
-      queues_after = c.move_by_plan-promoted.new.finals;
-      g = c.args.g;
-      low = c.first_condemned-low.result;
-      to1 = c.move_by_plan-promoted.result.to1;
-      to2 = c.move_by_plan-promoted.result.to2;
-      slides = c.args.slides.now;
-      slides_after = c.move_by_plan-promoted.new.slides;
-      planned = c.plan_pinned-planned.result;
-    } in
-    let run : IsRun s = record {
-      given = record {
-        generation = c.requires.generation;
-        heap = c.lawful.ensures;
-        held = c.requires.held;
-        no_contexts = c.requires.no_contexts;
-        laid = c.requires.laid;
-        clean = c.requires.clean;
-        free_heads = c.requires.free_heads;
-        young = c.requires.young;
-        closed = c.requires.closed;
-        stands = c.requires.stands;
-        named = c.requires.named;
-        tables = c.requires.tables;
-        numbers = c.lawful-2.ensures;
-      };
-      low_is = c.first_condemned-low.ensures;
-      ready_lawful = c.lawful-3.ensures;
-      moved_lawful = c.lawful-4.ensures;
-      plans = c.plan_pinned-planned.ensures.planned;
-      moves = c.move_by_plan-promoted.ensures.moved;
-      spans_kept = c.plan_pinned-planned.ensures.spans;
-      start1_is = c.move_by_plan-promoted.ensures.start1;
-      start0_is = c.move_by_plan-promoted.ensures.start0;
-    } in
-    let (m, kept, course) = some-course s run in
+    let at = (goal.at.returns-clause-limit c).After-lawful-4 in
+    let s = stages at in
+    let (m, kept, course) = some-course s (ran at) in
     limit-settled c.args.types.now c.move_by_plan-promoted.new.heap c.settle.new.heap
     c.move_by_plan-promoted.new.handles c.first_condemned-low.result c.args.g c.settle.ensures.settled
     ∙ limit-moved s m kept course
 
 pub returns-clause-pinned : goal.returns-clause-pinned
 returns-clause-pinned c =
-    let s : Stages = record {
-      rows = c.args.types.now;
-      old = c.args.heap.now;
-      ready = c.plan_pinned-planned.new.heap;
-      moved = c.move_by_plan-promoted.new.heap;
-      cards = c.args.cards.now;
-      before = c.args.bricks.now;
-      bricks = c.plan_pinned-planned.new.bricks;
-      entries = c.plan_pinned-planned.new.pins.entries;
-      locals = c.args.locals.now;
-      locals_after = c.move_by_plan-promoted.new.locals;
-      table = c.args.handles.now;
-      table_after = c.move_by_plan-promoted.new.handles;
-      queues = c.args.finals.now;
-      queues_after = c.move_by_plan-promoted.new.finals;
-      g = c.args.g;
-      low = c.first_condemned-low.result;
-      to1 = c.move_by_plan-promoted.result.to1;
-      to2 = c.move_by_plan-promoted.result.to2;
-      slides = c.args.slides.now;
-      slides_after = c.move_by_plan-promoted.new.slides;
-      planned = c.plan_pinned-planned.result;
-    } in
-    let run : IsRun s = record {
-      given = record {
-        generation = c.requires.generation;
-        heap = c.lawful.ensures;
-        held = c.requires.held;
-        no_contexts = c.requires.no_contexts;
-        laid = c.requires.laid;
-        clean = c.requires.clean;
-        free_heads = c.requires.free_heads;
-        young = c.requires.young;
-        closed = c.requires.closed;
-        stands = c.requires.stands;
-        named = c.requires.named;
-        tables = c.requires.tables;
-        numbers = c.lawful-2.ensures;
-      };
-      low_is = c.first_condemned-low.ensures;
-      ready_lawful = c.lawful-3.ensures;
-      moved_lawful = c.lawful-4.ensures;
-      plans = c.plan_pinned-planned.ensures.planned;
-      moves = c.move_by_plan-promoted.ensures.moved;
-      spans_kept = c.plan_pinned-planned.ensures.spans;
-      start1_is = c.move_by_plan-promoted.ensures.start1;
-      start0_is = c.move_by_plan-promoted.ensures.start0;
-    } in
-    let (m, kept, course) = some-course s run in
+    let at = (goal.at.returns-clause-pinned c).After-lawful-4 in
+    let s = stages at in
+    let (m, kept, course) = some-course s (ran at) in
     ap pinned_in course.went.gone.table_is ∙ pinned-relocated (moved_by course.begun.plan.moves) c.args.handles.now
 
 pub returns-clause-spare : goal.returns-clause-spare
 returns-clause-spare c =
-    let s : Stages = record {
-      rows = c.args.types.now;
-      old = c.args.heap.now;
-      ready = c.plan_pinned-planned.new.heap;
-      moved = c.move_by_plan-promoted.new.heap;
-      cards = c.args.cards.now;
-      before = c.args.bricks.now;
-      bricks = c.plan_pinned-planned.new.bricks;
-      entries = c.plan_pinned-planned.new.pins.entries;
-      locals = c.args.locals.now;
-      locals_after = c.move_by_plan-promoted.new.locals;
-      table = c.args.handles.now;
-      table_after = c.move_by_plan-promoted.new.handles;
-      queues = c.args.finals.now;
-      queues_after = c.move_by_plan-promoted.new.finals;
-      g = c.args.g;
-      low = c.first_condemned-low.result;
-      to1 = c.move_by_plan-promoted.result.to1;
-      to2 = c.move_by_plan-promoted.result.to2;
-      slides = c.args.slides.now;
-      slides_after = c.move_by_plan-promoted.new.slides;
-      planned = c.plan_pinned-planned.result;
-    } in
-    let run : IsRun s = record {
-      given = record {
-        generation = c.requires.generation;
-        heap = c.lawful.ensures;
-        held = c.requires.held;
-        no_contexts = c.requires.no_contexts;
-        laid = c.requires.laid;
-        clean = c.requires.clean;
-        free_heads = c.requires.free_heads;
-        young = c.requires.young;
-        closed = c.requires.closed;
-        stands = c.requires.stands;
-        named = c.requires.named;
-        tables = c.requires.tables;
-        numbers = c.lawful-2.ensures;
-      };
-      low_is = c.first_condemned-low.ensures;
-      ready_lawful = c.lawful-3.ensures;
-      moved_lawful = c.lawful-4.ensures;
-      plans = c.plan_pinned-planned.ensures.planned;
-      moves = c.move_by_plan-promoted.ensures.moved;
-      spans_kept = c.plan_pinned-planned.ensures.spans;
-      start1_is = c.move_by_plan-promoted.ensures.start1;
-      start0_is = c.move_by_plan-promoted.ensures.start0;
-    } in
-    let (m, kept, course) = some-course s run in
+    let at = (goal.at.returns-clause-spare c).After-lawful-4 in
+    let s = stages at in
+    let (m, kept, course) = some-course s (ran at) in
     course.went.gone.spare

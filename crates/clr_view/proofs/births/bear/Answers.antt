@@ -1,43 +1,56 @@
-use Rattle.clr_view.proofs.Bearing.{front-birth, front-head, IsAsked, IsBirth}
+use Rattle.std.proofs.Common.{◌+◌, arith}
+use Rattle.clr_view.proofs.Bearing.{front-birth, front-head, front-high, front-memory, IsAsked, IsBirth}
 use Rattle.clr_view.proofs.CleanWords.{clean_born}
 use Rattle.clr_view.proofs.FreeHeads.{heads_born}
 use Rattle.clr_view.proofs.Unmarked.{unmarked_born}
 use Rattle.clr_view.proofs.births.bear.Goals as goal
-use Rattle.clr_view.proofs.births.bear.Goals.{After-set_hole}
+use Rattle.clr_view.proofs.births.bear.Goals.{After-hole, After-set_hole}
 
-pub make_object-requires-clause-head : goal.make_object-requires-clause-head
-make_object-requires-clause-head c =
-    let asked : IsAsked c.args.types.now c.args.heap.now c.args.thread c.args.t.0 c.args.len = record {
-      heap = c.lawful.ensures;
-      held = c.requires.held;
-      positive = c.requires.positive;
-      few = c.requires.few;
-      item = c.requires.item;
-      object = c.requires.object;
-      room = c.requires.room;
-    } in
-    front-head c.args.types.now c.args.heap.now c.args.thread c.args.t.0 c.args.len asked
-    c.in-Some.front c.in-Some.end c.in-Some.ensures
+-- what is asked for
+asked : (c : After-hole) → IsAsked c.args.types.now c.args.heap.now c.args.thread c.args.t.0 c.args.len
+asked c = record {
+  heap = c.lawful.ensures;
+  held = c.requires.held;
+  positive = c.requires.positive;
+  few = c.requires.few;
+  item = c.requires.item;
+  object = c.requires.object;
+  room = c.requires.room;
+}
+
+pub write_head-requires-clause-head : goal.write_head-requires-clause-head
+write_head-requires-clause-head c =
+    front-head c.args.types.now c.args.heap.now c.args.thread c.args.t.0 c.args.len
+    (asked (goal.at.write_head-requires-clause-head c).After-hole) c.in-Some.front c.in-Some.end c.in-Some.ensures
+
+pub write_head-requires-clause-mt_in : goal.write_head-requires-clause-mt_in
+write_head-requires-clause-mt_in c =
+    front-memory c.args.types.now c.args.heap.now c.args.thread c.args.t.0 c.args.len
+    (asked (goal.at.write_head-requires-clause-mt_in c).After-hole) c.in-Some.front c.in-Some.end c.in-Some.ensures c.in-Some.front (omega arith) (omega arith)
+
+pub write_head-requires-clause-len_in : goal.write_head-requires-clause-len_in
+write_head-requires-clause-len_in c =
+    front-memory c.args.types.now c.args.heap.now c.args.thread c.args.t.0 c.args.len
+    (asked (goal.at.write_head-requires-clause-len_in c).After-hole) c.in-Some.front c.in-Some.end c.in-Some.ensures (c.in-Some.front + 8) (omega arith) (omega arith)
+
+pub write_head-requires-clause-room : goal.write_head-requires-clause-room
+write_head-requires-clause-room c =
+    front-high c.args.types.now c.args.heap.now c.args.thread c.args.t.0 c.args.len
+    (asked (goal.at.write_head-requires-clause-room c).After-hole) c.in-Some.front c.in-Some.end c.in-Some.ensures
 
 -- the heap before the birth and after it
 birth : (c : After-set_hole) → IsBirth c.args.types.now c.args.heap.now c.set_hole.new.self c.args.thread c.args.t.0
     c.args.len
 birth c =
-    let asked : IsAsked c.args.types.now c.args.heap.now c.args.thread c.args.t.0 c.args.len = record {
-      heap = c.lawful.ensures;
-      held = c.requires.held;
-      positive = c.requires.positive;
-      few = c.requires.few;
-      item = c.requires.item;
-      object = c.requires.object;
-      room = c.requires.room;
-    } in
-    front-birth c.args.types.now c.args.heap.now c.args.thread c.args.t.0 c.args.len asked
-    c.in-Some.front c.in-Some.end c.in-Some.ensures c.make_object.new.self c.set_hole.new.self
-    c.item_size-size.result c.item_size-size.ensures c.make_object.ensures.words c.set_hole.ensures
+    front-birth c.args.types.now c.args.heap.now c.args.thread c.args.t.0 c.args.len (asked c.before.before.before.before.before)
+    c.in-Some.front c.in-Some.end c.in-Some.ensures c.write_head.new.heap c.set_hole.new.self
+    c.args.size c.requires.size c.write_head.ensures c.set_hole.ensures
 
 pub returns-clause-born : goal.returns-clause-born
 returns-clause-born c = (birth (goal.at.returns-clause-born c).After-set_hole).born
+
+pub returns-clause-words : goal.returns-clause-words
+returns-clause-words c = (birth (goal.at.returns-clause-words c).After-set_hole).words
 
 pub returns-clause-unmarked : goal.returns-clause-unmarked
 returns-clause-unmarked c =

@@ -20,6 +20,7 @@ pub struct Answered {
 }
 
 // Writes why a line is refused, and gives how much that is.
+#[cold]
 #[inline(never)]
 fn tell_refusal(refusal: Refusal, into: &mut [u8; 256]) -> usize
     ensures fits { result ≤ 256 }
@@ -66,7 +67,7 @@ fn tell_number(told: Result<u64, Refusal>, into: &mut [u8; 256]) -> usize
 
 // The line `get` of thread `t`. The text is what stands behind its verb. Gives the length of the reply, and what is
 // behind the line. So do the others.
-#[inline(never)]
+#[inline(always)]
 fn answer_get<'a>(
     runtime: &mut Runtime,
     t: u64,
@@ -83,7 +84,7 @@ fn answer_get<'a>(
 }
 
 // The line `set`.
-#[inline(never)]
+#[inline(always)]
 fn answer_set<'a>(
     runtime: &mut Runtime,
     t: u64,
@@ -100,7 +101,7 @@ fn answer_set<'a>(
 }
 
 // The line `put`.
-#[inline(never)]
+#[inline(always)]
 fn answer_put<'a>(
     runtime: &mut Runtime,
     t: u64,
@@ -117,7 +118,7 @@ fn answer_put<'a>(
 }
 
 // The line `read`.
-#[inline(never)]
+#[inline(always)]
 fn answer_read<'a>(
     runtime: &mut Runtime,
     t: u64,
@@ -134,7 +135,7 @@ fn answer_read<'a>(
 }
 
 // The line `copy`.
-#[inline(never)]
+#[inline(always)]
 fn answer_copy<'a>(
     runtime: &mut Runtime,
     t: u64,
@@ -151,7 +152,7 @@ fn answer_copy<'a>(
 }
 
 // The line `null`.
-#[inline(never)]
+#[inline(always)]
 fn answer_null<'a>(
     runtime: &mut Runtime,
     t: u64,
@@ -168,7 +169,7 @@ fn answer_null<'a>(
 }
 
 // The line `new`.
-#[inline(never)]
+#[inline(always)]
 fn answer_new<'a>(
     runtime: &mut Runtime,
     t: u64,

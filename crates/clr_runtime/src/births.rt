@@ -65,7 +65,7 @@ impl Runtime {
     /// these, and changes nothing. It is refused with `Oom` exactly where there is no room after the full compacting
     /// collection and the limit allows no segment more, and with `NoMemory` also where it allows one and there is no
     /// memory for it. What the collections left stays.
-    #[inline(never)]
+    #[inline(always)]
     pub fn new_object(
         &mut self,
         t: u64,

@@ -53,6 +53,7 @@ pub(crate) fn make_room(parts: &mut Parts, thread: usize, size: u64) -> Result<(
 }
 
 // The same, where the size doesn't fit at the front of the context as it is.
+#[cold]
 #[inline(never)]
 fn find_room(parts: &mut Parts, thread: usize, size: u64) -> Result<(), NoRoom>
     requires runtime { IsRuntime parts.old }

@@ -136,6 +136,7 @@ impl Session {
     }
 
     // Answers the line that ends first in these bytes, as `answer_line`, whichever it is.
+    #[cold]
     #[inline(never)]
     fn answer_any<K: Sink>(&mut self, sink: &mut K, text: &[u8]) -> Result<Option<usize>, Failed>
         requires { self.old.runtime.layout.top ≤ 2 ^ 61 }

@@ -20,20 +20,8 @@ HERE = pathlib.Path(__file__).resolve().parent
 WORK = pathlib.Path(tempfile.gettempdir()) / "clr_mem_bench"
 CORE = sys.argv[1] if len(sys.argv) > 1 else "2"
 TURNS = 3
-# The crates under test, and in the end the benchmark's, as lines of crates.txt.
-CRATES = """\
-clr_nums:
-clr_types: indexmap smallvec
-clr_mem: byteorder
-clr_covers: clr_mem
-clr_cards: clr_nums clr_mem clr_covers
-clr_bricks: clr_nums clr_mem clr_covers
-clr_model: clr_nums clr_types
-clr_heap: clr_types clr_mem
-clr_view: clr_types clr_mem clr_model clr_heap
-clr_generations: clr_nums clr_types clr_mem clr_covers clr_cards clr_bricks clr_model clr_heap clr_view
-clr_sweep: clr_nums clr_types clr_mem clr_covers clr_cards clr_bricks clr_model clr_heap clr_view clr_generations
-clr_ctx: clr_nums clr_types clr_mem clr_covers clr_cards clr_bricks clr_model clr_heap clr_view clr_generations clr_sweep
+# The benchmark's own crates, as lines of crates.txt.
+OWN = """\
 clr_speed: clr_mem anyhow
 clr_walk_speed: clr_types clr_model clr_heap clr_view clr_ctx anyhow
 """
@@ -50,9 +38,10 @@ WANTED = {"near": 1.2, "scattered": 1.2, "far": 1.2, "slide": 1.1, "zero": 1.1, 
 
 
 def run(command, folder):
-    return subprocess.run(
-        ["taskset", "-c", CORE] + command, cwd=folder, check=True, text=True, capture_output=True
-    ).stdout
+    ran = subprocess.run(["taskset", "-c", CORE] + command, cwd=folder, text=True, capture_output=True)
+    if ran.returncode:
+        sys.exit(ran.stdout[-2000:] + ran.stderr[-2000:])
+    return ran.stdout
 
 
 def times(output):
@@ -65,12 +54,24 @@ def times(output):
     return least, sums
 
 
+def crates():
+    """The crates under test with all that they use, as the repository's crates.txt has them, and in the end the benchmark's own."""
+    rows = dict(line.split(":") for line in (HERE.parent / "crates.txt").read_text().splitlines())
+    wanted, found = [name for line in OWN.splitlines() for name in line.split(":")[1].split()], set()
+    while wanted:
+        name = wanted.pop()
+        if name in rows and name not in found:
+            found.add(name)
+            wanted += rows[name].split()
+    return "".join(f"{name}:{uses}\n" for name, uses in rows.items() if name in found) + OWN
+
+
 def copy_crates():
     """Brings the sources in WORK up to date, and leaves what earlier checks kept there.
 
     The benchmark's own files end in .txt here, so that no check of the repository above reads them.
     """
-    for line in CRATES.splitlines():
+    for line in crates().splitlines():
         name = line.split(":")[0]
         crate = HERE / name if name in PROGRAMS else HERE.parent / "crates" / name
         for part in ["src", "specs", "proofs"]:
@@ -79,7 +80,7 @@ def copy_crates():
             shutil.copytree(crate / part, target)
             for file in target.rglob("*.txt"):
                 file.rename(file.with_suffix(""))
-    (WORK / "crates.txt").write_text(CRATES)
+    (WORK / "crates.txt").write_text(crates())
 
 
 def build():

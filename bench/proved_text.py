@@ -60,7 +60,7 @@ def main():
         built = words(home, checkout, toolchain(home, folder, kept), folder / "made.o")
         ran = subprocess.run(built, cwd=checkout / "crates/clrheap", capture_output=True, text=True)
         if ran.returncode or not kept.exists():
-            sys.exit(ran.stderr)
+            sys.exit(ran.stdout + ran.stderr)
         subprocess.run([home / "toolchain/bin/clang", "--no-default-config", "-x", "ir", kept, "-S", "-emit-llvm", "-O0", "-o", asked.file], check=True, stderr=subprocess.DEVNULL)
 
 

@@ -1,5 +1,6 @@
 pub mod Digits
 pub mod Spelling
+pub mod Between
 pub mod Callers
 pub mod Inside
 pub mod Padding

@@ -196,6 +196,9 @@ module _ (size : ℕ) (xs v : List ℕ) (view : with_zeros size xs ≡ v) (insid
   pub seen-read : (i : ℕ) → get_or xs i 0 ≡ get_or v i 0
   seen-read i = read-byte size xs i ∙ ap (λ (zs : List ℕ). get_or zs i 0) view
 
+  pub seen-word : (i : ℕ) → spelled (drop i xs) ≡ spelled (drop i v)
+  seen-word i = read-word size xs i ∙ ap (λ (zs : List ℕ). spelled (drop i zs)) view
+
   -- what is written over stored bytes
   pub seen-written : (i n : ℕ) (ys : List ℕ) → length ys ≡ n → i + n ≤ length xs
       → (new : List ℕ) → new ≡ take i xs ++ (ys ++ drop (i + n) xs)

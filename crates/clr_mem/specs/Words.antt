@@ -1,6 +1,6 @@
 -- The words of a memory: what its bytes spell, eight by eight, lowest byte first.
 use Rattle.std.specs.Prelude.{replicate, ◌≡◌, ℕ, zero, suc, ◌+◌, ◌-◌, ◌*◌, ◌/◌, ◌%◌, ◌^◌, ◌<◌, ◌≤◌, List, [], ◌∷◌, ◌++◌}
-use Rattle.std.specs.Prelude.{length, take, drop, set, get_or, refl}
+use Rattle.std.specs.Prelude.{length, take, drop, set, get_or, refl, Bool, ◌&&◌, nat_le, nat_lt}
 use Rattle.std.specs.Coded.{Coded, code_by, coded×, coded_ℕ, coded_list}
 use Rattle.byteorder.specs.Endian.{little_from}
 
@@ -51,6 +51,10 @@ byte_of word k = word / 256 ^ k % 256
 -- the word with byte k replaced
 abbrev pub with_byte : ℕ → ℕ → ℕ → ℕ
 with_byte word k v = word + v * 256 ^ k - byte_of word k * 256 ^ k
+
+-- whether a number is one of those from `low` to below `high`
+abbrev pub is_between : ℕ → ℕ → ℕ → Bool
+is_between low high v = nat_le low v && nat_lt v high
 
 -- ---- what stands at an address
 

@@ -1,12 +1,12 @@
 // The steps over the bytes that are stored, each with one clause on their list. Words and bytes
 // behind them read as 0. A write is "the front, what is written, the rest", and its range must lie
 // in the list. No step gives room back.
-ghost use Rattle.std.specs.Prelude.{◌≡◌, ℕ, ◌+◌, ◌-◌, ◌%◌, ◌<◌, ◌≤◌, ◌++◌, length, set, take, drop, replicate};
-ghost use Rattle.std.specs.Prelude.{slice_index};
+ghost use Rattle.std.specs.Prelude.{◌≡◌, ℕ, ◌+◌, ◌-◌, ◌*◌, ◌%◌, ◌<◌, ◌≤◌, ◌++◌, length, set, take, drop, replicate};
+ghost use Rattle.std.specs.Prelude.{false, true, slice_index};
 ghost use Rattle.std.specs.Int.{bytes_low_first};
 ghost use Rattle.std.specs.Vec.{vec_capacity};
 ghost use Rattle.clr_mem.specs.Stored.{IsReserved};
-ghost use Rattle.clr_mem.specs.Words.{spelled};
+ghost use Rattle.clr_mem.specs.Words.{is_between, spelled};
 
 use byteorder::{ByteOrder, LittleEndian};
 use std::mem::replace;
@@ -58,6 +58,29 @@ pub fn load_word(bytes: &Vec<u8>, at: usize) -> u64
     } else {
         0
     }
+}
+
+// Of the words that the bytes spell, the number of the first one that is one of the numbers from `low` to below `high`,
+// and how many words there are where none is. A word below `low` wraps to a number that is no less than `size`.
+#[inline(always)]
+pub fn first_word_between(bytes: &[u8], low: u64, high: u64) -> usize
+    requires whole { length bytes.now % 8 ≡ 0 }
+    ensures most { 8 * result ≤ length bytes.now }
+    ensures before { (j : ℕ) → j < result → is_between low high (spelled (drop (8 * j) bytes.now)) ≡ false }
+    ensures found { 8 * result < length bytes.now
+        → is_between low high (spelled (drop (8 * result) bytes.now)) ≡ true }
+{
+    let size = high.saturating_sub(low);
+    let mut rest = bytes;
+    let mut passed = 0;
+    while let Some((word, more)) = rest.split_first_chunk::<8>() {
+        if LittleEndian::read_u64(word).wrapping_sub(low) < size {
+            return passed;
+        }
+        rest = more;
+        passed += 1;
+    }
+    passed
 }
 
 // Writes a number over the eight bytes from `at` on.

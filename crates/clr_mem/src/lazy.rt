@@ -1,10 +1,12 @@
 // Zero bytes that take memory as they are written.
-ghost use Rattle.std.specs.Prelude.{◌≡◌, ℕ, ◌+◌, ◌%◌, ◌<◌, ◌≤◌, ◌++◌, length, set, take, drop, slice_index, IfOk};
+ghost use Rattle.std.specs.Prelude.{◌≡◌, ℕ, ◌+◌, ◌*◌, ◌%◌, ◌<◌, ◌≤◌, ◌++◌, false, true, length, set, take, drop};
+ghost use Rattle.std.specs.Prelude.{slice_index, IfOk};
 ghost use Rattle.std.specs.Int.{bytes_low_first};
-ghost use Rattle.clr_mem.specs.Words.{spelled, zeros};
+ghost use Rattle.clr_mem.specs.Words.{is_between, spelled, zeros};
 
 use crate::bytes::{
-    clear_bytes, copy_bytes, load_byte, load_word, move_bytes, reach, store_byte, store_word,
+    clear_bytes, copy_bytes, first_word_between, load_byte, load_word, move_bytes, reach,
+    store_byte, store_word,
 };
 use std::alloc::{AllocError, Global};
 use std::marker::Model;
@@ -68,9 +70,45 @@ impl LazyBytes {
         load_word(&self.stored, at)
     }
 
+    // Of the `n` words from `at` on, the number of the first one that is one of the numbers from `low`, which is above
+    // 0, to below `high`, and `n` where none is.
+    #[inline(always)]
+    pub fn first_between(&self, at: usize, n: usize, low: u64, high: u64) -> usize
+        requires inside { at + 8 * n ≤ length self.now }
+        requires aligned { at % 8 ≡ 0 }
+        requires above { 0 < low }
+        ensures most { result ≤ n }
+        ensures before { (j : ℕ) → j < result → is_between low high (spelled (drop (at + 8 * j) self.now)) ≡ false }
+        ensures found { result < n → is_between low high (spelled (drop (at + 8 * result) self.now)) ≡ true }
+    {
+        let count = count_below(self.stored.len(), at, 8 * n);
+        if count == 0 {
+            return n;
+        }
+        let met = first_word_between(&self.stored[at..at + count], low, high);
+        if 8 * met < count { met } else { n }
+    }
+
     // Writes a number over the eight bytes from `at` on.
     #[inline(always)]
     pub fn set_word(&mut self, at: usize, v: u64)
+        requires inside { at + 8 ≤ length self.old }
+        requires aligned { at % 8 ≡ 0 }
+        ensures items { self.new ≡ take at self.old ++ (bytes_low_first 0 8 v ++ drop (at + 8) self.old) }
+        ensures len { length self.new ≡ length self.old }
+    {
+        if at < self.stored.len() {
+            store_word(&mut self.stored, at, v);
+        } else {
+            self.set_word_beyond(at, v);
+        }
+    }
+
+    // The same where the word isn't stored yet. It stands apart, and is the last that a write does, so that what writes
+    // inline needs no frame for it.
+    #[cold]
+    #[inline(never)]
+    fn set_word_beyond(&mut self, at: usize, v: u64)
         requires inside { at + 8 ≤ length self.old }
         requires aligned { at % 8 ≡ 0 }
         ensures items { self.new ≡ take at self.old ++ (bytes_low_first 0 8 v ++ drop (at + 8) self.old) }
@@ -92,6 +130,21 @@ impl LazyBytes {
     // Writes the byte at `at`.
     #[inline(always)]
     pub fn set_byte(&mut self, at: usize, v: u8)
+        requires { at < length self.old }
+        ensures items { self.new ≡ set self.old at v }
+        ensures fits { (j : ℕ) → slice_index self.old j < 256 }
+    {
+        if at < self.stored.len() {
+            store_byte(&mut self.stored, at, v);
+        } else {
+            self.set_byte_beyond(at, v);
+        }
+    }
+
+    // The same where the byte isn't stored yet.
+    #[cold]
+    #[inline(never)]
+    fn set_byte_beyond(&mut self, at: usize, v: u8)
         requires { at < length self.old }
         ensures items { self.new ≡ set self.old at v }
         ensures fits { (j : ℕ) → slice_index self.old j < 256 }

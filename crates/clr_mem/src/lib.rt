@@ -9,9 +9,9 @@
 //! what was never written reads as 0.
 #![tactic(auto)]
 
-ghost use Rattle.std.specs.Prelude.{◌≡◌, ◌+◌, ◌*◌, ◌%◌, ◌<◌, ◌≤◌, ◌^◌, ◌↔◌, length, IfOk, IsTrue};
+ghost use Rattle.std.specs.Prelude.{◌≡◌, ℕ, ◌+◌, ◌*◌, ◌%◌, ◌<◌, ◌≤◌, ◌^◌, ◌↔◌, false, true, length, IfOk, IsTrue};
 ghost use Rattle.clr_mem.specs.Words.{byte_at, cleared, end_of, Holds, HoldsBytes, moved, with_byte_at, with_word};
-ghost use Rattle.clr_mem.specs.Words.{word_at, zeroed};
+ghost use Rattle.clr_mem.specs.Words.{is_between, word_at, zeroed};
 
 use crate::lazy::LazyBytes;
 use std::alloc::Global;
@@ -98,6 +98,20 @@ impl Mem {
         ensures fits { a + 8 < 2 ^ 64 }
     {
         self.bytes.word((a - self.base) as usize)
+    }
+
+    /// Of the `n` words from `a` on, a multiple of 8, the number of the first one that is one of the numbers from
+    /// `low`, which is above 0, to below `high`, and `n` where none is.
+    #[inline(always)]
+    pub fn first_between(&self, a: u64, n: u64, low: u64, high: u64) -> u64
+        requires words { Holds self.now a (8 * n) }
+        requires above { 0 < low }
+        ensures most { result ≤ n }
+        ensures before { (j : ℕ) → j < result → is_between low high (word_at self.now (a + 8 * j)) ≡ false }
+        ensures found { result < n → is_between low high (word_at self.now (a + 8 * result)) ≡ true }
+    {
+        self.bytes
+            .first_between((a - self.base) as usize, n as usize, low, high) as u64
     }
 
     /// Writes the word at `a`, a multiple of 8; every other word stays.

@@ -6,7 +6,7 @@ use Rattle.clr_types.specs.Segments.{Layout, reserved_end, same_kind, is_small_o
 use Rattle.clr_types.specs.LawfulLayout.{AreDisjoint, IsLawfulLayout}
 use Rattle.clr_types.specs.declared.segment.SegInfo.{SegInfo}
 use Rattle.clr_types.specs.declared.segment.SegKind.{SegKind}
-use Rattle.clr_types.specs.declared.segment.SegKind.TheVariants.{Small, Ephemeral, Large}
+use Rattle.clr_types.specs.declared.segment.SegKind.TheVariants.{Small, Ephemeral, Large, Pinned}
 use Rattle.clr_types.proofs.RisingLists.{in_cons, all_at}
 use Rattle.clr_types.proofs.SegmentFacts.{ephemerals-are, AreSeparate, separate, lawful_segment, ephemeral-in}
 use Rattle.clr_types.proofs.ChangedLists.{all_members, into_filter, out_of_filter}
@@ -28,6 +28,7 @@ kind-only : (k : SegKind) → is_small_or_ephemeral k ≡ true → (same_kind Ep
 kind-only Small e = inr refl
 kind-only Ephemeral e = inl refl
 kind-only Large e = absurd cc
+kind-only Pinned e = absurd cc
 
 module _ (layout : Layout) (h : IsLawfulLayout layout) where
   -- a segment of the ephemeral kind is the ephemeral one

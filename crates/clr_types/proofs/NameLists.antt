@@ -1,11 +1,11 @@
 -- What the index set's look-ups say of the names as lists of bytes.
 use Rattle.std.proofs.Common.{◌≡◌, ℕ, ◌+◌, Bool, true, false, List, [], ◌∷◌, map, Vec, Global, Some, None, position}
 use Rattle.std.proofs.Common.{eqb, refl, sym, ap, ◌∙◌, inl, inr, zero, suc, ◌<◌, length, get_or, arith}
-use Rattle.std.proofs.Common.{ltb, ltb-true, zero-add}
-use Rattle.std.proofs.lemmas.List.{length-map}
+use Rattle.std.proofs.Common.{◌-◌, ◌≤◌, ltb, ltb-true, zero-add}
+use Rattle.std.proofs.lemmas.List.{get_or-map, length-map}
 use Rattle.std.specs.Str.{bytes_eq}
 use Rattle.std.specs.List.{list_any, position_from, IsDistinct}
-use Rattle.std.proofs.lemmas.Bool.{cases_Bool}
+use Rattle.std.proofs.lemmas.Bool.{cases_Bool, lt-ltb}
 use Rattle.std.proofs.lemmas.List.Elements.{All-from_recursion, All-get_or}
 use Rattle.std.proofs.lemmas.Map.Keys.{IsDistinct-head, IsDistinct-tail}
 use Rattle.std.proofs.lemmas.Slice.Eq.{bytes_eq-Decides}
@@ -83,6 +83,12 @@ found_below names keys slice i seen told below =
     let count : length (map bytes_of keys) ≡ length names = ap length seen in
     omega (arith, ltb-true i (length slice) (sym below), ap length told, length-map keys bytes_of, count)
 
+pub below_found : (names : List (List ℕ)) (keys slice : List (Vec ℕ Global)) (i : ℕ) → map bytes_of keys ≡ names
+    → slice ≡ keys → i < length names → ltb i (length slice) ≡ true
+below_found names keys slice i seen told below =
+    let count : length (map bytes_of keys) ≡ length names = ap length seen in
+    lt-ltb i (length slice) (omega (arith, below, ap length told, length-map keys bytes_of, count))
+
 pub name_number-found : (names : List (List ℕ)) (keys slice : List (Vec ℕ Global)) (known : Vec ℕ Global)
     (name : List ℕ) (i : ℕ) → map bytes_of keys ≡ names → slice ≡ keys → IsDistinct same_key keys
     → true ≡ ltb i (length slice) → known ≡ get_or slice i known → known.items ≡ name
@@ -93,3 +99,47 @@ name_number-found names keys slice known name i seen told distinct below found s
     let is_name : (get_or keys i known).items ≡ name =
     ap bytes_of (sym here) ∙ same in
     rw (← seen) (name_number-at 0 i name keys known distinct within is_name ∙ ap Some (zero-add i))
+
+-- the number that is found, counted from n, is one of the names', and the name stands at it
+name_number-has : (n i : ℕ) (names : List (List ℕ)) (name : List ℕ) → name_number n names name ≡ Some i
+    → (n ≤ i) × (i < n + length names) × (get_or names (i - n) [] ≡ name)
+name_number-has n i [] name found = cc
+name_number-has n i (known ∷ names) name found =
+    elim (cases_Bool (bytes_eq known name)) [
+      | inl hit ↦
+          let one : Some n ≡ Some i = rw hit at found in
+          let here : n ≡ i = cc in
+          let at : i - n ≡ 0 = omega (arith, here) in (
+            omega (arith, here),
+            omega (arith, here),
+            ap (λ (k : ℕ). get_or (known ∷ names) k []) at ∙ (bytes_eq-Decides known name).0 hit,
+          )
+      | inr miss ↦
+          let later = name_number-has (n + 1) i names name (rw miss at found) in
+          let low = later.0 in
+          let high = later.1 in
+          let at : i - n ≡ suc (i - (n + 1)) = omega (arith, low) in (
+            omega (arith, low),
+            omega (arith, high),
+            ap (λ (k : ℕ). get_or (known ∷ names) k []) at ∙ later.2,
+          )
+    ]
+
+pub number-has_name : (names : List (List ℕ)) (i : ℕ) (name : List ℕ) → name_number 0 names name ≡ Some i
+    → (i < length names) × (get_or names i [] ≡ name)
+number-has_name names i name found =
+    let has = name_number-has 0 i names name found in
+    let below = has.1 in
+    let at : i ≡ i - 0 = omega arith in
+    (omega (arith, below), ap (λ (k : ℕ). get_or names k []) at ∙ has.2)
+
+-- the key at the number that is found has the name
+pub key_named : (names : List (List ℕ)) (keys slice : List (Vec ℕ Global)) (known : Vec ℕ Global) (name : List ℕ) (i : ℕ)
+    → map bytes_of keys ≡ names → slice ≡ keys → true ≡ ltb i (length slice) → known ≡ get_or slice i known
+    → name_number 0 names name ≡ Some i → known.items ≡ name
+key_named names keys slice known name i seen told below found number =
+    let within : i < length keys = rw told at (ltb-true i (length slice) (sym below)) in
+    let here : known ≡ get_or keys i known = rw told at found in
+    let stands : get_or (map bytes_of keys) i [] ≡ get_or names i [] = ap (λ xs. get_or xs i []) seen in
+    ap bytes_of here ∙ sym (get_or-map bytes_of keys i known [] within) ∙ stands
+    ∙ (number-has_name names i name number).1

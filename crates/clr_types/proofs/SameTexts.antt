@@ -1,5 +1,5 @@
 -- Texts of four to eight bytes are equal where their first and their last four bytes are.
-use Rattle.std.proofs.Common.{◌≡◌, ℕ, ◌+◌, ◌-◌, ◌<◌, ◌≤◌, true, List, ◌++◌, length, take, drop, Option, Some, None}
+use Rattle.std.proofs.Common.{◌≡◌, ℕ, ◌+◌, ◌-◌, ◌<◌, ◌≤◌, true, List, [], ◌∷◌, ◌++◌, length, get_or, take, drop, Option, Some, None}
 use Rattle.std.proofs.Common.{MatchOption, Bor, sym, ◌∙◌, ap, arith}
 use Rattle.std.specs.Array.{IsFirstChunk, IsWholeChunk}
 use Rattle.std.specs.Option.{option_eq}
@@ -29,6 +29,36 @@ same_back text other None b n long short last equal = absurd (omega arith)
 same_back text other (Some x) None n long last none equal = absurd (cc equal)
 same_back text other (Some x) (Some y) n long (enough, last) (more, second) equal =
     sym last.same ∙ (bytes_eq-Decides x.now y.now).0 equal ∙ second.same
+
+-- texts that are equal have equal parts
+pub equal_front : (text other : List ℕ) (part counterpart : Option (Bor (List ℕ))) (n : ℕ) → n ≤ length text
+    → MatchOption part (length text < n) (λ y. IsFirstChunk text y.now n)
+    → MatchOption counterpart (length other < n) (λ y. IsFirstChunk other y.now n)
+    → text ≡ other → are_equal part counterpart
+equal_front text other None b n long short first same = absurd (omega arith)
+equal_front text other (Some x) None n long first none same = let l = ap length same in absurd (omega arith)
+equal_front text other (Some x) (Some y) n long first second same =
+    (bytes_eq-Decides x.now y.now).1 (first.same ∙ ap (take n) same ∙ sym second.same)
+
+pub equal_back : (text other : List ℕ) (part counterpart : Option (Bor (List ℕ))) (n : ℕ) → n ≤ length text
+    → MatchOption part (length text < n) (λ y. (n ≤ length text) × IsWholeChunk (drop (length text - n) text) y.now n)
+    → MatchOption counterpart (length other < n)
+    (λ y. (n ≤ length other) × IsWholeChunk (drop (length other - n) other) y.now n)
+    → text ≡ other → are_equal part counterpart
+equal_back text other None b n long short last same = absurd (omega arith)
+equal_back text other (Some x) None n long last none same = let l = ap length same in absurd (omega arith)
+equal_back text other (Some x) (Some y) n long (enough, last) (more, second) same =
+    (bytes_eq-Decides x.now y.now).1
+    (last.same ∙ ap (λ (xs : List ℕ). drop (length xs - n) xs) same ∙ sym second.same)
+
+-- texts of one byte are equal where their bytes are
+pub one_byte : (text other : List ℕ) → length text ≡ 1 → length other ≡ 1 → get_or text 0 0 ≡ get_or other 0 0
+    → text ≡ other
+one_byte [] other one too same = absurd (omega arith)
+one_byte (x ∷ text) [] one too same = absurd (omega arith)
+one_byte (x ∷ y ∷ text) (z ∷ other) one too same = absurd (omega arith)
+one_byte (x ∷ []) (y ∷ z ∷ other) one too same = absurd (omega arith)
+one_byte (x ∷ []) (y ∷ []) one too same = ap (λ (k : ℕ). k ∷ []) same
 
 -- the two parts overlap or meet
 pub same_text : (text other : List ℕ) (n : ℕ) → length text ≡ length other → n ≤ length text → length text ≤ n + n

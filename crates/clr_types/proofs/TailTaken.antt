@@ -10,7 +10,7 @@ use Rattle.clr_types.specs.Types.{Form, class_form, references_form, bytes_form,
 use Rattle.clr_types.specs.Segments.{Layout, first_place, reserved_end, same_kind, stands_in, ended_at}
 use Rattle.clr_types.specs.Segments.{segment_or_empty, segments_of, segment_of, ephemeral, reserved_sum, generation}
 use Rattle.clr_types.specs.Segments.{with_end}
-use Rattle.clr_types.specs.LawfulLayout.{AreDisjoint, IsLawfulSegment, IsLawfulLayout}
+use Rattle.clr_types.specs.LawfulLayout.{AreDisjoint, IsLawfulSegment, IsLawfulLayout, IsBoundedSegment}
 use Rattle.clr_types.specs.declared.segment.SegInfo.{SegInfo}
 use Rattle.clr_types.specs.declared.segment.SegKind.{SegKind}
 use Rattle.clr_types.specs.declared.segment.SegKind.TheVariants.{Small, Ephemeral, Large}
@@ -129,7 +129,6 @@ module _ (layout : Layout) (h : IsLawfulLayout layout) (size : ℕ) where
           lowest = is.lowest;
           reserved = is.reserved;
           least = is.least;
-          most = is.most;
           low = omega arith;
           high = within;
           aligned = omega arith;
@@ -153,6 +152,8 @@ module _ (layout : Layout) (h : IsLawfulLayout layout) (size : ℕ) where
           segments = all-changed_by (λ (s : SegInfo). s.base)
               (ephemeral layout).base change IsLawfulSegment layout.segments (segment_lawful aligned)
               (λ s i other. lawful_segment layout h s i);
+          bounded = all-changed_same (λ (s : SegInfo). s.base) (ephemeral layout).base change IsBoundedSegment
+              (λ s most. most) layout.segments h.bounded;
           disjoint = disjoint-ended (ephemeral layout).base ((ephemeral layout).end + size) layout.segments h.disjoint;
           below_top = all-changed_same (λ (s : SegInfo). s.base) (ephemeral layout).base change
               (λ (s : SegInfo). reserved_end s ≤ layout.top) (λ s l. l) layout.segments h.below_top;

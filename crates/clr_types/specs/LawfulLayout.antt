@@ -13,16 +13,23 @@ abbrev pub AreDisjoint : List SegInfo → Type 0
 AreDisjoint [] = Unit {0}
 AreDisjoint (s ∷ ss) = AllByRecursion (λ r. reserved_end s ≤ r.base) ss × AreDisjoint ss
 
--- bases begin at 0x10000000, and no segment of the small heap reserves more than 64 MiB
+-- bases begin at 0x10000000, and bases and sizes are whole pages
 pub record IsLawfulSegment (s : SegInfo) : Type 0 where
   pub base : s.base % 4096 ≡ 0
   pub lowest : 0x10000000 ≤ s.base
   pub reserved : s.reserved % 4096 ≡ 0
   pub least : 262144 ≤ s.reserved
-  pub most : is_small_or_ephemeral s.kind ≡ true → s.reserved ≤ 67108864
   pub low : first_place s ≤ s.end
   pub high : s.end ≤ reserved_end s
   pub aligned : s.end % 8 ≡ 0
+
+-- A small or ephemeral segment reserves at most 64 MiB. Plans and their tables of steps need it, and every segment that
+-- a machine acquires keeps it. A heap alone may have longer ones, up to its limit.
+abbrev pub IsBoundedSegment : SegInfo → Type 0
+IsBoundedSegment s = is_small_or_ephemeral s.kind ≡ true → s.reserved ≤ 67108864
+
+abbrev pub AreBounded : List SegInfo → Type 0
+AreBounded ss = AllByRecursion IsBoundedSegment ss
 
 -- a piece doesn't begin below the boundary and end above it
 abbrev pub DoesNotCross : ℕ → Piece → Type 0
@@ -30,6 +37,7 @@ DoesNotCross boundary p = (boundary ≤ p.place) ⊎ (piece_end p ≤ boundary)
 
 pub record IsLawfulLayout (layout : Layout) : Type 0 where
   pub segments : AllByRecursion IsLawfulSegment layout.segments
+  pub bounded : AreBounded layout.segments
   pub disjoint : AreDisjoint layout.segments
   pub below_top : AllByRecursion (λ (s : SegInfo). reserved_end s ≤ layout.top) layout.segments
   pub top_aligned : layout.top % 4096 ≡ 0

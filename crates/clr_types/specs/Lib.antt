@@ -1,3 +1,4 @@
+pub mod Bits
 pub mod Rising
 pub mod Ranges
 pub mod Types

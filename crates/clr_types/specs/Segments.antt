@@ -5,7 +5,7 @@ use Rattle.clr_types.specs.Rising.{changed_by}
 use Rattle.clr_types.specs.Ranges.{Piece}
 use Rattle.clr_types.specs.declared.segment.SegInfo.{SegInfo}
 use Rattle.clr_types.specs.declared.segment.SegKind.{SegKind}
-use Rattle.clr_types.specs.declared.segment.SegKind.TheVariants.{Small, Ephemeral, Large}
+use Rattle.clr_types.specs.declared.segment.SegKind.TheVariants.{Small, Ephemeral, Large, Pinned}
 
 -- The segments by rising base, the boundaries of the generations in the ephemeral one, the free items by rising place,
 -- what is left of each thread's context, and the highest end of a reservation that ever was.
@@ -30,12 +30,21 @@ abbrev pub same_kind : SegKind → SegKind → Bool
 same_kind Small Small = true
 same_kind Ephemeral Ephemeral = true
 same_kind Large Large = true
+same_kind Pinned Pinned = true
 same_kind _ _ = false
 
 abbrev pub is_small_or_ephemeral : SegKind → Bool
 is_small_or_ephemeral Small = true
 is_small_or_ephemeral Ephemeral = true
 is_small_or_ephemeral Large = false
+is_small_or_ephemeral Pinned = false
+
+-- what isn't of the small heap
+abbrev pub is_large_or_pinned : SegKind → Bool
+is_large_or_pinned Small = false
+is_large_or_pinned Ephemeral = false
+is_large_or_pinned Large = true
+is_large_or_pinned Pinned = true
 
 -- a place stands in the segment
 abbrev pub stands_in : SegInfo → ℕ → Bool
@@ -59,6 +68,7 @@ abbrev pub sealed_kind : SegKind → SegKind
 sealed_kind Small = Small
 sealed_kind Ephemeral = Small
 sealed_kind Large = Large
+sealed_kind Pinned = Pinned
 
 -- an ephemeral segment becomes small
 abbrev pub sealed_segment : SegInfo → SegInfo

@@ -1,7 +1,7 @@
 -- Types: a name, a form and whether there is a finaliser; sizes, slots and method table words.
 use Rattle.std.specs.Prelude.{ℕ, ◌+◌, ◌*◌, max, List, [], ◌∷◌, map, length, replicate, if◌then◌else◌, ◌==◌, nat_le}
 use Rattle.std.specs.Prelude.{Bool, true, false, ◌&&◌, ◌||◌, Option, Some, None, slice_get, codes, suc, zero, bytes_eq}
-use Rattle.std.specs.List.{repeat, list_all}
+use Rattle.std.specs.List.{repeat, list_all, list_any}
 use Rattle.clr_types.specs.Ranges.{rounded_up}
 use Rattle.clr_types.specs.declared.shape.Shape.{Shape}
 use Rattle.clr_types.specs.declared.shape.Shape.TheVariants.{Class, RefArray, ByteArray, StructArray}
@@ -76,6 +76,13 @@ is_bytes bytes_form = true
 is_bytes (class_form pattern) = false
 is_bytes references_form = false
 is_bytes (structs_form pattern) = false
+
+-- an array that has a reference in each element
+abbrev pub is_array_with_references : Form → Bool
+is_array_with_references (class_form pattern) = false
+is_array_with_references references_form = true
+is_array_with_references bytes_form = false
+is_array_with_references (structs_form pattern) = list_any is_reference pattern
 
 -- a class has at most 256 slots, a struct 1 to 64, and only a class has a finaliser
 abbrev pub is_lawful_form : Form → Bool → Bool

@@ -214,12 +214,16 @@ impl MethodTable {
         }
     }
 
-    /// The bytes of an object of `len` elements, where they are at most 2^30.
+    /// The bytes of an object of `len` elements, where they are at most 2^30. An object of a class, without elements,
+    /// needs no product.
     #[inline(always)]
     pub(crate) fn item_size(&self, len: u64) -> u64
         requires { types.size_of self.now.form len ≤ 1073741824 }
         ensures { result ≡ types.size_of self.now.form len }
     {
+        if self.element_size == 0 {
+            return self.base_size;
+        }
         let counted = len.min(LARGEST_OBJECT);
         (self.base_size + self.element_size * counted + 7) / 8 * 8
     }

@@ -1,6 +1,6 @@
 //! Names in order of definition.
 
-ghost use Rattle.std.specs.Prelude.{◌≡◌, ◌<◌, [], ◌∷◌, ◌++◌, length, get_or};
+ghost use Rattle.std.specs.Prelude.{◌≡◌, ◌↔◌, ◌<◌, [], ◌∷◌, ◌++◌, length, get_or};
 ghost use Rattle.std.specs.Prelude.{None, Some, IfOk, IfSome, IsTrue, OnErr};
 ghost use Rattle.clr_types.specs.Table.{name_number};
 
@@ -51,10 +51,10 @@ impl Names {
         }
     }
 
-    // Whether a number has this name.
+    /// Whether a number has this name.
     #[inline(always)]
-    fn is_name(&self, number: usize, name: &[u8]) -> bool
-        ensures value { IsTrue result → name_number 0 self.now name.now ≡ Some number }
+    pub(crate) fn is_name(&self, number: usize, name: &[u8]) -> bool
+        ensures value { IsTrue result ↔ (name_number 0 self.now name.now ≡ Some number) }
         ensures below { IsTrue result → number < length self.now }
     {
         match self.set.as_slice().get(number) {
@@ -73,11 +73,12 @@ impl Names {
     }
 
     /// The name of a number.
+    #[inline(always)]
     pub(crate) fn name(&self, number: usize) -> &[u8]
         requires { number < length self.now }
         ensures { result.now ≡ get_or self.now number [] }
     {
-        self.set.get_index(number).unwrap()
+        self.set.as_slice()[number].as_slice()
     }
 
     /// Adds a name that isn't there. After an error the names are as they were.
@@ -94,12 +95,18 @@ impl Names {
     }
 }
 
-// Whether two texts are equal. Most names have four to eight bytes: two words, which may overlap, cover these.
+// Whether two texts are equal. Most names have four to eight bytes, which two words cover that may overlap, or one.
 #[inline(always)]
 fn is_same(text: &[u8], other: &[u8]) -> bool
-    ensures { IsTrue result → text.now ≡ other.now }
+    ensures { IsTrue result ↔ (text.now ≡ other.now) }
 {
-    if text.len() != other.len() || text.len() < 4 || 8 < text.len() {
+    if text.len() != other.len() {
+        return false;
+    }
+    if text.len() == 1 {
+        return text[0] == other[0];
+    }
+    if text.len() < 4 || 8 < text.len() {
         return text == other;
     }
     text.first_chunk::<4>() == other.first_chunk::<4>()

@@ -14,6 +14,8 @@ pub enum SegKind {
     Ephemeral,
     /// Large objects: all of it is generation 2.
     Large,
+    /// Arrays without references that never move: all of it is generation 2.
+    Pinned,
 }
 
 /// A segment: `reserved` bytes from the address `base` on, in use up to the place `end`.
@@ -57,6 +59,7 @@ impl SegInfo {
         let kind = match self.kind {
             SegKind::Small | SegKind::Ephemeral => SegKind::Small,
             SegKind::Large => SegKind::Large,
+            SegKind::Pinned => SegKind::Pinned,
         };
         SegInfo { kind, ..self }
     }

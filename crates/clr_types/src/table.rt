@@ -1,7 +1,7 @@
 //! The table of types.
 
 ghost use Rattle.std.specs.Prelude.{◌≡◌, ◌≢◌, ℕ, ◌+◌, ◌-◌, ◌/◌, ◌<◌, ◌≤◌, ◌↔◌, [], ◌∷◌, ◌++◌};
-ghost use Rattle.std.specs.Prelude.{IfOk, IfSome, IsSome, MatchOption, None, OnErr, OnOk, Some, SomeIff};
+ghost use Rattle.std.specs.Prelude.{IfOk, IfSome, IsSome, IsTrue, MatchOption, None, OnErr, OnOk, Some, SomeIff};
 ghost use Rattle.std.specs.Prelude.{false, length, option_map, slice_get, true};
 ghost use Rattle.std.specs.List.{AllByRecursion};
 ghost use Rattle.clr_types.specs.Types.{form_of, form_at, is_array, is_lawful_form, mt_of, name_of};
@@ -131,6 +131,16 @@ impl Types {
         Some(TypeId(number as u32))
     }
 
+    /// Whether a type has this name: that of unused space is `Free`. A number that no type has has no name.
+    #[inline(always)]
+    pub fn has_name(&self, t: TypeId, name: &[u8]) -> bool
+        ensures named { IsTrue result ↔ (number_with_free self.now name.now ≡ Some t.0) }
+        ensures name { IsTrue result → name_of self.now t.0 ≡ name.now }
+        ensures known { IsTrue result → t.0 ≤ length self.now }
+    {
+        self.names.is_name(t.0 as usize, name)
+    }
+
     /// The method table word of a type.
     pub fn mt(&self, t: TypeId) -> u64
         requires { t.0 ≤ length self.now }
@@ -169,6 +179,7 @@ impl Types {
     }
 
     /// The name of a type.
+    #[inline(always)]
     pub fn name(&self, t: TypeId) -> &[u8]
         requires { t.0 ≤ length self.now }
         ensures { result.now ≡ name_of self.now t.0 }

@@ -1,13 +1,17 @@
 use Rattle.std.proofs.Common.{arith, sym, ◌∙◌}
-use Rattle.clr_types.proofs.SameTexts.{same_front, same_back, same_text}
+use Rattle.clr_types.proofs.SameTexts.{equal_back, same_front, same_back, same_text}
 use Rattle.clr_types.proofs.names.is_same.Goals as goal
 
 pub returns-then-eq : goal.returns-then-eq
-returns-then-eq c same =
+returns-then-eq c =
     let text = c.args.text.now in
-    let other = c.args.other.now in
-    same_text text other 4 (omega arith) (omega arith) (omega arith)
-    (same_front text other c.first_chunk.result c.first_chunk-2.result 4 (omega arith)
-    c.first_chunk.ensures.cases c.first_chunk-2.ensures.cases (sym c.eq-2.ensures ∙ c.if-eq.true))
-    (same_back text other c.last_chunk.result c.last_chunk-then-eq.result 4 (omega arith)
-    c.last_chunk.ensures.cases c.last_chunk-then-eq.ensures.cases (sym c.eq-then-eq.ensures ∙ same))
+    let other = c.args.other.now in (
+      λ same. same_text text other 4 (omega arith) (omega arith) (omega arith)
+          (same_front text other c.first_chunk.result c.first_chunk-2.result 4 (omega arith)
+          c.first_chunk.ensures.cases c.first_chunk-2.ensures.cases (sym c.eq-2.ensures ∙ c.if-eq.true))
+          (same_back text other c.last_chunk.result c.last_chunk-then-eq.result 4 (omega arith)
+          c.last_chunk.ensures.cases c.last_chunk-then-eq.ensures.cases (sym c.eq-then-eq.ensures ∙ same)),
+      λ equal. c.eq-then-eq.ensures
+          ∙ equal_back text other c.last_chunk.result c.last_chunk-then-eq.result 4 (omega arith)
+          c.last_chunk.ensures.cases c.last_chunk-then-eq.ensures.cases equal,
+    )

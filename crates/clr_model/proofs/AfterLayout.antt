@@ -15,7 +15,7 @@ use Rattle.clr_types.specs.declared.segment.SegKind.TheVariants.{Ephemeral, Smal
 use Rattle.clr_types.specs.declared.segment.SegInfo.{SegInfo}
 use Rattle.clr_types.specs.Segments.{Layout, first_place, reserved_end, stands_in, segments_of, segment_or_empty}
 use Rattle.clr_types.specs.Segments.{ephemeral, same_kind, generation}
-use Rattle.clr_types.specs.LawfulLayout.{IsLawfulLayout, IsLawfulSegment, AreDisjoint}
+use Rattle.clr_types.specs.LawfulLayout.{IsLawfulLayout, IsLawfulSegment, AreBounded, AreDisjoint, IsBoundedSegment}
 use Rattle.clr_types.proofs.ListMembers.{from-map, distinct_append, in_append, append_right, distinct_of_sorted}
 use Rattle.clr_types.proofs.ListMembers.{distinct_filter, filter-map, filter-on, any-from, distinct_right}
 use Rattle.clr_types.proofs.PieceGaps.{IsGapped}
@@ -79,11 +79,17 @@ module _ (layout : Layout) (h : IsLawfulLayout layout) (kinds : SegKind → Bool
               lowest = is.lowest;
               reserved = is.reserved;
               least = is.least;
-              most = is.most;
               low = omega arith;
               high = high s j;
               aligned = omega arith;
             }
+
+    changed-bounded : (s : SegInfo) → IsIn s layout.segments → IsBoundedSegment (changed_segment s)
+    changed-bounded s i = go (takes s)
+      where
+        go : (b : Bool) → IsBoundedSegment (if b then record s { end = end_after s } else s)
+        go true = all_at IsBoundedSegment i h.bounded
+        go false = all_at IsBoundedSegment i h.bounded
 
     changed-disjoint : (ss : List SegInfo) → AreDisjoint ss → AreDisjoint (map changed_segment ss)
     changed-disjoint [] d = tt
@@ -243,6 +249,11 @@ module _ (layout : Layout) (h : IsLawfulLayout layout) (kinds : SegKind → Bool
           (all_members IsLawfulSegment (map changed_segment layout.segments)
           (λ t i. let (s, e, j) = from-map changed_segment t layout.segments i in
           subst IsLawfulSegment (sym e) (changed-lawful s j)));
+      bounded =
+          subst AreBounded (sym segments)
+          (all_members IsBoundedSegment (map changed_segment layout.segments)
+          (λ t i. let (s, e, j) = from-map changed_segment t layout.segments i in
+          subst IsBoundedSegment (sym e) (changed-bounded s j)));
       disjoint = subst AreDisjoint (sym segments) (changed-disjoint layout.segments h.disjoint);
       below_top =
           subst (AllByRecursion (λ (s : SegInfo). reserved_end s ≤ new.top)) (sym segments)

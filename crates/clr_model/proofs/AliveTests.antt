@@ -9,10 +9,11 @@ use Rattle.clr_types.proofs.RisingLists.{in_cons}
 use Rattle.clr_types.proofs.ListMembers.{from-map, in_append, append_right}
 use Rattle.clr_types.proofs.ChangedLists.{into_filter, out_of_filter, append_left, IsIn-map}
 use Rattle.clr_types.specs.declared.handle.Handle.{Handle}
-use Rattle.clr_model.specs.Machine.{Value, ref, num, Object, Machine}
+use Rattle.clr_model.specs.Machine.{Value, ref, num, Object, Machine, Marking}
 use Rattle.clr_model.specs.Lookups.{handle_rows}
 use Rattle.clr_types.specs.Kinds.{is_dependent, is_root_kind}
-use Rattle.clr_model.specs.Reach.{SlotNames, SecondOf, Edge, HeldBy, Roots, Old, StartOf, First, Kept, woken}
+use Rattle.clr_model.specs.Reach.{SlotNames, SecondOf, Edge, HeldBy, Roots, Old, StartOf, IsAlive, Kept, woken}
+use Rattle.clr_model.specs.Reach.{StartOfBackground}
 use Rattle.clr_types.proofs.MapValues.{value-in_use}
 use Rattle.clr_model.proofs.HandleTables.{value-among}
 use Rattle.clr_model.proofs.CollectedFree.{from_part, into_parts}
@@ -215,7 +216,7 @@ module _ (m : Machine) where
   abbrev pub alive : ℕ → ℕ → Bool
   alive g = reached_by arcs (start_names g)
 
-  pub alive-tests : (g : ℕ) → Tests (alive g) (First m (StartOf m g))
+  pub alive-tests : (g : ℕ) → Tests (alive g) (IsAlive m (StartOf m g))
   alive-tests g = reached-tests arcs (start_names g) (Edge m) (StartOf m g) edges-listed (starts-listed g)
 
   -- what stays, where a test tells what is alive before finalisation
@@ -236,4 +237,55 @@ module _ (m : Machine) where
 
           from : IsIn x (start_names g) ⊎ IsIn x (woken m alive_first) → StartOf m g x ⊎ IsIn x (woken m alive_first)
           from (inl i) = inl ((starts-listed g x).1 i)
+          from (inr i) = inr i
+
+  -- ---- the last pause of a background collection
+
+  -- the names where it starts
+  abbrev pub marked_names : Marking → List ℕ
+  marked_names k = root_names ++ (k.gray ++ k.black)
+
+  marked-listed : (k : Marking) → Lists (marked_names k) (StartOfBackground m k)
+  marked-listed k x = (into, λ i. from (in_append root_names i))
+    where
+      into : StartOfBackground m k x → IsIn x (marked_names k)
+      into (inl root) = append_left (k.gray ++ k.black) (roots-listed x root)
+      into (inr (inl i)) = append_right root_names (append_left k.black i)
+      into (inr (inr i)) = append_right root_names (append_right k.gray i)
+
+      colour : IsIn x k.gray ⊎ IsIn x k.black → StartOfBackground m k x
+      colour (inl i) = inr (inl i)
+      colour (inr i) = inr (inr i)
+
+      from : IsIn x root_names ⊎ IsIn x (k.gray ++ k.black) → StartOfBackground m k x
+      from (inl i) = inl (roots-are x i)
+      from (inr i) = colour (in_append k.gray i)
+
+  abbrev pub marked_alive : Marking → ℕ → Bool
+  marked_alive k = reached_by arcs (marked_names k)
+
+  pub marked_alive-tests : (k : Marking) → Tests (marked_alive k) (IsAlive m (StartOfBackground m k))
+  marked_alive-tests k =
+      reached-tests arcs (marked_names k) (Edge m) (StartOfBackground m k) edges-listed (marked-listed k)
+
+  abbrev pub marked_stays : Marking → (ℕ → Bool) → ℕ → Bool
+  marked_stays k alive_first = reached_by arcs (marked_names k ++ woken m alive_first)
+
+  pub marked_stays-tests : (k : Marking) (alive_first : ℕ → Bool)
+      → Tests (marked_stays k alive_first) (Kept m (StartOfBackground m k) alive_first)
+  marked_stays-tests k alive_first =
+      reached-tests arcs (marked_names k ++ woken m alive_first) (Edge m)
+      (λ x. StartOfBackground m k x ⊎ IsIn x (woken m alive_first)) edges-listed listed
+    where
+      listed : Lists (marked_names k ++ woken m alive_first)
+          (λ x. StartOfBackground m k x ⊎ IsIn x (woken m alive_first))
+      listed x = (into, λ i. from (in_append (marked_names k) i))
+        where
+          into : StartOfBackground m k x ⊎ IsIn x (woken m alive_first) → IsIn x (marked_names k ++ woken m alive_first)
+          into (inl s) = append_left (woken m alive_first) ((marked-listed k x).0 s)
+          into (inr i) = append_right (marked_names k) i
+
+          from : IsIn x (marked_names k) ⊎ IsIn x (woken m alive_first)
+              → StartOfBackground m k x ⊎ IsIn x (woken m alive_first)
+          from (inl i) = inl ((marked-listed k x).1 i)
           from (inr i) = inr i

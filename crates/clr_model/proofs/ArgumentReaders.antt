@@ -1,20 +1,21 @@
 -- The readers of what stands behind a verb.
 use Rattle.std.proofs.Common.{◌≡◌, ℕ, Bool, true, false, List, [], ◌∷◌, refl, ap, subst, Option, Some, None, IfSome}
-use Rattle.std.proofs.Common.{decimal, codes}
-use Rattle.std.specs.Prelude.{IsTrue}
+use Rattle.std.proofs.Common.{decimal, codes, ◌≤◌, ◌==◌, arith}
+use Rattle.std.specs.Prelude.{IsTrue, if◌then◌else◌}
 use Rattle.std.specs.Option.{option_map, option_and_then}
 use Rattle.clr_nums.specs.Numbers.{hex16}
 use Rattle.clr_types.specs.declared.handle.Kind.{Kind}
 use Rattle.clr_types.specs.declared.handle.Kind.TheVariants.{Strong, Pinned, Weak, WeakLong, Dependent}
 use Rattle.clr_model.specs.declared.How.{How}
-use Rattle.clr_model.specs.declared.How.TheVariants.{Decide, Compact, Sweep}
+use Rattle.clr_model.specs.declared.How.TheVariants.{Decide, Compact, Sweep, Fit}
 use Rattle.clr_model.specs.LineGrammar.{IsWord, IsHandleForm, is_name, local_word, handle_word, number_words}
-use Rattle.clr_model.specs.LineGrammar.{local_words, how_words, final_words}
+use Rattle.clr_model.specs.LineGrammar.{local_words, how_words, final_words, IsHowForm}
 use Rattle.clr_model.specs.Parsing.{number_in, local_in, name_in, none_in, one_local_in, one_handle_in, locals_in}
 use Rattle.clr_model.specs.Parsing.{local_and_number_in, local_and_handle_in, load_in, store_in, number_store_in}
-use Rattle.clr_model.specs.Parsing.{length_in, birth_in, how_in, second_in, final_in, address_after_in}
+use Rattle.clr_model.specs.Parsing.{length_in, birth_in, how_in, second_in, final_in, address_after_in, one_number_in}
 use Rattle.clr_model.proofs.Readers.{IsReader, bound, mapped, none_told, one_reader, both_reader, each_reader}
-use Rattle.clr_model.proofs.Readers.{nothing_told, choice_told, value_told}
+use Rattle.clr_model.proofs.Readers.{IsTold, nothing_told, choice_told, value_told}
+use Rattle.std.proofs.lemmas.Bool.{eq-eqb, eqb-true}
 use Rattle.clr_model.proofs.WordReaders.{number_reader, address_reader, local_reader, handle_reader, name_reader}
 
 -- a local alone
@@ -26,6 +27,11 @@ one_local_reader = let r = one_reader _ _ _ local_reader in record { found = r.f
 pub one_handle_reader : IsReader one_handle_in (λ h. handle_word h ∷ []) IsWord
 unfolding one_handle_in
 one_handle_reader = let r = one_reader _ _ _ handle_reader in record { found = r.found; told = r.told }
+
+-- a number alone
+pub one_number_reader : IsReader one_number_in (λ n. decimal n ∷ []) IsWord
+unfolding one_number_in
+one_number_reader = let r = one_reader _ _ _ number_reader in record { found = r.found; told = r.told }
 
 -- an address alone
 pub address_after_reader : IsReader address_after_in (λ a. hex16 a ∷ []) IsWord
@@ -133,26 +139,42 @@ birth_reader = record { found = birth_found; told = birth_told }
 -- ---- how to collect
 
 -- a way to collect that is read is spelled so
-how_told : (ws : List (List ℕ)) (how : How) → how_in ws ≡ Some how → (ws ≡ how_words how) × Unit {0}
+how_told : (g : ℕ) → g ≤ 2 → (ws : List (List ℕ)) (how : How) → how_in g ws ≡ Some how
+    → (ws ≡ how_words how) × IsHowForm g how
 unfolding how_in
-how_told [] how e = value_told how_words (λ h. Unit {0}) [] Decide refl tt how e
-how_told (word ∷ []) how e =
-    choice_told how_words (λ h. Unit {0}) (λ w. w ∷ []) word (codes "compacting") _ _
-    (value_told how_words (λ h. Unit {0}) _ Compact refl tt)
-    (choice_told how_words (λ h. Unit {0}) (λ w. w ∷ []) word (codes "sweeping") _ _
-    (value_told how_words (λ h. Unit {0}) _ Sweep refl tt) (nothing_told _ _ _)) how e
-how_told (word ∷ other ∷ more) how e = absurd cc
+how_told g least [] how e = value_told how_words (IsHowForm g) [] Decide refl least how e
+how_told g least (word ∷ []) how e =
+    choice_told how_words (IsHowForm g) (λ w. w ∷ []) word (codes "compacting") _ _
+    (value_told how_words (IsHowForm g) _ Compact refl least)
+    (choice_told how_words (IsHowForm g) (λ w. w ∷ []) word (codes "sweeping") _ _
+    (value_told how_words (IsHowForm g) _ Sweep refl least)
+    (choice_told how_words (IsHowForm g) (λ w. w ∷ []) word (codes "fitting") _ _ (fit (g == 1) refl)
+    (nothing_told _ _ _))) how e
+  where
+    fit : (b : Bool) → (g == 1) ≡ b
+        → IsTold how_words (IsHowForm g) (codes "fitting" ∷ []) (if b then Some Fit else None)
+    fit true one = value_told how_words (IsHowForm g) _ Fit refl (eqb-true g 1 one)
+    fit false other = nothing_told _ _ _
+how_told g least (word ∷ other ∷ more) how e = absurd cc
 
 -- and each is read
-how_found : (how : How) → Unit {0} → how_in (how_words how) ≡ Some how
+how_found : (g : ℕ) (how : How) → IsHowForm g how → how_in g (how_words how) ≡ Some how
 unfolding how_in
-how_found Decide h = refl
-how_found Compact h = refl
-how_found Sweep h = refl
+how_found g Decide h = refl
+how_found g Compact h = refl
+how_found g Sweep h = refl
+how_found g Fit h = ap (λ b. if b then Some Fit else None) (eq-eqb g 1 h)
 
--- how to collect
-pub how_reader : IsReader how_in how_words (λ how. Unit {0})
-how_reader = record { found = how_found; told = how_told }
+-- how to collect a generation
+pub how_reader : (g : ℕ) → g ≤ 2 → IsReader (how_in g) how_words (IsHowForm g)
+how_reader g least = record { found = how_found g; told = how_told g least }
+
+-- which is 0, 1 or 2
+pub how_least : (g : ℕ) (how : How) → IsHowForm g how → g ≤ 2
+how_least g Decide h = h
+how_least g Compact h = h
+how_least g Sweep h = h
+how_least g Fit h = omega (arith, h)
 
 -- ---- the second local of a handle
 

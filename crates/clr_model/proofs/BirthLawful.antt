@@ -12,7 +12,8 @@ use Rattle.clr_types.specs.Segments.{Layout}
 use Rattle.clr_types.specs.declared.handle.Handle.{Handle}
 use Rattle.clr_types.proofs.RisingLists.{all_at}
 use Rattle.clr_types.proofs.TableRows.{AllByRecursion-push}
-use Rattle.clr_types.proofs.ChangedLists.{all_members, all_imply, all-slice_set, length-slice_set, rising-push}
+use Rattle.clr_types.proofs.ChangedLists.{all_members, all_imply, all-slice_set, append_left, length-slice_set}
+use Rattle.clr_types.proofs.ChangedLists.{rising-push}
 use Rattle.clr_types.proofs.ListMembers.{distinct_cross}
 use Rattle.clr_model.specs.Machine.{Value, ref, num, Object, ThreadStep, no_step, begun_store, begun_new, Sums, Machine}
 use Rattle.clr_model.specs.Lookups.{object_named, slots_of_named, slots_or_none, local_index, type_of_object}
@@ -25,6 +26,7 @@ use Rattle.clr_model.proofs.LawfulPieces.{places-distinct}
 use Rattle.clr_model.proofs.Birth.{born_object, born_objects, born_entries, placed_in, with_birth, IsBirth}
 use Rattle.clr_model.proofs.Birth.{IsBirthplace}
 use Rattle.clr_model.proofs.RootsChanged.{IsLawfulQueue, lawful_entries, entry_added, with_entries_lawful, shaped_alike}
+use Rattle.clr_model.proofs.MarkingKept.{marking_kept, old_as}
 
 -- ---- the slots of a new object
 
@@ -237,6 +239,10 @@ module _ (m : Machine) (layout : Layout) (sums : Sums) (t local place type len :
               promoted1 = bounds.promoted1;
               promoted2 = bounds.promoted2;
             };
+            marking =
+                marking_kept m next m.background
+                (old_as m next (λ o. o) (λ o. refl) (λ o i. append_left (born ∷ []) i)
+                (λ o i old. let same = at.ages o.place in omega arith)) is.marking;
           };
           born =
               AllByRecursion-push (λ (o : Object). o.name ≤ m.born + 1) m.objects born

@@ -63,8 +63,9 @@ checks_behind thread held stepping number suits away big = first_of_all (
     ∷ held
     ∷ refuse_if (stepping && true) MidStep
     ∷ refuse_if (not stepping && false) NotMidStep
+    ∷ None
     ∷ refuse_if (is_none number) UnknownType
-    ∷ None ∷ refuse_if (not suits) BadShape ∷ None
+    ∷ None ∷ refuse_if (not suits) BadShape ∷ None ∷ None
     ∷ refuse_if (away || false) NoSlot
     ∷ None ∷ None ∷ None ∷ None ∷ None ∷ None
     ∷ refuse_if big TooBig ∷ None ∷ None ∷ [])

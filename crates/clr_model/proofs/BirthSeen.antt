@@ -1,5 +1,5 @@
 -- What is seen after a birth.
-use Rattle.std.proofs.Common.{◌≡◌, ◌≢◌, ℕ, ◌+◌, ◌<◌, ◌⊎◌, List, [], ◌∷◌, ◌++◌, map, refl, sym, ap, ◌∙◌, arith}
+use Rattle.std.proofs.Common.{◌≡◌, ◌≢◌, ℕ, ◌+◌, ◌<◌, ◌⊎◌, List, [], ◌∷◌, ◌++◌, map, refl, sym, ap, ◌∙◌, arith, subst}
 use Rattle.std.proofs.Common.{Bool, true, false, if◌then◌else◌, ◌==◌, Some, is_some, slice_set, inl, inr, ne_eqb}
 use Rattle.std.proofs.Common.{eq-eqb}
 use Rattle.std.specs.List.{AllByRecursion}
@@ -17,6 +17,7 @@ use Rattle.clr_model.specs.Machine.{Value, ref, num, Object, ThreadStep, no_step
 use Rattle.clr_model.specs.Lookups.{place_of, place_or_null, object_named, local_index}
 use Rattle.clr_types.specs.Maps.{map_values}
 use Rattle.clr_model.specs.Picture.{picture, renamed_value, renamed_object, renamed_row, renamed_step}
+use Rattle.clr_model.specs.Picture.{renamed_marking}
 use Rattle.clr_model.specs.Updates.{empty_value}
 use Rattle.clr_model.specs.Run.{StandsFor}
 use Rattle.clr_model.specs.Lawful.{AreBoundedSums, IsBirthNamed, IsShaped, IsPresent, IsNullOrPresent}
@@ -25,6 +26,8 @@ use Rattle.clr_model.proofs.Naming.{map-slice_set}
 use Rattle.clr_model.proofs.Birth.{born_object, born_objects, born_entries, with_birth, seen_birth, IsBirth}
 use Rattle.clr_model.proofs.Birth.{IsBirthplace}
 use Rattle.clr_model.proofs.BirthLawful.{found-pushed, new-found_is, names_apart, objects_apart, birth_lawful}
+use Rattle.clr_model.proofs.MarkingKept.{marking_same}
+use Rattle.std.specs.Option.{option_map}
 
 -- the slots of a new object are seen as they are
 empty-renamed : (to : ℕ → ℕ) → to 0 ≡ 0 → (kinds : List Bool)
@@ -207,6 +210,13 @@ module _ (m : Machine) (layout : Layout) (sums : Sums) (t local place type len :
       go true = map-append after m.entries ((m.born + 1) ∷ []) ∙ (λ k. old k ++ (new_place k ∷ []))
       go false = old
 
+  -- and what a background collection took
+  background-next : option_map (renamed_marking after) m.background ≡ option_map (renamed_marking before) m.background
+  background-next =
+      marking_same m after before m.background
+      (λ x old. present_same x (subst (IsPresent m) old.named (member-present m.objects old.object old.present)))
+      named.lawful.marking
+
   -- the object is seen at its place
   pub picture-birth : picture (with_birth m layout sums t local place type len)
       ≡ seen_birth (picture m) layout sums t local place type len
@@ -219,6 +229,7 @@ module _ (m : Machine) (layout : Layout) (sums : Sums) (t local place type len :
         entries = entries-next k;
         ready = ready k;
         steps = steps-next k;
+        background = background-next k;
       }
 
 -- The machine after a birth is seen so, and is lawful.

@@ -8,8 +8,7 @@ use Rattle.clr_types.specs.Rising.{IsIn, first, later}
 use Rattle.clr_types.specs.Ranges.{Piece, piece_end}
 use Rattle.clr_types.specs.declared.segment.SegInfo.{SegInfo}
 use Rattle.clr_types.specs.declared.segment.SegKind.{SegKind}
-use Rattle.clr_types.specs.declared.segment.SegKind.TheVariants.{Large}
-use Rattle.clr_types.specs.Segments.{Layout, stands_in, is_small_or_ephemeral, same_kind}
+use Rattle.clr_types.specs.Segments.{Layout, stands_in, is_large_or_pinned, is_small_or_ephemeral}
 use Rattle.clr_types.proofs.SortedLists.{out_of_sorted_by}
 use Rattle.clr_types.proofs.ChangedLists.{append_left, IsIn-map, into_filter, out_of_filter}
 use Rattle.clr_types.proofs.ListMembers.{in_append, append_right, any-in}
@@ -18,7 +17,7 @@ use Rattle.clr_model.specs.Machine.{Machine, Object}
 use Rattle.clr_model.specs.Lookups.{is_pinned}
 use Rattle.clr_model.specs.Lawful.{IsLaid}
 use Rattle.clr_model.specs.Sweep.{survivors, part_start, has_condemned_part, is_in_part, free_after, taking_part}
-use Rattle.clr_model.specs.Sweep.{swept_free, swept_kind}
+use Rattle.clr_model.specs.Sweep.{swept_free, swept_others}
 use Rattle.clr_model.specs.Compaction.{Move, IsCompacted, compacted_free}
 use Rattle.clr_model.specs.Collection.{object_after, objects_after, released}
 use Rattle.clr_model.proofs.MovedPlaces.{IsBehind, free_before_object}
@@ -83,7 +82,7 @@ module _ (m : Machine) (h : IsLaid m) (g : ℕ) (least : g ≤ 2) (keeps : ℕ
       → in_small_part p ≡ true → IsIn p small.free
   whole_free objects p i part = go (g == 2) refl i
     where
-      large_away : (s : SegInfo) × (same_kind Large s.kind ≡ true) × IsIn s m.layout.segments
+      large_away : (s : SegInfo) × (is_large_or_pinned s.kind ≡ true) × IsIn s m.layout.segments
           × (stands_in s p.place ≡ true) → ⊥
       large_away (s, kind, known, stands) =
           let (t, j, e) = any-in (λ (s : SegInfo). is_small_or_ephemeral s.kind &&
@@ -99,20 +98,20 @@ module _ (m : Machine) (h : IsLaid m) (g : ℕ) (least : g ≤ 2) (keeps : ℕ
           (subst (λ (u : SegInfo). is_small_or_ephemeral u.kind ≡ true) same small_kind)
 
       fresh_at : ℕ → List Piece
-      fresh_at n = flat_map (swept_free small 2 (survivors m n keeps)) (taking_part (same_kind Large) 2 small)
+      fresh_at n = flat_map (swept_free small 2 (survivors m n keeps)) (taking_part (is_large_or_pinned) 2 small)
 
       two : (e : g ≡ 2) → IsIn p (fresh_at g)
-          → (s : SegInfo) × (same_kind Large s.kind ≡ true) × IsIn s m.layout.segments × (stands_in s p.place ≡ true)
+          → (s : SegInfo) × (is_large_or_pinned s.kind ≡ true) × IsIn s m.layout.segments × (stands_in s p.place ≡ true)
       two e j = large_fresh m h keeps moves small true
           (subst (λ n. IsCompacted m.layout n (survivors m n keeps) moves small) e c) p
           (subst (λ n. IsIn p (fresh_at n)) e j)
 
       go : (b : Bool) → (g == 2) ≡ b → IsIn p
-          (if b then released (swept_kind Large small 2 (survivors m g keeps)) objects else small).free
+          (if b then released (swept_others small 2 (survivors m g keeps)) objects else small).free
           → IsIn p small.free
       go false e j = j
       go true e j =
-          elim (after-is (same_kind Large) small 2 (fresh_at g) p j) [
+          elim (after-is (is_large_or_pinned) small 2 (fresh_at g) p j) [
             | inl k ↦ k.1
             | inr k ↦ absurd (large_away (two (eqb-true g 2 e) k))
           ]

@@ -6,13 +6,13 @@ use Rattle.clr_types.specs.Rising.{IsIn}
 use Rattle.clr_types.specs.Ranges.{Piece, piece_end}
 use Rattle.clr_types.specs.declared.segment.SegInfo.{SegInfo}
 use Rattle.clr_types.specs.declared.segment.SegKind.{SegKind}
-use Rattle.clr_types.specs.declared.segment.SegKind.TheVariants.{Small, Ephemeral, Large}
+use Rattle.clr_types.specs.declared.segment.SegKind.TheVariants.{Small, Ephemeral, Large, Pinned}
 use Rattle.clr_types.specs.Segments.{Layout, first_place, reserved_end, same_kind, stands_in, pieces_in, generation}
 use Rattle.clr_types.specs.Segments.{ephemeral, is_small_or_ephemeral, rest_pieces}
 use Rattle.clr_types.specs.LawfulLayout.{IsLawfulLayout, DoesNotCross}
 use Rattle.clr_types.proofs.RisingLists.{all_at}
 use Rattle.clr_types.proofs.SortedLists.{IsDistinctBy}
-use Rattle.clr_types.proofs.ChangedLists.{into_filter}
+use Rattle.clr_types.proofs.ChangedLists.{into_filter, out_of_filter}
 use Rattle.clr_types.proofs.TilePieces.{IsTile, tile}
 use Rattle.clr_types.proofs.SegmentFacts.{AreSeparate, separate, ephemeral-in, ephemeral-kind, one_home, stands-between}
 use Rattle.clr_types.proofs.SegmentFacts.{between-stands, lawful_segment, segment_of-home}
@@ -20,20 +20,20 @@ use Rattle.clr_types.proofs.HighestSegment.{ephemeral-one}
 use Rattle.clr_model.specs.Machine.{Machine, Object}
 use Rattle.clr_model.specs.Lookups.{pieces, object_piece, object_size}
 use Rattle.clr_model.specs.Lawful.{IsLaid, Suits, SuitsItsSegment}
-use Rattle.clr_model.specs.Sweep.{survivors, part_start, taking_part, is_in_part, swept_kind}
+use Rattle.clr_model.specs.Sweep.{survivors, part_start, taking_part, is_in_part, swept_others}
 use Rattle.clr_model.specs.Compaction.{Move, moved_by}
-use Rattle.clr_model.specs.Collection.{IsSmallLaid, objects_after, object_after, released}
+use Rattle.clr_model.specs.Collection.{IsSmallLaid, objects_after, object_after, is_retained, released}
 use Rattle.clr_model.proofs.CondemnedParts.{taking-is, ephemeral-takes}
 use Rattle.clr_model.proofs.LawfulPieces.{object-in-pieces}
 use Rattle.clr_model.proofs.SweptLawful.{start-cuts}
 use Rattle.clr_model.proofs.CollectedBounds.{CrossesNeither}
-use Rattle.clr_model.proofs.CollectedLayout.{small_lawful, whole_after, whole_lawful}
+use Rattle.clr_model.proofs.CollectedLayout.{large_lawful, small_lawful, whole_after, whole_lawful}
 use Rattle.clr_model.proofs.Refill.{range_after}
 use Rattle.clr_model.proofs.Relaid.{WasSegment, piece-is, free-in-pieces, segment_tiled, homes, relaid}
 use Rattle.clr_model.proofs.CollectedPieces.{IsSmallPhase, small_phase, object-was}
 use Rattle.clr_model.proofs.YoungMachine.{into-part, free_was}
 use Rattle.clr_model.proofs.YoungTiles.{was, object_home, free_home}
-use Rattle.clr_model.proofs.FullSegments.{small_free, full_was, full_object_home, full_free_home}
+use Rattle.clr_model.proofs.FullSegments.{small_free, full_was, full_object_home, full_free_home, swept_was}
 
 -- Each segment is filled anew, each object and each free item stands in one, and the young free items are those of the
 -- small heap.
@@ -208,7 +208,7 @@ module _ (m : Machine) (h : IsLaid m) (bare : rest_pieces m.layout.rests ≡ [])
 
     refilled_full : IsSmallLaid compacting m.layout 2 (survivors m 2 keeps) moves small
         → AreRefilled m (objects_after m alive keeps moves) small
-        (released (swept_kind Large small 2 (survivors m 2 keeps)) (objects_after m alive keeps moves))
+        (released (swept_others small 2 (survivors m 2 keeps)) (objects_after m alive keeps moves))
     refilled_full full = record {
       was = full_was m h bare keeps alive moves small compacting full;
       object_home = full_object_home m h bare keeps alive moves small compacting full;
@@ -226,12 +226,12 @@ module _ (m : Machine) (h : IsLaid m) (bare : rest_pieces m.layout.rests ≡ [])
     refilled = go (g == 2) refl
       where
         go : (b : Bool) → (g == 2) ≡ b → AreRefilled m objects_left small
-            (if b then released (swept_kind Large small 2 (survivors m g keeps)) objects_left else small)
+            (if b then released (swept_others small 2 (survivors m g keeps)) objects_left else small)
         go false e = refilled_young (omega (arith, eqb-false g 2 e))
         go true e =
             let two : g ≡ 2 = eqb-true g 2 e in
             subst (λ n. AreRefilled m objects_left small
-            (released (swept_kind Large small 2 (survivors m n keeps)) objects_left)) (sym two)
+            (released (swept_others small 2 (survivors m n keeps)) objects_left)) (sym two)
             (refilled_full (subst (λ n. IsSmallLaid compacting m.layout n (survivors m n keeps) moves small) two laid))
 
     whole : IsLawfulLayout new_layout
@@ -258,7 +258,9 @@ module _ (m : Machine) (h : IsLaid m) (bare : rest_pieces m.layout.rests ≡ [])
     suits-small : (o : Object) (k l : SegKind) → is_small_or_ephemeral k ≡ true → is_small_or_ephemeral l ≡ true
         → Suits m o k → Suits m o l
     suits-small o Large l a b is = absurd cc
+    suits-small o Pinned l a b is = absurd cc
     suits-small o k Large a b is = absurd cc
+    suits-small o k Pinned a b is = absurd cc
     suits-small o Small Small a b is = is
     suits-small o Small Ephemeral a b is = is
     suits-small o Ephemeral Small a b is = is
@@ -268,6 +270,7 @@ module _ (m : Machine) (h : IsLaid m) (bare : rest_pieces m.layout.rests ≡ [])
     suits-after o Small is = is
     suits-after o Ephemeral is = is
     suits-after o Large is = is
+    suits-after o Pinned is = is
 
     -- the kind of the segment in which an object stands afterwards suits it as before
     suits-there : (q : Object) → IsIn q m.objects → SuitsItsSegment m q → (s : SegInfo) → IsIn s m.layout.segments
@@ -314,3 +317,51 @@ module _ (m : Machine) (h : IsLaid m) (bare : rest_pieces m.layout.rests ≡ [])
         (sym (segment_of-home new_layout whole t o.place among stands))
         (subst (λ k. Suits next_machine o k) (sym w.kind)
         (subst (λ (y : Object). Suits next_machine y w.old.kind) (sym e) fit))
+
+-- ---- a full collection before segments are released
+
+module _ (m : Machine) (h : IsLaid m) (bare : rest_pieces m.layout.rests ≡ []) (keeps alive : ℕ
+    → Bool) (moves : List Move) (small : Layout) (compacting : Bool)
+    (laid : IsSmallLaid compacting m.layout 2 (survivors m 2 keeps) moves small)
+    (old_kept : (o : Object) → IsIn o m.objects → 2 < generation m.layout o.place → keeps o.name ≡ true)
+    (apart : IsDistinctBy (λ (o : Object). o.place) (objects_after m alive keeps moves))
+  where
+    full : 2 ≤ 2
+    full = omega arith
+
+    abbrev swept : Layout
+    swept = swept_others small 2 (survivors m 2 keeps)
+
+    abbrev stay : List Object
+    stay = objects_after m alive keeps moves
+
+    in_swept : (t : SegInfo) → IsIn t (released swept stay).segments → IsIn t swept.segments
+    in_swept t i = (out_of_filter (is_retained swept stay) t swept.segments i).1
+
+    unreleased : AreRefilled m (objects_after m alive keeps moves) small
+        (swept_others small 2 (survivors m 2 keeps))
+    unreleased = record {
+      was = swept_was m h bare keeps alive moves small compacting laid;
+      object_home = λ o i.
+          let (t, j, stands) = full_object_home m h bare keeps alive moves small compacting laid o i in
+          (t, in_swept t j, stands);
+      free_home = λ f i.
+          let (t, j, stands) = full_free_home m h bare keeps alive moves small compacting laid f i in
+          (t, in_swept t j, stands);
+      young = small_free m h bare keeps alive moves small compacting laid (ephemeral m.layout)
+          (ephemeral-in m.layout h.layout)
+          (taking-is m.layout h.layout 2 full (ephemeral m.layout) (ephemeral-takes m.layout h.layout 2 full)).0;
+      start1 = refl;
+      start0 = refl;
+      rests = refl;
+    }
+
+    pub unreleased_laid : IsLaid (record m {
+      objects = objects_after m alive keeps moves;
+      layout = swept_others small 2 (survivors m 2 keeps);
+    })
+    unreleased_laid =
+        refilled_laid m h bare 2 full keeps alive moves small
+        (small_phase m h 2 full keeps moves small compacting laid) old_kept swept unreleased
+        (large_lawful m h keeps moves small compacting laid)
+        (bare_small m h bare 2 full keeps alive moves small compacting laid old_kept apart) apart

@@ -2,30 +2,30 @@
 use Rattle.std.proofs.Common.{◌≡◌, ℕ, ◌+◌, ◌<◌, ◌≤◌, List, refl, sym, ap, subst, ◌∙◌, arith, Bool, true, false}
 use Rattle.std.proofs.Common.{if◌then◌else◌, filter, ◌&&◌, ◌==◌, sum_by}
 use Rattle.std.proofs.lemmas.Bool.{both_ways}
-use Rattle.clr_types.specs.Segments.{Layout, generation}
+use Rattle.clr_types.specs.Segments.{Layout, generation, is_small_or_ephemeral}
 use Rattle.clr_types.specs.LawfulLayout.{IsLawfulLayout}
-use Rattle.clr_types.specs.declared.segment.SegKind.TheVariants.{Large}
 use Rattle.clr_model.specs.declared.How.{How}
 use Rattle.clr_model.specs.declared.Collected.{Collected}
 use Rattle.clr_model.specs.Machine.{Machine, Object}
 use Rattle.clr_model.specs.Lookups.{is_pinned, object_size}
 use Rattle.clr_model.specs.Lawful.{IsLawful}
-use Rattle.clr_model.specs.Sweep.{Survivor, survivors, swept_kind}
+use Rattle.clr_model.specs.Sweep.{Survivor, survivors, swept_others, is_in_part}
 use Rattle.clr_model.specs.Compaction.{moved_by}
 use Rattle.clr_model.specs.Updates.{all_given_up}
 use Rattle.clr_types.specs.Rising.{IsIn}
-use Rattle.clr_types.specs.Ranges.{piece_end}
-use Rattle.clr_model.specs.Collection.{Collects, IsSmallLaid, bytes_promoted, objects_after, released}
-use Rattle.clr_model.specs.Laws.{CollectionLayoutLaw, PromotionLaw, PinnedStayLaw, NoneRisesLaw, FreeBeforePinsLaw}
-use Rattle.clr_model.specs.Laws.{IsPromoted}
+use Rattle.clr_types.specs.Ranges.{Piece, piece_end}
+use Rattle.clr_model.specs.Collection.{IsSmallLaid, bytes_promoted, objects_after, released}
+use Rattle.clr_model.specs.Laws.{HasGeneration, HasPlace, IsPromoted}
 use Rattle.clr_model.proofs.CollectedLayout.{whole_after, whole_lawful, laid_generation, whole_generation}
+use Rattle.clr_model.proofs.PlainCollections.{IsPlainlyCollected, PlainlyCollects}
 use Rattle.clr_model.proofs.CollectedObjects.{begun, begun_laid, compacting, compacted_is, small_is, IsMoved}
 use Rattle.clr_model.proofs.CollectedObjects.{moved_object, moved_lower, moved_pinned}
 use Rattle.clr_model.proofs.CollectedAges.{compaction_ages, sweep_ages}
 use Rattle.clr_model.proofs.CollectedFree.{free_before_pinned}
 
 module _ (m : Machine) (h : IsLawful m) (g : ℕ) (least : g ≤ 2) (how : How) (answer : Collected) (new : Machine)
-    (c : Collects m g how answer new) where
+    {last_pause : Bool} {source : ℕ → Type 0}
+    (c : IsPlainlyCollected (record m { layout = all_given_up m.layout }) g how last_pause source answer new) where
   abbrev given_up : Machine
   given_up = begun m h g least how answer new c
 
@@ -38,14 +38,14 @@ module _ (m : Machine) (h : IsLawful m) (g : ℕ) (least : g ≤ 2) (how : How) 
       ap (λ (w : Machine). w.layout) c.state
       ∙ ap (λ (l : Layout). if g == 2 then released l after_objects else l) c.large_laid
       ∙ ap (λ (ks : List Survivor). if g == 2
-      then released (if g == 2 then swept_kind Large c.small 2 ks else c.small) after_objects
-      else (if g == 2 then swept_kind Large c.small 2 ks else c.small)) c.survive_are
+      then released (if g == 2 then swept_others c.small 2 ks else c.small) after_objects
+      else (if g == 2 then swept_others c.small 2 ks else c.small)) c.survive_are
       ∙ go (g == 2)
     where
       go : (b : Bool) → (if b then released
-          (if b then swept_kind Large c.small 2 (survivors given_up g c.kept) else c.small) after_objects
-          else (if b then swept_kind Large c.small 2 (survivors given_up g c.kept) else c.small))
-          ≡ (if b then released (swept_kind Large c.small 2 (survivors given_up g c.kept)) after_objects else c.small)
+          (if b then swept_others c.small 2 (survivors given_up g c.kept) else c.small) after_objects
+          else (if b then swept_others c.small 2 (survivors given_up g c.kept) else c.small))
+          ≡ (if b then released (swept_others c.small 2 (survivors given_up g c.kept)) after_objects else c.small)
       go true = refl
       go false = refl
 
@@ -90,7 +90,7 @@ module _ (m : Machine) (h : IsLawful m) (g : ℕ) (least : g ≤ 2) (how : How) 
       same : (place : ℕ) → generation c.laid place ≡ generation new.layout place
       same place =
           ap (λ (k : Layout). generation k place)
-          (c.large_laid ∙ ap (λ (ks : List Survivor). if g == 2 then swept_kind Large c.small 2 ks else c.small)
+          (c.large_laid ∙ ap (λ (ks : List Survivor). if g == 2 then swept_others c.small 2 ks else c.small)
           c.survive_are)
           ∙ laid_generation given_up (begun_laid m h g least how answer new c) g least c.kept c.moves c.small
           (compacting m h g least how answer new c) (small_is m h g least how answer new c) after_objects place
@@ -136,33 +136,41 @@ module _ (m : Machine) (h : IsLawful m) (g : ℕ) (least : g ≤ 2) (how : How) 
             none_skips = λ l. let same = rises l in omega arith;
           }
 
--- ---- the laws
+-- ---- what the laws say where no slide follows
 
-pub collection_layout : CollectionLayoutLaw
-collection_layout m g how answer new h least c = layout_lawful m h g least how answer new c
-
-pub promotion : PromotionLaw
-promotion m g how answer new h least c name was is_now (old, named_old, age_old) (o, named, age) =
+pub plain_promotion : (m : Machine) (g : ℕ) (how : How) (answer : Collected) (new : Machine) → IsLawful m → g ≤ 2
+    → PlainlyCollects m g how answer new
+    → (name before after : ℕ) → HasGeneration m name before → HasGeneration new name after
+    → IsPromoted g (is_pinned m name) answer.compacted before after
+plain_promotion m g how answer new h least c name was is_now (old, named_old, age_old) (o, named, age) =
     subst (λ n. IsPromoted g (is_pinned m name) answer.compacted n is_now) age_old
     (subst (IsPromoted g (is_pinned m name) answer.compacted (generation m.layout old.place)) age
     (promoted_object m h g least how answer new c name old o
     (moved_object m h g least how answer new c name old o named_old named)))
 
-pub pinned_stay : PinnedStayLaw
-pinned_stay m g how answer new h least c name was is_now pinned (old, named_old, at_old) (o, named, at) =
+pub plain_pinned_stay : (m : Machine) (g : ℕ) (how : How) (answer : Collected) (new : Machine) → IsLawful m → g ≤ 2
+    → PlainlyCollects m g how answer new
+    → (name before after : ℕ) → is_pinned m name ≡ true → HasPlace m name before → HasPlace new name after
+    → after ≡ before
+plain_pinned_stay m g how answer new h least c name was is_now pinned (old, named_old, at_old) (o, named, at) =
     let is = moved_object m h g least how answer new c name old o named_old named in
     sym at ∙ is.place ∙ moved_pinned m h g least how answer new c old is.present
     (subst (λ n. is_pinned m n ≡ true) (sym is.named) pinned) ∙ at_old
 
-pub none_rises : NoneRisesLaw
-none_rises m g how answer new h least c name was is_now (old, named_old, at_old) (o, named, at) =
+pub plain_none_rises : (m : Machine) (g : ℕ) (how : How) (answer : Collected) (new : Machine) → IsLawful m → g ≤ 2
+    → PlainlyCollects m g how answer new
+    → (name before after : ℕ) → HasPlace m name before → HasPlace new name after → after ≤ before
+plain_none_rises m g how answer new h least c name was is_now (old, named_old, at_old) (o, named, at) =
     let is = moved_object m h g least how answer new c name old o named_old named in
     let place = is.place in
     let lower = moved_lower m h g least how answer new c old in
     omega arith
 
-pub free_before_pins : FreeBeforePinsLaw
-free_before_pins m g how answer new h least c compacted p i part =
+pub plain_free_before_pins : (m : Machine) (g : ℕ) (how : How) (answer : Collected) (new : Machine) → IsLawful m → g ≤ 2
+    → PlainlyCollects m g how answer new → answer.compacted ≡ true
+    → (p : Piece) → IsIn p new.layout.free → is_in_part is_small_or_ephemeral m.layout g p ≡ true
+    → (o : Object) × IsIn o new.objects × (o.place ≡ piece_end p) × (is_pinned m o.name ≡ true)
+plain_free_before_pins m g how answer new h least c compacted p i part =
     go (compacting m h g least how answer new c) (sym (compacted_is m h g least how answer new c) ∙ compacted)
     (small_is m h g least how answer new c)
   where

@@ -7,11 +7,11 @@ use Rattle.std.specs.List.{AllByRecursion, flat_map, list_any}
 use Rattle.clr_types.specs.Rising.{IsIn, first}
 use Rattle.clr_types.specs.Ranges.{Piece, Tiles, by_place, gaps, end_of_last}
 use Rattle.clr_types.specs.declared.segment.SegKind.{SegKind}
-use Rattle.clr_types.specs.declared.segment.SegKind.TheVariants.{Small, Ephemeral, Large}
+use Rattle.clr_types.specs.declared.segment.SegKind.TheVariants.{Small, Ephemeral, Large, Pinned}
 use Rattle.clr_types.specs.declared.segment.SegInfo.{SegInfo}
 use Rattle.clr_types.specs.Segments.{Layout, first_place, reserved_end, same_kind, is_small_or_ephemeral, segments_of}
-use Rattle.clr_types.specs.Segments.{ephemeral, generation, stands_in, segment_or_empty}
-use Rattle.clr_types.specs.LawfulLayout.{IsLawfulLayout, IsLawfulSegment}
+use Rattle.clr_types.specs.Segments.{ephemeral, generation, stands_in, segment_or_empty, is_large_or_pinned}
+use Rattle.clr_types.specs.LawfulLayout.{IsLawfulLayout, IsLawfulSegment, IsBoundedSegment}
 use Rattle.clr_types.proofs.RisingLists.{all_at}
 use Rattle.clr_types.proofs.ChangedLists.{all_members, into_filter, out_of_filter}
 use Rattle.clr_types.proofs.ListMembers.{from-map}
@@ -21,7 +21,7 @@ use Rattle.clr_model.specs.Machine.{Machine, Object}
 use Rattle.clr_model.specs.Lawful.{IsLaid}
 use Rattle.clr_model.specs.Sweep.{Survivor, survivors, survivor_pieces, part_start, sections, old_sections}
 use Rattle.clr_model.specs.Sweep.{pieces_between, has_condemned_part, taking_part, segments_after, swept_end}
-use Rattle.clr_model.specs.Sweep.{swept_free, swept_kind}
+use Rattle.clr_model.specs.Sweep.{swept_free, swept_others}
 use Rattle.clr_model.specs.Compaction.{Move, compacted_end}
 use Rattle.clr_model.specs.Collection.{IsSmallLaid, is_retained, released, base_of_first}
 use Rattle.clr_model.proofs.SweptLawful.{sweep_tiles, sweep_end}
@@ -30,20 +30,42 @@ use Rattle.clr_model.proofs.LayoutLaws.{compaction_lawful, sweep_lawful}
 
 -- ---- kinds
 
-pub large-not_ephemeral : (k : SegKind) → same_kind Large k ≡ true → same_kind Ephemeral k ≡ false
+pub large-not_ephemeral : (k : SegKind) → is_large_or_pinned k ≡ true → same_kind Ephemeral k ≡ false
 large-not_ephemeral Small e = absurd cc
 large-not_ephemeral Ephemeral e = absurd cc
 large-not_ephemeral Large e = refl
+large-not_ephemeral Pinned e = refl
 
-pub large-not_small : (k : SegKind) → same_kind Large k ≡ true → is_small_or_ephemeral k ≡ false
+-- a large one is large or pinned
+pub large-either : (k : SegKind) → same_kind Large k ≡ true → is_large_or_pinned k ≡ true
+large-either Small e = absurd cc
+large-either Ephemeral e = absurd cc
+large-either Large e = refl
+large-either Pinned e = absurd cc
+
+pub ephemeral-other : (k : SegKind) → same_kind Ephemeral k ≡ true → same_kind Large k ≡ false
+ephemeral-other Small e = absurd cc
+ephemeral-other Ephemeral e = refl
+ephemeral-other Large e = absurd cc
+ephemeral-other Pinned e = absurd cc
+
+pub small-not_large : (k : SegKind) → is_small_or_ephemeral k ≡ true → same_kind Large k ≡ false
+small-not_large Small e = refl
+small-not_large Ephemeral e = refl
+small-not_large Large e = absurd cc
+small-not_large Pinned e = absurd cc
+
+pub large-not_small : (k : SegKind) → is_large_or_pinned k ≡ true → is_small_or_ephemeral k ≡ false
 large-not_small Small e = absurd cc
 large-not_small Ephemeral e = absurd cc
 large-not_small Large e = refl
+large-not_small Pinned e = refl
 
-pub ephemeral-not_large : (k : SegKind) → same_kind Ephemeral k ≡ true → same_kind Large k ≡ false
+pub ephemeral-not_large : (k : SegKind) → same_kind Ephemeral k ≡ true → is_large_or_pinned k ≡ false
 ephemeral-not_large Small e = refl
 ephemeral-not_large Ephemeral e = refl
 ephemeral-not_large Large e = absurd cc
+ephemeral-not_large Pinned e = absurd cc
 
 -- ---- the small heap
 
@@ -60,7 +82,7 @@ module _ (m : Machine) (h : IsLaid m) (g : ℕ) (least : g ≤ 2) (keeps : ℕ �
   -- segments that aren't in the small heap stay as they are
   unchanged : (end_after : SegInfo → ℕ)
       → small.segments ≡ segments_after is_small_or_ephemeral g end_after m.layout.segments → (s : SegInfo)
-      → IsIn s small.segments → same_kind Large s.kind ≡ true → IsIn s m.layout.segments
+      → IsIn s small.segments → is_large_or_pinned s.kind ≡ true → IsIn s m.layout.segments
   unchanged end_after e s i kind =
       let (t, f, j) = from-map change s m.layout.segments (subst (IsIn s) e i) in
       go t j (is_small_or_ephemeral t.kind && has_condemned_part g t) refl f
@@ -80,7 +102,7 @@ module _ (m : Machine) (h : IsLaid m) (g : ℕ) (least : g ≤ 2) (keeps : ℕ �
           absurd cc
 
   pub large-known : (compacting : Bool) → IsSmallLaid compacting m.layout g kept moves small → (s : SegInfo)
-      → IsIn s small.segments → same_kind Large s.kind ≡ true → IsIn s m.layout.segments
+      → IsIn s small.segments → is_large_or_pinned s.kind ≡ true → IsIn s m.layout.segments
   large-known true c = unchanged (compacted_end small.start0 c.plugs moves) c.ends
   large-known false c = unchanged (swept_end m.layout g kept) (ap (λ (l : Layout). l.segments) c.1)
 
@@ -98,13 +120,13 @@ module _ (m : Machine) (h : IsLaid m) (keeps : ℕ → Bool) (moves : List Move)
   lawful = small_lawful m h 2 two keeps moves small compacting laid
 
   abbrev large : List SegInfo
-  large = taking_part (same_kind Large) 2 small
+  large = taking_part (is_large_or_pinned) 2 small
 
-  large-is : (s : SegInfo) → IsIn s large → (same_kind Large s.kind ≡ true) × IsIn s m.layout.segments
+  large-is : (s : SegInfo) → IsIn s large → (is_large_or_pinned s.kind ≡ true) × IsIn s m.layout.segments
   large-is s i =
-      let (e, j) = out_of_filter (λ (s : SegInfo). same_kind Large s.kind && has_condemned_part 2 s) s small.segments
+      let (e, j) = out_of_filter (λ (s : SegInfo). is_large_or_pinned s.kind && has_condemned_part 2 s) s small.segments
       i in
-      let (a, b) = and_parts (same_kind Large s.kind) (has_condemned_part 2 s) e in
+      let (a, b) = and_parts (is_large_or_pinned s.kind) (has_condemned_part 2 s) e in
       (a, large-known m h 2 two keeps moves small compacting laid s j a)
 
   starts-at : (l : Layout) (s : SegInfo) → same_kind Ephemeral s.kind ≡ false → part_start l 2 s ≡ first_place s
@@ -161,17 +183,17 @@ module _ (m : Machine) (h : IsLaid m) (keeps : ℕ → Bool) (moves : List Move)
       (omega arith, omega arith)
 
   abbrev swept : Layout
-  swept = swept_kind Large small 2 stay
+  swept = swept_others small 2 stay
 
-  not_large : (same_kind Large (ephemeral small).kind && has_condemned_part 2 (ephemeral small)) ≡ false
+  not_large : (is_large_or_pinned (ephemeral small).kind && has_condemned_part 2 (ephemeral small)) ≡ false
   not_large =
       ap (λ b. b && has_condemned_part 2 (ephemeral small))
       (ephemeral-not_large (ephemeral small).kind (ephemeral-kind small lawful))
 
   -- the layout with the large heap swept too is lawful
-  pub large_lawful : IsLawfulLayout (swept_kind Large small 2 stay)
+  pub large_lawful : IsLawfulLayout (swept_others small 2 stay)
   large_lawful =
-      layout_after small lawful (same_kind Large) 2 (swept_end small 2 stay) (λ s. survivor_pieces s stay)
+      layout_after small lawful (is_large_or_pinned) 2 (swept_end small 2 stay) (λ s. survivor_pieces s stay)
       (swept_free small 2 stay) large_tiles large_high large_low
       swept refl refl refl refl lawful.start1_low lawful.start1_high
       (subst (λ b. small.start0 ≤ (if b
@@ -180,21 +202,21 @@ module _ (m : Machine) (h : IsLaid m) (keeps : ℕ → Bool) (moves : List Move)
       lawful.aligned
 
   -- the ephemeral segment, and with it the generations, are those of the small heap
-  pub large_ephemeral : ephemeral (swept_kind Large small 2 stay) ≡ ephemeral small
+  pub large_ephemeral : ephemeral (swept_others small 2 stay) ≡ ephemeral small
   large_ephemeral =
-      ephemeral_after small lawful (same_kind Large) 2 (swept_end small 2 stay) (λ s. survivor_pieces s stay)
+      ephemeral_after small lawful (is_large_or_pinned) 2 (swept_end small 2 stay) (λ s. survivor_pieces s stay)
       (swept_free small 2 stay) large_tiles large_high large_low swept refl
       ∙ ap (λ b. if b then record (ephemeral small) { end = swept_end small 2 stay (ephemeral small) }
       else ephemeral small) not_large
 
   -- a free item that the sweep of the large heap makes stands in a large segment
   pub large_fresh : (p : Piece) → IsIn p (flat_map (swept_free small 2 stay) large)
-      → (s : SegInfo) × (same_kind Large s.kind ≡ true) × IsIn s m.layout.segments × (stands_in s p.place ≡ true)
+      → (s : SegInfo) × (is_large_or_pinned s.kind ≡ true) × IsIn s m.layout.segments × (stands_in s p.place ≡ true)
   large_fresh p i =
       let (s, j, k) =
-      in-flat small lawful (same_kind Large) 2 (swept_end small 2 stay) (λ s. survivor_pieces s stay)
+      in-flat small lawful (is_large_or_pinned) 2 (swept_end small 2 stay) (λ s. survivor_pieces s stay)
       (swept_free small 2 stay) large_tiles large_high large_low large p i in
-      let at = fresh-stands small lawful (same_kind Large) 2 (swept_end small 2 stay) (λ s. survivor_pieces s stay)
+      let at = fresh-stands small lawful (is_large_or_pinned) 2 (swept_end small 2 stay) (λ s. survivor_pieces s stay)
       (swept_free small 2 stay) large_tiles large_high large_low s j p k in
       let (kind, known) = large-is s j in
       (s, kind, known, between-stands s p.place at.low_place at.high_place)
@@ -282,6 +304,7 @@ module _ (layout : Layout) (h : IsLawfulLayout layout) (objects : List Object) w
   pub released_lawful : IsLawfulLayout (released layout objects)
   released_lawful = record {
     segments = all-filter IsLawfulSegment (is_retained layout objects) layout.segments h.segments;
+    bounded = all-filter IsBoundedSegment (is_retained layout objects) layout.segments h.bounded;
     disjoint = filter-disjoint (is_retained layout objects) layout.segments h.disjoint;
     below_top =
         all-filter (λ (s : SegInfo). reserved_end s ≤ layout.top) (is_retained layout objects) layout.segments
@@ -302,7 +325,7 @@ module _ (layout : Layout) (h : IsLawfulLayout layout) (objects : List Object) w
 
 -- the layout of a collection, from that of its small heap
 abbrev pub whole_after : ℕ → List Survivor → Layout → List Object → Layout
-whole_after g stay small objects = if g == 2 then released (swept_kind Large small 2 stay) objects else small
+whole_after g stay small objects = if g == 2 then released (swept_others small 2 stay) objects else small
 
 module _ (m : Machine) (h : IsLaid m) (g : ℕ) (least : g ≤ 2) (keeps : ℕ → Bool) (moves : List Move) (small : Layout)
     (compacting : Bool) (laid : IsSmallLaid compacting m.layout g (survivors m g keeps) moves small)
@@ -312,12 +335,12 @@ module _ (m : Machine) (h : IsLaid m) (g : ℕ) (least : g ≤ 2) (keeps : ℕ �
   whole_lawful = go (g == 2) refl
     where
       go : (b : Bool) → (g == 2) ≡ b
-          → IsLawfulLayout (if b then released (swept_kind Large small 2 (survivors m g keeps)) objects else small)
+          → IsLawfulLayout (if b then released (swept_others small 2 (survivors m g keeps)) objects else small)
       go false e = small_lawful m h g least keeps moves small compacting laid
       go true e =
           let two : g ≡ 2 = eqb-true g 2 e in
-          subst (λ n. IsLawfulLayout (released (swept_kind Large small 2 (survivors m n keeps)) objects)) (sym two)
-          (released_lawful (swept_kind Large small 2 (survivors m 2 keeps))
+          subst (λ n. IsLawfulLayout (released (swept_others small 2 (survivors m n keeps)) objects)) (sym two)
+          (released_lawful (swept_others small 2 (survivors m 2 keeps))
           (large_lawful m h keeps moves small compacting
           (subst (λ n. IsSmallLaid compacting m.layout n (survivors m n keeps) moves small) two laid)) objects)
 
@@ -326,31 +349,31 @@ module _ (m : Machine) (h : IsLaid m) (g : ℕ) (least : g ≤ 2) (keeps : ℕ �
   whole_ephemeral = go (g == 2) refl
     where
       go : (b : Bool) → (g == 2) ≡ b
-          → ephemeral (if b then released (swept_kind Large small 2 (survivors m g keeps)) objects else small)
+          → ephemeral (if b then released (swept_others small 2 (survivors m g keeps)) objects else small)
           ≡ ephemeral small
       go false e = refl
       go true e =
           let two : g ≡ 2 = eqb-true g 2 e in
-          subst (λ n. ephemeral (released (swept_kind Large small 2 (survivors m n keeps)) objects) ≡ ephemeral small)
+          subst (λ n. ephemeral (released (swept_others small 2 (survivors m n keeps)) objects) ≡ ephemeral small)
           (sym two)
           (let laid_two = subst (λ n. IsSmallLaid compacting m.layout n (survivors m n keeps) moves small) two laid in
-          released_ephemeral (swept_kind Large small 2 (survivors m 2 keeps))
+          released_ephemeral (swept_others small 2 (survivors m 2 keeps))
           (large_lawful m h keeps moves small compacting laid_two) objects
           ∙ large_ephemeral m h keeps moves small compacting laid_two)
 
   -- the generations are the small heap's before anything is released
   pub laid_generation : (place : ℕ)
-      → generation (if g == 2 then swept_kind Large small 2 (survivors m g keeps) else small) place
+      → generation (if g == 2 then swept_others small 2 (survivors m g keeps) else small) place
       ≡ generation small place
   laid_generation place = go (g == 2) refl
     where
       go : (b : Bool) → (g == 2) ≡ b
-          → generation (if b then swept_kind Large small 2 (survivors m g keeps) else small) place
+          → generation (if b then swept_others small 2 (survivors m g keeps) else small) place
           ≡ generation small place
       go false e = refl
       go true e =
           let two : g ≡ 2 = eqb-true g 2 e in
-          subst (λ n. generation (swept_kind Large small 2 (survivors m n keeps)) place ≡ generation small place)
+          subst (λ n. generation (swept_others small 2 (survivors m n keeps)) place ≡ generation small place)
           (sym two)
           (ap (λ (s : SegInfo). if stands_in s place
           then (if nat_lt place small.start1 then 2 else (if nat_lt place small.start0 then 1 else 0)) else 2)
@@ -368,9 +391,9 @@ module _ (m : Machine) (h : IsLaid m) (g : ℕ) (least : g ≤ 2) (keeps : ℕ �
       ∙ go (g == 2)
     where
       go : (b : Bool) → (if stands_in (ephemeral small) place
-          then (if nat_lt place (if b then released (swept_kind Large small 2 (survivors m g keeps)) objects
+          then (if nat_lt place (if b then released (swept_others small 2 (survivors m g keeps)) objects
           else small).start1 then 2 else (if nat_lt place
-          (if b then released (swept_kind Large small 2 (survivors m g keeps)) objects else small).start0 then 1
+          (if b then released (swept_others small 2 (survivors m g keeps)) objects else small).start0 then 1
           else 0)) else 2) ≡ generation small place
       go true = refl
       go false = refl

@@ -12,17 +12,19 @@ use Rattle.clr_types.specs.declared.handle.Kind.TheVariants.{Strong, Pinned, Wea
 use Rattle.clr_types.specs.Rising.{IsIn, first, later, sorted_by}
 use Rattle.clr_types.proofs.SortedLists.{IsDistinctBy}
 use Rattle.clr_types.specs.declared.handle.Handle.{Handle}
-use Rattle.clr_model.specs.Machine.{Value, ref, num, Object, ThreadStep, no_step, begun_store, begun_new, Machine}
+use Rattle.clr_model.specs.Machine.{Value, ref, num, Object, ThreadStep, no_step, begun_store, begun_new, Marking}
+use Rattle.clr_model.specs.Machine.{Machine}
 use Rattle.clr_model.specs.Lookups.{place_of, place_or_null, object_named, object_size, is_pinned}
 use Rattle.clr_types.specs.Kinds.{is_pinned_kind}
 use Rattle.clr_model.specs.Lookups.{handle_rows}
 use Rattle.clr_types.specs.Maps.{map_values}
 use Rattle.clr_model.specs.Picture.{picture, renamed_object, renamed_value, renamed_row, renamed_step}
+use Rattle.clr_model.specs.Picture.{renamed_marking}
 use Rattle.clr_model.specs.Reach.{woken, is_suppressed, suppressed_or_none}
 use Rattle.clr_model.specs.Sweep.{Survivor, survivor, survivors, is_condemned}
 use Rattle.clr_model.specs.Compaction.{Move, moved_by}
 use Rattle.clr_model.specs.Collection.{row_of_kind, row_after, is_dropped, object_after, objects_after, bytes_promoted}
-use Rattle.clr_model.specs.Collection.{is_retained, released, base_of_first}
+use Rattle.clr_model.specs.Collection.{is_retained, released, base_of_first, marking_after}
 use Rattle.clr_types.specs.Segments.{Layout, generation, stands_in, same_kind, segments_of}
 use Rattle.clr_types.specs.declared.segment.SegKind.TheVariants.{Ephemeral, Large}
 use Rattle.clr_types.proofs.MapValues.{get-map_values, entries-map_values, map_values-same, changed}
@@ -348,6 +350,22 @@ module _ (m : Machine) (h : AreNamed m) where
             go no_step = refl
             go (begun_store object slot) = ap (λ n. begun_store n slot) (place-after object)
             go (begun_new type len local) = refl
+
+        marked-after : (k : Marking) → renamed_marking to_next k ≡ renamed_marking to_seen (renamed_marking to k)
+        marked-after k =
+            let white = sym (map-after k.white) in let gray = sym (map-after k.gray) in
+            let black = sym (map-after k.black) in
+            λ i. record { white = white i; gray = gray i; black = black i }
+
+        pub background-after : (full : Bool) → option_map (renamed_marking to_next) (marking_after full m.background)
+            ≡ option_map (renamed_marking to_seen) (marking_after full P.background)
+        background-after full = go full m.background
+          where
+            go : (b : Bool) (r : Option Marking) → option_map (renamed_marking to_next) (marking_after b r)
+                ≡ option_map (renamed_marking to_seen) (marking_after b (option_map (renamed_marking to) r))
+            go b None = refl
+            go true (Some k) = refl
+            go false (Some k) = ap Some (marked-after k)
 
         pub layout-after : (b : Bool) (laid : Layout)
             → (if b then released laid next_objects else laid) ≡ (if b then released laid seen_objects else laid)

@@ -14,8 +14,9 @@ use Rattle.clr_model.specs.Lawful.{IsLawful, IsLaid}
 use Rattle.clr_model.specs.Sweep.{survivors}
 use Rattle.clr_model.specs.Compaction.{moved_by}
 use Rattle.clr_model.specs.Updates.{all_given_up}
-use Rattle.clr_model.specs.Collection.{Collects, IsSmallLaid, compacts, decides_to_compact, object_after, objects_after}
+use Rattle.clr_model.specs.Collection.{IsSmallLaid, compacts, decides_to_compact, object_after, objects_after}
 use Rattle.clr_model.proofs.GivenUp.{given_up_laid}
+use Rattle.clr_model.proofs.PlainCollections.{IsPlainlyCollected}
 use Rattle.clr_model.proofs.MovedPlaces.{object_lower, pinned_stays}
 
 -- what a search by a key finds is a member with that key
@@ -33,7 +34,8 @@ found_by key k (y ∷ ys) x e = go (key y == k) refl e (found_by key k ys x)
     go false f e more = let (i, n) = more e in (later i, n)
 
 module _ (m : Machine) (h : IsLawful m) (g : ℕ) (least : g ≤ 2) (how : How) (answer : Collected) (new : Machine)
-    (c : Collects m g how answer new) where
+    {last_pause : Bool} {source : ℕ → Type 0}
+    (c : IsPlainlyCollected (record m { layout = all_given_up m.layout }) g how last_pause source answer new) where
   abbrev pub begun : Machine
   begun = record m { layout = all_given_up m.layout }
 

@@ -1,6 +1,6 @@
 -- After a collection every name in the state is null or an object's: what an object that stays names, stays.
 use Rattle.std.proofs.Common.{◌≡◌, ℕ, ◌+◌, ◌<◌, inl, inr, List, [], ◌∷◌, ◌++◌, map, refl, sym, ap, subst, Bool, true}
-use Rattle.std.proofs.Common.{false, if◌then◌else◌, filter, not, ◌&&◌, ◌==◌, ◌∙◌, Some, None}
+use Rattle.std.proofs.Common.{false, if◌then◌else◌, filter, not, ◌&&◌, ◌==◌, ◌∙◌, Some, None, Option}
 use Rattle.std.proofs.lemmas.Bool.{eqb-true}
 use Rattle.std.specs.List.{AllByRecursion}
 use Rattle.std.specs.FinMap as finmap
@@ -13,11 +13,12 @@ use Rattle.clr_types.proofs.RisingLists.{all_at}
 use Rattle.clr_types.proofs.ChangedLists.{all_members, IsIn-map, into_filter, out_of_filter}
 use Rattle.clr_types.proofs.ListMembers.{from-map, in_append}
 use Rattle.clr_types.specs.declared.handle.Handle.{Handle}
-use Rattle.clr_model.specs.Machine.{Value, ref, num, Object, ThreadStep, no_step, begun_store, begun_new, Sums, Machine}
+use Rattle.clr_model.specs.Machine.{Value, ref, num, Object, ThreadStep, no_step, begun_store, begun_new, Sums}
+use Rattle.clr_model.specs.Machine.{Marking, Machine}
 use Rattle.clr_model.specs.Lookups.{lowest_step_from, object_named, type_of_object}
 use Rattle.clr_types.specs.Kinds.{is_dependent, is_root_kind}
 use Rattle.clr_types.specs.Maps.{map_values}
-use Rattle.clr_model.specs.Reach.{starts, follows, Edge, StartOf, First, Kept, woken, is_suppressed}
+use Rattle.clr_model.specs.Reach.{starts, follows, Edge, StartOf, IsAlive, Kept, woken, is_suppressed}
 use Rattle.clr_model.specs.Compaction.{Move}
 use Rattle.clr_model.specs.Collection.{kept_or_null, row_of_kind, row_after, object_after, objects_after}
 use Rattle.clr_model.specs.Lawful.{IsFinal, IsShaped, IsPresent, IsNullOrPresent, SlotIsPresent, StepIsPresent}
@@ -46,23 +47,25 @@ idle_rooms m t (s ∷ ss) idle = (subst (HasItsRoom m t) (sym idle.0) tt, idle_r
 -- ---- names
 
 -- the machine that a collection leaves
-abbrev pub collected_machine : Machine → (ℕ → Bool) → (ℕ → Bool) → List Move → Layout → Sums → Machine
-collected_machine m alive kept moves layout sums = record m {
+abbrev pub collected_machine : Machine → (ℕ → Bool) → (ℕ → Bool) → List Move → Layout → Sums → Option Marking → Machine
+collected_machine m alive kept moves layout sums background = record m {
   objects = objects_after m alive kept moves;
   handles = map_values (row_after alive kept) m.handles;
   entries = filter alive m.entries;
   ready = m.ready ++ woken m alive;
   layout = layout;
   sums = sums;
+  background = background;
 }
 
 module _ (m : Machine) (shapes : AllByRecursion (IsShaped m) m.objects) (names : NamesArePresent m)
     (seconds : AllByRecursion HasItsSecond (finmap.values m.handles)) (g : ℕ) (alive kept : ℕ → Bool)
-    (alive_is : Tests alive (First m (StartOf m g))) (kept_is : Tests kept (Kept m (StartOf m g) alive))
-    (moves : List Move) (layout : Layout) (sums : Sums)
+    {source : ℕ → Type 0} (covers : (x : ℕ) → StartOf m g x → source x) (alive_is : Tests alive (IsAlive m source))
+    (kept_is : Tests kept (Kept m source alive))
+    (moves : List Move) (layout : Layout) (sums : Sums) (background : Option Marking)
   where
     abbrev next : Machine
-    next = collected_machine m alive kept moves layout sums
+    next = collected_machine m alive kept moves layout sums background
 
     -- an object that stays is found
     left : (x : ℕ) → IsPresent m x → kept x ≡ true → IsPresent next x
@@ -90,7 +93,7 @@ module _ (m : Machine) (shapes : AllByRecursion (IsShaped m) m.objects) (names :
     alive-stays x e = (kept_is x).1 (reach_grows (λ y s. inl s) ((alive_is x).0 e))
 
     start-stays : (x : ℕ) → StartOf m g x → kept x ≡ true
-    start-stays x s = (kept_is x).1 (starts (inl s))
+    start-stays x s = (kept_is x).1 (starts (inl (covers x s)))
 
     edge-stays : (x y : ℕ) → kept x ≡ true → Edge m x y → kept y ≡ true
     edge-stays x y stays e = (kept_is y).1 (follows ((kept_is x).0 stays) e)
@@ -186,7 +189,7 @@ module _ (m : Machine) (shapes : AllByRecursion (IsShaped m) m.objects) (names :
 
     -- Every name is null or an object's, where no thread is in a step.
     pub names_left : AllByRecursion (λ (s : ThreadStep). s ≡ no_step) m.steps
-        → NamesArePresent (collected_machine m alive kept moves layout sums)
+        → NamesArePresent (collected_machine m alive kept moves layout sums background)
     names_left idle = record {
       slots = all_members (λ (o : Object). AllByRecursion (SlotIsPresent next) o.slots) next.objects slots-after;
       locals =
@@ -253,7 +256,8 @@ module _ (m : Machine) (shapes : AllByRecursion (IsShaped m) m.objects) (names :
 
     -- The entries that stay are of types with a finaliser,
     pub entries_final : AllByRecursion (IsFinal m) m.entries
-        → AllByRecursion (IsFinal (collected_machine m alive kept moves layout sums)) (filter alive m.entries)
+        → AllByRecursion (IsFinal (collected_machine m alive kept moves layout sums background))
+        (filter alive m.entries)
     entries_final final =
         all_members (IsFinal next) (filter alive m.entries)
         (λ x i. let (e, j) = out_of_filter alive x m.entries i in
@@ -261,7 +265,8 @@ module _ (m : Machine) (shapes : AllByRecursion (IsShaped m) m.objects) (names :
 
     -- and so is what is ready.
     pub ready_final : AllByRecursion (IsFinal m) m.entries → AllByRecursion (IsFinal m) m.ready
-        → AllByRecursion (IsFinal (collected_machine m alive kept moves layout sums)) (m.ready ++ woken m alive)
+        → AllByRecursion (IsFinal (collected_machine m alive kept moves layout sums background))
+        (m.ready ++ woken m alive)
     ready_final entries ready = all_members (IsFinal next) (m.ready ++ woken m alive) final-ready
       where
         final-ready : (x : ℕ) → IsIn x (m.ready ++ woken m alive) → IsFinal next x
@@ -276,7 +281,7 @@ module _ (m : Machine) (shapes : AllByRecursion (IsShaped m) m.objects) (names :
 
     -- Only dependent handles name a second object.
     pub seconds_left : AllByRecursion HasItsSecond
-        (finmap.values (collected_machine m alive kept moves layout sums).handles)
+        (finmap.values (collected_machine m alive kept moves layout sums background).handles)
     seconds_left =
         subst (AllByRecursion HasItsSecond) (sym (values-map_values (row_after alive kept) m.handles))
         (all_members HasItsSecond (map (row_after alive kept) (finmap.values m.handles))

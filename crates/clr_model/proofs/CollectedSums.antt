@@ -1,12 +1,12 @@
 -- The sums that a machine counts are bounded by the bytes of its objects after a collection, too.
 use Rattle.std.proofs.Common.{◌≡◌, ℕ, ◌+◌, ◌<◌, ◌≤◌, List, refl, sym, ap, ◌∙◌, arith, Bool, true, false, if◌then◌else◌}
 use Rattle.std.proofs.Common.{filter, ◌&&◌, ◌==◌, nat_le, nat_lt, subst, sum_by, Option, IfSome}
-use Rattle.std.proofs.lemmas.Bool.{leb-true, leb-false, eqb-true, eqb-false}
+use Rattle.std.proofs.lemmas.Bool.{both_ways, leb-true, leb-false, eqb-true, eqb-false}
 use Rattle.clr_types.specs.Rising.{IsIn}
-use Rattle.clr_types.specs.Segments.{Layout, ephemeral, generation, same_kind, stands_in}
+use Rattle.clr_types.specs.Segments.{Layout, ephemeral, generation, is_large_or_pinned, same_kind, stands_in}
 use Rattle.clr_types.specs.declared.segment.SegInfo.{SegInfo}
 use Rattle.clr_types.specs.declared.segment.SegKind.{SegKind}
-use Rattle.clr_types.specs.declared.segment.SegKind.TheVariants.{Small, Ephemeral, Large}
+use Rattle.clr_types.specs.declared.segment.SegKind.TheVariants.{Small, Ephemeral, Large, Pinned}
 use Rattle.clr_types.proofs.RisingLists.{all_at}
 use Rattle.clr_types.proofs.SegmentFacts.{ephemeral-in, ephemeral-kind, elsewhere, one_base, segment_of-home}
 use Rattle.clr_types.proofs.ListMembers.{sum-mapped}
@@ -17,11 +17,12 @@ use Rattle.clr_model.specs.Compaction.{Move, moved_by}
 use Rattle.clr_model.specs.Collection.{object_after, objects_after, bytes_promoted, sums_after}
 use Rattle.clr_model.specs.Lawful.{AreBoundedSums, IsLawful, Suits, SuitsItsSegment}
 use Rattle.clr_model.proofs.BoundedSums.{is_large}
+use Rattle.clr_model.proofs.CollectedLayout.{large-not_ephemeral}
 use Rattle.clr_model.proofs.LawfulPieces.{HasHome, piece-home, object-in-pieces}
 
 -- ---- large objects
 
--- an object of the large size stands in a large segment, so it has generation 2
+-- an object of the large size stands in a large or in a pinned segment, so it has generation 2
 pub large-old : (m : Machine) → IsLawful m → (o : Object) → IsIn o m.objects → is_large m o ≡ true
     → generation m.layout o.place ≡ 2
 large-old m h o i large =
@@ -36,25 +37,30 @@ large-old m h o i large =
     big : m.options.large ≤ object_size m.types o
     big = leb-true m.options.large (object_size m.types o) large
 
-    away : home.home.kind ≡ Large → stands_in (ephemeral m.layout) o.place ≡ false
-    away e =
+    away : (k : SegKind) → home.home.kind ≡ k → is_large_or_pinned k ≡ true
+        → stands_in (ephemeral m.layout) o.place ≡ false
+    away k e other =
         elsewhere m.layout h.laid.layout (ephemeral m.layout) home.home o.place (ephemeral-in m.layout h.laid.layout)
         home.among
         (λ base.
         let same = one_base m.layout h.laid.layout (ephemeral m.layout) home.home
         (ephemeral-in m.layout h.laid.layout) home.among base in
-        let kind : same_kind Ephemeral Large ≡ true =
+        let kind : same_kind Ephemeral k ≡ true =
         ap (same_kind Ephemeral) (sym (ap (λ (s : SegInfo). s.kind) same ∙ e))
         ∙ ephemeral-kind m.layout h.laid.layout in
-        absurd cc)
+        absurd (both_ways (same_kind Ephemeral k) (large-not_ephemeral k other) kind))
         home.stands
+
+    old_there : (k : SegKind) → home.home.kind ≡ k → is_large_or_pinned k ≡ true → generation m.layout o.place ≡ 2
+    old_there k e other =
+        ap (λ b. if b then (if nat_lt o.place m.layout.start1 then 2
+        else (if nat_lt o.place m.layout.start0 then 1 else 0)) else 2) (away k e other)
 
     go : (k : SegKind) → home.home.kind ≡ k → Suits m o k → generation m.layout o.place ≡ 2
     go Small e is = let l = big in absurd (omega arith)
     go Ephemeral e is = let l = big in absurd (omega arith)
-    go Large e is =
-        ap (λ b. if b then (if nat_lt o.place m.layout.start1 then 2
-        else (if nat_lt o.place m.layout.start0 then 1 else 0)) else 2) (away e)
+    go Large e is = old_there Large e refl
+    go Pinned e is = old_there Pinned e refl
 
 -- ---- one object
 

@@ -15,7 +15,8 @@ use Rattle.clr_model.specs.Reach.{StartOf}
 use Rattle.clr_model.specs.Compaction.{IsCompacted}
 use Rattle.clr_model.specs.Updates.{all_given_up}
 use Rattle.clr_model.specs.Collection.{objects_after, object_after, IsSmallLaid, compacts, decides_to_compact}
-use Rattle.clr_model.specs.Collection.{IsCollected, Collects}
+use Rattle.clr_model.specs.Collection.{Collects}
+use Rattle.clr_model.specs.Laws.{IsUnslid, IsPlain}
 use Rattle.clr_types.specs.Segments.{rest_pieces, segment_of}
 use Rattle.clr_types.specs.LawfulLayout.{IsTiled, DoesNotCross}
 use Rattle.clr_model.proofs.Apart.{AreApart, place_of-member}
@@ -30,6 +31,8 @@ use Rattle.clr_model.proofs.NamedWell.{AreNamed, lawful-named, place-above}
 use Rattle.clr_model.proofs.CollectedNames.{objects-shuffled}
 use Rattle.clr_model.proofs.MovedPlaces.{compacted_apart}
 use Rattle.clr_model.proofs.NamesDontMatter.{collection_names}
+use Rattle.clr_model.proofs.PlainCollections.{IsPlainlyCollected, PlainlyCollects, from_plain, plainly, usual_least}
+use Rattle.clr_model.proofs.PlainCollections.{usual_plain}
 
 -- ---- the picture of a machine has its pieces
 
@@ -79,9 +82,9 @@ swept_apart m alive keeps d = record {
 
 -- After a collection, objects have names and places of their own.
 pub collected_apart : (m : Machine) → IsLaid m → AreApart m.objects → (g : ℕ) → g ≤ 2
-    → (how : How) (start : ℕ → Type 0) (answer : Collected) (new : Machine) → IsCollected m g how start answer new
-    → AreApart new.objects
-collected_apart m h d g least how start answer new c =
+    → (how : How) (last_pause : Bool) (start : ℕ → Type 0) (answer : Collected) (new : Machine)
+    → IsPlainlyCollected m g how last_pause start answer new → AreApart new.objects
+collected_apart m h d g least how last_pause start answer new c =
     subst (λ (w : Machine). AreApart w.objects) (sym c.state)
     (by_kind (compacts how (decides_to_compact m g c.survive)) c.small_laid)
   where
@@ -114,14 +117,20 @@ picture_apart m h = record {
         → (p : Object) × (o ≡ renamed_object (place_of m.objects) p) × IsIn p m.objects
     back o i = from-map (renamed_object (place_of m.objects)) o m.objects (shuffled-in o (shuffled-sym shuffled) i)
 
--- What a collection does to the picture of a lawful machine, it does to the machine.
-pub names_dont_matter : (m : Machine) (g : ℕ) (how : How) (answer : Collected) (after : Machine) → IsLawful m → g ≤ 2
-    → Collects (picture m) g how answer after
+-- What a collection on which no slide follows does to the picture of a lawful machine, it does to the machine.
+pub unslid_names : (m : Machine) (g : ℕ) (how : How) (answer : Collected) (after : Machine) → IsLawful m → IsPlain g how
+    → IsUnslid m g → Collects (picture m) g how answer after
     → (next : Machine) × Collects m g how answer next × (picture next ≡ picture after)
-names_dont_matter m g how answer after lawful least c =
+unslid_names m g how answer after lawful usual unslid collects =
+    let least = usual_least g how usual in
+    let plain = usual_plain g how usual in
+    let c : PlainlyCollects (picture m) g how answer after =
+    plainly (picture m) g how answer after unslid plain collects in
     let begun : Machine = record m { layout = all_given_up m.layout } in
     let named : AreNamed m = lawful-named m lawful in
     let laid : IsLaid (picture begun) = picture_laid begun (given_up_laid m lawful.laid) in
     let apart : AreApart (picture begun).objects = picture_apart m named in
+    let (next, done, shown, at) =
     collection_names m named g how answer after c
-    (collected_apart (picture begun) laid apart g least how (StartOf (picture begun) g) answer after c)
+    (collected_apart (picture begun) laid apart g least how false (StartOf (picture begun) g) answer after c) in
+    (next, from_plain m g how answer next unslid plain done, shown)

@@ -7,7 +7,7 @@ use Rattle.clr_types.proofs.RisingLists.{all_at}
 use Rattle.clr_model.specs.Sweep.{has_condemned_part, part_start, taking_part}
 use Rattle.clr_model.specs.Compaction.{first_pointer}
 use Rattle.clr_types.specs.declared.segment.SegKind.{SegKind}
-use Rattle.clr_types.specs.declared.segment.SegKind.TheVariants.{Small, Ephemeral, Large}
+use Rattle.clr_types.specs.declared.segment.SegKind.TheVariants.{Small, Ephemeral, Large, Pinned}
 use Rattle.clr_types.specs.declared.segment.SegInfo.{SegInfo}
 use Rattle.clr_types.specs.Segments.{Layout, first_place, reserved_end, same_kind, is_small_or_ephemeral, ephemeral}
 use Rattle.clr_types.specs.Segments.{segment_or_empty}
@@ -41,6 +41,7 @@ module _ (layout : Layout) (h : IsLawfulLayout layout) where
     kind-small Small e = absurd cc
     kind-small Ephemeral e = refl
     kind-small Large e = absurd cc
+    kind-small Pinned e = absurd cc
 
     pub ephemeral-takes : IsIn (ephemeral layout) segments
     ephemeral-takes = takes-part (ephemeral layout) (ephemeral-in layout h)

@@ -19,6 +19,7 @@ use Rattle.clr_model.specs.Allocation.{with_layout}
 use Rattle.clr_model.specs.Lawful.{IsLawful, IsLaid, IsShaped, SuitsItsSegment, HasItsRoom, AllFrom}
 use Rattle.clr_model.proofs.BoundedSums.{bounded_older}
 use Rattle.clr_model.proofs.RestLists.{slice_get-elsewhere}
+use Rattle.clr_model.proofs.MarkingKept.{marking_kept, old_as}
 
 -- ---- the rest of a thread's context
 
@@ -171,4 +172,8 @@ relaid_lawful m layout h laid young suited limit rooms older = record {
   entries = h.entries;
   ready = h.ready;
   sums = bounded_older m layout older h.sums;
+  marking =
+      marking_kept m (with_layout m layout) m.background
+      (old_as m (with_layout m layout) (λ o. o) (λ o. refl) (λ o i. i)
+      (λ o i old. let up = older o i in omega arith)) h.marking;
 }

@@ -11,7 +11,7 @@ use Rattle.clr_types.specs.Segments.{rest_pieces, rest_of, same_kind}
 use Rattle.clr_types.specs.LawfulLayout.{IsLawfulLayout}
 use Rattle.clr_types.specs.declared.segment.SegInfo.{SegInfo}
 use Rattle.clr_types.specs.declared.segment.SegKind.{SegKind}
-use Rattle.clr_types.specs.declared.segment.SegKind.TheVariants.{Small, Ephemeral, Large}
+use Rattle.clr_types.specs.declared.segment.SegKind.TheVariants.{Small, Ephemeral, Large, Pinned}
 use Rattle.clr_types.proofs.RisingLists.{all_at}
 use Rattle.clr_types.proofs.SortedLists.{into_sorted_by}
 use Rattle.clr_types.proofs.ChangedLists.{all_members, length-slice_set}
@@ -167,6 +167,7 @@ module _ (m : Machine) (t local type len : ℕ) (named : IsBirthNamed m) (idle :
   suits_young Small e = absurd cc
   suits_young Ephemeral e = h.small
   suits_young Large e = absurd cc
+  suits_young Pinned e = absurd cc
 
   -- so it suits where it stands
   rest_suits : IfSome (segment_of m.layout rest.place) (λ s. Suits m born s.kind)

@@ -8,9 +8,9 @@ use Rattle.clr_types.specs.Rising.{IsIn}
 use Rattle.clr_types.specs.Ranges.{Piece}
 use Rattle.clr_types.specs.declared.segment.SegInfo.{SegInfo}
 use Rattle.clr_types.specs.declared.segment.SegKind.{SegKind}
-use Rattle.clr_types.specs.declared.segment.SegKind.TheVariants.{Small, Ephemeral, Large}
+use Rattle.clr_types.specs.declared.segment.SegKind.TheVariants.{Small, Ephemeral, Large, Pinned}
 use Rattle.clr_types.specs.Segments.{Layout, first_place, same_kind, is_small_or_ephemeral, stands_in, generation}
-use Rattle.clr_types.specs.Segments.{segments_of, rest_pieces}
+use Rattle.clr_types.specs.Segments.{segments_of, rest_pieces, is_large_or_pinned}
 use Rattle.clr_types.proofs.ChangedLists.{IsIn-map, into_filter, out_of_filter}
 use Rattle.clr_types.proofs.ListMembers.{from-map, any-from, any-in}
 use Rattle.clr_types.proofs.SegmentFacts.{one_home, stands-between}
@@ -18,7 +18,7 @@ use Rattle.clr_model.specs.Machine.{Machine, Object}
 use Rattle.clr_model.specs.Lookups.{object_piece}
 use Rattle.clr_model.specs.Lawful.{IsLaid}
 use Rattle.clr_model.specs.Sweep.{Survivor, survivors, part_start, has_condemned_part, taking_part, is_in_part}
-use Rattle.clr_model.specs.Sweep.{swept_end, swept_free, swept_kind}
+use Rattle.clr_model.specs.Sweep.{swept_end, swept_free, swept_others}
 use Rattle.clr_model.specs.Compaction.{Move, moved_by}
 use Rattle.clr_model.specs.Collection.{IsSmallLaid, object_after, objects_after, is_retained, base_of_first, released}
 use Rattle.clr_model.proofs.CondemnedParts.{takes-part}
@@ -34,13 +34,14 @@ use Rattle.clr_model.proofs.Relaid.{WasSegment, IsRefilled, refilled_with, free-
 use Rattle.clr_model.proofs.CollectedPieces.{IsSmallPhase, small_phase, object-was, object-now, part_refilled}
 use Rattle.clr_model.proofs.YoungMachine.{after-in, part-is, into-part, part_filled, fresh-stands}
 
--- each kind is one of the small heap or large
-pub small-or-large : (k : SegKind) → (is_small_or_ephemeral k ≡ true) ⊎ (same_kind Large k ≡ true)
+-- each kind is one of the small heap, or large or pinned
+pub small-or-large : (k : SegKind) → (is_small_or_ephemeral k ≡ true) ⊎ (is_large_or_pinned k ≡ true)
 small-or-large Small = inl refl
 small-or-large Ephemeral = inl refl
 small-or-large Large = inr refl
+small-or-large Pinned = inr refl
 
-not-both : (k : SegKind) → is_small_or_ephemeral k ≡ true → same_kind Large k ≡ true → ⊥
+not-both : (k : SegKind) → is_small_or_ephemeral k ≡ true → is_large_or_pinned k ≡ true → ⊥
 not-both k small large = both_ways (is_small_or_ephemeral k) (large-not_small k large) small
 
 module _ (m : Machine) (h : IsLaid m) (bare : rest_pieces m.layout.rests ≡ []) (keeps alive : ℕ
@@ -63,7 +64,7 @@ module _ (m : Machine) (h : IsLaid m) (bare : rest_pieces m.layout.rests ≡ [])
   objects = objects_after m alive keeps moves
 
   abbrev swept : Layout
-  swept = swept_kind Large small 2 stay
+  swept = swept_others small 2 stay
 
   abbrev left : Layout
   left = released swept objects
@@ -72,7 +73,7 @@ module _ (m : Machine) (h : IsLaid m) (bare : rest_pieces m.layout.rests ≡ [])
   parts = taking_part is_small_or_ephemeral 2 m.layout
 
   abbrev large : List SegInfo
-  large = taking_part (same_kind Large) 2 small
+  large = taking_part (is_large_or_pinned) 2 small
 
   all-take : (s : SegInfo) → has_condemned_part 2 s ≡ true
   all-take s = or_right (same_kind Ephemeral s.kind) (2 == 2) refl
@@ -82,85 +83,88 @@ module _ (m : Machine) (h : IsLaid m) (bare : rest_pieces m.layout.rests ≡ [])
 
   -- ---- the two changes of a segment
 
-  abbrev change_small : SegInfo → SegInfo
+  abbrev pub change_small : SegInfo → SegInfo
   change_small s = if is_small_or_ephemeral s.kind && has_condemned_part 2 s then record s { end = phase.end s } else s
 
-  abbrev change_large : SegInfo → SegInfo
-  change_large s = if same_kind Large s.kind && has_condemned_part 2 s then
+  abbrev pub change_large : SegInfo → SegInfo
+  change_large s = if is_large_or_pinned s.kind && has_condemned_part 2 s then
       record s { end = swept_end small 2 stay s } else s
 
-  small-change : (s : SegInfo) → is_small_or_ephemeral s.kind ≡ true
+  pub small-change : (s : SegInfo) → is_small_or_ephemeral s.kind ≡ true
       → change_large (change_small s) ≡ record s { end = phase.end s }
   small-change s kind =
       ap (λ b. change_large (if b then record s { end = phase.end s } else s))
       (and_from (is_small_or_ephemeral s.kind) (has_condemned_part 2 s) kind (all-take s))
       ∙ ap (λ b. if b then record s { end = swept_end small 2 stay (record s { end = phase.end s }) } else
       record s { end = phase.end s })
-      (and_left (same_kind Large s.kind) (has_condemned_part 2 s) (not-large (cases_Bool (same_kind Large s.kind))))
+      (and_left (is_large_or_pinned s.kind) (has_condemned_part 2 s)
+      (not-large (cases_Bool (is_large_or_pinned s.kind))))
     where
-      not-large : (same_kind Large s.kind ≡ true) ⊎ (same_kind Large s.kind ≡ false) → same_kind Large s.kind ≡ false
+      not-large : (is_large_or_pinned s.kind ≡ true) ⊎ (is_large_or_pinned s.kind ≡ false)
+          → is_large_or_pinned s.kind ≡ false
       not-large (inl e) = absurd (not-both s.kind kind e)
       not-large (inr e) = e
 
-  unchanged : (s : SegInfo) → same_kind Large s.kind ≡ true → change_small s ≡ s
+  unchanged : (s : SegInfo) → is_large_or_pinned s.kind ≡ true → change_small s ≡ s
   unchanged s kind = ap (λ b. if b then record s { end = phase.end s } else s)
       (and_left (is_small_or_ephemeral s.kind) (has_condemned_part 2 s) (large-not_small s.kind kind))
 
-  large-change : (s : SegInfo) → same_kind Large s.kind ≡ true
+  large-change : (s : SegInfo) → is_large_or_pinned s.kind ≡ true
       → change_large (change_small s) ≡ record s { end = swept_end small 2 stay s }
   large-change s kind =
       ap change_large (unchanged s kind)
       ∙ ap (λ b. if b then record s { end = swept_end small 2 stay s } else s)
-      (and_from (same_kind Large s.kind) (has_condemned_part 2 s) kind (all-take s))
+      (and_from (is_large_or_pinned s.kind) (has_condemned_part 2 s) kind (all-take s))
 
   into-small : (s : SegInfo) → IsIn s m.layout.segments → IsIn (change_small s) small.segments
   into-small s i = subst (IsIn (change_small s)) (sym phase.segments) (IsIn-map change_small i)
 
-  into-swept : (s : SegInfo) → IsIn s m.layout.segments → IsIn (change_large (change_small s)) swept.segments
+  pub into-swept : (s : SegInfo) → IsIn s m.layout.segments → IsIn (change_large (change_small s)) swept.segments
   into-swept s i = IsIn-map change_large (into-small s i)
 
-  is-large : (s : SegInfo) → IsIn s m.layout.segments → same_kind Large s.kind ≡ true → IsIn s large
-  is-large s i kind = into_filter (λ (s : SegInfo). same_kind Large s.kind && has_condemned_part 2 s) small.segments
-      (and_from (same_kind Large s.kind) (has_condemned_part 2 s) kind (all-take s))
+  is-large : (s : SegInfo) → IsIn s m.layout.segments → is_large_or_pinned s.kind ≡ true → IsIn s large
+  is-large s i kind = into_filter (λ (s : SegInfo). is_large_or_pinned s.kind && has_condemned_part 2 s) small.segments
+      (and_from (is_large_or_pinned s.kind) (has_condemned_part 2 s) kind (all-take s))
       (subst (λ (u : SegInfo). IsIn u small.segments) (unchanged s kind) (into-small s i))
 
-  out-of-large : (s : SegInfo) → IsIn s large → (same_kind Large s.kind ≡ true) × IsIn s m.layout.segments
+  out-of-large : (s : SegInfo) → IsIn s large → (is_large_or_pinned s.kind ≡ true) × IsIn s m.layout.segments
   out-of-large s i =
-      let (e, j) = out_of_filter (λ (s : SegInfo). same_kind Large s.kind && has_condemned_part 2 s) s small.segments i
+      let (e, j) = out_of_filter (λ (s : SegInfo). is_large_or_pinned s.kind && has_condemned_part 2 s) s small.segments i
       in
-      let (kind, part) = and_parts (same_kind Large s.kind) (has_condemned_part 2 s) e in
+      let (kind, part) = and_parts (is_large_or_pinned s.kind) (has_condemned_part 2 s) e in
       (kind, large-known m h 2 two keeps moves small compacting laid s j kind)
 
   -- ---- free items
 
-  in-large-part : (f : Piece) → is_in_part (same_kind Large) small 2 f ≡ true → (s : SegInfo) → IsIn s m.layout.segments
-      → stands_in s f.place ≡ true → same_kind Large s.kind ≡ true
+  in-large-part : (f : Piece) → is_in_part (is_large_or_pinned) small 2 f ≡ true → (s : SegInfo)
+      → IsIn s m.layout.segments
+      → stands_in s f.place ≡ true → is_large_or_pinned s.kind ≡ true
   in-large-part f e s known stands =
-      let (t, i, a) = any-in (λ (s : SegInfo). same_kind Large s.kind &&
+      let (t, i, a) = any-in (λ (s : SegInfo). is_large_or_pinned s.kind &&
       (has_condemned_part 2 s && (stands_in s f.place && nat_le (part_start small 2 s) f.place))) small.segments e
       in
-      let (kind, b) = and_parts (same_kind Large t.kind)
+      let (kind, b) = and_parts (is_large_or_pinned t.kind)
       (has_condemned_part 2 t && (stands_in t f.place && nat_le (part_start small 2 t) f.place)) a in
       let (part, d) = and_parts (has_condemned_part 2 t)
       (stands_in t f.place && nat_le (part_start small 2 t) f.place) b in
       let (stands_t, above) = and_parts (stands_in t f.place) (nat_le (part_start small 2 t) f.place) d in
       let same : t ≡ s = one_home m.layout h.layout t s f.place
       (large-known m h 2 two keeps moves small compacting laid t i kind) known stands_t stands in
-      subst (λ (u : SegInfo). same_kind Large u.kind ≡ true) same kind
+      subst (λ (u : SegInfo). is_large_or_pinned u.kind ≡ true) same kind
 
-  start-at : (layout : Layout) (s : SegInfo) → same_kind Large s.kind ≡ true → part_start layout 2 s ≡ first_place s
+  start-at : (layout : Layout) (s : SegInfo) → is_large_or_pinned s.kind ≡ true → part_start layout 2 s ≡ first_place s
   start-at layout s kind = ap (λ b. if b then first_place s else first_place s) (large-not_ephemeral s.kind kind)
 
   into-large-part : (f : Piece) (s : SegInfo) → IsIn s m.layout.segments → stands_in s f.place ≡ true
-      → same_kind Large s.kind ≡ true → is_in_part (same_kind Large) small 2 f ≡ true
+      → is_large_or_pinned s.kind ≡ true → is_in_part (is_large_or_pinned) small 2 f ≡ true
   into-large-part f s known stands kind =
       let (low, high) = stands-between s f.place stands in
       let from = start-at small s kind in
-      let (e, j) = out_of_filter (λ (s : SegInfo). same_kind Large s.kind && has_condemned_part 2 s) s small.segments
+      let (e, j) = out_of_filter (λ (s : SegInfo). is_large_or_pinned s.kind && has_condemned_part 2 s) s small.segments
       (is-large s known kind) in
-      any-from (λ (s : SegInfo). same_kind Large s.kind &&
+      any-from (λ (s : SegInfo). is_large_or_pinned s.kind &&
       (has_condemned_part 2 s && (stands_in s f.place && nat_le (part_start small 2 s) f.place))) small.segments s j
-      (and_from (same_kind Large s.kind)
+      (and_from (is_large_or_pinned s.kind)
       (has_condemned_part 2 s && (stands_in s f.place && nat_le (part_start small 2 s) f.place)) kind
       (and_from (has_condemned_part 2 s) (stands_in s f.place && nat_le (part_start small 2 s) f.place) (all-take s)
       (and_from (stands_in s f.place) (nat_le (part_start small 2 s) f.place) stands
@@ -170,31 +174,31 @@ module _ (m : Machine) (h : IsLaid m) (bare : rest_pieces m.layout.rests ≡ [])
   pub small_free : (s : SegInfo) → IsIn s m.layout.segments → is_small_or_ephemeral s.kind ≡ true → (f : Piece)
       → stands_in s f.place ≡ true → IsIn f swept.free → IsIn f small.free
   small_free s known kind f stands i =
-      elim (after-is (same_kind Large) small 2 (flat_map (swept_free small 2 stay) large) f i) [
+      elim (after-is (is_large_or_pinned) small 2 (flat_map (swept_free small 2 stay) large) f i) [
         | inl (away, j) ↦ j
         | inr j ↦
             let (t, large_kind, t_known, stands_t) = large_fresh m h keeps moves small compacting laid f j in
-            absurd (not-both s.kind kind (subst (λ (u : SegInfo). same_kind Large u.kind ≡ true)
+            absurd (not-both s.kind kind (subst (λ (u : SegInfo). is_large_or_pinned u.kind ≡ true)
             (one_home m.layout h.layout t s f.place t_known known stands_t stands) large_kind))
       ]
 
   free-stays : (s : SegInfo) → IsIn s m.layout.segments → is_small_or_ephemeral s.kind ≡ true → (f : Piece)
       → stands_in s f.place ≡ true → IsIn f small.free → IsIn f swept.free
   free-stays s known kind f stands i =
-      after-in (same_kind Large) small 2 (flat_map (swept_free small 2 stay) large) f
-      (inl (away (cases_Bool (is_in_part (same_kind Large) small 2 f)), i))
+      after-in (is_large_or_pinned) small 2 (flat_map (swept_free small 2 stay) large) f
+      (inl (away (cases_Bool (is_in_part (is_large_or_pinned) small 2 f)), i))
     where
-      away : (is_in_part (same_kind Large) small 2 f ≡ true) ⊎ (is_in_part (same_kind Large) small 2 f ≡ false)
-          → is_in_part (same_kind Large) small 2 f ≡ false
+      away : (is_in_part (is_large_or_pinned) small 2 f ≡ true) ⊎ (is_in_part (is_large_or_pinned) small 2 f ≡ false)
+          → is_in_part (is_large_or_pinned) small 2 f ≡ false
       away (inl e) = absurd (not-both s.kind kind (in-large-part f e s known stands))
       away (inr e) = e
 
   -- in a large segment they are those that its sweep left
-  large_free : (s : SegInfo) → IsIn s m.layout.segments → same_kind Large s.kind ≡ true → (f : Piece)
+  large_free : (s : SegInfo) → IsIn s m.layout.segments → is_large_or_pinned s.kind ≡ true → (f : Piece)
       → stands_in s f.place ≡ true → IsIn f swept.free → IsIn f (swept_free m.layout 2 stay s)
   large_free s known kind f stands i =
-      elim (after-is (same_kind Large) small 2 (flat_map (swept_free small 2 stay) large) f i) [
-        | inl (away, j) ↦ absurd (both_ways (is_in_part (same_kind Large) small 2 f) away
+      elim (after-is (is_large_or_pinned) small 2 (flat_map (swept_free small 2 stay) large) f i) [
+        | inl (away, j) ↦ absurd (both_ways (is_in_part (is_large_or_pinned) small 2 f) away
             (into-large-part f s known stands kind))
         | inr j ↦ from-one (from_part (swept_free small 2 stay) large f j)
       ]
@@ -219,7 +223,7 @@ module _ (m : Machine) (h : IsLaid m) (bare : rest_pieces m.layout.rests ≡ [])
       (λ f stands i. free-stays s known kind f stands i) (λ f stands i. small_free s known kind f stands i)
 
   -- an object of a large segment doesn't move, and none moves into it
-  stays-large : (s : SegInfo) → IsIn s m.layout.segments → same_kind Large s.kind ≡ true → (o : Object)
+  stays-large : (s : SegInfo) → IsIn s m.layout.segments → is_large_or_pinned s.kind ≡ true → (o : Object)
       → IsIn o m.objects → (stands_in s o.place ≡ true) ⊎ (stands_in s (moved_by moves o.place) ≡ true)
       → moved_by moves o.place ≡ o.place
   stays-large s known kind o i at =
@@ -237,7 +241,7 @@ module _ (m : Machine) (h : IsLaid m) (bare : rest_pieces m.layout.rests ≡ [])
       by (inl stands) came goes = other o.place stands came
       by (inr stands) came goes = other (moved_by moves o.place) stands goes
 
-  large-filled : (s : SegInfo) → IsIn s m.layout.segments → same_kind Large s.kind ≡ true
+  large-filled : (s : SegInfo) → IsIn s m.layout.segments → is_large_or_pinned s.kind ≡ true
       → IsRefilled m s (swept_end small 2 stay s) objects swept.free
   large-filled s known kind =
       let cuts = start-cuts m h 2 two keeps s known in
@@ -254,7 +258,7 @@ module _ (m : Machine) (h : IsLaid m) (bare : rest_pieces m.layout.rests ≡ [])
       (swept_free m.layout 2 stay s) refill cuts.low_end cuts.high_end cuts.whole
       (λ o i stands l. let (low, high) = stands-between s o.place stands in absurd (omega arith))
       (λ f i stands l. let (low, high) = stands-between s f.place stands in absurd (omega arith))
-      (λ f i. after-in (same_kind Large) small 2 (flat_map (swept_free small 2 stay) large) f
+      (λ f i. after-in (is_large_or_pinned) small 2 (flat_map (swept_free small 2 stay) large) f
       (inr (into_parts (swept_free small 2 stay) s f large among
       (subst (IsIn f) (same-free m h keeps moves small compacting laid s among) i))))
       (λ f i stands. inr (large_free s known kind f stands i)))
@@ -268,26 +272,29 @@ module _ (m : Machine) (h : IsLaid m) (bare : rest_pieces m.layout.rests ≡ [])
       at : (end : ℕ) → IsRefilled m s end objects swept.free → WasFilled (record s { end = end })
       at end r = record { old = s; among = known; base = refl; reserved = refl; kind = refl; refilled = r }
 
-      go : (is_small_or_ephemeral s.kind ≡ true) ⊎ (same_kind Large s.kind ≡ true)
+      go : (is_small_or_ephemeral s.kind ≡ true) ⊎ (is_large_or_pinned s.kind ≡ true)
           → WasFilled (change_large (change_small s))
       go (inl kind) = subst WasFilled (sym (small-change s kind)) (at (phase.end s) (small-filled s known kind))
       go (inr kind) = subst WasFilled (sym (large-change s kind))
           (at (swept_end small 2 stay s) (large-filled s known kind))
 
-  -- Each segment that is left is filled anew.
-  pub full_was : (t : SegInfo) → IsIn t left.segments → WasSegment m t objects left.free
-  full_was t i =
-      let (stays, j) = out_of_filter (is_retained swept objects) t swept.segments i in
+  -- Each segment is filled anew,
+  pub swept_was : (t : SegInfo) → IsIn t swept.segments → WasSegment m t objects swept.free
+  swept_was t j =
       let (u, is, k) = from-map change_large t small.segments j in
       let (s, was, n) = from-map change_small u m.layout.segments (subst (IsIn u) phase.segments k) in
       subst WasFilled (sym (is ∙ ap change_large was)) (filled s n)
+
+  -- and so is each that is left.
+  pub full_was : (t : SegInfo) → IsIn t left.segments → WasSegment m t objects left.free
+  full_was t i = swept_was t (out_of_filter (is_retained swept objects) t swept.segments i).1
 
   -- ---- what is released is empty
 
   same-stands : (s : SegInfo) (x : ℕ) → stands_in (change_large (change_small s)) x ≡ stands_in s x
   same-stands s x = go (small-or-large s.kind)
     where
-      go : (is_small_or_ephemeral s.kind ≡ true) ⊎ (same_kind Large s.kind ≡ true)
+      go : (is_small_or_ephemeral s.kind ≡ true) ⊎ (is_large_or_pinned s.kind ≡ true)
           → stands_in (change_large (change_small s)) x ≡ stands_in s x
       go (inl kind) = ap (λ (u : SegInfo). stands_in u x) (small-change s kind)
       go (inr kind) = ap (λ (u : SegInfo). stands_in u x) (large-change s kind)
@@ -324,10 +331,14 @@ module _ (m : Machine) (h : IsLaid m) (bare : rest_pieces m.layout.rests ≡ [])
       let at : stands_in s o.place ≡ true = subst (λ (w : Object). stands_in s w.place ≡ true) (sym e) stands in
       kept-segment s known o i at o.place at
 
-  -- a free item shares its segment with an object, so the segment is left
-  pub full_free_home : (f : Piece) → IsIn f left.free
-      → (t : SegInfo) × IsIn t left.segments × (stands_in t f.place ≡ true)
-  full_free_home f i = elim (after-is (same_kind Large) small 2 (flat_map (swept_free small 2 stay) large) f i) [
+  -- a segment of before in which a free item stands, and an object
+  abbrev IsBeside : Piece → Type 0
+  IsBeside f = (s : SegInfo) × IsIn s m.layout.segments × (stands_in s f.place ≡ true)
+      × (o : Object) × IsIn o objects × (stands_in s o.place ≡ true)
+
+  -- a free item shares its segment with an object
+  beside : (f : Piece) → IsIn f swept.free → IsBeside f
+  beside f i = elim (after-is (is_large_or_pinned) small 2 (flat_map (swept_free small 2 stay) large) f i) [
     | inl
         (away, j) ↦ from-small away j
     | inr j ↦ from-large (from_part (swept_free small 2 stay) large f j)
@@ -341,7 +352,8 @@ module _ (m : Machine) (h : IsLaid m) (bare : rest_pieces m.layout.rests ≡ [])
           go false = refl
 
       -- no free item of before is left
-      none_old : is_in_part (same_kind Large) small 2 f ≡ false → is_in_part is_small_or_ephemeral m.layout 2 f ≡ false
+      none_old : is_in_part (is_large_or_pinned) small 2 f ≡ false
+          → is_in_part is_small_or_ephemeral m.layout 2 f ≡ false
           → IsIn f m.layout.free → ⊥
       none_old away off k = by (piece-home m h f (free-in-pieces m f k))
         where
@@ -354,21 +366,24 @@ module _ (m : Machine) (h : IsLaid m) (bare : rest_pieces m.layout.rests ≡ [])
                     both_ways (is_in_part is_small_or_ephemeral m.layout 2 f) off
                     (into-part m h bare 2 two keeps alive moves small phase none_older f n.home
                     (takes n.home n.among kind) n.stands (omega arith))
-                | inr kind ↦ both_ways (is_in_part (same_kind Large) small 2 f) away
+                | inr kind ↦ both_ways (is_in_part (is_large_or_pinned) small 2 f) away
                     (into-large-part f n.home n.among n.stands kind)
               ]
 
       new : (s : SegInfo) × IsIn s parts × IsIn f (phase.fresh s)
-          → (t : SegInfo) × IsIn t left.segments × (stands_in t f.place ≡ true)
+          → IsBeside f
       new (s, k, n) =
-          let (o, present, stays, stands) = phase.bounds.beside s k f n in
-          kept-segment s (part-is m h bare 2 two keeps alive moves small phase none_older s k).2
-          (object_after m alive moves o) (object-now m h bare keeps alive moves small.free o present stays) stands
-          f.place
-          (fresh-stands m h bare 2 two keeps alive moves small phase none_older s k f n).0
+          let (o, present, stays, stands) = phase.bounds.beside s k f n in (
+            s,
+            (part-is m h bare 2 two keeps alive moves small phase none_older s k).2,
+            (fresh-stands m h bare 2 two keeps alive moves small phase none_older s k f n).0,
+            object_after m alive moves o,
+            object-now m h bare keeps alive moves small.free o present stays,
+            stands,
+          )
 
-      from-small : is_in_part (same_kind Large) small 2 f ≡ false → IsIn f small.free
-          → (t : SegInfo) × IsIn t left.segments × (stands_in t f.place ≡ true)
+      from-small : is_in_part (is_large_or_pinned) small 2 f ≡ false → IsIn f small.free
+          → IsBeside f
       from-small away j =
           elim (after-is is_small_or_ephemeral m.layout 2 (flat_map phase.fresh parts) f
           (subst (IsIn f) phase.free j)) [
@@ -377,13 +392,37 @@ module _ (m : Machine) (h : IsLaid m) (bare : rest_pieces m.layout.rests ≡ [])
           ]
 
       from-large : (s : SegInfo) × IsIn s large × IsIn f (swept_free small 2 stay s)
-          → (t : SegInfo) × IsIn t left.segments × (stands_in t f.place ≡ true)
+          → IsBeside f
       from-large (s, k, n) =
           let (kind, known) = out-of-large s k in
           let old : IsIn f (swept_free m.layout 2 stay s) =
           subst (IsIn f) (sym (same-free m h keeps moves small compacting laid s k)) n in
-          let (o, present, stays, stands) = swept_beside m h 2 two keeps s known f old in
-          kept-segment s known (object_after m alive moves o)
-          (object-now m h bare keeps alive moves small.free o present stays)
-          (subst (λ x. stands_in s x ≡ true) (sym (stays-large s known kind o present (inl stands))) stands) f.place
-          (swept_stands m h 2 two keeps s known f old)
+          let (o, present, stays, stands) = swept_beside m h 2 two keeps s known f old in (
+            s,
+            known,
+            swept_stands m h 2 two keeps s known f old,
+            object_after m alive moves o,
+            object-now m h bare keeps alive moves small.free o present stays,
+            subst (λ x. stands_in s x ≡ true) (sym (stays-large s known kind o present (inl stands))) stands,
+          )
+
+  -- so the segment is left
+  pub full_free_home : (f : Piece) → IsIn f left.free
+      → (t : SegInfo) × IsIn t left.segments × (stands_in t f.place ≡ true)
+  full_free_home f i =
+      let (s, known, stands, o, j, at) = beside f i in
+      kept-segment s known o j at f.place stands
+
+  -- the same of segments as the sweep leaves them
+  pub full_beside : (f : Piece) → IsIn f swept.free
+      → (t : SegInfo) × IsIn t swept.segments × (stands_in t f.place ≡ true) × (o : Object) × IsIn o objects
+      × (stands_in t o.place ≡ true)
+  full_beside f i =
+      let (s, known, stands, o, j, at) = beside f i in (
+        change_large (change_small s),
+        into-swept s known,
+        same-stands s f.place ∙ stands,
+        o,
+        j,
+        same-stands s o.place ∙ at,
+      )

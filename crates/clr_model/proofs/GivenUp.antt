@@ -60,6 +60,7 @@ module _ (m : Machine) (h : IsLaid m) where
   given_up_laid = record {
     layout = record {
       segments = h.layout.segments;
+      bounded = h.layout.bounded;
       disjoint = h.layout.disjoint;
       below_top = h.layout.below_top;
       top_aligned = h.layout.top_aligned;

@@ -51,6 +51,7 @@ pub same_segments : (layout : Layout) (free : List Piece) (rests : List (Option 
     → IsLawfulLayout (record layout { free = free; rests = rests })
 same_segments layout free rests h rise count = record {
   segments = h.segments;
+  bounded = h.bounded;
   disjoint = h.disjoint;
   below_top = h.below_top;
   top_aligned = h.top_aligned;

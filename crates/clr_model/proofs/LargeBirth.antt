@@ -7,7 +7,7 @@ use Rattle.clr_types.specs.Ranges.{Piece, fits, IsLawfulSize}
 use Rattle.clr_types.specs.Types.{form_at}
 use Rattle.clr_types.specs.declared.segment.SegInfo.{SegInfo}
 use Rattle.clr_types.specs.declared.segment.SegKind.{SegKind}
-use Rattle.clr_types.specs.declared.segment.SegKind.TheVariants.{Small, Ephemeral, Large}
+use Rattle.clr_types.specs.declared.segment.SegKind.TheVariants.{Small, Ephemeral, Large, Pinned}
 use Rattle.clr_types.specs.Segments.{Layout, same_kind, stands_in, fits_in_tail, segments_of, segment_of, generation}
 use Rattle.clr_types.specs.Segments.{reserved_end, rest_pieces, with_end}
 use Rattle.clr_types.specs.LawfulLayout.{IsLawfulLayout}
@@ -72,6 +72,7 @@ module _ (m : Machine) (type len : ℕ) (named : IsBirthNamed m) (birth : IsBirt
   suits_large place Small e = absurd cc
   suits_large place Ephemeral e = absurd cc
   suits_large place Large e = large
+  suits_large place Pinned e = absurd cc
 
   -- where it stands in a large segment, it suits that
   suits_home : (place : ℕ) (s : SegInfo) → IsIn s (segments_of Large m.layout) → segment_of m.layout place ≡ Some s

@@ -22,7 +22,7 @@ use Rattle.clr_model.specs.Instructions.{clear_local}
 use Rattle.clr_model.specs.Checks.{refusal as first_refusal, refuse_if, with_some, first_of_all, thread_of}
 use Rattle.clr_model.specs.Checks.{is_reference_slot, blocked, mid_step, not_mid_step, unknown_type, duplicate_type}
 use Rattle.clr_model.specs.Checks.{bad_shape, too_many_types, no_slot, null, index, wrong_slot, no_handle, handle_kind}
-use Rattle.clr_model.specs.Checks.{too_many_handles, too_big, no_object, empty}
+use Rattle.clr_model.specs.Checks.{too_many_handles, too_big, no_object, empty, background, has_references}
 use Rattle.clr_model.specs.Outcomes.{Outcome, answered, refused}
 use Rattle.clr_model.specs.Lookups.{type_of_object}
 use Rattle.clr_model.specs.Step.{Obeys, Does, stored_number, name_in, number_in}
@@ -85,8 +85,9 @@ refuses_thread s i t of none =
     obeys_refusal s i UnknownThread
     (ap
     (λ c. first_of_all (
-    c ∷ blocked s i ∷ mid_step s i ∷ not_mid_step s i ∷ unknown_type s i ∷ duplicate_type s i ∷ bad_shape s i
-    ∷ too_many_types s i ∷ no_slot i ∷ null s i ∷ index s i ∷ wrong_slot s i ∷ no_handle s i ∷ handle_kind s i
+    c ∷ blocked s i ∷ mid_step s i ∷ not_mid_step s i ∷ background s i ∷ unknown_type s i ∷ duplicate_type s i
+    ∷ bad_shape s i ∷ too_many_types s i ∷ has_references s i ∷ no_slot i ∷ null s i ∷ index s i ∷ wrong_slot s i
+    ∷ no_handle s i ∷ handle_kind s i
     ∷ too_many_handles s i ∷ too_big s i ∷ no_object s i ∷ empty s i ∷ []))
     (ap (λ o. with_some o (λ u. refuse_if (not (is_thread u)) UnknownThread)) of
     ∙ ap (λ b. refuse_if (not b) UnknownThread) none))
@@ -104,7 +105,7 @@ line_checks_by thread held stepping away more = first_of_all (
     ∷ held
     ∷ refuse_if (stepping && true) MidStep
     ∷ refuse_if (not stepping && false) NotMidStep
-    ∷ None ∷ None ∷ None ∷ None
+    ∷ None ∷ None ∷ None ∷ None ∷ None ∷ None
     ∷ refuse_if away NoSlot
     ∷ more)
 
@@ -207,7 +208,8 @@ module _ (i : Instruction) (t : ℕ) (locals : List ℕ) (more : Machine
     where
       others : (thread : Bool) (c : Option Refusal) (stepping away : Bool)
           → first_of_all (refuse_if (not thread) UnknownThread ∷ c ∷ refuse_if (stepping && true) MidStep
-          ∷ refuse_if (not stepping && false) NotMidStep ∷ None ∷ None ∷ None ∷ None ∷ refuse_if away NoSlot
+          ∷ refuse_if (not stepping && false) NotMidStep ∷ None ∷ None ∷ None ∷ None ∷ None ∷ None
+          ∷ refuse_if away NoSlot
           ∷ more s) ≡ None
           → first_of_all (more s) ≡ None
       others false c stepping away e = absurd cc

@@ -9,14 +9,16 @@ use Rattle.clr_model.specs.Instructions.{read_number, copy_local, clear_local, s
 use Rattle.clr_model.specs.Instructions.{collect_heap, suspend_others, resume_others, begin_set, begin_new, finish_step}
 use Rattle.clr_model.specs.Instructions.{create_handle, fetch_target, fetch_second, free_handle, take_ready, dump_heap}
 use Rattle.clr_model.specs.Instructions.{dump_object, show_root, show_segments, verify_heap, show_handles, show_queues}
-use Rattle.clr_model.specs.Instructions.{where_is}
+use Rattle.clr_model.specs.Instructions.{where_is, compact_large_once, new_pinned, begin_background, step_background}
+use Rattle.clr_model.specs.Instructions.{end_background, show_size}
 use Rattle.clr_model.specs.LineGrammar.{IsWord, IsForm, IsFinal, IsWellFormed, is_name, words_of, thread_word}
 use Rattle.clr_model.specs.LineGrammar.{local_word, pattern_word, form_words, final_words}
 use Rattle.clr_model.specs.ReplyText.{kind_word}
 use Rattle.clr_model.specs.Parsing.{number_in, thread_in, local_in, name_in, pattern_in, kind_in, generation_in}
 use Rattle.clr_model.specs.Parsing.{none_in, one_in, how_in, collect_in, second_in, create_in, begin_in, rooted_in}
 use Rattle.clr_model.specs.Parsing.{rarely_in, verb_in, threaded_in, final_in, class_in, structs_in, shape_in}
-use Rattle.clr_model.specs.Parsing.{define_in, heaps_in, other_in, line_in, instruction_in}
+use Rattle.clr_model.specs.Parsing.{define_in, heaps_in, other_in, line_in, instruction_in, one_number_in, seldom_in}
+use Rattle.clr_model.specs.Parsing.{pinned_in, pause_in, once_in, marking_in}
 use Rattle.clr_model.proofs.Readers.{IsReader, IsTold, bound, mapped, one_told, nothing_told, choice_told, value_told}
 use Rattle.clr_model.proofs.Readers.{made_told, made_none_told}
 use Rattle.clr_model.proofs.WordReaders.{thread_reader, local_reader, name_reader, pattern_reader, kind_reader}
@@ -24,7 +26,7 @@ use Rattle.clr_model.proofs.WordReaders.{generation_reader}
 use Rattle.clr_model.proofs.ArgumentReaders.{one_local_reader, one_handle_reader, address_after_reader, locals_reader}
 use Rattle.clr_model.proofs.ArgumentReaders.{local_and_number_reader, local_and_handle_reader, load_reader}
 use Rattle.clr_model.proofs.ArgumentReaders.{store_reader, number_store_reader, birth_reader, how_reader, second_reader}
-use Rattle.clr_model.proofs.ArgumentReaders.{final_reader}
+use Rattle.clr_model.proofs.ArgumentReaders.{final_reader, how_least, one_number_reader}
 use Rattle.clr_model.proofs.OptionReaders.{options_reader}
 
 -- what is read from these words is what they spell
@@ -70,10 +72,11 @@ collect_spelled : (t : ℕ) → IsWord t → (ws : List (List ℕ)) → Spells (
 unfolding collect_in
 collect_spelled t h [] = none_spelled _
 collect_spelled t h (word ∷ more) = λ i e.
-    let b = bound (λ g. option_map (collect_heap t g) (how_in more)) (generation_in word) i e in
+    let b = bound (λ g. option_map (collect_heap t g) (how_in g more)) (generation_in word) i e in
     let p = generation_reader.told word b.value b.was in
-    let q = made_spelled how_in _ _ how_reader (λ v. Line t (codes "collect") (decimal b.value ∷ v))
-    (collect_heap t b.value) (λ how v. (refl, (h, p.1))) more i b.gives in
+    let q = made_spelled (how_in b.value) _ _ (how_reader b.value p.1)
+    (λ v. Line t (codes "collect") (decimal b.value ∷ v)) (collect_heap t b.value) (λ how v. (refl, (h, v))) more i
+    b.gives in
     (ap (λ (w : List ℕ). Line t (codes "collect") (w ∷ more)) p.0 ∙ q.0, q.1)
 
 -- a new handle
@@ -106,6 +109,60 @@ begin_spelled t h (verb ∷ ws) =
     (λ b v. (refl, (h, v.0, v.1, v.2))) ws)
     (none_spelled _))
 
+-- a pinned object
+pinned_spelled : (t : ℕ) → IsWord t → (ws : List (List ℕ)) → Spells (Line t (codes "new-pinned") ws) (pinned_in t ws)
+unfolding pinned_in
+pinned_spelled t h [] = none_spelled _
+pinned_spelled t h (a ∷ []) = none_spelled _
+pinned_spelled t h (a ∷ b ∷ more) = λ i e.
+    let k = bound (λ local. option_and_then (λ name. option_map (new_pinned t local name) (one_number_in more))
+    (name_in b)) (local_in a) i e in
+    let n = bound (λ name. option_map (new_pinned t k.value name) (one_number_in more)) (name_in b) i k.gives in
+    let p = local_reader.told a k.value k.was in
+    let q = name_reader.told b n.value n.was in
+    let r = made_spelled one_number_in _ _ one_number_reader
+    (λ v. Line t (codes "new-pinned") (local_word k.value ∷ n.value ∷ v)) (new_pinned t k.value n.value)
+    (λ len v. (refl, (h, p.1, q.1, v))) more i n.gives in
+    ((λ j. Line t (codes "new-pinned") (p.0 j ∷ q.0 j ∷ more)) ∙ r.0, r.1)
+
+-- the pauses of a background collection
+pause_spelled : (t : ℕ) → IsWord t → (ws : List (List ℕ)) → Spells (Line t (codes "background") ws) (pause_in t ws)
+unfolding pause_in
+pause_spelled t h [] = none_spelled _
+pause_spelled t h (word ∷ ws) =
+    either_spelled (λ v. Line t (codes "background") (v ∷ ws)) word (codes "begin") _ _
+    (alone_spelled (λ v. Line t (codes "background") (codes "begin" ∷ v)) (begin_background t) refl h ws)
+    (either_spelled (λ v. Line t (codes "background") (v ∷ ws)) word (codes "end") _ _
+    (alone_spelled (λ v. Line t (codes "background") (codes "end" ∷ v)) (end_background t) refl h ws)
+    (none_spelled _))
+
+-- the compaction of the large heap
+once_spelled : (t : ℕ) → IsWord t → (ws : List (List ℕ)) → Spells (Line t (codes "compact-large") ws) (once_in t ws)
+unfolding once_in
+once_spelled t h ws i e =
+    let b = bound (λ word. if bytes_eq word (codes "once") then Some (compact_large_once t) else None) (one_in ws) i e
+    in
+    let q = either_spelled (λ w. Line t (codes "compact-large") (w ∷ [])) b.value (codes "once")
+    (Some (compact_large_once t)) None
+    (value_told words_of IsWellFormed (Line t (codes "compact-large") (codes "once" ∷ []))
+    (compact_large_once t) refl h)
+    (none_spelled _) i b.gives in
+    (ap (λ (v : List (List ℕ)). Line t (codes "compact-large") v) (one_told ws b.value b.was) ∙ q.0, q.1)
+
+-- the lines on large and pinned objects, and on background collections
+seldom_spelled : (t : ℕ) → IsWord t → (verb : List ℕ) (ws : List (List ℕ))
+    → Spells (Line t verb ws) (seldom_in t verb ws)
+unfolding seldom_in
+seldom_spelled t h verb ws =
+    or (codes "new-pinned") _ _ (pinned_spelled t h ws)
+    (or (codes "background") _ _ (pause_spelled t h ws)
+    (or (codes "compact-large") _ _ (once_spelled t h ws)
+    (none_spelled _)))
+  where
+    or : (k : List ℕ) (x y : Option Instruction) → Spells (Line t k ws) x → Spells (Line t verb ws) y
+        → Spells (Line t verb ws) (if bytes_eq verb k then x else y)
+    or k x y = either_spelled (λ v. Line t v ws) verb k x y
+
 -- the lines on handles and finalisers
 rooted_spelled : (t : ℕ) → IsWord t → (verb : List ℕ) (ws : List (List ℕ))
     → Spells (Line t verb ws) (rooted_in t verb ws)
@@ -123,7 +180,7 @@ rooted_spelled t h verb ws =
     (λ p v. (refl, (h, v))) ws)
     (or (codes "reregister") _ _ (behind _ _ _ one_local_reader t (codes "reregister") (reregister_object t)
     (λ p v. (refl, (h, v))) ws)
-    (none_spelled _)))))))
+    (seldom_spelled t h verb ws)))))))
   where
     or : (k : List ℕ) (x y : Option Instruction) → Spells (Line t k ws) x → Spells (Line t verb ws) y
         → Spells (Line t verb ws) (if bytes_eq verb k then x else y)
@@ -245,6 +302,16 @@ heaps_spelled ws i e =
     (none_spelled _) i b.gives in
     (ap (λ (v : List (List ℕ)). codes "eeheap" ∷ v) (one_told ws b.value b.was) ∙ q.0, q.1)
 
+-- steps of a background collection
+marking_spelled : (ws : List (List ℕ)) → Spells (codes "background" ∷ ws) (marking_in ws)
+unfolding marking_in
+marking_spelled [] = none_spelled _
+marking_spelled (word ∷ ws) =
+    either_spelled (λ v. codes "background" ∷ v ∷ ws) word (codes "step") _ _
+    (made_spelled _ _ _ one_number_reader (λ v. codes "background" ∷ codes "step" ∷ v) step_background
+    (λ n v. (refl, v)) ws)
+    (none_spelled _)
+
 -- a line that is no thread's
 other_spelled : (word : List ℕ) (ws : List (List ℕ)) → Spells (word ∷ ws) (other_in word ws)
 unfolding other_in
@@ -262,7 +329,10 @@ other_spelled word ws =
     (or (codes "verifyheap") _ _ (alone_spelled (λ v. codes "verifyheap" ∷ v) verify_heap refl tt ws)
     (or (codes "gchandles") _ _ (alone_spelled (λ v. codes "gchandles" ∷ v) show_handles refl tt ws)
     (or (codes "finalizequeue") _ _ (alone_spelled (λ v. codes "finalizequeue" ∷ v) show_queues refl tt ws)
-    (none_spelled _)))))))))
+    (or (codes "objsize") _ _ (made_spelled _ _ _ address_after_reader (λ v. codes "objsize" ∷ v) show_size
+    (λ a v. (refl, v)) ws)
+    (or (codes "background") _ _ (marking_spelled ws)
+    (none_spelled _)))))))))))
   where
     or : (k : List ℕ) (x y : Option Instruction) → Spells (k ∷ ws) x → Spells (word ∷ ws) y
         → Spells (word ∷ ws) (if bytes_eq word k then x else y)
@@ -320,7 +390,8 @@ shaped name (structs_form pattern) final f g = rw (g, pattern_reader.found patte
 
 -- each instruction is read from its words
 pub instruction_found : (i : Instruction) → IsWellFormed i → instruction_in (words_of i) ≡ Some i
-unfolding verb_in rarely_in rooted_in begin_in collect_in create_in other_in heaps_in
+unfolding verb_in rarely_in rooted_in begin_in collect_in create_in other_in heaps_in seldom_in pinned_in pause_in
+    once_in marking_in
 instruction_found (define_type name form final) v =
     unthreaded (codes "type") _ _ no_thread
     (shaped name form final v.1 v.2
@@ -350,7 +421,8 @@ instruction_found (suppress_object t local) v =
 instruction_found (reregister_object t local) v =
     threaded t (codes "reregister") _ _ v.0 (ap (option_map (reregister_object t)) (one_local_reader.found local v.1))
 instruction_found (collect_heap t g how) v =
-    threaded t (codes "collect") _ _ v.0 (rw (generation_reader.found g v.1, how_reader.found how tt) refl)
+    threaded t (codes "collect") _ _ v.0
+    (rw (generation_reader.found g (how_least g how v.1), (how_reader g (how_least g how v.1)).found how v.1) refl)
 instruction_found (suspend_others t) v = threaded t (codes "suspend") _ _ v refl
 instruction_found (resume_others t) v = threaded t (codes "resume") _ _ v refl
 instruction_found (begin_set t into index from) v =
@@ -373,6 +445,15 @@ instruction_found (free_handle t h) v =
     threaded t (codes "free") _ _ v.0 (ap (option_map (free_handle t)) (one_handle_reader.found h v.1))
 instruction_found (take_ready t to) v =
     threaded t (codes "finalizer") _ _ v.0 (ap (option_map (take_ready t)) (one_local_reader.found to v.1))
+instruction_found (compact_large_once t) v = threaded t (codes "compact-large") _ _ v refl
+instruction_found (new_pinned t local name len) v =
+    threaded t (codes "new-pinned") _ _ v.0
+    (rw (local_reader.found local v.1, name_reader.found name v.2, one_number_reader.found len v.3) refl)
+instruction_found (begin_background t) v = threaded t (codes "background") _ _ v refl
+instruction_found (step_background n) v =
+    unthreaded (codes "background") _ _ (unlettered _ _ refl)
+    (ap (option_map step_background) (one_number_reader.found n v))
+instruction_found (end_background t) v = threaded t (codes "background") _ _ v refl
 instruction_found (dump_heap options) v =
     unthreaded (codes "dumpheap") _ _ (unlettered _ _ refl) (ap (option_map dump_heap) (options_reader.found options v))
 instruction_found (dump_object a) v =
@@ -386,3 +467,5 @@ instruction_found show_handles v = unthreaded (codes "gchandles") _ _ (unlettere
 instruction_found show_queues v = unthreaded (codes "finalizequeue") _ _ (unlettered _ _ refl) refl
 instruction_found (where_is a) v =
     unthreaded (codes "gcwhere") _ _ (unlettered _ _ refl) (ap (option_map where_is) (address_after_reader.found a v))
+instruction_found (show_size a) v =
+    unthreaded (codes "objsize") _ _ (unlettered _ _ refl) (ap (option_map show_size) (address_after_reader.found a v))

@@ -25,6 +25,8 @@ use Rattle.clr_model.specs.Lawful.{IsNullOrPresent, SlotIsPresent, StepIsPresent
 use Rattle.clr_model.proofs.BoundedSums.{HaveSameBytes, bounded_alike, bytes_renamed}
 use Rattle.clr_model.proofs.Naming.{map-slice_set}
 use Rattle.clr_model.proofs.RootsChanged.{shaped_alike}
+use Rattle.clr_model.proofs.MarkingKept.{in_changed, marking_kept, old_as}
+use Rattle.clr_types.specs.Segments.{generation}
 
 -- ---- a change at one key
 
@@ -260,6 +262,16 @@ module _ (m : Machine) (name : ℕ) (slots : Object → List Value) (flag : Obje
         steps = all_imply (StepIsPresent m) (StepIsPresent next) m.steps step_present names.steps;
       }
 
+  -- names and places stay
+  same_name : (b : Bool) (o : Object) → (if b then change o else o).name ≡ o.name
+  same_name true o = refl
+  same_name false o = refl
+
+  same_age : (b : Bool) (o : Object) → 1 < generation m.layout o.place
+      → 1 < generation m.layout (if b then change o else o).place
+  same_age true o old = old
+  same_age false o old = old
+
   -- the object takes them, and the machine stays lawful
   pub changed_lawful : IsBirthNamed (record m {
     objects = changed_by (λ (o : Object). o.name) name
@@ -294,6 +306,10 @@ module _ (m : Machine) (name : ℕ) (slots : Object → List Value) (flag : Obje
           entries = all_imply (IsFinal m) (IsFinal next) m.entries final h.entries;
           ready = all_imply (IsFinal m) (IsFinal next) m.ready final h.ready;
           sums = bounded_alike m next same_bytes refl h.sums;
+          marking =
+              marking_kept m next m.background
+              (old_as m next (λ o. if o.name == name then change o else o) (λ o. same_name (o.name == name) o)
+              (λ o i. in_changed key name change o m.objects i) (λ o i old. same_age (o.name == name) o old)) h.marking;
         };
         born = all-changed_same key name change (λ (o : Object). o.name ≤ m.born) (λ o l. l) m.objects named.born;
       }

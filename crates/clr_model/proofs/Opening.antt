@@ -40,7 +40,6 @@ first_segment options h = record {
   lowest = lit≤ tt;
   reserved = h.segment_aligned;
   least = h.segment_least;
-  most = λ small. h.segment_greatest;
   low = lit≤ tt;
   high = let least = h.segment_least in omega arith;
   aligned = refl;
@@ -53,7 +52,6 @@ second_segment options h = record {
   lowest = omega arith;
   reserved = h.segment_aligned;
   least = h.segment_least;
-  most = λ small. absurd cc;
   low = omega arith;
   high = let least = h.segment_least in omega arith;
   aligned = let aligned = h.segment_aligned in omega arith;
@@ -62,6 +60,7 @@ second_segment options h = record {
 layout_lawful : (options : Options) → AreLawfulOptions options → IsLawfulLayout (opening_layout options.segment)
 layout_lawful options h = record {
   segments = (first_segment options h, (second_segment options h, tt));
+  bounded = (λ small. h.segment_greatest, (λ small. absurd cc, tt));
   disjoint = ((omega arith, tt), (tt, tt));
   below_top = (omega arith, (omega arith, tt));
   top_aligned = let aligned = h.segment_aligned in omega arith;
@@ -136,6 +135,7 @@ opening_lawful options h = record {
     entries = tt;
     ready = tt;
     sums = record { spent0 = lit≤ tt; spent_large = lit≤ tt; promoted1 = lit≤ tt; promoted2 = lit≤ tt };
+    marking = tt;
   };
   born = tt;
 }

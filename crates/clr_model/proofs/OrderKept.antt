@@ -1,4 +1,7 @@
 -- In a collection the objects of the small heap that aren't pinned keep their order.
+use Rattle.clr_model.specs.declared.How.{How}
+use Rattle.clr_model.specs.declared.Collected.{Collected}
+use Rattle.clr_model.specs.Lawful.{IsLawful}
 use Rattle.std.proofs.Common.{◌≡◌, ℕ, ◌+◌, ◌-◌, ◌<◌, ◌≤◌, ◌⊎◌, inl, inr, List, [], ◌∷◌, refl, sym, ap, subst, ◌∙◌}
 use Rattle.std.proofs.Common.{arith, Bool, true, false, ◌&&◌}
 use Rattle.std.proofs.lemmas.Bool.{and_parts, cases_lt}
@@ -16,7 +19,7 @@ use Rattle.clr_model.specs.Lookups.{object_piece, is_pinned}
 use Rattle.clr_model.specs.Lawful.{IsLaid}
 use Rattle.clr_model.specs.Sweep.{Survivor, survivors, part_start, base_at}
 use Rattle.clr_model.specs.Compaction.{Plug, plug_end, Move, moved_by, IsCompacted}
-use Rattle.clr_model.specs.Laws.{OrderLaw}
+use Rattle.clr_model.specs.Laws.{HasPlace}
 use Rattle.clr_model.specs.Collection.{IsSmallLaid, is_in_small_heap}
 use Rattle.clr_model.proofs.PlugRoom.{one_plug}
 use Rattle.clr_model.proofs.PlugWalk.{Each, AreOrdered, IsLanded, each_from, each_both, plug_of_move}
@@ -28,6 +31,7 @@ use Rattle.clr_model.proofs.CompactedSmall.{order_kept, source, walked_whole, wh
 use Rattle.clr_model.proofs.CollectedObjects.{begun, begun_laid, compacting, small_is, moved_object}
 use Rattle.clr_model.proofs.MovedPlaces.{ready, moved-is, LandsIn, lands-in, IsCovered, covered, survivor-covered}
 use Rattle.clr_model.proofs.MovedPlaces.{is_small-survivor, object_lower, pinned_stays}
+use Rattle.clr_model.proofs.PlainCollections.{PlainlyCollects}
 
 -- ---- moves by rising start
 
@@ -254,8 +258,13 @@ laid_orders m h g least keeps moves small true is a b i j stays free_a in_small 
 laid_orders m h g least keeps moves small false is a b i j stays free_a in_small up =
     subst (λ vs. moved_by vs a.place < moved_by vs b.place) (sym is.0) up
 
-pub order : OrderLaw
-order m g how answer new h least c one other low high to_low to_high free was_low was_high small up is_low is_high =
+pub plain_order : (m : Machine) (g : ℕ) (how : How) (answer : Collected) (new : Machine) → IsLawful m → g ≤ 2
+    → PlainlyCollects m g how answer new
+    → (one other low high low_after high_after : ℕ) → is_pinned m one ≡ false
+    → HasPlace m one low → HasPlace m other high → is_in_small_heap m.layout low ≡ true → low < high
+    → HasPlace new one low_after → HasPlace new other high_after → low_after < high_after
+plain_order m g how answer new h least c one other low high to_low to_high free was_low was_high small up is_low
+    is_high =
     let (a, named_a, at_a) = was_low in
     let (b, named_b, at_b) = was_high in
     let (p, named_p, at_p) = is_low in

@@ -12,9 +12,11 @@ use Rattle.clr_model.specs.declared.How.TheVariants.{Decide, Compact}
 use Rattle.clr_model.specs.declared.Collected.{Collected}
 use Rattle.clr_model.specs.declared.Reply.TheVariants.{Place}
 use Rattle.clr_model.specs.Machine.{ThreadStep, no_step, Options, Machine}
-use Rattle.clr_model.specs.Lookups.{is_thread, is_step, step_or_none, step_of, lowest_in_step}
+use Rattle.clr_model.specs.Lookups.{is_thread, is_step, step_or_none, step_of, lowest_in_step, lowest_step_from}
 use Rattle.clr_model.specs.Picture.{picture}
-use Rattle.clr_model.specs.Collection.{Collects, which}
+use Rattle.clr_model.specs.Collection.{Collects, generation_to_collect}
+use Rattle.clr_model.specs.Laws.{IsUsual}
+use Rattle.clr_model.proofs.CollectionKeeps.{collects_keeps}
 use Rattle.clr_model.specs.Allocation.{Attempt, roomed, waits, out_of_room, out_of_memory, has_room, rest_fits}
 use Rattle.clr_model.specs.Allocation.{own_fits, context_front, IsRefilled, sealed, allows, with_layout}
 use Rattle.clr_model.specs.Allocation.{SmallAfterFull, SmallAfterFirst, MakesRoom}
@@ -25,7 +27,7 @@ use Rattle.clr_model.specs.Run.{StandsFor, Follows}
 use Rattle.clr_model.specs.RoomFollows.{HasCollected, FollowsRoom}
 use Rattle.clr_model.proofs.Carried.{carried, follows}
 use Rattle.clr_model.proofs.LineChecks.{MayRun, is_held_off, is_step-picture}
-use Rattle.clr_model.proofs.CollectionLaws.{names_dont_matter}
+use Rattle.clr_model.proofs.CollectionNames.{names_dont_matter}
 use Rattle.clr_model.proofs.CollectedPresent.{all_idle}
 use Rattle.clr_model.proofs.CollectedLawful.{rests_gone, stays_birth_named}
 use Rattle.clr_model.proofs.CollectFollows.{lowest_in_step-picture}
@@ -66,28 +68,28 @@ pub record IsLeft (s m : Machine) : Type 0 where
   pub bare : rest_pieces m.layout.rests ≡ []
 
 -- a collection of what is seen is one of each machine that is seen so
-pub collection_left : (s : Machine) (g : ℕ) (how : How) (new : Machine) → g ≤ 2 → HasCollected s g how new
+pub collection_left : (s : Machine) (g : ℕ) (how : How) (new : Machine) → IsUsual g how → HasCollected s g how new
     → (m : Machine) → StandsFor s m → lowest_in_step m ≡ None
     → (answer : Collected) × (mid : Machine) × Collects m g how answer mid × IsLeft new mid
-collection_left s g how new least (answer, after, c, is) m stands idle =
+collection_left s g how new usual (answer, after, c, is) m stands idle =
     let lawful = stands.lawful.lawful in
-    let (mid, done, shown) = names_dont_matter m g how answer after lawful least
+    let (mid, done, shown) = names_dont_matter m g how answer after lawful idle usual
     (of_picture (λ w. Collects w g how answer after) s m stands c) in (
       answer,
       mid,
       done,
       record {
         stands = record {
-          lawful = stays_birth_named m lawful idle g least how answer mid done stands.lawful.born;
+          lawful = stays_birth_named m lawful idle g how usual answer mid done stands.lawful.born;
           seen_is = shown ∙ sym is;
         };
-        idle = ap lowest_in_step done.state ∙ idle;
-        bare = rests_gone m lawful idle g least how answer mid done;
+        idle = ap (lowest_step_from 1) (collects_keeps m g how answer mid done).steps ∙ idle;
+        bare = rests_gone m lawful idle g how usual answer mid done;
       },
     )
 
 -- an allocation collects one of the three generations
-which_least : (m : Machine) → which m ≤ 2
+which_least : (m : Machine) → generation_to_collect m ≤ 2
 which_least m = go (nat_lt m.options.b1 m.sums.promoted1) (nat_lt m.options.b2 m.sums.promoted2)
   where
     go : (a b : Bool) → (let n : ℕ = if a then (if b then 2 else 1) else 0 in n) ≤ 2
@@ -215,7 +217,8 @@ module _ (s : Machine) (t size : ℕ) where
           stands,
         ))
 
-    module _ (idle : lowest_in_step s ≡ None) (s1 : Machine) (first : HasCollected s (which s) Decide s1) where
+    module _ (idle : lowest_in_step s ≡ None) (s1 : Machine)
+        (first : HasCollected s (generation_to_collect s) Decide s1) where
       -- else a collection, and what follows it
       by_first : (attempt : Attempt) (new : Machine)
           → ((m : Machine) → IsLeft s1 m
@@ -226,13 +229,13 @@ module _ (s : Machine) (t size : ℕ) where
           (λ m stands.
           let still : lowest_in_step m ≡ None =
           sym (lowest_in_step-picture m) ∙ of_picture (λ w. lowest_in_step w ≡ None) s m stands idle in
-          let (answer, mid, done, left) = collection_left s (which s) Decide s1 (which_least s) first m stands still in
+          let (answer, mid, done, left) = collection_left s (generation_to_collect s) Decide s1 (which_least s) first m stands still in
           let (ready, made, shown) = more mid left in (
             ready,
             makes_collection t size attempt ready m (own_of m stands) (spare_of m stands) still (
               answer,
               mid,
-              subst (λ g. Collects m g Decide answer mid) (sym (ap which stands.seen_is)) done,
+              subst (λ g. Collects m g Decide answer mid) (sym (ap generation_to_collect stands.seen_is)) done,
               made,
             ),
             shown,
@@ -352,12 +355,14 @@ relaid_leaves m new layout same = record {
 -- and so does a collection, as far as these parts go
 pub collected_leaves : (m new : Machine) (g : ℕ) (how : How) (answer : Collected) (mid : Machine)
     → Collects m g how answer mid → LeavesParts mid new → LeavesParts m new
-collected_leaves m new g how answer mid c after = record {
-  types = after.types ∙ ap (λ (w : Machine). w.types) c.state;
-  options = after.options ∙ ap (λ (w : Machine). w.options) c.state;
-  steps = after.steps ∙ ap (λ (w : Machine). w.steps) c.state;
-  holder = after.holder ∙ ap (λ (w : Machine). w.holder) c.state;
-}
+collected_leaves m new g how answer mid c after =
+    let keeps = collects_keeps m g how answer mid c in
+    record {
+      types = after.types ∙ keeps.types;
+      options = after.options ∙ keeps.options;
+      steps = after.steps ∙ keeps.steps;
+      holder = after.holder ∙ keeps.holder;
+    }
 
 -- and so does the ladder
 pub room_leaves : (t size : ℕ) (attempt : Attempt) (new m : Machine) → MakesRoom m t size attempt new

@@ -18,6 +18,7 @@ use Rattle.clr_model.specs.Lawful.{HasItsSecond, IsBirthNamed, IsFinal, IsLawful
 use Rattle.clr_model.proofs.HandleTables.{values-inserted, values-removed, keys-inserted, keys-removed, len-inserted}
 use Rattle.clr_model.proofs.HandleTables.{len-removed, map_values-remove}
 use Rattle.clr_model.proofs.Naming.{map-slice_set}
+use Rattle.clr_model.proofs.MarkingKept.{marking_kept, old_as}
 
 -- what shapes the objects of a machine has after a change that leaves types alone
 pub shaped_alike : (m next : Machine) (o : Object) → next.types ≡ m.types → IsShaped m o → IsShaped next o
@@ -124,6 +125,9 @@ with_roots_lawful m named locals handles entries ready l t e r =
           promoted1 = h.sums.promoted1;
           promoted2 = h.sums.promoted2;
         };
+        marking =
+            marking_kept m next m.background
+            (old_as m next (λ o. o) (λ o. refl) (λ o i. i) (λ o i old. old)) h.marking;
       };
       born = named.born;
     }

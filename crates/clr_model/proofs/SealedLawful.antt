@@ -10,11 +10,12 @@ use Rattle.std.proofs.lemmas.List.Sums.{sum_by_push}
 use Rattle.clr_types.specs.Ranges.{Piece, piece_end}
 use Rattle.clr_types.specs.declared.segment.SegInfo.{SegInfo}
 use Rattle.clr_types.specs.declared.segment.SegKind.{SegKind}
-use Rattle.clr_types.specs.declared.segment.SegKind.TheVariants.{Small, Ephemeral, Large}
+use Rattle.clr_types.specs.declared.segment.SegKind.TheVariants.{Small, Ephemeral, Large, Pinned}
 use Rattle.clr_types.specs.Segments.{Layout, first_place, reserved_end, same_kind, is_small_or_ephemeral, stands_in}
 use Rattle.clr_types.specs.Segments.{opening_segment, sealed_kind, sealed_segment, segment_or_empty, segments_of}
 use Rattle.clr_types.specs.Segments.{segment_of, ephemeral, reserved_sum, generation, rest_pieces}
 use Rattle.clr_types.specs.LawfulLayout.{AreDisjoint, IsLawfulSegment, DoesNotCross, IsLawfulLayout, IsTiled}
+use Rattle.clr_types.specs.LawfulLayout.{IsBoundedSegment}
 use Rattle.clr_types.proofs.RisingLists.{all_at}
 use Rattle.clr_types.proofs.ChangedLists.{all_members, all_imply, all-map, out_of_filter}
 use Rattle.clr_types.proofs.TableRows.{AllByRecursion-push}
@@ -37,16 +38,20 @@ sealed-segment s is = record {
   lowest = is.lowest;
   reserved = is.reserved;
   least = is.least;
-  most = λ small. is.most (unsealed s.kind small);
   low = is.low;
   high = is.high;
   aligned = is.aligned;
 }
+
+-- and as bounded
+sealed-bounded : (s : SegInfo) → IsBoundedSegment s → IsBoundedSegment (sealed_segment s)
+sealed-bounded s most = λ small. most (unsealed s.kind small)
   where
     unsealed : (k : SegKind) → is_small_or_ephemeral (sealed_kind k) ≡ true → is_small_or_ephemeral k ≡ true
     unsealed Small small = refl
     unsealed Ephemeral small = refl
     unsealed Large small = small
+    unsealed Pinned small = small
 
 -- what the sealed ones and a new one all have
 all_sealed : (P : SegInfo → Type 0) (ss : List SegInfo) (new : SegInfo) → AllByRecursion (λ s. P (sealed_segment s)) ss
@@ -111,6 +116,7 @@ sealed_larges (s ∷ ss) new = go s.kind (sealed_larges ss new)
     go Small l = l
     go Ephemeral l = l
     go Large l = omega arith
+    go Pinned l = l
 
 -- ---- the machine
 
@@ -139,7 +145,6 @@ module _ (m : Machine) (h : IsLawful m) where
   opened_is_lawful : IsLawfulSegment opened
   opened_is_lawful =
       opened_lawful m h Ephemeral size h.options.segment_least h.options.segment_aligned
-      (λ small. h.options.segment_greatest)
 
   -- and so is the layout with it
   sealed_layout : IsLawfulLayout next
@@ -153,6 +158,9 @@ module _ (m : Machine) (h : IsLawful m) where
         segments = all_sealed IsLawfulSegment segments opened
             (all_imply IsLawfulSegment (λ s. IsLawfulSegment (sealed_segment s)) segments sealed-segment
             layout_is.segments) opened_is_lawful;
+        bounded = all_sealed IsBoundedSegment segments opened
+            (all_imply IsBoundedSegment (λ s. IsBoundedSegment (sealed_segment s)) segments sealed-bounded
+            layout_is.bounded) (λ small. h.options.segment_greatest);
         disjoint = disjoint_added (map sealed_segment segments) opened (disjoint-sealed segments layout_is.disjoint)
             (all-map sealed_segment (λ (s : SegInfo). reserved_end s ≤ m.layout.top) segments layout_is.below_top);
         below_top =
@@ -210,6 +218,7 @@ module _ (m : Machine) (h : IsLawful m) where
   suits_sealed o Small is = is
   suits_sealed o Ephemeral is = is
   suits_sealed o Large is = is
+  suits_sealed o Pinned is = is
 
   -- so each object suits its segment
   suits_there : (o : Object) (r : Option SegInfo) → IfSome r (λ s. Suits m o s.kind)

@@ -7,7 +7,7 @@ use Rattle.clr_types.specs.Segments.{sealed_kind, sealed_segment, segment_or_emp
 use Rattle.clr_types.specs.Rising.{IsIn}
 use Rattle.clr_types.specs.declared.segment.SegInfo.{SegInfo}
 use Rattle.clr_types.specs.declared.segment.SegKind.{SegKind}
-use Rattle.clr_types.specs.declared.segment.SegKind.TheVariants.{Small, Ephemeral, Large}
+use Rattle.clr_types.specs.declared.segment.SegKind.TheVariants.{Small, Ephemeral, Large, Pinned}
 use Rattle.clr_types.proofs.RisingLists.{all_at}
 use Rattle.clr_model.specs.Machine.{Machine, Object}
 use Rattle.clr_model.specs.Lookups.{object_piece}
@@ -42,6 +42,7 @@ one_sealed (s ∷ ss) new =
     none Small = refl
     none Ephemeral = refl
     none Large = refl
+    none Pinned = refl
 
 -- a place of an older segment has generation 2
 sealed_old : (layout : Layout) (size place : ℕ) → place < layout.top → generation (sealed layout size) place ≡ 2

@@ -10,7 +10,7 @@ use Rattle.clr_types.specs.Rising.{IsIn}
 use Rattle.clr_types.specs.Types.{Form, form_at, has_finalizer, slot_kinds, type_row}
 use Rattle.clr_types.proofs.RisingLists.{all_at}
 use Rattle.clr_types.proofs.SortedLists.{sorted_by-rises, out_of_sorted_by, find_by-member}
-use Rattle.clr_types.proofs.ChangedLists.{all_members, all_imply, all-map, rising-distinct}
+use Rattle.clr_types.proofs.ChangedLists.{all_members, all_imply, all-map, rising-distinct, IsIn-map}
 use Rattle.clr_types.proofs.ListMembers.{from-map, distinct_of_sorted, sum-mapped}
 use Rattle.clr_types.proofs.ListSums.{sum-on}
 use Rattle.clr_types.proofs.Shuffles.{shuffled-sorted, shuffled-sum}
@@ -19,7 +19,7 @@ use Rattle.clr_model.specs.Machine.{Value, ref, num, Object, ThreadStep, no_step
 use Rattle.clr_model.specs.Lookups.{place_of, place_or_null, object_named, local_of, local_index, slots_of_named}
 use Rattle.clr_model.specs.Lookups.{type_of_object}
 use Rattle.clr_model.specs.Picture.{picture, renamed_value, renamed_object, renamed_row, renamed_step}
-use Rattle.clr_model.specs.Lawful.{IsBirthNamed, IsFinal, IsPlaceNamed, IsShaped, NumberFits, SuitsItsSegment}
+use Rattle.clr_model.specs.Lawful.{IsFinal, IsLawful, IsPlaceNamed, IsShaped, NumberFits, SuitsItsSegment}
 use Rattle.clr_model.specs.Lawful.{HasItsRoom, AllFrom, IsPresent, IsNullOrPresent, SlotIsPresent, StepIsPresent}
 use Rattle.clr_model.specs.Lawful.{NamesArePresent, HasItsSecond, is_reference_value}
 use Rattle.clr_model.specs.Run.{StandsFor}
@@ -32,6 +32,9 @@ use Rattle.clr_model.proofs.NamedWell.{AreNamed, lawful-named, keeps_apart, plac
 use Rattle.clr_model.proofs.ObjectChanged.{slice_get-map}
 use Rattle.clr_model.proofs.SeenNames.{all-slice_index}
 use Rattle.clr_model.proofs.CollectionLaws.{picture_laid, picture_apart}
+use Rattle.clr_model.proofs.MarkingKept.{marking_renamed}
+use Rattle.clr_model.specs.Reach.{Old}
+use Rattle.clr_types.proofs.SortedLists.{into_sorted_by, same_by_key}
 
 kinds-renamed : (to : ℕ → ℕ) (vs : List Value)
     → map is_reference_value (map (renamed_value to) vs) ≡ map is_reference_value vs
@@ -49,7 +52,7 @@ some-renamed : (to : ℕ → ℕ) (r : Option Object) → is_some (option_map (r
 some-renamed to None = refl
 some-renamed to (Some o) = refl
 
-module _ (m : Machine) (born : IsBirthNamed m) where
+module _ (m : Machine) (lawful : IsLawful m) where
   abbrev to : ℕ → ℕ
   to = place_of m.objects
 
@@ -57,7 +60,7 @@ module _ (m : Machine) (born : IsBirthNamed m) where
   seen = picture m
 
   names : AreNamed m
-  names = lawful-named m born.lawful
+  names = lawful-named m lawful
 
   -- each object that is seen is one of the machine, under its place
   back : (o : Object) → IsIn o seen.objects → (p : Object) × (o ≡ renamed_object to p) × IsIn p m.objects
@@ -71,7 +74,7 @@ module _ (m : Machine) (born : IsBirthNamed m) where
 
   shape-seen : (p : Object) → IsIn p m.objects → IsShaped seen (renamed_object to p)
   shape-seen p i =
-      let is : IsShaped m p = all_at (IsShaped m) i born.lawful.shapes in
+      let is : IsShaped m p = all_at (IsShaped m) i lawful.shapes in
       record {
         named = place-above m names p i;
         typed = is.typed;
@@ -117,7 +120,7 @@ module _ (m : Machine) (born : IsBirthNamed m) where
 
   names-seen : NamesArePresent seen
   names-seen =
-      let h = born.lawful.names in
+      let h = lawful.names in
       record {
         slots =
             all_seen (λ (o : Object). AllByRecursion (SlotIsPresent seen) o.slots)
@@ -180,10 +183,33 @@ module _ (m : Machine) (born : IsBirthNamed m) where
   rooms-seen u [] all = tt
   rooms-seen u (s ∷ ss) all = (room u s all.0, rooms-seen (u + 1) ss all.1)
 
+  -- ---- what a background collection took
+
+  -- no two objects are at one place
+  one-place : (x y : ℕ) → Old m 1 x → Old m 1 y → to x ≡ to y → x ≡ y
+  one-place x y a b e =
+      let o = a.object in let p = b.object in
+      let at : o.place ≡ p.place =
+      sym (place_of-member m.objects names.apart o a.present) ∙ ap to a.named ∙ e ∙ sym (ap to b.named)
+      ∙ place_of-member m.objects names.apart p b.present in
+      let same : o ≡ p =
+      same_by_key (λ (w : Object). w.place) m.objects o p names.apart.places a.present b.present at in
+      sym a.named ∙ ap (λ (w : Object). w.name) same ∙ b.named
+
+  old-seen : (x : ℕ) → Old m 1 x → Old seen 1 (to x)
+  old-seen x a = record {
+    object = renamed_object to a.object;
+    present =
+        into_sorted_by (λ (o : Object). o.name) (renamed_object to a.object) (map (renamed_object to) m.objects)
+        (IsIn-map (renamed_object to) a.present);
+    named = ap to a.named;
+    above = a.above;
+  }
+
   -- The picture of a lawful machine is lawful, and its objects are named by their places.
   pub picture_sound : IsPlaceNamed (picture m)
   picture_sound =
-      let h = born.lawful in
+      let h = lawful in
       record {
         lawful = record {
           options = h.options;
@@ -215,6 +241,7 @@ module _ (m : Machine) (born : IsBirthNamed m) where
           entries = all_names (IsFinal m) (IsFinal seen) m.entries final h.entries;
           ready = all_names (IsFinal m) (IsFinal seen) m.ready final h.ready;
           sums = bounded_alike m seen bytes-seen refl h.sums;
+          marking = marking_renamed m seen to m.background one-place old-seen h.marking;
         };
         places = all_seen (λ (o : Object). o.name ≡ o.place) (λ p i. place_of-member m.objects names.apart p i);
         uncounted = refl;
@@ -222,7 +249,7 @@ module _ (m : Machine) (born : IsBirthNamed m) where
 
 -- what stands for a machine is lawful, and its objects are named by their places
 pub seen_sound : (seen m : Machine) → StandsFor seen m → IsPlaceNamed seen
-seen_sound shown m stands = subst IsPlaceNamed stands.seen_is (picture_sound m stands.lawful)
+seen_sound shown m stands = subst IsPlaceNamed stands.seen_is (picture_sound m stands.lawful.lawful)
 
 -- ---- what is seen at a name
 

@@ -1,6 +1,7 @@
 -- A lawful machine whose objects are named by their places stands for a machine, so what a line leaves of it is
 -- again such a machine.
-use Rattle.std.proofs.Common.{◌≡◌, ℕ, ◌<◌, ◌≤◌, List, [], ◌∷◌, map, refl, sym, ap, ◌∙◌, arith, Option, Some, None, inl}
+use Rattle.std.proofs.Common.{◌≡◌, ℕ, ◌<◌, ◌≤◌, List, [], ◌∷◌, map, refl, sym, ap, subst, ◌∙◌, arith, Option, Some}
+use Rattle.std.proofs.Common.{None, inl}
 use Rattle.std.proofs.Common.{inr}
 use Rattle.std.specs.List.{AllByRecursion}
 use Rattle.std.specs.Option.{option_map}
@@ -29,6 +30,7 @@ use Rattle.clr_model.proofs.NamedWell.{lawful-named}
 use Rattle.clr_model.proofs.RootsChanged.{shaped_alike}
 use Rattle.clr_model.proofs.BirthSeen.{member-present}
 use Rattle.clr_model.proofs.SeenSound.{place_of-seen, seen_sound}
+use Rattle.clr_model.proofs.MarkingKept.{marking_kept, marking_still, old_as}
 
 -- a function that leaves each element leaves the list
 map-still : {X : Type 0} (f : X → X) (xs : List X) → AllByRecursion (λ x. f x ≡ x) xs → map f xs ≡ xs
@@ -90,6 +92,9 @@ module _ (s : Machine) (h : IsPlaceNamed s) where
           promoted1 = is.sums.promoted1;
           promoted2 = is.sums.promoted2;
         };
+        marking =
+            marking_kept s counted s.background
+            (old_as s counted (λ o. o) (λ o. refl) (λ o i. i) (λ o i old. old)) is.marking;
       }
 
   below-top : (o : Object) → IsIn o s.objects → o.name ≤ s.layout.top
@@ -161,6 +166,9 @@ module _ (s : Machine) (h : IsPlaceNamed s) where
       let steps = map-still (renamed_step to) s.steps
       (all_imply (StepIsPresent s) (λ w. renamed_step to w ≡ w) s.steps step-still names.steps) in
       let none = sym h.uncounted in
+      let background = marking_still s to s.background
+      (λ x old. still x (inr (subst (IsPresent s) old.named (member-present s.objects old.object old.present))))
+      h.lawful.marking in
       λ k. record s {
         born = none k;
         objects = objects k;
@@ -169,6 +177,7 @@ module _ (s : Machine) (h : IsPlaceNamed s) where
         entries = entries k;
         ready = ready k;
         steps = steps k;
+        background = background k;
       }
 
   -- such a machine is its own picture

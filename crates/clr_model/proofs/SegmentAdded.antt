@@ -13,10 +13,10 @@ use Rattle.clr_types.specs.Ranges.{Piece, piece_end, Tiles}
 use Rattle.clr_types.specs.declared.segment.SegInfo.{SegInfo}
 use Rattle.clr_types.specs.declared.segment.SegKind.{SegKind}
 use Rattle.clr_types.specs.declared.segment.SegKind.TheVariants.{Small, Ephemeral, Large}
-use Rattle.clr_types.specs.Segments.{Layout, first_place, reserved_end, same_kind, is_small_or_ephemeral, stands_in}
+use Rattle.clr_types.specs.Segments.{Layout, first_place, reserved_end, same_kind, stands_in}
 use Rattle.clr_types.specs.Segments.{opening_segment, segment_or_empty, segments_of, segment_of, ephemeral}
 use Rattle.clr_types.specs.Segments.{reserved_sum, generation, rest_pieces, pieces_in}
-use Rattle.clr_types.specs.LawfulLayout.{AreDisjoint, IsLawfulSegment, IsLawfulLayout, IsTiled}
+use Rattle.clr_types.specs.LawfulLayout.{AreDisjoint, IsLawfulSegment, IsLawfulLayout, IsTiled, IsBoundedSegment}
 use Rattle.clr_types.proofs.RisingLists.{all_at}
 use Rattle.clr_types.proofs.TableRows.{AllByRecursion-push}
 use Rattle.clr_types.proofs.ChangedLists.{all_members, all_imply}
@@ -98,9 +98,8 @@ module _ (m : Machine) (h : IsLawful m) where
     opened = opening_segment m.layout.top kind size
 
     -- the new segment is lawful
-    pub opened_lawful : 262144 ≤ size → size % 4096 ≡ 0 → (is_small_or_ephemeral kind ≡ true → size ≤ 67108864)
-        → IsLawfulSegment (opening_segment m.layout.top kind size)
-    opened_lawful least wide most =
+    pub opened_lawful : 262144 ≤ size → size % 4096 ≡ 0 → IsLawfulSegment (opening_segment m.layout.top kind size)
+    opened_lawful least wide =
         let top = layout_is.top_aligned in
         let low = lowest in
         record {
@@ -108,7 +107,6 @@ module _ (m : Machine) (h : IsLawful m) where
           lowest = low;
           reserved = wide;
           least = least;
-          most = most;
           low = omega arith;
           high = omega arith;
           aligned = omega arith;
@@ -168,7 +166,8 @@ module _ (m : Machine) (h : IsLawful m) where
         let same = sym ephemeral-added in
         record {
           segments = AllByRecursion-push IsLawfulSegment segments new layout_is.segments
-              (opened_lawful Large size least wide (λ small. absurd cc));
+              (opened_lawful Large size least wide);
+          bounded = AllByRecursion-push IsBoundedSegment segments new layout_is.bounded (λ small. absurd cc);
           disjoint = disjoint_added segments new layout_is.disjoint layout_is.below_top;
           below_top =
               AllByRecursion-push (λ (s : SegInfo). reserved_end s ≤ m.layout.top + size) segments new

@@ -9,7 +9,7 @@ use Rattle.clr_model.specs.declared.How.TheVariants.{Decide, Compact}
 use Rattle.clr_model.specs.declared.Collected.{Collected}
 use Rattle.clr_model.specs.Machine.{Machine}
 use Rattle.clr_model.specs.Lookups.{lowest_in_step}
-use Rattle.clr_model.specs.Collection.{Collects, which}
+use Rattle.clr_model.specs.Collection.{Collects, generation_to_collect}
 use Rattle.clr_model.specs.Allocation.{Attempt, roomed, waits, out_of_room, out_of_memory, has_room, own_fits}
 use Rattle.clr_model.specs.Allocation.{IsRefilled, with_layout, sealed, allows, RoomedByRefill, SmallAfterFull}
 use Rattle.clr_model.specs.Allocation.{SmallAfterFirst, SmallByCollection, MakesRoom}
@@ -192,7 +192,8 @@ module _ (t size : ℕ) (attempt : Attempt) (new : Machine) where
 
       -- by that collection
       by_collection : (m : Machine) → SmallByCollection m t size attempt new → Comes m
-      by_collection m (answer, young, c, more) = collects m (which m) Decide answer young c (after_first young more)
+      by_collection m (answer, young, c, more) =
+          collects m (generation_to_collect m) Decide answer young c (after_first young more)
 
       -- by the whole ladder
       pub comes_by : (m : Machine) → MakesRoom m t size attempt new → Comes m

@@ -11,7 +11,7 @@ use Rattle.clr_types.specs.declared.segment.SegKind.TheVariants.{Small, Ephemera
 use Rattle.clr_types.specs.Segments.{Layout, first_place, reserved_end, same_kind, stands_in, ended_at}
 use Rattle.clr_types.specs.Segments.{segment_or_empty, segments_of, segment_of, ephemeral, reserved_sum, generation}
 use Rattle.clr_types.specs.Segments.{with_end}
-use Rattle.clr_types.specs.LawfulLayout.{AreDisjoint, IsLawfulSegment, IsLawfulLayout}
+use Rattle.clr_types.specs.LawfulLayout.{AreDisjoint, IsLawfulSegment, IsLawfulLayout, IsBoundedSegment}
 use Rattle.clr_types.proofs.ChangedLists.{all-changed_by, all-changed_same, length-changed_by, sum_by-changed_by}
 use Rattle.clr_types.proofs.ChangedLists.{filter-changed_by, find-changed_by}
 use Rattle.clr_types.proofs.SegmentFacts.{ephemerals-are, ephemeral-in, lawful_segment, one_base, segment_of-home}
@@ -121,7 +121,6 @@ module _ (layout : Layout) (h : IsLawfulLayout layout) (s : SegInfo) (among : Is
           lowest = is.lowest;
           reserved = is.reserved;
           least = is.least;
-          most = is.most;
           low = omega arith;
           high = within;
           aligned = omega arith;
@@ -147,6 +146,7 @@ module _ (layout : Layout) (h : IsLawfulLayout layout) (s : SegInfo) (among : Is
               (λ u i same. subst (λ (w : SegInfo). IsLawfulSegment (change w))
               (sym (one_base layout h u s i among same)) (raised_lawful aligned))
               (λ u i other. lawful_segment layout h u i);
+          bounded = all-changed_same key s.base change IsBoundedSegment (λ u most. most) layout.segments h.bounded;
           disjoint = disjoint-ended s.base end layout.segments h.disjoint;
           below_top = all-changed_same key s.base change (λ (u : SegInfo). reserved_end u ≤ layout.top) (λ u l. l)
               layout.segments h.below_top;

@@ -1,24 +1,26 @@
 -- How much the ladders of allocation reserve: one segment at most, within the limit.
-use Rattle.std.proofs.Common.{◌≡◌, ℕ, ◌+◌, ◌≤◌, inl, inr, refl, ap, ◌∙◌, arith, List, Bool, true, false}
-use Rattle.std.proofs.Common.{if◌then◌else◌, ◌==◌}
+use Rattle.std.proofs.Common.{◌≡◌, ℕ, ◌+◌, ◌≤◌, inl, inr, ap, arith, true}
 use Rattle.std.proofs.lemmas.Bool.{leb-true}
 use Rattle.clr_types.specs.Segments.{Layout, reserved_sum}
 use Rattle.clr_types.specs.declared.segment.SegKind.{SegKind}
-use Rattle.clr_types.specs.declared.segment.SegKind.TheVariants.{Large}
+use Rattle.clr_types.specs.declared.segment.SegKind.TheVariants.{Large, Pinned}
 use Rattle.clr_model.specs.declared.How.{How}
 use Rattle.clr_model.specs.declared.Collected.{Collected}
-use Rattle.clr_model.specs.Machine.{Machine, Object, Options}
-use Rattle.clr_model.specs.Sweep.{Survivor, swept_kind}
-use Rattle.clr_model.specs.Compaction.{Move}
-use Rattle.clr_model.specs.Collection.{Collects, IsSmallLaid, compacts, decides_to_compact, objects_after, released}
-use Rattle.clr_model.specs.Updates.{all_given_up}
+use Rattle.clr_model.specs.Machine.{Machine, Options}
+use Rattle.clr_model.specs.Collection.{Collects}
+use Rattle.clr_model.proofs.CollectionKeeps.{collects_keeps}
 use Rattle.clr_model.proofs.SmallLadder.{comes_by}
 use Rattle.clr_model.proofs.LargeLadder.{large_comes_by}
+use Rattle.clr_model.proofs.SmallLadder.{either, either_option}
 use Rattle.clr_model.specs.Allocation.{Attempt}
 use Rattle.clr_model.specs.Allocation.{IsRefilled, with_layout, with_segment, sealed, segment_for, allows}
 use Rattle.clr_model.specs.Allocation.{MakesRoom}
 use Rattle.clr_model.specs.Allocation.{IsPlacedIn}
-use Rattle.clr_model.specs.Allocation.{PlacesLarge}
+use Rattle.clr_model.specs.Allocation.{PlacesLarge, PlacesPinned, PinnedAfterFull, RoomedIn, RoomedOrAcquired}
+use Rattle.clr_model.specs.Allocation.{has_room_in, out_of_memory, out_of_room, waits}
+use Rattle.clr_model.specs.Lookups.{lowest_in_step}
+use Rattle.clr_model.specs.declared.How.TheVariants.{Compact}
+use Rattle.std.specs.Prelude.{MatchBool, MatchOption, ◌⊎◌}
 
 -- ---- what is reserved
 
@@ -56,35 +58,11 @@ acquired m new layout size same top allowed =
 
 -- ---- collections
 
-small_top : (compacting : Bool) (layout : Layout) (g : ℕ) (kept : List Survivor) (moves : List Move) (small : Layout)
-    → IsSmallLaid compacting layout g kept moves small → small.top ≡ layout.top
-small_top true layout g kept moves small c = c.top
-small_top false layout g kept moves small c = ap (λ (l : Layout). l.top) c.1
-
-swept_top : (b : Bool) (small : Layout) (kept : List Survivor)
-    → (if b then swept_kind Large small 2 kept else small).top ≡ small.top
-swept_top true small kept = refl
-swept_top false small kept = refl
-
-released_top : (b : Bool) (laid : Layout) (objects : List Object)
-    → (if b then released laid objects else laid).top ≡ laid.top
-released_top true laid objects = refl
-released_top false laid objects = refl
-
 -- a collection reserves nothing
 pub collection_reserves : (m : Machine) (g : ℕ) (how : How) (answer : Collected) (new : Machine)
     → Collects m g how answer new → ReservesNone m new
 collection_reserves m g how answer new c =
-    let begun : Machine = record m { layout = all_given_up m.layout } in
-    record {
-      top =
-          ap (λ (w : Machine). w.layout.top) c.state
-          ∙ released_top (g == 2) c.laid (objects_after begun c.first c.kept c.moves)
-          ∙ ap (λ (l : Layout). l.top) c.large_laid ∙ swept_top (g == 2) c.small c.survive
-          ∙ small_top (compacts how (decides_to_compact begun g c.survive)) begun.layout g c.survive c.moves c.small
-          c.small_laid;
-      options = ap (λ (w : Machine). w.options) c.state;
-    }
+    let keeps = collects_keeps m g how answer new c in record { top = keeps.top; options = keeps.options }
 
 -- ---- the ladder of small objects
 
@@ -118,3 +96,44 @@ place_reserves size place attempt new =
     (λ m layout allowed placed same. acquired m new layout (segment_for m size) same
     (placed_top Large (with_segment m.layout Large (segment_for m size)) size place layout placed) allowed)
     (λ m g how answer mid c. reserves_after m mid new (collection_reserves m g how answer mid c))
+
+-- ---- pinned objects
+
+module _ (size place : ℕ) (attempt : Attempt) (new : Machine) where
+  -- room in segments of a kind, or one more of it
+  acquired_reserves : (kind : SegKind) (m : Machine) (otherwise : Type 0) → (otherwise → ReservesLittle m new)
+      → RoomedOrAcquired kind m size place attempt new otherwise → ReservesLittle m new
+  acquired_reserves kind m otherwise other h =
+      either (has_room_in kind m.layout size) Room (MatchBool (allows m (segment_for m size)) Takes otherwise) h
+      (λ e. by_room)
+      (λ e more. either (allows m (segment_for m size)) Takes otherwise more (λ f. takes f) (λ f. other))
+    where
+      Room : Type 0
+      Room = RoomedIn kind m size place attempt new
+
+      Takes : Type 0
+      Takes =
+          RoomedIn kind (with_layout m (with_segment m.layout kind (segment_for m size))) size place attempt new
+          ⊎ ((attempt ≡ out_of_memory) × (new ≡ m))
+
+      by_room : RoomedIn kind m size place attempt new → ReservesLittle m new
+      by_room (is, layout, placed, same) = relaid m new layout same (placed_top kind m.layout size place layout placed)
+
+      takes : allows m (segment_for m size) ≡ true → Takes → ReservesLittle m new
+      takes may (inl (is, layout, placed, same)) =
+          acquired m new layout (segment_for m size) same
+          (placed_top kind (with_segment m.layout kind (segment_for m size)) size place layout placed) may
+      takes may (inr (is, same)) = unchanged m new same
+
+  -- So does the place of a pinned one.
+  pub pinned_reserves : (m : Machine) → PlacesPinned m size place attempt new → ReservesLittle m new
+  pinned_reserves m =
+      acquired_reserves Pinned m
+      (MatchOption (lowest_in_step m) (PinnedAfterFull m size place attempt new) (λ k. (attempt ≡ waits k) × (new ≡ m)))
+      (λ h. either_option (lowest_in_step m) (PinnedAfterFull m size place attempt new)
+      (λ k. (attempt ≡ waits k) × (new ≡ m)) h full (λ k same. unchanged m new same.1))
+    where
+      full : PinnedAfterFull m size place attempt new → ReservesLittle m new
+      full (answer, after, c, more) =
+          reserves_after m after new (collection_reserves m 2 Compact answer after c)
+          (acquired_reserves Pinned after ((attempt ≡ out_of_room) × (new ≡ after)) (λ h. unchanged after new h.1) more)

@@ -1,6 +1,6 @@
 -- How much a line reserves: no more than 2^30 bytes, whatever it is.
 use Rattle.std.proofs.Common.{◌≡◌, ℕ, ◌+◌, ◌⊎◌, inl, inr, List, length, refl, ap, ◌∙◌, arith, Bool, true, false}
-use Rattle.std.proofs.Common.{if◌then◌else◌, nat_le, unwrap_or}
+use Rattle.std.proofs.Common.{if◌then◌else◌, nat_le, unwrap_or, Some}
 use Rattle.std.specs.Bool.{MatchBool}
 use Rattle.clr_types.specs.Types.{form_at, has_finalizer, mt_of, size_of, type_row}
 use Rattle.clr_types.specs.declared.handle.Handle.{Handle}
@@ -9,20 +9,24 @@ use Rattle.clr_model.specs.declared.Collected.{Collected}
 use Rattle.clr_model.specs.declared.Reply.{Reply}
 use Rattle.clr_model.specs.declared.Reply.TheVariants as reply
 use Rattle.clr_model.specs.declared.Refusal.TheVariants as refusal
-use Rattle.clr_model.specs.Machine.{ThreadStep, no_step, begun_store, begun_new, Machine}
+use Rattle.clr_model.specs.Machine.{ThreadStep, no_step, begun_store, begun_new, Marking, Machine}
 use Rattle.clr_model.specs.Lookups.{lowest_in_step, object_has_finalizer, local_of, step_of}
 use Rattle.clr_model.specs.Reach.{is_suppressed}
 use Rattle.clr_model.specs.Picture.{picture}
 use Rattle.clr_model.specs.Sos.{dumpobj_text, eeheap_text, gchandles_text, finalizequeue_text}
 use Rattle.clr_model.specs.Updates.{with_entry, with_flag, with_handle, with_step, born_at}
-use Rattle.clr_model.specs.Collection.{Collects}
+use Rattle.clr_model.specs.Collection.{Collects, EndsBackground}
 use Rattle.clr_model.specs.Allocation.{context_front, front_taken, with_layout}
 use Rattle.clr_model.specs.Instructions.{Instruction, define_type, new_object, get_slot, set_slot, put_number}
 use Rattle.clr_model.specs.Instructions.{read_number, copy_local, clear_local, suppress_object, reregister_object}
 use Rattle.clr_model.specs.Instructions.{collect_heap, suspend_others, resume_others, begin_set, begin_new, finish_step}
 use Rattle.clr_model.specs.Instructions.{create_handle, fetch_target, fetch_second, free_handle, take_ready, dump_heap}
 use Rattle.clr_model.specs.Instructions.{dump_object, show_root, show_segments, verify_heap, show_handles, show_queues}
-use Rattle.clr_model.specs.Instructions.{where_is}
+use Rattle.clr_model.specs.Instructions.{where_is, compact_large_once, new_pinned, begin_background, step_background}
+use Rattle.clr_model.specs.Instructions.{end_background, show_size}
+use Rattle.clr_model.specs.Background.{IsBegun}
+use Rattle.clr_model.specs.Step.{BeginsBackground, EndsByLine, MakesPinned, StepsBackground}
+use Rattle.clr_model.proofs.CollectionKeeps.{last_pause_keeps}
 use Rattle.clr_model.specs.Checks.{refusal as first_refusal, made_size}
 use Rattle.clr_model.specs.Outcomes.{Outcome, answered, refused}
 use Rattle.clr_model.specs.Step.{born_small, row_of, with_type, MakesSmall, MakesLarge, BeginsNew, FinishesStep}
@@ -31,7 +35,7 @@ use Rattle.clr_model.specs.Step.{Does, type_named}
 use Rattle.clr_model.specs.Laws.{LineReservesLaw}
 use Rattle.clr_model.proofs.SmallLadder.{either, either_option}
 use Rattle.clr_model.proofs.TopGrows.{ReservesLittle, none_is_little, collection_reserves, room_reserves}
-use Rattle.clr_model.proofs.TopGrows.{place_reserves}
+use Rattle.clr_model.proofs.TopGrows.{pinned_reserves, place_reserves}
 
 -- ---- states with the same segments
 
@@ -83,6 +87,14 @@ module _ (m : Machine) (t local type len : ℕ) (outcome : Outcome) (new : Machi
       follows_room m ready new (place_reserves size place attempt ready m placed)
       (ap (λ (w : Machine). w.layout.top) same)
 
+  makes_pinned : MakesPinned m t local type len outcome new → ReservesLittle m new
+  makes_pinned (attempt, ready, place, placed, inl (is, (replied, same))) =
+      follows_room m ready new (pinned_reserves size place attempt ready m placed)
+      (ap (λ (w : Machine). w.layout.top) same)
+  makes_pinned (attempt, ready, place, placed, inr (fails, same)) =
+      follows_room m ready new (pinned_reserves size place attempt ready m placed)
+      (ap (λ (w : Machine). w.layout.top) same)
+
   begins_new : BeginsNew m t local type len outcome new → ReservesLittle m new
   begins_new (attempt, ready, room, inl (is, (replied, same))) =
       follows_room m ready new (room_reserves t size attempt ready m room) (ap (λ (w : Machine). w.layout.top) same)
@@ -126,6 +138,38 @@ module _ (m : Machine) (outcome : Outcome) (new : Machine) where
       done : (answer : Collected) × Collects m g how answer new × (outcome ≡ answered (reply.Collected answer))
           → ReservesLittle m new
       done (answer, c, replied) = none_is_little m new (collection_reserves m g how answer new c)
+
+  begins_background : BeginsBackground m outcome new → ReservesLittle m new
+  begins_background h =
+      let waiting = λ (k : ℕ). (outcome ≡ refused (refusal.Wait k)) × (new ≡ m) in
+      either_option (lowest_in_step m)
+      (((marking : Marking) × IsBegun m marking
+      × Replies outcome reply.Done new (record m { background = Some marking })) ⊎ WantsMemory m outcome new) waiting h
+      begun (λ k same. still m new same.1)
+    where
+      begun : ((marking : Marking) × IsBegun m marking
+          × Replies outcome reply.Done new (record m { background = Some marking })) ⊎ WantsMemory m outcome new
+          → ReservesLittle m new
+      begun (inl (marking, is, (replied, same))) = same_top m new (record m { background = Some marking }) same refl
+      begun (inr (wants, same)) = still m new same
+
+  steps_background : (n : ℕ) → StepsBackground m n outcome new → ReservesLittle m new
+  steps_background n (old, runs, count, marking, scans, (replied, same)) =
+      same_top m new (record m { background = Some marking }) same refl
+
+  ends_background : EndsByLine m outcome new → ReservesLittle m new
+  ends_background h =
+      let waiting = λ (k : ℕ). (outcome ≡ refused (refusal.Wait k)) × (new ≡ m) in
+      either_option (lowest_in_step m)
+      ((marking : Marking) × (m.background ≡ Some marking) × (answer : Collected)
+      × EndsBackground m marking answer new × (outcome ≡ answered (reply.Collected answer))) waiting h
+      done (λ k same. still m new same.1)
+    where
+      done : (marking : Marking) × (m.background ≡ Some marking) × (answer : Collected)
+          × EndsBackground m marking answer new × (outcome ≡ answered (reply.Collected answer)) → ReservesLittle m new
+      done (marking, runs, answer, c, replied) =
+          let keeps = last_pause_keeps m marking answer new c in
+          none_is_little m new (record { top = keeps.top; options = keeps.options })
 
   creates : (row : Handle) → CreatesHandle m row outcome new → ReservesLittle m new
   creates row (inl (h, low, free, (replied, same))) = same_top m new (with_handle m h row) same refl
@@ -173,6 +217,11 @@ does m (fetch_target t to h) outcome new (replied, same) = same_top m new _ same
 does m (fetch_second t to h) outcome new (replied, same) = same_top m new _ same refl
 does m (free_handle t h) outcome new (replied, same) = same_top m new _ same refl
 does m (take_ready t to) outcome new (replied, same) = same_top m new _ same refl
+does m (compact_large_once t) outcome new (replied, same) = same_top m new _ same refl
+does m (new_pinned t local name len) outcome new h = makes_pinned m t local (type_named m name) len outcome new h
+does m (begin_background t) outcome new h = begins_background m outcome new h
+does m (step_background n) outcome new h = steps_background m outcome new n h
+does m (end_background t) outcome new h = ends_background m outcome new h
 does m (dump_heap options) outcome new (inl (live, tests, shown, same)) = still m new same
 does m (dump_heap options) outcome new (inr (wants, same)) = still m new same
 does m (dump_object a) outcome new h = shows m outcome new (dumpobj_text (picture m) a) h
@@ -182,6 +231,8 @@ does m verify_heap outcome new (replied, same) = still m new same
 does m show_handles outcome new h = shows m outcome new (gchandles_text (picture m)) h
 does m show_queues outcome new h = shows m outcome new (finalizequeue_text (picture m)) h
 does m (where_is a) outcome new (replied, same) = still m new same
+does m (show_size a) outcome new (inl (reached, tests, (replied, same))) = still m new same
+does m (show_size a) outcome new (inr (wants, same)) = still m new same
 
 -- A line reserves at most 2^30 bytes, which is the greatest limit.
 pub line_reserves : LineReservesLaw

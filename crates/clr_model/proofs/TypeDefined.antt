@@ -7,12 +7,12 @@ use Rattle.std.specs.Prelude.{MatchOption}
 use Rattle.std.proofs.lemmas.Bool.{lt-leb, le-leb}
 use Rattle.clr_types.specs.Ranges.{Piece, by_place, fits}
 use Rattle.clr_types.specs.Types.{TypeRow, Form, form_of_row, form_at, type_row, size_of, mt_of, number_with_free}
-use Rattle.clr_types.specs.Types.{is_lawful_form, has_finalizer, is_array, slot_kinds}
+use Rattle.clr_types.specs.Types.{is_lawful_form, has_finalizer, is_array, is_array_with_references, slot_kinds}
 use Rattle.clr_types.specs.Segments.{rest_pieces, rest_of, segment_of}
 use Rattle.clr_types.specs.LawfulLayout.{IsTiled, DoesNotCross}
 use Rattle.clr_types.specs.declared.segment.SegInfo.{SegInfo}
 use Rattle.clr_types.specs.declared.segment.SegKind.{SegKind}
-use Rattle.clr_types.specs.declared.segment.SegKind.TheVariants.{Small, Ephemeral, Large}
+use Rattle.clr_types.specs.declared.segment.SegKind.TheVariants.{Small, Ephemeral, Large, Pinned}
 use Rattle.clr_types.proofs.RisingLists.{all_at}
 use Rattle.clr_types.proofs.TableRows.{AllByRecursion-push}
 use Rattle.clr_types.proofs.ChangedLists.{all_imply}
@@ -33,6 +33,7 @@ use Rattle.clr_model.specs.Picture.{picture}
 use Rattle.clr_model.specs.Run.{StandsFor}
 use Rattle.clr_model.proofs.BoundedSums.{bounded_alike, bytes_typed}
 use Rattle.clr_model.proofs.Carried.{IsCarried, carried, refusal_carried_by}
+use Rattle.clr_model.proofs.MarkingKept.{marking_kept, old_as}
 
 module _ (m : Machine) (name : List ℕ) (form : Form) (finalizer : Bool) where
   abbrev defined : Machine
@@ -70,17 +71,23 @@ module _ (m : Machine) (name : List ℕ) (form : Form) (finalizer : Bool) where
   pieces-defined all =
       ap (λ ps. by_place ((ps ++ m.layout.free) ++ rest_pieces m.layout.rests)) (same_pieces m.objects all)
 
-  suits : (o : Object) → object_size m.types o ≡ object_size defined.types o → (k : SegKind) → Suits m o k
+  suits : (o : Object) → type_row m.types o.type ≡ type_row defined.types o.type → (k : SegKind) → Suits m o k
       → Suits defined o k
-  suits o same Small h = subst (λ n. n < m.options.large) same h
-  suits o same Ephemeral h = subst (λ n. n < m.options.large) same h
-  suits o same Large h = subst (λ n. m.options.large ≤ n) same h
+  suits o same Small h =
+      subst (λ (r : Option TypeRow). size_of (form_of_row r) o.len < m.options.large) same h
+  suits o same Ephemeral h =
+      subst (λ (r : Option TypeRow). size_of (form_of_row r) o.len < m.options.large) same h
+  suits o same Large h =
+      subst (λ (r : Option TypeRow). m.options.large ≤ size_of (form_of_row r) o.len) same h
+  suits o same Pinned h =
+      subst (λ (r : Option TypeRow). (is_array (form_of_row r) ≡ true)
+      × (is_array_with_references (form_of_row r) ≡ false)) same h
 
   suits_its : (o : Object) → IsShaped m o → SuitsItsSegment m o → SuitsItsSegment defined o
   suits_its o shape h = go (segment_of m.layout o.place) h
     where
-      same : object_size m.types o ≡ object_size defined.types o
-      same = ap (λ (r : Option TypeRow). size_of (form_of_row r) o.len) (sym (stays o.type shape.typed))
+      same : type_row m.types o.type ≡ type_row defined.types o.type
+      same = sym (stays o.type shape.typed)
 
       go : (r : Option SegInfo) → IfSome r (λ s. Suits m o s.kind) → IfSome r (λ s. Suits defined o s.kind)
       go None h = tt
@@ -177,6 +184,9 @@ module _ (m : Machine) (name : List ℕ) (form : Form) (finalizer : Bool) where
           entries = all_imply (IsFinal m) (IsFinal defined) m.entries final h.entries;
           ready = all_imply (IsFinal m) (IsFinal defined) m.ready final h.ready;
           sums = bounds h;
+          marking =
+              marking_kept m defined m.background
+              (old_as m defined (λ o. o) (λ o. refl) (λ o i. i) (λ o i old. old)) h.marking;
         };
         born = named.born;
       }
@@ -196,8 +206,8 @@ type_defined seen m name form finalizer stands unknown lawful room word = record
 -- the checks of the line, as a function of what they see
 abbrev checks_by : Bool → Bool → Bool → Option Refusal
 checks_by known lawful full = first_of_all (
-    None ∷ None ∷ None ∷ None ∷ None ∷ refuse_if known DuplicateType ∷ refuse_if (not lawful) BadShape
-    ∷ refuse_if full TooManyTypes ∷ None ∷ None ∷ None ∷ None ∷ None ∷ None
+    None ∷ None ∷ None ∷ None ∷ None ∷ None ∷ refuse_if known DuplicateType ∷ refuse_if (not lawful) BadShape
+    ∷ refuse_if full TooManyTypes ∷ None ∷ None ∷ None ∷ None ∷ None ∷ None ∷ None
     ∷ None ∷ None ∷ None ∷ None ∷ [])
 
 module _ (m : Machine) (name : List ℕ) (form : Form) (finalizer : Bool) where

@@ -31,6 +31,10 @@ use Rattle.clr_model.specs.LineGrammar.{spelling}
 use Rattle.clr_model.specs.Parsing.{instruction_in}
 use Rattle.clr_model.proofs.Spelling.{IsUnspaced, words-spaced, spaced-words}
 use Rattle.clr_model.proofs.LineReaders.{instruction_found, instruction_told}
+use Rattle.clr_model.specs.declared.How.TheVariants.{Fit}
+use Rattle.clr_model.specs.Instructions.{compact_large_once, new_pinned, begin_background, step_background}
+use Rattle.clr_model.specs.Instructions.{end_background, show_size}
+use Rattle.clr_model.proofs.ArgumentReaders.{how_least}
 
 -- ---- bytes other than a space
 
@@ -159,6 +163,7 @@ how_free : (how : How) → AreFree (how_words how)
 how_free Decide = tt
 how_free Compact = (text_free (codes "compacting") refl, tt)
 how_free Sweep = (text_free (codes "sweeping") refl, tt)
+how_free Fit = (text_free (codes "fitting") refl, tt)
 
 -- of a mode
 mode_free : (mode : Mode) → AreFree (mode_words mode)
@@ -249,7 +254,7 @@ words_back (reregister_object t local) v =
 words_back (collect_heap t g how) v =
     words-spaced (thread_word t) _ (
       thread_free t v.0,
-      (text_free (codes "collect") refl, (number_free g (let low = v.1 in omega arith), how_free how)),
+      (text_free (codes "collect") refl, (number_free g (let low = how_least g how v.1 in omega arith), how_free how)),
     )
 words_back (suspend_others t) v =
     words-spaced (thread_word t) _ (thread_free t v, (text_free (codes "suspend") refl, tt))
@@ -290,6 +295,23 @@ words_back (free_handle t h) v =
     words-spaced (thread_word t) _ (thread_free t v.0, (text_free (codes "free") refl, (handle_free h v.1, tt)))
 words_back (take_ready t to) v =
     words-spaced (thread_word t) _ (thread_free t v.0, (text_free (codes "finalizer") refl, (local_free to v.1, tt)))
+words_back (compact_large_once t) v =
+    words-spaced (thread_word t) _
+    (thread_free t v, (text_free (codes "compact-large") refl, (text_free (codes "once") refl, tt)))
+words_back (new_pinned t local name len) v =
+    words-spaced (thread_word t) _ (
+      thread_free t v.0,
+      (text_free (codes "new-pinned") refl, (local_free local v.1, (name_free name v.2, (number_free len v.3, tt)))),
+    )
+words_back (begin_background t) v =
+    words-spaced (thread_word t) _
+    (thread_free t v, (text_free (codes "background") refl, (text_free (codes "begin") refl, tt)))
+words_back (step_background n) v =
+    words-spaced (codes "background") _
+    (text_free (codes "background") refl, (text_free (codes "step") refl, (number_free n v, tt)))
+words_back (end_background t) v =
+    words-spaced (thread_word t) _
+    (thread_free t v, (text_free (codes "background") refl, (text_free (codes "end") refl, tt)))
 words_back (dump_heap options) v =
     words-spaced (codes "dumpheap") _ (text_free (codes "dumpheap") refl, options_free options v)
 words_back (dump_object a) v = words-spaced (codes "dumpobj") _ (text_free (codes "dumpobj") refl, (hex_free a, tt))
@@ -300,6 +322,7 @@ words_back verify_heap v = words-spaced (codes "verifyheap") [] (text_free (code
 words_back show_handles v = words-spaced (codes "gchandles") [] (text_free (codes "gchandles") refl, tt)
 words_back show_queues v = words-spaced (codes "finalizequeue") [] (text_free (codes "finalizequeue") refl, tt)
 words_back (where_is a) v = words-spaced (codes "gcwhere") _ (text_free (codes "gcwhere") refl, (hex_free a, tt))
+words_back (show_size a) v = words-spaced (codes "objsize") _ (text_free (codes "objsize") refl, (hex_free a, tt))
 
 -- the instruction of a line is the one that is read from its words
 pub line_read : (bytes : List ℕ) (i : Instruction) → IsLine bytes i → instruction_in (words bytes) ≡ Some i

@@ -1,12 +1,11 @@
 -- After a collection of a younger generation, the pieces fill every segment from its first place to its end.
 use Rattle.std.proofs.Common.{◌≡◌, ◌≢◌, ℕ, ◌<◌, ◌≤◌, inl, inr, List, [], refl, sym, ap, subst, ◌∙◌, arith, Bool, true}
-use Rattle.std.proofs.Common.{false, if◌then◌else◌, ◌&&◌, ◌==◌, length}
+use Rattle.std.proofs.Common.{false, zero, suc, if◌then◌else◌, ◌&&◌, ◌==◌, length}
 use Rattle.std.proofs.lemmas.Bool.{both_ways, ne_eqb}
 use Rattle.std.specs.List.{AllByRecursion, flat_map}
 use Rattle.clr_types.specs.Rising.{IsIn}
 use Rattle.clr_types.specs.Ranges.{Piece}
 use Rattle.clr_types.specs.declared.segment.SegInfo.{SegInfo}
-use Rattle.clr_types.specs.declared.segment.SegKind.TheVariants.{Large}
 use Rattle.clr_types.specs.Segments.{Layout, stands_in, generation, ephemeral, is_small_or_ephemeral, rest_pieces}
 use Rattle.clr_types.specs.LawfulLayout.{IsLawfulLayout, IsTiled}
 use Rattle.clr_types.proofs.SortedLists.{IsDistinctBy}
@@ -17,11 +16,15 @@ use Rattle.clr_model.specs.Machine.{Machine, Object}
 use Rattle.clr_model.specs.Lookups.{pieces, object_piece}
 use Rattle.clr_model.specs.Lawful.{IsLaid}
 use Rattle.clr_model.specs.Reach.{starts, StartOf}
-use Rattle.clr_model.specs.Sweep.{has_condemned_part, taking_part, survivors, swept_kind}
+use Rattle.clr_model.specs.Sweep.{has_condemned_part, taking_part, survivors, swept_others}
 use Rattle.clr_model.specs.Compaction.{Move, moved_by}
 use Rattle.clr_model.specs.Updates.{all_given_up}
-use Rattle.clr_model.specs.Collection.{IsSmallLaid, objects_after, released}
-use Rattle.clr_model.specs.Laws.{YoungTilesLaw}
+use Rattle.clr_model.specs.declared.How.{How}
+use Rattle.clr_model.specs.declared.Collected.{Collected}
+use Rattle.clr_model.specs.Lawful.{IsLawful}
+use Rattle.clr_model.specs.Collection.{IsSmallLaid, objects_after, released, Collects}
+use Rattle.clr_model.proofs.PlainCollections.{PlainlyCollects, plainly, usual_plain}
+use Rattle.clr_model.specs.Laws.{IsPlain}
 use Rattle.clr_model.proofs.Apart.{AreApart}
 use Rattle.clr_model.proofs.CondemnedParts.{ephemeral-takes}
 use Rattle.clr_model.proofs.LawfulPieces.{HasHome, piece-home, object-in-pieces}
@@ -141,13 +144,15 @@ module _ (m : Machine) (h : IsLaid m) (bare : rest_pieces m.layout.rests ≡ [])
 
 -- ---- the law
 
-pub young_tiles : YoungTilesLaw
-young_tiles m g how answer new h young c =
+plain_tiles : (m : Machine) (g : ℕ) (how : How) (answer : Collected) (new : Machine) → IsLawful m → g ≤ 1
+    → PlainlyCollects m g how answer new → AllByRecursion (IsTiled (pieces new)) new.layout.segments
+plain_tiles m g how answer new h young c =
     let least : g ≤ 2 = omega arith in
     let start : Machine = record m { layout = all_given_up m.layout } in
     let laid : IsLaid start = begun_laid m h g least how answer new c in
     let named : AreNamed m = lawful-named m h in
-    let apart : AreApart new.objects = collected_apart start laid named.apart g least how (StartOf start g) answer new c
+    let apart : AreApart new.objects = collected_apart start laid named.apart g least how false (StartOf start g)
+    answer new c
     in
     let not_two : (g == 2) ≡ false = ne_eqb g 2 (λ e. omega arith) in
     let none : rest_pieces (all_given_up m.layout).rests ≡ [] = no_rests (length m.layout.rests) in
@@ -158,7 +163,7 @@ young_tiles m g how answer new h young c =
     (small_is m h g least how answer new c) in
     let layout : (if g == 2 then released c.laid objects else c.laid) ≡ c.small =
     ap (λ b. if b then released c.laid objects else c.laid) not_two ∙ c.large_laid
-    ∙ ap (λ b. if b then swept_kind Large c.small 2 c.survive else c.small) not_two
+    ∙ ap (λ b. if b then swept_others c.small 2 c.survive else c.small) not_two
     in
     subst (λ (w : Machine). AllByRecursion (IsTiled (pieces w)) w.layout.segments) (sym c.state)
     (subst (λ (l : Layout). AllByRecursion
@@ -179,3 +184,18 @@ young_tiles m g how answer new h young c =
         → rest_pieces (all_given_up m.layout).rests ≡ [] → rest_pieces c.small.rests ≡ []
     bare_small true e none = ap rest_pieces e.rests ∙ none
     bare_small false e none = ap (λ (l : Layout). rest_pieces l.rests) e.1 ∙ none
+
+pub young_tiles : (m : Machine) (g : ℕ) (how : How) (answer : Collected) (new : Machine) → IsLawful m → g ≤ 1
+    → IsPlain g how → Collects m g how answer new → AllByRecursion (IsTiled (pieces new)) new.layout.segments
+young_tiles m g how answer new h young usual c =
+    plain_tiles m g how answer new h young
+    (plainly m g how answer new (unslid m.compacts_large (g == 2) (none g young)) (usual_plain g how usual) c)
+  where
+    none : (g : ℕ) → g ≤ 1 → (g == 2) ≡ false
+    none zero l = refl
+    none (suc zero) l = refl
+    none (suc (suc n)) l = absurd (omega arith)
+
+    unslid : (flag full : Bool) → full ≡ false → (flag && full) ≡ false
+    unslid true full e = e
+    unslid false full e = refl

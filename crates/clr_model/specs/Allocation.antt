@@ -1,17 +1,18 @@
--- Room for a new object: contexts, refills, the ladders of small and of large objects.
-use Rattle.std.specs.Prelude.{◌≡◌, ◌==◌, ℕ, ◌+◌, max, List, [], ◌∷◌, ◌++◌, map, if◌then◌else◌, nat_le, Bool, false}
+-- Room for a new object: contexts, refills, the ladders of small, of large and of pinned objects.
+use Rattle.std.specs.Prelude.{◌≡◌, ℕ, ◌+◌, max, [], ◌∷◌, ◌++◌, map, if◌then◌else◌, nat_le, Bool, false}
 use Rattle.std.specs.Prelude.{◌&&◌, ◌||◌, ◌⊎◌, IsTrue, Option, Some, None, MatchOption, MatchBool}
-use Rattle.std.specs.List.{flat_map, list_any}
+use Rattle.std.specs.List.{list_any}
 use Rattle.clr_types.specs.Rising.{IsIn}
-use Rattle.clr_types.specs.Ranges.{Piece, piece_end, fits, range_piece, rounded_up}
+use Rattle.clr_types.specs.Ranges.{Piece, piece_end, fits, rounded_up}
 use Rattle.clr_model.specs.declared.How.TheVariants.{Decide, Compact}
 use Rattle.clr_model.specs.declared.Collected.{Collected}
 use Rattle.clr_model.specs.Machine.{Machine}
 use Rattle.clr_model.specs.Lookups.{lowest_in_step}
 use Rattle.clr_model.specs.Updates.{given_up, with_rest}
-use Rattle.clr_model.specs.Collection.{Collects, which}
+use Rattle.clr_model.specs.Collection.{Collects, generation_to_collect}
+pub use Rattle.clr_model.specs.Fitting.{taken_from}
 use Rattle.clr_types.specs.declared.segment.SegKind.{SegKind}
-use Rattle.clr_types.specs.declared.segment.SegKind.TheVariants.{Ephemeral, Large}
+use Rattle.clr_types.specs.declared.segment.SegKind.TheVariants.{Ephemeral, Large, Pinned}
 use Rattle.clr_types.specs.declared.segment.SegInfo.{SegInfo}
 use Rattle.clr_types.specs.Segments.{Layout, fits_in_tail, with_end, opening_segment, sealed_segment, segments_of}
 use Rattle.clr_types.specs.Segments.{stands_in, ephemeral, reserved_sum, rest_of}
@@ -56,10 +57,6 @@ own_fits layout t size = rest_fits (rest_of layout t) size
 -- how many bytes a new context is to have
 abbrev pub want : ℕ → ℕ
 want size = if nat_le (size + 24) 8192 then 8192 else size
-
--- the free item at the place gives the size from its front, and what is left of it stays
-abbrev pub taken_from : ℕ → ℕ → List Piece → List Piece
-taken_from place size = flat_map (λ i. if i.place == place then range_piece (i.place + size) (piece_end i) else i ∷ [])
 
 -- a context of this many bytes at the front of the free item
 abbrev pub from_item : Layout → ℕ → Piece → ℕ → Layout
@@ -152,7 +149,7 @@ SmallAfterFirst m t size attempt new =
 
 abbrev pub SmallByCollection : Machine → ℕ → ℕ → Attempt → Machine → Type 0
 SmallByCollection m t size attempt new =
-    (answer : Collected) × (young : Machine) × Collects m (which m) Decide answer young
+    (answer : Collected) × (young : Machine) × Collects m (generation_to_collect m) Decide answer young
     × SmallAfterFirst young t size attempt new
 
 -- Room for a small object at the front of the thread's context, by the first of these steps that serves: the context as
@@ -208,4 +205,19 @@ PlacesLarge m size place attempt new =
     (MatchOption (lowest_in_step m)
     ((answer : Collected) × (first : Machine) × Collects m 2 Decide answer first
     × LargeAfterFirst first size place attempt new)
+    (λ k. (attempt ≡ waits k) × (new ≡ m)))
+
+-- ---- pinned objects
+
+abbrev pub PinnedAfterFull : Machine → ℕ → ℕ → Attempt → Machine → Type 0
+PinnedAfterFull m size place attempt new =
+    (answer : Collected) × (full : Machine) × Collects m 2 Compact answer full
+    × RoomedOrAcquired Pinned full size place attempt new ((attempt ≡ out_of_room) × (new ≡ full))
+
+-- A pinned object gets its place by the first of these steps that serves: a place, a new segment, a wait, a full
+-- compacting collection and the first two again.
+abbrev pub PlacesPinned : Machine → ℕ → ℕ → Attempt → Machine → Type 0
+PlacesPinned m size place attempt new =
+    RoomedOrAcquired Pinned m size place attempt new
+    (MatchOption (lowest_in_step m) (PinnedAfterFull m size place attempt new)
     (λ k. (attempt ≡ waits k) × (new ≡ m)))

@@ -5,12 +5,13 @@ use Rattle.std.specs.List.{list_any, list_all}
 use Rattle.std.specs.FinMap as finmap
 use Rattle.clr_types.specs.declared.handle.Kind.TheVariants.{Dependent}
 use Rattle.clr_types.specs.Types.{TypeRow, Form, size_of, is_array, is_lawful_form, number_of, number_with_free, mt_of}
-use Rattle.clr_types.specs.Types.{form_at}
+use Rattle.clr_types.specs.Types.{form_at, is_array_with_references}
 use Rattle.clr_model.specs.declared.Refusal.{Refusal}
 use Rattle.clr_model.specs.declared.Refusal.TheVariants.{UnknownThread, Blocked, MidStep, NotMidStep, UnknownType}
 use Rattle.clr_model.specs.declared.Refusal.TheVariants.{DuplicateType, BadShape, TooManyTypes, NoSlot, Null, Index}
 use Rattle.clr_model.specs.declared.Refusal.TheVariants.{NotReference, IsReference, NoHandle, HandleKind}
-use Rattle.clr_model.specs.declared.Refusal.TheVariants.{TooManyHandles, TooBig, NoObject, Empty}
+use Rattle.clr_model.specs.declared.Refusal.TheVariants.{TooManyHandles, TooBig, NoObject, Empty, HasReferences}
+use Rattle.clr_model.specs.declared.Refusal.TheVariants.{BackgroundRunning, NoBackground}
 use Rattle.clr_types.specs.declared.handle.Handle.{Handle}
 use Rattle.clr_model.specs.Machine.{Value, ref, num, Machine}
 use Rattle.clr_model.specs.Lookups.{object_at, slots_of_named, is_thread, local_of, step_of, is_step}
@@ -19,7 +20,8 @@ use Rattle.clr_model.specs.Instructions.{Instruction, define_type, new_object, g
 use Rattle.clr_model.specs.Instructions.{read_number, copy_local, clear_local, suppress_object, reregister_object}
 use Rattle.clr_model.specs.Instructions.{collect_heap, suspend_others, resume_others, begin_set, begin_new, finish_step}
 use Rattle.clr_model.specs.Instructions.{create_handle, fetch_target, fetch_second, free_handle, take_ready, dump_heap}
-use Rattle.clr_model.specs.Instructions.{dump_object, show_root, where_is}
+use Rattle.clr_model.specs.Instructions.{dump_object, show_root, where_is, compact_large_once, new_pinned}
+use Rattle.clr_model.specs.Instructions.{begin_background, step_background, end_background, show_size}
 
 -- ---- what a line speaks of
 
@@ -45,6 +47,10 @@ thread_of (fetch_target t to h) = Some t
 thread_of (fetch_second t to h) = Some t
 thread_of (free_handle t h) = Some t
 thread_of (take_ready t to) = Some t
+thread_of (compact_large_once t) = Some t
+thread_of (new_pinned t local name len) = Some t
+thread_of (begin_background t) = Some t
+thread_of (end_background t) = Some t
 thread_of _ = None
 
 abbrev pub list_of : {X : Type 0} → Option X → List X
@@ -68,6 +74,7 @@ locals_of (create_handle t kind local second) = local ∷ list_of second
 locals_of (fetch_target t to h) = to ∷ []
 locals_of (fetch_second t to h) = to ∷ []
 locals_of (take_ready t to) = to ∷ []
+locals_of (new_pinned t local name len) = local ∷ []
 locals_of _ = []
 
 -- the local whose object a line works on
@@ -102,6 +109,7 @@ handle_of _ = None
 abbrev pub made_by : Instruction → Option (List ℕ × Option ℕ)
 made_by (new_object t local name len) = Some (name, len)
 made_by (begin_new t local name len) = Some (name, len)
+made_by (new_pinned t local name len) = Some (name, Some len)
 made_by _ = None
 
 -- ---- one check each
@@ -132,6 +140,13 @@ mid_step m i = with_some (thread_of i) (λ t. refuse_if (is_step (step_of m t) &
 
 abbrev pub not_mid_step : Machine → Instruction → Option Refusal
 not_mid_step m i = with_some (thread_of i) (λ t. refuse_if (not (is_step (step_of m t)) && is_finish i) NotMidStep)
+
+-- a background collection begins where none runs, and goes on and ends where one does
+abbrev pub background : Machine → Instruction → Option Refusal
+background m (begin_background t) = refuse_if (is_some m.background) BackgroundRunning
+background m (step_background n) = refuse_if (is_none m.background) NoBackground
+background m (end_background t) = refuse_if (is_none m.background) NoBackground
+background m _ = None
 
 -- a defined type has this method table word, or it is that of free items
 abbrev pub has_mt_from : ℕ → List TypeRow → ℕ → Bool
@@ -165,6 +180,12 @@ bad_shape m i = with_some (made_by i)
 abbrev pub too_many_types : Machine → Instruction → Option Refusal
 too_many_types m (define_type name form finalizer) = refuse_if (nat_le 1000 (length m.types)) TooManyTypes
 too_many_types m _ = None
+
+-- a pinned object is an array without references
+abbrev pub has_references : Machine → Instruction → Option Refusal
+has_references m (new_pinned t local name len) =
+    refuse_if (is_array_with_references (made_form m name)) HasReferences
+has_references m _ = None
 
 abbrev pub no_slot : Instruction → Option Refusal
 no_slot i = refuse_if (list_any (λ k. nat_le 64 k) (locals_of i)) NoSlot
@@ -227,6 +248,7 @@ abbrev pub address_of : Instruction → Option ℕ
 address_of (dump_object a) = Some a
 address_of (show_root a) = Some a
 address_of (where_is a) = Some a
+address_of (show_size a) = Some a
 address_of _ = None
 
 abbrev pub no_object : Machine → Instruction → Option Refusal
@@ -246,7 +268,8 @@ first_of_all (Some refusal ∷ checks) = Some refusal
 -- the first check that fails, apart from those that depend on the course of the line
 abbrev pub refusal : Machine → Instruction → Option Refusal
 refusal m i = first_of_all (
-    unknown_thread i ∷ blocked m i ∷ mid_step m i ∷ not_mid_step m i ∷ unknown_type m i ∷ duplicate_type m i
-    ∷ bad_shape m i
-    ∷ too_many_types m i ∷ no_slot i ∷ null m i ∷ index m i ∷ wrong_slot m i ∷ no_handle m i ∷ handle_kind m i
+    unknown_thread i ∷ blocked m i ∷ mid_step m i ∷ not_mid_step m i ∷ background m i ∷ unknown_type m i
+    ∷ duplicate_type m i ∷ bad_shape m i
+    ∷ too_many_types m i ∷ has_references m i ∷ no_slot i ∷ null m i ∷ index m i ∷ wrong_slot m i ∷ no_handle m i
+    ∷ handle_kind m i
     ∷ too_many_handles m i ∷ too_big m i ∷ no_object m i ∷ empty m i ∷ [])

@@ -1,20 +1,22 @@
--- One blocking collection: what stays, what becomes of handles and queues, and where everything stands afterwards.
+-- One collection: what stays, what becomes of handles and queues, and where everything stands afterwards.
 use Rattle.std.specs.Prelude.{◌≡◌, ℕ, ◌+◌, ◌-◌, ◌*◌, List, [], ◌∷◌, ◌++◌, map, if◌then◌else◌, ◌==◌, nat_lt, Bool, true}
-use Rattle.std.specs.Prelude.{false, ◌&&◌, ◌||◌, not, filter, sum_by, count_by, MatchBool}
+use Rattle.std.specs.Prelude.{false, ◌&&◌, ◌||◌, not, filter, sum_by, count_by, MatchBool, Option, None, Some}
 use Rattle.std.specs.List.{list_any}
 use Rattle.clr_types.specs.declared.handle.Kind.{Kind}
 use Rattle.clr_types.specs.declared.handle.Kind.TheVariants.{Strong, Pinned, Weak, WeakLong, Dependent}
 use Rattle.clr_types.specs.Rising.{Tests}
 use Rattle.clr_model.specs.declared.How.{How}
-use Rattle.clr_model.specs.declared.How.TheVariants.{Decide, Compact, Sweep}
+use Rattle.clr_model.specs.declared.How.TheVariants.{Decide, Compact, Sweep, Fit}
 use Rattle.clr_model.specs.declared.Collected.{Collected}
 use Rattle.clr_types.specs.declared.handle.Handle.{Handle}
-use Rattle.clr_model.specs.Machine.{Object, Sums, Machine}
+use Rattle.clr_model.specs.Machine.{Object, Sums, Marking, Machine}
 use Rattle.clr_model.specs.Lookups.{object_size}
 use Rattle.clr_types.specs.Maps.{map_values}
-use Rattle.clr_model.specs.Reach.{StartOf, First, Kept, woken, is_suppressed}
-use Rattle.clr_model.specs.Sweep.{Survivor, survivors, is_condemned, part_start, taking_part, swept_small, swept_kind}
+use Rattle.clr_model.specs.Reach.{StartOf, StartOfBackground, IsAlive, Kept, woken, is_suppressed}
+use Rattle.clr_model.specs.Sweep.{Survivor, survivors, is_condemned, part_start, taking_part, swept_small, swept_others}
 use Rattle.clr_model.specs.Compaction.{Move, moved_by, IsCompacted}
+use Rattle.clr_model.specs.Fitting.{IsFitted}
+use Rattle.clr_model.specs.Slide.{SlidesLarge}
 use Rattle.clr_model.specs.Updates.{all_given_up}
 use Rattle.clr_types.specs.declared.segment.SegKind.TheVariants.{Ephemeral, Large}
 use Rattle.clr_types.specs.declared.segment.SegInfo.{SegInfo}
@@ -23,8 +25,8 @@ use Rattle.clr_types.specs.Segments.{Layout, generation, same_kind, is_small_or_
 -- ---- how
 
 -- the generation that an allocation of a small object collects
-abbrev pub which : Machine → ℕ
-which m =
+abbrev pub generation_to_collect : Machine → ℕ
+generation_to_collect m =
     if nat_lt m.options.b1 m.sums.promoted1 then (if nat_lt m.options.b2 m.sums.promoted2 then 2 else 1) else 0
 
 -- the bytes of the condemned parts of the small heap
@@ -47,6 +49,13 @@ abbrev pub compacts : How → Bool → Bool
 compacts Decide decision = decision
 compacts Compact decision = true
 compacts Sweep decision = false
+compacts Fit decision = true
+
+abbrev pub is_fit : How → Bool
+is_fit Fit = true
+is_fit Decide = false
+is_fit Compact = false
+is_fit Sweep = false
 
 -- ---- handles and queues
 
@@ -116,27 +125,40 @@ abbrev pub IsSmallLaid : Bool → Layout → ℕ → List Survivor → List Move
 IsSmallLaid compacting layout g kept moves new =
     MatchBool compacting (IsCompacted layout g kept moves new) ((moves ≡ []) × (new ≡ swept_small layout g kept))
 
+-- so, or fitted
+abbrev pub IsSmallLaidBy : How → Bool → Layout → ℕ → List Survivor → List Move → Layout → Type 0
+IsSmallLaidBy how compacting layout g kept moves new =
+    MatchBool (is_fit how) (IsFitted layout kept moves new) (IsSmallLaid compacting layout g kept moves new)
+
 -- ---- the collection
 
--- what a collection does to a machine whose contexts are given up, from this start, with these tests for what stays
-pub record IsCollected (m : Machine) (g : ℕ) (how : How) (start : ℕ
+-- a full collection ends a background collection that runs
+abbrev pub marking_after : Bool → Option Marking → Option Marking
+marking_after full None = None
+marking_after full (Some marking) = if full then None else Some marking
+
+-- What a collection does to a machine whose contexts are given up, from this start, with these tests for what stays,
+-- before the large heap is slid and segments are released.
+pub record IsCollected (m : Machine) (g : ℕ) (how : How) (last_pause : Bool) (start : ℕ
     → Type 0) (answer : Collected) (new : Machine) : Type 0 where
   pub first : ℕ → Bool
   pub kept : ℕ → Bool
-  pub first_is : Tests first (First m start)
+  pub first_is : Tests first (IsAlive m start)
   pub kept_is : Tests kept (Kept m start first)
   pub survive : List Survivor
   pub survive_are : survive ≡ survivors m g kept
   pub small : Layout
   pub moves : List Move
-  pub small_laid : IsSmallLaid (compacts how (decides_to_compact m g survive)) m.layout g survive moves small
+  pub small_laid : IsSmallLaidBy how (compacts how (decides_to_compact m g survive)) m.layout g survive moves small
   pub laid : Layout
-  pub large_laid : laid ≡ (if g == 2 then swept_kind Large small 2 survive else small)
+  pub large_laid : laid ≡ (if g == 2 then swept_others small 2 survive else small)
   pub answered :
       answer
       ≡ record {
         generation = g;
         compacted = compacts how (decides_to_compact m g survive);
+        fitted = is_fit how;
+        background = last_pause;
         kept = count_by (λ o. is_condemned m g o && kept o.name) m.objects;
         freed = count_by (λ o. is_condemned m g o && not (kept o.name)) m.objects;
         promoted1 = bytes_promoted m laid kept moves 0;
@@ -149,15 +171,37 @@ pub record IsCollected (m : Machine) (g : ℕ) (how : How) (start : ℕ
         handles = map_values (row_after first kept) m.handles;
         entries = filter first m.entries;
         ready = m.ready ++ woken m first;
-        layout = if g == 2 then released laid (objects_after m first kept moves) else laid;
+        layout = laid;
         sums = sums_after m g answer.promoted1 answer.promoted2;
+        background = marking_after (g == 2) m.background;
       }
+
+-- ---- what follows on it
+
+-- the large heap slides, or all stays
+abbrev pub SlidesIf : Bool → Machine → Machine → Type 0
+SlidesIf slides m new = MatchBool slides ((moves : List Move) × SlidesLarge m moves new) (new ≡ m)
+
+-- a full collection releases segments at its end
+abbrev pub ended : ℕ → Machine → Machine
+ended g m = record m { layout = if g == 2 then released m.layout m.objects else m.layout }
 
 -- the machine when every context is given up, with which a collection begins
 abbrev pub begun : Machine → Machine
 begun m = record m { layout = all_given_up m.layout }
 
--- a blocking collection of generation g: first every context is given up
-abbrev pub Collects : Machine → ℕ → How → Collected → Machine → Type 0
-Collects m g how answer new =
-    IsCollected (begun m) g how (StartOf (begun m) g) answer new
+-- A blocking collection of generation g: first every context is given up. A full one that finds the flag set slides the
+-- large heap and takes the flag away.
+pub record Collects (m : Machine) (g : ℕ) (how : How) (answer : Collected) (new : Machine) : Type 0 where
+  pub collected : Machine
+  pub slid : Machine
+  pub collects : IsCollected (begun m) g how false (StartOf (begun m) g) answer collected
+  pub slides : SlidesIf (m.compacts_large && (g == 2)) collected slid
+  pub ends : new ≡ record (ended g slid) { compacts_large = m.compacts_large && not (g == 2) }
+
+-- The last pause of a background collection: a sweep of generation 2 that starts from what was marked, too, and leaves
+-- the flag.
+pub record EndsBackground (m : Machine) (marking : Marking) (answer : Collected) (new : Machine) : Type 0 where
+  pub collected : Machine
+  pub collects : IsCollected (begun m) 2 Sweep true (StartOfBackground (begun m) marking) answer collected
+  pub ends : new ≡ ended 2 collected

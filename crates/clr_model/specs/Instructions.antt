@@ -13,6 +13,8 @@ use Rattle.clr_model.specs.declared.command.Command.TheVariants.{Suppress, Rereg
 use Rattle.clr_model.specs.declared.command.Command.TheVariants.{BeginSet, BeginNew, Step, Handle, Fetch, Second, Free}
 use Rattle.clr_model.specs.declared.command.Command.TheVariants.{Finalizer, DumpHeap, DumpObj, GcRoot, EeHeap}
 use Rattle.clr_model.specs.declared.command.Command.TheVariants.{VerifyHeap, GcHandles, FinalizeQueue, GcWhere}
+use Rattle.clr_model.specs.declared.command.Command.TheVariants.{CompactLarge, NewPinned, BackgroundBegin}
+use Rattle.clr_model.specs.declared.command.Command.TheVariants.{BackgroundStep, BackgroundEnd, ObjSize}
 
 -- the options of `dumpheap` as they are written
 pub record DumpOptions : Type 0 where
@@ -45,6 +47,11 @@ pub data Instruction : Type 0 where
   fetch_second : (t to h : ℕ) → Instruction
   free_handle : (t h : ℕ) → Instruction
   take_ready : (t to : ℕ) → Instruction
+  compact_large_once : (t : ℕ) → Instruction
+  new_pinned : (t local : ℕ) (name : List ℕ) (len : ℕ) → Instruction
+  begin_background : (t : ℕ) → Instruction
+  step_background : (n : ℕ) → Instruction
+  end_background : (t : ℕ) → Instruction
   dump_heap : (options : DumpOptions) → Instruction
   dump_object : (a : ℕ) → Instruction
   show_root : (a : ℕ) → Instruction
@@ -53,6 +60,7 @@ pub data Instruction : Type 0 where
   show_handles : Instruction
   show_queues : Instruction
   where_is : (a : ℕ) → Instruction
+  show_size : (a : ℕ) → Instruction
 
 abbrev pub least_of : DumpOptions → ℕ
 least_of o = unwrap_or o.least 0
@@ -101,6 +109,11 @@ instruction_of (Fetch t to h) = fetch_target t to h
 instruction_of (Second t to h) = fetch_second t to h
 instruction_of (Free t h) = free_handle t h
 instruction_of (Finalizer t to) = take_ready t to
+instruction_of (CompactLarge t) = compact_large_once t
+instruction_of (NewPinned t local name len) = new_pinned t local name.now len
+instruction_of (BackgroundBegin t) = begin_background t
+instruction_of (BackgroundStep n) = step_background n
+instruction_of (BackgroundEnd t) = end_background t
 instruction_of (DumpHeap filter) = dump_heap (options_of filter)
 instruction_of (DumpObj a) = dump_object a
 instruction_of (GcRoot a) = show_root a
@@ -109,3 +122,4 @@ instruction_of VerifyHeap = verify_heap
 instruction_of GcHandles = show_handles
 instruction_of FinalizeQueue = show_queues
 instruction_of (GcWhere a) = where_is a
+instruction_of (ObjSize a) = show_size a

@@ -6,6 +6,7 @@ use Rattle.std.specs.FinMap as finmap
 use Rattle.clr_types.specs.Rising.{IsRisingBy}
 use Rattle.clr_types.specs.Ranges.{Piece, fits}
 use Rattle.clr_types.specs.Types.{Form, TypeRow, type_row, size_of, slot_kinds, is_bytes, is_array, form_at}
+use Rattle.clr_types.specs.Types.{is_array_with_references}
 use Rattle.clr_types.specs.Types.{has_finalizer}
 use Rattle.clr_types.specs.declared.handle.Handle.{Handle}
 use Rattle.clr_model.specs.Machine.{Value, ref, num, Object, ThreadStep, no_step, begun_store, begun_new, Options}
@@ -14,10 +15,11 @@ use Rattle.clr_model.specs.Lookups.{object_size, object_named, object_has_finali
 use Rattle.clr_model.specs.Lookups.{pieces, bytes_of, bytes_where, bytes_up_to}
 use Rattle.clr_types.specs.Kinds.{is_dependent}
 use Rattle.clr_model.specs.LineGrammar.{is_name}
+use Rattle.clr_model.specs.Background.{IsLawfulMarking}
 use Rattle.clr_types.specs.Table.{IsLawfulRow, HasDistinctNames}
 use Rattle.clr_types.specs.LawfulLayout.{IsLawfulLayout, IsTiled, DoesNotCross}
 use Rattle.clr_types.specs.declared.segment.SegKind.{SegKind}
-use Rattle.clr_types.specs.declared.segment.SegKind.TheVariants.{Small, Ephemeral, Large}
+use Rattle.clr_types.specs.declared.segment.SegKind.TheVariants.{Small, Ephemeral, Large, Pinned}
 use Rattle.clr_types.specs.Segments.{segment_of, reserved_sum, generation, rest_pieces, rest_of}
 
 -- ---- what a name may be
@@ -75,11 +77,14 @@ pub record IsShaped (m : Machine) (o : Object) : Type 0 where
   pub numbers : AllByRecursion (NumberFits (form_at m.types o.type)) o.slots
   pub suppressed : o.suppressed ≡ true → has_finalizer (type_row m.types o.type) ≡ true
 
--- objects below the threshold stand in small and ephemeral segments, others in large ones
+-- objects below the threshold stand in small and ephemeral segments, others in large ones, arrays without references
+-- also in pinned ones
 abbrev pub Suits : Machine → Object → SegKind → Type 0
 Suits m o Small = object_size m.types o < m.options.large
 Suits m o Ephemeral = object_size m.types o < m.options.large
 Suits m o Large = m.options.large ≤ object_size m.types o
+Suits m o Pinned =
+    (is_array (form_at m.types o.type) ≡ true) × (is_array_with_references (form_at m.types o.type) ≡ false)
 
 abbrev pub SuitsItsSegment : Machine → Object → Type 0
 SuitsItsSegment m o = IfSome (segment_of m.layout o.place) (λ s. Suits m o s.kind)
@@ -160,6 +165,7 @@ pub record IsLawful (m : Machine) : Type 0 where
   pub entries : AllByRecursion (IsFinal m) m.entries
   pub ready : AllByRecursion (IsFinal m) m.ready
   pub sums : AreBoundedSums m
+  pub marking : IfSome m.background (IsLawfulMarking m)
 
 -- a machine whose objects are named by their births, counted from 1
 pub record IsBirthNamed (m : Machine) : Type 0 where

@@ -7,6 +7,9 @@ pub mod Reach
 pub mod Refusals
 pub mod Sweep
 pub mod Compaction
+pub mod Fitting
+pub mod Slide
+pub mod Background
 pub mod Updates
 pub mod Collection
 pub mod Instructions
@@ -21,4 +24,5 @@ pub mod Step
 pub mod Run
 pub mod RoomFollows
 pub mod LargeFollows
+pub mod PinnedFollows
 pub mod Laws

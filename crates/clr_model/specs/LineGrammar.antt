@@ -6,7 +6,7 @@ use Rattle.clr_types.specs.declared.handle.Kind.{Kind}
 use Rattle.clr_types.specs.declared.handle.Kind.TheVariants.{Strong, Pinned, Weak, WeakLong, Dependent}
 use Rattle.clr_types.specs.Types.{Form, class_form, references_form, bytes_form, structs_form, is_pattern_byte}
 use Rattle.clr_model.specs.declared.How.{How}
-use Rattle.clr_model.specs.declared.How.TheVariants.{Decide, Compact, Sweep}
+use Rattle.clr_model.specs.declared.How.TheVariants.{Decide, Compact, Sweep, Fit}
 use Rattle.clr_model.specs.declared.Mode.{Mode}
 use Rattle.clr_model.specs.declared.Mode.TheVariants.{Full, Stat, Short}
 use Rattle.clr_model.specs.declared.Life.{Life}
@@ -16,7 +16,8 @@ use Rattle.clr_model.specs.Instructions.{put_number, read_number, copy_local, cl
 use Rattle.clr_model.specs.Instructions.{reregister_object, collect_heap, suspend_others, resume_others, begin_set}
 use Rattle.clr_model.specs.Instructions.{begin_new, finish_step, create_handle, fetch_target, fetch_second, free_handle}
 use Rattle.clr_model.specs.Instructions.{take_ready, dump_heap, dump_object, show_root, show_segments, verify_heap}
-use Rattle.clr_model.specs.Instructions.{show_handles, show_queues, where_is}
+use Rattle.clr_model.specs.Instructions.{show_handles, show_queues, where_is, compact_large_once, new_pinned}
+use Rattle.clr_model.specs.Instructions.{begin_background, step_background, end_background, show_size}
 use Rattle.clr_nums.specs.Numbers.{hex16}
 use Rattle.clr_model.specs.ReplyText.{spaced, kind_word}
 
@@ -59,6 +60,7 @@ abbrev pub how_words : How → List (List ℕ)
 how_words Decide = []
 how_words Compact = codes "compacting" ∷ []
 how_words Sweep = codes "sweeping" ∷ []
+how_words Fit = codes "fitting" ∷ []
 
 abbrev pub mode_words : Mode → List (List ℕ)
 mode_words Full = []
@@ -114,6 +116,11 @@ words_of (fetch_target t to h) = thread_word t ∷ codes "fetch" ∷ local_word 
 words_of (fetch_second t to h) = thread_word t ∷ codes "second" ∷ local_word to ∷ handle_word h ∷ []
 words_of (free_handle t h) = thread_word t ∷ codes "free" ∷ handle_word h ∷ []
 words_of (take_ready t to) = thread_word t ∷ codes "finalizer" ∷ local_word to ∷ []
+words_of (compact_large_once t) = thread_word t ∷ codes "compact-large" ∷ codes "once" ∷ []
+words_of (new_pinned t local name len) = thread_word t ∷ codes "new-pinned" ∷ local_word local ∷ name ∷ decimal len ∷ []
+words_of (begin_background t) = thread_word t ∷ codes "background" ∷ codes "begin" ∷ []
+words_of (step_background n) = codes "background" ∷ codes "step" ∷ decimal n ∷ []
+words_of (end_background t) = thread_word t ∷ codes "background" ∷ codes "end" ∷ []
 words_of (dump_heap options) = codes "dumpheap" ∷ option_words options
 words_of (dump_object a) = codes "dumpobj" ∷ hex16 a ∷ []
 words_of (show_root a) = codes "gcroot" ∷ hex16 a ∷ []
@@ -122,6 +129,7 @@ words_of verify_heap = codes "verifyheap" ∷ []
 words_of show_handles = codes "gchandles" ∷ []
 words_of show_queues = codes "finalizequeue" ∷ []
 words_of (where_is a) = codes "gcwhere" ∷ hex16 a ∷ []
+words_of (show_size a) = codes "objsize" ∷ hex16 a ∷ []
 
 abbrev pub spelling : Instruction → List ℕ
 spelling i = spaced (words_of i)
@@ -180,6 +188,13 @@ IsHandleForm Pinned second = second ≡ None
 IsHandleForm Weak second = second ≡ None
 IsHandleForm WeakLong second = second ≡ None
 
+-- a collection is of generation 0, 1 or 2, and only one of generation 1 is written with `fitting`
+abbrev pub IsHowForm : ℕ → How → Type 0
+IsHowForm g Decide = g ≤ 2
+IsHowForm g Compact = g ≤ 2
+IsHowForm g Sweep = g ≤ 2
+IsHowForm g Fit = g ≡ 1
+
 -- the numbers fit 64 bits, and names and patterns have their form
 abbrev pub IsWellFormed : Instruction → Type 0
 IsWellFormed (define_type name form finalizer) = IsTrue (is_name name) × IsForm form × IsFinal form finalizer
@@ -192,7 +207,7 @@ IsWellFormed (copy_local t to from) = IsWord t × IsWord to × IsWord from
 IsWellFormed (clear_local t local) = IsWord t × IsWord local
 IsWellFormed (suppress_object t local) = IsWord t × IsWord local
 IsWellFormed (reregister_object t local) = IsWord t × IsWord local
-IsWellFormed (collect_heap t g how) = IsWord t × (g ≤ 2)
+IsWellFormed (collect_heap t g how) = IsWord t × IsHowForm g how
 IsWellFormed (suspend_others t) = IsWord t
 IsWellFormed (resume_others t) = IsWord t
 IsWellFormed (begin_set t into index from) = IsWord t × IsWord into × IsWord index × IsWord from
@@ -203,6 +218,11 @@ IsWellFormed (fetch_target t to h) = IsWord t × IsWord to × IsWord h
 IsWellFormed (fetch_second t to h) = IsWord t × IsWord to × IsWord h
 IsWellFormed (free_handle t h) = IsWord t × IsWord h
 IsWellFormed (take_ready t to) = IsWord t × IsWord to
+IsWellFormed (compact_large_once t) = IsWord t
+IsWellFormed (new_pinned t local name len) = IsWord t × IsWord local × IsTrue (is_name name) × IsWord len
+IsWellFormed (begin_background t) = IsWord t
+IsWellFormed (step_background n) = IsWord n
+IsWellFormed (end_background t) = IsWord t
 IsWellFormed (dump_heap options) = AreOptions options
 IsWellFormed (dump_object a) = IsWord a
 IsWellFormed (show_root a) = IsWord a
@@ -211,6 +231,7 @@ IsWellFormed verify_heap = Unit {0}
 IsWellFormed show_handles = Unit {0}
 IsWellFormed show_queues = Unit {0}
 IsWellFormed (where_is a) = IsWord a
+IsWellFormed (show_size a) = IsWord a
 
 -- the bytes are the line of this instruction
 pub record IsLine (bytes : List ℕ) (i : Instruction) : Type 0 where

@@ -44,8 +44,15 @@ pub record Options : Type 0 where
   pub compact : ℕ
   pub large : ℕ
 
+-- the objects that a background collection took at its first pause, in three parts, in no order
+pub record Marking : Type 0 where
+  pub white : List ℕ
+  pub gray : List ℕ
+  pub black : List ℕ
+
 -- `locals` has 64 for each of 16 threads, by thread. `entries` are the finalisation entries and `ready` the f-reachable
--- queue.
+-- queue. `compacts_large` says whether the next full collection slides the large heap. `background` is the marking of a
+-- background collection that runs.
 pub record Machine : Type 0 where
   pub types : List TypeRow
   pub born : ℕ
@@ -59,3 +66,5 @@ pub record Machine : Type 0 where
   pub layout : Layout
   pub sums : Sums
   pub options : Options
+  pub compacts_large : Bool
+  pub background : Option Marking

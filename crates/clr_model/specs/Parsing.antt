@@ -11,7 +11,7 @@ use Rattle.clr_types.specs.declared.handle.Kind.{Kind}
 use Rattle.clr_types.specs.declared.handle.Kind.TheVariants.{Strong, Pinned, Weak, WeakLong, Dependent}
 use Rattle.clr_types.specs.Types.{class_form, references_form, bytes_form, structs_form, is_pattern_byte}
 use Rattle.clr_model.specs.declared.How.{How}
-use Rattle.clr_model.specs.declared.How.TheVariants.{Decide, Compact, Sweep}
+use Rattle.clr_model.specs.declared.How.TheVariants.{Decide, Compact, Sweep, Fit}
 use Rattle.clr_model.specs.declared.Mode.{Mode}
 use Rattle.clr_model.specs.declared.Mode.TheVariants.{Full, Stat, Short}
 use Rattle.clr_model.specs.declared.Life.{Life}
@@ -21,7 +21,8 @@ use Rattle.clr_model.specs.Instructions.{put_number, read_number, copy_local, cl
 use Rattle.clr_model.specs.Instructions.{reregister_object, collect_heap, suspend_others, resume_others, begin_set}
 use Rattle.clr_model.specs.Instructions.{begin_new, finish_step, create_handle, fetch_target, fetch_second, free_handle}
 use Rattle.clr_model.specs.Instructions.{take_ready, dump_heap, dump_object, show_root, show_segments, verify_heap}
-use Rattle.clr_model.specs.Instructions.{show_handles, show_queues, where_is}
+use Rattle.clr_model.specs.Instructions.{show_handles, show_queues, where_is, compact_large_once, new_pinned}
+use Rattle.clr_model.specs.Instructions.{begin_background, step_background, end_background, show_size}
 use Rattle.clr_model.specs.LineGrammar.{is_name}
 
 -- ---- one word
@@ -122,6 +123,10 @@ one_local_in ws = option_and_then local_in (one_in ws)
 unfoldable pub one_handle_in : List (List ℕ) → Option ℕ
 one_handle_in ws = option_and_then handle_in (one_in ws)
 
+-- a number alone
+unfoldable pub one_number_in : List (List ℕ) → Option ℕ
+one_number_in ws = option_and_then number_in (one_in ws)
+
 -- two words, each read in its way
 abbrev pub both_in : (first second : List ℕ → Option ℕ) → List (List ℕ) → Option (ℕ × ℕ)
 both_in first second ws = option_and_then
@@ -171,17 +176,18 @@ birth_in (a ∷ b ∷ more) = option_and_then
     (λ local. option_and_then (λ name. option_map (λ len. (local, name, len)) (length_in more)) (name_in b))
     (local_in a)
 
--- how to collect
-unfoldable pub how_in : List (List ℕ) → Option How
-how_in [] = Some Decide
-how_in (word ∷ []) = if bytes_eq word (codes "compacting") then Some Compact else
-    (if bytes_eq word (codes "sweeping") then Some Sweep else None)
-how_in (word ∷ other ∷ more) = None
+-- how to collect a generation
+unfoldable pub how_in : ℕ → List (List ℕ) → Option How
+how_in g [] = Some Decide
+how_in g (word ∷ []) = if bytes_eq word (codes "compacting") then Some Compact else
+    (if bytes_eq word (codes "sweeping") then Some Sweep else
+    (if bytes_eq word (codes "fitting") then (if g == 1 then Some Fit else None) else None))
+how_in g (word ∷ other ∷ more) = None
 
 -- a generation, and how to collect it
 unfoldable pub collect_in : ℕ → List (List ℕ) → Option Instruction
 collect_in t [] = None
-collect_in t (word ∷ more) = option_and_then (λ g. option_map (collect_heap t g) (how_in more)) (generation_in word)
+collect_in t (word ∷ more) = option_and_then (λ g. option_map (collect_heap t g) (how_in g more)) (generation_in word)
 
 -- the second local, which a dependent handle has and no other
 unfoldable pub second_in : Kind → List (List ℕ) → Option (Option ℕ)
@@ -216,6 +222,32 @@ begin_in t (verb ∷ ws) =
     if bytes_eq verb (codes "set") then option_map (λ s. begin_set t s.0 s.1 s.2) (store_in ws)
     else (if bytes_eq verb (codes "new") then option_map (λ b. begin_new t b.0 b.1 b.2) (birth_in ws) else None)
 
+-- `once` alone
+unfoldable pub once_in : ℕ → List (List ℕ) → Option Instruction
+once_in t ws = option_and_then (λ word. if bytes_eq word (codes "once") then Some (compact_large_once t) else None)
+    (one_in ws)
+
+-- a pinned object: a local, a name and a length
+unfoldable pub pinned_in : ℕ → List (List ℕ) → Option Instruction
+pinned_in t [] = None
+pinned_in t (a ∷ []) = None
+pinned_in t (a ∷ b ∷ more) = option_and_then (λ local. option_and_then (λ name.
+    option_map (new_pinned t local name) (one_number_in more)) (name_in b)) (local_in a)
+
+-- the pauses of a background collection
+unfoldable pub pause_in : ℕ → List (List ℕ) → Option Instruction
+pause_in t [] = None
+pause_in t (word ∷ ws) =
+    if bytes_eq word (codes "begin") then option_map (λ none. begin_background t) (none_in ws)
+    else (if bytes_eq word (codes "end") then option_map (λ none. end_background t) (none_in ws) else None)
+
+-- the lines on large and pinned objects, and on background collections
+unfoldable pub seldom_in : ℕ → List ℕ → List (List ℕ) → Option Instruction
+seldom_in t verb ws =
+    if bytes_eq verb (codes "new-pinned") then pinned_in t ws
+    else (if bytes_eq verb (codes "background") then pause_in t ws
+    else (if bytes_eq verb (codes "compact-large") then once_in t ws else None))
+
 -- the lines on handles and finalisers
 unfoldable pub rooted_in : ℕ → List ℕ → List (List ℕ) → Option Instruction
 rooted_in t verb ws =
@@ -225,7 +257,8 @@ rooted_in t verb ws =
     else (if bytes_eq verb (codes "free") then option_map (free_handle t) (one_handle_in ws)
     else (if bytes_eq verb (codes "finalizer") then option_map (take_ready t) (one_local_in ws)
     else (if bytes_eq verb (codes "suppress") then option_map (suppress_object t) (one_local_in ws)
-    else (if bytes_eq verb (codes "reregister") then option_map (reregister_object t) (one_local_in ws) else None))))))
+    else (if bytes_eq verb (codes "reregister") then option_map (reregister_object t) (one_local_in ws)
+    else seldom_in t verb ws))))))
 
 -- the lines on collections and on other threads, and those on handles
 unfoldable pub rarely_in : ℕ → List ℕ → List (List ℕ) → Option Instruction
@@ -358,6 +391,12 @@ address_after_in ws = option_and_then address_in (one_in ws)
 unfoldable pub heaps_in : List (List ℕ) → Option Instruction
 heaps_in ws = option_and_then (λ word. if bytes_eq word (codes "-gc") then Some show_segments else None) (one_in ws)
 
+-- steps of a background collection, so many
+unfoldable pub marking_in : List (List ℕ) → Option Instruction
+marking_in [] = None
+marking_in (word ∷ ws) =
+    if bytes_eq word (codes "step") then option_map step_background (one_number_in ws) else None
+
 -- the lines that are no thread's
 unfoldable pub other_in : List ℕ → List (List ℕ) → Option Instruction
 other_in word ws =
@@ -369,7 +408,9 @@ other_in word ws =
     else (if bytes_eq word (codes "eeheap") then heaps_in ws
     else (if bytes_eq word (codes "verifyheap") then option_map (λ none. verify_heap) (none_in ws)
     else (if bytes_eq word (codes "gchandles") then option_map (λ none. show_handles) (none_in ws)
-    else (if bytes_eq word (codes "finalizequeue") then option_map (λ none. show_queues) (none_in ws) else None))))))))
+    else (if bytes_eq word (codes "finalizequeue") then option_map (λ none. show_queues) (none_in ws)
+    else (if bytes_eq word (codes "objsize") then option_map show_size (address_after_in ws)
+    else (if bytes_eq word (codes "background") then marking_in ws else None))))))))))
 
 -- the line of this thread, or of none
 abbrev pub line_in : Option ℕ → List ℕ → List (List ℕ) → Option Instruction

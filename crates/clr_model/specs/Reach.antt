@@ -4,7 +4,7 @@ use Rattle.std.specs.FinMap as finmap
 use Rattle.std.specs.Ordering.{nat_cmp}
 use Rattle.clr_types.specs.Rising.{IsIn}
 use Rattle.clr_types.specs.declared.handle.Handle.{Handle}
-use Rattle.clr_model.specs.Machine.{ref, Object, Machine}
+use Rattle.clr_model.specs.Machine.{ref, Object, Machine, Marking}
 use Rattle.clr_model.specs.Lookups.{object_named}
 use Rattle.clr_types.specs.Kinds.{is_dependent, is_root_kind}
 use Rattle.clr_types.specs.Segments.{generation}
@@ -60,9 +60,17 @@ pub record Old (m : Machine) (g x : ℕ) : Type 0 where
 abbrev pub StartOf : Machine → ℕ → ℕ → Type 0
 StartOf m g x = Roots m x ⊎ Old m g x
 
+-- what a background collection has marked so far
+abbrev pub Marked : Marking → ℕ → Type 0
+Marked marking x = IsIn x marking.gray ⊎ IsIn x marking.black
+
+-- where a background collection starts to mark at its last pause
+abbrev pub StartOfBackground : Machine → Marking → ℕ → Type 0
+StartOfBackground m marking x = Roots m x ⊎ Marked marking x
+
 -- what is alive before finalisation, from this start
-abbrev pub First : Machine → (ℕ → Type 0) → ℕ → Type 0
-First m start = Reach (Edge m) start
+abbrev pub IsAlive : Machine → (ℕ → Type 0) → ℕ → Type 0
+IsAlive m start = Reach (Edge m) start
 
 abbrev pub suppressed_or_none : Option Object → Bool
 suppressed_or_none None = false
@@ -82,3 +90,7 @@ Kept m start first = Reach (Edge m) (λ x. start x ⊎ IsIn x (woken m first))
 -- what is reached from the roots alone
 abbrev pub Live : Machine → ℕ → Type 0
 Live m = Reach (Edge m) (Roots m)
+
+-- what is reached from one object by slots alone
+abbrev pub SlotReach : Machine → ℕ → ℕ → Type 0
+SlotReach m x = Reach (SlotNames m.objects) (λ y. y ≡ x)

@@ -5,6 +5,7 @@ use Rattle.clr_model.specs.declared.Refusal.TheVariants.{TooLong, Syntax, Unknow
 use Rattle.clr_model.specs.declared.Refusal.TheVariants.{UnknownType, DuplicateType, BadShape, TooManyTypes, NoSlot}
 use Rattle.clr_model.specs.declared.Refusal.TheVariants.{Null, Index, NotReference, IsReference, NoHandle, HandleKind}
 use Rattle.clr_model.specs.declared.Refusal.TheVariants.{TooManyHandles, TooBig, Wait, Oom, NoObject, Empty, NoMemory}
+use Rattle.clr_model.specs.declared.Refusal.TheVariants.{HasReferences, BackgroundRunning, NoBackground}
 
 -- the number of the check that a refusal names
 abbrev pub number_of_refusal : Refusal → ℕ
@@ -32,3 +33,6 @@ number_of_refusal Oom = 20
 number_of_refusal NoObject = 21
 number_of_refusal Empty = 22
 number_of_refusal NoMemory = 23
+number_of_refusal HasReferences = 24
+number_of_refusal BackgroundRunning = 25
+number_of_refusal NoBackground = 26

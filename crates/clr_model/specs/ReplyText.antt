@@ -5,13 +5,14 @@ use Rattle.clr_types.specs.declared.handle.Kind.{Kind}
 use Rattle.clr_types.specs.declared.handle.Kind.TheVariants.{Strong, Pinned, Weak, WeakLong, Dependent}
 use Rattle.clr_model.specs.declared.Collected.{Collected}
 use Rattle.clr_model.specs.declared.Reply.{Reply}
-use Rattle.clr_model.specs.declared.Reply.TheVariants.{Done, Place, Number, Mt, HandleNumber, Clean}
+use Rattle.clr_model.specs.declared.Reply.TheVariants.{Done, Place, Number, Mt, HandleNumber, Clean, Size, Scanned}
 use Rattle.clr_model.specs.declared.Reply.TheVariants as reply
 use Rattle.clr_model.specs.declared.Refusal.{Refusal}
 use Rattle.clr_model.specs.declared.Refusal.TheVariants.{TooLong, Syntax, UnknownThread, Blocked, MidStep, NotMidStep}
 use Rattle.clr_model.specs.declared.Refusal.TheVariants.{UnknownType, DuplicateType, BadShape, TooManyTypes, NoSlot}
 use Rattle.clr_model.specs.declared.Refusal.TheVariants.{Null, Index, NotReference, IsReference, NoHandle, HandleKind}
 use Rattle.clr_model.specs.declared.Refusal.TheVariants.{TooManyHandles, TooBig, Wait, Oom, NoObject, Empty, NoMemory}
+use Rattle.clr_model.specs.declared.Refusal.TheVariants.{HasReferences, BackgroundRunning, NoBackground}
 
 -- words with one space between two of them
 abbrev pub spaced : List (List ℕ) → List ℕ
@@ -29,13 +30,16 @@ kind_word Weak = codes "weak"
 kind_word WeakLong = codes "weaklong"
 kind_word Dependent = codes "dependent"
 
--- 0 small, 1 ephemeral, 2 large
+-- 0 small, 1 ephemeral, 2 large, 3 pinned
 abbrev pub segment_word : ℕ → List ℕ
 segment_word kind =
-    if kind == 0 then codes "small" else (if kind == 1 then codes "ephemeral" else codes "large")
+    if kind == 0 then codes "small"
+    else (if kind == 1 then codes "ephemeral" else (if kind == 2 then codes "large" else codes "pinned"))
 
 abbrev pub collected_word : Collected → List ℕ
-collected_word c = if c.compacted then codes "compact" else codes "sweep"
+collected_word c =
+    if c.background then codes "background"
+    else (if c.fitted then codes "fit" else (if c.compacted then codes "compact" else codes "sweep"))
 
 abbrev pub reply_text : Reply → List ℕ
 reply_text Done = codes "ok"
@@ -49,6 +53,10 @@ reply_text (reply.Collected c) =
 reply_text (reply.Where w) = spaced
     (codes "gen" ∷ decimal w.generation ∷ segment_word w.kind ∷ hex16 w.base ∷ codes "size" ∷ decimal w.size ∷ [])
 reply_text Clean = codes "clean"
+reply_text (Size place objects bytes) =
+    spaced (codes "objsize" ∷ hex16 place ∷ codes "objects" ∷ decimal objects ∷ codes "bytes" ∷ decimal bytes ∷ [])
+reply_text (Scanned scanned gray) =
+    spaced (codes "scanned" ∷ decimal scanned ∷ codes "gray" ∷ decimal gray ∷ [])
 
 abbrev pub refusal_words : Refusal → List (List ℕ)
 refusal_words TooLong = codes "too-long" ∷ []
@@ -75,6 +83,9 @@ refusal_words Oom = codes "oom" ∷ []
 refusal_words NoObject = codes "no-object" ∷ []
 refusal_words Empty = codes "empty" ∷ []
 refusal_words NoMemory = codes "nomem" ∷ []
+refusal_words HasReferences = codes "has-references" ∷ []
+refusal_words BackgroundRunning = codes "background-running" ∷ []
+refusal_words NoBackground = codes "no-background" ∷ []
 
 abbrev pub refusal_text : Refusal → List ℕ
 refusal_text r = spaced (codes "refused" ∷ refusal_words r)

@@ -1,5 +1,5 @@
 -- Where a run opens, and what a step of the machine is to what is seen.
-use Rattle.std.specs.Prelude.{◌≡◌, [], None, replicate}
+use Rattle.std.specs.Prelude.{◌≡◌, [], None, false, replicate}
 use Rattle.std.specs.FinMap as finmap
 use Rattle.clr_model.specs.Machine.{no_step, Options, Machine}
 use Rattle.clr_model.specs.Lawful.{IsBirthNamed}
@@ -40,6 +40,8 @@ opening options = record {
   layout = opening_layout options.segment;
   sums = record { spent0 = 0; spent_large = 0; promoted1 = 0; promoted2 = 0 };
   options = options;
+  compacts_large = false;
+  background = None;
 }
 
 -- ---- what is seen

@@ -21,7 +21,7 @@ use Rattle.clr_model.specs.Instructions.{DumpOptions, least_of, greatest_of}
 use Rattle.clr_nums.specs.Numbers.{hex16}
 use Rattle.clr_model.specs.ReplyText.{spaced, place_text, kind_word, segment_word}
 use Rattle.clr_types.specs.declared.segment.SegKind.{SegKind}
-use Rattle.clr_types.specs.declared.segment.SegKind.TheVariants.{Small, Ephemeral, Large}
+use Rattle.clr_types.specs.declared.segment.SegKind.TheVariants.{Small, Ephemeral, Large, Pinned}
 use Rattle.clr_types.specs.declared.segment.SegInfo.{SegInfo}
 use Rattle.clr_types.specs.Segments.{Layout, generation, stands_in, reserved_sum}
 use Rattle.clr_types.specs.declared.item.Item.{Item}
@@ -172,11 +172,13 @@ abbrev pub kind_number : SegKind → ℕ
 kind_number Small = 0
 kind_number Ephemeral = 1
 kind_number Large = 2
+kind_number Pinned = 3
 
 abbrev pub boundary_words : Layout → SegKind → List (List ℕ)
 boundary_words layout Ephemeral = codes "gen1" ∷ hex16 layout.start1 ∷ codes "gen0" ∷ hex16 layout.start0 ∷ []
 boundary_words layout Small = []
 boundary_words layout Large = []
+boundary_words layout Pinned = []
 
 abbrev pub segment_line : Layout → SegInfo → List ℕ
 segment_line layout s =

@@ -1,7 +1,7 @@
 -- What each line does: the state and the outcome that the machine may go on to.
 use Rattle.std.specs.Prelude.{◌≡◌, ℕ, ◌+◌, ◌%◌, ◌<◌, List, [], ◌∷◌, ◌++◌, length, if◌then◌else◌, nat_le, Bool, true}
 use Rattle.std.specs.Prelude.{false, ◌⊎◌, IsTrue, Option, Some, None, MatchOption, MatchBool, slice_get, unwrap_or}
-use Rattle.std.specs.Prelude.{codes}
+use Rattle.std.specs.Prelude.{codes, count_by}
 use Rattle.std.specs.FinMap as finmap
 use Rattle.clr_types.specs.Rising.{Tests}
 use Rattle.clr_types.specs.Types.{TypeRow, Form, mt_of, is_bytes, number_of, size_of, type_row, form_at, has_finalizer}
@@ -14,22 +14,25 @@ use Rattle.clr_model.specs.declared.Reply.{Reply}
 use Rattle.clr_model.specs.declared.Reply.TheVariants as reply
 use Rattle.clr_model.specs.declared.Refusal.TheVariants as refusal
 use Rattle.clr_types.specs.declared.handle.Handle.{Handle}
-use Rattle.clr_model.specs.Machine.{Value, ref, num, ThreadStep, no_step, begun_store, begun_new, Machine}
+use Rattle.clr_model.specs.Machine.{Value, ref, num, ThreadStep, no_step, begun_store, begun_new, Marking, Machine}
 use Rattle.clr_model.specs.Lookups.{object_has_finalizer, place_of, type_of_named, slots_of_named}
-use Rattle.clr_model.specs.Lookups.{local_of, step_of, lowest_in_step}
+use Rattle.clr_model.specs.Lookups.{local_of, step_of, lowest_in_step, bytes_where}
 use Rattle.clr_model.specs.Picture.{picture}
-use Rattle.clr_model.specs.Reach.{Live, is_suppressed}
-use Rattle.clr_model.specs.Collection.{Collects}
+use Rattle.clr_model.specs.Reach.{Live, SlotReach, is_suppressed}
+use Rattle.clr_model.specs.Background.{IsBegun, ScansUpTo}
+use Rattle.clr_model.specs.Collection.{Collects, EndsBackground}
 use Rattle.clr_model.specs.Updates.{with_local, with_slot, with_flag, with_step, with_handle, without_handle}
 use Rattle.clr_model.specs.Updates.{with_entry, born_at}
 use Rattle.clr_model.specs.Allocation.{Attempt, roomed, waits, out_of_room, out_of_memory, MakesRoom, PlacesLarge}
+use Rattle.clr_model.specs.Allocation.{PlacesPinned}
 use Rattle.clr_model.specs.Allocation.{context_front, front_taken, with_layout}
 use Rattle.clr_model.specs.Instructions.{Instruction, define_type, new_object, get_slot, set_slot, put_number}
 use Rattle.clr_model.specs.Instructions.{read_number, copy_local, clear_local, suppress_object, reregister_object}
 use Rattle.clr_model.specs.Instructions.{collect_heap, suspend_others, resume_others, begin_set, begin_new, finish_step}
 use Rattle.clr_model.specs.Instructions.{create_handle, fetch_target, fetch_second, free_handle, take_ready, dump_heap}
 use Rattle.clr_model.specs.Instructions.{dump_object, show_root, show_segments, verify_heap, show_handles, show_queues}
-use Rattle.clr_model.specs.Instructions.{where_is}
+use Rattle.clr_model.specs.Instructions.{where_is, compact_large_once, new_pinned, begin_background, step_background}
+use Rattle.clr_model.specs.Instructions.{end_background, show_size}
 use Rattle.clr_model.specs.Checks.{refusal as first_refusal, made_size}
 use Rattle.clr_model.specs.Sos.{dumpheap_text, dumpobj_text, IsRootText, eeheap_text, gchandles_text}
 use Rattle.clr_model.specs.Sos.{finalizequeue_text, where_of, line}
@@ -130,6 +133,14 @@ MakesLarge m t local type len outcome new =
     (size_of (form_at m.types type) len)))
     ⊎ (Fails attempt outcome × (new ≡ ready)))
 
+-- a new pinned object: a place in a pinned segment, and the birth there, which no sum counts
+abbrev pub MakesPinned : Machine → ℕ → ℕ → ℕ → ℕ → Outcome → Machine → Type 0
+MakesPinned m t local type len outcome new =
+    (attempt : Attempt) × (ready : Machine) × (place : ℕ)
+    × PlacesPinned m (size_of (form_at m.types type) len) place attempt ready
+    × ((attempt ≡ roomed × Replies outcome (reply.Place place) new (born_at ready t local place type len))
+    ⊎ (Fails attempt outcome × (new ≡ ready)))
+
 -- what is begun is kept with the thread
 abbrev pub BeginsNew : Machine → ℕ → ℕ → ℕ → ℕ → Outcome → Machine → Type 0
 BeginsNew m t local type len outcome new =
@@ -172,6 +183,27 @@ abbrev pub CollectsByLine : Machine → ℕ → How → Outcome → Machine → 
 CollectsByLine m g how outcome new =
     MatchOption (lowest_in_step m)
     ((answer : Collected) × Collects m g how answer new × (outcome ≡ answered (reply.Collected answer)))
+    (λ k. (outcome ≡ refused (refusal.Wait k)) × (new ≡ m))
+
+-- the first pause of a background collection, for which there may be no memory
+abbrev pub BeginsBackground : Machine → Outcome → Machine → Type 0
+BeginsBackground m outcome new =
+    MatchOption (lowest_in_step m)
+    (((marking : Marking) × IsBegun m marking
+    × Replies outcome reply.Done new (record m { background = Some marking }))
+    ⊎ WantsMemory m outcome new)
+    (λ k. (outcome ≡ refused (refusal.Wait k)) × (new ≡ m))
+
+abbrev pub StepsBackground : Machine → ℕ → Outcome → Machine → Type 0
+StepsBackground m n outcome new =
+    (old : Marking) × (m.background ≡ Some old) × (count : ℕ) × (marking : Marking) × ScansUpTo m n old count marking
+    × Replies outcome (reply.Scanned count (length marking.gray)) new (record m { background = Some marking })
+
+abbrev pub EndsByLine : Machine → Outcome → Machine → Type 0
+EndsByLine m outcome new =
+    MatchOption (lowest_in_step m)
+    ((marking : Marking) × (m.background ≡ Some marking) × (answer : Collected) × EndsBackground m marking answer new
+    × (outcome ≡ answered (reply.Collected answer)))
     (λ k. (outcome ≡ refused (refusal.Wait k)) × (new ≡ m))
 
 abbrev pub CreatesHandle : Machine → Handle → Outcome → Machine → Type 0
@@ -243,6 +275,11 @@ Does m (free_handle t h) outcome new = Replies outcome reply.Done new (without_h
 Does m (take_ready t to) outcome new =
     let name = head_or_null m.ready in
     RepliesName m outcome name new (record (with_local m t to name) { ready = tail_of m.ready })
+Does m (compact_large_once t) outcome new = Replies outcome reply.Done new (record m { compacts_large = true })
+Does m (new_pinned t local name len) outcome new = MakesPinned m t local (type_named m name) len outcome new
+Does m (begin_background t) outcome new = BeginsBackground m outcome new
+Does m (step_background n) outcome new = StepsBackground m n outcome new
+Does m (end_background t) outcome new = EndsByLine m outcome new
 Does m (dump_heap options) outcome new =
     ((live : ℕ → Bool) × TestsLife options.life live (Live (picture m))
     × (outcome ≡ shown (dumpheap_text (picture m) live options)) × (new ≡ m))
@@ -254,6 +291,11 @@ Does m verify_heap outcome new = Replies outcome reply.Clean new m
 Does m show_handles outcome new = Shows m (gchandles_text (picture m)) outcome new
 Does m show_queues outcome new = Shows m (finalizequeue_text (picture m)) outcome new
 Does m (where_is a) outcome new = Replies outcome (reply.Where (where_of (picture m) a)) new m
+Does m (show_size a) outcome new =
+    ((reached : ℕ → Bool) × Tests reached (SlotReach (picture m) a)
+    × Replies outcome (reply.Size a (count_by (λ o. reached o.name) (picture m).objects)
+    (bytes_where (picture m) (λ o. reached o.name))) new m)
+    ⊎ WantsMemory m outcome new
 
 -- one line that is an instruction: the first check that fails, or what it does
 abbrev pub Obeys : Machine → Instruction → Outcome → Machine → Type 0

@@ -10,7 +10,7 @@ use Rattle.clr_types.specs.declared.segment.SegKind.{SegKind}
 use Rattle.clr_types.specs.declared.segment.SegKind.TheVariants.{Ephemeral}
 use Rattle.clr_types.specs.declared.segment.SegInfo.{SegInfo}
 use Rattle.clr_types.specs.Segments.{Layout, first_place, same_kind, stands_in, ephemeral, generation}
-use Rattle.clr_types.specs.Segments.{is_small_or_ephemeral}
+use Rattle.clr_types.specs.Segments.{is_small_or_ephemeral, is_large_or_pinned}
 
 -- an object that stays, as far as its layout goes: `segment` is the base of the segment in which it stands
 pub record Survivor : Type 0 where
@@ -118,10 +118,10 @@ swept_small layout g kept =
       start0 = end;
     }
 
--- the segments of one of the other kinds, swept in a collection of generation 2
-abbrev pub swept_kind : SegKind → Layout → ℕ → List Survivor → Layout
-swept_kind kind layout g kept = record layout {
-  segments = segments_after (same_kind kind) g (swept_end layout g kept) layout.segments;
-  free = free_after (same_kind kind) layout g
-      (flat_map (swept_free layout g kept) (taking_part (same_kind kind) g layout));
+-- the large and the pinned segments, swept in a collection of generation 2
+abbrev pub swept_others : Layout → ℕ → List Survivor → Layout
+swept_others layout g kept = record layout {
+  segments = segments_after is_large_or_pinned g (swept_end layout g kept) layout.segments;
+  free = free_after is_large_or_pinned layout g
+      (flat_map (swept_free layout g kept) (taking_part is_large_or_pinned g layout));
 }

@@ -117,6 +117,24 @@ pub enum Command<'a> {
         t: u64,
         to: u64,
     },
+    CompactLarge {
+        t: u64,
+    },
+    NewPinned {
+        t: u64,
+        local: u64,
+        name: &'a [u8],
+        len: u64,
+    },
+    BackgroundBegin {
+        t: u64,
+    },
+    BackgroundStep {
+        n: u64,
+    },
+    BackgroundEnd {
+        t: u64,
+    },
     DumpHeap {
         filter: Filter<'a>,
     },
@@ -131,6 +149,9 @@ pub enum Command<'a> {
     GcHandles,
     FinalizeQueue,
     GcWhere {
+        a: u64,
+    },
+    ObjSize {
         a: u64,
     },
 }

@@ -18,6 +18,8 @@ pub enum How {
     Compact,
     /// By sweeping.
     Sweep,
+    /// By compaction of generation 1, whose survivors go first into free items of generation 2.
+    Fit,
 }
 
 /// How `dumpheap` shows what passes.
@@ -49,6 +51,10 @@ pub struct Collected {
     pub generation: u8,
     /// Whether the small heap was compacted, and not swept.
     pub compacted: bool,
+    /// Whether survivors went into older free items first.
+    pub fitted: bool,
+    /// Whether it was the last pause of a background collection.
+    pub background: bool,
     /// How many condemned objects were kept.
     pub kept: u64,
     /// How many condemned objects were freed.
@@ -59,7 +65,7 @@ pub struct Collected {
     pub promoted2: u64,
 }
 
-/// Where an object stands. The kind is 0 small, 1 ephemeral, 2 large.
+/// Where an object stands. The kind is 0 small, 1 ephemeral, 2 large, 3 pinned.
 #[derive(Clone, Copy, Debug, PartialEq, Eq)]
 pub struct Where {
     pub generation: u8,
@@ -87,6 +93,17 @@ pub enum Reply {
     Where(Where),
     /// The heap was verified and is as it should be.
     Clean,
+    /// How many objects, of how many bytes, the slots of the object at this place reach, itself among them.
+    Size {
+        place: u64,
+        objects: u64,
+        bytes: u64,
+    },
+    /// How many gray objects a step of the background marking scanned, and how many are left.
+    Scanned {
+        scanned: u64,
+        gray: u64,
+    },
 }
 
 /// Why a line is refused.
@@ -140,6 +157,12 @@ pub enum Refusal {
     Empty,
     /// Memory for the runtime's own lists is wanting.
     NoMemory,
+    /// A pinned object is an array without references.
+    HasReferences,
+    /// A background collection runs already.
+    BackgroundRunning,
+    /// No background collection runs.
+    NoBackground,
 }
 
 impl Refusal {
@@ -172,6 +195,9 @@ impl Refusal {
             Refusal::NoObject => 21,
             Refusal::Empty => 22,
             Refusal::NoMemory => 23,
+            Refusal::HasReferences => 24,
+            Refusal::BackgroundRunning => 25,
+            Refusal::NoBackground => 26,
         }
     }
 }

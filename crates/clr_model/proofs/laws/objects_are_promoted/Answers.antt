@@ -1,4 +1,4 @@
-use Rattle.clr_model.proofs.CollectedLaws.{promotion}
+use Rattle.clr_model.proofs.SlidLaws.{promotion}
 use Rattle.clr_model.proofs.laws.objects_are_promoted.Goals as goal
 
 pub returns : goal.returns

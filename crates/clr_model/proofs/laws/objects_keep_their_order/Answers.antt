@@ -1,4 +1,4 @@
-use Rattle.clr_model.proofs.OrderKept.{order}
+use Rattle.clr_model.proofs.SlidLaws.{order}
 use Rattle.clr_model.proofs.laws.objects_keep_their_order.Goals as goal
 
 pub returns : goal.returns

@@ -60,7 +60,8 @@ same_layout-bounds rows old new e =
 module _ (cards : List (CoverView ℕ)) (bricks : List (CoverView ℤ)) {Holds : ℕ → Type 0} where
   -- THE GENERAL STEP: no bound moves but ends, no object moves, and no reference is new
   pub tables-kept : (before now : List TypeRow) (old new : HeapView) → HasSameBounds (frame old) (frame new)
-      → HasSameObjects before now (objects_in before old) (objects_in now new) → AreTablesBy before old cards bricks Holds
+      → HasSameObjects before now (objects_in before old) (objects_in now new)
+      → AreTablesBy before old cards bricks Holds
       → AreTablesBy now new cards bricks Holds
   tables-kept before now old new bounds objects t = record {
     cards = t.cards ∙ sym (units-same (frame old) (frame new) bounds 2048);

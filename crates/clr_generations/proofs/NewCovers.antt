@@ -9,7 +9,7 @@ use Rattle.clr_types.specs.LawfulLayout.{IsLawfulSegment}
 use Rattle.clr_types.specs.Segments.{opening_segment, reserved_end, sealed_segment}
 use Rattle.clr_types.specs.declared.segment.SegInfo.{SegInfo}
 use Rattle.clr_types.specs.declared.segment.SegKind.{SegKind}
-use Rattle.clr_types.specs.declared.segment.SegKind.TheVariants.{Ephemeral, Large, Small}
+use Rattle.clr_types.specs.declared.segment.SegKind.TheVariants.{Ephemeral, Large, Small, Pinned}
 use Rattle.clr_bricks.specs.Bricks.{new_bricks}
 use Rattle.clr_cards.specs.Cards.{clear_cards}
 use Rattle.clr_covers.specs.Covers.{begins, cover_of, CoverView, same_values, spans, with_cover, without_cover}
@@ -86,6 +86,7 @@ acquired_units unit h Ephemeral size =
     map-append (units_of unit) (map sealed_segment h.segments) (opening_segment h.top Ephemeral size ∷ [])
     ∙ ap (λ (us : List (ℕ × ℕ)). us ++ (h.top / unit, size / unit) ∷ []) (sealed_units unit h.segments)
 acquired_units unit h Large size = map-append (units_of unit) h.segments (opening_segment h.top Large size ∷ [])
+acquired_units unit h Pinned size = map-append (units_of unit) h.segments (opening_segment h.top Pinned size ∷ [])
 
 -- WHAT IS COVERED with a new segment above the others
 units_taken : {X : Type 0} (v : X) (unit size : ℕ) (cs cs' : List (CoverView X)) (h new : HeapView) (kind : SegKind)

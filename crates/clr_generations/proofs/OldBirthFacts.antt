@@ -7,7 +7,9 @@ use Rattle.clr_types.specs.LawfulLayout.{IsLawfulSegment}
 use Rattle.clr_types.specs.Segments.{ephemeral, Layout, reserved_end, same_kind, segments_of, stands_in}
 use Rattle.clr_types.specs.Types.{form_at, size_of, TypeRow}
 use Rattle.clr_types.specs.declared.segment.SegInfo.{SegInfo}
-use Rattle.clr_types.specs.declared.segment.SegKind.TheVariants.{Ephemeral, Large}
+use Rattle.clr_types.specs.declared.segment.SegKind.TheVariants.{Small, Ephemeral, Large, Pinned}
+use Rattle.clr_types.specs.declared.segment.SegKind.{SegKind}
+use Rattle.clr_types.specs.Segments.{is_large_or_pinned}
 use Rattle.clr_types.proofs.ChangedLists.{out_of_filter}
 use Rattle.clr_types.proofs.ListMembers.{any-in}
 use Rattle.clr_types.proofs.RisingLists.{all_at}
@@ -30,9 +32,15 @@ use Rattle.clr_generations.proofs.KeptTables.{bounds-from}
 use Rattle.clr_generations.proofs.OldBirthLaws.{old_birth_cards}
 use Rattle.clr_generations.proofs.SameBounds.{HasSameBounds, outlines, outlines_ended, units-same}
 
--- what stands in a large segment doesn't stand in the ephemeral one
+large-other : (k : SegKind) → same_kind Large k ≡ true → is_large_or_pinned k ≡ true
+large-other Small e = absurd cc
+large-other Ephemeral e = absurd cc
+large-other Large e = refl
+large-other Pinned e = absurd cc
+
+-- what stands in a large or a pinned segment doesn't stand in the ephemeral one
 pub large_away : (h : HeapView) (s : SegInfo) (place : ℕ) → IsHeap h → IsIn s h.segments
-    → same_kind Large s.kind ≡ true → stands_in s place ≡ true → stands_in (ephemeral (frame h)) place ≡ false
+    → is_large_or_pinned s.kind ≡ true → stands_in s place ≡ true → stands_in (ephemeral (frame h)) place ≡ false
 large_away h s place heap i kind stands = elim (cases_Bool (stands_in (ephemeral (frame h)) place)) [
   | inr out ↦ out
   | inl meets ↦
@@ -62,7 +70,7 @@ module _ (rows : List TypeRow) (old new : HeapView) (place t n : ℕ) (f : HasOn
     bounds : HasSameBounds (frame old) (frame new)
     segment : SegInfo
     listed : IsIn segment old.segments
-    kind : same_kind Large segment.kind ≡ true
+    kind : is_large_or_pinned segment.kind ≡ true
     inside : stands_in segment place ≡ true
 
   home : IsHome
@@ -75,7 +83,7 @@ module _ (rows : List TypeRow) (old new : HeapView) (place t n : ℕ) (f : HasOn
               (ap (λ (l : Layout). l.start1) same) (ap (λ (l : Layout). l.start0) same);
           segment = found.0;
           listed = large.1;
-          kind = large.0;
+          kind = large-other _ large.0;
           inside = subst (λ (p : ℕ). stands_in found.0 p ≡ true) (sym at) found.2;
         }
     | inr (s, i, room, at, same) ↦
@@ -93,7 +101,7 @@ module _ (rows : List TypeRow) (old new : HeapView) (place t n : ℕ) (f : HasOn
           };
           segment = s;
           listed = large.1;
-          kind = large.0;
+          kind = large-other _ large.0;
           inside = between-stands s place (omega arith) (omega arith);
         }
   ]

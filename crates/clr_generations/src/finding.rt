@@ -9,7 +9,7 @@ ghost use Rattle.clr_generations.specs.Laws.{BrickLaw};
 ghost use Rattle.clr_generations.specs.Tables.{AreBricksOf};
 
 use clr_bricks::Bricks;
-use clr_heap::{Heap, Item};
+use clr_heap::{Heap, Item, ObjectKind};
 use clr_types::Types;
 
 /// The object with the place `a`: `None` where no object has it. It is found from the nearest object that a brick
@@ -104,11 +104,12 @@ fn item_from(heap: &Heap, types: &Types, k: usize, start: u64, a: u64) -> Option
 {
     let end = heap.info(k).end;
     let mut place = start;
+    let mut known = ObjectKind::none();
     while place < end && place <= a {
         match heap.hole_end(k, place) {
             Some(high) => place = high,
             None => {
-                let found = heap.item(types, place);
+                let found = heap.item_like(types, place, &mut known);
                 if place == a {
                     return Some(found);
                 }

@@ -18,7 +18,7 @@ ghost use Rattle.clr_generations.specs.Tables.{AreBricksOf};
 use crate::finding::offset_of;
 use clr_bricks::Bricks;
 use clr_heap::{Heap, Item};
-use clr_types::Types;
+use clr_types::{Types, mark};
 
 // Which objects a brick may be renewed for.
 #[derive(Clone, Copy)]
@@ -35,7 +35,7 @@ impl Counted {
         ensures { result ≡ renewing.passes self mt }
     {
         match self {
-            Counted::Marked => mt % 2 == 1,
+            Counted::Marked => mark::is_marked(mt),
             Counted::All => true,
         }
     }

@@ -10,7 +10,7 @@ use Rattle.clr_types.specs.Segments.{empty_segment, first_place, opening_segment
 use Rattle.clr_types.specs.Segments.{sealed_kind, sealed_segment}
 use Rattle.clr_types.specs.declared.segment.SegInfo.{SegInfo}
 use Rattle.clr_types.specs.declared.segment.SegKind.{SegKind}
-use Rattle.clr_types.specs.declared.segment.SegKind.TheVariants.{Small, Ephemeral, Large}
+use Rattle.clr_types.specs.declared.segment.SegKind.TheVariants.{Small, Ephemeral, Large, Pinned}
 use Rattle.clr_heap.specs.Memories.{contains, first_memory, memory_index, word_in}
 use Rattle.clr_heap.specs.Parts.{hole_from}
 use Rattle.clr_heap.specs.View.{first_of, heap_with_segment, HeapView, holes_of, IsHeap, last_of, PartsAre, segment_at}
@@ -130,6 +130,7 @@ module _ (h : HeapView) (i : IsHeap h) (size : ℕ) (j : ℕ) (lj : j < length h
       sealed_has_none Small q = refl
       sealed_has_none Ephemeral q = refl
       sealed_has_none Large q = refl
+      sealed_has_none Pinned q = refl
 
 -- a segment that ends at its first place has no parts
 pub nothing_in : (rows : List TypeRow) (h : HeapView) (k : ℕ) → first_of h k % 8 ≡ 0 → first_of h k ≡ last_of h k

@@ -1,13 +1,12 @@
 -- What holds of every heap still holds where a segment's end moves, a segment comes or one goes.
-use Rattle.std.proofs.Common.{◌≡◌, ℕ, ◌+◌, ◌*◌, ◌/◌, ◌%◌, ◌<◌, ◌≤◌, ◌^◌, true, false, List, [], ◌∷◌, ◌++◌, length}
+use Rattle.std.proofs.Common.{◌≡◌, ℕ, ◌+◌, ◌*◌, ◌/◌, ◌%◌, ◌<◌, ◌≤◌, ◌^◌, false, List, [], ◌∷◌, ◌++◌, length}
 use Rattle.std.proofs.Common.{set, map, refl, ap, ap₂, sym, ◌∙◌, subst, arith}
-use Rattle.std.proofs.lemmas.Bool.{true≢false}
 use Rattle.std.proofs.Math.Seq.{map-set_same}
 use Rattle.std.specs.List.{AllByRecursion, remove}
 use Rattle.clr_mem.specs.Words.{Memory, zeros}
 use Rattle.clr_mem.proofs.Callers.{length-zeros}
-use Rattle.clr_types.specs.Segments.{empty_segment, ended_at, ephemeral, first_place, is_small_or_ephemeral}
-use Rattle.clr_types.specs.Segments.{opening_segment, reserved_end, reserved_sum, same_kind, sealed_kind}
+use Rattle.clr_types.specs.Segments.{empty_segment, ended_at, ephemeral, first_place}
+use Rattle.clr_types.specs.Segments.{opening_segment, reserved_end, reserved_sum, same_kind}
 use Rattle.clr_types.specs.Segments.{sealed_segment, segment_or_empty}
 use Rattle.clr_types.specs.LawfulLayout.{IsLawfulSegment}
 use Rattle.clr_types.specs.declared.segment.SegInfo.{SegInfo}
@@ -59,7 +58,6 @@ kept_ended h k e low high t kept l is above below z =
       lowest = old.lowest;
       reserved = old.reserved;
       least = old.least;
-      most = old.most;
       low = above;
       high = below;
       aligned = z;
@@ -75,6 +73,7 @@ kept_ended h k e low high t kept l is above below z =
       heap = record {
         memories = heap.memories ∙ same;
         segments = all_set IsLawfulSegment h.segments k t heap.segments lawful;
+        highest = bases_same (2 ^ 61) h.segments (set h.segments k t) same heap.highest;
         disjoint = disjoint_same h.segments (set h.segments k t) same heap.disjoint;
         below_top = below_same h.top h.segments (set h.segments k t) same heap.below_top;
         one_ephemeral = same_count (ephemerals (set h.segments k t)) (ephemerals h.segments) young ∙ heap.one_ephemeral;
@@ -91,13 +90,12 @@ kept_ended h k e low high t kept l is above below z =
 
 -- an empty segment is lawful
 new_lawful : (kind : SegKind) (top size : ℕ) → 0x10000000 ≤ top → top % 4096 ≡ 0 → size % 4096 ≡ 0 → 262144 ≤ size
-    → (is_small_or_ephemeral kind ≡ true → size ≤ 67108864) → IsLawfulSegment (opening_segment top kind size)
-new_lawful kind top size lowest z s least most = record {
+    → IsLawfulSegment (opening_segment top kind size)
+new_lawful kind top size lowest z s least = record {
   base = z;
   lowest = lowest;
   reserved = s;
   least = least;
-  most = most;
   low = omega arith;
   high = omega arith;
   aligned = omega arith;
@@ -113,9 +111,10 @@ kept_opening segment limit z least most room small =
       heap = record {
         memories = ap (λ (b : ℕ). (0x10000000, b) ∷ (0x10000000 + segment, b) ∷ []) size;
         segments = (
-          new_lawful Ephemeral 0x10000000 segment (omega arith) refl z least (λ _. most),
-          (new_lawful Large (0x10000000 + segment) segment (omega arith) (omega arith) z least (λ _. most), tt),
+          new_lawful Ephemeral 0x10000000 segment (omega arith) refl z least,
+          (new_lawful Large (0x10000000 + segment) segment (omega arith) (omega arith) z least, tt),
         );
+        highest = (omega arith, (omega arith, tt));
         disjoint = ((omega arith, tt), (tt, tt));
         below_top = (omega arith, (omega arith, tt));
         one_ephemeral = refl;
@@ -164,19 +163,20 @@ module _ (h : HeapView) (low high size : ℕ) (kept : IsKept h low high) (aligne
   size_small : h.top + size ≤ 2 ^ 61 + 2 ^ 30
   size_small = let limit = heap.limit_small in omega arith
 
-  pub kept_with_large : IsKept (heap_with_segment h Large size) low high
-  kept_with_large =
-      let t = opening_segment h.top Large size in
-      let young = of_kind_push Ephemeral h.segments t refl in
-      let small = of_kind_push Small h.segments t refl in
+  pub kept_with_other : (kind : SegKind) → same_kind Ephemeral kind ≡ false → same_kind Small kind ≡ false
+      → IsKept (heap_with_segment h kind size) low high
+  kept_with_other kind not_young not_small =
+      let t = opening_segment h.top kind size in
+      let young = of_kind_push Ephemeral h.segments t not_young in
+      let small = of_kind_push Small h.segments t not_small in
       let z = heap.top_aligned in
       let sum = reserved_push h.segments t in
       record {
         heap = record {
-          memories = shapes_push h.memories h.segments Large h.top size heap.memories aligned;
+          memories = shapes_push h.memories h.segments kind h.top size heap.memories aligned;
           segments = all_push IsLawfulSegment h.segments t heap.segments
-              (new_lawful Large h.top size (top_least h heap) z aligned least
-              (λ other. absurd (true≢false (sym other))));
+              (new_lawful kind h.top size (top_least h heap) z aligned least);
+          highest = all_push (λ (s : SegInfo). s.base ≤ 2 ^ 61) h.segments t heap.highest top;
           disjoint = disjoint_push h.segments t heap.disjoint heap.below_top;
           below_top = all_push (λ (s : SegInfo). reserved_end s ≤ h.top + size) h.segments t lifted (omega arith);
           one_ephemeral = ap length young ∙ heap.one_ephemeral;
@@ -198,19 +198,13 @@ module _ (h : HeapView) (low high size : ℕ) (kept : IsKept h low high) (aligne
     lowest = l.lowest;
     reserved = l.reserved;
     least = l.least;
-    most = λ small. l.most (unsealed s.kind small);
     low = l.low;
     high = l.high;
     aligned = l.aligned;
   }) heap.segments
-    where
-      unsealed : (kind : SegKind) → is_small_or_ephemeral (sealed_kind kind) ≡ true → is_small_or_ephemeral kind ≡ true
-      unsealed Small small = refl
-      unsealed Ephemeral small = refl
-      unsealed Large small = small
 
-  pub kept_with_ephemeral : size ≤ 67108864 → IsKept (with_ephemeral h size) (h.top + 0x1000) (h.top + size)
-  kept_with_ephemeral most =
+  pub kept_with_ephemeral : IsKept (with_ephemeral h size) (h.top + 0x1000) (h.top + size)
+  kept_with_ephemeral =
       let t = opening_segment h.top Ephemeral size in
       let old = map sealed_segment h.segments in
       let same : extents h.segments ≡ extents old = sym (extents_sealed h.segments) in
@@ -226,7 +220,9 @@ module _ (h : HeapView) (low high size : ℕ) (kept : IsKept h low high) (aligne
         heap = record {
           memories = shapes_push h.memories old Ephemeral h.top size (heap.memories ∙ same) aligned;
           segments = all_push IsLawfulSegment old t sealed_lawful
-              (new_lawful Ephemeral h.top size (top_least h heap) z aligned least (λ _. most));
+              (new_lawful Ephemeral h.top size (top_least h heap) z aligned least);
+          highest = all_push (λ (s : SegInfo). s.base ≤ 2 ^ 61) old t
+              (bases_same (2 ^ 61) h.segments old same heap.highest) top;
           disjoint = disjoint_push old t (disjoint_same h.segments old same heap.disjoint)
               (below_same h.top h.segments old same heap.below_top);
           below_top = all_push (λ (s : SegInfo). reserved_end s ≤ h.top + size) old t
@@ -260,6 +256,7 @@ kept_released h k low high kept l other =
         memories = map_remove shape_of h.memories k ∙ ap (λ (ps : List (ℕ × ℕ)). remove ps k) heap.memories
             ∙ sym (map_remove extent_of h.segments k);
         segments = all_remove IsLawfulSegment h.segments k heap.segments;
+        highest = all_remove (λ (s : SegInfo). s.base ≤ 2 ^ 61) h.segments k heap.highest;
         disjoint = disjoint_remove h.segments k heap.disjoint;
         below_top = all_remove (λ (s : SegInfo). reserved_end s ≤ h.top) h.segments k heap.below_top;
         one_ephemeral = ap length young ∙ heap.one_ephemeral;

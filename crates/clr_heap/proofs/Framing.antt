@@ -8,10 +8,10 @@ use Rattle.std.specs.List.{AllByRecursion, remove, sum}
 use Rattle.clr_mem.specs.Words.{Memory}
 use Rattle.clr_types.specs.Segments.{empty_segment, reserved_end, same_kind, sealed_kind, sealed_segment}
 use Rattle.clr_types.specs.Segments.{segment_or_empty}
-use Rattle.clr_types.specs.LawfulLayout.{AreDisjoint, IsLawfulSegment}
+use Rattle.clr_types.specs.LawfulLayout.{AreBounded, AreDisjoint, IsBoundedSegment, IsLawfulSegment}
 use Rattle.clr_types.specs.declared.segment.SegInfo.{SegInfo}
 use Rattle.clr_types.specs.declared.segment.SegKind.{SegKind}
-use Rattle.clr_types.specs.declared.segment.SegKind.TheVariants.{Small, Ephemeral, Large}
+use Rattle.clr_types.specs.declared.segment.SegKind.TheVariants.{Small, Ephemeral, Large, Pinned}
 use Rattle.clr_heap.specs.Memories.{memory_index, shape_of, shapes, IsAbove, IsApart}
 use Rattle.clr_heap.specs.View.{extent_of, extents, HeapView, IsHeap, SameShape, segment_at}
 use Rattle.clr_heap.proofs.Storing.{contains_from, index_below}
@@ -228,6 +228,7 @@ never_ephemeral : (kind : SegKind) → same_kind Ephemeral (sealed_kind kind) �
 never_ephemeral Small = refl
 never_ephemeral Ephemeral = refl
 never_ephemeral Large = refl
+never_ephemeral Pinned = refl
 
 -- a new ephemeral segment after sealed ones is the only one
 pub ephemerals_sealed : (ss : List SegInfo) (t : SegInfo) → same_kind Ephemeral t.kind ≡ true
@@ -284,6 +285,10 @@ memories_apart h i = subst IsApart (sym i.memories) (apart_from_disjoint h.segme
 
 pub lawful_at : (h : HeapView) (k : ℕ) → IsHeap h → k < length h.segments → IsLawfulSegment (segment_at h k)
 lawful_at h k i l = all_at IsLawfulSegment h.segments k empty_segment i.segments l
+
+pub bounded_at : (h : HeapView) (k : ℕ) → AreBounded h.segments → k < length h.segments
+    → IsBoundedSegment (segment_at h k)
+bounded_at h k all l = all_at IsBoundedSegment h.segments k empty_segment all l
 
 pub below_top_at : (h : HeapView) (k : ℕ) → IsHeap h → k < length h.segments → reserved_end (segment_at h k) ≤ h.top
 below_top_at h k i l = all_at (λ (s : SegInfo). reserved_end s ≤ h.top) h.segments k empty_segment i.below_top l

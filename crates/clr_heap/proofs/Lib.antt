@@ -10,6 +10,8 @@ pub mod Halves
 pub mod Rules
 pub mod Finding
 pub mod Changing
+pub mod Drafting
+pub mod Filling
 pub mod Listing
 pub mod Sealing
 pub mod Runs
@@ -22,3 +24,5 @@ pub mod Addresses
 pub mod Young
 pub mod Zeroing
 pub mod Swaps
+pub mod Naming
+pub mod ObjectKinds

@@ -1,6 +1,7 @@
 -- The objects, free items and holes of a segment, placed end to end, and how words spell them.
-use Rattle.std.specs.Prelude.{◌≡◌, ℕ, zero, suc, ◌+◌, ◌-◌, ◌*◌, ◌/◌, ◌%◌, ◌≤◌, ◌⊎◌, List, [], ◌∷◌, ◌++◌, length, Option}
+use Rattle.std.specs.Prelude.{◌≡◌, ℕ, zero, suc, ◌+◌, ◌-◌, ◌/◌, ◌%◌, ◌≤◌, ◌⊎◌, List, [], ◌∷◌, ◌++◌, length, Option}
 use Rattle.std.specs.Prelude.{Some, None, nat_le, nat_lt, nat_eq, if◌then◌else◌, ◌==◌, map, false}
+pub use Rattle.clr_types.specs.Bits.{unmarked}
 use Rattle.clr_types.specs.Types.{TypeRow, form_at, size_of, is_array, mt_of}
 use Rattle.clr_types.specs.Ranges.{Piece, piece_end}
 use Rattle.clr_types.specs.declared.item.Item.{Item}
@@ -34,10 +35,6 @@ abbrev pub items_in : List Part → List Item
 items_in [] = []
 items_in (item_part i ∷ ps) = i ∷ items_in ps
 items_in (rest_part low high ∷ ps) = items_in ps
-
--- a method table word without its mark
-abbrev pub unmarked : ℕ → ℕ
-unmarked w = w / 2 * 2
 
 -- the number of the type that a method table word names
 abbrev pub type_number : ℕ → ℕ

@@ -1,17 +1,17 @@
 -- The heap as its callers see it.
 use Rattle.std.specs.Prelude.{◌≡◌, ℕ, ◌+◌, ◌-◌, ◌%◌, ◌^◌, ◌<◌, ◌≤◌, List, [], ◌∷◌, ◌++◌, length, get_or, map, find}
-use Rattle.std.specs.Prelude.{nat_eq, if◌then◌else◌, ◌==◌, Option, Some, None, replicate}
+use Rattle.std.specs.Prelude.{nat_eq, nat_le, if◌then◌else◌, ◌==◌, Bool, ◌&&◌, Option, Some, None, replicate}
 use Rattle.std.specs.List.{AllByRecursion}
 use Rattle.clr_mem.specs.Words.{Memory}
 use Rattle.clr_types.specs.Types.{TypeRow, form_at, is_array, mt_of}
 use Rattle.clr_types.specs.Ranges.{Piece}
 use Rattle.clr_types.specs.Segments.{Layout, first_place, reserved_end, same_kind, empty_segment, segments_of}
-use Rattle.clr_types.specs.Segments.{reserved_sum, ephemeral, opening_segment, sealed_segment}
+use Rattle.clr_types.specs.Segments.{reserved_sum, ephemeral, opening_segment, sealed_segment, stands_in}
 use Rattle.clr_types.specs.LawfulLayout.{AreDisjoint, IsLawfulSegment}
 use Rattle.clr_types.specs.declared.item.Item.{Item}
 use Rattle.clr_types.specs.declared.segment.SegInfo.{SegInfo}
 use Rattle.clr_types.specs.declared.segment.SegKind.{SegKind}
-use Rattle.clr_types.specs.declared.segment.SegKind.TheVariants.{Small, Ephemeral, Large}
+use Rattle.clr_types.specs.declared.segment.SegKind.TheVariants.{Small, Ephemeral, Large, Pinned}
 use Rattle.clr_heap.specs.Memories.{first_memory, HasWord, word_in, store_in, memory_index, shapes}
 use Rattle.clr_heap.specs.Parts.{item_at, items_in, NamesItem, Part, parts, Sight, Spells}
 
@@ -42,6 +42,7 @@ extents ss = map extent_of ss
 pub record IsHeap (h : HeapView) : Type 0 where
   pub memories : shapes h.memories ≡ extents h.segments
   pub segments : AllByRecursion IsLawfulSegment h.segments
+  pub highest : AllByRecursion (λ (s : SegInfo). s.base ≤ 2 ^ 61) h.segments
   pub disjoint : AreDisjoint h.segments
   pub below_top : AllByRecursion (λ (s : SegInfo). reserved_end s ≤ h.top) h.segments
   pub one_ephemeral : length (segments_of Ephemeral (frame h)) ≡ 1
@@ -82,6 +83,10 @@ holes_of h k = if same_kind (segment_at h k).kind Ephemeral then h.rests else []
 -- the word at an address
 abbrev pub word_of : HeapView → ℕ → ℕ
 word_of h a = word_in h.memories a
+
+-- whether the word at an address names a place of the ephemeral segment from `low` on
+abbrev pub names_from : HeapView → ℕ → ℕ → Bool
+names_from h low a = nat_le low (word_of h a) && stands_in (ephemeral (frame h)) (word_of h a)
 
 -- the heap with a word written
 abbrev pub stored : HeapView → ℕ → ℕ → HeapView
@@ -231,6 +236,7 @@ abbrev pub acquired : HeapView → SegKind → ℕ → HeapView
 acquired h Small size = heap_with_segment h Small size
 acquired h Ephemeral size = with_ephemeral h size
 acquired h Large size = heap_with_segment h Large size
+acquired h Pinned size = heap_with_segment h Pinned size
 
 -- the heap at the start
 abbrev pub opening_heap : ℕ → ℕ → HeapView

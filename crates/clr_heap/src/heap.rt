@@ -6,6 +6,7 @@ ghost use Rattle.clr_types.specs.LawfulLayout.{IsLawfulSegment};
 ghost use Rattle.clr_heap.specs.Memories.{first_memory};
 ghost use Rattle.clr_heap.specs.View.{no_rests};
 
+pub use crate::heap::draft::{HeapDraft, SegmentHead};
 pub use crate::heap::segments::AcquireFault;
 use clr_mem::{Mem, NoMemory};
 use clr_types::{FIRST_OFFSET, SegInfo, SegKind, Span};
@@ -13,6 +14,7 @@ use std::alloc::{AllocError, Global};
 use std::marker::Model;
 
 mod contexts;
+mod draft;
 mod rest;
 mod segments;
 mod words;

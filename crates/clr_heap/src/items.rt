@@ -6,6 +6,7 @@ ghost use Rattle.clr_heap.specs.View.{freed, HasHead, HasItem, placed, SameShape
 
 use crate::Item;
 use crate::heap::Heap;
+use clr_types::mark::unmarked;
 use clr_types::{FREE_MT, TypeId, Types};
 
 impl Heap {
@@ -16,7 +17,7 @@ impl Heap {
         requires { HasItem types.now self.now a }
         ensures { result ≡ item_at types.now (word_of self.now) a }
     {
-        let type_id = types.of_mt(self.word(a) / 2 * 2);
+        let type_id = types.of_mt(unmarked(self.word(a)));
         let len = length_of(self, types, a, type_id);
         let size = types.item_size(type_id, len);
         Item {
@@ -37,7 +38,7 @@ impl Heap {
         requires room { a + 8 < 2 ^ 64 }
         ensures { result ≡ item_at types.now (word_of self.now) a }
     {
-        let type_id = types.of_mt(mt / 2 * 2);
+        let type_id = types.of_mt(unmarked(mt));
         let len = length_in_segment(self, types, k, a, type_id);
         let size = types.item_size(type_id, len);
         Item {

@@ -1,11 +1,13 @@
 // Heaps that are built part by part, and what is read back from them.
 ghost use Rattle.std.specs.Prelude.{◌≡◌, ◌≢◌, ◌^◌, ℕ, ◌+◌, ◌-◌, ◌%◌, ◌<◌, ◌≤◌, [], ◌∷◌, ◌++◌};
-ghost use Rattle.std.specs.Prelude.{false, length, get_or, set, IfOk, None};
+ghost use Rattle.std.specs.Prelude.{false, length, get_or, set, IfOk, None, OnOk};
+ghost use Rattle.clr_types.specs.Segments.{opening_segment, reserved_sum};
 ghost use Rattle.clr_types.specs.Types.{form_at, size_of};
 ghost use Rattle.clr_heap.specs.Parts.{IsMakeable, item_part, made_item, rest_part};
-ghost use Rattle.clr_heap.specs.View.{IsWalkable, last_of, no_rests, parts_of, PartsAre, segment_at};
+ghost use Rattle.clr_heap.specs.View.{frame, IsWalkable, last_of, no_rests, parts_of, PartsAre, segment_at};
 
-use crate::{AcquireFault, Heap, SegKind};
+use crate::{AcquireFault, Heap, HeapDraft, SegInfo, SegKind, SegmentHead};
+use clr_mem::{Mem, NoMemory};
 use clr_types::{Shape, TypeId, Types};
 use std::alloc::Global;
 use std::process::Abort;
@@ -264,5 +266,68 @@ fn segments_go(rt: HostRuntime) -> Result<(), Fail> {
         Ok((3, 0x1010_0000))
     );
     assert_eq!(rt; heap.top(), 0x1014_0000);
+    Ok(())
+}
+
+// Adds an empty segment to a draft.
+fn add_empty(
+    draft: &mut HeapDraft,
+    alloc: Global,
+    kind: SegKind,
+    base: u64,
+    size: u64,
+) -> Result<(), NoMemory>
+    requires aligned { base % 4096 ≡ 0 }
+    requires lowest { 0x10000000 ≤ base }
+    requires above { draft.old.top ≤ base }
+    requires highest { base ≤ 2 ^ 61 }
+    requires whole { size % 4096 ≡ 0 }
+    requires least { 262144 ≤ size }
+    requires within_limit { reserved_sum (frame draft.old) + size ≤ draft.old.limit }
+    ensures segments { OnOk result (draft.new.segments
+        ≡ draft.old.segments ++ opening_segment base kind size ∷ []) }
+    ensures top { OnOk result (draft.new.top ≡ base + size) }
+    ensures limit { OnOk result (draft.new.limit ≡ draft.old.limit) }
+{
+    draft.lawful();
+    let info = SegInfo::empty(kind, base, size);
+    let start = info.end;
+    let head = SegmentHead {
+        info,
+        start1: start,
+        start0: start,
+    };
+    let memory = Mem::new(alloc, base, size)?;
+    draft.add_segment(head, memory)
+}
+
+#[test]
+fn a_draft_with_a_long_segment_becomes_a_heap(rt: HostRuntime) -> Result<(), Fail> {
+    let mut draft = HeapDraft::empty(rt.alloc(), 0x4000_0000)?;
+    add_empty(
+        &mut draft,
+        rt.alloc(),
+        SegKind::Small,
+        0x1000_0000,
+        134_217_728,
+    )?;
+    add_empty(
+        &mut draft,
+        rt.alloc(),
+        SegKind::Ephemeral,
+        0x1800_0000,
+        262_144,
+    )?;
+    assert_eq!(rt; draft.reserved(), 134_479_872);
+    assert!(rt; draft.has(SegKind::Small) && !draft.has(SegKind::Large));
+    let heap = draft.finish();
+    assert!(rt; heap.segments() == 2);
+    assert_eq!(rt; heap.info(0).reserved, 134_217_728);
+    assert_eq!(rt; heap.boundaries(), (0x1800_1000, 0x1800_1000));
+    assert_eq!(rt;
+        (heap.gen_of(0x1000_1000), heap.gen_of(0x1800_1000)),
+        (2, 0)
+    );
+    assert_eq!(rt; heap.top(), 0x1804_0000);
     Ok(())
 }

@@ -1,15 +1,17 @@
 // Walks over the items of a segment.
 ghost use Rattle.std.specs.Prelude.{◌≡◌, ℕ, ◌+◌, ◌<◌, ◌≤◌, ◌^◌, length, None};
+ghost use Rattle.clr_heap.specs.ObjectKinds.{IsObjectKind};
 ghost use Rattle.clr_heap.specs.Parts.{hole_from, item_at};
 ghost use Rattle.clr_heap.specs.View.{AfterItem, AreWalkable, CanWalk, heap_items, holes_of, item_with_place};
 ghost use Rattle.clr_heap.specs.View.{items_between, IsWalkable, listing, only_object, sight, word_of};
 
 use crate::heap::Heap;
-use crate::{Item, SegKind};
+use crate::{Item, ObjectKind, SegKind};
 use clr_types::Types;
 use std::marker::Model;
 
-// Where a walk over segment `k` stands, where it ends, and a place up to which no hole starts.
+// Where a walk over segment `k` stands, where it ends, a place up to which no hole starts, and the kind of the last
+// object.
 #[derive(Clone, Copy)]
 struct Cursor<'a> {
     heap: &'a Heap,
@@ -18,6 +20,7 @@ struct Cursor<'a> {
     place: u64,
     end: u64,
     next_hole: u64,
+    known: ObjectKind,
 }
 
 /// The items of a segment that are left of a walk, by rising address. Holes are passed over. Clauses see it as their
@@ -68,7 +71,9 @@ impl<'a> Iterator for Walk<'a> {
             self.cursor.place = spot.place;
             return None;
         }
-        let found = item_on(now.heap, now.types, now.k, spot.place, now.end);
+        let mut known = now.known;
+        let found = item_on(now.heap, now.types, now.k, spot.place, now.end, &mut known);
+        self.cursor.known = known;
         self.cursor.place = spot.place + found.size;
         Some(found)
     }
@@ -97,6 +102,7 @@ impl Heap {
                 place,
                 end: segment.end,
                 next_hole,
+                known: ObjectKind::none(),
             },
         }
     }
@@ -188,14 +194,23 @@ fn skip_holes(heap: &Heap, types: &Types, k: usize, from: u64, end: u64) -> u64
     place
 }
 
-// The item at `place`, on a walk to `end`.
-fn item_on(heap: &Heap, types: &Types, k: usize, place: u64, end: u64) -> Item
+// The item at `place`, on a walk to `end`, and the kind that is known behind it.
+fn item_on(
+    heap: &Heap,
+    types: &Types,
+    k: usize,
+    place: u64,
+    end: u64,
+    known: &mut ObjectKind,
+) -> Item
     requires walk { CanWalk (sight types.now heap.now k) heap.now.memories place end }
     requires below { place < end }
     requires free { hole_from (holes_of heap.now k) place ≡ None }
+    requires known { IsObjectKind types.now known.old }
     ensures after { AfterItem (sight types.now heap.now k) heap.now.memories place end }
     ensures item { result ≡ item_at types.now (word_of heap.now) place }
     ensures size { place + result.size ≤ end }
+    ensures known { IsObjectKind types.now known.new }
 {
-    heap.item(types, place)
+    heap.item_like(types, place, known)
 }

@@ -42,6 +42,7 @@ heap-rested h new rests heap shape count =
     subst (λ (g : HeapView). IsHeap (record g { rests = rests })) (sym shape.others) (record {
       memories = shape.memories ∙ heap.memories;
       segments = heap.segments;
+      highest = heap.highest;
       disjoint = heap.disjoint;
       below_top = heap.below_top;
       one_ephemeral = heap.one_ephemeral;

@@ -3,6 +3,7 @@
 use Rattle.std.proofs.Common.{◌≡◌, ◌≢◌, ◌⊎◌, inl, inr, ℕ, ◌+◌, ◌-◌, ◌%◌, ◌<◌, ◌≤◌, Bool, true, Option, List, [], ◌∷◌}
 use Rattle.std.proofs.Common.{◌++◌, filter, refl, ap, sym, ◌∙◌, subst, arith}
 use Rattle.std.proofs.lemmas.Bool.{cases_eq, ne_eqb}
+use Rattle.clr_types.specs.Bits.{suppressed_bit}
 use Rattle.clr_mem.specs.Words.{byte_of}
 use Rattle.clr_types.specs.Rising.{IsIn}
 use Rattle.clr_types.specs.Types.{Form, form_at, has_finalizer, is_array, size_of, TypeRow}
@@ -291,7 +292,8 @@ clean_with_type rows row h held clean i listed object =
     let word = word_of h in
     record {
       header = subst (λ (r : Option TypeRow). (word (i.place - 8) ≡ 0)
-          ⊎ ((word (i.place - 8) ≡ 0x40000000) × (has_finalizer r ≡ true))) (sym (row-stays rows row i.type_id.0 known))
+          ⊎ ((word (i.place - 8) ≡ suppressed_bit) × (has_finalizer r ≡ true)))
+          (sym (row-stays rows row i.type_id.0 known))
           was.header;
       padding = subst (λ (f : Form). AreZero word (i.place + slots_end f i.len) (i.place + i.size - 8))
           (sym (form-stays rows row i.type_id.0 known)) was.padding;

@@ -2,6 +2,7 @@
 use Rattle.std.proofs.Common.{◌≡◌, ◌↔◌, ℕ, ◌+◌, ◌-◌, ◌/◌, ◌%◌, ◌≤◌, inl, inr, Bool, true, false, not, ◌&&◌, List, []}
 use Rattle.std.proofs.Common.{◌∷◌, Option, if◌then◌else◌, ◌==◌, refl, ap, sym, ◌∙◌, subst, arith}
 use Rattle.std.proofs.lemmas.Bool.{eq-eqb, eqb-false, eqb-true, ne_eqb}
+use Rattle.clr_types.specs.Bits.{suppressed_bit}
 use Rattle.clr_types.specs.Rising.{changed_by, first, IsIn, later}
 use Rattle.clr_types.specs.Types.{bytes_form, class_form, Form, form_at, has_finalizer, references_form, structs_form}
 use Rattle.clr_types.specs.Types.{type_row, TypeRow}
@@ -35,11 +36,11 @@ pub flag-told : (flag : Bool) (header : ℕ) → has_suppressed_bit (flagged fla
 flag-told flag header = go flag (has_suppressed_bit header) refl
   where
     go : (flag has : Bool) → has_suppressed_bit header ≡ has
-        → has_suppressed_bit (if flag && not has then header + 0x40000000
-        else if not flag && has then header - 0x40000000 else header) ≡ flag
+        → has_suppressed_bit (if flag && not has then header + suppressed_bit
+        else if not flag && has then header - suppressed_bit else header) ≡ flag
     go true true is = is
-    go true false is = let no = eqb-false (header / 0x40000000 % 2) 1 is in eq-eqb _ _ (omega arith)
-    go false true is = let yes = eqb-true (header / 0x40000000 % 2) 1 is in ne_eqb _ _ (λ e. omega arith)
+    go true false is = let no = eqb-false (header / suppressed_bit % 2) 1 is in eq-eqb _ _ (omega arith)
+    go false true is = let yes = eqb-true (header / suppressed_bit % 2) 1 is in ne_eqb _ _ (λ e. omega arith)
     go false false is = is
 
 -- a clean header stays clean, where only objects with finalisers are suppressed
@@ -47,9 +48,9 @@ pub clean-flagged : (rows : List TypeRow) (t header : ℕ) (flag : Bool)
     → (flag ≡ true → has_finalizer (type_row rows t) ≡ true) → IsCleanHeader rows t header
     → IsCleanHeader rows t (flagged flag header)
 clean-flagged rows t header true final (inl zero) =
-    inr (subst (λ w. flagged true w ≡ 0x40000000) (sym zero) refl, final refl)
+    inr (subst (λ w. flagged true w ≡ suppressed_bit) (sym zero) refl, final refl)
 clean-flagged rows t header true final (inr (says, has)) =
-    inr (subst (λ w. flagged true w ≡ 0x40000000) (sym says) refl, has)
+    inr (subst (λ w. flagged true w ≡ suppressed_bit) (sym says) refl, has)
 clean-flagged rows t header false final (inl zero) = inl (subst (λ w. flagged false w ≡ 0) (sym zero) refl)
 clean-flagged rows t header false final (inr (says, has)) = inl (subst (λ w. flagged false w ≡ 0) (sym says) refl)
 

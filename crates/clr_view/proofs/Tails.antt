@@ -8,7 +8,7 @@ use Rattle.clr_types.specs.Segments.{empty_segment, ended_at, ephemeral, reserve
 use Rattle.clr_types.specs.LawfulLayout.{AreDisjoint, IsLawfulSegment}
 use Rattle.clr_types.specs.declared.segment.SegInfo.{SegInfo}
 use Rattle.clr_types.specs.declared.segment.SegKind.{SegKind}
-use Rattle.clr_types.specs.declared.segment.SegKind.TheVariants.{Small, Ephemeral, Large}
+use Rattle.clr_types.specs.declared.segment.SegKind.TheVariants.{Small, Ephemeral, Large, Pinned}
 use Rattle.clr_heap.specs.View.{frame, HeapView, holes_of, IsHeap, segment_at}
 use Rattle.clr_heap.proofs.Framing.{all_at, ephemerals}
 use Rattle.clr_heap.proofs.Young.{young_number}
@@ -87,11 +87,13 @@ kind-is : (kind : SegKind) → same_kind Ephemeral kind ≡ true → kind ≡ Ep
 kind-is Small e = absurd cc
 kind-is Ephemeral e = refl
 kind-is Large e = absurd cc
+kind-is Pinned e = absurd cc
 
 pub same-kind-is : (kind : SegKind) → same_kind kind Ephemeral ≡ true → kind ≡ Ephemeral
 same-kind-is Small e = absurd cc
 same-kind-is Ephemeral e = refl
 same-kind-is Large e = absurd cc
+same-kind-is Pinned e = absurd cc
 
 -- ---- segments with one changed, by base
 

@@ -1,5 +1,6 @@
 -- The words of objects that are no slot: headers say nothing but that a finaliser is suppressed, and padding is zero.
 use Rattle.std.specs.Prelude.{◌≡◌, ℕ, ◌+◌, ◌-◌, ◌*◌, ◌%◌, ◌<◌, ◌≤◌, ◌⊎◌, true, List, length}
+use Rattle.clr_types.specs.Bits.{suppressed_bit}
 use Rattle.clr_mem.specs.Words.{byte_of}
 use Rattle.clr_types.specs.Rising.{IsIn}
 use Rattle.clr_types.specs.Types.{TypeRow, Form, class_form, references_form, bytes_form, structs_form, form_at}
@@ -18,7 +19,7 @@ slots_end (structs_form pattern) len = 16 + 8 * (length pattern * len)
 
 -- the header of an object of type t is zero, or says that its finaliser is suppressed, where its type has one
 abbrev pub IsCleanHeader : List TypeRow → ℕ → ℕ → Type 0
-IsCleanHeader rows t header = (header ≡ 0) ⊎ ((header ≡ 0x40000000) × (has_finalizer (type_row rows t) ≡ true))
+IsCleanHeader rows t header = (header ≡ 0) ⊎ ((header ≡ suppressed_bit) × (has_finalizer (type_row rows t) ≡ true))
 
 -- the bytes from low on and below high are zero
 abbrev pub AreZero : (ℕ → ℕ) → ℕ → ℕ → Type 0

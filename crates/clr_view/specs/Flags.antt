@@ -1,5 +1,6 @@
 -- Whether the finalisers of objects are suppressed, which their headers say.
-use Rattle.std.specs.Prelude.{◌≡◌, ℕ, ◌+◌, ◌-◌, ◌↔◌, Bool, not, ◌&&◌, List, if◌then◌else◌}
+use Rattle.std.specs.Prelude.{◌≡◌, ℕ, ◌-◌, ◌↔◌, Bool, List}
+pub use Rattle.clr_types.specs.Bits.{flagged}
 use Rattle.clr_types.specs.Types.{TypeRow, has_finalizer, type_row}
 use Rattle.clr_types.specs.Rising.{changed_by}
 use Rattle.clr_heap.specs.View.{heap_items, HeapView, stored, word_of}
@@ -7,7 +8,7 @@ use Rattle.clr_model.specs.Lookups.{object_named, type_of_object}
 use Rattle.clr_model.specs.Reach.{suppressed_or_none}
 use Rattle.clr_model.specs.Updates.{with_flag_of}
 use Rattle.clr_view.specs.Marks.{Marked}
-use Rattle.clr_view.specs.View.{has_suppressed_bit, IsHeld, layout_in, objects_in}
+use Rattle.clr_view.specs.View.{IsHeld, layout_in, objects_in}
 
 -- whether the object at the place is of a type that has a finaliser
 abbrev pub is_final_at : List TypeRow → HeapView → ℕ → Bool
@@ -16,13 +17,6 @@ is_final_at rows h place = has_finalizer (type_row rows (type_of_object (object_
 -- whether the finaliser of the object at the place is suppressed
 abbrev pub is_suppressed_at : List TypeRow → HeapView → ℕ → Bool
 is_suppressed_at rows h place = suppressed_or_none (object_named (objects_in rows h) place)
-
--- the header with this in its bit, and all other bits as they were
-abbrev pub flagged : Bool → ℕ → ℕ
-flagged flag header =
-    if flag && not (has_suppressed_bit header) then header + 0x40000000
-    else if not flag && has_suppressed_bit header then header - 0x40000000
-    else header
 
 -- the heap in which the header of the object at the place says this
 abbrev pub with_flag_at : HeapView → ℕ → Bool → HeapView

@@ -1,12 +1,9 @@
 -- Marks in the method table words of objects.
-use Rattle.std.specs.Prelude.{◌≡◌, ℕ, ◌%◌, Bool, true, List, nat_eq}
+use Rattle.std.specs.Prelude.{◌≡◌, ℕ, true, List}
+pub use Rattle.clr_types.specs.Bits.{has_mark}
 use Rattle.clr_types.specs.Types.{TypeRow}
 use Rattle.clr_heap.specs.View.{HeapView, word_of}
 use Rattle.clr_view.specs.SlotValues.{StandsAt}
-
--- whether a method table word carries the mark
-abbrev pub has_mark : ℕ → Bool
-has_mark w = nat_eq (w % 2) 1
 
 -- an object stands at x, and its method table word carries the mark
 pub record Marked (rows : List TypeRow) (h : HeapView) (x : ℕ) : Type 0 where

@@ -1,5 +1,5 @@
 -- The objects, the free items and the layout of a machine, read off the words of a heap.
-use Rattle.std.specs.Prelude.{◌≡◌, ℕ, ◌+◌, ◌-◌, ◌/◌, ◌%◌, ◌<◌, ◌≤◌, Bool, true, false, nat_eq, List, [], ◌∷◌, ◌++◌}
+use Rattle.std.specs.Prelude.{◌≡◌, ℕ, ◌+◌, ◌-◌, ◌%◌, ◌<◌, ◌≤◌, Bool, true, false, List, [], ◌∷◌, ◌++◌}
 use Rattle.std.specs.Prelude.{filter, map, None, Some, slice_get, length, get_or}
 use Rattle.clr_mem.specs.Words.{byte_of}
 use Rattle.clr_types.specs.Types.{TypeRow, Form, class_form, references_form, bytes_form, structs_form, form_at}
@@ -17,6 +17,7 @@ use Rattle.clr_model.specs.Machine.{Value, ref, num, Object}
 use Rattle.clr_model.specs.Allocation.{context_front, front_taken, IsRefilled}
 use Rattle.clr_model.specs.Updates.{all_given_up, empty_slots, with_slot_of}
 use Rattle.clr_view.specs.Clean.{AreClean}
+pub use Rattle.clr_types.specs.Bits.{has_suppressed_bit}
 pub use Rattle.clr_view.specs.Items.{is_free, is_object}
 
 -- ---- one object
@@ -36,10 +37,6 @@ value_at (structs_form pattern) word reference a = word_value reference (word a)
 -- the value of a slot of the object at a place
 abbrev pub slot_value : Form → (ℕ → ℕ) → ℕ → Slot → Value
 slot_value form word place slot = value_at form word slot.reference (place + slot.offset)
-
--- whether an object's header has the bit that says that its finaliser is suppressed
-abbrev pub has_suppressed_bit : ℕ → Bool
-has_suppressed_bit header = nat_eq (header / 0x40000000 % 2) 1
 
 -- the object that an item is, named by its place, with what the words hold
 abbrev pub object_in : List TypeRow → (ℕ → ℕ) → Item → Object

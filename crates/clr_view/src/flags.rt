@@ -1,17 +1,14 @@
 // Whether objects have finalisers, and whether these are suppressed.
 ghost use Rattle.std.specs.Prelude.{◌≡◌, true};
 ghost use Rattle.clr_view.specs.Clean.{AreClean};
-ghost use Rattle.clr_view.specs.Flags.{flagged, HasFlagged, is_final_at, is_suppressed_at, with_flag_at};
+ghost use Rattle.clr_view.specs.Flags.{HasFlagged, is_final_at, is_suppressed_at, with_flag_at};
 ghost use Rattle.clr_view.specs.Marks.{IsUnmarked};
 ghost use Rattle.clr_view.specs.SlotValues.{StandsAt};
-ghost use Rattle.clr_view.specs.View.{AreFreeHeads, has_suppressed_bit, IsHeld};
+ghost use Rattle.clr_view.specs.View.{AreFreeHeads, IsHeld};
 
 use crate::object_item;
 use clr_heap::Heap;
-use clr_types::Types;
-
-/// The bit of an object's header that says that its finaliser is suppressed.
-const SUPPRESSED: u64 = 0x4000_0000;
+use clr_types::{Types, header};
 
 /// Whether the object at a place is of a type that has a finaliser.
 pub fn is_final(heap: &Heap, types: &Types, place: u64) -> bool
@@ -30,7 +27,7 @@ pub fn is_suppressed(heap: &Heap, types: &Types, place: u64) -> bool
     ensures { result ≡ is_suppressed_at types.now heap.now place }
 {
     heap.lawful();
-    says_suppressed(heap.word(place - 8))
+    header::is_suppressed(heap.word(place - 8))
 }
 
 /// Says in the header of the object at a place whether its finaliser is suppressed.
@@ -50,24 +47,6 @@ pub fn set_suppressed(heap: &mut Heap, types: &Types, place: u64, flag: bool)
 {
     heap.lawful();
     let at = place - 8;
-    let header = heap.word(at);
-    heap.set_word(at, with_flag(header, flag));
-}
-
-// Whether a header says that the object's finaliser is suppressed.
-fn says_suppressed(header: u64) -> bool
-    ensures { result ≡ has_suppressed_bit header }
-{
-    header / SUPPRESSED % 2 == 1
-}
-
-// The header with this in its bit.
-fn with_flag(header: u64, flag: bool) -> u64
-    ensures { result ≡ flagged flag header }
-{
-    match (flag, says_suppressed(header)) {
-        (true, false) => header + SUPPRESSED,
-        (false, true) => header - SUPPRESSED,
-        (true, true) | (false, false) => header,
-    }
+    let word = heap.word(at);
+    heap.set_word(at, header::with_suppressed(word, flag));
 }

@@ -113,8 +113,10 @@ fn reserved_by(segments: &Vec<SegInfo>) -> u64
     segments.iter().map(|s| s.reserved).sum()
 }
 
-// Makes room for one more of each.
-fn make_room(memories: &mut Vec<Mem>, segments: &mut Vec<SegInfo>) -> Result<(), NoMemory>
+/// Makes room for one more of each.
+///
+/// `NoMemory` comes where there is no memory for it. Both keep their items always.
+pub fn make_room(memories: &mut Vec<Mem>, segments: &mut Vec<SegInfo>) -> Result<(), NoMemory>
     ensures memories { memories.new.items ≡ memories.old.items }
     ensures segments { segments.new.items ≡ segments.old.items }
     ensures room { OnOk result ((vec_len memories.new < vec_capacity memories.new)
@@ -125,8 +127,13 @@ fn make_room(memories: &mut Vec<Mem>, segments: &mut Vec<SegInfo>) -> Result<(),
     Ok(())
 }
 
-// Adds one of each, where there is room.
-fn push_both(memories: &mut Vec<Mem>, segments: &mut Vec<SegInfo>, memory: Mem, segment: SegInfo)
+/// Adds one of each, where there is room.
+pub fn push_both(
+    memories: &mut Vec<Mem>,
+    segments: &mut Vec<SegInfo>,
+    memory: Mem,
+    segment: SegInfo,
+)
     requires memories_room { vec_len memories.old < vec_capacity memories.old }
     requires segments_room { vec_len segments.old < vec_capacity segments.old }
     ensures memories { memories.new.items ≡ memories.old.items ++ memory ∷ [] }

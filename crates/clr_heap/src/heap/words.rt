@@ -1,6 +1,7 @@
 // The words and bytes of the heap, by address.
-ghost use Rattle.std.specs.Prelude.{◌≡◌, ℕ, ◌+◌, ◌*◌, ◌/◌, ◌%◌, ◌<◌, ◌≤◌, ◌^◌, true, length, get_or, set, vec_len};
-ghost use Rattle.clr_mem.specs.Words.{byte_of, cleared, Holds, moved, with_byte};
+ghost use Rattle.std.specs.Prelude.{◌≡◌, ℕ, ◌+◌, ◌*◌, ◌/◌, ◌%◌, ◌<◌, ◌≤◌, ◌^◌, false, true, length, get_or, set};
+ghost use Rattle.std.specs.Prelude.{vec_len};
+ghost use Rattle.clr_mem.specs.Words.{byte_of, cleared, Holds, is_between, moved, with_byte};
 ghost use Rattle.clr_heap.specs.Memories.{clears, contains, HasWord, InOne, IsApart, moves, memory_index, shapes};
 ghost use Rattle.clr_heap.specs.Memories.{store_in, word_address, word_in};
 
@@ -8,7 +9,7 @@ use super::Heap;
 use clr_mem::Mem;
 
 impl Heap {
-    ghost use Rattle.clr_heap.specs.View.{SameShape, stored, word_of};
+    ghost use Rattle.clr_heap.specs.View.{names_from, SameShape, stored, word_of};
 
     /// The word at an address.
     #[inline(always)]
@@ -28,6 +29,20 @@ impl Heap {
         ensures { result ≡ word_of self.now a }
     {
         word_in_memory(&self.memories, k, a)
+    }
+
+    /// Of the `n` words from `a` on in segment `k`, the number of the first one that names a place of the ephemeral
+    /// segment from `low` on, and `n` where none does.
+    #[inline(always)]
+    pub fn first_naming(&self, k: usize, a: u64, n: u64, low: u64) -> u64
+        requires words { (j : ℕ) → j < n → HasWord self.now.memories (a + 8 * j) }
+        requires segment { (j : ℕ) → j < n → k ≡ memory_index self.now.memories (a + 8 * j) }
+        ensures most { result ≤ n }
+        ensures before { (j : ℕ) → j < result → names_from self.now low (a + 8 * j) ≡ false }
+        ensures found { result < n → names_from self.now low (a + 8 * result) ≡ true }
+    {
+        let first = low.max(self.ephemeral_first);
+        first_in_memory(&self.memories, k, a, n, first, self.ephemeral_end)
     }
 
     /// Writes the word at an address.
@@ -187,6 +202,25 @@ fn word_in_memory(memories: &Vec<Mem>, k: usize, a: u64) -> u64
     let memory = &memories[k];
     let _ = memory.len();
     memory.word(a)
+}
+
+// Of the `n` words from `a` on in memory `k`, the number of the first one that is one of the numbers from `low` to below
+// `high`, and `n` where none is.
+#[inline(always)]
+fn first_in_memory(memories: &Vec<Mem>, k: usize, a: u64, n: u64, low: u64, high: u64) -> u64
+    requires words { (j : ℕ) → j < n → HasWord memories.now.items (a + 8 * j) }
+    requires segment { (j : ℕ) → j < n → k ≡ memory_index memories.now.items (a + 8 * j) }
+    requires above { 0 < low }
+    ensures most { result ≤ n }
+    ensures before { (j : ℕ) → j < result → is_between low high (word_in memories.now.items (a + 8 * j)) ≡ false }
+    ensures found { result < n → is_between low high (word_in memories.now.items (a + 8 * result)) ≡ true }
+{
+    if n == 0 {
+        return 0;
+    }
+    let memory = &memories[k];
+    let _ = memory.len();
+    memory.first_between(a, n, low, high)
 }
 
 #[inline(always)]

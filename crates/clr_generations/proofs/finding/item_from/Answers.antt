@@ -14,13 +14,17 @@ loop-place-preserved-in-Some c =
     record {
       walk = step.walk;
       found = ap (λ items. item_with_place items c.args.a) (sym step.items) ∙ c.loop-place.invariant.found;
+      known = c.loop-place.invariant.known;
     }
 
-pub item-found-requires : goal.item-found-requires
-item-found-requires c =
+pub item_like-found-requires : goal.item_like-found-requires
+item_like-found-requires c =
     let step = walk_item (sight c.args.types.now c.args.heap.now c.args.k) c.args.heap.now.memories c.loop-place.place
     c.info-end.result.end c.loop-place.invariant.walk c.loop-place-test.true (sym c.hole_end.ensures ∙ c.in-None.is) in
-    record { names = step.names; mt = step.mt; len = step.len }
+    record {
+      item = record { names = step.names; mt = step.mt; len = step.len };
+      known = c.loop-place.invariant.known;
+    }
 
 pub returns-then-place-a-2 : goal.returns-then-place-a-2
 returns-then-place-a-2 c =
@@ -28,7 +32,7 @@ returns-then-place-a-2 c =
     let last = ap (λ (s : SegInfo). s.end) c.info-end.ensures.value in
     let here = item-here s c.args.heap.now.memories c.loop-place.place c.info-end.result.end c.args.a
     c.loop-place.invariant.walk c.loop-place-test.true (sym c.hole_end.ensures ∙ c.in-None.is) c.if-place-a-2.true in
-    ap (λ (i : Item). Some i) c.item-found.ensures ∙ sym here ∙ c.loop-place.invariant.found
+    ap (λ (i : Item). Some i) c.item_like-found.ensures.item ∙ sym here ∙ c.loop-place.invariant.found
     ∙ ap (λ (n : ℕ). item_with_place (items_between s c.args.start n) c.args.a) last
 
 pub loop-place-preserved : goal.loop-place-preserved
@@ -39,11 +43,12 @@ loop-place-preserved c =
     c.loop-place.invariant.walk c.loop-place-test.true none in
     let past = item-past s c.args.heap.now.memories c.loop-place.place c.info-end.result.end c.args.a
     c.loop-place.invariant.walk c.loop-place-test.true none c.if-place-a-2.false in
-    let size = ap (λ (i : Item). c.loop-place.place + i.size) c.item-found.ensures in
+    let size = ap (λ (i : Item). c.loop-place.place + i.size) c.item_like-found.ensures.item in
     record {
       walk = subst (λ n. CanWalk s c.args.heap.now.memories n c.info-end.result.end) (sym size) step.walk;
       found = ap (λ (n : ℕ). item_with_place (items_between s n c.info-end.result.end) c.args.a) size
           ∙ past ∙ c.loop-place.invariant.found;
+      known = c.item_like-found.ensures.known;
     }
 
 pub returns-else-place-a : goal.returns-else-place-a

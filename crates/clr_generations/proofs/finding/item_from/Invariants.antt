@@ -1,4 +1,5 @@
 use Rattle.std.proofs.Common.{◌≡◌, ◌-◌}
+use Rattle.clr_heap.specs.ObjectKinds.{IsObjectKind}
 use Rattle.clr_heap.specs.View.{CanWalk, item_with_place, items_between, sight}
 use Rattle.clr_generations.proofs.finding.item_from.Given as goal
 
@@ -7,6 +8,7 @@ invariant-loop-place l = record {
   walk : CanWalk (sight l.types l.heap l.k) l.heap.memories l.place l.end;
   found : item_with_place (items_between (sight l.types l.heap l.k) l.place l.end) l.a
       ≡ item_with_place (items_between (sight l.types l.heap l.k) l.start l.end) l.a;
+  known : IsObjectKind l.types l.known;
 }
 
 abbrev pub decreases-loop-place : goal.decreases-loop-place

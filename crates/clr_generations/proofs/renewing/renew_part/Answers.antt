@@ -60,7 +60,8 @@ first_in-first-requires-clause-covered c =
     let below : 4096 * c.loop-brick.brick < last_of h k = omega (arith, end, test) in
     covered_here rows h c.lawful.ensures c.requires.held k c.requires.in_range (renewing.passes c.args.counted)
     c.args.from c.args.young c.requires.low c.requires.high c.args.bricks.now c.requires.told c.loop-brick.bricks
-    c.loop-brick.brick c.loop-brick.next c.loop-brick.invariant c.requires.bricks c.loop-brick.brick c.loop-brick.invariant.order below
+    c.loop-brick.brick c.loop-brick.next c.loop-brick.invariant c.requires.bricks c.loop-brick.brick
+    c.loop-brick.invariant.order below
 
 pub first_in-first-requires-clause-told : goal.first_in-first-requires-clause-told
 first_in-first-requires-clause-told c =

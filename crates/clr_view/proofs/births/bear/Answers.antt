@@ -26,12 +26,14 @@ write_head-requires-clause-head c =
 pub write_head-requires-clause-mt_in : goal.write_head-requires-clause-mt_in
 write_head-requires-clause-mt_in c =
     front-memory c.args.types.now c.args.heap.now c.args.thread c.args.t.0 c.args.len
-    (asked (goal.at.write_head-requires-clause-mt_in c).After-hole) c.in-Some.front c.in-Some.end c.in-Some.ensures c.in-Some.front (omega arith) (omega arith)
+    (asked (goal.at.write_head-requires-clause-mt_in c).After-hole) c.in-Some.front c.in-Some.end c.in-Some.ensures
+    c.in-Some.front (omega arith) (omega arith)
 
 pub write_head-requires-clause-len_in : goal.write_head-requires-clause-len_in
 write_head-requires-clause-len_in c =
     front-memory c.args.types.now c.args.heap.now c.args.thread c.args.t.0 c.args.len
-    (asked (goal.at.write_head-requires-clause-len_in c).After-hole) c.in-Some.front c.in-Some.end c.in-Some.ensures (c.in-Some.front + 8) (omega arith) (omega arith)
+    (asked (goal.at.write_head-requires-clause-len_in c).After-hole) c.in-Some.front c.in-Some.end c.in-Some.ensures
+    (c.in-Some.front + 8) (omega arith) (omega arith)
 
 pub write_head-requires-clause-room : goal.write_head-requires-clause-room
 write_head-requires-clause-room c =
@@ -42,7 +44,8 @@ write_head-requires-clause-room c =
 birth : (c : After-set_hole) → IsBirth c.args.types.now c.args.heap.now c.set_hole.new.self c.args.thread c.args.t.0
     c.args.len
 birth c =
-    front-birth c.args.types.now c.args.heap.now c.args.thread c.args.t.0 c.args.len (asked c.before.before.before.before.before)
+    front-birth c.args.types.now c.args.heap.now c.args.thread c.args.t.0 c.args.len
+    (asked c.before.before.before.before.before)
     c.in-Some.front c.in-Some.end c.in-Some.ensures c.write_head.new.heap c.set_hole.new.self
     c.args.size c.requires.size c.write_head.ensures c.set_hole.ensures
 

@@ -14,5 +14,5 @@ word-requires c =
 
 pub returns : goal.returns
 returns c =
-    c.says_suppressed.ensures ∙ ap has_suppressed_bit c.word.ensures.value
+    c.is_suppressed.ensures ∙ ap has_suppressed_bit c.word.ensures.value
     ∙ suppressed-at c.args.types.now c.args.heap.now c.args.place c.lawful.ensures c.requires.held c.requires.stands

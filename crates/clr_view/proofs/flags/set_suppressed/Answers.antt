@@ -10,8 +10,8 @@ pub overflow_sub-at : goal.overflow_sub-at
 overflow_sub-at c =
     header-high c.args.types.now c.args.heap.now c.args.place c.lawful.ensures c.requires.held c.requires.stands
 
-pub word-header-requires : goal.word-header-requires
-word-header-requires c =
+pub word-word-requires : goal.word-word-requires
+word-word-requires c =
     header-has c.args.types.now c.args.heap.now c.args.place c.lawful.ensures c.requires.held c.requires.stands
 
 pub set_word-requires : goal.set_word-requires
@@ -23,7 +23,7 @@ written : (c : After-set_word) → c.set_word.new.self ≡ with_flag_at c.args.h
 written c =
     c.set_word.ensures.value
     ∙ ap (stored c.args.heap.now (c.args.place - 8))
-    (c.with_flag.ensures ∙ ap (flagged c.args.flag) c.word-header.ensures.value)
+    (c.with_suppressed.ensures ∙ ap (flagged c.args.flag) c.word-word.ensures.value)
 
 pub returns : goal.returns
 returns c =

@@ -1,15 +1,18 @@
-use Rattle.std.proofs.Common.{◌≡◌, ◌≢◌, ◌+◌, ◌^◌, ◌≤◌, refl, arith, rules}
+use Rattle.std.proofs.Common.{◌≡◌, ◌≢◌, ◌+◌, ◌^◌, ◌≤◌, false, refl, rules}
 use Rattle.clr_types.specs.declared.segment.SegKind.{SegKind}
-use Rattle.clr_types.specs.declared.segment.SegKind.TheVariants.{Small, Ephemeral, Large}
-use Rattle.clr_types.specs.Segments.{reserved_sum}
+use Rattle.clr_types.specs.declared.segment.SegKind.TheVariants.{Small, Ephemeral, Large, Pinned}
+use Rattle.clr_types.specs.Segments.{reserved_sum, same_kind}
 use Rattle.clr_heap.specs.View.{frame}
-use Rattle.clr_heap.proofs.Changing.{kept_with_ephemeral, kept_with_large}
+use Rattle.clr_heap.proofs.Changing.{kept_with_ephemeral, kept_with_other}
 use Rattle.clr_heap.proofs.heap.Heap.acquire.Goals as goal
 
-large_kind : (kind : SegKind) → kind ≢ Small → kind ≢ Ephemeral → kind ≡ Large
-large_kind Small small young = absurd (small refl)
-large_kind Ephemeral small young = absurd (young refl)
-large_kind Large small young = refl
+-- a kind that is none of the small heap
+other_kind : (kind : SegKind) → kind ≢ Small → kind ≢ Ephemeral → (same_kind Ephemeral kind ≡ false)
+    × (same_kind Small kind ≡ false)
+other_kind Small small young = absurd (small refl)
+other_kind Ephemeral small young = absurd (young refl)
+other_kind Large small young = (refl, refl)
+other_kind Pinned small young = (refl, refl)
 
 pub invariant_of-self-then-eq : goal.invariant_of-self-then-eq
 invariant_of-self-then-eq c =
@@ -28,13 +31,12 @@ invariant_of-self-then-eq c =
       c.empty-segment.ensures,
       kind,
     )
-    (kept_with_ephemeral _ _ _ c.args.size c.self.invariant c.requires.aligned c.requires.least top allowed
-    (c.requires.most kind))
+    (kept_with_ephemeral _ _ _ c.args.size c.self.invariant c.requires.aligned c.requires.least top allowed)
 
 pub invariant_of-self-2 : goal.invariant_of-self-2
 invariant_of-self-2 c =
     let other : c.args.kind ≢ Ephemeral = search rules in
-    let kind = large_kind c.args.kind c.requires.kind other in
+    let (not_young, not_small) = other_kind c.args.kind c.requires.kind other in
     let seen : reserved_sum (frame c.args.self.now) + c.args.size ≤ c.args.self.now.limit = search rules in
     let allowed = rw (← c.self.view_is) at seen in
     let top : c.self.inside.top ≤ 2 ^ 61 = search rules in
@@ -45,6 +47,6 @@ invariant_of-self-2 c =
       c.make_room.ensures.segments,
       c.in_ok-memory.ensures.value,
       c.empty-segment.ensures,
-      kind,
     )
-    (kept_with_large _ _ _ c.args.size c.self.invariant c.requires.aligned c.requires.least top allowed)
+    (kept_with_other _ _ _ c.args.size c.self.invariant c.requires.aligned c.requires.least top allowed c.args.kind
+    not_young not_small)

@@ -1,7 +1,7 @@
 use Rattle.std.proofs.Common.{◌≡◌, ◌≢◌, false, refl}
 use Rattle.clr_types.specs.Segments.{same_kind}
 use Rattle.clr_types.specs.declared.segment.SegKind.{SegKind}
-use Rattle.clr_types.specs.declared.segment.SegKind.TheVariants.{Small, Ephemeral, Large}
+use Rattle.clr_types.specs.declared.segment.SegKind.TheVariants.{Small, Ephemeral, Large, Pinned}
 use Rattle.clr_heap.proofs.Changing.{kept_released}
 use Rattle.clr_heap.proofs.heap.Heap.release.Goals as goal
 
@@ -9,6 +9,7 @@ other_kind : (kind : SegKind) → kind ≢ Ephemeral → same_kind Ephemeral kin
 other_kind Small h = refl
 other_kind Ephemeral h = absurd (h refl)
 other_kind Large h = refl
+other_kind Pinned h = refl
 
 pub invariant_of-self : goal.invariant_of-self
 invariant_of-self c =

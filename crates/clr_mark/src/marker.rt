@@ -15,7 +15,7 @@ ghost use Rattle.clr_mark.specs.Waiting.{IsGray, widened, with_next, with_waitin
 
 use crate::NoMemory;
 use clr_heap::Heap;
-use clr_types::Types;
+use clr_types::{Types, mark};
 use std::alloc::Global;
 use std::marker::Model;
 
@@ -99,7 +99,7 @@ impl Marker {
         requires { HasWord heap.now.memories obj }
         ensures { result ≡ has_mark (word_of heap.now obj) }
     {
-        heap.word(obj) % 2 == 1
+        mark::is_marked(heap.word(obj))
     }
 
     /// Whether a collection leaves the object at `obj`: it isn't condemned, or is marked.
@@ -204,7 +204,7 @@ impl Marker {
         ensures marker { self.new ≡ with_waiting heap.old self.old obj }
     {
         let word = heap.word_at(k, obj);
-        let new = 1 - word % 2;
+        let new = 1 - mark::mark_of(word);
         heap.set_word_at(k, obj, word + new);
         let height = self.stack.len() + new as usize;
         self.stack.push_reserved(obj);
@@ -222,7 +222,7 @@ impl Marker {
         ensures marker { self.new ≡ with_waiting heap.old self.old obj }
     {
         let word = heap.word_at(k, obj);
-        if word % 2 != 1 {
+        if !mark::is_marked(word) {
             heap.set_word_at(k, obj, word + 1);
             self.widen(obj);
         }

@@ -141,8 +141,7 @@ fn looked_for(younger: bool, age: u8, oldest: u8) -> u8
 }
 
 // Passes over words that name no object of a generation below `age`, from number `from` on, of the words up to `to` of
-// which the first stands at `first`. It answers the number of the next word. It only reads, so that its loop does no
-// more than that.
+// which the first stands at `first`. It answers the number of the next word.
 #[inline]
 fn pass_words(heap: &Heap, k: usize, first: u64, from: u64, to: u64, age: u8) -> u64
     requires order { from ≤ to }
@@ -155,14 +154,11 @@ fn pass_words(heap: &Heap, k: usize, first: u64, from: u64, to: u64, age: u8) ->
     ensures within { result ≤ to }
     ensures quiet { (j : ℕ) → from ≤ j → j < result → IsQuiet heap.now age (first + 8 * j) }
 {
-    let low = lowest_below(heap, age);
-    for j in from..to {
-        let target = heap.word_at(k, first + 8 * j);
-        if names_from(heap, target, low) {
-            return j;
-        }
+    if from == to {
+        return to;
     }
-    to
+    let low = lowest_below(heap, age);
+    from + heap.first_naming(k, first + 8 * from, to - from, low)
 }
 
 // The place from which on all places of the ephemeral segment are of a generation below `age`, which is 1 or 2. No
@@ -179,14 +175,6 @@ fn lowest_below(heap: &Heap, age: u8) -> u64
         return start1;
     }
     start1.max(start0)
-}
-
-// Whether a word names a place of the ephemeral segment from `low` on.
-#[inline]
-fn names_from(heap: &Heap, target: u64, low: u64) -> bool
-    ensures { result ≡ (stands_in (ephemeral (frame heap.now)) target && nat_le low target) }
-{
-    low <= target && heap.is_ephemeral(target)
 }
 
 // Marks what the reference at `a` of an older object names, where that is condemned. It answers whether that is of a

@@ -10,7 +10,7 @@ use Rattle.clr_types.proofs.ChangedLists.{out_of_filter}
 use Rattle.clr_types.specs.Segments.{empty_segment, ephemeral, is_small_or_ephemeral, same_kind, segments_of}
 use Rattle.clr_types.specs.declared.segment.SegInfo.{SegInfo}
 use Rattle.clr_types.specs.declared.segment.SegKind.{SegKind}
-use Rattle.clr_types.specs.declared.segment.SegKind.TheVariants.{Ephemeral, Large, Small}
+use Rattle.clr_types.specs.declared.segment.SegKind.TheVariants.{Ephemeral, Large, Small, Pinned}
 use Rattle.clr_types.proofs.ListMembers.{filter-on}
 use Rattle.clr_types.proofs.SegmentFacts.{one_alone}
 use Rattle.clr_heap.specs.View.{first_of, frame, HeapView, IsHeap, last_of, segment_at}
@@ -23,6 +23,7 @@ pub kind-small : (k : SegKind) → same_kind Ephemeral k ≡ true → is_small_o
 kind-small Small e = refl
 kind-small Ephemeral e = refl
 kind-small Large e = absurd cc
+kind-small Pinned e = absurd cc
 
 -- what a segment adds
 abbrev adds : HeapView → ℕ → SegInfo → ℕ
@@ -161,5 +162,8 @@ module _ (h : HeapView) (heap : IsHeap h) (e : ℕ) (young : segment_at h e ≡ 
   young-small start above inside =
       let is = lawful_at h e heap inside in
       let high = is.high in
-      let most = is.most (kind-small (segment_at h e).kind one-young) in
+      let more = sum_by_more (λ (s : SegInfo). s.reserved) h.segments e empty_segment inside in
+      let all = sum_by-take-le (λ (s : SegInfo). s.reserved) h.segments (e + 1) in
+      let limit = heap.within_limit in
+      let least = heap.limit_small in
       omega arith

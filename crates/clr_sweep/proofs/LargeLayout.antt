@@ -14,7 +14,7 @@ use Rattle.clr_types.specs.Types.{TypeRow}
 use Rattle.clr_types.specs.declared.item.Item.{Item}
 use Rattle.clr_types.specs.declared.segment.SegInfo.{SegInfo}
 use Rattle.clr_types.specs.declared.segment.SegKind.{SegKind}
-use Rattle.clr_types.specs.declared.segment.SegKind.TheVariants.{Ephemeral, Large, Small}
+use Rattle.clr_types.specs.declared.segment.SegKind.TheVariants.{Ephemeral, Large, Small, Pinned}
 use Rattle.clr_types.proofs.ChangedLists.{out_of_filter, rising-distinct, rising-sorted, sorted_by-done}
 use Rattle.clr_types.proofs.ListMembers.{any-from, any-in, filter-map, filter-on, filter-rises, map-map, map-on}
 use Rattle.clr_types.proofs.RisingLists.{in_cons}
@@ -27,7 +27,7 @@ use Rattle.clr_heap.specs.View.{segment_at, word_of}
 use Rattle.clr_heap.proofs.Framing.{lawful_at}
 use Rattle.clr_model.specs.Lookups.{object_piece}
 use Rattle.clr_model.specs.Sweep.{has_condemned_part, is_in_part, old_sections, part_start, sections, Survivor}
-use Rattle.clr_model.specs.Sweep.{survivor_pieces, swept_end, swept_free, swept_kind, taking_part}
+use Rattle.clr_model.specs.Sweep.{survivor_pieces, swept_end, swept_free, swept_others, taking_part}
 use Rattle.clr_model.proofs.CollectedLayout.{large-not_ephemeral}
 use Rattle.clr_model.proofs.SweptTiles.{chain}
 use Rattle.clr_view.specs.Marks.{has_mark}
@@ -45,6 +45,7 @@ use Rattle.clr_sweep.proofs.LayoutSwept.{free-rise, part-taken}
 use Rattle.clr_sweep.proofs.ObjectsSwept.{listing-filled, stays-object}
 use Rattle.clr_sweep.proofs.SectionsSwept.{AreFilled, end_same, IsRun, kept_pieces, section_gaps, swept_gaps}
 use Rattle.clr_sweep.proofs.SurvivorsSwept.{listed-from, part-start}
+use Rattle.clr_types.specs.Segments.{is_large_or_pinned}
 
 -- ---- lists
 
@@ -201,16 +202,17 @@ module _ (rows : List TypeRow) (old mid : HeapView) (heap : IsHeap old) (held : 
   -- ---- the segments
 
   abbrev change : SegInfo → SegInfo
-  change t = if same_kind Large t.kind && has_condemned_part 2 t then record t { end = swept_end layout 2 survive t }
+  change t = if is_large_or_pinned t.kind && has_condemned_part 2 t then record t { end = swept_end layout 2 survive t }
       else t
 
-  large-taken : (t : SegInfo) → (same_kind Large t.kind && has_condemned_part 2 t) ≡ same_kind Large t.kind
+  large-taken : (t : SegInfo) → (is_large_or_pinned t.kind && has_condemned_part 2 t) ≡ is_large_or_pinned t.kind
   large-taken t = go t.kind
     where
-      go : (k : SegKind) → (same_kind Large k && (same_kind Ephemeral k || true)) ≡ same_kind Large k
+      go : (k : SegKind) → (is_large_or_pinned k && (same_kind Ephemeral k || true)) ≡ is_large_or_pinned k
       go Small = refl
       go Ephemeral = refl
       go Large = refl
+      go Pinned = refl
 
   changed : (j : ℕ) → j < length old.segments → segment_at mid j ≡ change (segment_at old j)
   changed j l =
@@ -243,13 +245,13 @@ module _ (rows : List TypeRow) (old mid : HeapView) (heap : IsHeap old) (held : 
   -- ---- the free items
 
   abbrev in_part : Piece → Bool
-  in_part = is_in_part (same_kind Large) layout 2
+  in_part = is_in_part (is_large_or_pinned) layout 2
 
   abbrev fresh : SegInfo → List Piece
   fresh = swept_free layout 2 survive
 
   abbrev takes : SegInfo → Bool
-  takes t = same_kind Large t.kind && has_condemned_part 2 t
+  takes t = is_large_or_pinned t.kind && has_condemned_part 2 t
 
   -- an item stands in a part that is swept where its segment is large
   part-is : (j : ℕ) → j < length old.segments → (i : Item) → IsIn i (listing rows old j)
@@ -267,25 +269,25 @@ module _ (rows : List TypeRow) (old mid : HeapView) (heap : IsHeap old) (held : 
       away off false e = e
       away off true e =
           let (t, known, test) =
-          any-in (λ (t : SegInfo). same_kind Large t.kind
+          any-in (λ (t : SegInfo). is_large_or_pinned t.kind
           && (has_condemned_part 2 t && (stands_in t i.place && nat_le (part_start layout 2 t) i.place))) old.segments
           e in
-          let (kind, rest) = and_parts (same_kind Large t.kind)
+          let (kind, rest) = and_parts (is_large_or_pinned t.kind)
           (has_condemned_part 2 t && (stands_in t i.place && nat_le (part_start layout 2 t) i.place)) test in
           let (condemned, at) = and_parts (has_condemned_part 2 t)
           (stands_in t i.place && nat_le (part_start layout 2 t) i.place) rest in
           let (there, over) = and_parts (stands_in t i.place) (nat_le (part_start layout 2 t) i.place) at in
           let large : is_large_place old i.place ≡ true =
-          any-from (λ (s : SegInfo). same_kind Large s.kind && stands_in s i.place) old.segments t known
-          (and_from (same_kind Large t.kind) (stands_in t i.place) kind there) in
+          any-from (λ (s : SegInfo). is_large_or_pinned s.kind && stands_in s i.place) old.segments t known
+          (and_from (is_large_or_pinned t.kind) (stands_in t i.place) kind there) in
           absurd (both_ways (is_large old j) off (sym (place_large old heap j i.place l stands) ∙ large))
 
       go : (b : Bool) → is_large old j ≡ b → in_part (item_piece i) ≡ is_large old j
       go true on =
-          any-from (λ (t : SegInfo). same_kind Large t.kind
+          any-from (λ (t : SegInfo). is_large_or_pinned t.kind
           && (has_condemned_part 2 t && (stands_in t i.place && nat_le (part_start layout 2 t) i.place))) old.segments
           (segment_at old j) (number-in old.segments j l)
-          (and_from (same_kind Large (segment_at old j).kind)
+          (and_from (is_large_or_pinned (segment_at old j).kind)
           (has_condemned_part 2 (segment_at old j) && (stands_in (segment_at old j) i.place
           && nat_le (part_start layout 2 (segment_at old j)) i.place)) on
           (and_from (has_condemned_part 2 (segment_at old j)) (stands_in (segment_at old j) i.place
@@ -386,13 +388,13 @@ module _ (rows : List TypeRow) (old mid : HeapView) (heap : IsHeap old) (held : 
 
   -- THE FREE ITEMS are those that the machine's sweep leaves
   free-are : free_in rows new ≡ by_place (others (heap_items rows old) ++ flat_map fresh
-      (taking_part (same_kind Large) 2 layout))
+      (taking_part (is_large_or_pinned) 2 layout))
   free-are =
       sym (sorted_by-done (λ (p : Piece). p.place) (free_in rows new) (rising-sorted (λ (p : Piece). p.place)
       (free_in rows new) rises))
       ∙ shuffled-sorts (λ (p : Piece). p.place)
       (subst (λ n. IsShuffled (free_among (listings rows new 0 n)) (others (heap_items rows old)
-      ++ flat_map fresh (taking_part (same_kind Large) 2 layout))) (sym a.count)
+      ++ flat_map fresh (taking_part (is_large_or_pinned) 2 layout))) (sym a.count)
       (shuffled 0 (length old.segments) (omega arith)))
       (rising-distinct (λ (p : Piece). p.place) (free_in rows new) rises)
     where
@@ -401,7 +403,7 @@ module _ (rows : List TypeRow) (old mid : HeapView) (heap : IsHeap old) (held : 
           (heap_items rows new) (heap-rise rows new (large-walkable rows old mid heap held none heap_low a) new_heap))
 
   -- THE LAYOUT is the one that the machine's sweep leaves
-  pub large-layout : layout_in rows (bounded_as old mid) ≡ swept_kind Large (layout_in rows old) 2 survive
+  pub large-layout : layout_in rows (bounded_as old mid) ≡ swept_others (layout_in rows old) 2 survive
   large-layout =
       let rests : mid.rests ≡ old.rests = ap (λ (h : HeapView). h.rests) a.others in
       let top : mid.top ≡ old.top = ap (λ (h : HeapView). h.top) a.others in

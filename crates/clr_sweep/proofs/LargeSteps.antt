@@ -21,6 +21,7 @@ use Rattle.clr_view.specs.View.{IsHeld, objects_in}
 use Rattle.clr_sweep.specs.SweptLarge.{is_large}
 use Rattle.clr_sweep.specs.SweptSegments.{AreSwept, HasSweptSegment}
 use Rattle.clr_sweep.proofs.MoreSwept.{swept_alike, swept_more}
+use Rattle.clr_types.specs.Segments.{is_large_or_pinned}
 
 -- ---- bricks
 
@@ -138,7 +139,7 @@ module _ (rows : List TypeRow) (old now : HeapView) (k : ℕ) (heap : IsHeap old
   large_sweeps new large small = go (is_large old k) refl
     where
       same : is_large now k ≡ is_large old k
-      same = ap (λ (t : SegInfo). same_kind Large t.kind) (s.ahead k inside large_not_yet).segment
+      same = ap (λ (t : SegInfo). is_large_or_pinned t.kind) (s.ahead k inside large_not_yet).segment
 
       go : (b : Bool) → is_large old k ≡ b → AreSwept rows old new (large_below old (k + 1))
       go true e =

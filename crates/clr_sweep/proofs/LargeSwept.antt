@@ -40,6 +40,7 @@ use Rattle.clr_sweep.proofs.Filters.{filter-filter}
 use Rattle.clr_sweep.proofs.MoreSwept.{next_walkable, same_items}
 use Rattle.clr_sweep.proofs.ObjectsSwept.{held_without, mark-elsewhere, object-kept, stays-object, swept-objects}
 use Rattle.clr_sweep.proofs.SurvivorsSwept.{listed-from}
+use Rattle.clr_types.specs.Segments.{is_large_or_pinned}
 
 -- the heap where no generation begins in any segment
 abbrev pub lowered : HeapView → HeapView
@@ -116,7 +117,7 @@ module _ (old : HeapView) (heap : IsHeap old) where
 
   pub place_large : (j p : ℕ) → j < length old.segments → stands_in (segment_at old j) p ≡ true
       → is_large_place old p ≡ is_large old j
-  place_large = place_kind (same_kind Large)
+  place_large = place_kind (is_large_or_pinned)
 
 module _ (rows : List TypeRow) (old : HeapView) (heap : IsHeap old) (held : IsHeld rows old) where
   -- an item stands in the segment that lists it

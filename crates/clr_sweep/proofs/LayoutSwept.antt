@@ -14,7 +14,7 @@ use Rattle.clr_types.specs.LawfulLayout.{AreDisjoint, IsLawfulLayout, IsLawfulSe
 use Rattle.clr_types.specs.declared.item.Item.{Item}
 use Rattle.clr_types.specs.declared.segment.SegInfo.{SegInfo}
 use Rattle.clr_types.specs.declared.segment.SegKind.{SegKind}
-use Rattle.clr_types.specs.declared.segment.SegKind.TheVariants.{Ephemeral, Large, Small}
+use Rattle.clr_types.specs.declared.segment.SegKind.TheVariants.{Ephemeral, Large, Small, Pinned}
 use Rattle.clr_types.proofs.ChangedLists.{all-map, append_left, into_filter, IsIn-map, out_of_filter}
 use Rattle.clr_types.proofs.ListMembers.{any-from, any-in, append_right, filter-map, filter-rises, in_append}
 use Rattle.clr_types.proofs.PieceGaps.{IsGapped}
@@ -23,7 +23,7 @@ use Rattle.clr_types.proofs.SortedLists.{into_sorted_by, rising_agree_by}
 use Rattle.clr_types.proofs.TilePieces.{IsTile, tile}
 use Rattle.clr_heap.specs.Parts.{item_piece}
 use Rattle.clr_heap.specs.View.{extents, frame, heap_items, HeapView, IsHeap, listing, listings, no_rests, segment_at}
-use Rattle.clr_heap.proofs.Framing.{reserved_same}
+use Rattle.clr_heap.proofs.Framing.{bases_same, reserved_same}
 use Rattle.clr_model.specs.Lawful.{IsLaid}
 use Rattle.clr_model.specs.Lookups.{object_piece, pieces}
 use Rattle.clr_model.specs.Machine.{Machine}
@@ -40,6 +40,7 @@ use Rattle.clr_view.specs.Memory.{TestsMarks}
 use Rattle.clr_sweep.specs.Swept.{swept_layout}
 use Rattle.clr_sweep.specs.SweptItems.{HasSweptItems}
 use Rattle.clr_sweep.proofs.SurvivorsSwept.{at-in, end-is, gaps-are, part-start, seen}
+use Rattle.clr_types.specs.Segments.{is_large_or_pinned}
 
 -- ---- flat lists
 
@@ -55,22 +56,26 @@ small-takes : (k : SegKind) → (is_small_or_ephemeral k && (same_kind Ephemeral
 small-takes Small = refl
 small-takes Ephemeral = refl
 small-takes Large = refl
+small-takes Pinned = refl
 
-large-takes : (k : SegKind) → (same_kind Large k && (same_kind Ephemeral k || true)) ≡ same_kind Large k
+large-takes : (k : SegKind) → (is_large_or_pinned k && (same_kind Ephemeral k || true)) ≡ is_large_or_pinned k
 large-takes Small = refl
 large-takes Ephemeral = refl
 large-takes Large = refl
+large-takes Pinned = refl
 
-other-small : (k : SegKind) → same_kind Large k ≡ false → is_small_or_ephemeral k ≡ true
+other-small : (k : SegKind) → is_large_or_pinned k ≡ false → is_small_or_ephemeral k ≡ true
 other-small Small e = refl
 other-small Ephemeral e = refl
 other-small Large e = absurd cc
+other-small Pinned e = absurd cc
 
 -- every segment takes part
 pub part-taken : (k : SegKind) → (same_kind Ephemeral k || true) ≡ true
 part-taken Small = refl
 part-taken Ephemeral = refl
 part-taken Large = refl
+part-taken Pinned = refl
 
 -- what a sweep makes of a segment that isn't the ephemeral one hangs on no boundary
 same-free : (a b : Layout) (stay : List Survivor) (t : SegInfo) → same_kind Ephemeral t.kind ≡ false
@@ -136,25 +141,26 @@ module _ (rows : List TypeRow) (old new : HeapView) (base : Machine) (swept : Ha
   } else t
 
   abbrev large_change : SegInfo → SegInfo
-  large_change t = if same_kind Large t.kind && has_condemned_part 2 t then record t { end = swept_end small 2 stay t }
+  large_change t =
+      if is_large_or_pinned t.kind && has_condemned_part 2 t then record t { end = swept_end small 2 stay t }
       else t
 
   small_changed : (t : SegInfo) → small_change t ≡ (if is_small_or_ephemeral t.kind then change t else t)
   small_changed t = ap (λ b. if b then change t else t) (small-takes t.kind)
 
-  large_changed : (t : SegInfo) → large_change t ≡ (if same_kind Large t.kind then change t else t)
+  large_changed : (t : SegInfo) → large_change t ≡ (if is_large_or_pinned t.kind then change t else t)
   large_changed t =
       ap (λ b. if b then record t { end = swept_end small 2 stay t } else t) (large-takes t.kind)
       ∙ (let start = part-start small t ∙ sym (part-start m.layout t) in
-      λ k. if same_kind Large t.kind then ended_at (end_of_last (start k) (survivor_pieces t stay)) t else t)
+      λ k. if is_large_or_pinned t.kind then ended_at (end_of_last (start k) (survivor_pieces t stay)) t else t)
 
-  large-same : (t : SegInfo) → same_kind Large t.kind ≡ true → small_change t ≡ t
+  large-same : (t : SegInfo) → is_large_or_pinned t.kind ≡ true → small_change t ≡ t
   large-same t e = small_changed t ∙ ap (λ b. if b then change t else t) (large-not_small t.kind e)
 
   both-changed : (t : SegInfo) → large_change (small_change t) ≡ change t
-  both-changed t = go (same_kind Large t.kind) refl
+  both-changed t = go (is_large_or_pinned t.kind) refl
     where
-      go : (b : Bool) → same_kind Large t.kind ≡ b → large_change (small_change t) ≡ change t
+      go : (b : Bool) → is_large_or_pinned t.kind ≡ b → large_change (small_change t) ≡ change t
       go true e = ap large_change (large-same t e) ∙ large_changed t ∙ ap (λ b. if b then change t else t) e
       go false e =
           let first_one : small_change t ≡ change t = small_changed t
@@ -217,6 +223,7 @@ module _ (rows : List TypeRow) (old new : HeapView) (base : Machine) (swept : Ha
       record {
         memories = swept.memories ∙ heap.memories ∙ sym same_extents;
         segments = subst (AllByRecursion IsLawfulSegment) (sym segments_swept) lawful.segments;
+        highest = bases_same (2 ^ 61) old.segments new.segments (sym same_extents) heap.highest;
         disjoint = subst AreDisjoint (sym segments_swept) lawful.disjoint;
         below_top = subst (λ n. AllByRecursion (λ (s : SegInfo). reserved_end s ≤ n) new.segments) (sym top)
             (subst (AllByRecursion (λ (s : SegInfo). reserved_end s ≤ old.top)) (sym segments_swept) lawful.below_top);
@@ -305,7 +312,7 @@ module _ (rows : List TypeRow) (old new : HeapView) (base : Machine) (swept : Ha
       let end : piece_end p ≤ swept_end m.layout 2 stay t = is.high_end in
       between-stands t p.place (omega arith) (omega arith)
 
-  small-in : (t : SegInfo) → IsIn t old.segments → same_kind Large t.kind ≡ true → IsIn t small.segments
+  small-in : (t : SegInfo) → IsIn t old.segments → is_large_or_pinned t.kind ≡ true → IsIn t small.segments
   small-in t known e = subst (λ u. IsIn u small.segments) (large-same t e) (IsIn-map small_change known)
 
   in-small-part : (t : SegInfo) (p : Piece) → IsIn t old.segments → is_small_or_ephemeral t.kind ≡ true
@@ -321,13 +328,13 @@ module _ (rows : List TypeRow) (old new : HeapView) (base : Machine) (swept : Ha
       (and_from (stands_in t p.place) (nat_le (part_start m.layout 2 t) p.place) stands
       (le-leb (part_start m.layout 2 t) p.place (subst (λ n. n ≤ p.place) (sym (part-start m.layout t)) low)))))
 
-  in-large-part : (t : SegInfo) (p : Piece) → IsIn t old.segments → same_kind Large t.kind ≡ true
-      → stands_in t p.place ≡ true → first_place t ≤ p.place → is_in_part (same_kind Large) small 2 p ≡ true
+  in-large-part : (t : SegInfo) (p : Piece) → IsIn t old.segments → is_large_or_pinned t.kind ≡ true
+      → stands_in t p.place ≡ true → first_place t ≤ p.place → is_in_part (is_large_or_pinned) small 2 p ≡ true
   in-large-part t p known kind stands low =
       any-from (λ (s : SegInfo).
-      same_kind Large s.kind && (has_condemned_part 2 s && (stands_in s p.place && nat_le (part_start small 2 s)
+      is_large_or_pinned s.kind && (has_condemned_part 2 s && (stands_in s p.place && nat_le (part_start small 2 s)
       p.place))) small.segments t (small-in t known kind)
-      (and_from (same_kind Large t.kind)
+      (and_from (is_large_or_pinned t.kind)
       (has_condemned_part 2 t && (stands_in t p.place && nat_le (part_start small 2 t) p.place)) kind
       (and_from (has_condemned_part 2 t) (stands_in t p.place && nat_le (part_start small 2 t) p.place)
       (part-taken t.kind)
@@ -336,18 +343,18 @@ module _ (rows : List TypeRow) (old new : HeapView) (base : Machine) (swept : Ha
 
   -- no old free item stands outside of the condemned parts
   old-gone : (p : Piece) → IsIn p m.layout.free → is_in_part is_small_or_ephemeral m.layout 2 p ≡ false
-      → is_in_part (same_kind Large) small 2 p ≡ false → ⊥
+      → is_in_part (is_large_or_pinned) small 2 p ≡ false → ⊥
   old-gone p i not_small not_large =
       let among : IsIn p (pieces m) =
       into_sorted_by (λ (p : Piece). p.place) p ((map (object_piece rows) m.objects ++ m.layout.free)
       ++ rest_pieces m.layout.rests) (append_left (rest_pieces m.layout.rests)
       (append_right (map (object_piece rows) m.objects) i)) in
       let home = piece-home m laid p among in
-      go home.home home.among home.stands home.low (same_kind Large home.home.kind) refl
+      go home.home home.among home.stands home.low (is_large_or_pinned home.home.kind) refl
     where
       go : (t : SegInfo) → IsIn t old.segments → stands_in t p.place ≡ true → first_place t ≤ p.place → (b : Bool)
-          → same_kind Large t.kind ≡ b → ⊥
-      go t known stands low true e = both_ways (is_in_part (same_kind Large) small 2 p) not_large
+          → is_large_or_pinned t.kind ≡ b → ⊥
+      go t known stands low true e = both_ways (is_in_part (is_large_or_pinned) small 2 p) not_large
           (in-large-part t p known e stands low)
       go t known stands low false e = both_ways (is_in_part is_small_or_ephemeral m.layout 2 p) not_small
           (in-small-part t p known (other-small t.kind e) stands low)
@@ -358,13 +365,13 @@ module _ (rows : List TypeRow) (old new : HeapView) (base : Machine) (swept : Ha
   -- what the machine's sweep leaves free is new
   out-of-free : (p : Piece) → IsIn p after.free → (t : SegInfo) × IsIn t old.segments × IsIn p (fresh t)
   out-of-free p i =
-      elim (after-is (same_kind Large) small 2
-      (flat_map (swept_free small 2 stay) (taking_part (same_kind Large) 2 small)) p i) [
+      elim (after-is (is_large_or_pinned) small 2
+      (flat_map (swept_free small 2 stay) (taking_part (is_large_or_pinned) 2 small)) p i) [
         | inl (not_large, j) ↦ from_small not_large j
         | inr j ↦ from_large j
       ]
     where
-      from_small : is_in_part (same_kind Large) small 2 p ≡ false → IsIn p small.free → (t : SegInfo)
+      from_small : is_in_part (is_large_or_pinned) small 2 p ≡ false → IsIn p small.free → (t : SegInfo)
           × IsIn t old.segments × IsIn p (fresh t)
       from_small not_large j =
           elim (after-is is_small_or_ephemeral m.layout 2
@@ -380,14 +387,15 @@ module _ (rows : List TypeRow) (old new : HeapView) (base : Machine) (swept : Ha
                 )
           ]
 
-      from_large : IsIn p (flat_map (swept_free small 2 stay) (taking_part (same_kind Large) 2 small)) → (t : SegInfo)
+      from_large : IsIn p (flat_map (swept_free small 2 stay) (taking_part (is_large_or_pinned) 2 small))
+          → (t : SegInfo)
           × IsIn t old.segments × IsIn p (fresh t)
       from_large j =
-          let (t, n, f) = from_part (swept_free small 2 stay) (taking_part (same_kind Large) 2 small) p j in
-          let (takes, known) = out_of_filter (λ (s : SegInfo). same_kind Large s.kind && has_condemned_part 2 s) t
+          let (t, n, f) = from_part (swept_free small 2 stay) (taking_part (is_large_or_pinned) 2 small) p j in
+          let (takes, known) = out_of_filter (λ (s : SegInfo). is_large_or_pinned s.kind && has_condemned_part 2 s) t
           small.segments n in
-          let large : same_kind Large t.kind ≡ true =
-          (and_parts (same_kind Large t.kind) (has_condemned_part 2 t) takes).0 in (
+          let large : is_large_or_pinned t.kind ≡ true =
+          (and_parts (is_large_or_pinned t.kind) (has_condemned_part 2 t) takes).0 in (
             t,
             large-known m laid 2 two kept [] small false (refl, refl) t known large,
             subst (IsIn p)
@@ -396,39 +404,41 @@ module _ (rows : List TypeRow) (old new : HeapView) (base : Machine) (swept : Ha
 
   -- and what is new is free
   into-free : (t : SegInfo) → IsIn t old.segments → (p : Piece) → IsIn p (fresh t) → IsIn p after.free
-  into-free t known p i = go (same_kind Large t.kind) refl
+  into-free t known p i = go (is_large_or_pinned t.kind) refl
     where
       fresh_large : List Piece
-      fresh_large = flat_map (swept_free small 2 stay) (taking_part (same_kind Large) 2 small)
+      fresh_large = flat_map (swept_free small 2 stay) (taking_part (is_large_or_pinned) 2 small)
 
       others : List Piece
-      others = filter (λ p. not (is_in_part (same_kind Large) small 2 p)) small.free
+      others = filter (λ p. not (is_in_part (is_large_or_pinned) small 2 p)) small.free
 
       -- no large segment holds what is new in another one
-      away : same_kind Large t.kind ≡ false → (b : Bool) → is_in_part (same_kind Large) small 2 p ≡ b → not b ≡ true
+      away : is_large_or_pinned t.kind ≡ false → (b : Bool) → is_in_part (is_large_or_pinned) small 2 p ≡ b
+          → not b ≡ true
       away e false f = refl
       away e true f =
           let (u, j, passes) =
           any-in (λ (s : SegInfo).
-          same_kind Large s.kind && (has_condemned_part 2 s && (stands_in s p.place && nat_le (part_start small 2 s)
+          is_large_or_pinned s.kind && (has_condemned_part 2 s && (stands_in s p.place && nat_le (part_start small 2 s)
           p.place))) small.segments f in
           let (kind, rest) =
-          and_parts (same_kind Large u.kind)
+          and_parts (is_large_or_pinned u.kind)
           (has_condemned_part 2 u && (stands_in u p.place && nat_le (part_start small 2 u) p.place)) passes in
           let (condemned, at) = and_parts (has_condemned_part 2 u) (stands_in u p.place && nat_le (part_start small 2 u)
           p.place) rest in
           let (stands, above) = and_parts (stands_in u p.place) (nat_le (part_start small 2 u) p.place) at in
           let there = large-known m laid 2 two kept [] small false (refl, refl) u j kind in
           let same : u ≡ t = one_home m.layout laid.layout u t p.place there known stands (fresh-stands t known p i) in
-          absurd (both_ways (same_kind Large t.kind) e (subst (λ (v : SegInfo). same_kind Large v.kind ≡ true) same
+          absurd (both_ways (is_large_or_pinned t.kind) e
+          (subst (λ (v : SegInfo). is_large_or_pinned v.kind ≡ true) same
           kind))
 
-      go : (b : Bool) → same_kind Large t.kind ≡ b → IsIn p after.free
+      go : (b : Bool) → is_large_or_pinned t.kind ≡ b → IsIn p after.free
       go true e =
           into_sorted_by (λ (p : Piece). p.place) p (others ++ fresh_large) (append_right others
-          (into_part (swept_free small 2 stay) (taking_part (same_kind Large) 2 small) t p
-          (into_filter (λ (s : SegInfo). same_kind Large s.kind && has_condemned_part 2 s) small.segments
-          (and_from (same_kind Large t.kind) (has_condemned_part 2 t) e (part-taken t.kind)) (small-in t known e))
+          (into_part (swept_free small 2 stay) (taking_part (is_large_or_pinned) 2 small) t p
+          (into_filter (λ (s : SegInfo). is_large_or_pinned s.kind && has_condemned_part 2 s) small.segments
+          (and_from (is_large_or_pinned t.kind) (has_condemned_part 2 t) e (part-taken t.kind)) (small-in t known e))
           (subst (IsIn p) (same-free m.layout small stay t (large-not_ephemeral t.kind e)) i)))
       go false e =
           let here : IsIn p small.free =
@@ -440,8 +450,8 @@ module _ (rows : List TypeRow) (old new : HeapView) (base : Machine) (swept : Ha
           (and_from (is_small_or_ephemeral t.kind) (has_condemned_part 2 t) (other-small t.kind e)
           (part-taken t.kind)) known) i)) in
           into_sorted_by (λ (p : Piece). p.place) p (others ++ fresh_large)
-          (append_left fresh_large (into_filter (λ p. not (is_in_part (same_kind Large) small 2 p)) small.free
-          (away e (is_in_part (same_kind Large) small 2 p) refl) here))
+          (append_left fresh_large (into_filter (λ p. not (is_in_part (is_large_or_pinned) small 2 p)) small.free
+          (away e (is_in_part (is_large_or_pinned) small 2 p) refl) here))
 
   -- THE FREE ITEMS of the heap are those that the machine's sweep leaves
   pub free_swept : free_in rows new ≡ after.free

@@ -14,7 +14,7 @@ use Rattle.clr_types.specs.Types.{TypeRow}
 use Rattle.clr_types.specs.declared.item.Item.{Item}
 use Rattle.clr_types.specs.declared.segment.SegInfo.{SegInfo}
 use Rattle.clr_types.specs.declared.segment.SegKind.{SegKind}
-use Rattle.clr_types.specs.declared.segment.SegKind.TheVariants.{Ephemeral, Large, Small}
+use Rattle.clr_types.specs.declared.segment.SegKind.TheVariants.{Ephemeral, Large, Small, Pinned}
 use Rattle.clr_types.proofs.ChangedLists.{append_left, into_filter, IsIn-map, out_of_filter}
 use Rattle.clr_types.proofs.ListMembers.{any-from, any-in, append_right, filter-rises, from-map}
 use Rattle.clr_types.proofs.HighestSegment.{ephemeral-one}
@@ -49,18 +49,21 @@ others-none : (k : SegKind) (two : Bool) → same_kind Ephemeral k ≡ false →
 others-none Small two e none = none
 others-none Ephemeral two e none = absurd cc
 others-none Large two e none = refl
+others-none Pinned two e none = refl
 
 young-takes : (k : SegKind) (two : Bool) → same_kind Ephemeral k ≡ true
     → (is_small_or_ephemeral k && (same_kind Ephemeral k || two)) ≡ true
 young-takes Small two e = absurd cc
 young-takes Ephemeral two e = refl
 young-takes Large two e = absurd cc
+young-takes Pinned two e = absurd cc
 
 takes-young : (k : SegKind) (two : Bool) → two ≡ false → (is_small_or_ephemeral k && (same_kind Ephemeral k || two))
     ≡ true → same_kind Ephemeral k ≡ true
 takes-young Small two none e = absurd (both_ways two none e)
 takes-young Ephemeral two none e = refl
 takes-young Large two none e = absurd cc
+takes-young Pinned two none e = absurd cc
 
 module _ (rows : List TypeRow) (old : HeapView) (base : Machine) (heap : IsHeap old) (held : IsHeld rows old)
     (none : old.rests ≡ no_rests) (laid : IsLaid (seen rows old base)) (g : ℕ) (young : g ≤ 1) (k : ℕ)

@@ -10,7 +10,7 @@ use Rattle.clr_types.specs.declared.segment.SegKind.TheVariants.{Large}
 use Rattle.clr_heap.specs.View.{frame, heap_items, HeapView, last_of, segment_at, word_of}
 use Rattle.clr_model.specs.Lookups.{object_size}
 use Rattle.clr_model.specs.Machine.{Machine, Object}
-use Rattle.clr_model.specs.Sweep.{has_condemned_part, part_start, Survivor, survivors, swept_kind, swept_small}
+use Rattle.clr_model.specs.Sweep.{has_condemned_part, part_start, Survivor, survivors, swept_others, swept_small}
 use Rattle.clr_view.specs.Marks.{Marked}
 use Rattle.clr_view.specs.Memory.{is_left, is_marked, is_reached_by, IsMemoryOf, TestsMarks, word_without_mark}
 use Rattle.clr_view.specs.View.{AreFreeHeads, is_object, IsHeld, layout_in, objects_in}
@@ -18,7 +18,7 @@ use Rattle.clr_sweep.specs.declared.tally.Tally.{Tally}
 
 -- the layout that a sweep leaves, where these objects stay: one of all generations goes over the large segments too
 abbrev pub swept_layout : Layout → ℕ → List Survivor → Layout
-swept_layout layout g survive = if g == 2 then swept_kind Large (swept_small layout 2 survive) 2 survive
+swept_layout layout g survive = if g == 2 then swept_others (swept_small layout 2 survive) 2 survive
     else swept_small layout g survive
 
 -- the word at b of an item's cell afterwards: without the mark, where a sweep of generation g goes over the object

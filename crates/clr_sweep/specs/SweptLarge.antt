@@ -15,19 +15,20 @@ use Rattle.clr_generations.specs.Renewing.{AreLeft, left_in}
 use Rattle.clr_heap.specs.View.{first_of, frame, heap_items, HeapView, segment_at, word_of}
 use Rattle.clr_model.specs.Lookups.{object_piece}
 use Rattle.clr_model.specs.Machine.{Object}
-use Rattle.clr_model.specs.Sweep.{Survivor, survivor_pieces, swept_kind}
+use Rattle.clr_model.specs.Sweep.{Survivor, survivor_pieces, swept_others}
 use Rattle.clr_view.specs.Marks.{Marked}
 use Rattle.clr_view.specs.Memory.{is_marked, word_without_mark}
 use Rattle.clr_view.specs.View.{AreFreeHeads, is_object, IsHeld, layout_in, objects_in}
+use Rattle.clr_types.specs.Segments.{is_large_or_pinned}
 
 -- whether a place stands in a large segment
 abbrev pub is_large_place : HeapView → ℕ → Bool
-is_large_place h place = list_any (λ s. same_kind Large s.kind && stands_in s place) h.segments
+is_large_place h place = list_any (λ s. is_large_or_pinned s.kind && stands_in s place) h.segments
 
 -- what survives in a large segment are its marked objects
 abbrev pub TellsLarge : List TypeRow → HeapView → List Survivor → Type 0
 TellsLarge rows h survive =
-    (s : SegInfo) → IsIn s h.segments → same_kind Large s.kind ≡ true
+    (s : SegInfo) → IsIn s h.segments → is_large_or_pinned s.kind ≡ true
     → survivor_pieces s survive
     ≡ map (object_piece rows) (filter (λ o. stands_in s o.place && is_marked h o) (objects_in rows h))
 
@@ -37,7 +38,7 @@ pub record HasSweptLarge (rows : List TypeRow) (old new : HeapView) : Type 0 whe
   pub objects : objects_in rows new
       ≡ filter (λ o. not (is_large_place old o.place) || is_marked old o) (objects_in rows old)
   pub layout : (survive : List Survivor) → TellsLarge rows old survive
-      → layout_in rows new ≡ swept_kind Large (layout_in rows old) 2 survive
+      → layout_in rows new ≡ swept_others (layout_in rows old) 2 survive
   pub cells : (i : Item) (b : ℕ) → IsIn i (heap_items rows new) → is_object i ≡ true → b % 8 ≡ 0 → i.place ≤ b + 8
       → b + 8 < i.place + i.size
       → word_of new b ≡ (if is_large_place old i.place then word_without_mark old i b else word_of old b)
@@ -51,7 +52,7 @@ pub record HasSweptLarge (rows : List TypeRow) (old new : HeapView) : Type 0 whe
 
 -- whether segment k is a large one
 abbrev pub is_large : HeapView → ℕ → Bool
-is_large h k = same_kind Large (segment_at h k).kind
+is_large h k = is_large_or_pinned (segment_at h k).kind
 
 -- the bricks of the large segments obey their law
 abbrev pub HaveLargeBricks : List TypeRow → HeapView → List (CoverView ℤ) → Type 0

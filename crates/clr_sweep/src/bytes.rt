@@ -79,7 +79,7 @@ fn is_small(kind: SegKind) -> bool
 {
     match kind {
         SegKind::Small | SegKind::Ephemeral => true,
-        SegKind::Large => false,
+        SegKind::Large | SegKind::Pinned => false,
     }
 }
 

@@ -6,7 +6,7 @@ ghost use Rattle.clr_heap.specs.View.{HasItem, word_of};
 ghost use Rattle.clr_sweep.specs.Dead.{IsDeadKind, known_size};
 
 use clr_heap::{Heap, Item};
-use clr_types::Types;
+use clr_types::{Types, mark};
 
 /// What is known of the unmarked objects of one type without a length.
 #[derive(Clone, Copy)]
@@ -30,8 +30,8 @@ pub fn dead_size(known: Option<DeadKind>, mt: u64) -> Option<u64>
 }
 
 /// The item at `place` in segment `k`, where `mt` is its method table word, as `Heap::item_of_word` tells it. Its kind
-/// becomes known where it is an unmarked object without a length; else what is known stays. That is for speed alone, so the
-/// clauses say only that what is known is so.
+/// becomes known where it is an unmarked object without a length; else what is known stays. That is for speed alone, so
+/// the clauses say only that what is known is so.
 #[inline(always)]
 pub fn item_and_kind(
     heap: &Heap,
@@ -50,7 +50,7 @@ pub fn item_and_kind(
     ensures known { IfSome known.new (IsDeadKind types.now) }
 {
     let found = heap.item_of_word(types, k, place, mt);
-    if mt % 2 == 0 && found.type_id.0 != 0 && !types.has_length(found.type_id) {
+    if !mark::is_marked(mt) && found.type_id.0 != 0 && !types.has_length(found.type_id) {
         *known = Some(DeadKind {
             mt,
             size: found.size,

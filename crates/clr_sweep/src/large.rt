@@ -7,6 +7,7 @@ ghost use Rattle.clr_generations.specs.Renewing.{AreLeft, HasYoungBorder, left_i
 ghost use Rattle.clr_generations.specs.Tables.{AreBricksOf};
 ghost use Rattle.clr_heap.specs.View.{first_of, frame, IsHeap, no_rests, segment_at};
 ghost use Rattle.clr_model.specs.Machine.{Object};
+ghost use Rattle.clr_types.specs.Segments as segments;
 ghost use Rattle.clr_types.specs.Segments.{Layout};
 ghost use Rattle.clr_view.specs.View.{IsHeld, objects_in};
 ghost use Rattle.clr_sweep.specs.SweptLarge.{AreLargeRenewed, HasSweptLarge, HaveLargeBricks, is_large};
@@ -60,6 +61,16 @@ fn renew_large_bricks(heap: &Heap, types: &Types, bricks: &mut Bricks)
     }
 }
 
+// Whether segments of this kind aren't of the small heap.
+fn is_large_or_pinned(kind: SegKind) -> bool
+    ensures { result ≡ segments.is_large_or_pinned kind }
+{
+    match kind {
+        SegKind::Small | SegKind::Ephemeral => false,
+        SegKind::Large | SegKind::Pinned => true,
+    }
+}
+
 // Renews the bricks of segment `k` if it is a large one.
 fn renew_if_large(heap: &Heap, types: &Types, bricks: &mut Bricks, k: usize)
     requires in_range { k < length heap.now.segments }
@@ -80,7 +91,7 @@ fn renew_if_large(heap: &Heap, types: &Types, bricks: &mut Bricks, k: usize)
     ensures spans { spans bricks.new ≡ spans bricks.old }
 {
     let segment = heap.info(k);
-    if segment.kind == SegKind::Large {
+    if is_large_or_pinned(segment.kind) {
         renew_bricks(heap, types, bricks, k, segment.base + FIRST_OFFSET);
     }
 }
@@ -107,7 +118,7 @@ fn sweep_if_large(heap: &mut Heap, types: &Types, k: usize)
     ensures small { is_large heap.old k ≡ false → heap.new ≡ heap.old }
 {
     let segment = heap.info(k);
-    if segment.kind == SegKind::Large {
+    if is_large_or_pinned(segment.kind) {
         sweep_segment(heap, types, k, segment.base + FIRST_OFFSET, Tally::NONE);
     }
 }

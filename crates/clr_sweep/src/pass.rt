@@ -11,7 +11,7 @@ ghost use Rattle.clr_sweep.specs.SweptSegments.{HasSweptSegment, IsParted};
 
 use crate::tally::Tally;
 use clr_heap::{Heap, Item};
-use clr_types::{FREE_MT, Types};
+use clr_types::{FREE_MT, Types, mark};
 
 // Where a pass stands, where the run begins of what doesn't stay, where the last item that stays ended, and the counts
 // so far.
@@ -88,7 +88,7 @@ fn step(heap: &mut Heap, types: &Types, k: usize, pass: Pass) -> Pass
 pub(crate) fn is_kept(found: Item, mt: u64) -> bool
     ensures { result ≡ (is_object found && has_mark mt) }
 {
-    found.type_id.0 != 0 && mt % 2 == 1
+    found.type_id.0 != 0 && mark::is_marked(mt)
 }
 
 // The counts with an item more.
@@ -103,7 +103,7 @@ pub(crate) fn with_item(heap: &Heap, tally: Tally, found: Item, mt: u64) -> Tall
     if found.type_id.0 == 0 {
         return tally;
     }
-    if mt % 2 == 0 {
+    if !mark::is_marked(mt) {
         return Tally {
             freed: tally.freed + 1,
             ..tally
@@ -130,7 +130,7 @@ fn keep(heap: &mut Heap, k: usize, run: u64, place: u64, mt: u64)
     ensures { heap.new ≡ stored (filled heap.old run place) place (unmarked mt) }
 {
     fill(heap, k, run, place);
-    heap.set_word_at(k, place, mt / 2 * 2);
+    heap.set_word_at(k, place, mark::unmarked(mt));
 }
 
 // Ends the run at `next` where a generation begins there, and answers where the run begins that the next item belongs

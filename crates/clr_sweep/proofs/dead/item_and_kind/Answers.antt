@@ -1,4 +1,4 @@
-use Rattle.std.proofs.Common.{ℕ, ◌≤◌, nat_eq, not, length, ap, sym, ◌∙◌, subst}
+use Rattle.std.proofs.Common.{ℕ, ◌≤◌, not, length, ap, sym, ◌∙◌, subst}
 use Rattle.std.proofs.lemmas.Bool.{ne_eqb}
 use Rattle.clr_types.specs.declared.item.Item.{Item}
 use Rattle.clr_heap.specs.View.{word_of}
@@ -16,6 +16,6 @@ has_length-requires c =
 pub returns-then-not-has_length-clause-known : goal.returns-then-not-has_length-clause-known
 returns-then-not-has_length-clause-known c =
     dead_kind c.args.types.now (word_of c.args.heap.now) c.args.place c.args.mt c.item_of_word-found.result
-    c.requires.mt c.item_of_word-found.ensures (ap (λ (n : ℕ). nat_eq n 1) c.if-mt-eq0.true)
+    c.requires.mt c.item_of_word-found.ensures (sym c.is_marked.ensures ∙ c.if-not-is_marked.true)
     (ap not (ne_eqb c.item_of_word-found.result.type_id.0 0 c.if-found-ne0.true))
     (sym c.has_length.ensures ∙ c.if-not-has_length.true)

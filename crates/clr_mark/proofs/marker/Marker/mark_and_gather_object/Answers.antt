@@ -1,5 +1,5 @@
-use Rattle.std.proofs.Common.{◌≡◌, ℕ, ◌+◌, ◌%◌, ap, ◌∙◌, sym}
-use Rattle.std.proofs.lemmas.Bool.{eq-eqb, ne_eqb}
+use Rattle.std.proofs.Common.{◌≡◌, ℕ, ◌+◌, ap, ◌∙◌, sym}
+use Rattle.clr_types.specs.Bits.{has_mark}
 use Rattle.clr_heap.specs.Memories.{memory_index}
 use Rattle.clr_heap.specs.View.{HeapView, stored, word_of}
 use Rattle.clr_heap.proofs.Storing.{memory_index-store_in}
@@ -13,14 +13,13 @@ word_at-word-requires-clause-word c =
     object_word c.args.types.now c.args.heap.now 0 c.args.obj c.requires.closed.heap c.requires.closed.held
     (c.requires.closed.named t.by c.args.obj t.named)
 
-pub returns-then-word-eq1-clause-met : goal.returns-then-word-eq1-clause-met
-returns-then-word-eq1-clause-met c = met-refl c.args.types.now c.args.heap.now c.args.self.now c.args.targets.now
+pub returns-then-is_marked-clause-met : goal.returns-then-is_marked-clause-met
+returns-then-is_marked-clause-met c = met-refl c.args.types.now c.args.heap.now c.args.self.now c.args.targets.now
 
-pub returns-then-word-eq1-clause-marked : goal.returns-then-word-eq1-clause-marked
-returns-then-word-eq1-clause-marked c =
+pub returns-then-is_marked-clause-marked : goal.returns-then-is_marked-clause-marked
+returns-then-is_marked-clause-marked c =
     let h = c.args.heap.now in
-    let on = eq-eqb (word_of h c.args.obj % 2) 1
-    (sym (ap (λ (w : ℕ). w % 2) c.word_at-word.ensures) ∙ c.if-word-eq1.true) in
+    let on = ap has_mark (sym c.word_at-word.ensures) ∙ sym c.is_marked.ensures ∙ c.if-is_marked.true in
     met_marked_before c.args.types.now h c.args.self.now c.args.obj c.args.targets.now c.args.targets.now
     c.requires.closed c.requires.named c.requires.condemned on
 
@@ -34,8 +33,7 @@ pub add_targets-requires-clause-closed : goal.add_targets-requires-clause-closed
 add_targets-requires-clause-closed c =
     let rows = c.args.types.now in
     let h = c.args.heap.now in
-    let off = ne_eqb (word_of h c.args.obj % 2) 1
-    (λ e. c.if-word-eq1.false (ap (λ (w : ℕ). w % 2) c.word_at-word.ensures ∙ e)) in
+    let off = ap has_mark (sym c.word_at-word.ensures) ∙ sym c.is_marked.ensures ∙ c.if-is_marked.false in
     let made : c.set_word_at.new.self ≡ stored h c.args.obj (word_of h c.args.obj + 1) =
     c.set_word_at.ensures ∙ ap (λ (w : ℕ). stored h c.args.obj (w + 1)) c.word_at-word.ensures in
     closed_then rows h c.args.self.now c.args.obj c.args.targets.now c.args.targets.now c.requires.closed
@@ -45,8 +43,7 @@ pub add_targets-requires-clause-marked : goal.add_targets-requires-clause-marked
 add_targets-requires-clause-marked c =
     let rows = c.args.types.now in
     let h = c.args.heap.now in
-    let off = ne_eqb (word_of h c.args.obj % 2) 1
-    (λ e. c.if-word-eq1.false (ap (λ (w : ℕ). w % 2) c.word_at-word.ensures ∙ e)) in
+    let off = ap has_mark (sym c.word_at-word.ensures) ∙ sym c.is_marked.ensures ∙ c.if-is_marked.false in
     let made : c.set_word_at.new.self ≡ stored h c.args.obj (word_of h c.args.obj + 1) =
     c.set_word_at.ensures ∙ ap (λ (w : ℕ). stored h c.args.obj (w + 1)) c.word_at-word.ensures in
     marked_then rows h c.args.self.now c.args.obj c.args.targets.now c.args.targets.now c.requires.closed
@@ -62,8 +59,7 @@ pub returns-then-not-add_targets-clause-met : goal.returns-then-not-add_targets-
 returns-then-not-add_targets-clause-met c =
     let rows = c.args.types.now in
     let h = c.args.heap.now in
-    let off = ne_eqb (word_of h c.args.obj % 2) 1
-    (λ e. c.if-word-eq1.false (ap (λ (w : ℕ). w % 2) c.word_at-word.ensures ∙ e)) in
+    let off = ap has_mark (sym c.word_at-word.ensures) ∙ sym c.is_marked.ensures ∙ c.if-is_marked.false in
     let made : c.set_word_at.new.self ≡ stored h c.args.obj (word_of h c.args.obj + 1) =
     c.set_word_at.ensures ∙ ap (λ (w : ℕ). stored h c.args.obj (w + 1)) c.word_at-word.ensures in
     waiting_then rows h c.args.self.now c.args.obj c.args.targets.now c.add_targets.new.targets c.requires.closed
@@ -74,8 +70,7 @@ pub returns-then-not-add_targets-clause-marked : goal.returns-then-not-add_targe
 returns-then-not-add_targets-clause-marked c =
     let rows = c.args.types.now in
     let h = c.args.heap.now in
-    let off = ne_eqb (word_of h c.args.obj % 2) 1
-    (λ e. c.if-word-eq1.false (ap (λ (w : ℕ). w % 2) c.word_at-word.ensures ∙ e)) in
+    let off = ap has_mark (sym c.word_at-word.ensures) ∙ sym c.is_marked.ensures ∙ c.if-is_marked.false in
     let made : c.set_word_at.new.self ≡ stored h c.args.obj (word_of h c.args.obj + 1) =
     c.set_word_at.ensures ∙ ap (λ (w : ℕ). stored h c.args.obj (w + 1)) c.word_at-word.ensures in
     marked_then rows h c.args.self.now c.args.obj c.args.targets.now c.add_targets.new.targets c.requires.closed
@@ -85,8 +80,7 @@ pub returns-else-not-add_targets-clause-met : goal.returns-else-not-add_targets-
 returns-else-not-add_targets-clause-met c =
     let rows = c.args.types.now in
     let h = c.args.heap.now in
-    let off = ne_eqb (word_of h c.args.obj % 2) 1
-    (λ e. c.if-word-eq1.false (ap (λ (w : ℕ). w % 2) c.word_at-word.ensures ∙ e)) in
+    let off = ap has_mark (sym c.word_at-word.ensures) ∙ sym c.is_marked.ensures ∙ c.if-is_marked.false in
     let made : c.set_word_at.new.self ≡ stored h c.args.obj (word_of h c.args.obj + 1) =
     c.set_word_at.ensures ∙ ap (λ (w : ℕ). stored h c.args.obj (w + 1)) c.word_at-word.ensures in
     gathered_then rows h c.args.self.now c.args.obj c.args.targets.now c.add_targets.new.targets c.requires.closed
@@ -97,8 +91,7 @@ pub returns-else-not-add_targets-clause-marked : goal.returns-else-not-add_targe
 returns-else-not-add_targets-clause-marked c =
     let rows = c.args.types.now in
     let h = c.args.heap.now in
-    let off = ne_eqb (word_of h c.args.obj % 2) 1
-    (λ e. c.if-word-eq1.false (ap (λ (w : ℕ). w % 2) c.word_at-word.ensures ∙ e)) in
+    let off = ap has_mark (sym c.word_at-word.ensures) ∙ sym c.is_marked.ensures ∙ c.if-is_marked.false in
     let made : c.set_word_at.new.self ≡ stored h c.args.obj (word_of h c.args.obj + 1) =
     c.set_word_at.ensures ∙ ap (λ (w : ℕ). stored h c.args.obj (w + 1)) c.word_at-word.ensures in
     marked_then rows h c.args.self.now c.args.obj c.args.targets.now c.add_targets.new.targets c.requires.closed

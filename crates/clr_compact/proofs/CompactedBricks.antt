@@ -54,9 +54,11 @@ use Rattle.clr_compact.proofs.Gone.{goes_with, into_parts, lands_at, out_of_part
 use Rattle.clr_compact.proofs.MemoryItems.{item_of}
 use Rattle.clr_compact.proofs.PartBricks.{all_obey}
 use Rattle.clr_moves.proofs.PlannedMoves.{are-moves, seen-compacted, seen-laid}
+use Rattle.clr_moves.specs.declared.parts.Parts.TheVariants.{Generations}
 
 -- a segment without a part doesn't meet the ephemeral one
-pub not-young : (h : HeapView) (g t place : ℕ) → IsHeap h → t < length h.segments → takes g (segment_at h t) ≡ false
+pub not-young : (h : HeapView) (g t place : ℕ) → IsHeap h → t < length h.segments
+    → takes (Generations g) (segment_at h t) ≡ false
     → stands_in (segment_at h t) place ≡ true → stands_in (ephemeral (frame h)) place ≡ false
 not-young h g t place heap inside off stands = elim (cases_Bool (stands_in (ephemeral (frame h)) place)) [
   | inr apart ↦ apart
@@ -71,16 +73,19 @@ not-young h g t place heap inside off stands = elim (cases_Bool (stands_in (ephe
       subst (λ (s : SegInfo). stands_in s place ≡ true) (sym found.2) meets in
       let between = stands-between (segment_at h e) place in_y in
       absurd (elim (cases_order t e) [
-        | inl at ↦ both_ways (takes g (segment_at h t)) off (ap (λ (n : ℕ). takes g (segment_at h n)) at ∙ on)
+        | inl at ↦ both_ways (takes (Generations g) (segment_at h t)) off
+            (ap (λ (n : ℕ). takes (Generations g) (segment_at h n)) at ∙ on)
         | inr (inl less) ↦ let order = segment_order h t e heap less in_e in omega arith
         | inr (inr more) ↦ let order = segment_order h e t heap more inside in omega arith
       ])
 ]
 
 -- a plan touches no brick of a segment without a part
-pub untouched-away : (h : HeapView) (g t b : ℕ) → IsHeap h → t < length h.segments → takes g (segment_at h t) ≡ false
-    → ((u : ℕ) → u < length h.segments → takes g (segment_at h u) ≡ true → first_of h u ≤ part_of h g u)
-    → IsBrickOf (segment_at h t) b → IsUntouched h g b
+pub untouched-away : (h : HeapView) (g t b : ℕ) → IsHeap h → t < length h.segments
+    → takes (Generations g) (segment_at h t) ≡ false
+    → ((u : ℕ) → u < length h.segments → takes (Generations g) (segment_at h u) ≡ true
+    → first_of h u ≤ part_of h (Generations g) u)
+    → IsBrickOf (segment_at h t) b → IsUntouched h (Generations g) b
 untouched-away h g t b heap inside off starts of u lu on =
     let base_t = (whole_bricks h t heap inside).base in
     let reserved_t = (whole_bricks h t heap inside).reserved in
@@ -88,7 +93,9 @@ untouched-away h g t b heap inside off starts of u lu on =
     let low = of.0 in
     let high = of.1 in
     elim (cases_order t u) [
-      | inl at ↦ absurd (both_ways (takes g (segment_at h t)) off (ap (λ (n : ℕ). takes g (segment_at h n)) at ∙ on))
+      | inl at ↦ absurd
+          (both_ways (takes (Generations g) (segment_at h t)) off
+          (ap (λ (n : ℕ). takes (Generations g) (segment_at h n)) at ∙ on))
       | inr (inl less) ↦
           let order = segment_order h t u heap less lu in
           let start = starts u lu on in
@@ -110,19 +117,21 @@ young-start layout (suc (suc g)) s kind young order = absurd (omega arith)
 
 module _ (rows : List TypeRow) (old : HeapView) (g : ℕ) (moves : List Move) (m : Machine) (kept : ℕ → Bool)
     (after : Layout)
-    (p : IsCompactionOf rows old g moves m kept after) (heap : IsHeap old) (held : IsHeld rows old)
-    (none : old.rests ≡ no_rests) (least : g ≤ 2) (mid : HeapView) (slid : HasSlid old mid g moves)
+    (p : IsCompactionOf rows old (Generations g) moves m kept after) (heap : IsHeap old) (held : IsHeld rows old)
+    (none : old.rests ≡ no_rests) (least : g ≤ 2) (mid : HeapView) (slid : HasSlid old mid (Generations g) moves)
     (mid_heap : IsHeap mid)
     (clean : HeapView) (shape : SameShape mid clean)
-    (words : Rewrites (cleared (part_items rows mid g (length mid.segments))) (word_of mid) (word_of clean))
-    (start1 start0 : ℕ) (done : HasCompacted rows old (record clean { start1 = start1; start0 = start0 }) g moves)
+    (words : Rewrites (cleared (part_items rows mid (Generations g) (length mid.segments))) (word_of mid)
+    (word_of clean))
+    (start1 start0 : ℕ)
+    (done : HasCompacted rows old (record clean { start1 = start1; start0 = start0 }) (Generations g) moves)
     (one : after.start1 ≡ start1) (two : after.start0 ≡ start0)
     (fin_heap : IsHeap (record clean { start1 = start1; start0 = start0 })) where
   abbrev fin : HeapView
   fin = record clean { start1 = start1; start0 = start0 }
 
-  am : AreMoves old g moves
-  am = are-moves rows old g moves m kept after p least
+  am : AreMoves old (Generations g) moves
+  am = are-moves rows old (Generations g) moves m kept after p least
 
   -- ---- segments
 
@@ -132,86 +141,92 @@ module _ (rows : List TypeRow) (old : HeapView) (g : ℕ) (moves : List Move) (m
   clean-at : (t : ℕ) → segment_at fin t ≡ segment_at mid t
   clean-at t = ap (λ (h : HeapView). segment_at h t) shape.others
 
-  pub fin-off : (t : ℕ) → t < length old.segments → takes g (segment_at old t) ≡ false
+  pub fin-off : (t : ℕ) → t < length old.segments → takes (Generations g) (segment_at old t) ≡ false
       → segment_at fin t ≡ segment_at old t
   fin-off t l off = clean-at t ∙ slid.rest t l off
 
-  pub fin-on : (t : ℕ) → t < length old.segments → takes g (segment_at old t) ≡ true
+  pub fin-on : (t : ℕ) → t < length old.segments → takes (Generations g) (segment_at old t) ≡ true
       → (e : ℕ) × (segment_at fin t ≡ ended_at e (segment_at old t))
   fin-on t l on = let (e, ends, is) = slid.parts t l on in (e, clean-at t ∙ is)
 
   -- what doesn't depend on a segment's end is as it was
   pub fin-same : {X : Type 0} (f : SegInfo → X) → ((e : ℕ) (s : SegInfo) → f (ended_at e s) ≡ f s) → (t : ℕ)
       → t < length old.segments → f (segment_at fin t) ≡ f (segment_at old t)
-  fin-same f stays t l = ap f (clean-at t) ∙ mid-same old g moves mid slid f stays t l
+  fin-same f stays t l = ap f (clean-at t) ∙ mid-same old (Generations g) moves mid slid f stays t l
 
   -- ---- objects of no part
 
-  item-at : (o : Object) → IsIn o (objects_in rows old) → is_in_parts old g o.place ≡ false
+  item-at : (o : Object) → IsIn o (objects_in rows old) → is_in_parts old (Generations g) o.place ≡ false
       → moved_by moves o.place ≡ o.place
   item-at o n away =
-      let of = item_of rows old m heap held (seen-laid rows old g moves m kept after p) o n in
+      let of = item_of rows old m heap held (seen-laid rows old (Generations g) moves m kept after p) o n in
       let place : o.place ≡ of.item.place = ap (λ (x : Object). x.place) of.is in
-      let away_i : is_in_parts old g of.item.place ≡ false = subst (λ q. is_in_parts old g q ≡ false) place away in
+      let away_i : is_in_parts old (Generations g) of.item.place ≡ false = subst (λ q. is_in_parts old (Generations g) q ≡ false) place away in
       ap (moved_by moves) place
-      ∙ unmoved rows old m heap held none (seen-laid rows old g moves m kept after p) g least kept moves after
-      (seen-compacted rows old g moves m kept after p) mid slid p.tests of.item of.listed of.object away_i
+      ∙ unmoved rows old m heap held none
+      (seen-laid rows old (Generations g) moves m kept after p) g least kept moves after
+      (seen-compacted rows old (Generations g) moves m kept after p) mid slid p.tests of.item of.listed of.object away_i
       ∙ sym place
 
-  pub stands-still : (o : Object) → IsIn o (objects_in rows old) → is_in_parts old g o.place ≡ false
+  pub stands-still : (o : Object) → IsIn o (objects_in rows old) → is_in_parts old (Generations g) o.place ≡ false
       → Stands (objects_in rows fin) o.place
   stands-still o n away =
-      let spared : is_spared old g o ≡ true =
-      or_right (is_marked old o) (not (is_in_parts old g o.place)) (ap not away) in (
+      let spared : is_spared old (Generations g) o ≡ true =
+      or_right (is_marked old o) (not (is_in_parts old (Generations g) o.place)) (ap not away) in (
         moved_object moves o,
         subst (IsIn (moved_object moves o)) (sym done.objects)
             (into_sorted_by (λ (q : Object). q.name) (moved_object moves o)
-            (map (moved_object moves) (filter (is_spared old g) (objects_in rows old)))
-            (IsIn-map (moved_object moves) (into_filter (is_spared old g) (objects_in rows old) spared n))),
+            (map (moved_object moves) (filter (is_spared old (Generations g)) (objects_in rows old)))
+            (IsIn-map (moved_object moves)
+            (into_filter (is_spared old (Generations g)) (objects_in rows old) spared n))),
         item-at o n away,
       )
 
-  pub stood-still : (q : Object) → IsIn q (objects_in rows fin) → is_in_parts old g q.place ≡ false
+  pub stood-still : (q : Object) → IsIn q (objects_in rows fin) → is_in_parts old (Generations g) q.place ≡ false
       → (o : Object) × IsIn o (objects_in rows old) × (o.place ≡ q.place) × (object_size rows o ≡ object_size rows q)
   stood-still q n away =
       let sorted = subst (IsIn q) done.objects n in
       let (o, is, listed) =
-      from-map (moved_object moves) q (filter (is_spared old g) (objects_in rows old))
+      from-map (moved_object moves) q (filter (is_spared old (Generations g)) (objects_in rows old))
       (out_of_sorted_by (λ (q : Object). q.name) q
-      (map (moved_object moves) (filter (is_spared old g) (objects_in rows old))) sorted) in
-      let (spared, present) = out_of_filter (is_spared old g) o (objects_in rows old) listed in
+      (map (moved_object moves) (filter (is_spared old (Generations g)) (objects_in rows old))) sorted) in
+      let (spared, present) = out_of_filter (is_spared old (Generations g)) o (objects_in rows old) listed in
       let at : q.place ≡ moved_by moves o.place = ap (λ (x : Object). x.place) is in
       let size : object_size rows q ≡ object_size rows o = ap (object_size rows) is in
-      elim (cases_Bool (is_in_parts old g o.place)) [
+      elim (cases_Bool (is_in_parts old (Generations g) o.place)) [
         | inr out ↦ (o, present, sym (item-at o present out) ∙ sym at, sym size)
-        | inl in_part ↦ absurd (both_ways (is_in_parts old g q.place) away (landed o present spared in_part q at))
+        | inl in_part ↦ absurd
+            (both_ways (is_in_parts old (Generations g) q.place) away (landed o present spared in_part q at))
       ]
     where
-      landed : (o : Object) → IsIn o (objects_in rows old) → is_spared old g o ≡ true → is_in_parts old g o.place ≡ true
-          → (q : Object) → q.place ≡ moved_by moves o.place → is_in_parts old g q.place ≡ true
+      landed : (o : Object) → IsIn o (objects_in rows old) → is_spared old (Generations g) o ≡ true
+          → is_in_parts old (Generations g) o.place ≡ true
+          → (q : Object) → q.place ≡ moved_by moves o.place → is_in_parts old (Generations g) q.place ≡ true
       landed o present spared in_part q at =
-          let of = item_of rows old m heap held (seen-laid rows old g moves m kept after p) o present in
+          let of = item_of rows old m heap held (seen-laid rows old (Generations g) moves m kept after p) o present in
           let place : o.place ≡ of.item.place = ap (λ (x : Object). x.place) of.is in
           let mark : is_marked old o ≡ true =
-          elim (or_cases (is_marked old o) (not (is_in_parts old g o.place)) spared) [
+          elim (or_cases (is_marked old o) (not (is_in_parts old (Generations g) o.place)) spared) [
             | inl marked ↦ marked
-            | inr out ↦ absurd (both_ways (not (is_in_parts old g o.place)) (ap not in_part) out)
+            | inr out ↦ absurd (both_ways (not (is_in_parts old (Generations g) o.place)) (ap not in_part) out)
           ] in
-          let gone = goes_with rows old m heap held none (seen-laid rows old g moves m kept after p)
-          g least kept moves after (seen-compacted rows old g moves m kept after p)
+          let gone = goes_with rows old m heap held none (seen-laid rows old (Generations g) moves m kept after p)
+          g least kept moves after (seen-compacted rows old (Generations g) moves m kept after p)
           mid slid p.tests of.item of.listed of.object
           (subst (λ n. has_mark (word_of old n) ≡ true) place mark)
-          (subst (λ n. is_in_parts old g n ≡ true) place in_part) in
-          let lands = lands_at rows old m heap held none (seen-laid rows old g moves m kept after p)
-          g least kept moves after (seen-compacted rows old g moves m kept after p) mid slid p.tests of.item gone in
+          (subst (λ n. is_in_parts old (Generations g) n ≡ true) place in_part) in
+          let lands = lands_at rows old m heap held none (seen-laid rows old (Generations g) moves m kept after p)
+          g least kept moves after
+          (seen-compacted rows old (Generations g) moves m kept after p) mid slid p.tests of.item gone in
           let to : q.place ≡ moved_by moves of.item.place = at ∙ ap (moved_by moves) place in
-          subst (λ n. is_in_parts old g n ≡ true) (sym to)
+          subst (λ n. is_in_parts old (Generations g) n ≡ true) (sym to)
           (into_parts old g lands.segment (moved_by moves of.item.place) lands.into lands.up)
 
   -- ---- segments alike
 
   alike : (t limit : ℕ)
-      → ((place : ℕ) → stands_in (segment_at old t) place ≡ true → place < limit → is_in_parts old g place ≡ false)
+      → ((place : ℕ) → stands_in (segment_at old t) place ≡ true → place < limit
+      → is_in_parts old (Generations g) place ≡ false)
       → ((place : ℕ) → stands_in (segment_at old t) place ≡ true → place < limit
       → (0 < generation (frame old) place) × (0 < generation (frame fin) place))
       → AreAlike rows (frame old) (frame fin) (objects_in rows old) (objects_in rows fin) (segment_at old t) limit
@@ -228,7 +243,8 @@ module _ (rows : List TypeRow) (old : HeapView) (g : ℕ) (moves : List Move) (m
   fin-held = done.held
 
   -- A SEGMENT WITHOUT A PART: its bricks tell what they told
-  pub entered-away : (t : ℕ) → t < length old.segments → takes g (segment_at old t) ≡ false → (entry other : ℕ → ℤ)
+  pub entered-away : (t : ℕ) → t < length old.segments → takes (Generations g) (segment_at old t) ≡ false
+      → (entry other : ℕ → ℤ)
       → AreEntered rows (frame old) (objects_in rows old) entry (segment_at old t)
       → ((b : ℕ) → IsBrickOf (segment_at old t) b → other b ≡ entry b)
       → AreEntered rows (frame fin) (objects_in rows fin) other (segment_at fin t)
@@ -244,16 +260,16 @@ module _ (rows : List TypeRow) (old : HeapView) (g : ℕ) (moves : List Move) (m
       homes homes' (alike t (reserved_end (segment_at old t)) away ages) same law)
     where
       away : (place : ℕ) → stands_in (segment_at old t) place ≡ true → place < reserved_end (segment_at old t)
-          → is_in_parts old g place ≡ false
-      away place in_s below = elim (cases_Bool (is_in_parts old g place)) [
+          → is_in_parts old (Generations g) place ≡ false
+      away place in_s below = elim (cases_Bool (is_in_parts old (Generations g) place)) [
         | inr out ↦ out
         | inl in_part ↦
             let (u, into, up) = out_of_parts old g place in_part in
             let between = stands-between (segment_at old t) place in_s in
             let high = into.high in
             absurd (elim (cases_order t u) [
-              | inl at ↦ both_ways (takes g (segment_at old t)) off
-                  (ap (λ (n : ℕ). takes g (segment_at old n)) at ∙ into.takes)
+              | inl at ↦ both_ways (takes (Generations g) (segment_at old t)) off
+                  (ap (λ (n : ℕ). takes (Generations g) (segment_at old n)) at ∙ into.takes)
               | inr (inl less) ↦ let order = segment_order old t u heap less into.in_range in omega arith
               | inr (inr more) ↦ let order = segment_order old u t heap more inside in omega arith
             ])
@@ -264,7 +280,7 @@ module _ (rows : List TypeRow) (old : HeapView) (g : ℕ) (moves : List Move) (m
       ages place in_s below =
           let n = fin-count in
           let is = fin-off t inside off in
-          let off' : takes g (segment_at fin t) ≡ false = ap (takes g) is ∙ off in
+          let off' : takes (Generations g) (segment_at fin t) ≡ false = ap (takes (Generations g)) is ∙ off in
           let in_s' : stands_in (segment_at fin t) place ≡ true = ap (λ (s : SegInfo). stands_in s place) is ∙ in_s in (
             old-away (frame old) place (not-young old g t place heap inside off in_s),
             old-away (frame fin) place (not-young fin g t place fin_heap (omega arith) off' in_s'),
@@ -276,14 +292,15 @@ module _ (rows : List TypeRow) (old : HeapView) (g : ℕ) (moves : List Move) (m
   rests-now = ap (λ (h : HeapView). h.rests) shape.others ∙ ap (λ (h : HeapView). h.rests) slid.others ∙ none
 
   -- A PART can be entered: no item reaches over the place where it started
-  pub can-enter : (t : ℕ) (inside : t < length old.segments) → takes g (segment_at old t) ≡ true → (from : ℕ)
-      → from ≡ part_of old g t → first_of fin t ≤ from
+  pub can-enter : (t : ℕ) (inside : t < length old.segments) → takes (Generations g) (segment_at old t) ≡ true
+      → (from : ℕ)
+      → from ≡ part_of old (Generations g) t → first_of fin t ≤ from
       → CanEnterFrom rows (record mid { start1 = start1; start0 = start0 }) fin t from
   can-enter t inside on from is first =
       let (a, b, z) = am.starts t inside on in
       let n = fin-count in
-      let laid = seen-laid rows old g moves m kept after p in
-      let compacted = seen-compacted rows old g moves m kept after p in
+      let laid = seen-laid rows old (Generations g) moves m kept after p in
+      let compacted = seen-compacted rows old (Generations g) moves m kept after p in
       let F : ℕ → ℕ → List Item = λ p e. items_between (sight rows clean t) p e in
       let G : ℕ → ℕ → List Item = λ p e. items_between (sight rows mid t) p e in
       let last : last_of clean t ≡ last_of mid t = ap (λ (s : SegInfo). s.end) (clean-at t) in
@@ -308,7 +325,7 @@ module _ (rows : List TypeRow) (old : HeapView) (g : ℕ) (moves : List Move) (m
             clean shape words t inside on ∙ sym (ap (λ (q : ℕ). G q (last_of mid t)) is);
       }
     where
-      edge : (x : ℕ) → IsEdge old g moves t x → part_of old g t ≤ x
+      edge : (x : ℕ) → IsEdge old (Generations g) moves t x → part_of old (Generations g) t ≤ x
       edge x (inl at) = omega arith
       edge x (inr (j, lj, into, at)) = let low = into.low in omega arith
 
@@ -321,10 +338,11 @@ module _ (rows : List TypeRow) (old : HeapView) (g : ℕ) (moves : List Move) (m
 
   -- THE LAW, where the parts were entered anew and nothing else was written
   pub law-now : (bricks : List (CoverView ℤ)) (entry : ℕ → ℤ) (below own : ℤ)
-      → AreRemembered rows old bricks g entry below own → (other : ℕ → ℤ)
-      → ((t : ℕ) → t < length mid.segments → takes g (segment_at mid t) ≡ true
+      → AreRemembered rows old bricks (Generations g) entry below own → (other : ℕ → ℤ)
+      → ((t : ℕ) → t < length mid.segments → takes (Generations g) (segment_at mid t) ≡ true
       → AreEntered rows (frame fin) (objects_in rows fin) other (segment_at fin t))
-      → ((t b : ℕ) → t < length mid.segments → takes g (segment_at mid t) ≡ false → IsBrickOf (segment_at mid t) b
+      → ((t b : ℕ) → t < length mid.segments → takes (Generations g) (segment_at mid t) ≡ false
+      → IsBrickOf (segment_at mid t) b
       → other b ≡ entry_at bricks b)
       → BrickLaw rows (frame fin) (objects_in rows fin) other
   law-now bricks entry below own r other parts others =
@@ -334,11 +352,11 @@ module _ (rows : List TypeRow) (old : HeapView) (g : ℕ) (moves : List Move) (m
       let inside : t < length old.segments = omega arith in
       let count = slid.count in
       let in_mid : t < length mid.segments = omega arith in
-      elim (cases_Bool (takes g (segment_at mid t))) [
+      elim (cases_Bool (takes (Generations g) (segment_at mid t))) [
         | inl on ↦ parts t in_mid on
         | inr off ↦
-            let off' : takes g (segment_at old t) ≡ false =
-            sym (mid-same old g moves mid slid (takes g) (λ e s. refl) t inside) ∙ off in
+            let off' : takes (Generations g) (segment_at old t) ≡ false =
+            sym (mid-same old (Generations g) moves mid slid (takes (Generations g)) (λ e s. refl) t inside) ∙ off in
             entered-away t inside off' entry other
             (r.law (segment_at old t) (at-in old.segments t empty_segment inside))
             (λ b of.
@@ -354,9 +372,9 @@ module _ (rows : List TypeRow) (old : HeapView) (g : ℕ) (moves : List Move) (m
     s = segment_at old e
 
     abbrev from : ℕ
-    from = part_of old g e
+    from = part_of old (Generations g) e
 
-    on : takes g (segment_at old e) ≡ true
+    on : takes (Generations g) (segment_at old e) ≡ true
     on = young-part old g e heap inside eph
 
     kind : same_kind Ephemeral (segment_at old e).kind ≡ true
@@ -364,12 +382,13 @@ module _ (rows : List TypeRow) (old : HeapView) (g : ℕ) (moves : List Move) (m
 
     -- where its part started no object of generation 0 stood below, and none does now
     from-old : from ≤ old.start0
-    from-old = young-start (frame old) g s kind young (seen-laid rows old g moves m kept after p).layout.start1_high
+    from-old = young-start (frame old) g s kind young
+        (seen-laid rows old (Generations g) moves m kept after p).layout.start1_high
 
     from-new : from ≤ start0
     from-new =
-        let c = seen-compacted rows old g moves m kept after p in
-        let laid = seen-laid rows old g moves m kept after p in
+        let c = seen-compacted rows old (Generations g) moves m kept after p in
+        let laid = seen-laid rows old (Generations g) moves m kept after p in
         let up = part_start0 (layout_in rows old) g (survivors (seen rows old m) g kept) moves after c
         (is_ready rows old m laid g least kept moves after c) in
         let here : from ≡ part_start (layout_in rows old) g (ephemeral (layout_in rows old)) =
@@ -379,8 +398,8 @@ module _ (rows : List TypeRow) (old : HeapView) (g : ℕ) (moves : List Move) (m
     order : from ≤ last_of old e
     order = from-end rows old g moves m kept after p heap least mid slid e inside eph
 
-    away : (place : ℕ) → stands_in s place ≡ true → place < from → is_in_parts old g place ≡ false
-    away place in_s below = elim (cases_Bool (is_in_parts old g place)) [
+    away : (place : ℕ) → stands_in s place ≡ true → place < from → is_in_parts old (Generations g) place ≡ false
+    away place in_s below = elim (cases_Bool (is_in_parts old (Generations g) place)) [
       | inr out ↦ out
       | inl in_part ↦
           let (u, into, up) = out_of_parts old g place in_part in
@@ -388,7 +407,7 @@ module _ (rows : List TypeRow) (old : HeapView) (g : ℕ) (moves : List Move) (m
           let low = into.low in
           let high = into.high in
           absurd (elim (cases_order e u) [
-            | inl at ↦ let same = ap (part_of old g) at in omega arith
+            | inl at ↦ let same = ap (part_of old (Generations g)) at in omega arith
             | inr (inl less) ↦ let order = segment_order old e u heap less into.in_range in omega arith
             | inr (inr more) ↦ let order = segment_order old u e heap more inside in omega arith
           ])
@@ -427,7 +446,7 @@ module _ (rows : List TypeRow) (old : HeapView) (g : ℕ) (moves : List Move) (m
 
     -- ITS BRICKS can be entered anew
     pub can-enter-young : (bricks : List (CoverView ℤ)) (entry : ℕ → ℤ) (planned : Planned)
-        → AreRemembered rows old bricks g entry planned.below planned.first
+        → AreRemembered rows old bricks (Generations g) entry planned.below planned.first
         → CanEnterYoung rows (record mid { start1 = start1; start0 = start0 }) fin bricks e from (last_of old e) planned
     can-enter-young bricks entry planned r =
         let (a, b, z) = am.starts e inside on in
@@ -460,7 +479,7 @@ module _ (rows : List TypeRow) (old : HeapView) (g : ℕ) (moves : List Move) (m
         first-up = (am.starts e inside on).0
 
         -- bricks away from the part are as they were
-        untouched : (i : ℕ) → (i + 1 < from / 4096) ⊎ (last_of old e ≤ 4096 * i) → IsUntouched old g i
+        untouched : (i : ℕ) → (i + 1 < from / 4096) ⊎ (last_of old e ≤ 4096 * i) → IsUntouched old (Generations g) i
         untouched i out t l takes_t =
             let same : segment_at old t ≡ s =
             young-takes old g t heap (λ at. omega arith) l takes_t ∙ sym eph in

@@ -8,7 +8,7 @@ use Rattle.std.proofs.lemmas.Bool.{and_from, cases_order, le-ltb, lt-leb, lt-ltb
 use Rattle.clr_types.specs.Rising.{first, IsIn, later}
 use Rattle.clr_types.specs.Segments.{empty_segment, ephemeral, first_place, is_small_or_ephemeral, Layout, reserved_end}
 use Rattle.clr_types.specs.Segments.{same_kind, segment_or_empty, segments_of, stands_in}
-use Rattle.clr_types.specs.declared.segment.SegKind.TheVariants.{Ephemeral, Large, Small}
+use Rattle.clr_types.specs.declared.segment.SegKind.TheVariants.{Ephemeral, Large, Small, Pinned}
 use Rattle.clr_types.specs.declared.segment.SegKind.{SegKind}
 use Rattle.clr_types.proofs.ChangedLists.{into_filter, out_of_filter}
 use Rattle.clr_types.specs.Types.{TypeRow}
@@ -30,6 +30,8 @@ use Rattle.clr_compact.specs.Entered.{AreEnteredBelow, forgotten, kept_below}
 use Rattle.clr_compact.specs.PartBricks.{both_restored, restored}
 use Rattle.clr_compact.proofs.Forgetting.{forgotten-before, forgotten-outside}
 use Rattle.clr_compact.proofs.PartBricks.{bricks-apart}
+use Rattle.clr_moves.specs.declared.parts.Parts.{Parts}
+use Rattle.clr_moves.specs.declared.parts.Parts.TheVariants.{Generations}
 
 -- ---- no entries
 
@@ -56,13 +58,13 @@ entered-none rows layout objects entry s homes none = record {
 -- ---- one segment after the other
 
 -- bricks of segments without a part are as before
-pub record AreKeptElsewhere (h : HeapView) (g : ℕ) (old now : List (CoverView ℤ)) : Type 0 where
+pub record AreKeptElsewhere (h : HeapView) (g : Parts) (old now : List (CoverView ℤ)) : Type 0 where
   pub others : (t b : ℕ) → t < length h.segments → takes g (segment_at h t) ≡ false → IsBrickOf (segment_at h t) b
       → entry_at now b ≡ entry_at old b
   pub spans : spans now ≡ spans old
 
 -- where the bricks of a segment with a part are entered
-pub kept-more : (h : HeapView) (g k : ℕ) (old now new : List (CoverView ℤ)) → IsHeap h → k < length h.segments
+pub kept-more : (h : HeapView) (g : Parts) (k : ℕ) (old now new : List (CoverView ℤ)) → IsHeap h → k < length h.segments
     → takes g (segment_at h k) ≡ true → AreKeptElsewhere h g old now
     → ((b : ℕ) → (IsBrickOf (segment_at h k) b → ⊥) → entry_at new b ≡ entry_at now b) → spans new ≡ spans now
     → AreKeptElsewhere h g old new
@@ -90,6 +92,7 @@ kind-small : (k : SegKind) → same_kind Ephemeral k ≡ true → is_small_or_ep
 kind-small Small e = refl
 kind-small Ephemeral e = refl
 kind-small Large e = absurd cc
+kind-small Pinned e = absurd cc
 
 -- the ephemeral segment is the one of its kind
 pub is-young : (h : HeapView) (t : ℕ) → IsHeap h → t < length h.segments
@@ -107,7 +110,8 @@ young-kind h heap =
     (head-in (segments_of Ephemeral (frame h)) (omega arith))).0
 
 -- a part of generations below 2 is one of the ephemeral segment
-pub young-takes : (h : HeapView) (g t : ℕ) → IsHeap h → g ≢ 2 → t < length h.segments → takes g (segment_at h t) ≡ true
+pub young-takes : (h : HeapView) (g t : ℕ) → IsHeap h → g ≢ 2 → t < length h.segments
+    → takes (Generations g) (segment_at h t) ≡ true
     → segment_at h t ≡ ephemeral (frame h)
 young-takes h g t heap ne inside on =
     let kinds = and_parts (is_small_or_ephemeral (segment_at h t).kind) (has_condemned_part g (segment_at h t)) on in
@@ -118,7 +122,7 @@ young-takes h g t heap ne inside on =
 
 -- the ephemeral segment has a part
 pub young-part : (h : HeapView) (g t : ℕ) → IsHeap h → t < length h.segments → segment_at h t ≡ ephemeral (frame h)
-    → takes g (segment_at h t) ≡ true
+    → takes (Generations g) (segment_at h t) ≡ true
 young-part h g t heap inside is =
     let kind = ap (λ (s : SegInfo). same_kind Ephemeral s.kind) is ∙ young-kind h heap in
     and_from (is_small_or_ephemeral (segment_at h t).kind) (has_condemned_part g (segment_at h t))
@@ -162,14 +166,16 @@ module _ (h : HeapView) (k from end : ℕ) (below own : ℤ) (heap : IsHeap h) (
       ]
 
 -- a brick of a segment without a part is none of the ephemeral segment
-pub young-away : (h : HeapView) (g t b : ℕ) → IsHeap h → t < length h.segments → takes g (segment_at h t) ≡ false
+pub young-away : (h : HeapView) (g t b : ℕ) → IsHeap h → t < length h.segments
+    → takes (Generations g) (segment_at h t) ≡ false
     → IsBrickOf (segment_at h t) b → IsBrickOf (ephemeral (frame h)) b → ⊥
 young-away h g t b heap inside off of young =
     let one = heap.one_ephemeral in
     let found = young_number h.segments (omega arith) in
     let on = young-part h g found.0 heap found.1 found.2 in
     elim (cases_eq t found.0) [
-      | inl at ↦ both_ways (takes g (segment_at h t)) off (ap (λ (n : ℕ). takes g (segment_at h n)) at ∙ on)
+      | inl at ↦ both_ways (takes (Generations g) (segment_at h t)) off
+          (ap (λ (n : ℕ). takes (Generations g) (segment_at h n)) at ∙ on)
       | inr ne ↦
           bricks-apart h t found.0 b heap inside found.1 ne of
           (subst (λ (s : SegInfo). IsBrickOf s b) (sym found.2) young)

@@ -22,20 +22,23 @@ use Rattle.clr_compact.proofs.CompactedBricks.{can-enter, can-enter-young, law-n
 use Rattle.clr_compact.proofs.PartWalks.{heap-bounds, whole-part}
 use Rattle.clr_compact.proofs.SlidBricks.{is-young-part, mid-part, mid-same, mid-young}
 use Rattle.clr_compact.proofs.WholeCompacted.{has_compacted}
+use Rattle.clr_moves.specs.declared.parts.Parts.TheVariants.{Generations}
 
 module _ (rows : List TypeRow) (old planned_heap : HeapView) (covers : BricksView) (entries : List PinEntry) (g : ℕ)
     (moves : List Move) (start1 start0 : ℕ)
-    (plan : HoldsPlan rows old planned_heap covers entries g moves start1 start0) (least : g ≤ 2) (mid : HeapView)
-    (slid : HasSlid old mid g moves) (mid_heap : IsHeap mid) (from end : ℕ)
-    (starts : (e : ℕ) → segment_at planned_heap e ≡ ephemeral (frame planned_heap) → from ≡ part_of planned_heap g e)
+    (plan : HoldsPlan rows old planned_heap covers entries (Generations g) moves start1 start0) (least : g ≤ 2)
+    (mid : HeapView)
+    (slid : HasSlid old mid (Generations g) moves) (mid_heap : IsHeap mid) (from end : ℕ)
+    (starts : (e : ℕ) → segment_at planned_heap e ≡ ephemeral (frame planned_heap)
+    → from ≡ part_of planned_heap (Generations g) e)
     (ends : (e : ℕ) → segment_at planned_heap e ≡ ephemeral (frame planned_heap) → end ≡ last_of planned_heap e) where
   abbrev now : HeapView
   now = record mid { start1 = start1; start0 = start0 }
 
   -- the young part is that of the heap whose words the plan has written over
-  starts-old : (e : ℕ) → segment_at old e ≡ ephemeral (frame old) → from ≡ part_of old g e
+  starts-old : (e : ℕ) → segment_at old e ≡ ephemeral (frame old) → from ≡ part_of old (Generations g) e
   starts-old =
-      let S : HeapView → Type 0 = λ h. (e : ℕ) → segment_at h e ≡ ephemeral (frame h) → from ≡ part_of h g e in
+      let S : HeapView → Type 0 = λ h. (e : ℕ) → segment_at h e ≡ ephemeral (frame h) → from ≡ part_of h (Generations g) e in
       subst S plan.overlaid.shape.others starts
 
   ends-old : (e : ℕ) → segment_at old e ≡ ephemeral (frame old) → end ≡ last_of old e
@@ -48,20 +51,20 @@ module _ (rows : List TypeRow) (old planned_heap : HeapView) (covers : BricksVie
   bounds_moved = record {
     others = refl;
     young = λ e l eph.
-        let (inside, was) = mid-young old g moves mid slid plan.overlaid.heap mid_heap e l eph in
-        starts-old e was ∙ sym (mid-part old g moves mid slid e inside);
+        let (inside, was) = mid-young old (Generations g) moves mid slid plan.overlaid.heap mid_heap e l eph in
+        starts-old e was ∙ sym (mid-part old (Generations g) moves mid slid e inside);
   }
 
   -- entries of the young part's bricks can be given back
   pub young_part : (bricks : List (CoverView ℤ)) (entry : ℕ → ℤ) (planned : Planned)
-      → AreRemembered rows old bricks g entry planned.below planned.first
+      → AreRemembered rows old bricks (Generations g) entry planned.below planned.first
       → (e : ℕ) → e < length mid.segments → segment_at mid e ≡ ephemeral (frame mid)
       → IsYoungPart now e from end planned
   young_part bricks entry planned r e l eph =
-      let (inside, was) = mid-young old g moves mid slid plan.overlaid.heap mid_heap e l eph in
+      let (inside, was) = mid-young old (Generations g) moves mid slid plan.overlaid.heap mid_heap e l eph in
       let k = is-young-part rows old g moves plan.machine plan.kept plan.after plan.compaction
       plan.overlaid.heap least mid slid e inside was bricks entry planned r in
-      let k' : IsYoungPart now e (part_of old g e) (last_of old e) planned = record {
+      let k' : IsYoungPart now e (part_of old (Generations g) e) (last_of old e) planned = record {
         low = k.low;
         order = k.order;
         high = k.high;
@@ -72,7 +75,8 @@ module _ (rows : List TypeRow) (old planned_heap : HeapView) (covers : BricksVie
       subst₂ P (sym (starts-old e was)) (sym (ends-old e was)) k'
 
   module _ (fin : HeapView) (shape : SameShape now fin)
-      (words : Rewrites (cleared (part_items rows mid g (length mid.segments))) (word_of mid) (word_of fin))
+      (words : Rewrites (cleared (part_items rows mid (Generations g) (length mid.segments))) (word_of mid)
+      (word_of fin))
       (fin_heap : IsHeap fin) where
     -- the same heap with the boundaries that were
     abbrev clean : HeapView
@@ -93,22 +97,22 @@ module _ (rows : List TypeRow) (old planned_heap : HeapView) (covers : BricksVie
         let at0 : start0 ≡ fin.start0 = sym (ap (λ (h : HeapView). h.start0) shape.others) in
         λ k. record fin { start1 = at1 k; start0 = at0 k }
 
-    done : HasCompacted rows old (record clean { start1 = start1; start0 = start0 }) g moves
+    done : HasCompacted rows old (record clean { start1 = start1; start0 = start0 }) (Generations g) moves
     done =
         has_compacted rows old g moves plan.machine plan.kept plan.after plan.compaction plan.overlaid.heap
         plan.held plan.no_contexts least mid slid mid_heap clean clean_shape words
         clean_heap start1 start0 plan.start1_is plan.start0_is
 
     -- THE COMPACTION is done
-    pub finished : HasCompacted rows old fin g moves
-    finished = subst (λ (h : HeapView). HasCompacted rows old h g moves) is-fin done
+    pub finished : HasCompacted rows old fin (Generations g) moves
+    finished = subst (λ (h : HeapView). HasCompacted rows old h (Generations g) moves) is-fin done
 
     done_heap : IsHeap (record clean { start1 = start1; start0 = start0 })
     done_heap = subst IsHeap (sym is-fin) fin_heap
 
     -- its parts can be entered
     pub can_enter_parts : (bricks : List (CoverView ℤ)) (entry : ℕ → ℤ) (planned : Planned)
-        → AreRemembered rows old bricks g entry planned.below planned.first
+        → AreRemembered rows old bricks (Generations g) entry planned.below planned.first
         → CanEnterParts rows now fin bricks g from end planned
     can_enter_parts bricks entry planned r =
         let P : HeapView → Type 0 = λ h. CanEnterParts rows now h bricks g from end planned in
@@ -116,20 +120,20 @@ module _ (rows : List TypeRow) (old planned_heap : HeapView) (covers : BricksVie
           whole = λ all t l on.
               (let n = slid.count in
               let inside : t < length old.segments = omega arith in
-              let on_g : takes g (segment_at mid t) ≡ true =
-              ap (λ (n : ℕ). takes n (segment_at mid t)) all ∙ on in
-              let on_old : takes g (segment_at old t) ≡ true =
-              sym (mid-same old g moves mid slid (takes g) (λ e s. refl) t inside) ∙ on_g in
-              let first = mid-same old g moves mid slid first_place (λ e s. refl) t inside in
-              let at : first_of mid t ≡ part_of old g t = first ∙ sym (whole-part old t)
-              ∙ ap (λ (n : ℕ). part_of old n t) (sym all) in
+              let on_g : takes (Generations g) (segment_at mid t) ≡ true =
+              ap (λ (n : ℕ). takes (Generations n) (segment_at mid t)) all ∙ on in
+              let on_old : takes (Generations g) (segment_at old t) ≡ true =
+              sym (mid-same old (Generations g) moves mid slid (takes (Generations g)) (λ e s. refl) t inside) ∙ on_g in
+              let first = mid-same old (Generations g) moves mid slid first_place (λ e s. refl) t inside in
+              let at : first_of mid t ≡ part_of old (Generations g) t = first ∙ sym (whole-part old t)
+              ∙ ap (λ (n : ℕ). part_of old (Generations n) t) (sym all) in
               let seg = ap (λ (h : HeapView). first_of h t) clean_shape.others in
               can-enter rows old g moves plan.machine plan.kept plan.after plan.compaction plan.overlaid.heap
               plan.held plan.no_contexts least mid slid mid_heap clean clean_shape words
               start1 start0 done plan.start1_is plan.start0_is done_heap t inside on_old (first_of mid t) at
               (omega arith));
           young = λ less e l eph.
-              (let (inside, was) = mid-young old g moves mid slid plan.overlaid.heap mid_heap e l eph in
+              (let (inside, was) = mid-young old (Generations g) moves mid slid plan.overlaid.heap mid_heap e l eph in
               let Q : ℕ → ℕ → Type 0 = λ a b. CanEnterYoung rows now (record clean {
                 start1 = start1;
                 start0 = start0;
@@ -143,16 +147,18 @@ module _ (rows : List TypeRow) (old planned_heap : HeapView) (covers : BricksVie
 
     -- THE BRICK LAW, where they were
     pub finished_law : (bricks : List (CoverView ℤ)) (entry : ℕ → ℤ) (below own : ℤ)
-        → AreRemembered rows old bricks g entry below own → (other : ℕ → ℤ)
-        → ((t : ℕ) → t < length mid.segments → takes g (segment_at mid t) ≡ true
+        → AreRemembered rows old bricks (Generations g) entry below own → (other : ℕ → ℤ)
+        → ((t : ℕ) → t < length mid.segments → takes (Generations g) (segment_at mid t) ≡ true
         → AreEntered rows (frame fin) (objects_in rows fin) other (segment_at fin t))
-        → ((t b : ℕ) → t < length mid.segments → takes g (segment_at mid t) ≡ false → IsBrickOf (segment_at mid t) b
+        → ((t b : ℕ) → t < length mid.segments → takes (Generations g) (segment_at mid t) ≡ false
+        → IsBrickOf (segment_at mid t) b
         → other b ≡ entry_at bricks b)
         → BrickLaw rows (frame fin) (objects_in rows fin) other
     finished_law bricks entry below own r other =
-        let P : HeapView → Type 0 = λ h. ((t : ℕ) → t < length mid.segments → takes g (segment_at mid t) ≡ true
+        let P : HeapView → Type 0 = λ h. ((t : ℕ) → t < length mid.segments → takes (Generations g) (segment_at mid t) ≡ true
         → AreEntered rows (frame h) (objects_in rows h) other (segment_at h t))
-        → ((t b : ℕ) → t < length mid.segments → takes g (segment_at mid t) ≡ false → IsBrickOf (segment_at mid t) b
+        → ((t b : ℕ) → t < length mid.segments → takes (Generations g) (segment_at mid t) ≡ false
+        → IsBrickOf (segment_at mid t) b
         → other b ≡ entry_at bricks b)
         → BrickLaw rows (frame h) (objects_in rows h) other in
         subst P is-fin

@@ -33,6 +33,7 @@ use Rattle.clr_moves.proofs.FromMachine.{are_moves, index_of, part_number, part_
 use Rattle.clr_compact.proofs.MemoryItems.{item_of, object_of, object_range, standing}
 use Rattle.clr_compact.proofs.PartsSlid.{carried, IsCarried, refill}
 use Rattle.clr_compact.proofs.Relisted.{HasGone}
+use Rattle.clr_moves.specs.declared.parts.Parts.TheVariants.{Generations}
 
 -- ---- places in parts
 
@@ -41,8 +42,8 @@ part_test h g place s =
     is_small_or_ephemeral s.kind
     && (has_condemned_part g s && (stands_in s place && nat_le (part_start (frame h) g s) place))
 
-pub into_parts : (h : HeapView) (g t place : ℕ) → IsInPart h g t place → first_of h t ≤ place
-    → is_in_parts h g place ≡ true
+pub into_parts : (h : HeapView) (g t place : ℕ) → IsInPart h (Generations g) t place → first_of h t ≤ place
+    → is_in_parts h (Generations g) place ≡ true
 into_parts h g t place is up =
     let s = segment_at h t in
     let (kind, part) = and_parts (is_small_or_ephemeral s.kind) (has_condemned_part g s) is.takes in
@@ -53,8 +54,8 @@ into_parts h g t place is up =
     (and_from (stands_in s place) (nat_le (part_start (frame h) g s) place) (between-stands s place up is.high)
     (le-leb (part_start (frame h) g s) place is.low))))
 
-pub out_of_parts : (h : HeapView) (g place : ℕ) → is_in_parts h g place ≡ true
-    → (t : ℕ) × IsInPart h g t place × (first_of h t ≤ place)
+pub out_of_parts : (h : HeapView) (g place : ℕ) → is_in_parts h (Generations g) place ≡ true
+    → (t : ℕ) × IsInPart h (Generations g) t place × (first_of h t ≤ place)
 out_of_parts h g place e =
     let (s, i, test) = any-in (part_test h g place) h.segments e in
     let (kind, more) =
@@ -70,7 +71,7 @@ out_of_parts h g place e =
       t,
       record {
         in_range = l;
-        takes = subst (λ (u : SegInfo). takes g u ≡ true) at takes_part;
+        takes = subst (λ (u : SegInfo). takes (Generations g) u ≡ true) at takes_part;
         low = subst (λ (u : SegInfo). part_start (frame h) g u ≤ place) at above;
         high = subst (λ (u : SegInfo). place < reserved_end u) at b;
       },
@@ -81,11 +82,11 @@ module _ (rows : List TypeRow) (old : HeapView) (base : Machine) (heap : IsHeap 
     (none : old.rests ≡ no_rests) (laid : IsLaid (seen rows old base)) (g : ℕ) (least : g ≤ 2) (keeps : ℕ → Bool)
     (moves : List Move) (after : Layout)
     (c : IsCompacted (layout_in rows old) g (survivors (seen rows old base) g keeps) moves after) (mid : HeapView)
-    (slid : HasSlid old mid g moves) (tests : TestsMarks rows old g keeps) where
+    (slid : HasSlid old mid (Generations g) moves) (tests : TestsMarks rows old g keeps) where
   abbrev m : Machine
   m = seen rows old base
 
-  am : AreMoves old g moves
+  am : AreMoves old (Generations g) moves
   am = are_moves rows old base laid g least keeps moves after c
 
   abbrev Gone : Item → Type 0
@@ -96,7 +97,7 @@ module _ (rows : List TypeRow) (old : HeapView) (base : Machine) (heap : IsHeap 
 
   -- a marked object of a part goes
   pub goes_with : (i : Item) → IsIn i (heap_items rows old) → is_object i ≡ true → has_mark (word_of old i.place) ≡ true
-      → is_in_parts old g i.place ≡ true → Gone i
+      → is_in_parts old (Generations g) i.place ≡ true → Gone i
   goes_with i listed object mark inside =
       let o = object_in rows (word_of old) i in
       let present = object_of rows old base heap held laid i listed object in
@@ -130,7 +131,7 @@ module _ (rows : List TypeRow) (old : HeapView) (base : Machine) (heap : IsHeap 
   -- an object that goes is a marked one of a part
   pub record WasThere (i : Item) : Type 0 where
     pub mark : has_mark (word_of old i.place) ≡ true
-    pub inside : is_in_parts old g i.place ≡ true
+    pub inside : is_in_parts old (Generations g) i.place ≡ true
 
   covered_there : (i : Item) → IsIn i (heap_items rows old) → is_object i ≡ true → (v : Move) → IsIn v moves
       → (v.start ≤ i.place) × (i.place < v.start + v.size) → WasThere i
@@ -180,12 +181,14 @@ module _ (rows : List TypeRow) (old : HeapView) (base : Machine) (heap : IsHeap 
       (omega arith, omega arith)
 
   -- an object of no part stays where it is
-  pub unmoved : (i : Item) → IsIn i (heap_items rows old) → is_object i ≡ true → is_in_parts old g i.place ≡ false
+  pub unmoved : (i : Item) → IsIn i (heap_items rows old) → is_object i ≡ true
+      → is_in_parts old (Generations g) i.place ≡ false
       → moved_by moves i.place ≡ i.place
   unmoved i listed object away = elim (moved-is moves i.place) [
     | inr (uncovered, still) ↦ still
     | inl (v, j, cover, e) ↦
-        absurd (both_ways (is_in_parts old g i.place) away (covered_there i listed object v j cover).inside)
+        absurd (both_ways (is_in_parts old (Generations g) i.place) away
+        (covered_there i listed object v j cover).inside)
   ]
 
   -- ---- where it lands
@@ -193,8 +196,8 @@ module _ (rows : List TypeRow) (old : HeapView) (base : Machine) (heap : IsHeap 
   pub record LandsAt (i : Item) : Type 0 where
     pub segment : ℕ
     pub inside : segment < length old.segments
-    pub on : takes g (segment_at old segment) ≡ true
-    pub into : IsInPart old g segment (moved_by moves i.place)
+    pub on : takes (Generations g) (segment_at old segment) ≡ true
+    pub into : IsInPart old (Generations g) segment (moved_by moves i.place)
     pub up : first_of old segment ≤ moved_by moves i.place
     pub filled : IsIn (record { place = moved_by moves i.place; size = i.size })
         (refill rows old base heap held none laid g least keeps moves after c mid slid segment inside on).more

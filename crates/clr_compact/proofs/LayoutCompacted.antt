@@ -45,14 +45,16 @@ use Rattle.clr_compact.proofs.PartEnds.{free_range}
 use Rattle.clr_compact.proofs.PartsClean.{part_unmarked, word_kept}
 use Rattle.clr_compact.proofs.PartsSlid.{now_ends, slid_parts, slid_walkable}
 use Rattle.clr_compact.proofs.Relisted.{free_in_part}
+use Rattle.clr_moves.specs.declared.parts.Parts.TheVariants.{Generations}
 
 module _ (rows : List TypeRow) (old : HeapView) (base : Machine) (heap : IsHeap old) (held : IsHeld rows old)
     (none : old.rests ≡ no_rests) (laid : IsLaid (seen rows old base)) (g : ℕ) (least : g ≤ 2) (keeps : ℕ → Bool)
     (moves : List Move) (after : Layout)
     (c : IsCompacted (layout_in rows old) g (survivors (seen rows old base) g keeps) moves after) (mid : HeapView)
-    (slid : HasSlid old mid g moves) (tests : TestsMarks rows old g keeps) (mid_heap : IsHeap mid)
+    (slid : HasSlid old mid (Generations g) moves) (tests : TestsMarks rows old g keeps) (mid_heap : IsHeap mid)
     (clean : HeapView) (shape : SameShape mid clean)
-    (words : Rewrites (cleared (part_items rows mid g (length mid.segments))) (word_of mid) (word_of clean))
+    (words : Rewrites (cleared (part_items rows mid (Generations g) (length mid.segments))) (word_of mid)
+    (word_of clean))
     (clean_heap : IsHeap clean) where
   count : length clean.segments ≡ length old.segments
   count = count_same rows old base heap held none laid g least keeps moves after c mid slid tests mid_heap clean shape
@@ -72,7 +74,8 @@ module _ (rows : List TypeRow) (old : HeapView) (base : Machine) (heap : IsHeap 
 
   one_segment : (t : ℕ) → t < length old.segments → segment_at clean t ≡ change (segment_at old t)
   one_segment t inside =
-      ap (λ (h : HeapView). segment_at h t) shape.others ∙ elim (cases_Bool (takes g (segment_at old t))) [
+      ap (λ (h : HeapView). segment_at h t) shape.others
+      ∙ elim (cases_Bool (takes (Generations g) (segment_at old t))) [
         | inl on ↦ now_ends rows old base heap held none laid g least keeps moves after c mid slid t inside on
             ∙ sym (ap
             (λ b. if b then record (segment_at old t) { end = end (segment_at old t) } else segment_at old t) on)
@@ -133,7 +136,7 @@ module _ (rows : List TypeRow) (old : HeapView) (base : Machine) (heap : IsHeap 
     | inl (away, k) ↦
         let (i, is, there) = from-map item_piece p (filter is_free (heap_items rows old)) k in
         let (free, listed) = out_of_filter is_free i (heap_items rows old) there in
-        let away_i : is_in_parts old g i.place ≡ false =
+        let away_i : is_in_parts old (Generations g) i.place ≡ false =
         subst (λ q. is_in_part is_small_or_ephemeral (layout_in rows old) g q ≡ false) is away in
         let (t, below) = away_below rows old base heap held none laid g least keeps moves after c mid slid tests
         mid_heap clean shape words i listed away_i in
@@ -186,7 +189,7 @@ module _ (rows : List TypeRow) (old : HeapView) (base : Machine) (heap : IsHeap 
   limit_same = ap (λ (h : HeapView). h.limit) shape.others ∙ ap (λ (h : HeapView). h.limit) slid.others
 
   -- the words of what went
-  pub cells_kept : KeepsMovedCells rows old clean g moves
+  pub cells_kept : KeepsMovedCells rows old clean (Generations g) moves
   cells_kept i b listed object mark inside z low high =
       let h = goes_with rows old base heap held none laid g least keeps moves after c mid slid tests i listed object
       mark inside in
@@ -207,7 +210,7 @@ module _ (rows : List TypeRow) (old : HeapView) (base : Machine) (heap : IsHeap 
       ]
 
   -- and so does their header
-  pub headers_kept : KeepsMovedHeaders rows old clean g moves
+  pub headers_kept : KeepsMovedHeaders rows old clean (Generations g) moves
   headers_kept i listed object mark inside =
       let am = are_moves rows old base laid g least keeps moves after c in
       let h = goes_with rows old base heap held none laid g least keeps moves after c mid slid tests i listed object
@@ -232,20 +235,20 @@ module _ (rows : List TypeRow) (old : HeapView) (base : Machine) (heap : IsHeap 
       ∙ ap (λ t. if t then unmarked w else w) (ne_eqb (i.place - 8) i.place (λ e. omega arith))
 
   -- no mark is left in a part, and none is new
-  pub marks_left : (x : ℕ) → Marked rows clean x → Marked rows old x × (is_in_parts old g x ≡ false)
+  pub marks_left : (x : ℕ) → Marked rows clean x → Marked rows old x × (is_in_parts old (Generations g) x ≡ false)
   marks_left x marked =
       let (o, n, at) = marked.stands in
       let (j, is, there) = from-map (object_in rows (word_of clean)) o (filter is_object (heap_items rows clean)) n in
       let (object, listed) = out_of_filter is_object j (heap_items rows clean) there in
       let place : j.place ≡ x = sym (ap (λ (o : Object). o.place) is) ∙ at in
-      subst (λ y. Marked rows old y × (is_in_parts old g y ≡ false)) place
+      subst (λ y. Marked rows old y × (is_in_parts old (Generations g) y ≡ false)) place
       (go j object (subst (λ y. has_mark (word_of clean y) ≡ true) (sym place) marked.mark)
       (came_from rows old base heap held none laid g least keeps moves after c mid slid tests mid_heap clean shape
       words j listed))
     where
       go : (j : Item) → is_object j ≡ true → has_mark (word_of clean j.place) ≡ true
           → CameFrom rows old base heap held none laid g least keeps moves after c mid slid tests mid_heap clean shape
-          words j → Marked rows old j.place × (is_in_parts old g j.place ≡ false)
+          words j → Marked rows old j.place × (is_in_parts old (Generations g) j.place ≡ false)
       go j object mark (stayed t below) =
           let (l, here, low) = below in
           let listed = listed-from rows old t j l here in
@@ -320,7 +323,7 @@ module _ (rows : List TypeRow) (old : HeapView) (base : Machine) (heap : IsHeap 
           let walkable = slid_walkable rows old base heap held none laid g least keeps moves after c mid slid in
           let there = part_in rows old base heap held none laid g least keeps moves after c mid slid tests mid_heap
           clean shape words in
-          let (low, is) = part_item rows mid g mid_heap ws t (mid_at t inside) x n in
+          let (low, is) = part_item rows mid (Generations g) mid_heap ws t (mid_at t inside) x n in
           let z = is.aligned in
           let above = is.above in
           let size = is.least in

@@ -5,17 +5,16 @@ use Rattle.std.proofs.Common.{length, set, refl, ap, sym, ◌∙◌, subst, arit
 use Rattle.std.specs.Prelude.{IsSome}
 use Rattle.std.proofs.lemmas.Bool.{and_from, cases_lt, cases_order, le-leb, le-ltb, lt-leb, lt-ltb, true≢false}
 use Rattle.std.proofs.lemmas.List.{get_or-set_other}
-use Rattle.clr_types.specs.Segments.{empty_segment, ended_at, reserved_end}
+use Rattle.clr_types.specs.Segments.{empty_segment, ended_at, Layout, reserved_end}
 use Rattle.clr_types.specs.declared.segment.SegInfo.{SegInfo}
 use Rattle.clr_heap.specs.View.{first_of, frame, HeapView, SameShape, segment_at, word_of}
 use Rattle.clr_heap.proofs.Framing.{below_top_at}
 use Rattle.clr_heap.proofs.Staying.{segment_order}
 use Rattle.clr_model.specs.Compaction.{Move}
-use Rattle.clr_model.specs.Sweep.{part_start}
 use Rattle.clr_plugs.specs.Info.{IsInfoWord}
 use Rattle.clr_pinq.specs.Queue.{logical, or_else, queue_word}
 use Rattle.clr_pinq.specs.declared.entry.PinEntry.{PinEntry}
-use Rattle.clr_moves.specs.Moves.{IsInPart, IsMove, landing_end, move_at, part_of, plug_stop, room_end, takes}
+use Rattle.clr_moves.specs.Moves.{IsInPart, IsMove, landing_end, move_at, part_of, plug_stop, room_end, takes, start_of}
 use Rattle.clr_compact.specs.Order.{cursor, HasPassed, IsLeft, IsOrder, next_of}
 use Rattle.clr_compact.specs.Slides.{AreSlid, HasLanded, HasSlid}
 use Rattle.clr_moves.specs.Overlaid.{IsOutside}
@@ -27,6 +26,8 @@ use Rattle.clr_compact.specs.Order.{Order}
 use Rattle.clr_compact.specs.declared.fronts.Front.{Front}
 use Rattle.clr_compact.proofs.SlidingFronts.{IsSliding, next_here, sliding_more, sliding_on, sliding_starts, slid_all}
 use Rattle.clr_compact.proofs.Placing.{outside_sides, IsNext, IsTop, next_gap, top_more}
+use Rattle.clr_moves.specs.declared.parts.Parts.{Parts}
+use Rattle.clr_moves.specs.declared.parts.Parts.TheVariants.{Generations, LargeSegments}
 
 -- the words of one function from `low` up to `high`, and those of another elsewhere
 abbrev pub within : ℕ → ℕ → (ℕ → ℕ) → (ℕ → ℕ) → ℕ → ℕ
@@ -49,16 +50,27 @@ within_out low high inner outer b (inr h) =
     go true = refl
     go false = refl
 
+-- a segment that ends elsewhere has its part where it had it
+pub ended_start : (layout : Layout) (g : Parts) (e : ℕ) (s : SegInfo) → start_of layout g (ended_at e s)
+    ≡ start_of layout g s
+ended_start layout (Generations g) e s = refl
+ended_start layout LargeSegments e s = refl
+
+pub ended_takes : (g : Parts) (e : ℕ) (s : SegInfo) → takes g (ended_at e s) ≡ takes g s
+ended_takes (Generations g) e s = refl
+ended_takes LargeSegments e s = refl
+
 -- The loop's words are those of `view` that count. Below the front the heap holds them in the parts, and from it on the
 -- heap is as it was.
-pub record IsSlidingWhole (view before now : HeapView) (g : ℕ) (vs : List Move) (q : Order) (f : Front) : Type 0 where
+pub record IsSlidingWhole (view before now : HeapView) (g : Parts) (vs : List Move) (q : Order)
+    (f : Front) : Type 0 where
   pub words : ℕ → ℕ
   pub sliding : IsSliding view now words g vs q f
   pub below : (b : ℕ) → b % 8 ≡ 0 → b + 8 < f.top → IsPartWord view g b → word_of now b ≡ words b
   pub above : (b : ℕ) → b % 8 ≡ 0 → f.top ≤ b + 8 → word_of now b ≡ word_of before b
   pub outside : (b : ℕ) → b % 8 ≡ 0 → IsOutside view g b → word_of now b ≡ word_of before b
 
-module _ (view before : HeapView) (es : List PinEntry) (g : ℕ) (vs : List Move)
+module _ (view before : HeapView) (es : List PinEntry) (g : Parts) (vs : List Move)
     (o : IsOverlaid view before es g vs) where
   -- ---- what is saved in the cells of a plug
 
@@ -308,8 +320,8 @@ module _ (view before : HeapView) (es : List PinEntry) (g : ℕ) (vs : List Move
           part_is : r.segment < length view.segments → r.top ≡ part_of view g r.segment
           part_is l =
               let n = on.count in
-              from.part (omega arith) ∙ ap (λ (h : HeapView). part_start (frame h) g (segment_at ended r.segment))
-              s.others ∙ ap (part_start (frame view) g) (on.ahead r.segment (omega arith) l)
+              from.part (omega arith) ∙ ap (λ (h : HeapView). start_of (frame h) g (segment_at ended r.segment))
+              s.others ∙ ap (start_of (frame view) g) (on.ahead r.segment (omega arith) l)
 
           none_between : (t : ℕ) → f.segment + 1 ≤ t → t < r.segment → t < length view.segments
               → takes g (segment_at view t) ≡ false
@@ -392,8 +404,8 @@ module _ (view before : HeapView) (es : List PinEntry) (g : ℕ) (vs : List Move
         × ((segment_at now t).base ≡ (segment_at view t).base)
     part_same t l = go (takes g (segment_at view t)) refl
       where
-        frame_part : (c : SegInfo) → part_start (frame now) g c ≡ part_start (frame view) g c
-        frame_part c = ap (λ (h : HeapView). part_start (frame h) g c) w.sliding.others
+        frame_part : (c : SegInfo) → start_of (frame now) g c ≡ start_of (frame view) g c
+        frame_part c = ap (λ (h : HeapView). start_of (frame h) g c) w.sliding.others
 
         go : (b : Bool) → takes g (segment_at view t) ≡ b
             → (part_of now g t ≡ part_of view g t) × (room_end now t ≡ room_end view t)
@@ -401,14 +413,15 @@ module _ (view before : HeapView) (es : List PinEntry) (g : ℕ) (vs : List Move
             × ((segment_at now t).base ≡ (segment_at view t).base)
         go true e =
             let (x, ends, is) = w.sliding.closed t (omega arith) l e in (
-              frame_part (segment_at now t) ∙ ap (part_start (frame view) g) is,
+              frame_part (segment_at now t) ∙ ap (start_of (frame view) g) is
+                  ∙ ended_start (frame view) g x (segment_at view t),
               ap reserved_end is,
-              ap (takes g) is,
+              ap (takes g) is ∙ ended_takes g x (segment_at view t),
               ap (λ (c : SegInfo). c.base) is,
             )
         go false e =
             let is = w.sliding.skipped t (omega arith) l e in (
-              frame_part (segment_at now t) ∙ ap (part_start (frame view) g) is,
+              frame_part (segment_at now t) ∙ ap (start_of (frame view) g) is,
               ap reserved_end is,
               ap (takes g) is,
               ap (λ (c : SegInfo). c.base) is,

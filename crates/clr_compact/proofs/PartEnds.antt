@@ -30,6 +30,7 @@ use Rattle.clr_moves.specs.Moves.{AreMoves, IsInPart, landing_end, move_at, no_m
 use Rattle.clr_compact.specs.Slides.{EndsAt, HasSlid, IsBare, IsEdge, IsFreeRange}
 use Rattle.clr_moves.proofs.FromMachine.{are_moves, in_tiling, is_ready, kept, landed_in, m, number_of, part_segment}
 use Rattle.clr_moves.proofs.FromMachine.{stands_in_part, tiles, tiling}
+use Rattle.clr_moves.specs.declared.parts.Parts.TheVariants.{Generations}
 
 -- a piece of a tiling begins where the tiling does, or where another piece ends
 tiles_before : (low high : ℕ) (ps : List Piece) → Tiles low high ps → (p : Piece) → IsIn p ps
@@ -52,7 +53,7 @@ end_of_last-in low (p ∷ ps) = elim (end_of_last-in (piece_end p) ps) [
 module _ (rows : List TypeRow) (old : HeapView) (base : Machine) (laid : IsLaid (seen rows old base)) (g : ℕ)
     (least : g ≤ 2) (keeps : ℕ → Bool) (moves : List Move) (after : Layout)
     (c : IsCompacted (layout_in rows old) g (survivors (seen rows old base) g keeps) moves after) (heap : IsHeap old)
-    (t : ℕ) (inside : t < length old.segments) (part : takes g (segment_at old t) ≡ true) where
+    (t : ℕ) (inside : t < length old.segments) (part : takes (Generations g) (segment_at old t) ≡ true) where
   abbrev s : SegInfo
   s = segment_at old t
 
@@ -66,7 +67,7 @@ module _ (rows : List TypeRow) (old : HeapView) (base : Machine) (laid : IsLaid 
   known = part_segment rows old base laid g least keeps moves after c t inside part
 
   abbrev start : ℕ
-  start = part_of old g t
+  start = part_of old (Generations g) t
 
   abbrev pub end : ℕ
   end = compacted_end after.start0 c.plugs moves (segment_at old t)
@@ -83,7 +84,7 @@ module _ (rows : List TypeRow) (old : HeapView) (base : Machine) (laid : IsLaid 
   tiled : Tiles start end all
   tiled = tiles rows old base laid g least keeps moves after c s known
 
-  am : AreMoves old g moves
+  am : AreMoves old (Generations g) moves
   am = are_moves rows old base laid g least keeps moves after c
 
   is_tile : (p : Piece) → IsIn p all → IsTile start end p
@@ -94,7 +95,8 @@ module _ (rows : List TypeRow) (old : HeapView) (base : Machine) (laid : IsLaid 
 
   -- a piece that isn't free is one of a plug that lands in this part
   pub block_is : (b : Piece) → IsIn b blocks
-      → (k : ℕ) × (k < length moves) × (b ≡ piece_of_move (move_at moves k)) × IsInPart old g t (move_at moves k).to
+      → (k : ℕ) × (k < length moves) × (b ≡ piece_of_move (move_at moves k))
+      × IsInPart old (Generations g) t (move_at moves k).to
   block_is b i =
       let (e, j) = out_of_filter (λ (p : Piece). stands_in s p.place) b (moved_pieces moves) i in
       let (v, f, n) = from-map piece_of_move b moves
@@ -108,25 +110,25 @@ module _ (rows : List TypeRow) (old : HeapView) (base : Machine) (laid : IsLaid 
       let (a, high) = stands-between s b.place e in
       (k, l, is, record { in_range = inside; takes = part; low = omega arith; high = omega arith })
 
-  lands : (k : ℕ) → k < length moves → IsInPart old g t (move_at moves k).to
+  lands : (k : ℕ) → k < length moves → IsInPart old (Generations g) t (move_at moves k).to
       → IsIn (piece_of_move (move_at moves k)) all
   lands k l into = in_tiling rows old base laid g least keeps moves after c s (move_at moves k)
       (at-in moves k no_move l)
       (stands_in_part rows old base laid g least keeps moves after c t (move_at moves k).to into)
 
   -- THE END is the machine's
-  pub end_same : (e : ℕ) → EndsAt old g moves t e → e ≡ end
+  pub end_same : (e : ℕ) → EndsAt old (Generations g) moves t e → e ≡ end
   end_same e at = both (below at.edge) (above (end_of_last-in start blocks))
     where
       both : e ≤ end → end ≤ e → e ≡ end
       both a b = omega arith
 
-      below : IsEdge old g moves t e → e ≤ end
+      below : IsEdge old (Generations g) moves t e → e ≤ end
       below (inl is) = let a = ends.0 in omega arith
       below (inr (k, l, into, is)) = let high = (is_tile (piece_of_move (move_at moves k)) (lands k l into)).high_end in
           omega arith
 
-      from_start : IsEdge old g moves t e → start ≤ e
+      from_start : IsEdge old (Generations g) moves t e → start ≤ e
       from_start (inl is) = omega arith
       from_start (inr (k, l, into, is)) = let low = into.low in omega arith
 
@@ -161,7 +163,7 @@ module _ (rows : List TypeRow) (old : HeapView) (base : Machine) (laid : IsLaid 
   pub record EndsBefore (f : Piece) : Type 0 where
     pub k : ℕ
     pub within : k < length moves
-    pub into : IsInPart old g t (move_at moves k).to
+    pub into : IsInPart old (Generations g) t (move_at moves k).to
     pub at : piece_end f ≡ (move_at moves k).to
 
   pub ends_before : (f : Piece) → IsIn f fresh → EndsBefore f
@@ -199,18 +201,19 @@ module _ (rows : List TypeRow) (old : HeapView) (base : Machine) (laid : IsLaid 
       record {
         k = k;
         within = inside_k;
-        into = subst (λ n. IsInPart old g n (move_at moves k).to) same_part into_u;
+        into = subst (λ n. IsInPart old (Generations g) n (move_at moves k).to) same_part into_u;
         at = omega arith;
       }
 
   -- it begins at an edge
-  edge_of : (f : Piece) → IsIn f fresh → IsEdge old g moves t f.place
+  edge_of : (f : Piece) → IsIn f fresh → IsEdge old (Generations g) moves t f.place
   edge_of f i = elim (tiles_before start end all tiled f (into_fresh f i)) [
     | inl e ↦ inl e
     | inr (q, j, e) ↦ behind q e (in_append blocks (out_of_sorted_by (λ (p : Piece). p.place) q (blocks ++ fresh) j))
   ]
     where
-      behind : (q : Piece) → piece_end q ≡ f.place → IsIn q blocks ⊎ IsIn q fresh → IsEdge old g moves t f.place
+      behind : (q : Piece) → piece_end q ≡ f.place → IsIn q blocks ⊎ IsIn q fresh
+          → IsEdge old (Generations g) moves t f.place
       behind q e (inl n) =
           let (k, l, same, into) = block_is q n in
           let at : piece_end q ≡ landing_end (move_at moves k) = ap piece_end same in
@@ -239,7 +242,7 @@ module _ (rows : List TypeRow) (old : HeapView) (base : Machine) (laid : IsLaid 
       let high = is.high_end in
       let (a, z) = ends in
       elim (cases_order move.into t) [
-        | inl e ↦ here (subst (λ n. IsInPart old g n (move_at moves j).to) e into_u)
+        | inl e ↦ here (subst (λ n. IsInPart old (Generations g) n (move_at moves j).to) e into_u)
         | inr (inl less) ↦ let o = segment_order old move.into t heap less inside in inl (omega arith)
         | inr (inr more) ↦ let o = segment_order old t move.into heap more ur in inr (omega arith)
       ]
@@ -247,7 +250,7 @@ module _ (rows : List TypeRow) (old : HeapView) (base : Machine) (laid : IsLaid 
       v : Move
       v = move_at moves j
 
-      here : IsInPart old g t v.to → (landing_end v ≤ f.place) ⊎ (piece_end f ≤ v.to)
+      here : IsInPart old (Generations g) t v.to → (landing_end v ≤ f.place) ⊎ (piece_end f ≤ v.to)
       here into =
           let block = landed_in rows old base laid g least keeps moves after c s v (at-in moves j no_move lj)
           (stands_in_part rows old base laid g least keeps moves after c t v.to into) in
@@ -262,7 +265,7 @@ module _ (rows : List TypeRow) (old : HeapView) (base : Machine) (laid : IsLaid 
           ]
 
   -- EACH FREE RANGE of the machine's compaction is free
-  pub free_range : (new : HeapView) → HasSlid old new g moves → (f : Piece)
+  pub free_range : (new : HeapView) → HasSlid old new (Generations g) moves → (f : Piece)
       → IsIn f (compacted_free (layout_in rows old) g after.start0 c.plugs moves (segment_at old t))
       → IsFreeRange (word_of new) f.place f.size
   free_range new slid f i =

@@ -54,6 +54,7 @@ use Rattle.clr_moves.proofs.FromMachine.{are_moves, is_ready, kept, number_of, p
 use Rattle.clr_compact.proofs.MemoryItems.{IsItemOf, item_of, part_whole, standing}
 use Rattle.clr_compact.proofs.PartEnds.{end_same, free_range}
 use Rattle.clr_compact.proofs.Respelled.{boundary_at, item_moved, items_over, names_moved, SpellsPiece, tiles_spelled}
+use Rattle.clr_moves.specs.declared.parts.Parts.TheVariants.{Generations}
 
 module _ (rows : List TypeRow) (old : HeapView) (base : Machine) (heap : IsHeap old) (held : IsHeld rows old)
     (none : old.rests ≡ no_rests) (laid : IsLaid (seen rows old base)) (g : ℕ) (least : g ≤ 2) (keeps : ℕ → Bool)
@@ -65,7 +66,7 @@ module _ (rows : List TypeRow) (old : HeapView) (base : Machine) (heap : IsHeap 
   abbrev Covers : Move → ℕ → Type 0
   Covers v x = (v.start ≤ x) × (x < v.start + v.size)
 
-  am : AreMoves old g moves
+  am : AreMoves old (Generations g) moves
   am = are_moves rows old base laid g least keeps moves after c
 
   -- ---- what moves with a plug
@@ -94,7 +95,8 @@ module _ (rows : List TypeRow) (old : HeapView) (base : Machine) (heap : IsHeap 
 
   -- a kept object that is in a part afterwards moved with a plug
   pub covered_by : (o : Object) → IsIn o (objects_in rows old) → keeps o.name ≡ true → (t : ℕ)
-      → IsInPart old g t (moved_by moves o.place) → stands_in (segment_at old t) (moved_by moves o.place) ≡ true
+      → IsInPart old (Generations g) t (moved_by moves o.place)
+      → stands_in (segment_at old t) (moved_by moves o.place) ≡ true
       → (k : ℕ) × IsCarried o.place (object_size rows o) k
   covered_by o present stays t into stands = elim (moved-is moves o.place) [
     | inl (v, i, cover, e) ↦ carried o present v i cover
@@ -114,7 +116,7 @@ module _ (rows : List TypeRow) (old : HeapView) (base : Machine) (heap : IsHeap 
         (n.base ∙ ap (λ (u : SegInfo). u.base) same)) uncovered)
   ]
 
-  module _ (new : HeapView) (slid : HasSlid old new g moves) where
+  module _ (new : HeapView) (slid : HasSlid old new (Generations g) moves) where
     -- the words of its cell are those that they were
     pub carried_words : (place size k : ℕ) → IsCarried place size k → (b : ℕ) → b % 8 ≡ 0 → moved_by moves place ≤ b + 8
         → b + 8 < moved_by moves place + size → word_of new b ≡ word_of old (b + (place - moved_by moves place))
@@ -162,12 +164,14 @@ module _ (rows : List TypeRow) (old : HeapView) (base : Machine) (heap : IsHeap 
 
     -- an address of segment t that isn't in its part is in none
     pub outside_at : (t b : ℕ) → t < length old.segments → first_of old t ≤ b + 8 → b + 8 < room_end old t
-        → (takes g (segment_at old t) ≡ true → b + 8 < part_of old g t) → IsOutside old g b
+        → (takes (Generations g) (segment_at old t) ≡ true → b + 8 < part_of old (Generations g) t)
+        → IsOutside old (Generations g) b
     outside_at t b inside low high below u lu takes_u =
         let (a, e, z) = am.starts u lu takes_u in
         elim (cases_order u t) [
-          | inl same ↦ let l = below (subst (λ n. takes g (segment_at old n) ≡ true) same takes_u) in
-              inr (inl (subst (λ n. (first_of old n ≤ b + 8) × (b + 8 < part_of old g n)) (sym same) (low, l)))
+          | inl same ↦ let l = below (subst (λ n. takes (Generations g) (segment_at old n) ≡ true) same takes_u) in
+              inr (inl (subst (λ n. (first_of old n ≤ b + 8) × (b + 8 < part_of old (Generations g) n)) (sym same)
+              (low, l)))
           | inr (inl less) ↦ let o = segment_order old u t heap less inside in inr (inr (omega arith))
           | inr (inr more) ↦ let o = segment_order old t u heap more lu in inl (omega arith)
         ]
@@ -191,7 +195,7 @@ module _ (rows : List TypeRow) (old : HeapView) (base : Machine) (heap : IsHeap 
 
     -- ---- a segment without a part stays as it is
 
-    pub other_parts : (t : ℕ) → t < length old.segments → takes g (segment_at old t) ≡ false
+    pub other_parts : (t : ℕ) → t < length old.segments → takes (Generations g) (segment_at old t) ≡ false
         → PartsAre rows new t (parts_of rows old t)
     other_parts t inside other =
         let same = slid.rest t inside other in
@@ -215,12 +219,12 @@ module _ (rows : List TypeRow) (old : HeapView) (base : Machine) (heap : IsHeap 
 
     -- ---- a segment with a part
 
-    module _ (t : ℕ) (inside : t < length old.segments) (part : takes g (segment_at old t) ≡ true) where
+    module _ (t : ℕ) (inside : t < length old.segments) (part : takes (Generations g) (segment_at old t) ≡ true) where
       abbrev s : SegInfo
       s = segment_at old t
 
       abbrev start : ℕ
-      start = part_of old g t
+      start = part_of old (Generations g) t
 
       abbrev end : ℕ
       end = compacted_end after.start0 c.plugs moves (segment_at old t)
@@ -228,7 +232,7 @@ module _ (rows : List TypeRow) (old : HeapView) (base : Machine) (heap : IsHeap 
       known : IsIn s c.segments
       known = part_segment rows old base laid g least keeps moves after c t inside part
 
-      pub refill : IsRefill m keeps moves (segment_at old t) (part_of old g t)
+      pub refill : IsRefill m keeps moves (segment_at old t) (part_of old (Generations g) t)
           (compacted_end after.start0 c.plugs moves (segment_at old t))
           (compacted_free (layout_in rows old) g after.start0 c.plugs moves (segment_at old t))
       refill = compacted_refill m laid g least keeps moves after c s known
@@ -247,7 +251,7 @@ module _ (rows : List TypeRow) (old : HeapView) (base : Machine) (heap : IsHeap 
       is_tile : (p : Piece) → IsIn p refill.more → IsTile start end p
       is_tile p i = tile start end refill.more p refill.tiled i
 
-      in_part : (p : Piece) → IsIn p refill.more → IsInPart old g t p.place
+      in_part : (p : Piece) → IsIn p refill.more → IsInPart old (Generations g) t p.place
       in_part p i =
           let is = is_tile p i in
           let low = is.low_gap in
@@ -324,7 +328,7 @@ module _ (rows : List TypeRow) (old : HeapView) (base : Machine) (heap : IsHeap 
 
       -- what stands below
       abbrev pub below : List Part
-      below = until_place (parts_of rows old t) (part_of old g t)
+      below = until_place (parts_of rows old t) (part_of old (Generations g) t)
 
       start_in : (first_of old t ≤ start) × (start ≤ last_of old t)
       start_in = let cuts = start-cuts m laid g least keeps s (at-in old.segments t empty_segment inside) in
@@ -354,7 +358,7 @@ module _ (rows : List TypeRow) (old : HeapView) (base : Machine) (heap : IsHeap 
 
       -- THE PARTS of the segment
       pub part_parts : PartsAre rows new t
-          (until_place (parts_of rows old t) (part_of old g t)
+          (until_place (parts_of rows old t) (part_of old (Generations g) t)
           ++ item_parts (items_over rows (word_of new) refill.more))
       part_parts =
           let (lo, hi) = bounds in
@@ -370,7 +374,7 @@ module _ (rows : List TypeRow) (old : HeapView) (base : Machine) (heap : IsHeap 
     slid_walkable t l =
         let n = slid.count in
         let inside : t < length old.segments = omega arith in
-        elim (cases_Bool (takes g (segment_at old t))) [
+        elim (cases_Bool (takes (Generations g) (segment_at old t))) [
           | inl on ↦ (part_parts t inside on).walkable
           | inr off ↦ (other_parts t inside off).walkable
         ]
@@ -378,34 +382,35 @@ module _ (rows : List TypeRow) (old : HeapView) (base : Machine) (heap : IsHeap 
     -- ---- the parts can be walked
 
     kind_kept : (t : ℕ) → t < length old.segments → (e : ℕ) × (segment_at new t ≡ ended_at e (segment_at old t))
-    kind_kept t inside = elim (cases_Bool (takes g (segment_at old t))) [
+    kind_kept t inside = elim (cases_Bool (takes (Generations g) (segment_at old t))) [
       | inl on ↦ let (e, at, is) = slid.parts t inside on in (e, is)
       | inr off ↦ (last_of old t, slid.rest t inside off)
     ]
 
-    pub takes_same : (t : ℕ) → t < length old.segments → takes g (segment_at new t) ≡ takes g (segment_at old t)
-    takes_same t inside = let (e, is) = kind_kept t inside in ap (takes g) is
+    pub takes_same : (t : ℕ) → t < length old.segments
+        → takes (Generations g) (segment_at new t) ≡ takes (Generations g) (segment_at old t)
+    takes_same t inside = let (e, is) = kind_kept t inside in ap (takes (Generations g)) is
 
-    pub part_same : (t : ℕ) → t < length old.segments → part_of new g t ≡ part_of old g t
+    pub part_same : (t : ℕ) → t < length old.segments → part_of new (Generations g) t ≡ part_of old (Generations g) t
     part_same t inside = let (e, is) = kind_kept t inside in
         ap (λ (h : HeapView). part_start (frame h) g (segment_at new t)) slid.others ∙ ap (part_start (frame old) g) is
 
     pub base_same : (t : ℕ) → t < length old.segments → (segment_at new t).base ≡ (segment_at old t).base
     base_same t inside = let (e, is) = kind_kept t inside in ap (λ (s : SegInfo). s.base) is
 
-    part_walk : (t : ℕ) (inside : t < length old.segments) (on : takes g (segment_at old t) ≡ true)
-        → CanWalk (sight rows new t) new.memories (part_of new g t) (last_of new t)
+    part_walk : (t : ℕ) (inside : t < length old.segments) (on : takes (Generations g) (segment_at old t) ≡ true)
+        → CanWalk (sight rows new t) new.memories (part_of new (Generations g) t) (last_of new t)
     part_walk t inside on =
         let P : ℕ → ℕ → Type 0 = λ p e. CanWalk (sight rows new t) new.memories p e in
         let (lo, hi) = bounds t inside on in
         let (a, b, z) = am.starts t inside on in
         subst₂ P (sym (part_same t inside)) (sym (ap (λ (s : SegInfo). s.end) (now_ends t inside on)))
         (CanWalk-from (sight rows new t) new.memories
-        (item_parts (items_over rows (word_of new) (refill t inside on).more)) (part_of old g t)
+        (item_parts (items_over rows (word_of new) (refill t inside on).more)) (part_of old (Generations g) t)
         (compacted_end after.start0 c.plugs moves (segment_at old t)) z (part_spelled t inside on)
         (λ b z low high. in_memory t b inside (omega arith) (omega arith)))
 
-    pub slid_parts : ArePartsWalkable rows new g
+    pub slid_parts : ArePartsWalkable rows new (Generations g)
     slid_parts = record {
       walk = λ t l on. let n = slid.count in let inside : t < length old.segments = omega arith in
           part_walk t inside (sym (takes_same t inside) ∙ on);
@@ -419,28 +424,29 @@ module _ (rows : List TypeRow) (old : HeapView) (base : Machine) (heap : IsHeap 
     }
 
     -- the items of a part
-    pub part_listed : (t : ℕ) (inside : t < length old.segments) (on : takes g (segment_at old t) ≡ true)
-        → items_of_part rows new g t ≡ items_over rows (word_of new) (refill t inside on).more
+    pub part_listed : (t : ℕ) (inside : t < length old.segments) (on : takes (Generations g) (segment_at old t) ≡ true)
+        → items_of_part rows new (Generations g) t ≡ items_over rows (word_of new) (refill t inside on).more
     part_listed t inside on =
         let F : ℕ → ℕ → List Item = λ p e. items_between (sight rows new t) p e in
         let over = items_over rows (word_of new) (refill t inside on).more in
-        ap (λ b. if b then items_between (sight rows new t) (part_of new g t) (last_of new t) else [])
+        ap (λ b. if b then items_between (sight rows new t) (part_of new (Generations g) t) (last_of new t) else [])
         (takes_same t inside ∙ on)
         ∙ ap₂ F (part_same t inside) (ap (λ (s : SegInfo). s.end) (now_ends t inside on))
-        ∙ ap items_in (spelled_parts (sight rows new t) (item_parts over) (part_of old g t)
+        ∙ ap items_in (spelled_parts (sight rows new t) (item_parts over) (part_of old (Generations g) t)
         (compacted_end after.start0 c.plugs moves (segment_at old t)) (part_spelled t inside on))
         ∙ items_of_parts over
 
     -- all its items
-    pub now_listed : (t : ℕ) (inside : t < length old.segments) (on : takes g (segment_at old t) ≡ true)
-        → listing rows new t ≡ items_in (until_place (parts_of rows old t) (part_of old g t))
+    pub now_listed : (t : ℕ) (inside : t < length old.segments) (on : takes (Generations g) (segment_at old t) ≡ true)
+        → listing rows new t ≡ items_in (until_place (parts_of rows old t) (part_of old (Generations g) t))
         ++ items_over rows (word_of new) (refill t inside on).more
     now_listed t inside on =
         let over = items_over rows (word_of new) (refill t inside on).more in
         ap items_in (part_parts t inside on).parts
-        ∙ items-append (until_place (parts_of rows old t) (part_of old g t)) (item_parts over)
-        ∙ ap (λ is. items_in (until_place (parts_of rows old t) (part_of old g t)) ++ is) (items_of_parts over)
+        ∙ items-append (until_place (parts_of rows old t) (part_of old (Generations g) t)) (item_parts over)
+        ∙ ap (λ is. items_in (until_place (parts_of rows old t) (part_of old (Generations g) t)) ++ is)
+        (items_of_parts over)
 
-    pub now_listed_other : (t : ℕ) → t < length old.segments → takes g (segment_at old t) ≡ false
+    pub now_listed_other : (t : ℕ) → t < length old.segments → takes (Generations g) (segment_at old t) ≡ false
         → listing rows new t ≡ listing rows old t
     now_listed_other t inside off = ap items_in (other_parts t inside off).parts

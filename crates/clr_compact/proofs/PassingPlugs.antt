@@ -14,6 +14,7 @@ use Rattle.clr_compact.specs.Order.{cursor, HasPassed, IsFirstFrom, IsOrder, nex
 use Rattle.clr_compact.specs.NextPlugs.{AreFirst, AreNext, AreRising, bytes_of, GivesFrom, HasFound, HavePassed}
 use Rattle.clr_compact.specs.NextPlugs.{is_lower, IsThere, next_plug}
 use Rattle.clr_compact.specs.declared.next_plugs.NextPlugs.{NextPlugs}
+use Rattle.clr_moves.specs.declared.parts.Parts.{Parts}
 
 -- ---- lists
 
@@ -66,7 +67,8 @@ kind-differs v to start kind a b e = sym (ap₂ ltb a b) ∙ flags-differ (ltb t
 
 -- a line has given the moves from number `start` on up to number `count`, none of them of this kind, and stands at or
 -- above the last one
-pub record IsPassing (rows : List TypeRow) (h : HeapView) (bricks : BricksView) (g : ℕ) (going : Bool) (vs : List Move)
+pub record IsPassing (rows : List TypeRow) (h : HeapView) (bricks : BricksView) (g : Parts) (going : Bool)
+    (vs : List Move)
     (start : ℕ) (line : LineView) (place : ℕ) : Type 0 where
   pub count : ℕ
   pub above : start ≤ count
@@ -75,7 +77,7 @@ pub record IsPassing (rows : List TypeRow) (h : HeapView) (bricks : BricksView) 
   pub none : (j : ℕ) → start ≤ j → j < count → goes (move_at vs j) ≡ not going
   pub ahead : (j : ℕ) → count ≤ j → j < length vs → place < (move_at vs j).start
 
-module _ (rows : List TypeRow) (h : HeapView) (bricks : BricksView) (g : ℕ) (going : Bool) (vs : List Move)
+module _ (rows : List TypeRow) (h : HeapView) (bricks : BricksView) (g : Parts) (going : Bool) (vs : List Move)
     (start : ℕ) where
   pub passing-starts : (line : LineView) → GivesFrom rows h bricks g vs start line
       → IsPassing rows h bricks g going vs start line 0
@@ -229,7 +231,7 @@ cursor-going q v e = ap (λ (t : Bool). if t then q.going else q.staying) e
 cursor-staying : (q : Order) (v : Move) → goes v ≡ false → cursor q v ≡ q.staying
 cursor-staying q v e = ap (λ (t : Bool). if t then q.going else q.staying) e
 
-module _ (rows : List TypeRow) (h : HeapView) (bricks : BricksView) (g : ℕ) (vs : List Move) where
+module _ (rows : List TypeRow) (h : HeapView) (bricks : BricksView) (g : Parts) (vs : List Move) where
   -- the first plugs of both kinds
   pub are-first : AreRising h.top vs → (goers stayers : LineView) (going staying : Option Move)
       → HasFound rows h bricks g true vs 0 goers going → HasFound rows h bricks g false vs 0 stayers staying

@@ -31,6 +31,7 @@ use Rattle.clr_compact.proofs.MemoryItems.{IsItemOf, item_of, standing}
 use Rattle.clr_compact.proofs.PartsSlid.{carried_item, free_is, IsCarried, now_listed, object_there, part_listed}
 use Rattle.clr_compact.proofs.PartsSlid.{refill}
 use Rattle.clr_compact.proofs.Respelled.{items_over}
+use Rattle.clr_moves.specs.declared.parts.Parts.TheVariants.{Generations}
 
 -- ---- the parts below a place
 
@@ -82,7 +83,7 @@ module _ (rows : List TypeRow) (old : HeapView) (base : Machine) (heap : IsHeap 
     (none : old.rests ≡ no_rests) (laid : IsLaid (seen rows old base)) (g : ℕ) (least : g ≤ 2) (keeps : ℕ → Bool)
     (moves : List Move) (after : Layout)
     (c : IsCompacted (layout_in rows old) g (survivors (seen rows old base) g keeps) moves after) (mid : HeapView)
-    (slid : HasSlid old mid g moves) where
+    (slid : HasSlid old mid (Generations g) moves) where
   -- an item where it goes
   abbrev pub item_there : Item → Item
   item_there i = record i { place = moved_by moves i.place }
@@ -100,13 +101,13 @@ module _ (rows : List TypeRow) (old : HeapView) (base : Machine) (heap : IsHeap 
 
   -- ---- a segment with a part
 
-  module _ (t : ℕ) (inside : t < length old.segments) (on : takes g (segment_at old t) ≡ true) where
-    abbrev fills : IsRefill (seen rows old base) keeps moves (segment_at old t) (part_of old g t)
+  module _ (t : ℕ) (inside : t < length old.segments) (on : takes (Generations g) (segment_at old t) ≡ true) where
+    abbrev fills : IsRefill (seen rows old base) keeps moves (segment_at old t) (part_of old (Generations g) t)
         (compacted_end after.start0 c.plugs moves (segment_at old t)) (free_of t)
     fills = refill rows old base heap held none laid g least keeps moves after c mid slid t inside on
 
     -- where an item of the part came from
-    pub part_from : (j : Item) → IsIn j (items_of_part rows mid g t)
+    pub part_from : (j : Item) → IsIn j (items_of_part rows mid (Generations g) t)
         → ((i : Item) × HasGone i × IsIn (record { place = moved_by moves i.place; size = i.size }) fills.more
         × (j ≡ item_there i)) ⊎ ((f : Piece) × IsIn f (free_of t) × (j ≡ free_item f.place f.size))
     part_from j n =
@@ -157,55 +158,58 @@ module _ (rows : List TypeRow) (old : HeapView) (base : Machine) (heap : IsHeap 
 
     -- where an item of the segment came from
     pub listed_from_where : (j : Item) → IsIn j (listing rows mid t)
-        → (IsIn j (listing rows old t) × (j.place < part_of old g t)) ⊎ IsIn j (items_of_part rows mid g t)
+        → (IsIn j (listing rows old t) × (j.place < part_of old (Generations g) t))
+        ⊎ IsIn j (items_of_part rows mid (Generations g) t)
     listed_from_where j n =
-        elim (in_append (items_in (until_place (parts_of rows old t) (part_of old g t)))
+        elim (in_append (items_in (until_place (parts_of rows old t) (part_of old (Generations g) t)))
         (subst (IsIn j) (now_listed rows old base heap held none laid g least keeps moves after c mid slid t inside
         on) n)) [
-          | inl low ↦ inl (until_in (parts_of rows old t) (part_of old g t) j low)
+          | inl low ↦ inl (until_in (parts_of rows old t) (part_of old (Generations g) t) j low)
           | inr more ↦ inr (subst (IsIn j)
               (sym (part_listed rows old base heap held none laid g least keeps moves after c mid slid t inside on))
               more)
         ]
 
     -- what stands below the part stays there
-    pub below_listed : (j : Item) → IsIn j (listing rows old t) → j.place < part_of old g t
+    pub below_listed : (j : Item) → IsIn j (listing rows old t) → j.place < part_of old (Generations g) t
         → IsIn j (listing rows mid t)
     below_listed j n l =
         subst (IsIn j) (sym (now_listed rows old base heap held none laid g least keeps moves after c mid slid t inside
         on))
         (append_left (items_over rows (word_of mid) fills.more)
-        (in_until (sight rows old t) (parts_of rows old t) (first_of old t) (last_of old t) (part_of old g t)
+        (in_until (sight rows old t) (parts_of rows old t) (first_of old t) (last_of old t)
+        (part_of old (Generations g) t)
         (held.walkable t inside).start (held.walkable t inside).spelled j n l))
 
-    pub part_in_listing : (j : Item) → IsIn j (items_of_part rows mid g t) → IsIn j (listing rows mid t)
+    pub part_in_listing : (j : Item) → IsIn j (items_of_part rows mid (Generations g) t) → IsIn j (listing rows mid t)
     part_in_listing j n =
         subst (IsIn j) (sym (now_listed rows old base heap held none laid g least keeps moves after c mid slid t inside
         on))
-        (append_right (items_in (until_place (parts_of rows old t) (part_of old g t)))
+        (append_right (items_in (until_place (parts_of rows old t) (part_of old (Generations g) t)))
         (subst (IsIn j) (part_listed rows old base heap held none laid g least keeps moves after c mid slid t inside
         on) n))
 
     -- an item over one of the pieces of the part
     pub piece_in_part : (x : Piece) → IsIn x fills.more
-        → IsIn (item_at rows (word_of mid) x.place) (items_of_part rows mid g t)
+        → IsIn (item_at rows (word_of mid) x.place) (items_of_part rows mid (Generations g) t)
     piece_in_part x n =
         subst (IsIn (item_at rows (word_of mid) x.place))
         (sym (part_listed rows old base heap held none laid g least keeps moves after c mid slid t inside on))
         (IsIn-map (λ (p : Piece). item_at rows (word_of mid) p.place) n)
 
-    pub free_in_part : (f : Piece) → IsIn f (free_of t) → IsIn (free_item f.place f.size) (items_of_part rows mid g t)
+    pub free_in_part : (f : Piece) → IsIn f (free_of t)
+        → IsIn (free_item f.place f.size) (items_of_part rows mid (Generations g) t)
     free_in_part f n =
-        subst (λ j. IsIn j (items_of_part rows mid g t))
+        subst (λ j. IsIn j (items_of_part rows mid (Generations g) t))
         (sym (free_is rows old base heap held none laid g least keeps moves after c mid slid t inside on f n))
         (piece_in_part f (fills.fresh_more f n))
 
     pub gone_in_part : (i : Item) (h : HasGone i)
         → IsIn (record { place = moved_by moves i.place; size = i.size }) fills.more
-        → IsIn (item_there i) (items_of_part rows mid g t)
+        → IsIn (item_there i) (items_of_part rows mid (Generations g) t)
     gone_in_part i h n =
         let z = (standing rows old base heap held laid i h.listed).is.aligned in
         let spelled = carried_item rows old base heap held none laid g least keeps moves after c mid slid i h.listed
         h.plug h.carried z in
-        subst (λ j. IsIn j (items_of_part rows mid g t)) spelled.is
+        subst (λ j. IsIn j (items_of_part rows mid (Generations g) t)) spelled.is
         (piece_in_part (record { place = moved_by moves i.place; size = i.size }) n)

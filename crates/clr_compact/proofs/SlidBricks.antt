@@ -17,7 +17,7 @@ use Rattle.clr_generations.specs.Tables.{AreBricksOf, units_of}
 use Rattle.clr_generations.proofs.HeapHomes.{whole_bricks}
 use Rattle.clr_model.proofs.SweptLawful.{start-cuts}
 use Rattle.clr_sweep.proofs.SurvivorsSwept.{at-in, seen}
-use Rattle.clr_moves.specs.Moves.{AreMoves, part_of, takes}
+use Rattle.clr_moves.specs.Moves.{AreMoves, part_of, takes, start_of}
 use Rattle.clr_moves.specs.declared.planned.Planned.{Planned}
 use Rattle.clr_moves.specs.Objects.{AreRemembered}
 use Rattle.clr_moves.specs.Overlaid.{IsCompactionOf}
@@ -25,6 +25,9 @@ use Rattle.clr_moves.proofs.PlannedMoves.{are-moves, seen-laid}
 use Rattle.clr_compact.specs.PartBricks.{IsYoungPart}
 use Rattle.clr_compact.specs.Slides.{HasSlid}
 use Rattle.clr_compact.proofs.EnteringParts.{is-young, young-kind, young-part}
+use Rattle.clr_moves.specs.declared.parts.Parts.{Parts}
+use Rattle.clr_moves.specs.declared.parts.Parts.TheVariants.{Generations}
+use Rattle.clr_compact.proofs.Overlaying.{ended_start}
 
 -- lists of segments that are alike at each place
 map-alike : {X : Type 0} (f : SegInfo → X) (xs ys : List SegInfo) → length xs ≡ length ys
@@ -37,7 +40,7 @@ map-alike f (x ∷ xs) (y ∷ ys) e same =
     let rest = map-alike f xs ys (omega arith) (λ k l. same (suc k) (omega arith)) in
     λ i. here i ∷ rest i
 
-module _ (old : HeapView) (g : ℕ) (moves : List Move) (mid : HeapView) (slid : HasSlid old mid g moves) where
+module _ (old : HeapView) (g : Parts) (moves : List Move) (mid : HeapView) (slid : HasSlid old mid g moves) where
   -- each segment is as it was, but for its end
   mid-ended : (t : ℕ) → t < length old.segments → (e : ℕ) × (segment_at mid t ≡ ended_at e (segment_at old t))
   mid-ended t l = elim (cases_Bool (takes g (segment_at old t))) [
@@ -52,8 +55,8 @@ module _ (old : HeapView) (g : ℕ) (moves : List Move) (mid : HeapView) (slid :
 
   pub mid-part : (t : ℕ) → t < length old.segments → part_of mid g t ≡ part_of old g t
   mid-part t l =
-      ap (λ (h : HeapView). part_start (frame h) g (segment_at mid t)) slid.others
-      ∙ mid-same (part_start (frame old) g) (λ e s. refl) t l
+      ap (λ (h : HeapView). start_of (frame h) g (segment_at mid t)) slid.others
+      ∙ mid-same (start_of (frame old) g) (ended_start (frame old) g) t l
 
   -- the bricks are those of the heap
   pub mid-bricks : (bricks : List (CoverView ℤ)) → AreBricksOf (frame old) bricks → AreBricksOf (frame mid) bricks
@@ -74,34 +77,35 @@ module _ (old : HeapView) (g : ℕ) (moves : List Move) (mid : HeapView) (slid :
       )
 
 module _ (rows : List TypeRow) (old : HeapView) (g : ℕ) (moves : List Move) (m : Machine) (kept : ℕ → Bool)
-    (after : Layout) (p : IsCompactionOf rows old g moves m kept after) (heap : IsHeap old) (least : g ≤ 2)
-    (mid : HeapView) (slid : HasSlid old mid g moves) (e : ℕ) (inside : e < length old.segments)
+    (after : Layout) (p : IsCompactionOf rows old (Generations g) moves m kept after) (heap : IsHeap old)
+    (least : g ≤ 2)
+    (mid : HeapView) (slid : HasSlid old mid (Generations g) moves) (e : ℕ) (inside : e < length old.segments)
     (eph : segment_at old e ≡ ephemeral (frame old)) where
   abbrev s : SegInfo
   s = segment_at old e
 
   abbrev from : ℕ
-  from = part_of old g e
+  from = part_of old (Generations g) e
 
-  on : takes g (segment_at old e) ≡ true
+  on : takes (Generations g) (segment_at old e) ≡ true
   on = young-part old g e heap inside eph
 
-  am : AreMoves old g moves
-  am = are-moves rows old g moves m kept after p least
+  am : AreMoves old (Generations g) moves
+  am = are-moves rows old (Generations g) moves m kept after p least
 
   pub from-end : from ≤ last_of old e
   from-end =
-      (start-cuts (seen rows old m) (seen-laid rows old g moves m kept after p) g least kept s
+      (start-cuts (seen rows old m) (seen-laid rows old (Generations g) moves m kept after p) g least kept s
       (at-in old.segments e empty_segment inside)).high_end
 
   -- THE PART OF THE EPHEMERAL SEGMENT: two entries of its bricks can be given back
   pub is-young-part : (bricks : List (CoverView ℤ)) (entry : ℕ → ℤ) (planned : Planned)
-      → AreRemembered rows old bricks g entry planned.below planned.first
+      → AreRemembered rows old bricks (Generations g) entry planned.below planned.first
       → IsYoungPart mid e from (last_of old e) planned
   is-young-part bricks entry planned r =
       let (a, b, z) = am.starts e inside on in
-      let first = mid-same old g moves mid slid first_place (λ n t. refl) e inside in
-      let room = mid-same old g moves mid slid reserved_end (λ n t. refl) e inside in
+      let first = mid-same old (Generations g) moves mid slid first_place (λ n t. refl) e inside in
+      let room = mid-same old (Generations g) moves mid slid reserved_end (λ n t. refl) e inside in
       let top = (lawful_at old e heap inside).high in
       record {
         low = omega arith;

@@ -30,26 +30,28 @@ use Rattle.clr_compact.proofs.LayoutCompacted.{marks_left}
 use Rattle.clr_compact.proofs.LayoutCompacted.{rests_same, segments_compacted, top_same, walkable_now}
 use Rattle.clr_compact.proofs.ObjectsCompacted.{objects_compacted}
 use Rattle.clr_compact.proofs.PartsSlid.{slid_parts}
+use Rattle.clr_moves.specs.declared.parts.Parts.TheVariants.{Generations}
 
 module _ (rows : List TypeRow) (old : HeapView) (g : ℕ) (moves : List Move) (m : Machine) (kept : ℕ → Bool)
-    (after : Layout) (p : IsCompactionOf rows old g moves m kept after) where
+    (after : Layout) (p : IsCompactionOf rows old (Generations g) moves m kept after) where
   seen_laid : IsLaid (seen rows old m)
-  seen_laid = seen-laid rows old g moves m kept after p
+  seen_laid = seen-laid rows old (Generations g) moves m kept after p
 
   seen_compacted : IsCompacted (layout_in rows old) g (survivors (seen rows old m) g kept) moves after
-  seen_compacted = seen-compacted rows old g moves m kept after p
+  seen_compacted = seen-compacted rows old (Generations g) moves m kept after p
 
   module _ (heap : IsHeap old) (held : IsHeld rows old) (none : old.rests ≡ no_rests) (least : g ≤ 2) (mid : HeapView)
-      (slid : HasSlid old mid g moves) where
+      (slid : HasSlid old mid (Generations g) moves) where
     -- the marks can be cleared
-    pub planned_parts : ArePartsWalkable rows mid g
+    pub planned_parts : ArePartsWalkable rows mid (Generations g)
     planned_parts = slid_parts rows old m heap held none seen_laid g least kept moves after seen_compacted mid slid
 
     pub planned_rests : mid.rests ≡ no_rests
     planned_rests = ap (λ (h : HeapView). h.rests) slid.others ∙ none
 
     module _ (mid_heap : IsHeap mid) (clean : HeapView) (shape : SameShape mid clean)
-        (words : Rewrites (cleared (part_items rows mid g (length mid.segments))) (word_of mid) (word_of clean))
+        (words : Rewrites (cleared (part_items rows mid (Generations g) (length mid.segments))) (word_of mid)
+        (word_of clean))
         (clean_heap : IsHeap clean) (start1 start0 : ℕ) where
       abbrev pub fin : HeapView
       fin = record clean { start1 = start1; start0 = start0 }
@@ -105,7 +107,7 @@ module _ (rows : List TypeRow) (old : HeapView) (g : ℕ) (moves : List Move) (m
               p.tests mid_heap clean shape words clean_heap in
               none_at 16 i r (ap (λ rs. get_or rs i None) (sym (same ∙ none)) ∙ e)
 
-      pub planned_marks : (x : ℕ) → Marked rows fin x → Marked rows old x × (is_in_parts old g x ≡ false)
+      pub planned_marks : (x : ℕ) → Marked rows fin x → Marked rows old x × (is_in_parts old (Generations g) x ≡ false)
       planned_marks x marked =
           let (o, n, at) = marked.stands in
           let same : objects_in rows fin ≡ objects_in rows clean = ap (objects_among rows (word_of clean)) fin_items in
@@ -121,13 +123,15 @@ module _ (rows : List TypeRow) (old : HeapView) (g : ℕ) (moves : List Move) (m
 
 -- THE COMPACTION, whatever machine's memory the heap is
 pub has_compacted : (rows : List TypeRow) (old : HeapView) (g : ℕ) (moves : List Move) (m : Machine) (kept : ℕ → Bool)
-    (after : Layout) (p : IsCompactionOf rows old g moves m kept after) (heap : IsHeap old) (held : IsHeld rows old)
-    (none : old.rests ≡ no_rests) (least : g ≤ 2) (mid : HeapView) (slid : HasSlid old mid g moves)
+    (after : Layout) (p : IsCompactionOf rows old (Generations g) moves m kept after) (heap : IsHeap old)
+    (held : IsHeld rows old)
+    (none : old.rests ≡ no_rests) (least : g ≤ 2) (mid : HeapView) (slid : HasSlid old mid (Generations g) moves)
     (mid_heap : IsHeap mid) (clean : HeapView) (shape : SameShape mid clean)
-    (words : Rewrites (cleared (part_items rows mid g (length mid.segments))) (word_of mid) (word_of clean))
+    (words : Rewrites (cleared (part_items rows mid (Generations g) (length mid.segments))) (word_of mid)
+    (word_of clean))
     (clean_heap : IsHeap clean) (start1 start0 : ℕ)
     → after.start1 ≡ start1 → after.start0 ≡ start0
-    → HasCompacted rows old (record clean { start1 = start1; start0 = start0 }) g moves
+    → HasCompacted rows old (record clean { start1 = start1; start0 = start0 }) (Generations g) moves
 has_compacted rows old g moves m kept after p heap held none least mid slid mid_heap clean shape words clean_heap start1
     start0 one two =
     let laid = seen_laid rows old g moves m kept after p in

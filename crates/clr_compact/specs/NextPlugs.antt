@@ -11,9 +11,11 @@ use Rattle.clr_moves.specs.Lines.{Gives, LineView}
 use Rattle.clr_moves.specs.Moves.{goes, move_at, moved_bytes}
 use Rattle.clr_compact.specs.Order.{HasPassed, IsFirstFrom, IsLeft, IsOrder, next_of, Order}
 use Rattle.clr_compact.specs.declared.next_plugs.NextPlugs.{NextPlugs}
+use Rattle.clr_moves.specs.declared.parts.Parts.{Parts}
 
 -- the plug is that of move k, and its line, which has given it, is to give the moves behind it
-pub record IsThere (rows : List TypeRow) (h : HeapView) (bricks : BricksView) (g : ℕ) (vs : List Move) (line : LineView)
+pub record IsThere (rows : List TypeRow) (h : HeapView) (bricks : BricksView) (g : Parts) (vs : List Move)
+    (line : LineView)
     (k : ℕ) (plug : Move) : Type 0 where
   pub within : k < length vs
   pub is : plug ≡ move_at vs k
@@ -27,21 +29,22 @@ pub record AreRising (top : ℕ) (vs : List Move) : Type 0 where
   pub rise : (j k : ℕ) → j < k → k < length vs → (move_at vs j).start < (move_at vs k).start
 
 -- a line is to give these moves but for the first ones
-pub record GivesFrom (rows : List TypeRow) (h : HeapView) (bricks : BricksView) (g : ℕ) (vs : List Move) (start : ℕ)
+pub record GivesFrom (rows : List TypeRow) (h : HeapView) (bricks : BricksView) (g : Parts) (vs : List Move) (start : ℕ)
     (line : LineView) : Type 0 where
   pub within : start ≤ length vs
   pub rising : AreRising h.top vs
   pub gives : Gives rows h bricks g line (drop start vs)
 
 -- of the moves that a line was to give this is the first one of a kind, and none where it gives no such move
-pub record HasFound (rows : List TypeRow) (h : HeapView) (bricks : BricksView) (g : ℕ) (going : Bool) (vs : List Move)
+pub record HasFound (rows : List TypeRow) (h : HeapView) (bricks : BricksView) (g : Parts) (going : Bool)
+    (vs : List Move)
     (start : ℕ) (line : LineView) (found : Option Move) : Type 0 where
   pub number : ℕ
   pub first : IsFirstFrom going vs start number
   pub there : MatchOption found (number ≡ length vs) (IsThere rows h bricks g vs line number)
 
 -- the plugs are the next ones of both kinds in this order
-pub record AreNext (rows : List TypeRow) (h : HeapView) (bricks : BricksView) (g : ℕ) (vs : List Move) (q : Order)
+pub record AreNext (rows : List TypeRow) (h : HeapView) (bricks : BricksView) (g : Parts) (vs : List Move) (q : Order)
     (plugs : NextPlugs) : Type 0 where
   pub order : IsOrder vs q
   pub rising : AreRising h.top vs
@@ -49,7 +52,7 @@ pub record AreNext (rows : List TypeRow) (h : HeapView) (bricks : BricksView) (g
   pub stayer : MatchOption plugs.staying (q.staying ≡ length vs) (IsThere rows h bricks g vs plugs.stayers q.staying)
 
 -- they are the first ones of both kinds: no plug is placed, and so nothing has moved
-pub record AreFirst (rows : List TypeRow) (h : HeapView) (bricks : BricksView) (g : ℕ) (vs : List Move)
+pub record AreFirst (rows : List TypeRow) (h : HeapView) (bricks : BricksView) (g : Parts) (vs : List Move)
     (plugs : NextPlugs) : Type 0 where
   pub order : Order
   pub next : AreNext rows h bricks g vs order plugs
@@ -71,7 +74,8 @@ abbrev pub bytes_of : Move → ℕ
 bytes_of v = if goes v then v.size else 0
 
 -- the plug that was next in this order is passed over
-pub record HavePassed (rows : List TypeRow) (h : HeapView) (bricks : BricksView) (g : ℕ) (vs : List Move) (q : Order)
+pub record HavePassed (rows : List TypeRow) (h : HeapView) (bricks : BricksView) (g : Parts) (vs : List Move)
+    (q : Order)
     (plugs : NextPlugs) : Type 0 where
   pub order : Order
   pub next : AreNext rows h bricks g vs order plugs

@@ -10,6 +10,8 @@ use Rattle.clr_moves.specs.declared.planned.Planned.{Planned}
 use Rattle.clr_plugs.specs.BrickEntries.{BricksView}
 use Rattle.clr_view.specs.View.{objects_in}
 use Rattle.clr_compact.specs.Entered.{AreEnteredBelow, CanEnterFrom, forgotten}
+use Rattle.clr_moves.specs.declared.parts.Parts.{Parts}
+use Rattle.clr_moves.specs.declared.parts.Parts.TheVariants.{Generations, LargeSegments}
 
 -- an entry that is given back: one that led back leads to the brick below
 abbrev pub restored : ℤ → ℤ
@@ -50,10 +52,15 @@ pub record CanEnterYoung (rows : List TypeRow) (now final : HeapView) (bricks : 
       (forgotten (both_restored (entry_at bricks) from (reserved_end (segment_at final k)) planned.below planned.first)
       from end) (segment_at final k) from
 
+-- these parts are whole segments
+abbrev pub AreWhole : Parts → Type 0
+AreWhole (Generations g) = g ≡ 2
+AreWhole LargeSegments = Unit {0}
+
 -- The bricks of all parts can be entered anew for the heap `final`.
 pub record CanEnterParts (rows : List TypeRow) (now final : HeapView) (bricks : BricksView) (g from end : ℕ)
     (planned : Planned) : Type 0 where
-  pub whole : g ≡ 2 → (t : ℕ) → t < length now.segments → takes 2 (segment_at now t) ≡ true
+  pub whole : g ≡ 2 → (t : ℕ) → t < length now.segments → takes (Generations 2) (segment_at now t) ≡ true
       → CanEnterFrom rows now final t (first_of now t)
   pub young : g < 2 → (e : ℕ) → e < length now.segments → segment_at now e ≡ ephemeral (frame now)
       → CanEnterYoung rows now final bricks e from end planned
@@ -61,4 +68,5 @@ pub record CanEnterParts (rows : List TypeRow) (now final : HeapView) (bricks : 
 -- The boundaries of generations have moved. Before, the part of the ephemeral segment started at `from`.
 pub record HasMovedBounds (g from : ℕ) (was now : HeapView) : Type 0 where
   pub others : now ≡ record was { start1 = now.start1; start0 = now.start0 }
-  pub young : (e : ℕ) → e < length was.segments → segment_at was e ≡ ephemeral (frame was) → from ≡ part_of was g e
+  pub young : (e : ℕ) → e < length was.segments → segment_at was e ≡ ephemeral (frame was)
+      → from ≡ part_of was (Generations g) e

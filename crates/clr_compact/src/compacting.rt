@@ -9,13 +9,14 @@ ghost use Rattle.clr_generations.specs.Laws.{BrickLaw};
 ghost use Rattle.clr_moves.specs.Moves.{moved_bytes};
 ghost use Rattle.clr_moves.specs.Overlaid.{HoldsPlan};
 ghost use Rattle.clr_compact.specs.Compacted.{CanCompact, HasCompacted};
+ghost use Rattle.clr_moves.specs.declared.parts.Parts.TheVariants.{Generations};
 
 use crate::part_bricks::{enter_parts, young_part};
 use crate::slide_plan::slide_plan;
 use crate::slides::Slides;
 use clr_bricks::Bricks;
 use clr_heap::Heap;
-use clr_moves::Planned;
+use clr_moves::{Parts, Planned};
 use clr_pinq::PinQueue;
 use clr_types::Types;
 
@@ -38,20 +39,20 @@ pub fn compact(
     requires least { g ≤ 2 }
     requires plan { CanCompact types.now heap.old bricks.old pins.old.entries g planned.now }
     ensures compacted { (view : HeapView) (vs : List Move)
-        → HoldsPlan types.now view heap.old bricks.old pins.old.entries g vs planned.now.start1 planned.now.start0
-        → HasCompacted types.now view heap.new g vs }
+        → HoldsPlan types.now view heap.old bricks.old pins.old.entries (Generations g) vs planned.now.start1 planned.now.start0
+        → HasCompacted types.now view heap.new (Generations g) vs }
     ensures start1 { heap.new.start1 ≡ planned.now.start1 }
     ensures start0 { heap.new.start0 ≡ planned.now.start0 }
     ensures empty { pins.new.entries ≡ [] }
-    ensures spare { pins.old.spare + length pins.old.entries ≤ pins.new.spare }
+    ensures spare { pins.new.spare ≡ pins.old.spare + length pins.old.entries }
     ensures slides { (view : HeapView) (vs : List Move)
-        → HoldsPlan types.now view heap.old bricks.old pins.old.entries g vs planned.now.start1 planned.now.start0
+        → HoldsPlan types.now view heap.old bricks.old pins.old.entries (Generations g) vs planned.now.start1 planned.now.start0
         → slides.new ≡ min (2 ^ 64 - 1) (slides.old + (1 + moved_bytes vs)) }
     ensures brick_law { BrickLaw types.now (frame heap.new) (objects_in types.now heap.new) (entry_at bricks.new) }
     ensures spans { spans bricks.new ≡ spans bricks.old }
 {
     let part = young_part(heap, g);
-    slide_plan(heap, types, bricks, pins, g, slides);
+    slide_plan(heap, types, bricks, pins, Parts::Generations(g), slides);
     pins.clear();
     heap.lawful();
     heap.set_boundaries(planned.start1, planned.start0);

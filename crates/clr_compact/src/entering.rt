@@ -19,7 +19,7 @@ ghost use Rattle.clr_generations.specs.Tables.{AreBricksOf};
 
 use clr_bricks::Bricks;
 use clr_heap::{Heap, Item};
-use clr_types::Types;
+use clr_types::{Types, mark};
 
 // Takes away the entries of the bricks of segment `k` that have a place of [from, end); only an entry that names a
 // place below `from` stays. All others stay.
@@ -109,8 +109,8 @@ fn clear_mark(heap: &mut Heap, types: &Types, k: usize, place: u64) -> Item
 {
     let mt = heap.word_at(k, place);
     let found = heap.item_of_word(types, k, place, mt);
-    if mt % 2 == 1 {
-        heap.set_word_at(k, place, mt - 1);
+    if mark::is_marked(mt) {
+        heap.set_word_at(k, place, mark::unmarked(mt));
     }
     found
 }

@@ -12,14 +12,16 @@ ghost use Rattle.clr_generations.specs.Tables.{AreBricksOf};
 ghost use Rattle.clr_moves.specs.Moves.{part_of, takes};
 ghost use Rattle.clr_compact.specs.Compacted.{ArePartsWalkable, part_items};
 ghost use Rattle.clr_compact.specs.Entered.{CanEnterFrom};
-ghost use Rattle.clr_compact.specs.PartBricks.{both_restored, CanEnterParts, CanEnterYoung, HasMovedBounds, IsEntry};
+ghost use Rattle.clr_compact.specs.PartBricks.{AreWhole, both_restored, CanEnterParts, CanEnterYoung, HasMovedBounds};
+ghost use Rattle.clr_compact.specs.PartBricks.{IsEntry};
 ghost use Rattle.clr_compact.specs.PartBricks.{IsYoungPart, restored_at};
 ghost use Rattle.clr_compact.specs.Rewrites.{cleared, Rewrites};
+ghost use Rattle.clr_moves.specs.declared.parts.Parts.TheVariants.{Generations};
 
 use crate::entering::{enter_bricks, forget_bricks};
 use clr_bricks::Bricks;
 use clr_heap::Heap;
-use clr_moves::{Planned, part_start, takes_part};
+use clr_moves::{Parts, Planned, part_start, takes_part};
 use clr_types::{FIRST_OFFSET, Types};
 
 // Where the part of the ephemeral segment starts, and where the segment ends.
@@ -31,12 +33,13 @@ pub(crate) struct YoungPart {
 
 // The part of generations up to `g` in the ephemeral segment.
 pub(crate) fn young_part(heap: &Heap, g: u8) -> YoungPart
-    ensures start { (e : ℕ) → segment_at heap.now e ≡ ephemeral (frame heap.now) → result.start ≡ part_of heap.now g e }
+    ensures start { (e : ℕ) → segment_at heap.now e ≡ ephemeral (frame heap.now)
+        → result.start ≡ part_of heap.now (Generations g) e }
     ensures end { (e : ℕ) → segment_at heap.now e ≡ ephemeral (frame heap.now) → result.end ≡ last_of heap.now e }
 {
     let young = heap.ephemeral();
     YoungPart {
-        start: part_start(heap, g, young),
+        start: part_start(heap, Parts::Generations(g), young),
         end: heap.info(young).end,
     }
 }
@@ -54,25 +57,27 @@ pub(crate) fn enter_parts(
 )
     requires least { g ≤ 2 }
     requires no_contexts { heap.old.rests ≡ no_rests }
-    requires parts { (was : HeapView) × HasMovedBounds g part.start was heap.old × ArePartsWalkable types.now was g }
+    requires parts { (was : HeapView) × HasMovedBounds g part.start was heap.old
+        × ArePartsWalkable types.now was (Generations g) }
     requires bricks { AreBricksOf (frame heap.old) bricks.old }
     requires young { (e : ℕ) → g < 2 → e < length heap.old.segments
         → segment_at heap.old e ≡ ephemeral (frame heap.old)
         → IsYoungPart heap.old e part.start part.end planned.now }
     ensures shape { SameShape heap.old heap.new }
     ensures words { (was : HeapView) → HasMovedBounds g part.start was heap.old
-        → Rewrites (cleared (part_items types.now was g (length was.segments))) (word_of was) (word_of heap.new) }
+        → Rewrites (cleared (part_items types.now was (Generations g) (length was.segments))) (word_of was) (word_of heap.new) }
     ensures parts { (final : HeapView)
         → CanEnterParts types.now heap.old final bricks.old g part.start part.end planned.now → (t : ℕ)
-        → t < length heap.old.segments → takes g (segment_at heap.old t) ≡ true
+        → t < length heap.old.segments → takes (Generations g) (segment_at heap.old t) ≡ true
         → AreEntered types.now (frame final) (objects_in types.now final) (entry_at bricks.new) (segment_at final t) }
-    ensures others { (t brick : ℕ) → t < length heap.old.segments → takes g (segment_at heap.old t) ≡ false
+    ensures others { (t brick : ℕ) → t < length heap.old.segments
+        → takes (Generations g) (segment_at heap.old t) ≡ false
         → IsBrickOf (segment_at heap.old t) brick → entry_at bricks.new brick ≡ entry_at bricks.old brick }
     ensures spans { spans bricks.new ≡ spans bricks.old }
 {
     heap.lawful();
     if g == 2 {
-        enter_whole_parts(heap, types, bricks);
+        enter_whole_parts(heap, types, bricks, Parts::Generations(2));
     } else {
         enter_young_part(heap, types, bricks, planned, part);
     }
@@ -149,25 +154,26 @@ fn restore(bricks: &mut Bricks, brick: u64, entry: i16)
     }
 }
 
-// Clears the marks of the items of all small segments, and enters their bricks anew.
-fn enter_whole_parts(heap: &mut Heap, types: &Types, bricks: &mut Bricks)
-    requires parts { ArePartsWalkable types.now heap.old 2 }
+// Clears the marks of the items of all parts, which are whole segments, and enters their bricks anew.
+fn enter_whole_parts(heap: &mut Heap, types: &Types, bricks: &mut Bricks, g: Parts)
+    requires whole { AreWhole g }
+    requires parts { ArePartsWalkable types.now heap.old g }
     requires no_contexts { heap.old.rests ≡ no_rests }
     requires bricks { AreBricksOf (frame heap.old) bricks.old }
     ensures shape { SameShape heap.old heap.new }
-    ensures words { Rewrites (cleared (part_items types.now heap.old 2 (length heap.old.segments))) (word_of heap.old)
+    ensures words { Rewrites (cleared (part_items types.now heap.old g (length heap.old.segments))) (word_of heap.old)
         (word_of heap.new) }
     ensures parts { (final : HeapView) → ((t : ℕ) → t < length heap.old.segments
-        → takes 2 (segment_at heap.old t) ≡ true → CanEnterFrom types.now heap.old final t (first_of heap.old t))
-        → (t : ℕ) → t < length heap.old.segments → takes 2 (segment_at heap.old t) ≡ true
+        → takes g (segment_at heap.old t) ≡ true → CanEnterFrom types.now heap.old final t (first_of heap.old t))
+        → (t : ℕ) → t < length heap.old.segments → takes g (segment_at heap.old t) ≡ true
         → AreEntered types.now (frame final) (objects_in types.now final) (entry_at bricks.new) (segment_at final t) }
-    ensures others { (t brick : ℕ) → t < length heap.old.segments → takes 2 (segment_at heap.old t) ≡ false
+    ensures others { (t brick : ℕ) → t < length heap.old.segments → takes g (segment_at heap.old t) ≡ false
         → IsBrickOf (segment_at heap.old t) brick → entry_at bricks.new brick ≡ entry_at bricks.old brick }
     ensures spans { spans bricks.new ≡ spans bricks.old }
 {
     let count = heap.segments();
     for k in 0..count {
-        if takes_part(2, heap.info(k)) {
+        if takes_part(g, heap.info(k)) {
             enter_whole_part(heap, types, bricks, k);
         }
     }

@@ -12,10 +12,11 @@ use Rattle.clr_plugs.proofs.Walking.{walk_begins, walk_whole}
 use Rattle.clr_moves.specs.Lines.{CanEnter, CanRead, Gives, HasRead, IsAtHand, LineView}
 use Rattle.clr_moves.specs.Moves.{part_of, takes}
 use Rattle.clr_moves.specs.Told.{IsPartPlanned, moves_at, moves_from, moves_of, TellMoves}
+use Rattle.clr_moves.specs.declared.parts.Parts.{Parts}
 
 -- ---- entering a segment
 
-module _ (rows : List TypeRow) (h : HeapView) (bricks : BricksView) (g : ℕ) (line : LineView) (vs : List Move)
+module _ (rows : List TypeRow) (h : HeapView) (bricks : BricksView) (g : Parts) (line : LineView) (vs : List Move)
     (can : CanEnter rows h bricks g line vs) where
   split_moves : vs ≡ moves_at h g can.parts can.lasts line.segment
       ++ moves_from h g can.parts can.lasts (suc line.segment) (length h.segments - suc line.segment)
@@ -116,7 +117,8 @@ module _ (rows : List TypeRow) (h : HeapView) (bricks : BricksView) (g : ℕ) (l
 -- ---- before all segments
 
 -- the plans of all parts are to be given from the first segment on
-pub enter_first : (rows : List TypeRow) (h : HeapView) (bricks : BricksView) (g : ℕ) (line : LineView) (vs : List Move)
+pub enter_first : (rows : List TypeRow) (h : HeapView) (bricks : BricksView) (g : Parts) (line : LineView)
+    (vs : List Move)
     → TellMoves rows h bricks g vs → 0 < length h.segments → line.segment ≡ 0
     → CanEnter rows h bricks g line vs
 enter_first rows h bricks g line vs tell some zero =

@@ -33,8 +33,9 @@ use Rattle.clr_moves.proofs.Giving.{hand_place, hand_positive, hand_within, plug
 use Rattle.clr_moves.proofs.KeptRuns.{HeadStays, run_kept}
 use Rattle.clr_moves.proofs.PlugMoves.{IsMoveOf, number_plug, plug_number}
 use Rattle.clr_moves.specs.Lines.{CanRead, Gives, HasReadAhead, IsAtHand, LineView}
-use Rattle.clr_moves.specs.Moves.{move_at, part_of, takes}
+use Rattle.clr_moves.specs.Moves.{move_at, part_of, start_of, takes}
 use Rattle.clr_moves.specs.Told.{IsMarkedRun, IsPartPlanned, moves_at, moves_from, moves_of, TellMoves}
+use Rattle.clr_moves.specs.declared.parts.Parts.{Parts}
 
 -- ---- what a line is to give
 
@@ -51,7 +52,7 @@ pub record AgreesFrom (old now : HeapView) (segment low : ℕ) : Type 0 where
 abbrev pub low_of : HeapView → LineView → ℕ
 low_of h line = if eqb line.start 0 then reserved_end (segment_at h line.segment) else line.start
 
-module _ (rows : List TypeRow) (h : HeapView) (bricks : BricksView) (g : ℕ) (line : LineView) (vs : List Move)
+module _ (rows : List TypeRow) (h : HeapView) (bricks : BricksView) (g : Parts) (line : LineView) (vs : List Move)
     (gives : Gives rows h bricks g line vs) where
   -- it isn't above the line's segment
   pub low_within : low_of h line ≤ reserved_end (segment_at h line.segment)
@@ -86,7 +87,7 @@ module _ (rows : List TypeRow) (h : HeapView) (bricks : BricksView) (g : ℕ) (l
 -- ---- what stays
 
 -- the moves of parts depend on which segments have one
-moves-same : (old now : HeapView) (g : ℕ) (parts : ℕ → PlannedPart) (lasts : ℕ → ℕ) (t n : ℕ)
+moves-same : (old now : HeapView) (g : Parts) (parts : ℕ → PlannedPart) (lasts : ℕ → ℕ) (t n : ℕ)
     → ((u : ℕ) → t ≤ u → takes g (segment_at now u) ≡ takes g (segment_at old u))
     → moves_from now g parts lasts t n ≡ moves_from old g parts lasts t n
 moves-same old now g parts lasts t zero same = refl
@@ -260,7 +261,14 @@ module _ (rows : List TypeRow) (old now : HeapView) (bricks : BricksView) (line 
 
 -- ---- the parts above
 
-module _ (rows : List TypeRow) (old now : HeapView) (bricks : BricksView) (g t : ℕ) (part : PlannedPart)
+-- a part begins at its place in each heap of the same boundaries
+part_same : (old now : HeapView) (t : ℕ) → now ≡ record old { memories = now.memories; segments = now.segments }
+    → segment_at now t ≡ segment_at old t → (g : Parts) → part_of now g t ≡ part_of old g t
+part_same old now t others same g =
+    ap (λ (v : HeapView). start_of (frame v) g (segment_at now t)) others
+    ∙ ap (λ (s : SegInfo). start_of (frame old) g s) same
+
+module _ (rows : List TypeRow) (old now : HeapView) (bricks : BricksView) (g : Parts) (t : ℕ) (part : PlannedPart)
     (last segment low : ℕ) (agrees : AgreesFrom old now segment low) (above : low ≤ (segment_at old t).base)
     (from : segment ≤ t) (p : IsPartPlanned rows old bricks g t part last) where
   above_words : (x d : ℕ) → IsIn x (plug_starts part.plugs) → d ≤ 32 → d % 8 ≡ 0
@@ -277,8 +285,7 @@ module _ (rows : List TypeRow) (old now : HeapView) (bricks : BricksView) (g t :
   part_kept =
       let same = agrees.above t from in
       let at = p.segment in
-      let low_same : part_of now g t ≡ part_start (frame old) g (segment_at now t) =
-      ap (λ (v : HeapView). part_start (frame v) g (segment_at now t)) agrees.others in
+      let low_same = part_same old now t agrees.others same g in
       record {
         planned = record {
           lies = lies_kept old now part (agrees.above part.segment (omega (arith, at, from))) agrees.count
@@ -291,7 +298,7 @@ module _ (rows : List TypeRow) (old now : HeapView) (bricks : BricksView) (g t :
               (λ x i is. above_words x 16 i (omega arith) refl) (p.planned.entries brick near below);
         };
         segment = p.segment;
-        low = p.low ∙ sym (low_same ∙ ap (λ (s : SegInfo). part_start (frame old) g s) same);
+        low = p.low ∙ sym low_same;
         high = p.high ∙ sym (ap (λ (s : SegInfo). s.end) same);
         down = p.down;
         run = λ ps q e.
@@ -309,7 +316,7 @@ module _ (rows : List TypeRow) (old now : HeapView) (bricks : BricksView) (g t :
       }
 
 -- A line goes on to give its moves where what it reads stays.
-pub gives-kept : (rows : List TypeRow) (old now : HeapView) (bricks : BricksView) (g : ℕ) (line : LineView)
+pub gives-kept : (rows : List TypeRow) (old now : HeapView) (bricks : BricksView) (g : Parts) (line : LineView)
     (vs : List Move) (low : ℕ) → IsHeap old → Gives rows old bricks g line vs → AgreesFrom old now line.segment low
     → low ≤ low_of old line → Gives rows now bricks g line vs
 gives-kept rows old now bricks g line vs low heap gives agrees le =
@@ -382,7 +389,8 @@ last_highest low (p ∷ ps) q s r i = elim (in_cons i) [
   | inr more ↦ last_highest (p.start + 24) ps q s.1 r more
 ]
 
-module _ (rows : List TypeRow) (old now : HeapView) (bricks : BricksView) (g : ℕ) (vs : List Move) (heap : IsHeap old)
+module _ (rows : List TypeRow) (old now : HeapView) (bricks : BricksView) (g : Parts) (vs : List Move)
+    (heap : IsHeap old)
     (shape : SameShape old now)
     (info : (k b : ℕ) → k < length vs → b % 8 ≡ 0 → IsInfoWord (move_at vs k).start b → word_of now b ≡ word_of old b)
     (heads : (t from last : ℕ) (i : Item) → IsLastRun rows old vs t from last

@@ -25,6 +25,7 @@ use Rattle.clr_moves.specs.Going.{IsNearPlug}
 use Rattle.clr_moves.specs.Moves.{AreInLine, IsInPart, IsInPlug, move_at, part_of, plug_stop, room_end, takes}
 use Rattle.clr_moves.specs.Overlaid.{HoldsPlan, MayGo}
 use Rattle.clr_moves.specs.Told.{end_before, IsPartPlanned, moves_of, TellMoves}
+use Rattle.clr_moves.specs.declared.parts.Parts.{Parts}
 
 -- ---- where plugs end
 
@@ -53,7 +54,8 @@ last_split p (r ∷ ps) =
     let (qs, q, e) = last_split r ps in (p ∷ qs, q, ap (λ (xs : List PlannedPlug). p ∷ xs) e)
 
 -- where a plug is, the last one of its part ends within the segment
-last_within : (rows : List TypeRow) (h : HeapView) (bricks : BricksView) (g t : ℕ) (part : PlannedPart) (last : ℕ)
+last_within : (rows : List TypeRow) (h : HeapView) (bricks : BricksView) (g : Parts) (t : ℕ) (part : PlannedPart)
+    (last : ℕ)
     → IsPartPlanned rows h bricks g t part last → (p : PlannedPlug) → IsIn p part.plugs → last ≤ last_of h t
 last_within rows h bricks g t part last plan p i = go part.plugs refl i where
   go : (ps : List PlannedPlug) → part.plugs ≡ ps → IsIn p ps → last ≤ last_of h t
@@ -91,7 +93,7 @@ moved_in_plug vs line k place i =
     ]
 
 -- a place is in the part of one segment at most
-pub one_part : (h : HeapView) (g t u place : ℕ) → IsHeap h → first_of h t ≤ place → first_of h u ≤ place
+pub one_part : (h : HeapView) (g : Parts) (t u place : ℕ) → IsHeap h → first_of h t ≤ place → first_of h u ≤ place
     → IsInPart h g t place → IsInPart h g u place → t ≡ u
 one_part h g t u place heap low_t low_u a b =
     let high_t = a.high in
@@ -106,7 +108,7 @@ one_part h g t u place heap low_t low_u a b =
       ]
     ]
 
-module _ (rows : List TypeRow) (h : HeapView) (bricks : BricksView) (g : ℕ) (vs : List Move) (heap : IsHeap h)
+module _ (rows : List TypeRow) (h : HeapView) (bricks : BricksView) (g : Parts) (vs : List Move) (heap : IsHeap h)
     (tell : TellMoves rows h bricks g vs) where
   -- the plug whose move has a number
   abbrev pub plug_of : (k : ℕ) → k < length vs → IsPlugMove h g tell.parts tell.lasts (length h.segments) (move_at vs k)
@@ -278,7 +280,7 @@ found_near h bricks place back n found f =
 -- ---- in the heap and in the view
 
 -- parts are the same in heaps of the same shape
-pub in_part-same : (view h : HeapView) (g t place : ℕ) → SameShape view h → IsInPart h g t place
+pub in_part-same : (view h : HeapView) (g : Parts) (t place : ℕ) → SameShape view h → IsInPart h g t place
     → IsInPart view g t place
 in_part-same view h g t place shape i =
     let count = ap (λ (v : HeapView). length v.segments) shape.others in
@@ -294,7 +296,7 @@ in_part-same view h g t place shape i =
       high = omega (arith, high, end);
     }
 
-module _ (rows : List TypeRow) (view h : HeapView) (bricks : BricksView) (entries : List PinEntry) (g : ℕ)
+module _ (rows : List TypeRow) (view h : HeapView) (bricks : BricksView) (entries : List PinEntry) (g : Parts)
     (vs : List Move) (start1 start0 : ℕ) (heap : IsHeap h)
     (plan : HoldsPlan rows view h bricks entries g vs start1 start0) (place : ℕ) where
   -- parts start within their segments

@@ -7,13 +7,14 @@ use Rattle.clr_types.specs.Segments.{empty_segment, ephemeral, first_place, is_s
 use Rattle.clr_types.specs.Segments.{same_kind, segment_or_empty, stands_in}
 use Rattle.clr_types.specs.declared.segment.SegInfo.{SegInfo}
 use Rattle.clr_types.specs.declared.segment.SegKind.{SegKind}
-use Rattle.clr_types.specs.declared.segment.SegKind.TheVariants.{Small, Ephemeral, Large}
+use Rattle.clr_types.specs.declared.segment.SegKind.TheVariants.{Small, Ephemeral, Large, Pinned}
 use Rattle.clr_heap.specs.View.{first_of, frame, HeapView, IsHeap, segment_at}
 use Rattle.clr_heap.proofs.Framing.{ephemerals}
 use Rattle.clr_heap.proofs.Staying.{segment_order}
 use Rattle.clr_heap.proofs.Young.{young_number}
 use Rattle.clr_model.specs.Sweep.{has_condemned_part, part_start}
 use Rattle.clr_moves.specs.Moves.{IsInPart, part_of, room_end, takes}
+use Rattle.clr_moves.specs.declared.parts.Parts.TheVariants.{Generations, LargeSegments}
 
 some_young : (ss : List SegInfo) (k : ℕ) → k < length ss → same_kind Ephemeral (get_or ss k empty_segment).kind ≡ true
     → 0 < length (ephemerals ss)
@@ -107,7 +108,8 @@ stands_from s place low high =
     rw (le-leb (first_place s) place low, lt-ltb place (reserved_end s) high) refl
 
 -- a part of less than two generations is in the ephemeral segment
-pub only_young : (g : ℕ) (s : SegInfo) → takes g s ≡ true → (g ≡ 2 → ⊥) → same_kind Ephemeral s.kind ≡ true
+pub only_young : (g : ℕ) (s : SegInfo) → takes (Generations g) s ≡ true → (g ≡ 2 → ⊥)
+    → same_kind Ephemeral s.kind ≡ true
 only_young g s on few =
     let has = (and_parts (is_small_or_ephemeral s.kind) (has_condemned_part g s) on).1 in
     elim (cases_Bool (same_kind Ephemeral s.kind)) [
@@ -115,18 +117,19 @@ only_young g s on few =
       | inr other ↦ absurd (both_ways (same_kind Ephemeral s.kind || eqb g 2) (rw (other, ne_eqb g 2 few) refl) has)
     ]
 
-takes_young : (g : ℕ) (s : SegInfo) → same_kind Ephemeral s.kind ≡ true → takes g s ≡ true
+takes_young : (g : ℕ) (s : SegInfo) → same_kind Ephemeral s.kind ≡ true → takes (Generations g) s ≡ true
 takes_young g s e = go s.kind e where
   go : (k : SegKind) → same_kind Ephemeral k ≡ true
       → (is_small_or_ephemeral k && (same_kind Ephemeral k || eqb g 2)) ≡ true
   go Small f = absurd (both_ways false refl f)
   go Ephemeral f = refl
   go Large f = absurd (both_ways false refl f)
+  go Pinned f = absurd (both_ways false refl f)
 
 module _ (h : HeapView) (place : ℕ) (heap : IsHeap h) where
   -- a place of the ephemeral segment in its part
   pub in_young : (g : ℕ) → stands_in (ephemeral (frame h)) place ≡ true
-      → part_start (frame h) g (ephemeral (frame h)) ≤ place → (t : ℕ) × IsInPart h g t place
+      → part_start (frame h) g (ephemeral (frame h)) ≤ place → (t : ℕ) × IsInPart h (Generations g) t place
   in_young g stands low =
       let one = heap.one_ephemeral in
       let (t, l, is) = young_number h.segments (omega (arith, one)) in
@@ -137,13 +140,13 @@ module _ (h : HeapView) (place : ℕ) (heap : IsHeap h) where
         t,
         record {
           in_range = l;
-          takes = ap (λ (s : SegInfo). takes g s) is ∙ takes_young g (ephemeral (frame h)) kind;
+          takes = ap (λ (s : SegInfo). takes (Generations g) s) is ∙ takes_young g (ephemeral (frame h)) kind;
           low = omega (arith, low, start);
           high = omega (arith, high, end);
         },
       )
 
-  pub in_first : stands_in (ephemeral (frame h)) place ≡ true → (t : ℕ) × IsInPart h 2 t place
+  pub in_first : stands_in (ephemeral (frame h)) place ≡ true → (t : ℕ) × IsInPart h (Generations 2) t place
   in_first stands =
       let start = part_of_two (frame h) (ephemeral (frame h)) in
       let low = (stands_bounds (ephemeral (frame h)) place stands).0 in
@@ -151,7 +154,8 @@ module _ (h : HeapView) (place : ℕ) (heap : IsHeap h) where
 
   -- outside the ephemeral segment no place is in a part of less than two generations
   pub none_outside : (g t : ℕ) → stands_in (ephemeral (frame h)) place ≡ false → (g ≡ 2 → ⊥)
-      → (takes g (segment_at h t) ≡ true → first_of h t ≤ part_of h g t) → IsInPart h g t place → ⊥
+      → (takes (Generations g) (segment_at h t) ≡ true → first_of h t ≤ part_of h (Generations g) t)
+      → IsInPart h (Generations g) t place → ⊥
   none_outside g t off few starts i =
       let kind = only_young g (segment_at h t) i.takes few in
       let is = young_segment h t heap i.in_range kind in
@@ -166,7 +170,7 @@ module _ (h : HeapView) (place : ℕ) (heap : IsHeap h) where
     pub high : place < room_end h k
     pub kind : is_small_or_ephemeral (segment_at h k).kind ≡ true
 
-  pub in_segment : (k t : ℕ) → IsBelow h place k → IsInPart h 2 t place → IsInSegment k
+  pub in_segment : (k t : ℕ) → IsBelow h place k → IsInPart h (Generations 2) t place → IsInSegment k
   in_segment k t b i =
       let start = part_of_two (frame h) (segment_at h t) in
       let low = i.low in
@@ -186,3 +190,16 @@ module _ (h : HeapView) (place : ℕ) (heap : IsHeap h) where
       let is = young_segment h k heap l kind in
       both_ways (stands_in (ephemeral (frame h)) place) off
       (sym (ap (λ (s : SegInfo). stands_in s place) is) ∙ stands_from (segment_at h k) place i.low i.high)
+
+  -- where a place is in a large segment, the last segment that begins below it is that one
+  pub record IsInLarge (k : ℕ) : Type 0 where
+    pub low : first_of h k ≤ place
+    pub high : place < room_end h k
+    pub kind : same_kind Large (segment_at h k).kind ≡ true
+
+  pub in_large : (k t : ℕ) → IsBelow h place k → IsInPart h LargeSegments t place → IsInLarge k
+  in_large k t b i =
+      let low : first_of h t ≤ place = i.low in
+      let same = only_below h place k t heap b i.in_range low i.high in
+      let P : ℕ → Type 0 = λ n. IsInLarge n in
+      subst P same (record { low = low; high = i.high; kind = i.takes })

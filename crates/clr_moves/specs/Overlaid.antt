@@ -7,21 +7,25 @@ use Rattle.clr_heap.specs.View.{first_of, HeapView, IsHeap, no_rests, SameShape,
 use Rattle.clr_model.specs.Compaction.{IsCompacted, Move}
 use Rattle.clr_model.specs.Lawful.{IsLaid}
 use Rattle.clr_model.specs.Machine.{Machine}
-use Rattle.clr_model.specs.Sweep.{survivors}
+use Rattle.clr_model.specs.Slide.{IsLargeSlid}
+use Rattle.clr_model.specs.Sweep.{Survivor, survivors}
 use Rattle.clr_view.specs.Memory.{IsMemoryOf, TestsMarks}
 use Rattle.clr_view.specs.View.{IsHeld}
 use Rattle.clr_plugs.specs.BrickEntries.{BricksView}
 use Rattle.clr_plugs.specs.Info.{IsInfoWord}
 use Rattle.clr_pinq.specs.Queue.{logical, queue_word}
 use Rattle.clr_pinq.specs.declared.entry.PinEntry.{PinEntry}
-use Rattle.clr_moves.specs.Moves.{AreInLine, AreMoves, IsInPart, IsInPlug, move_at, part_of, plug_stop, room_end, takes}
+use Rattle.clr_moves.specs.Moves.{age_of, AreInLine, AreMoves, IsInPart, IsInPlug, move_at, part_of, plug_stop}
+use Rattle.clr_moves.specs.Moves.{room_end, takes}
+use Rattle.clr_moves.specs.declared.parts.Parts.{Parts}
+use Rattle.clr_moves.specs.declared.parts.Parts.TheVariants.{Generations, LargeSegments}
 use Rattle.clr_moves.specs.Told.{TellMoves}
 
 -- ---- words
 
 -- The word at b belongs to no part: it is one of another segment, or stands below the part, but not before the
 -- segment's first place, where no cell stands.
-abbrev pub IsOutside : HeapView → ℕ → ℕ → Type 0
+abbrev pub IsOutside : HeapView → Parts → ℕ → Type 0
 IsOutside h g b =
     (t : ℕ) → t < length h.segments → takes g (segment_at h t) ≡ true
     → (b + 8 < (segment_at h t).base)
@@ -36,7 +40,7 @@ pub record IsPlugWord (vs : List Move) (k b : ℕ) : Type 0 where
 -- The heap and what is saved hold the words of `view` that count: those of the cells of all plugs, and those outside of
 -- the parts. What is saved lies before the start of a plug or before its end, and what stands under the information of
 -- a plug and counts is saved.
-pub record IsOverlaid (view h : HeapView) (entries : List PinEntry) (g : ℕ) (vs : List Move) : Type 0 where
+pub record IsOverlaid (view h : HeapView) (entries : List PinEntry) (g : Parts) (vs : List Move) : Type 0 where
   pub heap : IsHeap view
   pub moves : AreMoves view g vs
   pub line : AreInLine vs
@@ -52,24 +56,29 @@ pub record IsOverlaid (view h : HeapView) (entries : List PinEntry) (g : ℕ) (v
       ⊎ (((j : ℕ) → IsPlugWord vs j b → ⊥) × (IsOutside view g b → ⊥))
 
 -- the place is in no part, or in a plug
-abbrev pub MayGo : HeapView → ℕ → List Move → ℕ → Type 0
+abbrev pub MayGo : HeapView → Parts → List Move → ℕ → Type 0
 MayGo h g vs place = ((t : ℕ) → IsInPart h g t place → ⊥) ⊎ ((k : ℕ) × IsInPlug vs k place)
 
 -- ---- the compaction of a machine
 
+-- the layout that compacts these parts
+abbrev pub IsLaidBy : Parts → Layout → List Survivor → List Move → Layout → Type 0
+IsLaidBy (Generations g) layout kept vs after = IsCompacted layout g kept vs after
+IsLaidBy LargeSegments layout kept vs after = IsLargeSlid layout kept vs after
+
 -- these moves and the layout `after` are the compaction of a machine whose memory the heap is, and in which of the
--- objects of generations up to g the marked ones are kept
-pub record IsCompactionOf (rows : List TypeRow) (h : HeapView) (g : ℕ) (vs : List Move) (m : Machine)
+-- objects of the parts' generations the marked ones are kept
+pub record IsCompactionOf (rows : List TypeRow) (h : HeapView) (g : Parts) (vs : List Move) (m : Machine)
     (kept : ℕ → Bool) (after : Layout) : Type 0 where
   pub memory : IsMemoryOf rows h m
   pub laid : IsLaid m
-  pub tests : TestsMarks rows h g kept
-  pub compacted : IsCompacted m.layout g (survivors m g kept) vs after
+  pub tests : TestsMarks rows h (age_of g) kept
+  pub compacted : IsLaidBy g m.layout (survivors m (age_of g) kept) vs after
 
 -- The heap holds the plan of a compaction of `view` by these moves, after which generations 1 and 0 begin at these
 -- places: its words and the saved ones are those of `view`, and plugs and bricks tell the moves.
 pub record HoldsPlan (rows : List TypeRow) (view h : HeapView) (bricks : BricksView) (entries : List PinEntry)
-    (g : ℕ) (vs : List Move) (start1 start0 : ℕ) : Type 0 where
+    (g : Parts) (vs : List Move) (start1 start0 : ℕ) : Type 0 where
   pub overlaid : IsOverlaid view h entries g vs
   pub told : TellMoves rows h bricks g vs
   pub held : IsHeld rows view

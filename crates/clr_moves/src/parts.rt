@@ -2,12 +2,22 @@
 ghost use Rattle.std.specs.Prelude.{◌≡◌, ℕ, ◌+◌, ◌<◌, ◌≤◌, ◌^◌, true, false, length};
 ghost use Rattle.clr_heap.specs.View.{segment_at};
 ghost use Rattle.clr_moves.specs.Moves.{part_of, takes};
+ghost use Rattle.clr_moves.specs.declared.parts.Parts.TheVariants.{Generations};
 
 use clr_heap::Heap;
 use clr_types::{FIRST_OFFSET, SegInfo, SegKind};
 
+/// The parts of segments that a compaction goes over.
+#[derive(Clone, Copy, Debug, PartialEq, Eq)]
+pub enum Parts {
+    /// Those of the generations up to this one, in the ephemeral segment and, for generation 2, in small ones.
+    Generations(u8),
+    /// Whole large segments.
+    LargeSegments,
+}
+
 /// The number of the first segment from `start` on that has a part, or the number of segments where none has.
-pub fn next_part(heap: &Heap, g: u8, start: usize) -> usize
+pub fn next_part(heap: &Heap, g: Parts, start: usize) -> usize
     requires { start ≤ length heap.now.segments }
     ensures above { start ≤ result }
     ensures within { result ≤ length heap.now.segments }
@@ -21,21 +31,42 @@ pub fn next_part(heap: &Heap, g: u8, start: usize) -> usize
     found
 }
 
-/// Whether a segment has a part in a collection of the generations up to `g`.
-pub fn takes_part(g: u8, segment: SegInfo) -> bool
+/// Whether a segment has a part.
+pub fn takes_part(g: Parts, segment: SegInfo) -> bool
     ensures { result ≡ takes g segment }
+{
+    match g {
+        Parts::Generations(oldest) => takes_generations(oldest, segment),
+        Parts::LargeSegments => segment.kind == SegKind::Large,
+    }
+}
+
+// Whether a segment has a part in a collection of the generations up to `g`.
+fn takes_generations(g: u8, segment: SegInfo) -> bool
+    ensures { result ≡ takes (Generations g) segment }
 {
     match segment.kind {
         SegKind::Small => g == 2,
         SegKind::Ephemeral => true,
-        SegKind::Large => false,
+        SegKind::Large | SegKind::Pinned => false,
     }
 }
 
 /// The place where the part of segment `k` starts.
-pub fn part_start(heap: &Heap, g: u8, k: usize) -> u64
+pub fn part_start(heap: &Heap, g: Parts, k: usize) -> u64
     requires { k < length heap.now.segments }
     ensures { result ≡ part_of heap.now g k }
+{
+    match g {
+        Parts::Generations(oldest) => generations_start(heap, oldest, k),
+        Parts::LargeSegments => heap.info(k).base + FIRST_OFFSET,
+    }
+}
+
+// The place where the part of segment `k` starts in a collection of the generations up to `g`.
+fn generations_start(heap: &Heap, g: u8, k: usize) -> u64
+    requires { k < length heap.now.segments }
+    ensures { result ≡ part_of heap.now (Generations g) k }
 {
     let segment = heap.info(k);
     let (start1, start0) = heap.boundaries();

@@ -1,11 +1,10 @@
 // Where the marked items from a place on end.
 ghost use Rattle.std.specs.Prelude.{◌≡◌, ℕ, ◌+◌, ◌<◌, ◌≤◌, length};
 ghost use Rattle.clr_heap.specs.View.{segment_at};
-ghost use Rattle.clr_view.specs.Marks.{has_mark};
 ghost use Rattle.clr_moves.specs.Told.{IsMarkedRun};
 
 use clr_heap::Heap;
-use clr_types::Types;
+use clr_types::{Types, mark};
 
 /// Where the marked items of segment `k` from the place `from` on end.
 pub fn run_end(heap: &Heap, types: &Types, k: usize, from: u64) -> u64
@@ -17,18 +16,10 @@ pub fn run_end(heap: &Heap, types: &Types, k: usize, from: u64) -> u64
     let mut place = from;
     while place < end {
         let mt = heap.word_at(k, place);
-        if !is_marked_word(mt) {
+        if !mark::is_marked(mt) {
             return place;
         }
         place += heap.item_of_word(types, k, place, mt).size;
     }
     place
-}
-
-// Whether a method table word has its mark.
-#[inline]
-fn is_marked_word(mt: u64) -> bool
-    ensures { result ≡ has_mark mt }
-{
-    mt % 2 == 1
 }

@@ -2,19 +2,36 @@
 ghost use Rattle.std.specs.Prelude.{◌≡◌, ◌⊎◌, ℕ, ◌+◌, ◌<◌, ◌≤◌, true, false, length};
 ghost use Rattle.clr_types.specs.Segments.{ephemeral, stands_in};
 ghost use Rattle.clr_heap.specs.View.{first_of, frame, IsHeap, segment_at};
-ghost use Rattle.clr_moves.specs.Moves.{IsInPart, part_of, takes};
+ghost use Rattle.clr_moves.specs.Moves.{age_of, IsInPart, part_of, takes};
+ghost use Rattle.clr_moves.specs.declared.parts.Parts.TheVariants.{Generations, LargeSegments};
 
+use crate::parts::Parts;
 use clr_heap::Heap;
 use clr_types::{FIRST_OFFSET, SegKind};
 
-// Whether a place is in a part of the generations up to `g`. For less than 2 generations no search is needed.
+// Whether a place is in a part.
 #[inline]
-pub(crate) fn is_in_part(heap: &Heap, g: u8, place: u64) -> bool
-    requires least { g ≤ 2 }
+pub(crate) fn is_in_part(heap: &Heap, g: Parts, place: u64) -> bool
+    requires least { age_of g ≤ 2 }
     requires starts { (t : ℕ) → t < length heap.now.segments → takes g (segment_at heap.now t) ≡ true
         → first_of heap.now t ≤ part_of heap.now g t }
     ensures inside { result ≡ true → (t : ℕ) × IsInPart heap.now g t place }
     ensures outside { result ≡ false → (t : ℕ) → IsInPart heap.now g t place → ⊥ }
+{
+    match g {
+        Parts::Generations(oldest) => is_in_generations(heap, oldest, place),
+        Parts::LargeSegments => is_in_large(heap, place),
+    }
+}
+
+// Whether a place is in a part of the generations up to `g`. For less than 2 generations no search is needed.
+#[inline]
+fn is_in_generations(heap: &Heap, g: u8, place: u64) -> bool
+    requires least { g ≤ 2 }
+    requires starts { (t : ℕ) → t < length heap.now.segments → takes (Generations g) (segment_at heap.now t) ≡ true
+        → first_of heap.now t ≤ part_of heap.now (Generations g) t }
+    ensures inside { result ≡ true → (t : ℕ) × IsInPart heap.now (Generations g) t place }
+    ensures outside { result ≡ false → (t : ℕ) → IsInPart heap.now (Generations g) t place → ⊥ }
 {
     heap.lawful();
     if !heap.is_ephemeral(place) {
@@ -32,8 +49,8 @@ pub(crate) fn is_in_part(heap: &Heap, g: u8, place: u64) -> bool
 #[inline(never)]
 fn is_in_small(heap: &Heap, place: u64) -> bool
     requires { stands_in (ephemeral (frame heap.now)) place ≡ false }
-    ensures inside { result ≡ true → (t : ℕ) × IsInPart heap.now 2 t place }
-    ensures outside { result ≡ false → (t : ℕ) → IsInPart heap.now 2 t place → ⊥ }
+    ensures inside { result ≡ true → (t : ℕ) × IsInPart heap.now (Generations 2) t place }
+    ensures outside { result ≡ false → (t : ℕ) → IsInPart heap.now (Generations 2) t place → ⊥ }
 {
     let segment = heap.info(segment_below(heap, place));
     match segment.kind {
@@ -41,6 +58,23 @@ fn is_in_small(heap: &Heap, place: u64) -> bool
             && place < segment.base + segment.reserved,
         SegKind::Ephemeral => false,
         SegKind::Large => false,
+        SegKind::Pinned => false,
+    }
+}
+
+// Whether a place is in a large segment. It stands apart, since it searches.
+#[inline(never)]
+fn is_in_large(heap: &Heap, place: u64) -> bool
+    ensures inside { result ≡ true → (t : ℕ) × IsInPart heap.now LargeSegments t place }
+    ensures outside { result ≡ false → (t : ℕ) → IsInPart heap.now LargeSegments t place → ⊥ }
+{
+    let segment = heap.info(segment_below(heap, place));
+    match segment.kind {
+        SegKind::Small => false,
+        SegKind::Ephemeral => false,
+        SegKind::Large => segment.base + FIRST_OFFSET <= place
+            && place < segment.base + segment.reserved,
+        SegKind::Pinned => false,
     }
 }
 

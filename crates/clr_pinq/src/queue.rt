@@ -1,7 +1,8 @@
 // The queue of saved words.
 ghost use Rattle.std.specs.Prelude.{false, true};
 ghost use Rattle.std.specs.Prelude.{◌≡◌, ◌≢◌, ℕ, ◌+◌, ◌-◌, ◌%◌, ◌<◌, ◌≤◌, ◌^◌, ◌⊎◌, ◌↔◌, ◌==◌, if◌then◌else◌, IsTrue};
-ghost use Rattle.std.specs.Prelude.{[], ◌∷◌, ◌++◌, length, get_or, set, map, None, IsSome, IfOk, OnOk, OnErr, is_some, nat_le};
+ghost use Rattle.std.specs.Prelude.{[], ◌∷◌, ◌++◌, length, get_or, set, map, None, IsSome, IfOk, OnOk, OnErr, is_some};
+ghost use Rattle.std.specs.Prelude.{nat_le};
 ghost use Rattle.std.specs.Prelude.{vec_len, vec_capacity};
 ghost use Rattle.clr_heap.specs.Memories.{HasWord, memory_index};
 ghost use Rattle.clr_heap.specs.View.{SameShape, stored, word_of};
@@ -69,7 +70,7 @@ impl PinQueue {
         requires room { 1 ≤ self.old.spare }
         requires above { ComesAfter (last_end 0 self.old.entries) entry }
         ensures entries { self.new.entries ≡ self.old.entries ++ entry ∷ [] }
-        ensures spare { self.old.spare ≤ self.new.spare + 1 }
+        ensures spare { self.new.spare + 1 ≡ self.old.spare }
     {
         let (low, high) = widened(self.low, self.high, entry.pre);
         let (low, high) = widened(low, high, entry.post);
@@ -197,7 +198,7 @@ impl PinQueue {
     /// Takes all entries out, without writing what they save. Their memory is kept for later entries.
     pub fn clear(&mut self)
         ensures entries { self.new.entries ≡ [] }
-        ensures spare { self.old.spare + length self.old.entries ≤ self.new.spare }
+        ensures spare { self.new.spare ≡ self.old.spare + length self.old.entries }
     {
         self.entries.clear();
         self.low = u64::MAX;
@@ -211,7 +212,7 @@ impl PinQueue {
         ensures words { (b : ℕ) → b % 8 ≡ 0 → word_of heap.new b ≡ logical self.old.entries (word_of heap.old) b }
         ensures shape { SameShape heap.old heap.new }
         ensures entries { self.new.entries ≡ [] }
-        ensures spare { self.old.spare + length self.old.entries ≤ self.new.spare }
+        ensures spare { self.new.spare ≡ self.old.spare + length self.old.entries }
     {
         put_all(&mut self.entries, heap);
         self.low = u64::MAX;
@@ -223,12 +224,9 @@ fn push_within(entries: &mut Vec<PinEntry>, entry: PinEntry)
     requires { vec_len entries.old < vec_capacity entries.old }
     ensures items { entries.new.items ≡ entries.old.items ++ entry ∷ [] }
     ensures len { vec_len entries.new ≡ vec_len entries.old + 1 }
-    ensures capacity { vec_capacity entries.old ≤ vec_capacity entries.new }
+    ensures capacity { vec_capacity entries.new ≡ vec_capacity entries.old }
 {
-    match entries.push(entry) {
-        Ok(()) => {}
-        Err(_) => unreachable!(),
-    }
+    entries.push_reserved(entry);
 }
 
 // The bounds of what is saved, with three words more.

@@ -37,6 +37,7 @@ use Rattle.clr_plan.proofs.PartFacts.{HasFacts}
 use Rattle.clr_plan.proofs.Pins.{before}
 use Rattle.clr_plan.proofs.Takes.{taken-small, takes-above}
 use Rattle.clr_plan.proofs.Telling.{AreDown, last-of-plans, moves-told, plans-down, told-above, told-below}
+use Rattle.clr_moves.specs.declared.parts.Parts.TheVariants.{Generations}
 
 module _ (rows : List TypeRow) (old now : HeapView) (bricks0 bricks : BricksView) (queue0 queue : QueueView) (g e : ℕ)
     (can : CanPlanHeap rows old g e) (moves : List Move) (laid : IsLaidBelow rows old now bricks0 bricks queue0 queue g
@@ -47,7 +48,7 @@ module _ (rows : List TypeRow) (old now : HeapView) (bricks0 bricks : BricksView
   abbrev free : List ℕ
   free = opened_below rows old g e (suc e)
 
-  fits : AreFor all moves
+  pub fits : AreFor all moves
   fits = subst (AreFor all) (sym laid.moves_are) (all-for rows old g e can laid.each laid.fit (suc e) (omega arith))
 
   -- ---- words
@@ -63,7 +64,7 @@ module _ (rows : List TypeRow) (old now : HeapView) (bricks0 bricks : BricksView
       free-of-plugs rows old g e can x b i info r.plug r.known (omega (arith, low, start))
       (omega (arith, high, start, size))
 
-  outside-out : (b : ℕ) → IsOutside old g b → IsOutsideInfo free b
+  outside-out : (b : ℕ) → IsOutside old (Generations g) b → IsOutsideInfo free b
   outside-out b out x i info = free-in-part rows old g e can x b i info out
 
   -- one of three words
@@ -85,16 +86,16 @@ module _ (rows : List TypeRow) (old now : HeapView) (bricks0 bricks : BricksView
   pub record Stands (q : Plug) : Type 0 where
     pub number : ℕ
     pub below : number < suc e
-    pub taken : takes g (segment_at old number) ≡ true
+    pub taken : takes (Generations g) (segment_at old number) ≡ true
     pub known : IsIn q (part_plugs rows old g e number)
-    pub first_low : first_of old number ≤ part_of old g number
-    pub low : part_of old g number ≤ q.start
+    pub first_low : first_of old number ≤ part_of old (Generations g) number
+    pub low : part_of old (Generations g) number ≤ q.start
     pub high : plug_end q ≤ last_of old number
     pub aligned : q.start % 8 ≡ 0
     pub ends : plug_end q % 8 ≡ 0
     pub size : 24 ≤ q.size
 
-  stands : (q : Plug) → IsIn q all → Stands q
+  pub stands : (q : Plug) → IsIn q all → Stands q
   stands q i =
       let home = home-of rows old g e can (suc e) q i in
       let lies = lies-in rows old g e can home.number home.below home.taken q home.known in
@@ -113,7 +114,8 @@ module _ (rows : List TypeRow) (old now : HeapView) (bricks0 bricks : BricksView
         size = sized rows old g e can q i;
       }
 
-  pub overlaid : AreMoves old g moves → AreInLine moves → IsOverlaid old now queue.entries g moves
+  pub overlaid : AreMoves old (Generations g) moves → AreInLine moves
+      → IsOverlaid old now queue.entries (Generations g) moves
   overlaid are line = record {
     heap = can.heap;
     moves = are;
@@ -168,19 +170,20 @@ module _ (rows : List TypeRow) (old now : HeapView) (bricks0 bricks : BricksView
 
   -- ---- parts
 
-  same-takes : (t : ℕ) → takes g (segment_at now t) ≡ takes g (segment_at old t)
-  same-takes t = ap (λ (h : HeapView). takes g (segment_at h t)) laid.words.shape.others
+  same-takes : (t : ℕ) → takes (Generations g) (segment_at now t) ≡ takes (Generations g) (segment_at old t)
+  same-takes t = ap (λ (h : HeapView). takes (Generations g) (segment_at h t)) laid.words.shape.others
 
   down-below : (each : ℕ → List Move) (k : ℕ) → AreDown (moves_below old g each k) → (t : ℕ) → t < k
-      → takes g (segment_at old t) ≡ true → AreDown (each t)
+      → takes (Generations g) (segment_at old t) ≡ true → AreDown (each t)
   down-below each zero d t l on = absurd (omega arith)
   down-below each (suc k) d t l on = elim (cases_lt t k) [
-    | inl u ↦ down-below each k (front (moves_below old g each k) (if takes g (segment_at old k) then each k else []) d)
+    | inl u ↦ down-below each k
+        (front (moves_below old g each k) (if takes (Generations g) (segment_at old k) then each k else []) d)
         t u on
     | inr u ↦ let same : k ≡ t = omega arith in
         subst (λ j. AreDown (each j)) same (subst (λ (b : Bool). AreDown (if b then each k else []))
-        (subst (λ j. takes g (segment_at old j) ≡ true) (sym same) on)
-        (back (moves_below old g each k) (if takes g (segment_at old k) then each k else []) d))
+        (subst (λ j. takes (Generations g) (segment_at old j) ≡ true) (sym same) on)
+        (back (moves_below old g each k) (if takes (Generations g) (segment_at old k) then each k else []) d))
   ]
     where
       front : (xs ys : List Move) → AreDown (xs ++ ys) → AreDown xs
@@ -191,14 +194,15 @@ module _ (rows : List TypeRow) (old now : HeapView) (bricks0 bricks : BricksView
       back [] ys d = d
       back (x ∷ xs) ys d = back xs ys d.1
 
-  module _ (down : AreDown moves) (facts : (t : ℕ) → t < suc e → takes g (segment_at old t) ≡ true
+  module _ (down : AreDown moves) (facts : (t : ℕ) → t < suc e → takes (Generations g) (segment_at old t) ≡ true
       → HasFacts rows old g e t) (heads : AreFreeHeads rows old) where
-    part-down : (t : ℕ) → t < suc e → takes g (segment_at old t) ≡ true → AreDown (laid.each t)
+    part-down : (t : ℕ) → t < suc e → takes (Generations g) (segment_at old t) ≡ true → AreDown (laid.each t)
     part-down t l on = down-below laid.each (suc e) (subst AreDown laid.moves_are down) t l on
 
     -- ---- the last plug
 
-    module _ (t : ℕ) (l : t < suc e) (on : takes g (segment_at old t) ≡ true) (others : List Plug) (q : Plug)
+    module _ (t : ℕ) (l : t < suc e) (on : takes (Generations g) (segment_at old t) ≡ true) (others : List Plug)
+        (q : Plug)
         (split : part_plugs rows old g e t ≡ others ++ q ∷ []) where
       q-in : IsIn q (part_plugs rows old g e t)
       q-in = subst (IsIn q) (sym split) (append_right others first)
@@ -255,15 +259,16 @@ module _ (rows : List TypeRow) (old now : HeapView) (bricks0 bricks : BricksView
       run-here =
           let f = facts t l on in
           let lies = lies-in rows old g e can t l on q q-in in
-          last-run rows old now t (part_of old g t) (last_of old t) f.scan refl q lies.low lies.high lies.aligned
+          last-run rows old now t (part_of old (Generations g) t)
+          (last_of old t) f.scan refl q lies.low lies.high lies.aligned
           lies.ends (sized rows old g e can q q-known) (f.covered q q-in) none laid.words.shape ahead
           (λ i n free. ap has_mark (heads i (f.listed i n) free).1)
         where
-          none : (k : Survivor) → IsIn k (survivors_between rows old t (part_of old g t) (last_of old t))
+          none : (k : Survivor) → IsIn k (survivors_between rows old t (part_of old (Generations g) t) (last_of old t))
               → plug_end q ≤ k.place → ⊥
           none k i u =
               let r = (facts t l on).plugged k i in
-              let (a, b, c, d, s) = survivor-place rows old t (part_of old g t) (last_of old t) (facts t l on).scan k i
+              let (a, b, c, d, s) = survivor-place rows old t (part_of old (Generations g) t) (last_of old t) (facts t l on).scan k i
               in
               let low = r.low in
               let high = r.high in
@@ -279,30 +284,31 @@ module _ (rows : List TypeRow) (old now : HeapView) (bricks0 bricks : BricksView
     -- ---- all parts
 
     abbrev lasts : ℕ → ℕ
-    lasts t = end_behind (part_of old g t) (part_plugs rows old g e t)
+    lasts t = end_behind (part_of old (Generations g) t) (part_plugs rows old g e t)
 
-    inside-below : (t : ℕ) → t < length now.segments → takes g (segment_at now t) ≡ true → t < suc e
+    inside-below : (t : ℕ) → t < length now.segments → takes (Generations g) (segment_at now t) ≡ true → t < suc e
     inside-below t l on =
-        let on_old : takes g (segment_at old t) ≡ true = sym (same-takes t) ∙ on in
+        let on_old : takes (Generations g) (segment_at old t) ≡ true = sym (same-takes t) ∙ on in
         let l_old : t < length old.segments = subst (λ (h : HeapView). t < length h.segments) laid.words.shape.others l
         in
         let m = can.last t l_old (taken-small g (segment_at old t) on_old) in
         omega (arith, m)
 
-    part-planned : (t : ℕ) → t < length now.segments → takes g (segment_at now t) ≡ true → IsPartPlanned rows now bricks
-        g t (part_plan rows old g e t (laid.each t)) (lasts t)
+    part-planned : (t : ℕ) → t < length now.segments → takes (Generations g) (segment_at now t) ≡ true
+        → IsPartPlanned rows now bricks
+        (Generations g) t (part_plan rows old g e t (laid.each t)) (lasts t)
     part-planned t inside on_now =
         let l = inside-below t inside on_now in
-        let on : takes g (segment_at old t) ≡ true = sym (same-takes t) ∙ on_now in
+        let on : takes (Generations g) (segment_at old t) ≡ true = sym (same-takes t) ∙ on_now in
         record {
           planned = laid.plans t l on;
           segment = refl;
-          low = sym (ap (λ (h : HeapView). part_of h g t) laid.words.shape.others);
+          low = sym (ap (λ (h : HeapView). part_of h (Generations g) t) laid.words.shape.others);
           high = sym (ap (λ (h : HeapView). last_of h t) laid.words.shape.others);
-          down = plans-down (part_of old g t) (part_plugs rows old g e t) (laid.each t) (laid.fit t l on)
+          down = plans-down (part_of old (Generations g) t) (part_plugs rows old g e t) (laid.each t) (laid.fit t l on)
               (part-down t l on);
           run = λ xs x same. (
-              let r = last-of-plans (part_of old g t) (part_plugs rows old g e t) (laid.each t) xs x (laid.fit t l on)
+              let r = last-of-plans (part_of old (Generations g) t) (part_plugs rows old g e t) (laid.each t) xs x (laid.fit t l on)
               same in
               subst (λ n. IsMarkedRun rows now t n (lasts t)) (sym r.start_is)
               (subst (λ n. IsMarkedRun rows now t r.plug.start n) (sym r.ends)
@@ -310,7 +316,7 @@ module _ (rows : List TypeRow) (old now : HeapView) (bricks0 bricks : BricksView
               );
         }
 
-    pub tells : TellMoves rows now bricks g moves
+    pub tells : TellMoves rows now bricks (Generations g) moves
     tells = record {
       parts = λ t. part_plan rows old g e t (laid.each t);
       lasts = lasts;
@@ -318,7 +324,8 @@ module _ (rows : List TypeRow) (old now : HeapView) (bricks0 bricks : BricksView
       moves = told;
     }
       where
-        told : moves ≡ moves_from now g (λ t. part_plan rows old g e t (laid.each t)) lasts 0 (length now.segments)
+        told : moves ≡ moves_from now (Generations g) (λ t. part_plan rows old g e t (laid.each t)) lasts 0
+            (length now.segments)
         told =
             let count : length now.segments ≡ length old.segments = ap (λ (h : HeapView). length h.segments)
             laid.words.shape.others in
@@ -327,8 +334,9 @@ module _ (rows : List TypeRow) (old now : HeapView) (bricks0 bricks : BricksView
             let whole : suc e + d ≡ length now.segments = omega (arith, count, inside) in
             laid.moves_are
             ∙ sym (told-below old now g (λ t. part_plan rows old g e t (laid.each t)) lasts laid.each same-takes (suc e)
-            (λ t l on. moves-told (part_of old g t) (part_plugs rows old g e t) (laid.each t) (laid.fit t l on)
+            (λ t l on. moves-told (part_of old (Generations g) t) (part_plugs rows old g e t) (laid.each t)
+            (laid.fit t l on)
             (part-down t l on) (part-gapped rows old g e can t l on)))
             ∙ sym (told-above old now g (λ t. part_plan rows old g e t (laid.each t)) lasts laid.each same-takes (suc e)
             d (λ t l u. takes-above rows old g e can t l (omega (arith, u, inside))))
-            ∙ ap (moves_from now g (λ t. part_plan rows old g e t (laid.each t)) lasts 0) whole
+            ∙ ap (moves_from now (Generations g) (λ t. part_plan rows old g e t (laid.each t)) lasts 0) whole

@@ -8,7 +8,7 @@ use Rattle.clr_types.specs.Segments.{Layout, empty_segment, first_place, is_smal
 use Rattle.clr_types.specs.Segments.{segment_or_empty}
 use Rattle.clr_types.specs.declared.segment.SegInfo.{SegInfo}
 use Rattle.clr_types.specs.declared.segment.SegKind.{SegKind}
-use Rattle.clr_types.specs.declared.segment.SegKind.TheVariants.{Small, Ephemeral, Large}
+use Rattle.clr_types.specs.declared.segment.SegKind.TheVariants.{Small, Ephemeral, Large, Pinned}
 use Rattle.clr_types.proofs.ChangedLists.{into_filter, out_of_filter}
 use Rattle.clr_types.proofs.PieceGaps.{IsGapped}
 use Rattle.clr_heap.specs.View.{HeapView, first_of, segment_at}
@@ -75,6 +75,7 @@ pub kind-small : (k : SegKind) → same_kind Ephemeral k ≡ true → is_small_o
 kind-small Small e = absurd cc
 kind-small Ephemeral e = refl
 kind-small Large e = absurd cc
+kind-small Pinned e = absurd cc
 
 -- the first that passes a test is the head of those that do
 head-at : (test : SegInfo → Bool) (ss : List SegInfo) (n : ℕ) → n < length ss → test (get_or ss n empty_segment) ≡ true

@@ -13,7 +13,7 @@ use Rattle.clr_covers.specs.Covers.{spans, with_value}
 use Rattle.clr_covers.proofs.Values.{spans-with_value}
 use Rattle.clr_bricks.specs.Bricks.{entry_at}
 use Rattle.clr_heap.specs.View.{first_of, frame, HeapView, IsHeap, last_of, SameShape, segment_at, word_of}
-use Rattle.clr_heap.proofs.Framing.{lawful_at}
+use Rattle.clr_heap.proofs.Framing.{bounded_at, lawful_at}
 use Rattle.clr_view.specs.View.{layout_in}
 use Rattle.clr_model.specs.Compaction.{first_pointer, Move, Placed, Plug, plug_end, raised_past_pins}
 use Rattle.clr_model.proofs.PlacedPlugs.{placed_up}
@@ -47,6 +47,7 @@ use Rattle.clr_plan.proofs.Reaching.{around, can-plan, part-reached}
 use Rattle.clr_plan.proofs.Takes.{older-is, part-lower, plugs-young, takes-young}
 use Rattle.clr_plan.proofs.Writing.{shape-on, written-children, written-raised}
 use Rattle.clr_plan.proofs.YoungPlan.{around_all, ready, young_around, young_can}
+use Rattle.clr_moves.specs.declared.parts.Parts.TheVariants.{Generations}
 
 opened-append : (free : List ℕ) (begin below : ℕ) (ps qs : List Plug) → opened_by free begin below (ps ++ qs)
     ≡ opened_by (opened_by free begin below ps) begin (end_behind below ps) qs
@@ -151,9 +152,10 @@ module _ (setting : Setting) where
       let (a, b, c) = start-order rows old g e can in
       let lawful = lawful_at old e can.heap can.inside in
       go (g == 0) (g == 1) (start-is rows old g e can) a b c lawful.high lawful.base lawful.lowest
-      (lawful.most (young-small rows old g e can))
+      (bounded_at old e can.laid.bounded can.inside (young-small rows old g e can))
     where
-      go : (x y : Bool) → part_of old g e ≡ (if x then old.start0 else (if y then old.start1 else first_of old e))
+      go : (x y : Bool)
+          → part_of old (Generations g) e ≡ (if x then old.start0 else (if y then old.start1 else first_of old e))
           → first_of old e ≤ old.start1 → old.start1 ≤ old.start0 → old.start0 ≤ last_of old e
           → last_of old e ≤ reserved_end (segment_at old e)
           → (segment_at old e).base % 4096 ≡ 0 → 0x10000000 ≤ (segment_at old e).base
@@ -205,15 +207,15 @@ module _ (setting : Setting) where
 
   abbrev pub older_around : Around
   older_around = around rows old (parts_in rows old g) (condemned_plugs rows old g e) (plugs-lie rows old g e can)
-      queue.entries pointer [] (plugs_below rows old g e e) s.moves from e (part_of old g e) old.start0
+      queue.entries pointer [] (plugs_below rows old g e e) s.moves from e (part_of old (Generations g) e) old.start0
       (young_plugs rows old e) s.reached
 
   older-plan : CanPlan older_around rows old queue.entries from e low start0
   older-plan =
       subst (λ n. CanPlan older_around rows old queue.entries from e n start0) (sym s.low_is)
-      (subst (λ n. CanPlan older_around rows old queue.entries from e (part_of old g e) n) (sym zero-is)
+      (subst (λ n. CanPlan older_around rows old queue.entries from e (part_of old (Generations g) e) n) (sym zero-is)
       (can-plan rows old (parts_in rows old g) (condemned_plugs rows old g e) (plugs-lie rows old g e can)
-      queue.entries pointer [] (plugs_below rows old g e e) s.moves from e (part_of old g e) old.start0
+      queue.entries pointer [] (plugs_below rows old g e e) s.moves from e (part_of old (Generations g) e) old.start0
       (young_plugs rows old e) s.reached
       (among-at rows old g e can from e (omega arith) (young-small rows old g e can) s.order s.reached.high s.either)
       can.older_scan))
@@ -295,7 +297,6 @@ module _ (setting : Setting) where
             words = written-raised old now queue.entries starts free s.laid.low low (omega (arith, behind, a))
                 s.laid.words;
             writing = writing;
-            short = omega (arith, d, most, a);
             segment = refl;
             low = omega arith;
             behind = λ x i. elim i [ ];
@@ -404,7 +405,6 @@ module _ (setting : Setting) where
               record {
                 part = part3;
                 writing = laid2.laying.writing;
-                short = laid2.laying.short;
                 passed = omega arith;
                 up = omega (arith, w, brick);
               }
@@ -448,9 +448,9 @@ module _ (setting : Setting) where
                   subst (λ ps. IsPlanned now5 bricks5
                   (record {
                     segment = e;
-                    low = part_of old g e;
+                    low = part_of old (Generations g) e;
                     high = last_of old e;
-                    plugs = planned_plugs (part_of old g e) ps (m1 ++ m2);
+                    plugs = planned_plugs (part_of old (Generations g) e) ps (m1 ++ m2);
                   })) (sym here)
                   (subst (λ n. IsPlanned now5 bricks5 (record {
                     segment = e;
@@ -470,7 +470,7 @@ module _ (setting : Setting) where
 
               words-here : HasWritten old now5 next.queue.entries
                   (starts ++ map (λ q. q.start) (part_plugs rows old g e e))
-                  (opened_by free (first_of old e) (part_of old g e) (part_plugs rows old g e e)) ending2
+                  (opened_by free (first_of old e) (part_of old (Generations g) e) (part_plugs rows old g e e)) ending2
               words-here =
                   let base = written-children old next.heap now5 next.queue.entries
                   (starts2 ++ map (λ q. q.start) young) (opened_by free2 (first_of old e) ending young)
@@ -485,7 +485,7 @@ module _ (setting : Setting) where
                   ap (λ n. opened_by free2 (first_of old e) n young) laid.ends
                   ∙ sym (opened-append free (first_of old e) low older young) in
                   subst (λ (ps : List Plug). HasWritten old now5 next.queue.entries (starts ++ map (λ q. q.start) ps)
-                  (opened_by free (first_of old e) (part_of old g e) ps) ending2) (sym here)
+                  (opened_by free (first_of old e) (part_of old (Generations g) e) ps) ending2) (sym here)
                   (subst (λ n. HasWritten old now5 next.queue.entries (starts ++ map (λ q. q.start) (older ++ young))
                   (opened_by free (first_of old e) n (older ++ young)) ending2) s.low_is
                   (subst (λ xs. HasWritten old now5 next.queue.entries (starts ++ map (λ q. q.start) (older ++ young))
@@ -510,7 +510,7 @@ module _ (setting : Setting) where
                   (λ same. omega (arith, same, low_is, u, a)))))
                   ∙ laid2.outside b z (omega (arith, u, a)) ∙ laid.outside b z (omega (arith, u, a))
 
-              entries-here : (i : ℕ) → (i + 1 < part_of old g e / 4096) ⊎ (last_of old e ≤ i * 4096)
+              entries-here : (i : ℕ) → (i + 1 < part_of old (Generations g) e / 4096) ⊎ (last_of old e ≤ i * 4096)
                   → entry_at bricks5 i ≡ entry_at bricks i
               entries-here i out =
                   let o = order in

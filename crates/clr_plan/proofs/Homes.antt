@@ -29,6 +29,7 @@ use Rattle.clr_plan.proofs.Pins.{front_rises}
 use Rattle.clr_plan.proofs.Scanning.{plugs-above}
 use Rattle.clr_plan.proofs.Seen as seen
 use Rattle.clr_plan.proofs.Takes.{all-below, part-lower, plugs-lower, plugs-young, taken-in}
+use Rattle.clr_moves.specs.declared.parts.Parts.TheVariants.{Generations}
 
 -- ---- plugs with nothing or room for a free item between them
 
@@ -36,7 +37,7 @@ abbrev pub AreGapped : ℕ → List Plug → Type 0
 AreGapped low [] = Unit {0}
 AreGapped low (p ∷ ps) = IsGapped low p.start × AreGapped (plug_end p) ps
 
-gapped-above : (low : ℕ) (ps : List Plug) → AreGapped low ps → (q : Plug) → IsIn q ps → low ≤ q.start
+pub gapped-above : (low : ℕ) (ps : List Plug) → AreGapped low ps → (q : Plug) → IsIn q ps → low ≤ q.start
 gapped-above low [] g q i = elim i [ ]
 gapped-above low (p ∷ ps) g q first = let a = g.0 in omega arith
 gapped-above low (p ∷ ps) g q (later i) = let a = g.0 in let b = gapped-above (plug_end p) ps g.1 q i in omega arith
@@ -132,7 +133,7 @@ module _ (rows : List TypeRow) (h : HeapView) (g e : ℕ) (can : CanPlanHeap row
   pub record HasHome (k : ℕ) (q : Plug) : Type 0 where
     pub number : ℕ
     pub below : number < k
-    pub taken : takes g (segment_at h number) ≡ true
+    pub taken : takes (Generations g) (segment_at h number) ≡ true
     pub known : IsIn q (part_plugs rows h g e number)
 
   pub home-of : (k : ℕ) (q : Plug) → IsIn q (plugs_below rows h g e k) → HasHome k q
@@ -144,70 +145,79 @@ module _ (rows : List TypeRow) (h : HeapView) (g e : ℕ) (can : CanPlanHeap row
       taken = r.taken;
       known = r.known;
     }
-    | inr j ↦ go (takes g (segment_at h k)) refl j
+    | inr j ↦ go (takes (Generations g) (segment_at h k)) refl j
   ]
     where
-      go : (b : Bool) → takes g (segment_at h k) ≡ b → IsIn q (if b then part_plugs rows h g e k else [])
+      go : (b : Bool) → takes (Generations g) (segment_at h k) ≡ b → IsIn q (if b then part_plugs rows h g e k else [])
           → HasHome (suc k) q
       go true on j = record { number = k; below = omega arith; taken = on; known = j }
       go false off j = elim j [ ]
 
-  pub in-all : (k t : ℕ) (q : Plug) → t < k → takes g (segment_at h t) ≡ true → IsIn q (part_plugs rows h g e t)
+  pub in-all : (k t : ℕ) (q : Plug) → t < k → takes (Generations g) (segment_at h t) ≡ true
+      → IsIn q (part_plugs rows h g e t)
       → IsIn q (plugs_below rows h g e k)
   in-all zero t q l on i = absurd (omega arith)
   in-all (suc k) t q l on i = elim (cases_lt t k) [
-    | inl u ↦ append_left (if takes g (segment_at h k) then part_plugs rows h g e k else []) (in-all k t q u on i)
+    | inl u ↦ append_left (if takes (Generations g) (segment_at h k) then part_plugs rows h g e k else [])
+        (in-all k t q u on i)
     | inr u ↦
         let same : t ≡ k = omega arith in
         append_right (plugs_below rows h g e k)
         (subst (λ (b : Bool). IsIn q (if b then part_plugs rows h g e k else []))
-        (sym (subst (λ j. takes g (segment_at h j) ≡ true) same on)) (subst (λ j. IsIn q (part_plugs rows h g e j))
+        (sym (subst (λ j. takes (Generations g) (segment_at h j) ≡ true) same on))
+        (subst (λ j. IsIn q (part_plugs rows h g e j))
         same i))
   ]
 
   block-rises : (k : ℕ) → IsRisingBy (λ (p : Plug). p.start) (plugs_below rows h g e k) → (t : ℕ) → t < k
-      → takes g (segment_at h t) ≡ true → IsRisingBy (λ (p : Plug). p.start) (part_plugs rows h g e t)
+      → takes (Generations g) (segment_at h t) ≡ true → IsRisingBy (λ (p : Plug). p.start) (part_plugs rows h g e t)
   block-rises zero r t l on = absurd (omega arith)
   block-rises (suc k) r t l on = elim (cases_lt t k) [
-    | inl u ↦ block-rises k (front_rises (plugs_below rows h g e k) (if takes g (segment_at h k) then part_plugs rows h
+    | inl u ↦ block-rises k
+        (front_rises (plugs_below rows h g e k) (if takes (Generations g) (segment_at h k) then part_plugs rows h
         g e k else []) r) t u on
     | inr u ↦
         let same : k ≡ t = omega arith in
         subst (λ j. IsRisingBy (λ (p : Plug). p.start) (part_plugs rows h g e j)) same
         (subst (λ (b : Bool). IsRisingBy (λ (p : Plug). p.start) (if b then part_plugs rows h g e k else []))
-        (subst (λ j. takes g (segment_at h j) ≡ true) (sym same) on)
-        (rise-behind (plugs_below rows h g e k) (if takes g (segment_at h k) then part_plugs rows h g e k else []) r))
+        (subst (λ j. takes (Generations g) (segment_at h j) ≡ true) (sym same) on)
+        (rise-behind (plugs_below rows h g e k)
+        (if takes (Generations g) (segment_at h k) then part_plugs rows h g e k else []) r))
   ]
 
-  pub part-rises : (t : ℕ) → t < suc e → takes g (segment_at h t) ≡ true → IsRisingBy (λ (p : Plug). p.start)
+  pub part-rises : (t : ℕ) → t < suc e → takes (Generations g) (segment_at h t) ≡ true
+      → IsRisingBy (λ (p : Plug). p.start)
       (part_plugs rows h g e t)
   part-rises t l on = block-rises (suc e) all-lie.rise t l on
 
-  pub young-order : (first_of h e ≤ part_of h g e) × (part_of h g e ≤ h.start0)
+  pub young-order : (first_of h e ≤ part_of h (Generations g) e) × (part_of h (Generations g) e ≤ h.start0)
   young-order = let (a, b, c) = start-order rows h g e can in go (g == 0) (g == 1) (start-is rows h g e can) a b
     where
-      go : (x y : Bool) → part_of h g e ≡ (if x then h.start0 else (if y then h.start1 else first_of h e))
-          → first_of h e ≤ h.start1 → h.start1 ≤ h.start0 → (first_of h e ≤ part_of h g e) × (part_of h g e ≤ h.start0)
+      go : (x y : Bool) → part_of h (Generations g) e ≡ (if x then h.start0 else (if y then h.start1 else first_of h e))
+          → first_of h e ≤ h.start1 → h.start1 ≤ h.start0 → (first_of h e ≤ part_of h (Generations g) e)
+          × (part_of h (Generations g) e ≤ h.start0)
       go true y q a b = (omega (arith, q, a, b), omega (arith, q))
       go false true q a b = (omega (arith, q, a), omega (arith, q, b))
       go false false q a b = (omega (arith, q), omega (arith, q, a, b))
 
-  pub part-first : (t : ℕ) → t < suc e → takes g (segment_at h t) ≡ true → first_of h t ≤ part_of h g t
+  pub part-first : (t : ℕ) → t < suc e → takes (Generations g) (segment_at h t) ≡ true
+      → first_of h t ≤ part_of h (Generations g) t
   part-first t l on = elim (cases_lt t e) [
     | inl u ↦ let p = part-lower rows h g e can t u on in omega (arith, p)
-    | inr u ↦ let same : e ≡ t = omega arith in subst (λ j. first_of h j ≤ part_of h g j) same young-order.0
+    | inr u ↦ let same : e ≡ t = omega arith in
+        subst (λ j. first_of h j ≤ part_of h (Generations g) j) same young-order.0
   ]
 
   -- where a plug of a part lies
   pub record LiesInPart (t : ℕ) (q : Plug) : Type 0 where
-    pub low : part_of h g t ≤ q.start
+    pub low : part_of h (Generations g) t ≤ q.start
     pub high : plug_end q ≤ last_of h t
     pub aligned : q.start % 8 ≡ 0
     pub ends : plug_end q % 8 ≡ 0
     pub segment : q.segment ≡ (segment_at h t).base
 
   in-stretch : (t p c : ℕ) (s : CanScan rows h t p c) (q : Plug) → IsIn q (plugs_between rows h t p c)
-      → part_of h g t ≤ p → c ≤ last_of h t → LiesInPart t q
+      → part_of h (Generations g) t ≤ p → c ≤ last_of h t → LiesInPart t q
   in-stretch t p c s q i low high =
       let lies = all_at (λ (w : Plug). seen.LiesUpTo c w.start (plug_end w)) i (seen.plugs-lie rows h t p c s) in
       let above = all_at (λ (w : Plug). p ≤ w.start) i (plugs-above rows h t p c s) in
@@ -220,7 +230,8 @@ module _ (rows : List TypeRow) (h : HeapView) (g e : ℕ) (can : CanPlanHeap row
         segment = (plugs-of rows h t p c s (λ n. Unit {0}) (λ x l u. tt) q i).1;
       }
 
-  pub lies-in : (t : ℕ) → t < suc e → takes g (segment_at h t) ≡ true → (q : Plug) → IsIn q (part_plugs rows h g e t)
+  pub lies-in : (t : ℕ) → t < suc e → takes (Generations g) (segment_at h t) ≡ true → (q : Plug)
+      → IsIn q (part_plugs rows h g e t)
       → LiesInPart t q
   lies-in t l on q i = elim (cases_lt t e) [
     | inl u ↦ in-stretch t (first_of h t) (last_of h t) (can.scans t u) q
@@ -232,7 +243,7 @@ module _ (rows : List TypeRow) (h : HeapView) (g e : ℕ) (can : CanPlanHeap row
   ]
     where
       young : IsIn q (old_part rows h g e) ⊎ IsIn q (young_plugs rows h e) → LiesInPart e q
-      young (inl j) = in-stretch e (part_of h g e) h.start0 can.older_scan q j (omega arith)
+      young (inl j) = in-stretch e (part_of h (Generations g) e) h.start0 can.older_scan q j (omega arith)
           (let (a, b, c) = start-order rows h g e can in c)
       young (inr j) = in-stretch e h.start0 (last_of h e) can.young_scan q j young-order.1 (omega arith)
 
@@ -241,10 +252,10 @@ module _ (rows : List TypeRow) (h : HeapView) (g e : ℕ) (can : CanPlanHeap row
 
   -- ---- the plugs of a part, one after the other
 
-  pub part-gapped : (t : ℕ) → t < suc e → takes g (segment_at h t) ≡ true
-      → AreGapped (part_of h g t) (part_plugs rows h g e t)
+  pub part-gapped : (t : ℕ) → t < suc e → takes (Generations g) (segment_at h t) ≡ true
+      → AreGapped (part_of h (Generations g) t) (part_plugs rows h g e t)
   part-gapped t l on =
-      gapped-from (part_of h g t) (part_plugs rows h g e t) (part-rises t l on)
+      gapped-from (part_of h (Generations g) t) (part_plugs rows h g e t) (part-rises t l on)
       (λ p q i j u. all-lie.apart p q (in-all (suc e) t p l on i) (in-all (suc e) t q l on j) u)
       (λ p i. can.condemned.starts.plugs (segment_at h t) p (taken-in rows h g e can t (inside-of t l) on)
       (subst (IsIn p) (sym (all-below rows h g e can)) (in-all (suc e) t p l on i)) (lies-in t l on p i).segment)
@@ -252,12 +263,12 @@ module _ (rows : List TypeRow) (h : HeapView) (g e : ℕ) (can : CanPlanHeap row
   pub record HasOpen (k x : ℕ) : Type 0 where
     pub number : ℕ
     pub below : number < k
-    pub taken : takes g (segment_at h number) ≡ true
-    pub open_in : IsOpenIn (first_of h number) (part_of h g number) (part_plugs rows h g e number) x
+    pub taken : takes (Generations g) (segment_at h number) ≡ true
+    pub open_in : IsOpenIn (first_of h number) (part_of h (Generations g) number) (part_plugs rows h g e number) x
 
   open-below : (k x : ℕ) → k ≤ suc e → IsIn x (opened_below rows h g e k) → HasOpen k x
   open-below zero x l i = elim i [ ]
-  open-below (suc k) x l i = go (λ j. open-below k x (omega arith) j) (takes g (segment_at h k)) refl i
+  open-below (suc k) x l i = go (λ j. open-below k x (omega arith) j) (takes (Generations g) (segment_at h k)) refl i
     where
       wider : HasOpen k x → HasOpen (suc k) x
       wider r = record {
@@ -268,11 +279,11 @@ module _ (rows : List TypeRow) (h : HeapView) (g e : ℕ) (can : CanPlanHeap row
             r.open_in;
       }
 
-      go : (IsIn x (opened_below rows h g e k) → HasOpen k x) → (b : Bool) → takes g (segment_at h k) ≡ b
-          → IsIn x (if b then opened_by (opened_below rows h g e k) (first_of h k) (part_of h g k)
+      go : (IsIn x (opened_below rows h g e k) → HasOpen k x) → (b : Bool) → takes (Generations g) (segment_at h k) ≡ b
+          → IsIn x (if b then opened_by (opened_below rows h g e k) (first_of h k) (part_of h (Generations g) k)
           (part_plugs rows h g e k) else opened_below rows h g e k) → HasOpen (suc k) x
       go below false off j = wider (below j)
-      go below true on j = elim (open-place (opened_below rows h g e k) (first_of h k) (part_of h g k)
+      go below true on j = elim (open-place (opened_below rows h g e k) (first_of h k) (part_of h (Generations g) k)
           (part_plugs rows h g e k) (part-gapped k (omega arith) on) x j) [
             | inl f ↦ wider (below f)
             | inr o ↦ record { number = k; below = omega arith; taken = on; open_in = o }
@@ -301,7 +312,7 @@ module _ (rows : List TypeRow) (h : HeapView) (g e : ℕ) (can : CanPlanHeap row
         its : LiesInPart home.number q
         its = lies-in home.number home.below home.taken q home.known
 
-        same : IsIn q (part_plugs rows h g e t) → part_of h g t ≤ q.start → ⊥
+        same : IsIn q (part_plugs rows h g e t) → part_of h (Generations g) t ≤ q.start → ⊥
         same k above = elim is.open_in.room [
           | inl at ↦ let f = part-first t is.below is.taken in let c = info.1 in omega (arith, at, f, above, low, c)
           | inr (l, others) ↦ elim (others q k) [
@@ -313,7 +324,7 @@ module _ (rows : List TypeRow) (h : HeapView) (g e : ℕ) (can : CanPlanHeap row
 
         go : (home.number ≡ t) ⊎ ((home.number < t) ⊎ (t < home.number)) → ⊥
         go (inl e2) = same (subst (λ n. IsIn q (part_plugs rows h g e n)) e2 home.known)
-            (subst (λ n. part_of h g n ≤ q.start) e2 its.low)
+            (subst (λ n. part_of h (Generations g) n ≤ q.start) e2 its.low)
         go (inr (inl l)) =
             let o = segment_order h home.number t can.heap l inside in
             let top = (lawful_at h home.number can.heap (inside-of home.number home.below)).high in
@@ -333,7 +344,7 @@ module _ (rows : List TypeRow) (h : HeapView) (g e : ℕ) (can : CanPlanHeap row
             let c = info.1 in
             omega (arith, o, top, f, m, s, d, c, low)
 
-    pub free-in-part : IsOutside h g b → ⊥
+    pub free-in-part : IsOutside h (Generations g) b → ⊥
     free-in-part outside =
         let top = (lawful_at h t can.heap inside).high in
         let f = part-first t is.below is.taken in
@@ -355,15 +366,16 @@ module _ (rows : List TypeRow) (h : HeapView) (g e : ℕ) (can : CanPlanHeap row
 
   -- ---- moves
 
-  pub all-for : (each : ℕ → List Move) → ((t : ℕ) → t < suc e → takes g (segment_at h t) ≡ true
+  pub all-for : (each : ℕ → List Move) → ((t : ℕ) → t < suc e → takes (Generations g) (segment_at h t) ≡ true
       → AreFor (part_plugs rows h g e t) (each t)) → (k : ℕ) → k ≤ suc e → AreFor (plugs_below rows h g e k)
       (moves_below h g each k)
   all-for each fit zero l = tt
-  all-for each fit (suc k) l = for-append (plugs_below rows h g e k) (if takes g (segment_at h k) then part_plugs rows h
-      g e k else []) (moves_below h g each k) (if takes g (segment_at h k) then each k else [])
-      (all-for each fit k (omega arith)) (go (takes g (segment_at h k)) refl)
+  all-for each fit (suc k) l =
+      for-append (plugs_below rows h g e k) (if takes (Generations g) (segment_at h k) then part_plugs rows h
+      g e k else []) (moves_below h g each k) (if takes (Generations g) (segment_at h k) then each k else [])
+      (all-for each fit k (omega arith)) (go (takes (Generations g) (segment_at h k)) refl)
     where
-      go : (b : Bool) → takes g (segment_at h k) ≡ b → AreFor (if b then part_plugs rows h g e k else [])
+      go : (b : Bool) → takes (Generations g) (segment_at h k) ≡ b → AreFor (if b then part_plugs rows h g e k else [])
           (if b then each k else [])
       go true on = fit k (omega arith) on
       go false off = tt

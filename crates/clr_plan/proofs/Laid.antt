@@ -58,7 +58,7 @@ module _ (w : Around) (rows : List TypeRow) (old : HeapView) (begin : Written) (
     pub ends : ending ≡ end_behind below s.passed
     pub up : ending ≤ place
     pub spare : begin.queue.spare ≤ now.queue.spare + pushes_for from_last (first_of old k) below s.passed
-    pub count : begin.queue.spare + length begin.queue.entries ≤ now.queue.spare + length now.queue.entries
+    pub count : begin.queue.spare + length begin.queue.entries ≡ now.queue.spare + length now.queue.entries
     pub last : last_end 0 now.queue.entries ≡ last_pushed_for from_last (first_of old k) below s.passed
     pub saved : (ps : List Plug) → AreSavedAt begin.queue.entries ps → AreSavedAt now.queue.entries (ps ++ s.passed)
     pub outside : (b : ℕ) → b % 8 ≡ 0 → b + 32 < part.low → word_of now.heap b ≡ word_of begin.heap b
@@ -210,7 +210,6 @@ module _ (w : Around) (rows : List TypeRow) (old : HeapView) (begin : Written) (
             writing = record {
               part = here;
               writing = l.laying.writing;
-              short = l.laying.short;
               place = here-place;
               above = here-above;
               up = omega (arith, b, c, brick);
@@ -239,7 +238,7 @@ module _ (w : Around) (rows : List TypeRow) (old : HeapView) (begin : Written) (
           (opened free first_place ending plug.start) (plug_end plug))
           → after.writer.builder.brick ≡ plug.start / 4096 → after.queue.entries ≡ now.queue.entries
           ++ entries_for now.queue.entries (word_of now.heap) first_place ending plug
-          → now.queue.spare ≤ after.queue.spare + length (entries_for now.queue.entries (word_of now.heap) first_place
+          → now.queue.spare ≡ after.queue.spare + length (entries_for now.queue.entries (word_of now.heap) first_place
           ending plug) → plug_end plug ≤ found.next
           → ((b : ℕ) → b % 8 ≡ 0 → (b + 32 < plug.start) ⊎ (plug.start ≤ b + 8) → IsNoChildren now.writer.builder.plugs
           b → word_of after.heap b ≡ word_of now.heap b)
@@ -272,7 +271,6 @@ module _ (w : Around) (rows : List TypeRow) (old : HeapView) (begin : Written) (
             words = subst W same (words old (starts_with l.s.passed) (opened_by free (first_of old k) below l.s.passed)
                 l.laying.words (record { part = here; writing = l.laying.writing; among = l.laying.among }));
             writing = writes here l.laying.writing here-place here-above;
-            short = l.laying.short;
             segment = l.laying.segment;
             low = omega (arith, low, b, c);
             behind = λ x i. elim (in_pushed (plug_starts here.plugs) plug.start x

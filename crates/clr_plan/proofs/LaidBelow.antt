@@ -24,6 +24,7 @@ use Rattle.clr_plan.specs.LaidParts.{opened_by}
 use Rattle.clr_plan.specs.Writes.{AreSavedAt, HasWritten}
 use Rattle.clr_plan.proofs.Covering.{covers-same}
 use Rattle.clr_plan.proofs.KeptPlans.{plan-stays}
+use Rattle.clr_moves.specs.declared.parts.Parts.TheVariants.{Generations}
 
 -- ---- nothing yet
 
@@ -45,7 +46,7 @@ nothing-saved entries none b h = absurd (never (subst (λ es. IsSome (queue_word
     never s = cc
 
 module _ (rows : List TypeRow) (old : HeapView) (bricks : BricksView) (queue : QueueView) (g e k : ℕ)
-    (empty : queue.entries ≡ []) (off : (t : ℕ) → t < k → takes g (segment_at old t) ≡ false) where
+    (empty : queue.entries ≡ []) (off : (t : ℕ) → t < k → takes (Generations g) (segment_at old t) ≡ false) where
   no-plugs : (j : ℕ) → j ≤ k → plugs_below rows old g e j ≡ []
   no-plugs zero l = refl
   no-plugs (suc j) l = ap₂ (λ xs ys. xs ++ ys) (no-plugs j (omega arith))
@@ -54,7 +55,7 @@ module _ (rows : List TypeRow) (old : HeapView) (bricks : BricksView) (queue : Q
   no-moves : (j : ℕ) → j ≤ k → moves_below old g (λ t. []) j ≡ []
   no-moves zero l = refl
   no-moves (suc j) l = ap₂ (λ (xs ys : List Move). xs ++ ys) (no-moves j (omega arith))
-      (go (takes g (segment_at old j)))
+      (go (takes (Generations g) (segment_at old j)))
     where
       none : List Move
       none = []
@@ -66,15 +67,16 @@ module _ (rows : List TypeRow) (old : HeapView) (bricks : BricksView) (queue : Q
   no-opened : (j : ℕ) → j ≤ k → opened_below rows old g e j ≡ []
   no-opened zero l = refl
   no-opened (suc j) l = ap (λ (b : Bool). if b then opened_by (opened_below rows old g e j) (first_of old j)
-      (part_of old g j) (part_plugs rows old g e j) else opened_below rows old g e j) (off j (omega arith))
+      (part_of old (Generations g) j) (part_plugs rows old g e j) else opened_below rows old g e j)
+      (off j (omega arith))
       ∙ no-opened j (omega arith)
 
   pub nothing-laid : IsLaidBelow rows old old bricks bricks queue queue g e k []
   nothing-laid = record {
     each = λ t. [];
     moves_are = sym (no-moves k (omega arith));
-    fit = λ t l on. absurd (both_ways (takes g (segment_at old t)) (off t l) on);
-    plans = λ t l on. absurd (both_ways (takes g (segment_at old t)) (off t l) on);
+    fit = λ t l on. absurd (both_ways (takes (Generations g) (segment_at old t)) (off t l) on);
+    plans = λ t l on. absurd (both_ways (takes (Generations g) (segment_at old t)) (off t l) on);
     low = 0;
     words = subst (λ (ps : List Plug). HasWritten old old queue.entries (map (λ q. q.start) ps)
         (opened_below rows old g e k) 0) (sym (no-plugs k (omega arith)))
@@ -92,20 +94,23 @@ module _ (rows : List TypeRow) (old : HeapView) (bricks : BricksView) (queue : Q
 moves-same : (old : HeapView) (g : ℕ) (each other : ℕ → List Move) (k : ℕ) → ((t : ℕ) → t < k → other t ≡ each t)
     → moves_below old g other k ≡ moves_below old g each k
 moves-same old g each other zero same = refl
-moves-same old g each other (suc k) same = ap₂ (λ xs ys. xs ++ (if takes g (segment_at old k) then ys else []))
+moves-same old g each other (suc k) same =
+    ap₂ (λ xs ys. xs ++ (if takes (Generations g) (segment_at old k) then ys else []))
     (moves-same old g each other k (λ t l. same t (omega arith))) (same k (omega arith))
 
 module _ (rows : List TypeRow) (old now : HeapView) (bricks0 bricks : BricksView) (queue0 queue : QueueView) (g e k : ℕ)
     (vs : List Move) (s : IsLaidBelow rows old now bricks0 bricks queue0 queue g e k vs) where
   -- a segment without a part
-  pub laid-over : takes g (segment_at old k) ≡ false → IsLaidBelow rows old now bricks0 bricks queue0 queue g e (suc k)
+  pub laid-over : takes (Generations g) (segment_at old k) ≡ false
+      → IsLaidBelow rows old now bricks0 bricks queue0 queue g e (suc k)
       vs
   laid-over off =
       let plugs : plugs_below rows old g e (suc k) ≡ plugs_below rows old g e k =
       ap (λ (b : Bool). plugs_below rows old g e k ++ (if b then part_plugs rows old g e k else [])) off
       ∙ append-nil (plugs_below rows old g e k) in
       let opened : opened_below rows old g e (suc k) ≡ opened_below rows old g e k =
-      ap (λ (b : Bool). if b then opened_by (opened_below rows old g e k) (first_of old k) (part_of old g k)
+      ap (λ (b : Bool). if b then opened_by (opened_below rows old g e k) (first_of old k)
+      (part_of old (Generations g) k)
       (part_plugs rows old g e k) else opened_below rows old g e k) off in
       record {
         each = s.each;
@@ -125,25 +130,29 @@ module _ (rows : List TypeRow) (old now : HeapView) (bricks0 bricks : BricksView
         spans_are = s.spans_are;
       }
     where
-      not-here : (t : ℕ) → t < suc k → k ≤ t → takes g (segment_at old t) ≡ true → ⊥
-      not-here t l u on = both_ways (takes g (segment_at old t)) (subst (λ j. takes g (segment_at old j) ≡ false)
+      not-here : (t : ℕ) → t < suc k → k ≤ t → takes (Generations g) (segment_at old t) ≡ true → ⊥
+      not-here t l u on =
+          both_ways (takes (Generations g) (segment_at old t))
+          (subst (λ j. takes (Generations g) (segment_at old j) ≡ false)
           (let same : k ≡ t = omega arith in same) off) on
 
   -- a segment whose part was laid
-  module _ (heap : IsHeap old) (inside : k < length old.segments) (on : takes g (segment_at old k) ≡ true)
+  module _ (heap : IsHeap old) (inside : k < length old.segments) (on : takes (Generations g) (segment_at old k) ≡ true)
       (now2 : HeapView) (bricks2 : BricksView) (queue2 : QueueView) (m : List Move) (ending : ℕ)
       (fit : AreFor (part_plugs rows old g e k) m)
       (plan : IsPlanned now2 bricks2 (part_plan rows old g e k m))
       (words : HasWritten old now2 queue2.entries (map (λ q. q.start) (plugs_below rows old g e k)
       ++ map (λ q. q.start) (part_plugs rows old g e k)) (opened_by (opened_below rows old g e k) (first_of old k)
-      (part_of old g k) (part_plugs rows old g e k)) ending)
+      (part_of old (Generations g) k) (part_plugs rows old g e k)) ending)
       (within : ending ≤ last_of old k)
-      (low : first_of old k ≤ part_of old g k)
-      (lows : (t : ℕ) → t < k → takes g (segment_at old t) ≡ true → part_of old g t ≤ last_of old t)
+      (low : first_of old k ≤ part_of old (Generations g) k)
+      (lows : (t : ℕ) → t < k → takes (Generations g) (segment_at old t) ≡ true
+      → part_of old (Generations g) t ≤ last_of old t)
       (saved : AreSavedAt queue2.entries (plugs_below rows old g e k ++ part_plugs rows old g e k))
-      (count : queue.spare + length queue.entries ≤ queue2.spare + length queue2.entries)
+      (count : queue.spare + length queue.entries ≡ queue2.spare + length queue2.entries)
       (outside : (b : ℕ) → b % 8 ≡ 0 → b + 32 < first_of old k → word_of now2 b ≡ word_of now b)
-      (entries : (i : ℕ) → (i + 1 < part_of old g k / 4096) ⊎ (last_of old k ≤ i * 4096) → entry_at bricks2 i
+      (entries : (i : ℕ) → (i + 1 < part_of old (Generations g) k / 4096) ⊎ (last_of old k ≤ i * 4096)
+      → entry_at bricks2 i
       ≡ entry_at bricks i)
       (shape : SameShape now now2) (spans_are : spans bricks2 ≡ spans bricks)
     where
@@ -156,7 +165,7 @@ module _ (rows : List TypeRow) (old now : HeapView) (bricks0 bricks : BricksView
       each-here : each2 k ≡ m
       each-here = ap (λ (b : Bool). if b then m else s.each k) (eq-eqb k k refl)
 
-      stays : (t : ℕ) → t < k → takes g (segment_at old t) ≡ true
+      stays : (t : ℕ) → t < k → takes (Generations g) (segment_at old t) ≡ true
           → IsPlanned now2 bricks2 (part_plan rows old g e t (s.each t))
       stays t l taken =
           let o = segment_order old t k heap l inside in
@@ -172,8 +181,9 @@ module _ (rows : List TypeRow) (old now : HeapView) (bricks0 bricks : BricksView
           let plugs : plugs_below rows old g e (suc k) ≡ plugs_below rows old g e k ++ part_plugs rows old g e k =
           ap (λ (b : Bool). plugs_below rows old g e k ++ (if b then part_plugs rows old g e k else [])) on in
           let opened : opened_below rows old g e (suc k) ≡ opened_by (opened_below rows old g e k) (first_of old k)
-          (part_of old g k) (part_plugs rows old g e k) =
-          ap (λ (b : Bool). if b then opened_by (opened_below rows old g e k) (first_of old k) (part_of old g k)
+          (part_of old (Generations g) k) (part_plugs rows old g e k) =
+          ap (λ (b : Bool). if b then opened_by (opened_below rows old g e k) (first_of old k)
+          (part_of old (Generations g) k)
           (part_plugs rows old g e k) else opened_below rows old g e k) on in
           let starts : map (λ (q : Plug). q.start) (plugs_below rows old g e (suc k))
           ≡ map (λ q. q.start) (plugs_below rows old g e k) ++ map (λ q. q.start) (part_plugs rows old g e k) =

@@ -43,5 +43,6 @@ mod MarkedRuns
 mod Telling
 mod PartFacts
 mod Assembled
+mod ToldGaps
 mod Whole
 mod Fitting

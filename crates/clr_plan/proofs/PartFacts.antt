@@ -21,23 +21,24 @@ use Rattle.clr_plan.specs.Scans.{CanScan, plugs_between, survivor_in, survivors_
 use Rattle.clr_plan.proofs.MarkedRuns.{HasPlugOf, IsCovered, plug-of-survivor, plugs-covered}
 use Rattle.clr_plan.proofs.SplitScans.{IsSplit}
 use Rattle.clr_plan.proofs.Takes.{part-lower, plugs-lower, plugs-young}
+use Rattle.clr_moves.specs.declared.parts.Parts.TheVariants.{Generations}
 
 -- The part of segment t can be scanned, its items are the heap's, each of its plugs is covered by survivors, and each
 -- survivor lies in a plug.
 pub record HasFacts (rows : List TypeRow) (h : HeapView) (g e t : ℕ) : Type 0 where
-  pub scan : CanScan rows h t (part_of h g t) (last_of h t)
-  pub listed : (i : Item) → IsIn i (items_between (sight rows h t) (part_of h g t) (last_of h t))
+  pub scan : CanScan rows h t (part_of h (Generations g) t) (last_of h t)
+  pub listed : (i : Item) → IsIn i (items_between (sight rows h t) (part_of h (Generations g) t) (last_of h t))
       → IsIn i (heap_items rows h)
   pub covered : (q : Plug) → IsIn q (part_plugs rows h g e t)
-      → IsCovered (survivors_between rows h t (part_of h g t) (last_of h t)) q
-  pub plugged : (k : Survivor) → IsIn k (survivors_between rows h t (part_of h g t) (last_of h t))
+      → IsCovered (survivors_between rows h t (part_of h (Generations g) t) (last_of h t)) q
+  pub plugged : (k : Survivor) → IsIn k (survivors_between rows h t (part_of h (Generations g) t) (last_of h t))
       → HasPlugOf (part_plugs rows h g e t) k
 
 module _ (rows : List TypeRow) (h : HeapView) (g e : ℕ) (can : CanPlanHeap rows h g e) where
   inside-of : (t : ℕ) → t < suc e → t < length h.segments
   inside-of t l = let i = can.inside in omega (arith, l, i)
 
-  lower-facts : (t : ℕ) → t < e → takes g (segment_at h t) ≡ true → HasFacts rows h g e t
+  lower-facts : (t : ℕ) → t < e → takes (Generations g) (segment_at h t) ≡ true → HasFacts rows h g e t
   lower-facts t l on =
       let start = part-lower rows h g e can t l on in
       let same = plugs-lower rows h g e can t l in
@@ -47,7 +48,7 @@ module _ (rows : List TypeRow) (h : HeapView) (g e : ℕ) (can : CanPlanHeap row
         λ q n. plugs-covered (survivors_between rows h t (first_of h t) (last_of h t)) q n,
         λ k n. plug-of-survivor (survivors_between rows h t (first_of h t) (last_of h t)) k n,
       ) in
-      let (a, b, c, d) = subst (λ ps. HasFactsAt (part_of h g t) ps) (sym same)
+      let (a, b, c, d) = subst (λ ps. HasFactsAt (part_of h (Generations g) t) ps) (sym same)
       (subst (λ n. HasFactsAt n (plugs_between rows h t (first_of h t) (last_of h t))) (sym start) base) in
       record { scan = a; listed = b; covered = c; plugged = d }
     where
@@ -58,25 +59,27 @@ module _ (rows : List TypeRow) (h : HeapView) (g e : ℕ) (can : CanPlanHeap row
           × ((q : Plug) → IsIn q ps → IsCovered (survivors_between rows h t low (last_of h t)) q)
           × ((k : Survivor) → IsIn k (survivors_between rows h t low (last_of h t)) → HasPlugOf ps k)
 
-  module _ (start : IsSplit rows h e (first_of h e) (part_of h g e) (last_of h e))
-      (young : IsSplit rows h e (part_of h g e) h.start0 (last_of h e)) where
+  module _ (start : IsSplit rows h e (first_of h e) (part_of h (Generations g) e) (last_of h e))
+      (young : IsSplit rows h e (part_of h (Generations g) e) h.start0 (last_of h e)) where
     abbrev older_ones : List Survivor
-    older_ones = survivors_between rows h e (part_of h g e) h.start0
+    older_ones = survivors_between rows h e (part_of h (Generations g) e) h.start0
 
     abbrev young_ones : List Survivor
     young_ones = survivors_between rows h e h.start0 (last_of h e)
 
-    both : survivors_between rows h e (part_of h g e) (last_of h e) ≡ older_ones ++ young_ones
+    both : survivors_between rows h e (part_of h (Generations g) e) (last_of h e) ≡ older_ones ++ young_ones
     both =
         ap (λ is. map (survivor_in h e) (filter (stays (word_of h)) is)) young.items
-        ∙ ap (map (survivor_in h e)) (filter-append (stays (word_of h)) (items_between (sight rows h e) (part_of h g e)
+        ∙ ap (map (survivor_in h e))
+        (filter-append (stays (word_of h)) (items_between (sight rows h e) (part_of h (Generations g) e)
         h.start0) (items_between (sight rows h e) h.start0 (last_of h e)))
-        ∙ map-append (survivor_in h e) (filter (stays (word_of h)) (items_between (sight rows h e) (part_of h g e)
+        ∙ map-append (survivor_in h e)
+        (filter (stays (word_of h)) (items_between (sight rows h e) (part_of h (Generations g) e)
         h.start0)) (filter (stays (word_of h)) (items_between (sight rows h e) h.start0 (last_of h e)))
 
     wider : (ks : List Survivor) (q : Plug)
-        → ((k : Survivor) → IsIn k ks → IsIn k (survivors_between rows h e (part_of h g e) (last_of h e)))
-        → IsCovered ks q → IsCovered (survivors_between rows h e (part_of h g e) (last_of h e)) q
+        → ((k : Survivor) → IsIn k ks → IsIn k (survivors_between rows h e (part_of h (Generations g) e) (last_of h e)))
+        → IsCovered ks q → IsCovered (survivors_between rows h e (part_of h (Generations g) e) (last_of h e)) q
     wider ks q more c x low high = let (k, i, a, b, d, f) = c x low high in (k, more k i, a, b, d, f)
 
     young-facts : HasFacts rows h g e e
@@ -84,13 +87,13 @@ module _ (rows : List TypeRow) (h : HeapView) (g e : ℕ) (can : CanPlanHeap row
       scan = start.above;
       listed = λ i n. listed-from rows h e i can.inside
           (subst (IsIn i) (sym start.items)
-          (append_right (items_between (sight rows h e) (first_of h e) (part_of h g e)) n));
+          (append_right (items_between (sight rows h e) (first_of h e) (part_of h (Generations g) e)) n));
       covered = λ q n. covers q (in_append (old_part rows h g e) (subst (IsIn q) (plugs-young rows h g e can) n));
       plugged = λ k n. plugs k (in_append older_ones (subst (IsIn k) both n));
     }
       where
         covers : (q : Plug) → IsIn q (old_part rows h g e) ⊎ IsIn q (young_plugs rows h e)
-            → IsCovered (survivors_between rows h e (part_of h g e) (last_of h e)) q
+            → IsCovered (survivors_between rows h e (part_of h (Generations g) e) (last_of h e)) q
         covers q (inl i) = wider older_ones q (λ k j. subst (IsIn k) (sym both) (append_left young_ones j))
             (plugs-covered older_ones q i)
         covers q (inr i) = wider young_ones q (λ k j. subst (IsIn k) (sym both) (append_right older_ones j))
@@ -114,7 +117,7 @@ module _ (rows : List TypeRow) (h : HeapView) (g e : ℕ) (can : CanPlanHeap row
               high = r.high;
             }
 
-    pub facts : (t : ℕ) → t < suc e → takes g (segment_at h t) ≡ true → HasFacts rows h g e t
+    pub facts : (t : ℕ) → t < suc e → takes (Generations g) (segment_at h t) ≡ true → HasFacts rows h g e t
     facts t l on = elim (cases_lt t e) [
       | inl u ↦ lower-facts t u on
       | inr u ↦ let same : e ≡ t = omega arith in subst (HasFacts rows h g e) same young-facts

@@ -33,6 +33,7 @@ use Rattle.clr_plan.proofs.HeapSurvivors.{is_small_one, of_item, survives, survi
 use Rattle.clr_plan.proofs.RaisingTo.{filter-twice}
 use Rattle.clr_plan.proofs.SplitScans.{scan-segment}
 use Rattle.clr_plan.proofs.YoungParts.{at-start, at-young}
+use Rattle.clr_moves.specs.declared.parts.Parts.TheVariants.{Generations}
 
 -- a machine whose memory a heap is, is what is seen in the heap
 memory-seen : (rows : List TypeRow) (h : HeapView) (m : Machine) → IsMemoryOf rows h m → m ≡ seen rows h m
@@ -198,7 +199,7 @@ module _ (rows : List TypeRow) (h : HeapView) (heap : IsHeap h) (held : IsHeld r
             (and_from (is_marked h (obj i)) (has_pin (word_of h (i.place - 8))) mark (sym (pins (obj i) known)
             ∙ pinned))
 
-    part-facts : (t : ℕ) → t < suc e → takes g (segment_at h t) ≡ true → HasFacts rows h g e t
+    part-facts : (t : ℕ) → t < suc e → takes (Generations g) (segment_at h t) ≡ true → HasFacts rows h g e t
     part-facts = facts rows h g e can (at-start rows h base heap held none laid g least e inside young_too)
         (at-young rows h base heap held none laid g least e inside young_too)
 
@@ -234,5 +235,6 @@ module _ (rows : List TypeRow) (h : HeapView) (heap : IsHeap h) (held : IsHeld r
   pub pins-few : IsLawfulMemory → pinned_count (condemned_plugs rows h g e) ≤ pinned_marked rows h
   pins-few (m, memory, laid, pins) = few m (subst IsLaid (memory-seen rows h m memory) laid) pins
 
-  pub facts-for : IsLawfulMemory → (t : ℕ) → t < suc e → takes g (segment_at h t) ≡ true → HasFacts rows h g e t
+  pub facts-for : IsLawfulMemory → (t : ℕ) → t < suc e → takes (Generations g) (segment_at h t) ≡ true
+      → HasFacts rows h g e t
   facts-for (m, memory, laid, pins) = part-facts m (subst IsLaid (memory-seen rows h m memory) laid) pins

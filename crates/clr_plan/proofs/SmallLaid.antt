@@ -6,7 +6,7 @@ use Rattle.clr_types.specs.Types.{TypeRow}
 use Rattle.clr_types.specs.Segments.{is_small_or_ephemeral, reserved_end}
 use Rattle.clr_covers.specs.Covers.{spans}
 use Rattle.clr_heap.specs.View.{first_of, frame, HeapView, last_of, SameShape, segment_at}
-use Rattle.clr_heap.proofs.Framing.{lawful_at}
+use Rattle.clr_heap.proofs.Framing.{bounded_at, lawful_at}
 use Rattle.clr_model.specs.Compaction.{Plug, plug_end}
 use Rattle.clr_generations.specs.Tables.{AreBricksOf}
 use Rattle.clr_pinq.specs.Queue.{last_end, QueueView}
@@ -31,6 +31,7 @@ use Rattle.clr_plan.proofs.Seen.{LiesUpTo, plugs-lie}
 use Rattle.clr_plan.proofs.SmallPlan.{reached, rest, small-around, small-can, small-more, small-more-reached}
 use Rattle.clr_plan.proofs.SmallPlan.{small-over, small-starts}
 use Rattle.clr_plan.proofs.Takes.{part-lower, plugs-lower, takes-two}
+use Rattle.clr_moves.specs.declared.parts.Parts.TheVariants.{Generations}
 
 -- the plugs of a stretch end in it
 pub plugs-end : (c : ℕ) (ps : List Plug) → AllByRecursion (λ (q : Plug). LiesUpTo c q.start (plug_end q)) ps
@@ -85,7 +86,7 @@ module _ (rows : List TypeRow) (old : HeapView) (e : ℕ) (can : CanPlanHeap row
       abbrev w : Around
       w = small-around rows old e can queue.entries s.moves at k below s.reached on
 
-      taken : takes 2 (segment_at old k) ≡ true
+      taken : takes (Generations 2) (segment_at old k) ≡ true
       taken = takes-two 2 (segment_at old k) refl ∙ on
 
       own : segment_plugs rows old k ≡ mine
@@ -94,7 +95,7 @@ module _ (rows : List TypeRow) (old : HeapView) (e : ℕ) (can : CanPlanHeap row
       here : part_plugs rows old 2 e k ≡ mine
       here = plugs-lower rows old 2 e can k below
 
-      part : part_of old 2 k ≡ first_of old k
+      part : part_of old (Generations 2) k ≡ first_of old k
       part = part-lower rows old 2 e can k below taken
 
       split : condemned_plugs rows old 2 e ≡ plugs_around w mine
@@ -125,14 +126,13 @@ module _ (rows : List TypeRow) (old : HeapView) (e : ℕ) (can : CanPlanHeap row
           let base = lawful.base in
           let low = lawful.low in
           let high = lawful.high in
-          let most = lawful.most on in
+          let most = bounded_at old k can.laid.bounded inside on in
           let least = lawful.least in
           let lowest = lawful.lowest in
           record {
             plan = small-can rows old e can queue.entries s.moves at k below s.reached on;
             words = s.laid.words;
             behind = s.laid.behind k (omega arith) inside;
-            short = omega (arith, most, high);
             ends = low;
             covered = λ brick is. brick-there old k can.heap inside bricks0 bricks of s.laid.spans_are brick
                 (let a = is.0 in omega (arith, a, base)) (let b = is.1 in omega (arith, b, high));
@@ -155,9 +155,9 @@ module _ (rows : List TypeRow) (old : HeapView) (e : ℕ) (can : CanPlanHeap row
           let plan_here : IsPlanned now2 bricks2 (part_plan rows old 2 e k laid.planned.moves) =
           subst (λ ps. IsPlanned now2 bricks2 (record {
             segment = k;
-            low = part_of old 2 k;
+            low = part_of old (Generations 2) k;
             high = last_of old k;
-            plugs = planned_plugs (part_of old 2 k) ps laid.planned.moves;
+            plugs = planned_plugs (part_of old (Generations 2) k) ps laid.planned.moves;
           })) (sym here)
           (subst (λ n. IsPlanned now2 bricks2 (record {
             segment = k;
@@ -166,10 +166,11 @@ module _ (rows : List TypeRow) (old : HeapView) (e : ℕ) (can : CanPlanHeap row
             plugs = planned_plugs n mine laid.planned.moves;
           })) (sym part) laid.plan) in
           let words_here : HasWritten old now2 queue2.entries (starts ++ map (λ q. q.start) (part_plugs rows old 2 e k))
-          (opened_by free (first_of old k) (part_of old 2 k) (part_plugs rows old 2 e k))
+          (opened_by free (first_of old k) (part_of old (Generations 2) k) (part_plugs rows old 2 e k))
           (end_behind (first_of old k) mine) =
           subst (λ (ps : List Plug). HasWritten old now2 queue2.entries (starts ++ map (λ q. q.start) ps)
-          (opened_by free (first_of old k) (part_of old 2 k) ps) (end_behind (first_of old k) mine)) (sym here)
+          (opened_by free (first_of old k) (part_of old (Generations 2) k) ps) (end_behind (first_of old k) mine))
+          (sym here)
           (subst (λ n. HasWritten old now2 queue2.entries (starts ++ map (λ q. q.start) mine)
           (opened_by free (first_of old k) n mine) (end_behind (first_of old k) mine)) (sym part) laid.words) in
           let more = s.left in

@@ -23,8 +23,9 @@ use Rattle.clr_plan.proofs.Beginning.{start-is, young-small}
 use Rattle.clr_plan.proofs.Scanning.{survivors-done}
 use Rattle.clr_plan.proofs.SmallPlan.{small-more}
 use Rattle.clr_model.specs.Compaction.{plugs_of}
+use Rattle.clr_moves.specs.declared.parts.Parts.TheVariants.{Generations}
 
-pub takes-two : (g : ℕ) (s : SegInfo) → g ≡ 2 → takes g s ≡ is_small_or_ephemeral s.kind
+pub takes-two : (g : ℕ) (s : SegInfo) → g ≡ 2 → takes (Generations g) s ≡ is_small_or_ephemeral s.kind
 takes-two g s two = ap (λ b. is_small_or_ephemeral s.kind && (same_kind Ephemeral s.kind || b)) (eq-eqb g 2 two)
     ∙ go (is_small_or_ephemeral s.kind) (same_kind Ephemeral s.kind)
   where
@@ -33,11 +34,11 @@ takes-two g s two = ap (λ b. is_small_or_ephemeral s.kind && (same_kind Ephemer
     go true false = refl
     go false b = refl
 
-pub taken-small : (g : ℕ) (s : SegInfo) → takes g s ≡ true → is_small_or_ephemeral s.kind ≡ true
+pub taken-small : (g : ℕ) (s : SegInfo) → takes (Generations g) s ≡ true → is_small_or_ephemeral s.kind ≡ true
 taken-small g s t = (and_parts (is_small_or_ephemeral s.kind) (has_condemned_part g s) t).0
 
 module _ (rows : List TypeRow) (h : HeapView) (g e : ℕ) (can : CanPlanHeap rows h g e) where
-  pub taken-in : (t : ℕ) → t < length h.segments → takes g (segment_at h t) ≡ true
+  pub taken-in : (t : ℕ) → t < length h.segments → takes (Generations g) (segment_at h t) ≡ true
       → IsIn (segment_at h t) (parts_in rows h g)
   taken-in t l on = into_filter (λ (s : SegInfo). is_small_or_ephemeral s.kind && has_condemned_part g s) h.segments on
       (at-in h.segments t empty_segment l)
@@ -45,12 +46,13 @@ module _ (rows : List TypeRow) (h : HeapView) (g e : ℕ) (can : CanPlanHeap row
   pub young-kind : same_kind Ephemeral (segment_at h e).kind ≡ true
   young-kind = ap (λ (s : SegInfo). same_kind Ephemeral s.kind) can.young ∙ can.condemned.kind
 
-  pub takes-young : takes g (segment_at h e) ≡ true
+  pub takes-young : takes (Generations g) (segment_at h e) ≡ true
   takes-young = and_from (is_small_or_ephemeral (segment_at h e).kind) (has_condemned_part g (segment_at h e))
       (young-small rows h g e can) (ap (λ b. b || (g == 2)) young-kind)
 
   -- of the segments that take part only the last one is ephemeral
-  pub kind-lower : (t : ℕ) → t < e → takes g (segment_at h t) ≡ true → same_kind Ephemeral (segment_at h t).kind ≡ false
+  pub kind-lower : (t : ℕ) → t < e → takes (Generations g) (segment_at h t) ≡ true
+      → same_kind Ephemeral (segment_at h t).kind ≡ false
   kind-lower t l on = go (same_kind Ephemeral (segment_at h t).kind) refl
     where
       inside : t < length h.segments
@@ -66,15 +68,16 @@ module _ (rows : List TypeRow) (h : HeapView) (g e : ℕ) (can : CanPlanHeap row
           let b : (segment_at h t).base ≡ (segment_at h e).base = ap (λ (s : SegInfo). s.base) same in
           absurd (omega arith)
 
-  pub part-lower : (t : ℕ) → t < e → takes g (segment_at h t) ≡ true → part_of h g t ≡ first_of h t
+  pub part-lower : (t : ℕ) → t < e → takes (Generations g) (segment_at h t) ≡ true
+      → part_of h (Generations g) t ≡ first_of h t
   part-lower t l on = ap (λ b. if b then (if g == 0 then h.start0 else (if g == 1 then h.start1 else first_of h t))
       else first_of h t) (kind-lower t l on)
 
   -- below it none takes part where generation 2 isn't collected
-  pub takes-none : g ≢ 2 → (t : ℕ) → t < e → takes g (segment_at h t) ≡ false
-  takes-none ne t l = go (takes g (segment_at h t)) refl
+  pub takes-none : g ≢ 2 → (t : ℕ) → t < e → takes (Generations g) (segment_at h t) ≡ false
+  takes-none ne t l = go (takes (Generations g) (segment_at h t)) refl
     where
-      go : (b : Bool) → takes g (segment_at h t) ≡ b → b ≡ false
+      go : (b : Bool) → takes (Generations g) (segment_at h t) ≡ b → b ≡ false
       go false is = refl
       go true is =
           let has = (and_parts (is_small_or_ephemeral (segment_at h t).kind) (has_condemned_part g (segment_at h t))
@@ -84,10 +87,10 @@ module _ (rows : List TypeRow) (h : HeapView) (g e : ℕ) (can : CanPlanHeap row
           absurd (both_ways (has_condemned_part g (segment_at h t)) none has)
 
   -- nor above it
-  pub takes-above : (t : ℕ) → e < t → t < length h.segments → takes g (segment_at h t) ≡ false
-  takes-above t l i = go (takes g (segment_at h t)) refl
+  pub takes-above : (t : ℕ) → e < t → t < length h.segments → takes (Generations g) (segment_at h t) ≡ false
+  takes-above t l i = go (takes (Generations g) (segment_at h t)) refl
     where
-      go : (b : Bool) → takes g (segment_at h t) ≡ b → b ≡ false
+      go : (b : Bool) → takes (Generations g) (segment_at h t) ≡ b → b ≡ false
       go false is = refl
       go true is = let m = can.last t i (taken-small g (segment_at h t) is) in absurd (omega arith)
 

@@ -22,6 +22,8 @@ use Rattle.clr_plan.proofs.Assembled.{overlaid, tells}
 use Rattle.clr_moves.proofs.PlannedMoves.{are-in-line, are-moves}
 use Rattle.clr_plan.proofs.Ready.{can-plan-heap, facts-for, planned-for}
 use Rattle.clr_plan.proofs.Telling.{AreDown}
+use Rattle.clr_plan.proofs.ToldGaps.{gaps}
+use Rattle.clr_moves.specs.declared.parts.Parts.TheVariants.{Generations}
 
 all-down : (vs : List Move) → ((k : ℕ) → k < length vs → (move_at vs k).to ≤ (move_at vs k).start) → AreDown vs
 all-down [] down = tt
@@ -36,7 +38,7 @@ module _ (rows : List TypeRow) (old : HeapView) (heap : IsHeap old) (held : IsHe
     (m : Machine) (kept : ℕ → Bool) (memory : IsMemoryOf rows old m) (tests : TestsMarks rows old g kept)
     (pins : TellsPins rows old m) (heads : AreFreeHeads rows old)
   where
-    compaction : IsCompactionOf rows old g laid.moves m kept
+    compaction : IsCompactionOf rows old (Generations g) laid.moves m kept
         (compacted_layout m.layout g (small_heap_plugs m.layout (survivors m g kept)) laid.moves start1 start0)
     compaction =
         let (good, compacted) = planned-for rows old heap held none g least e inside young lawful laid.moves start1
@@ -47,12 +49,12 @@ module _ (rows : List TypeRow) (old : HeapView) (heap : IsHeap old) (held : IsHe
     all-laid = let next : e + 1 ≡ suc e = omega arith in
         subst (λ k. IsLaidBelow rows old now bricks0 bricks queue0 queue g e k laid.moves) next laid.laid
 
-    pub has-planned : HasPlanned rows old now bricks queue.entries g m kept start1 start0
+    pub has-planned : HasPlanned rows old now bricks queue.entries (Generations g) m kept start1 start0
     has-planned =
         let can = can-plan-heap rows old heap held none g least e inside young lawful in
         let layout = compacted_layout m.layout g (small_heap_plugs m.layout (survivors m g kept)) laid.moves start1
         start0 in
-        let line = are-in-line rows old g laid.moves m kept layout compaction least in
+        let line = are-in-line rows old (Generations g) laid.moves m kept layout compaction least in
         let down = all-down laid.moves line.lower in
         record {
           moves = laid.moves;
@@ -61,7 +63,8 @@ module _ (rows : List TypeRow) (old : HeapView) (heap : IsHeap old) (held : IsHe
           start1_is = refl;
           start0_is = refl;
           overlaid = overlaid rows old now bricks0 bricks queue0 queue g e can laid.moves all-laid
-              (are-moves rows old g laid.moves m kept layout compaction least) line;
+              (are-moves rows old (Generations g) laid.moves m kept layout compaction least) line;
           told = tells rows old now bricks0 bricks queue0 queue g e can laid.moves all-laid down
               (facts-for rows old heap held none g least e inside young lawful) heads;
+          gaps = gaps rows old now bricks0 bricks queue0 queue g e can laid.moves all-laid;
         }

@@ -20,6 +20,7 @@ use Rattle.clr_plan.specs.Plans.{old_part, parts_in, small_plugs, young_plugs}
 use Rattle.clr_plan.specs.Scans.{plugs_between}
 use Rattle.clr_plan.specs.Writes.{AreSavedAt, HasWritten}
 use Rattle.clr_plan.specs.declared.pointer.Pointer.{Pointer}
+use Rattle.clr_moves.specs.declared.parts.Parts.TheVariants.{Generations}
 
 -- between the older generations and generation 0 of the heap `old`, of which the plan has made `now`
 pub record IsBetweenIn (rows : List TypeRow) (old now : HeapView) (g e : ℕ) (entries : List PinEntry)
@@ -39,27 +40,28 @@ part_plugs rows h g e t = if t == e then old_part rows h g e ++ young_plugs rows
 abbrev pub part_plan : List TypeRow → HeapView → ℕ → ℕ → ℕ → List Move → PlannedPart
 part_plan rows h g e t vs = record {
   segment = t;
-  low = part_of h g t;
+  low = part_of h (Generations g) t;
   high = last_of h t;
-  plugs = planned_plugs (part_of h g t) (part_plugs rows h g e t) vs;
+  plugs = planned_plugs (part_of h (Generations g) t) (part_plugs rows h g e t) vs;
 }
 
 -- the plugs of the parts of the k lowest segments
 abbrev pub plugs_below : List TypeRow → HeapView → ℕ → ℕ → ℕ → List Plug
 plugs_below rows h g e zero = []
 plugs_below rows h g e (suc k) = plugs_below rows h g e k
-    ++ (if takes g (segment_at h k) then part_plugs rows h g e k else [])
+    ++ (if takes (Generations g) (segment_at h k) then part_plugs rows h g e k else [])
 
 -- their moves
 abbrev pub moves_below : HeapView → ℕ → (ℕ → List Move) → ℕ → List Move
 moves_below h g each zero = []
-moves_below h g each (suc k) = moves_below h g each k ++ (if takes g (segment_at h k) then each k else [])
+moves_below h g each (suc k) = moves_below h g each k ++ (if takes (Generations g) (segment_at h k) then each k else [])
 
 -- the places of those of them whose information stands in bytes that no live cell has
 abbrev pub opened_below : List TypeRow → HeapView → ℕ → ℕ → ℕ → List ℕ
 opened_below rows h g e zero = []
-opened_below rows h g e (suc k) = if takes g (segment_at h k) then opened_by (opened_below rows h g e k) (first_of h k)
-    (part_of h g k) (part_plugs rows h g e k) else opened_below rows h g e k
+opened_below rows h g e (suc k) =
+    if takes (Generations g) (segment_at h k) then opened_by (opened_below rows h g e k) (first_of h k)
+    (part_of h (Generations g) k) (part_plugs rows h g e k) else opened_below rows h g e k
 
 -- as many moves as plugs, of their starts and sizes
 abbrev pub AreFor : List Plug → List Move → Type 0
@@ -74,16 +76,19 @@ pub record IsLaidBelow (rows : List TypeRow) (old now : HeapView) (bricks bricks
     (queue queue_now : QueueView) (g e k : ℕ) (moves : List Move) : Type 0 where
   pub each : ℕ → List Move
   pub moves_are : moves ≡ moves_below old g each k
-  pub fit : (t : ℕ) → t < k → takes g (segment_at old t) ≡ true → AreFor (part_plugs rows old g e t) (each t)
-  pub plans : (t : ℕ) → t < k → takes g (segment_at old t) ≡ true
+  pub fit : (t : ℕ) → t < k → takes (Generations g) (segment_at old t) ≡ true
+      → AreFor (part_plugs rows old g e t) (each t)
+  pub plans : (t : ℕ) → t < k → takes (Generations g) (segment_at old t) ≡ true
       → IsPlanned now bricks_now (part_plan rows old g e t (each t))
   pub low : ℕ
   pub words : HasWritten old now queue_now.entries (map (λ q. q.start) (plugs_below rows old g e k))
       (opened_below rows old g e k) low
   pub behind : (t : ℕ) → k ≤ t → t < length old.segments → low + 24 ≤ first_of old t
   pub saved : AreSavedAt queue_now.entries (plugs_below rows old g e k)
-  pub count : queue.spare + length queue.entries ≤ queue_now.spare + length queue_now.entries
-  pub entries : (i : ℕ) → ((t : ℕ) → t < k → takes g (segment_at old t) ≡ true → (i + 1 < part_of old g t / 4096)
+  pub count : queue.spare + length queue.entries ≡ queue_now.spare + length queue_now.entries
+  pub entries : (i : ℕ)
+      → ((t : ℕ) → t < k → takes (Generations g) (segment_at old t) ≡ true
+      → (i + 1 < part_of old (Generations g) t / 4096)
       ⊎ (last_of old t ≤ i * 4096)) → entry_at bricks_now i ≡ entry_at bricks i
   pub spans_are : spans bricks_now ≡ spans bricks
 
@@ -99,7 +104,7 @@ pub record IsLaidSmall (rows : List TypeRow) (old now : HeapView) (bricks bricks
 pub record CanLayEphemeral (rows : List TypeRow) (old now : HeapView) (bricks bricks_now : BricksView)
     (queue queue_now : QueueView) (g e low : ℕ) (at : Pointer) : Type 0 where
   pub can : CanPlanHeap rows old g e
-  pub low_is : low ≡ part_of old g e
+  pub low_is : low ≡ part_of old (Generations g) e
   pub moves : List Move
   pub reached : HasReached old (parts_in rows old g) (condemned_plugs rows old g e) queue_now.entries
       (first_pointer (layout_in rows old) g (parts_in rows old g)) [] (plugs_below rows old g e e)

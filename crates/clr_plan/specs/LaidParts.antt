@@ -8,7 +8,7 @@ use Rattle.clr_model.specs.Compaction.{Move, Plug, plug_end}
 use Rattle.clr_bricks.specs.Bricks.{entry_at}
 use Rattle.clr_pinq.specs.Queue.{last_end, QueueView}
 use Rattle.clr_plugs.specs.BrickEntries.{BricksView, IsCovered}
-use Rattle.clr_plugs.specs.Planning.{IsShort, IsWriting, WriterView}
+use Rattle.clr_plugs.specs.Planning.{IsWriting, WriterView}
 use Rattle.clr_plugs.specs.Plans.{IsBrickOf, IsPlanned, PlannedPart, PlannedPlug, plug_starts}
 use Rattle.clr_plan.specs.Parts.{Around, CanPlan, HasPlacedPart}
 use Rattle.clr_plan.specs.Scans.{plugs_between}
@@ -75,7 +75,6 @@ pub record IsLaying (old : HeapView) (now : Written) (starts free : List ℕ) (p
   pub heap : IsHeap now.heap
   pub words : HasWritten old now.heap now.queue.entries starts free below
   pub writing : IsWriting now.heap now.bricks part now.writer
-  pub short : IsShort part
   pub segment : part.segment ≡ k
   pub low : part.low ≤ below
   pub behind : (x : ℕ) → IsIn x (plug_starts part.plugs) → x + 24 ≤ below
@@ -103,7 +102,7 @@ pub record HasLaid (w : Around) (rows : List TypeRow) (old : HeapView) (before a
   pub within : below ≤ e → ending ≤ e
   pub spare : before.queue.spare ≤ after.queue.spare + pushes_for (last_end 0 before.queue.entries) (first_of old k)
       below (plugs_between rows old k p e)
-  pub count : before.queue.spare + length before.queue.entries ≤ after.queue.spare + length after.queue.entries
+  pub count : before.queue.spare + length before.queue.entries ≡ after.queue.spare + length after.queue.entries
   pub last : last_end 0 after.queue.entries ≡ last_pushed_for (last_end 0 before.queue.entries) (first_of old k) below
       (plugs_between rows old k p e)
   pub saved : (ps : List Plug) → AreSavedAt before.queue.entries ps → AreSavedAt after.queue.entries
@@ -124,7 +123,6 @@ pub record CanLaySegment (w : Around) (rows : List TypeRow) (old h : HeapView) (
   pub plan : CanPlan w rows old queue.entries at k (first_of old k) (last_of old k)
   pub words : HasWritten old h queue.entries starts free below
   pub behind : below + 24 ≤ first_of old k
-  pub short : last_of old k ≤ first_of old k + 67108864
   pub ends : first_of old k ≤ last_of old k
   pub covered : (brick : ℕ) → IsBrickOf (segment_part old k []) brick → IsCovered bricks brick
   pub covered_below : IsCovered bricks (first_of old k / 4096 - 1)
@@ -145,7 +143,7 @@ pub record HasLaidSegment (w : Around) (rows : List TypeRow) (old before after :
       (end_behind (first_of old k) (plugs_between rows old k (first_of old k) (last_of old k)))
   pub spare : queue.spare ≤ queue_after.spare + pushes_for (last_end 0 queue.entries) (first_of old k) (first_of old k)
       (plugs_between rows old k (first_of old k) (last_of old k))
-  pub count : queue.spare + length queue.entries ≤ queue_after.spare + length queue_after.entries
+  pub count : queue.spare + length queue.entries ≡ queue_after.spare + length queue_after.entries
   pub last : last_end 0 queue_after.entries ≡ last_pushed_for (last_end 0 queue.entries) (first_of old k)
       (first_of old k) (plugs_between rows old k (first_of old k) (last_of old k))
   pub saved : (ps : List Plug) → AreSavedAt queue.entries ps → AreSavedAt queue_after.entries

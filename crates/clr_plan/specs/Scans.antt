@@ -2,6 +2,7 @@
 use Rattle.std.specs.Prelude.{◌≡◌, ℕ, ◌+◌, ◌-◌, ◌/◌, ◌%◌, ◌^◌, ◌<◌, ◌≤◌, Bool, ◌&&◌, ◌==◌, nat_eq, List, map, filter}
 use Rattle.std.specs.Prelude.{if◌then◌else◌, Option, None, Some}
 use Rattle.std.specs.Bool.{beq}
+pub use Rattle.clr_types.specs.Bits.{has_pin}
 use Rattle.clr_types.specs.Types.{TypeRow}
 use Rattle.clr_types.specs.Segments.{generation}
 use Rattle.clr_types.specs.declared.item.Item.{Item}
@@ -11,10 +12,6 @@ use Rattle.clr_heap.specs.View.{CanWalk, frame, HasItem, HeapView, holes_of, ite
 use Rattle.clr_model.specs.Sweep.{Survivor}
 use Rattle.clr_model.specs.Compaction.{Plug, plug_of, plugs_of}
 use Rattle.clr_sweep.specs.SweptItems.{stays}
-
--- whether an object's header says that it is pinned
-abbrev pub has_pin : ℕ → Bool
-has_pin header = nat_eq (header / 0x20000000 % 2) 1
 
 -- the object that an item of segment k is, as one that stays
 abbrev pub survivor_in : HeapView → ℕ → Item → Survivor

@@ -62,7 +62,7 @@ pub fn lay_plug(
     ensures shape { SameShape heap.old heap.new }
     ensures pushed { queue.new.entries ≡ queue.old.entries ++ entries_for queue.old.entries (word_of heap.old) first
         laying.old.below plug }
-    ensures spare { queue.old.spare ≤ queue.new.spare + length (entries_for queue.old.entries (word_of heap.old) first
+    ensures spare { queue.old.spare ≡ queue.new.spare + length (entries_for queue.old.entries (word_of heap.old) first
         laying.old.below plug) }
     ensures entries { (i : ℕ) → (i < laying.old.writer.builder.brick) ⊎ (plug.start / 4096 ≤ i) → entry_at bricks.new i
         ≡ entry_at bricks.old i }

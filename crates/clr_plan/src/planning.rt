@@ -12,11 +12,12 @@ ghost use Rattle.clr_generations.specs.Tables.{AreBricksOf};
 ghost use Rattle.clr_moves.specs.Moves.{part_of, takes};
 ghost use Rattle.clr_plan.specs.Pinned.{TellsPins};
 ghost use Rattle.clr_plan.specs.Planned.{HasPlanned, pinned_marked};
+ghost use Rattle.clr_moves.specs.declared.parts.Parts.TheVariants.{Generations};
 
 use crate::heaps::{entries_at, lay_ephemeral, lay_lower};
 use clr_bricks::Bricks;
 use clr_heap::Heap;
-use clr_moves::{Planned, part_start};
+use clr_moves::{Parts, Planned, part_start};
 use clr_pinq::PinQueue;
 use clr_types::Types;
 
@@ -25,11 +26,11 @@ use clr_types::Types;
 /// neighbours that this overwrites are saved in the queue, which was empty.
 ///
 /// A plug is a run of marked objects side by side of one generation and one pinned state. An object is pinned where its
-/// header has the bit `0x20000000`; a plug of pinned objects stays. Of the bricks only those of the parts that are
-/// compacted change, with the one below each. The answer tells where generations 1 and 0 begin after the compaction,
-/// and the two entries that the plan has overwritten at the start of the ephemeral segment's part: that of the brick
-/// below the part's first one and that of its first one. The queue needs an entry for each pinned object, and four
-/// more.
+/// header says so (`clr_types::header::is_pinned`); a plug of pinned objects stays. Of the bricks only those of the
+/// parts that are compacted change, with the one below each. The answer tells where generations 1 and 0 begin after
+/// the compaction, and the two entries that the plan has overwritten at the start of the ephemeral segment's part:
+/// that of the brick below the part's first one and that of its first one. The queue needs an entry for each pinned
+/// object, and four more.
 pub fn plan(
     heap: &mut Heap,
     types: &Types,
@@ -47,19 +48,20 @@ pub fn plan(
     requires spare { pinned_marked types.now heap.old + 4 ≤ pins.old.spare }
     ensures planned { (m : Machine) (kept : ℕ → Bool) → IsMemoryOf types.now heap.old m
         → TestsMarks types.now heap.old g kept → TellsPins types.now heap.old m
-        → HasPlanned types.now heap.old heap.new bricks.new pins.new.entries g m kept result.start1 result.start0 }
-    ensures spare { pins.old.spare ≤ pins.new.spare + length pins.new.entries }
-    ensures entries { (i : ℕ) → ((t : ℕ) → t < length heap.old.segments → takes g (segment_at heap.old t) ≡ true
-        → (i + 1 < part_of heap.old g t / 4096) ⊎ (last_of heap.old t ≤ i * 4096))
+        → HasPlanned types.now heap.old heap.new bricks.new pins.new.entries (Generations g) m kept result.start1 result.start0 }
+    ensures spare { pins.old.spare ≡ pins.new.spare + length pins.new.entries }
+    ensures entries { (i : ℕ)
+        → ((t : ℕ) → t < length heap.old.segments → takes (Generations g) (segment_at heap.old t) ≡ true
+        → (i + 1 < part_of heap.old (Generations g) t / 4096) ⊎ (last_of heap.old t ≤ i * 4096))
         → entry_at bricks.new i ≡ entry_at bricks.old i }
     ensures below { (e : ℕ) → segment_at heap.old e ≡ ephemeral (frame heap.old)
-        → result.below ≡ entry_at bricks.old (part_of heap.old g e / 4096 - 1) }
+        → result.below ≡ entry_at bricks.old (part_of heap.old (Generations g) e / 4096 - 1) }
     ensures first { (e : ℕ) → segment_at heap.old e ≡ ephemeral (frame heap.old)
-        → result.first ≡ entry_at bricks.old (part_of heap.old g e / 4096) }
+        → result.first ≡ entry_at bricks.old (part_of heap.old (Generations g) e / 4096) }
     ensures spans { spans bricks.new ≡ spans bricks.old }
 {
     let e = heap.ephemeral();
-    let low = part_start(heap, g, e);
+    let low = part_start(heap, Parts::Generations(g), e);
     let (below, first) = entries_at(heap, bricks, e, low);
     let at = lay_lower(heap, types, bricks, pins, e, low, g);
     let (start1, start0) = lay_ephemeral(heap, types, bricks, pins, at, e, low, g);

@@ -7,9 +7,10 @@ ghost use Rattle.clr_plan.specs.Pins.{IsPinFrom};
 ghost use Rattle.clr_plan.specs.Waiting.{ranges_from};
 
 use crate::pin::{Pin, next_pin};
+use crate::small::is_small;
 use clr_heap::Heap;
 use clr_pinq::PinQueue;
-use clr_types::{FIRST_OFFSET, SegKind};
+use clr_types::FIRST_OFFSET;
 
 /// Where the next plug goes at the lowest: a place, the segment in which it stands, where this segment's reservation
 /// ends, and how many of the entries that the walk has met lie behind.
@@ -72,7 +73,7 @@ fn is_room(place: u64, size: u64, start: u64) -> bool
     end == start || end + 24 <= start
 }
 
-// The first place of the next segment that isn't large.
+// The first place of the next segment of the small heap.
 fn in_next_segment(heap: &Heap, at: Pointer, home: usize) -> Pointer
     requires below { at.segment < home }
     requires in_range { home < length heap.now.segments }
@@ -83,7 +84,7 @@ fn in_next_segment(heap: &Heap, at: Pointer, home: usize) -> Pointer
     ensures passed { result.passed ≡ at.passed }
 {
     let mut k = at.segment + 1;
-    while k < home && heap.info(k).kind == SegKind::Large {
+    while k < home && !is_small(heap.info(k).kind) {
         k += 1;
     }
     let segment = heap.info(k);

@@ -7,16 +7,13 @@ ghost use Rattle.clr_heap.specs.Parts.{item_at};
 ghost use Rattle.clr_heap.specs.View.{segment_at, word_of};
 ghost use Rattle.clr_view.specs.Marks.{has_mark};
 ghost use Rattle.clr_view.specs.View.{is_object};
-ghost use Rattle.clr_plan.specs.Scans.{CanLook, CanScan, has_pin, kept_plug, plugs_between, survivor_in};
+ghost use Rattle.clr_plan.specs.Scans.{CanLook, CanScan, kept_plug, plugs_between, survivor_in};
 ghost use Rattle.clr_plan.specs.Runs.{HasNext, HasRun, IsRun};
 
 use crate::plug::Plug;
 use clr_heap::{Heap, Item};
 use clr_sweep::{dead_size, item_and_kind};
-use clr_types::Types;
-
-/// The bit of an object's header that says that it is pinned.
-const PIN_BIT: u64 = 0x2000_0000;
+use clr_types::{Types, header, mark};
 
 /// A plug, and a place behind it from which the next one is to be looked for.
 #[derive(Clone, Copy)]
@@ -126,7 +123,7 @@ fn plug_at(heap: &Heap, k: usize, base: u64, found: Item) -> Plug
     requires room { found.place + found.size < 2 ^ 64 }
     ensures { result ≡ plug_of (survivor_in heap.now k found) }
 {
-    let pinned = is_pinned(heap.word_at(k, found.place - 8));
+    let pinned = header::is_pinned(heap.word_at(k, found.place - 8));
     Plug::of_object(
         found.place,
         found.size,
@@ -141,13 +138,5 @@ fn plug_at(heap: &Heap, k: usize, base: u64, found: Item) -> Plug
 fn is_kept(found: Item, mt: u64) -> bool
     ensures { result ≡ (is_object found && has_mark mt) }
 {
-    found.type_id.0 != 0 && mt % 2 == 1
-}
-
-// Whether an object with this header is pinned.
-#[inline]
-fn is_pinned(header: u64) -> bool
-    ensures { result ≡ has_pin header }
-{
-    header / PIN_BIT % 2 == 1
+    found.type_id.0 != 0 && mark::is_marked(mt)
 }

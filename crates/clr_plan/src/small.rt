@@ -8,7 +8,7 @@ use crate::pointer::Pointer;
 use clr_heap::Heap;
 use clr_types::{FIRST_OFFSET, SegKind};
 
-/// The first place of the first segment that isn't large, up to the ephemeral one, which is segment `e`.
+/// The first place of the first segment of the small heap, up to the ephemeral one, which is segment `e`.
 pub fn first_of_small(heap: &Heap, e: usize) -> Pointer
     requires in_range { e < length heap.now.segments }
     ensures first { IsFirstSmall heap.now e result.segment }
@@ -17,7 +17,7 @@ pub fn first_of_small(heap: &Heap, e: usize) -> Pointer
     ensures passed { result.passed ≡ 0 }
 {
     let mut k = 0;
-    while k < e && heap.info(k).kind == SegKind::Large {
+    while k < e && !is_small(heap.info(k).kind) {
         k += 1;
     }
     let segment = heap.info(k);
@@ -33,5 +33,8 @@ pub fn first_of_small(heap: &Heap, e: usize) -> Pointer
 pub fn is_small(kind: SegKind) -> bool
     ensures { result ≡ is_small_or_ephemeral kind }
 {
-    kind != SegKind::Large
+    match kind {
+        SegKind::Small | SegKind::Ephemeral => true,
+        SegKind::Large | SegKind::Pinned => false,
+    }
 }

@@ -46,7 +46,7 @@ pub fn write_plug(
     ensures shape { SameShape heap.old heap.new }
     ensures pushed { queue.new.entries ≡ queue.old.entries ++ entries_for queue.old.entries (word_of heap.old) first
         below plug }
-    ensures spare { queue.old.spare ≤ queue.new.spare + length (entries_for queue.old.entries (word_of heap.old) first
+    ensures spare { queue.old.spare ≡ queue.new.spare + length (entries_for queue.old.entries (word_of heap.old) first
         below plug) }
     ensures entries { (i : ℕ) → (i < writer.old.builder.brick) ⊎ (plug.start / 4096 ≤ i) → entry_at bricks.new i
         ≡ entry_at bricks.old i }
@@ -78,7 +78,7 @@ fn save_words(heap: &Heap, queue: &mut PinQueue, near: usize, plug: Plug, first:
         ⊎ (last_end 0 queue.old.entries + 24 ≤ below) }
     ensures pushed { queue.new.entries ≡ queue.old.entries ++ entries_for queue.old.entries (word_of heap.now) first
         below plug }
-    ensures spare { queue.old.spare ≤ queue.new.spare + length (entries_for queue.old.entries (word_of heap.now) first
+    ensures spare { queue.old.spare ≡ queue.new.spare + length (entries_for queue.old.entries (word_of heap.now) first
         below plug) }
 {
     let start = plug.start();

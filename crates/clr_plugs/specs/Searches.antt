@@ -1,12 +1,13 @@
 -- The nearest plug at a place or below it.
-use Rattle.std.specs.Prelude.{◌≡◌, ℕ, ◌+◌, ◌-◌, ◌*◌, ◌/◌, ◌^◌, ◌<◌, ◌≤◌, List, [], ◌∷◌, length, nat_le, if◌then◌else◌}
+use Rattle.std.specs.Prelude.{◌≡◌, ℕ, ◌+◌, ◌-◌, ◌*◌, ◌/◌, ◌^◌, ◌<◌, ◌≤◌, ◌⊎◌, List, [], ◌∷◌, length, nat_le}
+use Rattle.std.specs.Prelude.{if◌then◌else◌}
 use Rattle.clr_types.specs.Rising.{IsIn}
 use Rattle.clr_types.specs.Rising.{IsRisingBy}
 use Rattle.clr_heap.specs.Memories.{HasWord, memory_index}
 use Rattle.clr_heap.specs.View.{HeapView, word_of}
 use Rattle.clr_plugs.specs.BrickEntries.{BricksView}
 use Rattle.clr_plugs.specs.Trees.{IsBrickTree, IsWithinDigits, starts_in}
-use Rattle.clr_plugs.specs.Plans.{IsBrickOf, IsPlanned, PlannedPart, PlannedPlug}
+use Rattle.clr_plugs.specs.Plans.{IsBrickOf, IsPlanned, past_bricks, PlannedPart, PlannedPlug, plug_starts}
 use Rattle.clr_plugs.specs.declared.search.Plug.{Plug}
 
 -- the last of the places, which rise, that isn't above a, and `other` where there is none
@@ -34,23 +35,27 @@ pub record IsInPlan (h : HeapView) (bricks : BricksView) (a : ℕ) : Type 0 wher
   pub high : a < part.high
   pub planned : IsPlanned h bricks part
 
--- from `before` on there were at most 4 steps for entries, and for the trees of two bricks at most as many as their
--- plugs have binary digits
-pub record AreFewSteps (starts : List ℕ) (before after : ℕ) : Type 0 where
+-- how many entries at most lead on where one doesn't lead to the nearest tree: none in a part of a small segment
+abbrev pub further_entries : PlannedPart → ℕ
+further_entries part = (past_bricks part - part.low / 4096) / 32767
+
+-- from `before` on there were at most 4 steps for entries, twice as many more as lead on, and for the trees of two
+-- bricks at most as many as their plugs have binary digits
+pub record AreFewSteps (part : PlannedPart) (before after : ℕ) : Type 0 where
   pub brick1 : ℕ
   pub brick2 : ℕ
   pub digits1 : ℕ
   pub digits2 : ℕ
-  pub within1 : IsWithinDigits digits1 (length (starts_in brick1 starts))
-  pub within2 : IsWithinDigits digits2 (length (starts_in brick2 starts))
-  pub count : after ≤ before + 4 + digits1 + digits2
+  pub within1 : IsWithinDigits digits1 (length (starts_in brick1 (plug_starts part.plugs)))
+  pub within2 : IsWithinDigits digits2 (length (starts_in brick2 (plug_starts part.plugs)))
+  pub count : after ≤ before + (4 + 2 * further_entries part) + digits1 + digits2
 
 -- the same of the search that begins with the entry of one brick
-pub record AreFewStepsFrom (starts : List ℕ) (before after : ℕ) : Type 0 where
+pub record AreFewStepsFrom (part : PlannedPart) (before after : ℕ) : Type 0 where
   pub brick : ℕ
   pub digits : ℕ
-  pub within : IsWithinDigits digits (length (starts_in brick starts))
-  pub count : after ≤ before + 2 + digits
+  pub within : IsWithinDigits digits (length (starts_in brick (plug_starts part.plugs)))
+  pub count : after ≤ before + (2 + further_entries part) + digits
 
 -- the search can begin with the entry of the brick
 pub record CanFindFrom (h : HeapView) (bricks : BricksView) (k brick : ℕ) : Type 0 where
@@ -88,3 +93,18 @@ pub data IsGreatestStart (starts : List ℕ) (a found : ℕ) : Type 0 where
   no_start : found ≡ 0 → ((x : ℕ) → IsIn x starts → a < x) → IsGreatestStart starts a found
   some_start : IsIn found starts → found ≤ a → ((x : ℕ) → IsIn x starts → x ≤ a → x ≤ found)
       → IsGreatestStart starts a found
+
+-- From the brick on, from which a search began at `before` steps, it has come to the brick `at` in `now` steps: it is
+-- still there, or back entries have led it down to the brick of the nearest plug, or on the way there.
+pub data HasCome (starts : List ℕ) (brick at before now : ℕ) : Type 0 where
+  still : at ≡ brick → now ≡ before → HasCome starts brick at before now
+  led : (last reads : ℕ) → IsIn last starts → last / 4096 ≤ at → at < brick
+      → ((x : ℕ) → IsIn x starts → x / 4096 ≤ brick → x ≤ last) → now ≡ before + reads
+      → reads * 32767 ≤ brick - at + 32766 → (at ≡ last / 4096) ⊎ (reads * 32767 ≤ brick - at)
+      → HasCome starts brick at before now
+
+-- so it is by each plan that the heap holds of a part with the brick
+abbrev pub HasComeByAll : HeapView → BricksView → ℕ → ℕ → ℕ → ℕ → Type 0
+HasComeByAll h bricks brick at before now =
+    (part : PlannedPart) → IsPlanned h bricks part → IsBrickOf part brick
+    → HasCome (plug_starts part.plugs) brick at before now

@@ -28,10 +28,12 @@ use Rattle.clr_reloc.proofs.LeftHomes.{home, InsidePlug, InsideSegment, keeps_to
 use Rattle.clr_reloc.proofs.NewObjects.{has_relocated}
 use Rattle.clr_reloc.proofs.Outer.{no_plug}
 use Rattle.clr_reloc.proofs.PlugItems.{in_plug}
+use Rattle.clr_moves.specs.declared.parts.Parts.TheVariants.{Generations}
 
 module _ (rows : List TypeRow) (view h : HeapView) (bricks : BricksView) (entries : List PinEntry) (g : ℕ)
     (vs : List Move) (start1 start0 : ℕ) (least : g ≤ 2)
-    (plan : HoldsPlan rows view h bricks entries g vs start1 start0) (followed : AreFollowed rows view g vs)
+    (plan : HoldsPlan rows view h bricks entries (Generations g) vs start1 start0)
+    (followed : AreFollowed rows view (Generations g) vs)
     (old : g < 2 → HaveOldParts rows view g) (lawful : AllByRecursion IsLawfulRow rows) where
   pub begins : IsRelocating rows view view h bricks entries g vs start1 start0
   begins =

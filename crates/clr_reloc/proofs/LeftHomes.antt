@@ -11,7 +11,7 @@ use Rattle.clr_types.specs.Segments.{same_kind, stands_in}
 use Rattle.clr_types.specs.Types.{TypeRow}
 use Rattle.clr_types.specs.declared.item.Item.{Item}
 use Rattle.clr_types.specs.declared.segment.SegKind.{SegKind}
-use Rattle.clr_types.specs.declared.segment.SegKind.TheVariants.{Small, Ephemeral, Large}
+use Rattle.clr_types.specs.declared.segment.SegKind.TheVariants.{Small, Ephemeral, Large, Pinned}
 use Rattle.clr_heap.specs.View.{first_of, frame, heap_items, HeapView, IsHeap, last_of, listing, segment_at, word_of}
 use Rattle.clr_heap.proofs.Framing.{below_top_at, lawful_at}
 use Rattle.clr_model.specs.Compaction.{Move}
@@ -28,6 +28,7 @@ use Rattle.clr_moves.specs.Moves.{IsInPart, IsInPlug, move_at, part_of, plug_sto
 use Rattle.clr_reloc.specs.Outside.{HaveNoneOver, outside_end}
 use Rattle.clr_reloc.specs.References.{keeps, limit_of}
 use Rattle.clr_reloc.specs.Relocating.{is_left_at, IsLeftItem}
+use Rattle.clr_moves.specs.declared.parts.Parts.TheVariants.{Generations}
 
 -- ---- numbers
 
@@ -59,6 +60,7 @@ end_by_kind Ephemeral g first last a0 a1 less = elim (cases_eq g 0) [
   | inr n ↦ ap (λ b. if g == 0 then a0 else (if b then a1 else first)) (eq-eqb g 1 (omega arith))
 ]
 end_by_kind Large g first last a0 a1 less = refl
+end_by_kind Pinned g first last a0 a1 less = refl
 
 -- and in one of all: at the first place where a part is
 end_of_all : (κ : SegKind) (first last a0 a1 : ℕ)
@@ -71,6 +73,7 @@ end_of_all : (κ : SegKind) (first last a0 a1 : ℕ)
 end_of_all Small first last a0 a1 = inl refl
 end_of_all Ephemeral first last a0 a1 = inl refl
 end_of_all Large first last a0 a1 = inr refl
+end_of_all Pinned first last a0 a1 = inr refl
 
 -- up to where objects are left, by the kind
 limit_by_kind : (κ : SegKind) (g first most a0 a1 : ℕ) → g < 2
@@ -84,6 +87,7 @@ limit_by_kind Ephemeral g first most a0 a1 less = elim (cases_eq g 0) [
   | inr n ↦ ap (λ b. if g == 0 then a0 else (if b then a1 else first)) (eq-eqb g 1 (omega arith))
 ]
 limit_by_kind Large g first most a0 a1 less = ap (λ b. if b then first else most) (ne_eqb g 2 (λ e. omega arith))
+limit_by_kind Pinned g first most a0 a1 less = ap (λ b. if b then first else most) (ne_eqb g 2 (λ e. omega arith))
 
 limit_of_all : (κ : SegKind) (first most a0 a1 : ℕ)
     → (if same_kind Ephemeral κ || (2 == 2)
@@ -92,6 +96,7 @@ limit_of_all : (κ : SegKind) (first most a0 a1 : ℕ)
 limit_of_all Small first most a0 a1 = refl
 limit_of_all Ephemeral first most a0 a1 = refl
 limit_of_all Large first most a0 a1 = refl
+limit_of_all Pinned first most a0 a1 = refl
 
 -- ---- segments
 
@@ -159,7 +164,7 @@ module _ (rows : List TypeRow) (h : HeapView) (g : ℕ) (least : g ≤ 2) (heap 
     pub high : i.place + i.size ≤ outside_end h g number
 
   pub home : (vs : List Move) → ((i : Item) (t : ℕ) → IsIn i (heap_items rows h) → is_object i ≡ true
-      → has_mark (word_of h i.place) ≡ true → is_reached_by h g i.place ≡ true → IsInPart h g t i.place
+      → has_mark (word_of h i.place) ≡ true → is_reached_by h g i.place ≡ true → IsInPart h (Generations g) t i.place
       → (k : ℕ) × IsInPlug vs k i.place × (i.place + i.size ≤ plug_stop (move_at vs k)))
       → (i : Item) → IsLeftItem rows h g i → InsidePlug vs i ⊎ InsideSegment i
   home vs plugs i left =
@@ -174,14 +179,14 @@ module _ (rows : List TypeRow) (h : HeapView) (g : ℕ) (least : g ≤ 2) (heap 
             let near = reached t i.place s.in_range part (omega arith) in
             let mark : has_mark (word_of h i.place) ≡ true =
             sym (ap (λ b. not b || has_mark (word_of h i.place)) near) ∙ left.left in
-            elim (cases_Bool (takes g (segment_at h t))) [
+            elim (cases_Bool (takes (Generations g) (segment_at h t))) [
               | inr off ↦
                   let e : outside_end h g t ≡ last_of h t =
-                  ap (λ b. if b then part_of h g t else last_of h t) off in
+                  ap (λ b. if b then part_of h (Generations g) t else last_of h t) off in
                   absurd (omega arith)
               | inl on ↦
-                  let e : outside_end h g t ≡ part_of h g t =
-                  ap (λ b. if b then part_of h g t else last_of h t) on in
+                  let e : outside_end h g t ≡ part_of h (Generations g) t =
+                  ap (λ b. if b then part_of h (Generations g) t else last_of h t) on in
                   let (k, p, high) = plugs i t left.listed left.object mark near
                   (record { in_range = s.in_range; takes = on; low = omega arith; high = omega arith }) in
                   inl (record { number = k; within = p.within; low = p.low; high = high })

@@ -18,7 +18,6 @@ pub mod CardsAfter
 pub mod Final
 pub mod RunHeads
 pub mod SavedTriples
-pub mod SmallLengths
 pub mod ClearCards
 pub mod Boundaries
 pub mod OldCards

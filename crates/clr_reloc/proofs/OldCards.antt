@@ -44,10 +44,11 @@ use Rattle.clr_reloc.proofs.ClearCards.{was_clear}
 use Rattle.clr_reloc.proofs.LeftHomes.{age_most, none_over, not_reached, reached}
 use Rattle.clr_reloc.proofs.Outer.{outside_high, outside_low}
 use Rattle.clr_reloc.proofs.Plugs.{moved_none}
+use Rattle.clr_moves.specs.declared.parts.Parts.TheVariants.{Generations}
 
 module _ (rows : List TypeRow) (view h : HeapView) (bricks : BricksView) (entries : List PinEntry) (g : ℕ)
     (vs : List Move) (planned : Planned) (least : g ≤ 2) (young : g < 2)
-    (plan : HoldsPlan rows view h bricks entries g vs planned.start1 planned.start0)
+    (plan : HoldsPlan rows view h bricks entries (Generations g) vs planned.start1 planned.start0)
     (old : g < 2 → HaveOldParts rows view g) where
   heap : IsHeap view
   heap = plan.overlaid.heap
@@ -63,8 +64,9 @@ module _ (rows : List TypeRow) (view h : HeapView) (bricks : BricksView) (entrie
   high_of_part t l = outside_high rows view g vs plan.overlaid.heap plan.held plan.no_contexts plan.overlaid.moves
       plan.overlaid.starts over t l
 
-  part_end : (t : ℕ) → takes g (segment_at view t) ≡ true → outside_end view g t ≡ part_of view g t
-  part_end t on = ap (λ b. if b then part_of view g t else last_of view t) on
+  part_end : (t : ℕ) → takes (Generations g) (segment_at view t) ≡ true
+      → outside_end view g t ≡ part_of view (Generations g) t
+  part_end t on = ap (λ b. if b then part_of view (Generations g) t else last_of view t) on
 
   -- ---- tables
 
@@ -90,9 +92,10 @@ module _ (rows : List TypeRow) (view h : HeapView) (bricks : BricksView) (entrie
 
   -- ---- entries
 
-  module _ (entry : ℕ → ℤ) (told : AreRemembered rows view bricks g entry planned.below planned.first) where
+  module _ (entry : ℕ → ℤ)
+      (told : AreRemembered rows view bricks (Generations g) entry planned.below planned.first) where
     same_part : (t u : ℕ) → t < length view.segments → u < length view.segments
-        → takes g (segment_at view t) ≡ true → takes g (segment_at view u) ≡ true
+        → takes (Generations g) (segment_at view t) ≡ true → takes (Generations g) (segment_at view u) ≡ true
         → segment_at view u ≡ segment_at view t
     same_part t u l m on_t on_u =
         ephemeral_at rows view h bricks entries g vs planned.start1 planned.start0 plan least young u m on_u
@@ -100,7 +103,7 @@ module _ (rows : List TypeRow) (view h : HeapView) (bricks : BricksView) (entrie
 
     entry_is : (t i : ℕ) → t < length view.segments → first_of view t / 4096 ≤ i → i ≤ (outside_end view g t - 1) / 4096
         → entry_before bricks planned.below planned.first (border_of view g t) i ≡ entry i
-    entry_is t i l low high = go (takes g (segment_at view t)) refl
+    entry_is t i l low high = go (takes (Generations g) (segment_at view t)) refl
       where
         top : outside_end view g t ≤ reserved_end (segment_at view t)
         top = high_of_part t l
@@ -108,7 +111,7 @@ module _ (rows : List TypeRow) (view h : HeapView) (bricks : BricksView) (entrie
         from : first_of view t ≤ outside_end view g t
         from = low_of_part t l
 
-        go : (b : Bool) → takes g (segment_at view t) ≡ b
+        go : (b : Bool) → takes (Generations g) (segment_at view t) ≡ b
             → entry_before bricks planned.below planned.first (border_of view g t) i ≡ entry i
         go true on =
             let hi_end = top in
@@ -122,7 +125,7 @@ module _ (rows : List TypeRow) (view h : HeapView) (bricks : BricksView) (entrie
             let below_is = told.below_is t eph l in
             elim (cases_eq i (border_of view g t)) [
               | inl e ↦
-                  let at : part_of view g t / 4096 ≡ i = omega arith in
+                  let at : part_of view (Generations g) t / 4096 ≡ i = omega arith in
                   ap (λ b. if b then planned.first else (if i + 1 == border_of view g t then planned.below
                   else entry_at bricks i)) (eq-eqb i (border_of view g t) e) ∙ first_is ∙ ap entry at
               | inr n ↦
@@ -130,7 +133,7 @@ module _ (rows : List TypeRow) (view h : HeapView) (bricks : BricksView) (entrie
                   else entry_at bricks i)) (ne_eqb i (border_of view g t) n)
                   ∙ elim (cases_eq (i + 1) (border_of view g t)) [
                     | inl e ↦
-                        let at : part_of view g t / 4096 - 1 ≡ i = omega arith in
+                        let at : part_of view (Generations g) t / 4096 - 1 ≡ i = omega arith in
                         ap (λ b. if b then planned.below else entry_at bricks i) (eq-eqb (i + 1) (border_of view g t) e)
                         ∙ below_is ∙ ap entry at
                     | inr m ↦
@@ -159,8 +162,8 @@ module _ (rows : List TypeRow) (view h : HeapView) (bricks : BricksView) (entrie
             let end_u = su.high in
             let start_u = (plan.overlaid.moves.starts u lu on_u).0 in
             elim (cases_order t u) [
-              | inl e ↦ absurd (both_ways (takes g (segment_at view t)) off
-                  (subst (λ n. takes g (segment_at view n) ≡ true) (sym e) on_u))
+              | inl e ↦ absurd (both_ways (takes (Generations g) (segment_at view t)) off
+                  (subst (λ n. takes (Generations g) (segment_at view n) ≡ true) (sym e) on_u))
               | inr (inl less) ↦ let o = segment_order view t u heap less lu in inl (omega arith)
               | inr (inr more) ↦ let o = segment_order view u t heap more l in inr (omega arith)
             ])
@@ -188,7 +191,7 @@ module _ (rows : List TypeRow) (view h : HeapView) (bricks : BricksView) (entrie
     closed : IsClosed rows view
     closed = record { heap = plan.overlaid.heap; held = plan.held; named = named }
 
-    plug_part : (k y : ℕ) → IsInPlug vs k y → (t : ℕ) × IsInPart view g t y
+    plug_part : (k y : ℕ) → IsInPlug vs k y → (t : ℕ) × IsInPart view (Generations g) t y
     plug_part k y p =
         let s = plan.overlaid.starts k p.within in
         let u = s.0 in
@@ -300,7 +303,7 @@ module _ (rows : List TypeRow) (view h : HeapView) (bricks : BricksView) (entrie
               )
         ]
 
-    pub can_scan : (entry : ℕ → ℤ) → AreRemembered rows view bricks g entry planned.below planned.first
+    pub can_scan : (entry : ℕ → ℤ) → AreRemembered rows view bricks (Generations g) entry planned.below planned.first
         → (covers : List (CoverView ℕ)) → AreCardsOf (frame view) covers → AreBricksOf (frame view) bricks
         → CanScan rows view covers bricks g vs (rebounded (frame view) planned) is_set planned.below planned.first
     can_scan entry told covers cards_of bricks_of = record {

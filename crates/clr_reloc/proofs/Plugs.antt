@@ -19,6 +19,7 @@ use Rattle.clr_moves.specs.Overlaid.{IsPlugWord}
 use Rattle.clr_reloc.specs.Outside.{AreCardedPlugs, HaveGonePlugs}
 use Rattle.clr_reloc.specs.Relocating.{AreCarded, GoesDown, HasGone, HaveCardsDown, IsAhead, Tracks}
 use Rattle.clr_reloc.proofs.Cells.{left_inside}
+use Rattle.clr_moves.specs.declared.parts.Parts.TheVariants.{Generations}
 
 -- a place in no plug stays
 pub moved_none : (vs : List Move) (x : ℕ) → ((k : ℕ) → IsInPlug vs k x → ⊥) → moved_by vs x ≡ x
@@ -199,7 +200,8 @@ few_plugs vs line each = elim (cases_lt (length vs) (2 ^ 64 - 1)) [
 
 -- ---- where plugs stand
 
-module _ (view : HeapView) (g : ℕ) (vs : List Move) (heap : IsHeap view) (moves : AreMoves view g vs) (k : ℕ)
+module _ (view : HeapView) (g : ℕ) (vs : List Move) (heap : IsHeap view) (moves : AreMoves view (Generations g) vs)
+    (k : ℕ)
     (l : k < length vs) where
   pub plug_high : plug_stop (move_at vs k) ≤ 2 ^ 62
   plug_high =

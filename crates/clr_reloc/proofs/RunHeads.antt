@@ -5,7 +5,8 @@ use Rattle.std.proofs.Common.{[], ◌∷◌, length, refl, ap, sym, ◌∙◌, s
 use Rattle.std.proofs.Common.{if◌then◌else◌}
 use Rattle.std.specs.Prelude.{is_some}
 use Rattle.std.proofs.lemmas.Bool.{and_parts, cases_Bool, cases_lt, cases_order, true≢false}
-use Rattle.clr_types.specs.Segments.{is_small_or_ephemeral}
+use Rattle.clr_types.specs.LawfulLayout.{AreBounded}
+use Rattle.clr_types.specs.Segments.{is_small_or_ephemeral, Layout}
 use Rattle.clr_types.specs.Types.{form_at, is_array, size_of, TypeRow}
 use Rattle.clr_types.specs.declared.item.Item.{Item}
 use Rattle.clr_types.specs.Rising.{IsIn}
@@ -15,13 +16,14 @@ use Rattle.clr_heap.specs.Parts.{Spells, type_number}
 use Rattle.clr_heap.specs.View.{heap_items, HeapView, IsHeap, items_between, last_of, segment_at, sight}
 use Rattle.clr_heap.specs.View.{word_of}
 use Rattle.clr_heap.proofs.Addresses.{index_is_segment}
-use Rattle.clr_heap.proofs.Framing.{lawful_at}
+use Rattle.clr_heap.proofs.Framing.{bounded_at, lawful_at}
 use Rattle.clr_heap.proofs.Spelling.{place-item_at}
 use Rattle.clr_heap.proofs.Staying.{segment_order}
 use Rattle.clr_heap.proofs.Storing.{memory_index-shapes}
 use Rattle.clr_model.specs.Compaction.{Move, moved_by}
 use Rattle.clr_model.specs.Sweep.{has_condemned_part}
 use Rattle.clr_model.proofs.MovedPlaces.{moved-is}
+use Rattle.clr_model.proofs.SmallLengths.{small_length}
 use Rattle.clr_view.specs.View.{IsHeld}
 use Rattle.clr_view.proofs.Items.{IsItem, items-are, stacked-apart}
 use Rattle.clr_view.proofs.Listed.{item-spelled, listed-spelled}
@@ -40,7 +42,7 @@ use Rattle.clr_reloc.proofs.Heads.{agrees, head_left}
 use Rattle.clr_reloc.proofs.ManyItems.{track_first, track_order}
 use Rattle.clr_reloc.proofs.PlugItems.{number_of, plug_track}
 use Rattle.clr_reloc.proofs.SavedTriples.{queue_three}
-use Rattle.clr_reloc.proofs.SmallLengths.{small_length}
+use Rattle.clr_moves.specs.declared.parts.Parts.TheVariants.{Generations}
 
 not_saved : (es : List PinEntry) (word : ℕ → ℕ) (b : ℕ) → (IsSome (queue_word es b) → ⊥) → logical es word b ≡ word b
 not_saved es word b none = go (queue_word es b) none
@@ -83,6 +85,12 @@ module _ (rows : List TypeRow) (view now h new : HeapView) (bricks : BricksView)
   held : IsHeld rows view
   held = r.begun.plan.held
 
+  -- what a lawful machine says of its segments
+  bounded : AreBounded view.segments
+  bounded =
+      let is = r.begun.plan.compaction in
+      subst (λ (layout : Layout). AreBounded layout.segments) is.memory.layout is.laid.layout.bounded
+
   n : ℕ
   n = run.number
 
@@ -97,7 +105,8 @@ module _ (rows : List TypeRow) (view now h new : HeapView) (bricks : BricksView)
 
   -- where some item is, the run's segment is that of its plug
   module _ (some : from + 24 ≤ last_of h t) where
-    home : IsInPart view g (r.begun.plan.overlaid.starts run.number run.within).0 (move_at vs run.number).start
+    home : IsInPart view (Generations g) (r.begun.plan.overlaid.starts run.number run.within).0
+        (move_at vs run.number).start
     home = (r.begun.plan.overlaid.starts run.number run.within).1
 
     at_home : (r.begun.plan.overlaid.starts run.number run.within).0 ≡ t
@@ -113,8 +122,9 @@ module _ (rows : List TypeRow) (view now h new : HeapView) (bricks : BricksView)
         ∙ sym (memory_index-shapes h.memories view.memories from r.shape.memories)
         ∙ run.run.index from (omega arith) (omega arith)
 
-    here : IsInPart view g t from
-    here = subst (λ x. IsInPart view g t x) run.start (subst (λ u. IsInPart view g u (move_at vs run.number).start)
+    here : IsInPart view (Generations g) t from
+    here = subst (λ x. IsInPart view (Generations g) t x) run.start
+        (subst (λ u. IsInPart view (Generations g) u (move_at vs run.number).start)
         at_home home)
 
     last_same : last_of h t ≡ last_of view t
@@ -415,7 +425,7 @@ module _ (rows : List TypeRow) (view now h new : HeapView) (bricks : BricksView)
         let lawful = lawful_at view t heap p.in_range in
         let kind = and_parts (is_small_or_ephemeral (segment_at view t).kind)
         (has_condemned_part g (segment_at view t)) p.takes in
-        let most = lawful.most kind.0 in
+        let most = bounded_at view t bounded p.in_range kind.0 in
         let room = lawful.high in
         let same = last_same in
         let spelled = (item-spelled (sight rows h t) (parts (last_of h t) (sight rows h t) from (last_of h t)) i from

@@ -29,6 +29,7 @@ use Rattle.clr_moves.specs.Moves.{AreMoves, IsInPart, move_at}
 use Rattle.clr_moves.specs.Overlaid.{HoldsPlan, IsOutside, MayGo}
 use Rattle.clr_reloc.specs.Relocating.{IsRelocating, IsUnderway}
 use Rattle.clr_reloc.proofs.Heads.{count_same, head_left, items_same, parts_left}
+use Rattle.clr_moves.specs.declared.parts.Parts.TheVariants.{Generations}
 
 -- ---- the shape
 
@@ -36,13 +37,13 @@ module _ (view : HeapView) (ms : List Memory) where
   abbrev W : HeapView
   W = record view { memories = ms }
 
-  in_part : (g t x : ℕ) → IsInPart view g t x → IsInPart W g t x
+  in_part : (g t x : ℕ) → IsInPart view (Generations g) t x → IsInPart W (Generations g) t x
   in_part g t x p = record { in_range = p.in_range; takes = p.takes; low = p.low; high = p.high }
 
-  in_part_back : (g t x : ℕ) → IsInPart W g t x → IsInPart view g t x
+  in_part_back : (g t x : ℕ) → IsInPart W (Generations g) t x → IsInPart view (Generations g) t x
   in_part_back g t x p = record { in_range = p.in_range; takes = p.takes; low = p.low; high = p.high }
 
-  moves_of_shape : (g : ℕ) (vs : List Move) → AreMoves view g vs → AreMoves W g vs
+  moves_of_shape : (g : ℕ) (vs : List Move) → AreMoves view (Generations g) vs → AreMoves W (Generations g) vs
   moves_of_shape g vs m = record {
     each = λ k l. let v = m.each k l in record {
       lower = v.lower;
@@ -67,6 +68,7 @@ module _ (view : HeapView) (ms : List Memory) where
   heap_of_shape e h = record {
     memories = e ∙ h.memories;
     segments = h.segments;
+    highest = h.highest;
     disjoint = h.disjoint;
     below_top = h.below_top;
     one_ephemeral = h.one_ephemeral;
@@ -79,29 +81,31 @@ module _ (view : HeapView) (ms : List Memory) where
   }
 
 module _ (view now : HeapView) (shape : SameShape view now) where
-  pub part_now : (g t x : ℕ) → IsInPart view g t x → IsInPart now g t x
-  part_now g t x p = subst (λ h. IsInPart h g t x) (sym shape.others) (in_part view now.memories g t x p)
+  pub part_now : (g t x : ℕ) → IsInPart view (Generations g) t x → IsInPart now (Generations g) t x
+  part_now g t x p = subst (λ h. IsInPart h (Generations g) t x) (sym shape.others) (in_part view now.memories g t x p)
 
-  pub part_before : (g t x : ℕ) → IsInPart now g t x → IsInPart view g t x
-  part_before g t x p = in_part_back view now.memories g t x (subst (λ h. IsInPart h g t x) shape.others p)
+  pub part_before : (g t x : ℕ) → IsInPart now (Generations g) t x → IsInPart view (Generations g) t x
+  part_before g t x p =
+      in_part_back view now.memories g t x (subst (λ h. IsInPart h (Generations g) t x) shape.others p)
 
-  pub may_go_now : (g : ℕ) (vs : List Move) (x : ℕ) → MayGo view g vs x → MayGo now g vs x
+  pub may_go_now : (g : ℕ) (vs : List Move) (x : ℕ) → MayGo view (Generations g) vs x → MayGo now (Generations g) vs x
   may_go_now g vs x may = elim may [
     | inl none ↦ inl (λ t p. none t (part_before g t x p))
     | inr plug ↦ inr plug
   ]
 
-  moves_now : (g : ℕ) (vs : List Move) → AreMoves view g vs → AreMoves now g vs
-  moves_now g vs m = subst (λ h. AreMoves h g vs) (sym shape.others) (moves_of_shape view now.memories g vs m)
+  moves_now : (g : ℕ) (vs : List Move) → AreMoves view (Generations g) vs → AreMoves now (Generations g) vs
+  moves_now g vs m =
+      subst (λ h. AreMoves h (Generations g) vs) (sym shape.others) (moves_of_shape view now.memories g vs m)
 
   pub heap_now : IsHeap view → IsHeap now
   heap_now h = subst IsHeap (sym shape.others) (heap_of_shape view now.memories shape.memories h)
 
-  outside_now : (g b : ℕ) → IsOutside now g b → IsOutside view g b
-  outside_now g b o = subst (λ h. IsOutside h g b) shape.others o
+  outside_now : (g b : ℕ) → IsOutside now (Generations g) b → IsOutside view (Generations g) b
+  outside_now g b o = subst (λ h. IsOutside h (Generations g) b) shape.others o
 
-  outside_before : (g b : ℕ) → IsOutside view g b → IsOutside now g b
-  outside_before g b o = subst (λ h. IsOutside h g b) (sym shape.others) o
+  outside_before : (g b : ℕ) → IsOutside view (Generations g) b → IsOutside now (Generations g) b
+  outside_before g b o = subst (λ h. IsOutside h (Generations g) b) (sym shape.others) o
 
 -- ---- the machine
 
@@ -232,7 +236,7 @@ shape_between view now h a b = record {
 -- THE PLAN is still held, of what is seen now
 pub plan_now : (rows : List TypeRow) (view now h : HeapView) (bricks : BricksView) (entries : List PinEntry) (g : ℕ)
     (vs : List Move) (start1 start0 : ℕ) → IsRelocating rows view now h bricks entries g vs start1 start0
-    → HoldsPlan rows now h bricks entries g vs start1 start0
+    → HoldsPlan rows now h bricks entries (Generations g) vs start1 start0
 plan_now rows view now h bricks entries g vs start1 start0 r =
     let plan = r.begun.plan in
     let over = plan.overlaid in

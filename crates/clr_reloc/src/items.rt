@@ -7,7 +7,7 @@ ghost use Rattle.clr_pinq.specs.Queue.{logical};
 
 use clr_heap::{Heap, Item};
 use clr_pinq::PinQueue;
-use clr_types::{TypeId, Types};
+use clr_types::{TypeId, Types, mark};
 
 // The item that starts at `place` in segment `k`, where `mt` is its method table word.
 #[tactic(auto, unfolding(clr_heap::specs::Parts::item_at))]
@@ -27,7 +27,7 @@ pub(crate) fn logical_item(
     requires room { place + 8 < 2 ^ 64 }
     ensures { result ≡ item_at types.now (logical pins.now.entries (word_of heap.now)) place }
 {
-    let type_id = types.of_mt(mt / 2 * 2);
+    let type_id = types.of_mt(mark::unmarked(mt));
     let len = logical_length(heap, types, pins, k, near, place, type_id);
     let size = types.item_size(type_id, len);
     Item {

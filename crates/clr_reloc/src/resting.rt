@@ -18,7 +18,7 @@ use clr_pinq::PinQueue;
 // Of `count` references side by side in segment `k`, how many of the first ones may stay as they are: those before the
 // first one that names what goes, or for which a word is saved, or whose card isn't set though it names an object of a
 // lower generation. The first one stands at `a` and goes to the address `to`, and their object is of generation `age`
-// then. It looks at one card of the new addresses at most. It only reads, so that its loop does no more than that.
+// then. It looks at one card of the new addresses at most.
 #[inline]
 pub(crate) fn resting_words(
     heap: &Heap,
@@ -47,13 +47,7 @@ pub(crate) fn resting_words(
     let low = lowest_met(heap, work, age, cards.is_set(to));
     let plain = pins.next_saved(near, a).saturating_sub(a) / 8;
     let most = count.min(plain).min((CARD - to % CARD) / 8);
-    for j in 0..most {
-        let target = heap.word_at(k, a + 8 * j);
-        if names_from(heap, target, low) {
-            return j;
-        }
-    }
-    most
+    heap.first_naming(k, a, most, low)
 }
 
 // The place from which on references to places of the ephemeral segment matter: where its part begins, and, unless the
@@ -94,14 +88,6 @@ fn lowest_young(planned: &Planned, age: u8) -> u64
         1 => planned.start0,
         _ => planned.start1,
     }
-}
-
-// Whether a word names a place of the ephemeral segment from `low` on.
-#[inline]
-fn names_from(heap: &Heap, target: u64, low: u64) -> bool
-    ensures { result ≡ (nat_le low target && stands_in (ephemeral (frame heap.now)) target) }
-{
-    low <= target && heap.is_ephemeral(target)
 }
 
 // How many bytes a card has.

@@ -20,6 +20,7 @@ use crate::relocation::Relocation;
 use clr_cards::Cards;
 use clr_heap::{Heap, Item};
 use clr_pinq::PinQueue;
+use clr_types::mark;
 
 // Relocates the references of what is left among the items from the place `from` up to `end`, which all go `down` bytes
 // down. The cards of the new addresses of those that name an object of a lower generation then are set. `segment` is a
@@ -160,5 +161,5 @@ fn is_left(heap: &Heap, g: u8, found: Item, mt: u64) -> bool
     ensures { result ≡ (is_object found
         && (not (nat_le (generation (frame heap.now) found.place) g) || has_mark mt)) }
 {
-    found.type_id.0 != 0 && (mt % 2 == 1 || heap.gen_of(found.place) > g)
+    found.type_id.0 != 0 && (mark::is_marked(mt) || heap.gen_of(found.place) > g)
 }

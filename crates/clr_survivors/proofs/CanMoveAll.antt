@@ -45,6 +45,7 @@ use Rattle.clr_survivors.specs.Survivors.{AreClosed, IsNullOrLeft, NameLeft, wor
 use Rattle.clr_survivors.proofs.LeftGoes.{left-goes, none-null}
 use Rattle.clr_survivors.proofs.OldParts.{memory_old_parts}
 use Rattle.clr_survivors.proofs.PinsTold.{frame-kept, marked-kept}
+use Rattle.clr_moves.specs.declared.parts.Parts.TheVariants.{Generations}
 
 -- one of the objects stands at the place
 abbrev StandsIn : List Object → ℕ → Type 0
@@ -92,7 +93,7 @@ module _ (rows : List TypeRow) (old new : HeapView) (cards : List (CoverView ℕ
       (marked-kept rows old p.view table (condemned_from old g) given.heap given.held true p.pins o i)
       ∙ ap (λ (h : HeapView). not (is_reached_by h g o.place) || is_marked old o) p.pins.shape.others
 
-  pub holds-plan : HoldsPlan rows p.view new bricks entries g p.plan.moves planned.start1 planned.start0
+  pub holds-plan : HoldsPlan rows p.view new bricks entries (Generations g) p.plan.moves planned.start1 planned.start0
   holds-plan = record {
     overlaid = p.plan.overlaid;
     told = p.plan.told;
@@ -108,26 +109,28 @@ module _ (rows : List TypeRow) (old new : HeapView) (cards : List (CoverView ℕ
 
   -- an object that is left may go
   pub object-goes : (o : Object) → IsIn o (objects_in rows old) → is_left old g o ≡ true
-      → MayGo p.view g p.plan.moves o.place
+      → MayGo p.view (Generations g) p.plan.moves o.place
   object-goes o i left =
       left-goes rows p.view g p.plan.moves m kept p.plan.after given.generation p.plan.compaction o
       (subst (λ (os : List Object). IsIn o os) (sym p.pins.objects) i) (left-view o i ∙ left)
 
-  pub name-goes : (x : ℕ) → IsLeft rows old g x → MayGo p.view g p.plan.moves x
+  pub name-goes : (x : ℕ) → IsLeft rows old g x → MayGo p.view (Generations g) p.plan.moves x
   name-goes x left =
-      subst (MayGo p.view g p.plan.moves) (sym (name-is-place rows old left.object left.present) ∙ left.named)
+      subst (MayGo p.view (Generations g) p.plan.moves)
+      (sym (name-is-place rows old left.object left.present) ∙ left.named)
       (object-goes left.object left.present left.left)
 
-  pub may-go : (x : ℕ) → IsNullOrLeft rows old g x → MayGo p.view g p.plan.moves x
+  pub may-go : (x : ℕ) → IsNullOrLeft rows old g x → MayGo p.view (Generations g) p.plan.moves x
   may-go x (inl null) =
       inl (λ t is. none-null rows p.view g p.plan.moves m kept p.plan.after given.generation p.plan.compaction t
-      (subst (λ (n : ℕ). IsInPart p.view g t n) null is))
+      (subst (λ (n : ℕ). IsInPart p.view (Generations g) t n) null is))
   may-go x (inr left) = name-goes x left
 
   pub null-stays : IsHeap new → moved_by p.plan.moves 0 ≡ 0
   null-stays heap =
-      sym (outside_stays rows new bricks g p.plan.moves heap p.plan.told 0
-      (none_at_zero rows p.view new bricks entries g p.plan.moves planned.start1 planned.start0 heap holds-plan 0 refl))
+      sym (outside_stays rows new bricks (Generations g) p.plan.moves heap p.plan.told 0
+      (none_at_zero rows p.view new bricks entries
+      (Generations g) p.plan.moves planned.start1 planned.start0 heap holds-plan 0 refl))
 
   -- what a pinned handle names stays
   pub pinned-target : IsHeap new → m.handles ≡ table → (k : ℕ) (row : Handle) → finmap.get table k ≡ Some row

@@ -7,6 +7,7 @@ use Rattle.std.specs.FinMap.{FinMap}
 use Rattle.std.specs.Option.{option_map}
 use Rattle.std.specs.Ordering.{nat_cmp}
 use Rattle.std.proofs.lemmas.Bool.{both_ways, cases_Bool, cases_order, cases_eq, eq-eqb, eqb-false, ne_eqb}
+use Rattle.clr_types.specs.Bits.{pinned_bit}
 use Rattle.clr_mem.specs.Words.{byte_of}
 use Rattle.clr_types.specs.Maps.{map_values}
 use Rattle.clr_types.specs.Rising.{IsIn}
@@ -56,6 +57,7 @@ use Rattle.clr_survivors.proofs.PartsAbove.{moves-above}
 use Rattle.clr_survivors.proofs.PaddingWords.{no-reference, none-starts}
 use Rattle.clr_survivors.proofs.CanMoveAll.{left-stands, left-view}
 use Rattle.clr_survivors.proofs.PinsTold.{none-pinned}
+use Rattle.clr_moves.specs.declared.parts.Parts.TheVariants.{Generations}
 
 -- ---- headers
 
@@ -63,23 +65,23 @@ use Rattle.clr_survivors.proofs.PinsTold.{none-pinned}
 pub pin-back : (w : ℕ) → has_pin w ≡ false → pinned_header false (pinned_header true w) ≡ w
 pin-back w off = ap (pinned_header false) up ∙ down
   where
-    up : pinned_header true w ≡ w + 0x20000000
-    up = ap (λ (b : Bool). if true && not b then w + 0x20000000 else if not true && b then w - 0x20000000 else w) off
+    up : pinned_header true w ≡ w + pinned_bit
+    up = ap (λ (b : Bool). if true && not b then w + pinned_bit else if not true && b then w - pinned_bit else w) off
 
-    set : has_pin (w + 0x20000000) ≡ true
+    set : has_pin (w + pinned_bit) ≡ true
     set =
-        let even = eqb-false (w / 0x20000000 % 2) 1 off in
-        eq-eqb ((w + 0x20000000) / 0x20000000 % 2) 1 (omega (arith, even))
+        let even = eqb-false (w / pinned_bit % 2) 1 off in
+        eq-eqb ((w + pinned_bit) / pinned_bit % 2) 1 (omega (arith, even))
 
-    down : pinned_header false (w + 0x20000000) ≡ w
+    down : pinned_header false (w + pinned_bit) ≡ w
     down =
-        ap (λ (b : Bool). if false && not b then w + 0x20000000 + 0x20000000
-        else if not false && b then w + 0x20000000 - 0x20000000 else w + 0x20000000) set
+        ap (λ (b : Bool). if false && not b then w + pinned_bit + pinned_bit
+        else if not false && b then w + pinned_bit - pinned_bit else w + pinned_bit) set
         ∙ omega arith
 
 pub pin-none : (w : ℕ) → has_pin w ≡ false → pinned_header false w ≡ w
 pin-none w off =
-    ap (λ (b : Bool). if false && not b then w + 0x20000000 else if not false && b then w - 0x20000000 else w) off
+    ap (λ (b : Bool). if false && not b then w + pinned_bit else if not false && b then w - pinned_bit else w) off
 
 -- a pinned handle's target has gone with it
 pinned-moved : (to : ℕ → ℕ) (table : FinMap nat_cmp Handle) (low place : ℕ) → 0 < to place → low ≤ to place
@@ -146,12 +148,14 @@ module _ (s : Stages) (m : Machine) (kept : ℕ → Bool) (c : IsCourse s m kept
 
   -- ---- outside of the parts
 
-  away-place : (x : ℕ) → is_in_parts c.begun.view s.g x ≡ false → moved_by c.begun.plan.moves x ≡ x
+  away-place : (x : ℕ) → is_in_parts c.begun.view (Generations s.g) x ≡ false → moved_by c.begun.plan.moves x ≡ x
   away-place x away =
-      sym (outside_stays s.rows s.ready s.bricks s.g c.begun.plan.moves c.run.ready_lawful c.begun.plan.told x
-      (λ t is. both_ways (is_in_parts c.begun.view s.g x) away
+      sym (outside_stays s.rows s.ready s.bricks
+      (Generations s.g) c.begun.plan.moves c.run.ready_lawful c.begun.plan.told x
+      (λ t is. both_ways (is_in_parts c.begun.view (Generations s.g) x) away
       (part-test s.rows c.begun.view s.g c.begun.plan.moves m kept c.begun.plan.after c.run.given.generation
-      c.begun.plan.compaction t x (in_part-same c.begun.view s.ready s.g t x c.begun.plan.overlaid.shape is))))
+      c.begun.plan.compaction t x
+      (in_part-same c.begun.view s.ready (Generations s.g) t x c.begun.plan.overlaid.shape is))))
 
   -- nothing from the first condemned place on goes below it
   low-kept : (x : ℕ) → s.low ≤ x → s.low ≤ moved_by c.begun.plan.moves x
@@ -162,8 +166,9 @@ module _ (s : Stages) (m : Machine) (kept : ℕ → Bool) (c : IsCourse s m kept
       (moves-above c.begun.view s.g c.begun.plan.moves c.begun.plan.overlaid.moves x
       (subst (λ (n : ℕ). n ≤ x) (sym view_low) high))
 
-  outside-cell : (j : Item) → IsIn j (heap_items s.rows c.begun.view) → is_in_parts c.begun.view s.g j.place ≡ false
-      → (b : ℕ) → j.place ≤ b + 8 → b + 8 < j.place + j.size → IsOutside c.begun.view s.g b
+  outside-cell : (j : Item) → IsIn j (heap_items s.rows c.begun.view)
+      → is_in_parts c.begun.view (Generations s.g) j.place ≡ false
+      → (b : ℕ) → j.place ≤ b + 8 → b + 8 < j.place + j.size → IsOutside c.begun.view (Generations s.g) b
   outside-cell j listed away b low high t within on =
       let view = c.begun.view in
       let view_heap = c.begun.plan.overlaid.heap in
@@ -174,15 +179,16 @@ module _ (s : Stages) (m : Machine) (kept : ℕ → Bool) (c : IsCourse s m kept
       let size = h.least in
       elim (cases_order h.segment t) [
         | inl same ↦
-            let takes_part : takes s.g (segment_at view h.segment) ≡ true =
-            ap (λ (n : ℕ). takes s.g (segment_at view n)) same ∙ on in
-            let part = ap (λ (n : ℕ). part_of view s.g n) same in
+            let takes_part : takes (Generations s.g) (segment_at view h.segment) ≡ true =
+            ap (λ (n : ℕ). takes (Generations s.g) (segment_at view n)) same ∙ on in
+            let part = ap (λ (n : ℕ). part_of view (Generations s.g) n) same in
             let start = ap (λ (n : ℕ). first_of view n) same in
             elim (part_whole s.rows view m view_heap c.begun.pins.held
-            (seen-laid s.rows view s.g c.begun.plan.moves m kept c.begun.plan.after c.begun.plan.compaction) s.g
+            (seen-laid s.rows view
+            (Generations s.g) c.begun.plan.moves m kept c.begun.plan.after c.begun.plan.compaction) s.g
             c.run.given.generation kept h.segment h.in_range j h.listed) [
               | inl from ↦
-                  absurd (both_ways (is_in_parts view s.g j.place) away
+                  absurd (both_ways (is_in_parts view (Generations s.g) j.place) away
                   (into_parts view s.g h.segment j.place
                   (record {
                     in_range = h.in_range;
@@ -222,7 +228,8 @@ module _ (s : Stages) (m : Machine) (kept : ℕ → Bool) (c : IsCourse s m kept
     aligned-new : i.place % 8 ≡ 0
     aligned-new = (listed-item s.rows new i heap held listed).aligned
 
-    marked-mid : is_in_parts c.begun.view s.g j.place ≡ true → has_mark (word_of c.went.mid j.place) ≡ true
+    marked-mid : is_in_parts c.begun.view (Generations s.g) j.place ≡ true
+        → has_mark (word_of c.went.mid j.place) ≡ true
     marked-mid inside =
         let view = c.begun.view in
         let mark : is_marked view g.object ≡ true =
@@ -230,7 +237,7 @@ module _ (s : Stages) (m : Machine) (kept : ℕ → Bool) (c : IsCourse s m kept
         c.begun.plan.compaction g.object
         (left-view s.rows s.old s.ready s.cards s.before s.bricks s.locals s.table s.queues s.g s.entries s.planned
         c.run.given m kept c.begun g.object g.present ∙ g.left)
-        (ap (is_in_parts view s.g) g.from ∙ inside) in
+        (ap (is_in_parts view (Generations s.g)) g.from ∙ inside) in
         ap has_mark ((c.went.relocated.heads j in-view-items).1 ∙ ap (word_of view) (sym g.from)) ∙ mark
 
     lower-place : moved_by c.begun.plan.moves j.place ≤ j.place
@@ -242,11 +249,11 @@ module _ (s : Stages) (m : Machine) (kept : ℕ → Bool) (c : IsCourse s m kept
     -- words of the cell, but for the mark, stand where it goes
     moved-word : (t : ℕ) → t % 8 ≡ 0 → t < j.size → t ≢ 8
         → word_of s.moved (i.place - 8 + t) ≡ word_of c.went.mid (j.place - 8 + t)
-    moved-word t z l ne = elim (cases_Bool (is_in_parts c.begun.view s.g j.place)) [
+    moved-word t z l ne = elim (cases_Bool (is_in_parts c.begun.view (Generations s.g) j.place)) [
       | inl inside ↦
           let vs = c.begun.plan.moves in
-          let mid_inside : is_in_parts c.went.mid s.g j.place ≡ true =
-          ap (λ (h : HeapView). is_in_parts h s.g j.place) c.went.relocated.others ∙ inside in
+          let mid_inside : is_in_parts c.went.mid (Generations s.g) j.place ≡ true =
+          ap (λ (h : HeapView). is_in_parts h (Generations s.g) j.place) c.went.relocated.others ∙ inside in
           let marked = marked-mid inside in
           let at = g.place in
           elim (cases_eq t 0) [
@@ -279,7 +286,7 @@ module _ (s : Stages) (m : Machine) (kept : ℕ → Bool) (c : IsCourse s m kept
           let za = aligned-old in
           ap (word_of s.moved) same
           ∙ c.went.compacted.outside (j.place - 8 + t) (omega (arith, up, za, z))
-          (subst (λ (h : HeapView). IsOutside h s.g (j.place - 8 + t)) (sym c.went.relocated.others)
+          (subst (λ (h : HeapView). IsOutside h (Generations s.g) (j.place - 8 + t)) (sym c.went.relocated.others)
           (outside-cell j in-view-items away (j.place - 8 + t) (omega (arith, up)) (omega (arith, up, l))))
     ]
 

@@ -8,7 +8,7 @@ use Rattle.clr_types.specs.Segments.{Layout}
 use Rattle.clr_types.specs.declared.segment.SegKind.TheVariants.{Large}
 use Rattle.clr_heap.specs.View.{HeapView}
 use Rattle.clr_model.specs.Machine.{Machine}
-use Rattle.clr_model.specs.Sweep.{survivors, swept_kind}
+use Rattle.clr_model.specs.Sweep.{survivors, swept_others}
 use Rattle.clr_view.specs.Marks.{Marked}
 use Rattle.clr_view.specs.View.{layout_in, objects_in}
 use Rattle.clr_sweep.specs.SweptLarge.{HasSweptLarge}
@@ -47,14 +47,14 @@ module _ (s : Stages) (m : Machine) (kept : ℕ → Bool) (c : IsCourse s m kept
       (λ full swept. unmarked-full s m kept c full e.bare e.pins new swept x marked)
 
   pub layout-ended : layout_in s.rows new
-      ≡ (if s.g == 2 then swept_kind Large c.begun.plan.after 2 (survivors m s.g kept) else c.begun.plan.after)
+      ≡ (if s.g == 2 then swept_others c.begun.plan.after 2 (survivors m s.g kept) else c.begun.plan.after)
   layout-ended = go (s.g == 2) refl e.swept
     where
       go : (b : Bool) → (s.g == 2) ≡ b → MatchBool b (HasSweptLarge s.rows e.bare new) (new ≡ e.bare)
           → layout_in s.rows new
-          ≡ (if b then swept_kind Large c.begun.plan.after 2 (survivors m s.g kept) else c.begun.plan.after)
+          ≡ (if b then swept_others c.begun.plan.after 2 (survivors m s.g kept) else c.begun.plan.after)
       go true is swept =
           swept.layout (survivors m s.g kept) (tells-large s m kept c (eqb-true s.g 2 is) e.bare e.pins)
-          ∙ ap (λ (l : Layout). swept_kind Large l 2 (survivors m s.g kept))
+          ∙ ap (λ (l : Layout). swept_others l 2 (survivors m s.g kept))
           (e.pins.layout ∙ layout-moved s m kept c)
       go false is same = ap (layout_in s.rows) same ∙ e.pins.layout ∙ layout-moved s m kept c

@@ -19,7 +19,7 @@ use Rattle.clr_generations.proofs.SameBounds.{HasSameBounds}
 use Rattle.clr_heap.specs.View.{frame, HeapView}
 use Rattle.clr_model.specs.Compaction.{compacted_end}
 use Rattle.clr_model.specs.Machine.{Machine, Object}
-use Rattle.clr_model.specs.Sweep.{has_condemned_part, segments_after, survivors, swept_end, swept_kind}
+use Rattle.clr_model.specs.Sweep.{has_condemned_part, segments_after, survivors, swept_end, swept_others}
 use Rattle.clr_view.specs.Memory.{is_left}
 use Rattle.clr_view.specs.View.{layout_in, objects_in}
 use Rattle.clr_moves.specs.Objects.{moved_object, relocated_object}
@@ -33,6 +33,7 @@ use Rattle.clr_survivors.proofs.Course.{IsCourse, segments-moved, Stages}
 use Rattle.clr_survivors.proofs.Ended.{by-kind, layout-ended, objects-ended}
 use Rattle.clr_survivors.proofs.LargeTold.{tells-large}
 use Rattle.clr_survivors.proofs.MovedList.{filter-alike}
+use Rattle.clr_types.specs.Segments.{is_large_or_pinned}
 
 -- ---- segments
 
@@ -89,7 +90,7 @@ module _ (s : Stages) (m : Machine) (kept : ℕ → Bool) (c : IsCourse s m kept
       (λ young is. ap (λ (h : HeapView). map f h.segments) is ∙ bare)
       (λ full swept. ap (λ (l : Layout). map f l.segments)
       (swept.layout (survivors m s.g kept) (tells-large s m kept c full e.bare e.pins))
-      ∙ same-but-ends f same (same_kind Large) 2 (swept_end (layout_in s.rows e.bare) 2 (survivors m s.g kept))
+      ∙ same-but-ends f same (is_large_or_pinned) 2 (swept_end (layout_in s.rows e.bare) 2 (survivors m s.g kept))
       e.bare.segments
       ∙ bare)
 
@@ -98,7 +99,7 @@ module _ (s : Stages) (m : Machine) (kept : ℕ → Bool) (c : IsCourse s m kept
       ap (λ (l : Layout). l.start1) (layout-ended s m kept c new e) ∙ go (s.g == 2) ∙ c.begun.plan.start1_is
     where
       go : (b : Bool)
-          → (if b then swept_kind Large c.begun.plan.after 2 (survivors m s.g kept) else c.begun.plan.after).start1
+          → (if b then swept_others c.begun.plan.after 2 (survivors m s.g kept) else c.begun.plan.after).start1
           ≡ c.begun.plan.after.start1
       go true = refl
       go false = refl
@@ -108,7 +109,7 @@ module _ (s : Stages) (m : Machine) (kept : ℕ → Bool) (c : IsCourse s m kept
       ap (λ (l : Layout). l.start0) (layout-ended s m kept c new e) ∙ go (s.g == 2) ∙ c.begun.plan.start0_is
     where
       go : (b : Bool)
-          → (if b then swept_kind Large c.begun.plan.after 2 (survivors m s.g kept) else c.begun.plan.after).start0
+          → (if b then swept_others c.begun.plan.after 2 (survivors m s.g kept) else c.begun.plan.after).start0
           ≡ c.begun.plan.after.start0
       go true = refl
       go false = refl

@@ -35,6 +35,7 @@ use Rattle.clr_survivors.proofs.ItemsOf.{place-high}
 use Rattle.clr_survivors.proofs.PinsTold.{marked-kept}
 use Rattle.clr_survivors.proofs.RelocatedPlan.{turned, turned-mark, turned-place}
 use Rattle.clr_survivors.proofs.Standings.{full-home, large-outside, segment-of}
+use Rattle.clr_moves.specs.declared.parts.Parts.TheVariants.{Generations}
 
 -- ---- lists
 
@@ -116,17 +117,19 @@ module _ (key : Object → ℕ) (t : Object → Bool) where
 -- ---- a full collection
 
 module _ (s : Stages) (m : Machine) (kept : ℕ → Bool) (c : IsCourse s m kept) (full : s.g ≡ 2) where
-  whole-start : (t : ℕ) → part_of c.begun.view s.g t ≡ first_of c.begun.view t
+  whole-start : (t : ℕ) → part_of c.begun.view (Generations s.g) t ≡ first_of c.begun.view t
   whole-start t =
-      ap (λ (g : ℕ). part_of c.begun.view g t) full ∙ go (same_kind Ephemeral (segment_at c.begun.view t).kind)
+      ap (λ (g : ℕ). part_of c.begun.view (Generations g) t) full
+      ∙ go (same_kind Ephemeral (segment_at c.begun.view t).kind)
     where
       go : (b : Bool) → {x : ℕ} → (if b then x else x) ≡ x
       go true = refl
       go false = refl
 
   -- an object that stands in no part stands outside of all of them
-  outside-word : (o : Object) → IsIn o (objects_in s.rows c.begun.view) → is_in_parts c.begun.view s.g o.place ≡ false
-      → IsOutside c.begun.view s.g o.place
+  outside-word : (o : Object) → IsIn o (objects_in s.rows c.begun.view)
+      → is_in_parts c.begun.view (Generations s.g) o.place ≡ false
+      → IsOutside c.begun.view (Generations s.g) o.place
   outside-word o i away t within takes_part =
       let heap = c.begun.plan.overlaid.heap in
       let h = segment-of s.rows c.begun.view heap c.begun.pins.held o i in
@@ -135,16 +138,16 @@ module _ (s : Stages) (m : Machine) (kept : ℕ → Bool) (c : IsCourse s m kept
       let top = h.room in
       elim (cases_order h.segment t) [
         | inl same ↦
-            let into : is_in_parts c.begun.view s.g o.place ≡ true =
+            let into : is_in_parts c.begun.view (Generations s.g) o.place ≡ true =
             let start = whole-start h.segment in
             into_parts c.begun.view s.g h.segment o.place
             (record {
               in_range = h.in_range;
-              takes = ap (λ (n : ℕ). takes s.g (segment_at c.begun.view n)) same ∙ takes_part;
+              takes = ap (λ (n : ℕ). takes (Generations s.g) (segment_at c.begun.view n)) same ∙ takes_part;
               low = omega (arith, start, low);
               high = high;
             }) low in
-            absurd (both_ways (is_in_parts c.begun.view s.g o.place) away into)
+            absurd (both_ways (is_in_parts c.begun.view (Generations s.g) o.place) away into)
         | inr (inl lower) ↦
             let order = segment_order c.begun.view h.segment t heap lower within in inl (omega (arith, order, top))
         | inr (inr upper) ↦
@@ -153,17 +156,19 @@ module _ (s : Stages) (m : Machine) (kept : ℕ → Bool) (c : IsCourse s m kept
       ]
 
   -- and stays where it is
-  pub unmoved-place : (x : ℕ) → is_in_parts c.begun.view s.g x ≡ false → moved_by c.begun.plan.moves x ≡ x
+  pub unmoved-place : (x : ℕ) → is_in_parts c.begun.view (Generations s.g) x ≡ false → moved_by c.begun.plan.moves x ≡ x
   unmoved-place x away =
-      sym (outside_stays s.rows s.ready s.bricks s.g c.begun.plan.moves c.run.ready_lawful c.begun.plan.told x
-      (λ t is. both_ways (is_in_parts c.begun.view s.g x) away
+      sym (outside_stays s.rows s.ready s.bricks
+      (Generations s.g) c.begun.plan.moves c.run.ready_lawful c.begun.plan.told x
+      (λ t is. both_ways (is_in_parts c.begun.view (Generations s.g) x) away
       (part-test s.rows c.begun.view s.g c.begun.plan.moves m kept c.begun.plan.after c.run.given.generation
-      c.begun.plan.compaction t x (in_part-same c.begun.view s.ready s.g t x c.begun.plan.overlaid.shape is))))
+      c.begun.plan.compaction t x
+      (in_part-same c.begun.view s.ready (Generations s.g) t x c.begun.plan.overlaid.shape is))))
 
   -- a marked object of a part goes to a part
   pub lands-inside : (o : Object) → IsIn o (objects_in s.rows c.begun.view) → is_marked c.begun.view o ≡ true
-      → is_in_parts c.begun.view s.g o.place ≡ true
-      → is_in_parts c.begun.view s.g (moved_by c.begun.plan.moves o.place) ≡ true
+      → is_in_parts c.begun.view (Generations s.g) o.place ≡ true
+      → is_in_parts c.begun.view (Generations s.g) (moved_by c.begun.plan.moves o.place) ≡ true
   lands-inside o i mark inside =
       let vs = c.begun.plan.moves in
       let view = c.begun.view in
@@ -212,8 +217,9 @@ module _ (s : Stages) (m : Machine) (kept : ℕ → Bool) (c : IsCourse s m kept
         c.run.given.held true c.begun.pins o i
 
     -- in a large segment an object keeps its mark
-    pub mark-kept : (o : Object) → IsIn o (objects_in s.rows s.old) → is_in_parts c.begun.view s.g o.place ≡ false
-        → is_spared c.begun.view s.g o ≡ true → is_marked bare (placed s m kept c o) ≡ is_marked s.old o
+    pub mark-kept : (o : Object) → IsIn o (objects_in s.rows s.old)
+        → is_in_parts c.begun.view (Generations s.g) o.place ≡ false
+        → is_spared c.begun.view (Generations s.g) o ≡ true → is_marked bare (placed s m kept c o) ≡ is_marked s.old o
     mark-kept o i away spared =
         let vs = c.begun.plan.moves in
         let r = c.went.relocated in
@@ -222,8 +228,8 @@ module _ (s : Stages) (m : Machine) (kept : ℕ → Bool) (c : IsCourse s m kept
         ap (moved_by vs) (turned-place s.rows c.begun.view c.went.mid s.g vs r o) ∙ unmoved-place o.place away in
         let there = now-in-view s m kept c o i in
         let aligned = (place-high s.rows s.old c.run.given.heap c.run.given.held o i).1 in
-        let outside : IsOutside c.went.mid s.g o.place =
-        subst (λ (h : HeapView). IsOutside h s.g o.place) (sym r.others) (outside-word o there away) in
+        let outside : IsOutside c.went.mid (Generations s.g) o.place =
+        subst (λ (h : HeapView). IsOutside h (Generations s.g) o.place) (sym r.others) (outside-word o there away) in
         marked-kept s.rows s.moved bare s.table_after s.low c.run.moved_lawful c.went.compacted.held false pins
         (placed s m kept c o) (in-moved s m kept c o i spared)
         ∙ ap (λ x. has_mark (word_of s.moved x)) at
@@ -232,8 +238,9 @@ module _ (s : Stages) (m : Machine) (kept : ℕ → Bool) (c : IsCourse s m kept
         ∙ turned-mark s.rows c.begun.view c.went.mid s.g vs r o there
         ∙ mark-view o i
 
-    pub out-of-large : (o : Object) → is_large_place s.old o.place ≡ true → is_in_parts c.begun.view s.g o.place ≡ false
-    out-of-large o large = elim (cases_Bool (is_in_parts c.begun.view s.g o.place)) [
+    pub out-of-large : (o : Object) → is_large_place s.old o.place ≡ true
+        → is_in_parts c.begun.view (Generations s.g) o.place ≡ false
+    out-of-large o large = elim (cases_Bool (is_in_parts c.begun.view (Generations s.g) o.place)) [
       | inl inside ↦
           absurd (both_ways (is_large_place c.begun.view o.place)
           (large-outside s.rows c.begun.view m c.begun.plan.compaction.memory c.begun.plan.compaction.laid s.g o.place
@@ -242,19 +249,19 @@ module _ (s : Stages) (m : Machine) (kept : ℕ → Bool) (c : IsCourse s m kept
     ]
 
     pub in-part : (o : Object) → IsIn o (objects_in s.rows s.old) → is_large_place s.old o.place ≡ false
-        → is_in_parts c.begun.view s.g o.place ≡ true
+        → is_in_parts c.begun.view (Generations s.g) o.place ≡ true
     in-part o i off =
-        subst (λ g. is_in_parts c.begun.view g o.place ≡ true) (sym full)
+        subst (λ g. is_in_parts c.begun.view (Generations g) o.place ≡ true) (sym full)
         (full-home s.rows c.begun.view c.begun.plan.overlaid.heap c.begun.pins.held o (now-in-view s m kept c o i)
         (large-view o.place ∙ off))
 
     -- what is spared and stays in the sweep is what is left
     stays-left : (o : Object) → IsIn o (objects_in s.rows s.old)
-        → (is_spared c.begun.view s.g o && stays (placed s m kept c o)) ≡ is_left s.old s.g o
+        → (is_spared c.begun.view (Generations s.g) o && stays (placed s m kept c o)) ≡ is_left s.old s.g o
     stays-left o i = elim (cases_Bool (is_large_place s.old o.place)) [
       | inl large ↦
           let away = out-of-large o large in
-          let spared : is_spared c.begun.view s.g o ≡ true =
+          let spared : is_spared c.begun.view (Generations s.g) o ≡ true =
           ap (λ (b : Bool). is_marked c.begun.view o || not b) away ∙ or-last (is_marked c.begun.view o) in
           let at : is_large_place bare (placed s m kept c o).place ≡ true =
           ap (is_large_place bare)
@@ -266,7 +273,7 @@ module _ (s : Stages) (m : Machine) (kept : ℕ → Bool) (c : IsCourse s m kept
           ∙ mark-kept o i away spared ∙ sym (left-marked o)
       | inr off ↦
           let inside = in-part o i off in
-          let spared : is_spared c.begun.view s.g o ≡ is_marked s.old o =
+          let spared : is_spared c.begun.view (Generations s.g) o ≡ is_marked s.old o =
           ap (λ (b : Bool). is_marked c.begun.view o || not b) inside ∙ or-false (is_marked c.begun.view o)
           ∙ mark-view o i in
           ap (λ (b : Bool). b && stays (placed s m kept c o)) spared
@@ -298,14 +305,16 @@ module _ (s : Stages) (m : Machine) (kept : ℕ → Bool) (c : IsCourse s m kept
     pub objects-full : (new : HeapView) → HasSweptLarge s.rows bare new → objects_in s.rows new
         ≡ sorted_by (λ o. o.name) (left_objects s.rows s.old s.g c.begun.plan.moves)
     objects-full new swept =
-        let spared = filter (is_spared c.begun.view s.g) (objects_in s.rows s.old) in
+        let spared = filter (is_spared c.begun.view (Generations s.g)) (objects_in s.rows s.old) in
         swept.objects
         ∙ ap (filter stays) (pins.objects ∙ moved-list s m kept c)
         ∙ filter-sorted (λ o. o.name) stays (map (placed s m kept c) spared)
         ∙ ap (sorted_by (λ (o : Object). o.name)) (filter-map (placed s m kept c) stays spared)
         ∙ ap (λ (os : List Object). sorted_by (λ o. o.name) (map (placed s m kept c) os))
-        (filter-both (λ o. stays (placed s m kept c o)) (is_spared c.begun.view s.g) (objects_in s.rows s.old)
-        ∙ filter-alike (λ o. is_spared c.begun.view s.g o && stays (placed s m kept c o)) (is_left s.old s.g)
+        (filter-both (λ o. stays (placed s m kept c o)) (is_spared c.begun.view (Generations s.g))
+        (objects_in s.rows s.old)
+        ∙ filter-alike (λ o. is_spared c.begun.view (Generations s.g) o && stays (placed s m kept c o))
+        (is_left s.old s.g)
         (objects_in s.rows s.old) stays-left)
         ∙ ap (sorted_by (λ (o : Object). o.name)) (placed-list s m kept c)
 
@@ -314,6 +323,6 @@ module _ (s : Stages) (m : Machine) (kept : ℕ → Bool) (c : IsCourse s m kept
         let (had, off) = swept.marks x marked in
         let (was, away) = was-marked s m kept c x ((pins.marks x).0 had) in
         let (o, i, at) = was.stands in
-        both_ways (is_in_parts c.begun.view s.g x) away
-        (ap (is_in_parts c.begun.view s.g) (sym at)
+        both_ways (is_in_parts c.begun.view (Generations s.g) x) away
+        (ap (is_in_parts c.begun.view (Generations s.g)) (sym at)
         ∙ in-part o i (ap (is_large_place s.old) at ∙ sym (large-bare x) ∙ off))

@@ -2,6 +2,7 @@
 use Rattle.std.proofs.Common.{◌≡◌, ◌↔◌, ℕ, ◌+◌, ◌-◌, ◌/◌, ◌%◌, inl, Bool, true, false, not, ◌&&◌, List}
 use Rattle.std.proofs.Common.{if◌then◌else◌, ◌==◌, refl, ap, ◌∙◌, arith, [], ◌∷◌}
 use Rattle.std.proofs.lemmas.Bool.{eqb-false, eqb-true}
+use Rattle.clr_types.specs.Bits.{pinned_bit, suppressed_bit}
 use Rattle.clr_types.specs.Rising.{changed_by, IsIn}
 use Rattle.clr_types.specs.Types.{form_at, TypeRow}
 use Rattle.clr_types.specs.declared.item.Item.{Item}
@@ -22,19 +23,19 @@ use Rattle.clr_survivors.specs.Pins.{pinned_header}
 pub flag-kept : (on : Bool) (header : ℕ) → has_suppressed_bit (pinned_header on header) ≡ has_suppressed_bit header
 flag-kept on header = go on (has_pin header) refl
   where
-    bit : (a b : ℕ) → a / 0x40000000 % 2 ≡ b / 0x40000000 % 2 → has_suppressed_bit a ≡ has_suppressed_bit b
+    bit : (a b : ℕ) → a / suppressed_bit % 2 ≡ b / suppressed_bit % 2 → has_suppressed_bit a ≡ has_suppressed_bit b
     bit a b same = ap (λ n. n == 1) same
 
     go : (on has : Bool) → has_pin header ≡ has
-        → has_suppressed_bit (if on && not has then header + 0x20000000
-        else if not on && has then header - 0x20000000 else header) ≡ has_suppressed_bit header
+        → has_suppressed_bit (if on && not has then header + pinned_bit
+        else if not on && has then header - pinned_bit else header) ≡ has_suppressed_bit header
     go true true is = refl
     go true false is =
-        let no = eqb-false (header / 0x20000000 % 2) 1 is in
-        bit (header + 0x20000000) header (omega arith)
+        let no = eqb-false (header / pinned_bit % 2) 1 is in
+        bit (header + pinned_bit) header (omega arith)
     go false true is =
-        let yes = eqb-true (header / 0x20000000 % 2) 1 is in
-        bit (header - 0x20000000) header (omega arith)
+        let yes = eqb-true (header / pinned_bit % 2) 1 is in
+        bit (header - pinned_bit) header (omega arith)
     go false false is = refl
 
 -- nothing changes where each member stays

@@ -8,7 +8,7 @@ use Rattle.clr_types.specs.Segments.{generation, is_small_or_ephemeral, Layout, 
 use Rattle.clr_types.specs.Types.{TypeRow}
 use Rattle.clr_types.specs.declared.segment.SegInfo.{SegInfo}
 use Rattle.clr_types.specs.declared.segment.SegKind.{SegKind}
-use Rattle.clr_types.specs.declared.segment.SegKind.TheVariants.{Ephemeral, Large, Small}
+use Rattle.clr_types.specs.declared.segment.SegKind.TheVariants.{Ephemeral, Large, Small, Pinned}
 use Rattle.clr_types.proofs.ChangedLists.{all_members, IsSortedBy, out_of_filter, sorted_by-done}
 use Rattle.clr_types.proofs.ListMembers.{any-from, filter-map, filter-rises, from-map, map-map, map-on}
 use Rattle.clr_types.proofs.RisingLists.{all_at}
@@ -36,6 +36,8 @@ use Rattle.clr_survivors.proofs.FullObjects.{mark-kept, mark-view, out-of-large,
 use Rattle.clr_survivors.proofs.MovedList.{filter-alike, moved-list, now-in-view, placed}
 use Rattle.clr_survivors.proofs.RelocatedPlan.{turned-place}
 use Rattle.clr_survivors.proofs.Standings.{large-outside}
+use Rattle.clr_types.specs.Segments.{is_large_or_pinned}
+use Rattle.clr_moves.specs.declared.parts.Parts.TheVariants.{Generations}
 
 -- ---- lists
 
@@ -55,22 +57,23 @@ map-rising f key (x ∷ xs) rise keeps = (
 
 -- a large segment of the compacted ones is one of those before
 large-was : (g : ℕ) (ends : SegInfo → ℕ) (ss : List SegInfo) (t : SegInfo)
-    → IsIn t (segments_after is_small_or_ephemeral g ends ss) → same_kind Large t.kind ≡ true → IsIn t ss
+    → IsIn t (segments_after is_small_or_ephemeral g ends ss) → is_large_or_pinned t.kind ≡ true → IsIn t ss
 large-was g ends ss t i large =
     let change : SegInfo → SegInfo =
     λ u. if is_small_or_ephemeral u.kind && has_condemned_part g u then record u { end = ends u } else u in
     let (u, is, there) = from-map change t ss i in
     go u (is_small_or_ephemeral u.kind) refl (has_condemned_part g u) is there
   where
-    clash : (k : SegKind) → is_small_or_ephemeral k ≡ true → same_kind Large k ≡ true → ⊥
+    clash : (k : SegKind) → is_small_or_ephemeral k ≡ true → is_large_or_pinned k ≡ true → ⊥
     clash Small e f = absurd cc
     clash Ephemeral e f = absurd cc
     clash Large e f = absurd cc
+    clash Pinned e f = absurd cc
 
     go : (u : SegInfo) (a : Bool) → is_small_or_ephemeral u.kind ≡ a → (b : Bool)
         → t ≡ (if a && b then record u { end = ends u } else u) → IsIn u ss → IsIn t ss
     go u true small true is there =
-        absurd (clash u.kind small (ap (λ (v : SegInfo). same_kind Large v.kind) (sym is) ∙ large))
+        absurd (clash u.kind small (ap (λ (v : SegInfo). is_large_or_pinned v.kind) (sym is) ∙ large))
     go u true small false is there = subst (λ v. IsIn v ss) (sym is) there
     go u false small b is there = subst (λ v. IsIn v ss) (sym is) there
 
@@ -142,7 +145,7 @@ module _ (s : Stages) (m : Machine) (kept : ℕ → Bool) (c : IsCourse s m kept
         (λ o i. ap (λ (b : Bool). is_marked s.old o && b) (base-stands t there o i)))
 
     module _ (bare : HeapView) (pins : HasPins s.rows s.moved bare s.table_after s.low 65536 false)
-        (large : same_kind Large t.kind ≡ true) where
+        (large : is_large_or_pinned t.kind ≡ true) where
       abbrev put : Object → Object
       put = placed s m kept c
 
@@ -156,8 +159,8 @@ module _ (s : Stages) (m : Machine) (kept : ℕ → Bool) (c : IsCourse s m kept
 
       in-large : (x : ℕ) → stands_in t x ≡ true → is_large_place s.old x ≡ true
       in-large x stands =
-          any-from (λ (u : SegInfo). same_kind Large u.kind && stands_in u x) s.old.segments t there
-          (and_from (same_kind Large t.kind) (stands_in t x) large stands)
+          any-from (λ (u : SegInfo). is_large_or_pinned u.kind && stands_in u x) s.old.segments t there
+          (and_from (is_large_or_pinned t.kind) (stands_in t x) large stands)
 
       off-large : (x : ℕ) → is_large_place s.old x ≡ false → stands_in t x ≡ false
       off-large x off = elim (cases_Bool (stands_in t x)) [
@@ -166,11 +169,11 @@ module _ (s : Stages) (m : Machine) (kept : ℕ → Bool) (c : IsCourse s m kept
       ]
 
       same-choice : (o : Object) → IsIn o before
-          → (is_spared c.begun.view s.g o && swept_test (put o)) ≡ chosen o
+          → (is_spared c.begun.view (Generations s.g) o && swept_test (put o)) ≡ chosen o
       same-choice o i = elim (cases_Bool (is_large_place s.old o.place)) [
         | inl on ↦
             let away = out-of-large s m kept c full bare pins o on in
-            let spared : is_spared c.begun.view s.g o ≡ true =
+            let spared : is_spared c.begun.view (Generations s.g) o ≡ true =
             ap (λ (b : Bool). is_marked c.begun.view o || not b) away ∙ or-last (is_marked c.begun.view o) in
             ap (λ (b : Bool). b && swept_test (put o)) spared
             ∙ ap (λ (x : ℕ). stands_in t x && is_marked bare (put o))
@@ -179,7 +182,7 @@ module _ (s : Stages) (m : Machine) (kept : ℕ → Bool) (c : IsCourse s m kept
             ∙ and-turned (stands_in t o.place) (is_marked s.old o)
         | inr off ↦
             let inside = in-part s m kept c full bare pins o i off in
-            let spared : is_spared c.begun.view s.g o ≡ is_marked s.old o =
+            let spared : is_spared c.begun.view (Generations s.g) o ≡ is_marked s.old o =
             ap (λ (b : Bool). is_marked c.begun.view o || not b) inside ∙ or-false (is_marked c.begun.view o)
             ∙ mark-view s m kept c full bare pins o i in
             ap (λ (b : Bool). b && swept_test (put o)) spared
@@ -240,13 +243,14 @@ module _ (s : Stages) (m : Machine) (kept : ℕ → Bool) (c : IsCourse s m kept
       pub swept-told : map (object_piece s.rows) (filter swept_test (objects_in s.rows bare))
           ≡ map (object_piece s.rows) (filter chosen before)
       swept-told =
-          let spared = filter (is_spared c.begun.view s.g) before in
+          let spared = filter (is_spared c.begun.view (Generations s.g)) before in
           ap (λ (os : List Object). map (object_piece s.rows) (filter swept_test os))
           (pins.objects ∙ moved-list s m kept c)
           ∙ ap (map (object_piece s.rows)) (filter-sorted (λ o. o.name) swept_test (map put spared)
           ∙ ap (sorted_by (λ (o : Object). o.name)) (filter-map put swept_test spared
-          ∙ ap (map put) (filter-both (λ o. swept_test (put o)) (is_spared c.begun.view s.g) before
-          ∙ filter-alike (λ o. is_spared c.begun.view s.g o && swept_test (put o)) chosen before same-choice))
+          ∙ ap (map put) (filter-both (λ o. swept_test (put o)) (is_spared c.begun.view (Generations s.g)) before
+          ∙ filter-alike
+          (λ o. is_spared c.begun.view (Generations s.g) o && swept_test (put o)) chosen before same-choice))
           ∙ sorted_by-done (λ (o : Object). o.name) (map put (filter chosen before))
           (map-rising put (λ o. o.name) (filter chosen before)
           (filter-rises chosen (λ o. o.name) before rises) chosen-name))

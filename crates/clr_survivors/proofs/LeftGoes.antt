@@ -28,6 +28,7 @@ use Rattle.clr_moves.specs.Overlaid.{IsCompactionOf, MayGo}
 use Rattle.clr_moves.proofs.FromMachine.{number_of, part_segment}
 use Rattle.clr_compact.proofs.Gone.{into_parts, out_of_parts}
 use Rattle.clr_moves.proofs.PlannedMoves.{are-moves, seen-compacted, seen-laid}
+use Rattle.clr_moves.specs.declared.parts.Parts.TheVariants.{Generations}
 
 -- a place that is condemned, as what a collection goes over
 pub condemned-is : (h : HeapView) (g x : ℕ) → is_condemned_place h g x ≡ nat_le (generation (frame h) x) g
@@ -35,21 +36,21 @@ unfolding is_condemned_place
 condemned-is h g x = refl
 
 module _ (rows : List TypeRow) (h : HeapView) (g : ℕ) (vs : List Move) (base : Machine) (kept : ℕ → Bool)
-    (after : Layout) (least : g ≤ 2) (p : IsCompactionOf rows h g vs base kept after) where
+    (after : Layout) (least : g ≤ 2) (p : IsCompactionOf rows h (Generations g) vs base kept after) where
   m : Machine
   m = seen rows h base
 
   laid : IsLaid (seen rows h base)
-  laid = seen-laid rows h g vs base kept after p
+  laid = seen-laid rows h (Generations g) vs base kept after p
 
   c : IsCompacted (layout_in rows h) g (survivors (seen rows h base) g kept) vs after
-  c = seen-compacted rows h g vs base kept after p
+  c = seen-compacted rows h (Generations g) vs base kept after p
 
-  pub the-moves : AreMoves h g vs
-  the-moves = are-moves rows h g vs base kept after p least
+  pub the-moves : AreMoves h (Generations g) vs
+  the-moves = are-moves rows h (Generations g) vs base kept after p least
 
   -- a collection goes over what is in a part
-  pub part-young : (x : ℕ) → is_in_parts h g x ≡ true → generation (frame h) x ≤ g
+  pub part-young : (x : ℕ) → is_in_parts h (Generations g) x ≡ true → generation (frame h) x ≤ g
   part-young x inside =
       let (t, into, up) = out_of_parts h g x inside in
       let s = segment_at h t in
@@ -58,20 +59,21 @@ module _ (rows : List TypeRow) (h : HeapView) (g : ℕ) (vs : List Move) (base :
       (subst (IsIn s) c.segments_are known) in
       aged (seen rows h base) laid g least kept s among part x into.low up into.high
 
-  pub part-test : (t place : ℕ) → IsInPart h g t place → is_in_parts h g place ≡ true
+  pub part-test : (t place : ℕ) → IsInPart h (Generations g) t place → is_in_parts h (Generations g) place ≡ true
   part-test t place is =
       let start = (the-moves.starts t is.in_range is.takes).0 in
       let low = is.low in
       into_parts h g t place is (omega (arith, start, low))
 
-  pub none-null : (t : ℕ) → IsInPart h g t 0 → ⊥
+  pub none-null : (t : ℕ) → IsInPart h (Generations g) t 0 → ⊥
   none-null t is =
       let start = (the-moves.starts t is.in_range is.takes).0 in
       let low = is.low in
       omega (arith, start, low)
 
   -- a marked object of a part goes with a plug
-  pub marked-goes : (o : Object) → IsIn o (objects_in rows h) → is_marked h o ≡ true → is_in_parts h g o.place ≡ true
+  pub marked-goes : (o : Object) → IsIn o (objects_in rows h) → is_marked h o ≡ true
+      → is_in_parts h (Generations g) o.place ≡ true
       → (k : ℕ) × IsInPlug vs k o.place
   marked-goes o present mark inside =
       let (t, into, up) = out_of_parts h g o.place inside in
@@ -107,14 +109,15 @@ module _ (rows : List TypeRow) (h : HeapView) (g : ℕ) (vs : List Move) (base :
   or-right false b e f = absurd cc
 
   -- what is left in a part is marked
-  pub left-in-part : (o : Object) → is_left h g o ≡ true → is_in_parts h g o.place ≡ true → is_marked h o ≡ true
+  pub left-in-part : (o : Object) → is_left h g o ≡ true → is_in_parts h (Generations g) o.place ≡ true
+      → is_marked h o ≡ true
   left-in-part o left inside =
       or-right (is_reached_by h g o.place) (is_marked h o)
       (le-leb (generation (frame h) o.place) g (part-young o.place inside)) left
 
   -- WHAT IS LEFT MAY GO
-  pub left-goes : (o : Object) → IsIn o (objects_in rows h) → is_left h g o ≡ true → MayGo h g vs o.place
-  left-goes o present left = elim (cases_Bool (is_in_parts h g o.place)) [
+  pub left-goes : (o : Object) → IsIn o (objects_in rows h) → is_left h g o ≡ true → MayGo h (Generations g) vs o.place
+  left-goes o present left = elim (cases_Bool (is_in_parts h (Generations g) o.place)) [
     | inl inside ↦ inr (marked-goes o present (left-in-part o left inside) inside)
-    | inr away ↦ inl (λ t is. both_ways (is_in_parts h g o.place) away (part-test t o.place is))
+    | inr away ↦ inl (λ t is. both_ways (is_in_parts h (Generations g) o.place) away (part-test t o.place is))
   ]

@@ -26,6 +26,8 @@ use Rattle.clr_survivors.proofs.Course.{IsCourse, segments-moved, Stages}
 use Rattle.clr_survivors.proofs.LeftGoes.{condemned-is, part-young}
 use Rattle.clr_survivors.proofs.RelocatedPlan.{turned, turned-mark, turned-place, turned-spared}
 use Rattle.clr_survivors.proofs.Standings.{young-home}
+use Rattle.clr_types.specs.Segments.{is_large_or_pinned}
+use Rattle.clr_moves.specs.declared.parts.Parts.TheVariants.{Generations}
 
 -- ---- lists
 
@@ -38,7 +40,7 @@ filter-alike p q (x ∷ xs) same =
 
 -- the segment is a large one where the place stands
 abbrev large_test : ℕ → SegInfo → Bool
-large_test x u = same_kind Large u.kind && stands_in u x
+large_test x u = is_large_or_pinned u.kind && stands_in u x
 
 pub large-ends : (g x : ℕ) (ends : SegInfo → ℕ) (ss : List SegInfo)
     → list_any (large_test x) (segments_after is_small_or_ephemeral g ends ss) ≡ list_any (large_test x) ss
@@ -70,33 +72,36 @@ module _ (s : Stages) (m : Machine) (kept : ℕ → Bool) (c : IsCourse s m kept
 
   -- THE OBJECTS: those that are spared, where they go
   pub moved-list : objects_in s.rows s.moved
-      ≡ sorted_by (λ o. o.name) (map placed (filter (is_spared c.begun.view s.g) (objects_in s.rows s.old)))
+      ≡ sorted_by (λ o. o.name)
+      (map placed (filter (is_spared c.begun.view (Generations s.g)) (objects_in s.rows s.old)))
   moved-list =
       let vs = c.begun.plan.moves in
       let mid = c.went.mid in
       let turn = turned s.rows c.begun.view mid s.g vs c.went.relocated in
       let before = objects_in s.rows c.begun.view in
       c.went.compacted.objects
-      ∙ ap (λ (os : List Object). sorted_by (λ o. o.name) (map (moved_object vs) (filter (is_spared mid s.g) os)))
+      ∙ ap (λ (os : List Object). sorted_by (λ o. o.name)
+      (map (moved_object vs) (filter (is_spared mid (Generations s.g)) os)))
       c.went.relocated.objects
       ∙ ap (λ (os : List Object). sorted_by (λ o. o.name) (map (moved_object vs) os))
-      (filter-map turn (is_spared mid s.g) before)
+      (filter-map turn (is_spared mid (Generations s.g)) before)
       ∙ ap (sorted_by (λ (o : Object). o.name))
-      (map-map turn (moved_object vs) (filter (λ o. is_spared mid s.g (turn o)) before))
+      (map-map turn (moved_object vs) (filter (λ o. is_spared mid (Generations s.g) (turn o)) before))
       ∙ ap (λ (os : List Object). sorted_by (λ o. o.name) (map placed os))
-      (filter-alike (λ o. is_spared mid s.g (turn o)) (is_spared c.begun.view s.g) before
+      (filter-alike (λ o. is_spared mid (Generations s.g) (turn o)) (is_spared c.begun.view (Generations s.g)) before
       (turned-spared s.rows c.begun.view mid s.g vs c.went.relocated))
-      ∙ ap (λ (os : List Object). sorted_by (λ o. o.name) (map placed (filter (is_spared c.begun.view s.g) os)))
+      ∙ ap (λ (os : List Object). sorted_by (λ o. o.name)
+      (map placed (filter (is_spared c.begun.view (Generations s.g)) os)))
       c.begun.pins.objects
 
   -- one that is spared is there
-  pub in-moved : (o : Object) → IsIn o (objects_in s.rows s.old) → is_spared c.begun.view s.g o ≡ true
+  pub in-moved : (o : Object) → IsIn o (objects_in s.rows s.old) → is_spared c.begun.view (Generations s.g) o ≡ true
       → IsIn (placed o) (objects_in s.rows s.moved)
   in-moved o i spared =
       subst (λ (os : List Object). IsIn (placed o) os) (sym moved-list)
       (into_sorted_by (λ (x : Object). x.name) (placed o)
-      (map placed (filter (is_spared c.begun.view s.g) (objects_in s.rows s.old)))
-      (IsIn-map placed (into_filter (is_spared c.begun.view s.g) (objects_in s.rows s.old) spared i)))
+      (map placed (filter (is_spared c.begun.view (Generations s.g)) (objects_in s.rows s.old)))
+      (IsIn-map placed (into_filter (is_spared c.begun.view (Generations s.g)) (objects_in s.rows s.old) spared i)))
 
   -- where one that is left goes, it has new references
   pub placed-left : (o : Object) → IsIn o (objects_in s.rows s.old) → is_left s.old s.g o ≡ true
@@ -116,7 +121,7 @@ module _ (s : Stages) (m : Machine) (kept : ℕ → Bool) (c : IsCourse s m kept
 
   pub large-moved : (x : ℕ) → is_large_place s.moved x ≡ is_large_place s.old x
   large-moved x =
-      ap (list_any (λ (u : SegInfo). same_kind Large u.kind && stands_in u x)) (segments-moved s m kept c)
+      ap (list_any (λ (u : SegInfo). is_large_or_pinned u.kind && stands_in u x)) (segments-moved s m kept c)
       ∙ large-ends s.g x
       (compacted_end c.begun.plan.after.start0 c.begun.plan.compaction.compacted.plugs c.begun.plan.moves)
       s.old.segments
@@ -124,15 +129,15 @@ module _ (s : Stages) (m : Machine) (kept : ℕ → Bool) (c : IsCourse s m kept
   -- ---- young collections
 
   pub parts-reached : s.g ≤ 1 → (o : Object) → IsIn o (objects_in s.rows c.begun.view)
-      → is_in_parts c.begun.view s.g o.place ≡ is_reached_by c.begun.view s.g o.place
-  parts-reached young o i = elim (cases_Bool (is_in_parts c.begun.view s.g o.place)) [
+      → is_in_parts c.begun.view (Generations s.g) o.place ≡ is_reached_by c.begun.view s.g o.place
+  parts-reached young o i = elim (cases_Bool (is_in_parts c.begun.view (Generations s.g) o.place)) [
     | inl inside ↦
         inside ∙ sym (le-leb (generation (frame c.begun.view) o.place) s.g
         (part-young s.rows c.begun.view s.g c.begun.plan.moves m kept c.begun.plan.after c.run.given.generation
         c.begun.plan.compaction o.place inside))
     | inr away ↦ elim (cases_Bool (is_reached_by c.begun.view s.g o.place)) [
       | inl reached ↦
-          absurd (both_ways (is_in_parts c.begun.view s.g o.place) away
+          absurd (both_ways (is_in_parts c.begun.view (Generations s.g) o.place) away
           (young-home s.rows c.begun.view c.begun.plan.overlaid.heap c.begun.pins.held s.g young
           (c.can.relocates.old_parts (omega (arith, young))) o i reached))
       | inr older ↦ away ∙ sym older
@@ -140,7 +145,7 @@ module _ (s : Stages) (m : Machine) (kept : ℕ → Bool) (c : IsCourse s m kept
   ]
 
   spared-left : s.g ≤ 1 → (o : Object) → IsIn o (objects_in s.rows s.old)
-      → is_spared c.begun.view s.g o ≡ is_left s.old s.g o
+      → is_spared c.begun.view (Generations s.g) o ≡ is_left s.old s.g o
   spared-left young o i =
       ap (λ (b : Bool). is_marked c.begun.view o || not b) (parts-reached young o (now-in-view o i))
       ∙ or-turned (is_marked c.begun.view o) (is_reached_by c.begun.view s.g o.place)
@@ -152,13 +157,14 @@ module _ (s : Stages) (m : Machine) (kept : ℕ → Bool) (c : IsCourse s m kept
   objects-young young =
       moved-list
       ∙ ap (λ (os : List Object). sorted_by (λ o. o.name) (map placed os))
-      (filter-alike (is_spared c.begun.view s.g) (is_left s.old s.g) (objects_in s.rows s.old) (spared-left young))
+      (filter-alike (is_spared c.begun.view (Generations s.g)) (is_left s.old s.g) (objects_in s.rows s.old)
+      (spared-left young))
       ∙ ap (sorted_by (λ (o : Object). o.name)) placed-list
 
   -- ---- marks
 
   pub was-marked : (x : ℕ) → Marked s.rows s.moved x
-      → Marked s.rows s.old x × (is_in_parts c.begun.view s.g x ≡ false)
+      → Marked s.rows s.old x × (is_in_parts c.begun.view (Generations s.g) x ≡ false)
   was-marked x marked =
       let (had, away) = c.went.compacted.marks x marked in
       let (q, there, at) = had.stands in
@@ -175,7 +181,7 @@ module _ (s : Stages) (m : Machine) (kept : ℕ → Bool) (c : IsCourse s m kept
           stands = (o, i, was);
           mark = ap (λ y. has_mark (word_of c.begun.view y)) (sym was) ∙ mark;
         }),
-        sym (ap (λ (h : HeapView). is_in_parts h s.g x) c.went.relocated.others) ∙ away,
+        sym (ap (λ (h : HeapView). is_in_parts h (Generations s.g) x) c.went.relocated.others) ∙ away,
       )
 
   pub unmarked-young : s.g ≤ 1 → (x : ℕ) → Marked s.rows s.moved x → ⊥
@@ -186,7 +192,7 @@ module _ (s : Stages) (m : Machine) (kept : ℕ → Bool) (c : IsCourse s m kept
       let reached : is_reached_by c.begun.view s.g o.place ≡ true =
       ap (λ (h : HeapView). is_reached_by h s.g o.place) c.begun.pins.shape.others
       ∙ ap (is_reached_by s.old s.g) at ∙ sym (condemned-is s.old s.g x) ∙ condemned in
-      both_ways (is_in_parts c.begun.view s.g x) away
-      (ap (is_in_parts c.begun.view s.g) (sym at)
+      both_ways (is_in_parts c.begun.view (Generations s.g) x) away
+      (ap (is_in_parts c.begun.view (Generations s.g)) (sym at)
       ∙ young-home s.rows c.begun.view c.begun.plan.overlaid.heap c.begun.pins.held s.g young
       (c.can.relocates.old_parts (omega (arith, young))) o (now-in-view o i) reached)

@@ -10,7 +10,7 @@ use Rattle.clr_types.specs.Segments.{first_place, generation, is_small_or_epheme
 use Rattle.clr_types.specs.Segments.{stands_in}
 use Rattle.clr_types.specs.declared.segment.SegInfo.{SegInfo}
 use Rattle.clr_types.specs.declared.segment.SegKind.{SegKind}
-use Rattle.clr_types.specs.declared.segment.SegKind.TheVariants.{Ephemeral, Large, Small}
+use Rattle.clr_types.specs.declared.segment.SegKind.TheVariants.{Ephemeral, Large, Small, Pinned}
 use Rattle.clr_types.proofs.ChangedLists.{all_members, into_filter, IsIn-map, out_of_filter}
 use Rattle.clr_types.proofs.ListMembers.{any-from, from-map}
 use Rattle.clr_types.proofs.RisingLists.{all_at}
@@ -39,6 +39,7 @@ use Rattle.clr_survivors.proofs.Ended.{by-kind, objects-ended}
 use Rattle.clr_survivors.proofs.FullObjects.{left-marked, out-of-large, unmoved-place}
 use Rattle.clr_survivors.proofs.LargeTold.{chosen, survivors-told, tells-large}
 use Rattle.clr_survivors.proofs.LeftGoes.{the-moves}
+use Rattle.clr_types.specs.Segments.{is_large_or_pinned}
 
 -- the first object of a plug
 pub plug-first : (ks : List Survivor) (p : Plug) → IsIn p (plugs_of ks)
@@ -53,15 +54,17 @@ some-piece : (low : ℕ) (ps : List Piece) → low < end_of_last low ps → (p :
 some-piece low [] l = absurd (omega (arith, l))
 some-piece low (p ∷ ps) l = (p, first)
 
-not-large : (k : SegKind) → same_kind Large k ≡ true → is_small_or_ephemeral k ≡ false
+not-large : (k : SegKind) → is_large_or_pinned k ≡ true → is_small_or_ephemeral k ≡ false
 not-large Small e = absurd cc
 not-large Ephemeral e = absurd cc
 not-large Large e = refl
+not-large Pinned e = refl
 
-is-small : (k : SegKind) → same_kind Large k ≡ false → is_small_or_ephemeral k ≡ true
+is-small : (k : SegKind) → is_large_or_pinned k ≡ false → is_small_or_ephemeral k ≡ true
 is-small Small e = refl
 is-small Ephemeral e = refl
 is-small Large e = absurd cc
+is-small Pinned e = absurd cc
 
 all-condemned : (u : SegInfo) → has_condemned_part 2 u ≡ true
 all-condemned u = go (same_kind Ephemeral u.kind)
@@ -124,7 +127,7 @@ module _ (s : Stages) (m : Machine) (kept : ℕ → Bool) (c : IsCourse s m kept
         (ap (stands_in u) goes ∙ stands)
 
     -- a large segment
-    large-stands : (u : SegInfo) → IsIn u s.old.segments → same_kind Large u.kind ≡ true
+    large-stands : (u : SegInfo) → IsIn u s.old.segments → is_large_or_pinned u.kind ≡ true
         → first_place u < swept_end (layout_in s.rows e.bare) 2 (survivors m s.g kept) u
         → list_any (λ q. stands_in u q.place) (objects_in s.rows new) ≡ true
     large-stands u i large some =
@@ -139,8 +142,8 @@ module _ (s : Stages) (m : Machine) (kept : ℕ → Bool) (c : IsCourse s m kept
         let (choice, there) = out_of_filter (chosen s m kept c full u i) o (objects_in s.rows s.old) n in
         let (mark, stands) = and_parts (is_marked s.old o) (stands_in u o.place) choice in
         let on : is_large_place s.old o.place ≡ true =
-        any-from (λ (w : SegInfo). same_kind Large w.kind && stands_in w o.place) s.old.segments u i
-        (and_from (same_kind Large u.kind) (stands_in u o.place) large stands) in
+        any-from (λ (w : SegInfo). is_large_or_pinned w.kind && stands_in w o.place) s.old.segments u i
+        (and_from (is_large_or_pinned u.kind) (stands_in u o.place) large stands) in
         stands-new u o there (left-marked s m kept c full e.bare e.pins o ∙ mark)
         (ap (stands_in u) (unmoved-place s m kept c full o.place (out-of-large s m kept c full e.bare e.pins o on))
         ∙ stands)
@@ -178,7 +181,7 @@ module _ (s : Stages) (m : Machine) (kept : ℕ → Bool) (c : IsCourse s m kept
         } else u
 
     abbrev change2 : SegInfo → SegInfo
-    change2 u = if same_kind Large u.kind && has_condemned_part 2 u
+    change2 u = if is_large_or_pinned u.kind && has_condemned_part 2 u
         then record u { end = swept_end (layout_in s.rows e.bare) 2 (survivors m s.g kept) u } else u
 
     abbrev Holds : SegInfo → Type 0
@@ -197,7 +200,7 @@ module _ (s : Stages) (m : Machine) (kept : ℕ → Bool) (c : IsCourse s m kept
         subst Holds (sym (is_b ∙ ap change2 is_u)) (both u k) other some
       where
         both : (u : SegInfo) → IsIn u s.old.segments → Holds (change2 (change1 u))
-        both u k = elim (cases_Bool (same_kind Large u.kind)) [
+        both u k = elim (cases_Bool (is_large_or_pinned u.kind)) [
           | inl large ↦
               let one : change1 u ≡ u =
               ap (λ (b : Bool). if b && has_condemned_part s.g u
@@ -210,7 +213,7 @@ module _ (s : Stages) (m : Machine) (kept : ℕ → Bool) (c : IsCourse s m kept
                 end = swept_end (layout_in s.rows e.bare) 2
                     (survivors m s.g kept) u;
               } else u)
-              (and_from (same_kind Large u.kind) (has_condemned_part 2 u) large (all-condemned u)) in
+              (and_from (is_large_or_pinned u.kind) (has_condemned_part 2 u) large (all-condemned u)) in
               subst Holds (sym (ap change2 one ∙ two)) (λ other some. large-stands u k large some)
           | inr small ↦
               let ended : SegInfo = record u {

@@ -7,7 +7,7 @@ use Rattle.clr_types.specs.Segments.{ephemeral, same_kind, stands_in}
 use Rattle.clr_types.specs.Types.{TypeRow}
 use Rattle.clr_types.specs.declared.item.Item.{Item}
 use Rattle.clr_types.specs.declared.segment.SegKind.{SegKind}
-use Rattle.clr_types.specs.declared.segment.SegKind.TheVariants.{Ephemeral, Large, Small}
+use Rattle.clr_types.specs.declared.segment.SegKind.TheVariants.{Ephemeral, Large, Small, Pinned}
 use Rattle.clr_types.proofs.SegmentFacts.{between-stands, stands-between}
 use Rattle.clr_heap.specs.View.{first_of, frame, HeapView, IsHeap, last_of, listing, no_rests, segment_at}
 use Rattle.clr_heap.proofs.Framing.{lawful_at}
@@ -34,11 +34,13 @@ kind-turned : (kind : SegKind) → same_kind kind Ephemeral ≡ same_kind Epheme
 kind-turned Small = refl
 kind-turned Ephemeral = refl
 kind-turned Large = refl
+kind-turned Pinned = refl
 
 kind-is : (kind : SegKind) → same_kind Ephemeral kind ≡ true → kind ≡ Ephemeral
 kind-is Small e = absurd cc
 kind-is Ephemeral e = refl
 kind-is Large e = absurd cc
+kind-is Pinned e = absurd cc
 
 module _ (rows : List TypeRow) (h : HeapView) (base : Machine) (heap : IsHeap h) (held : IsHeld rows h)
     (none : h.rests ≡ no_rests) (laid : IsLaid (seen rows h base)) (g : ℕ) (young : g ≤ 1) where

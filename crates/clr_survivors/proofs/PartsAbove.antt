@@ -16,9 +16,11 @@ use Rattle.clr_moves.specs.Told.{TellMoves}
 use Rattle.clr_moves.proofs.PlacesInPlugs.{outside_stays}
 use Rattle.clr_moves.proofs.PlugMoves.{number_of}
 use Rattle.clr_survivors.specs.Condemned.{condemned_from}
+use Rattle.clr_moves.specs.declared.parts.Parts.TheVariants.{Generations}
 
 -- the part of a segment that has one starts there or above it
-start-above : (h : HeapView) (g : ℕ) (s : SegInfo) → takes g s ≡ true → condemned_from h g ≤ part_start (frame h) g s
+start-above : (h : HeapView) (g : ℕ) (s : SegInfo) → takes (Generations g) s ≡ true
+    → condemned_from h g ≤ part_start (frame h) g s
 start-above h g s on =
     go (same_kind Ephemeral s.kind) (g == 0) (g == 1) refl refl
     (and_parts (is_small_or_ephemeral s.kind) (has_condemned_part g s) on).1
@@ -37,7 +39,7 @@ start-above h g s on =
     go false false false e0 e1 some = omega arith
 
 -- each place of a part stands there or above it
-pub part-above : (h : HeapView) (g t place : ℕ) → IsInPart h g t place → condemned_from h g ≤ place
+pub part-above : (h : HeapView) (g t place : ℕ) → IsInPart h (Generations g) t place → condemned_from h g ≤ place
 part-above h g t place i =
     let start = start-above h g (segment_at h t) i.takes in
     let low = i.low in
@@ -45,13 +47,14 @@ part-above h g t place i =
 
 -- what stands below it stays
 pub below-stays : (rows : List TypeRow) (h : HeapView) (bricks : BricksView) (g : ℕ) (vs : List Move) → IsHeap h
-    → TellMoves rows h bricks g vs → (place : ℕ) → place < condemned_from h g → place ≡ moved_by vs place
+    → TellMoves rows h bricks (Generations g) vs → (place : ℕ) → place < condemned_from h g → place ≡ moved_by vs place
 below-stays rows h bricks g vs heap tell place under =
-    outside_stays rows h bricks g vs heap tell place
+    outside_stays rows h bricks (Generations g) vs heap tell place
     (λ t i. let above = part-above h g t place i in omega (arith, above, under))
 
 -- from there on nothing goes below it
-pub moves-above : (h : HeapView) (g : ℕ) (vs : List Move) → AreMoves h g vs → (x : ℕ) → condemned_from h g ≤ x
+pub moves-above : (h : HeapView) (g : ℕ) (vs : List Move) → AreMoves h (Generations g) vs → (x : ℕ)
+    → condemned_from h g ≤ x
     → condemned_from h g ≤ moved_by vs x
 moves-above h g vs moves x high = elim (moved-is vs x) [
   | inr (uncovered, still) ↦ subst (λ (n : ℕ). condemned_from h g ≤ n) (sym still) high

@@ -26,6 +26,7 @@ use Rattle.clr_survivors.specs.Pins.{HasPins, IsPinnedBelow, pinned_header, pins
 use Rattle.clr_survivors.specs.Pins.{PinsStand}
 use Rattle.std.specs.Prelude.{MatchBool}
 use Rattle.std.proofs.Common.{◌==◌}
+use Rattle.clr_types.specs.Bits.{pinned_bit}
 use Rattle.clr_survivors.proofs.HeaderBits.{flag-kept, HasHeader, header_written}
 
 -- the row that was found
@@ -51,26 +52,26 @@ module _ (rows : List TypeRow) (old : HeapView) (table : FinMap nat_cmp Handle) 
   twice header = go on (has_pin header) refl
     where
       go : (on has : Bool) → has_pin header ≡ has
-          → pinned_header on (if on && not has then header + 0x20000000
-          else if not on && has then header - 0x20000000 else header)
-          ≡ (if on && not has then header + 0x20000000 else if not on && has then header - 0x20000000 else header)
+          → pinned_header on (if on && not has then header + pinned_bit
+          else if not on && has then header - pinned_bit else header)
+          ≡ (if on && not has then header + pinned_bit else if not on && has then header - pinned_bit else header)
       go true true is =
-          ap (λ (b : Bool). if true && not b then header + 0x20000000 else if not true && b then header - 0x20000000
+          ap (λ (b : Bool). if true && not b then header + pinned_bit else if not true && b then header - pinned_bit
           else header) is
       go true false is =
-          let no = eqb-false (header / 0x20000000 % 2) 1 is in
-          let set : has_pin (header + 0x20000000) ≡ true = eq-eqb ((header + 0x20000000) / 0x20000000 % 2) 1
+          let no = eqb-false (header / pinned_bit % 2) 1 is in
+          let set : has_pin (header + pinned_bit) ≡ true = eq-eqb ((header + pinned_bit) / pinned_bit % 2) 1
           (omega arith) in
-          ap (λ (b : Bool). if true && not b then header + 0x20000000 + 0x20000000
-          else if not true && b then header + 0x20000000 - 0x20000000 else header + 0x20000000) set
+          ap (λ (b : Bool). if true && not b then header + pinned_bit + pinned_bit
+          else if not true && b then header + pinned_bit - pinned_bit else header + pinned_bit) set
       go false true is =
-          let yes = eqb-true (header / 0x20000000 % 2) 1 is in
-          let clear : has_pin (header - 0x20000000) ≡ false = ne_eqb ((header - 0x20000000) / 0x20000000 % 2) 1
+          let yes = eqb-true (header / pinned_bit % 2) 1 is in
+          let clear : has_pin (header - pinned_bit) ≡ false = ne_eqb ((header - pinned_bit) / pinned_bit % 2) 1
           (λ e. omega arith) in
-          ap (λ (b : Bool). if false && not b then header - 0x20000000 + 0x20000000
-          else if not false && b then header - 0x20000000 - 0x20000000 else header - 0x20000000) clear
+          ap (λ (b : Bool). if false && not b then header - pinned_bit + pinned_bit
+          else if not false && b then header - pinned_bit - pinned_bit else header - pinned_bit) clear
       go false false is =
-          ap (λ (b : Bool). if false && not b then header + 0x20000000 else if not false && b then header - 0x20000000
+          ap (λ (b : Bool). if false && not b then header + pinned_bit else if not false && b then header - pinned_bit
           else header) is
 
   module _ (now : HeapView) (from number : ℕ) (row : Handle) (p : HasPins rows old now table low from on)

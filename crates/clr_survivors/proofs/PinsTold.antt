@@ -6,6 +6,7 @@ use Rattle.std.specs.FinMap as finmap
 use Rattle.std.specs.FinMap.{FinMap}
 use Rattle.std.specs.Ordering.{nat_cmp}
 use Rattle.std.proofs.lemmas.Bool.{and_parts, both_ways, cases_Bool, cases_lt, eq-eqb, eqb-true, ne_eqb}
+use Rattle.clr_types.specs.Bits.{pinned_bit}
 use Rattle.clr_types.specs.Kinds.{is_pinned_kind}
 use Rattle.clr_types.specs.Rising.{IsIn, IsRisingBy}
 use Rattle.clr_types.specs.Segments.{generation}
@@ -43,22 +44,22 @@ pub pin-set : (header : ℕ) → has_pin (pinned_header true header) ≡ true
 pin-set header = go (has_pin header) refl
   where
     go : (has : Bool) → has_pin header ≡ has
-        → has_pin (if true && not has then header + 0x20000000
-        else if not true && has then header - 0x20000000 else header) ≡ true
+        → has_pin (if true && not has then header + pinned_bit
+        else if not true && has then header - pinned_bit else header) ≡ true
     go true is = is
-    go false is = eq-eqb ((header + 0x20000000) / 0x20000000 % 2) 1 (pin-odd header is)
+    go false is = eq-eqb ((header + pinned_bit) / pinned_bit % 2) 1 (pin-odd header is)
       where
-        pin-odd : (n : ℕ) → has_pin n ≡ false → (n + 0x20000000) / 0x20000000 % 2 ≡ 1
+        pin-odd : (n : ℕ) → has_pin n ≡ false → (n + pinned_bit) / pinned_bit % 2 ≡ 1
         pin-odd n e = let odd = eqb-false n e in omega (arith, odd)
           where
-            eqb-false : (k : ℕ) → has_pin k ≡ false → k / 0x20000000 % 2 ≢ 1
-            eqb-false k f same = both_ways (has_pin k) f (eq-eqb (k / 0x20000000 % 2) 1 same)
+            eqb-false : (k : ℕ) → has_pin k ≡ false → k / pinned_bit % 2 ≢ 1
+            eqb-false k f same = both_ways (has_pin k) f (eq-eqb (k / pinned_bit % 2) 1 same)
 
 -- a clean header hasn't
 pub none-pinned : (rows : List TypeRow) (t header : ℕ) → IsCleanHeader rows t header → has_pin header ≡ false
-none-pinned rows t header (inl zero_is) = ne_eqb (header / 0x20000000 % 2) 1 (λ e. omega (arith, e, zero_is))
+none-pinned rows t header (inl zero_is) = ne_eqb (header / pinned_bit % 2) 1 (λ e. omega (arith, e, zero_is))
 none-pinned rows t header (inr flag) =
-    let is = flag.0 in ne_eqb (header / 0x20000000 % 2) 1 (λ e. omega (arith, e, is))
+    let is = flag.0 in ne_eqb (header / pinned_bit % 2) 1 (λ e. omega (arith, e, is))
 
 -- ---- handles
 

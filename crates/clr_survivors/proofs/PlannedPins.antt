@@ -30,6 +30,7 @@ use Rattle.clr_survivors.specs.Pins.{HasPins}
 use Rattle.clr_survivors.proofs.ItemsOf.{place-high}
 use Rattle.clr_survivors.proofs.PartsAbove.{young-above}
 use Rattle.clr_survivors.proofs.PinnedFrom.{pins-above, table_from}
+use Rattle.clr_moves.specs.declared.parts.Parts.TheVariants.{Generations}
 
 -- the machine with this table of handles
 abbrev pub with_handles : Machine → FinMap nat_cmp Handle → Machine
@@ -81,8 +82,8 @@ survivors-from rows h g heap held m kept memory =
 pub planned-from : (rows : List TypeRow) (h new : HeapView) (bricks : BricksView) (entries : List PinEntry) (g : ℕ)
     (m : Machine) (table : FinMap nat_cmp Handle) (kept : ℕ → Bool) (start1 start0 : ℕ)
     → survivors (with_handles m table) g kept ≡ survivors m g kept
-    → HasPlanned rows h new bricks entries g (with_handles m table) kept start1 start0
-    → HasPlanned rows h new bricks entries g m kept start1 start0
+    → HasPlanned rows h new bricks entries (Generations g) (with_handles m table) kept start1 start0
+    → HasPlanned rows h new bricks entries (Generations g) m kept start1 start0
 planned-from rows h new bricks entries g m table kept start1 start0 same p =
     let c = p.compaction in
     record {
@@ -104,15 +105,18 @@ planned-from rows h new bricks entries g m table kept start1 start0 same p =
       start0_is = p.start0_is;
       overlaid = p.overlaid;
       told = p.told;
+      gaps = p.gaps;
     }
 
 module _ (rows : List TypeRow) (old new : HeapView) (table : FinMap nat_cmp Handle) (low : ℕ)
     (pins : HasPins rows old new table low 65536 true) (before bricks : BricksView) (g : ℕ) where
   pub remembered-entries : BrickLaw rows (frame old) (objects_in rows old) (entry_at before) → (below first : ℤ)
-      → ((i : ℕ) → IsUntouched new g i → entry_at bricks i ≡ entry_at before i)
-      → ((e : ℕ) → segment_at new e ≡ ephemeral (frame new) → below ≡ entry_at before (part_of new g e / 4096 - 1))
-      → ((e : ℕ) → segment_at new e ≡ ephemeral (frame new) → first ≡ entry_at before (part_of new g e / 4096))
-      → AreRemembered rows new bricks g (entry_at before) below first
+      → ((i : ℕ) → IsUntouched new (Generations g) i → entry_at bricks i ≡ entry_at before i)
+      → ((e : ℕ) → segment_at new e ≡ ephemeral (frame new)
+      → below ≡ entry_at before (part_of new (Generations g) e / 4096 - 1))
+      → ((e : ℕ) → segment_at new e ≡ ephemeral (frame new)
+      → first ≡ entry_at before (part_of new (Generations g) e / 4096))
+      → AreRemembered rows new bricks (Generations g) (entry_at before) below first
   remembered-entries law below first others below_is first_is = record {
     law = subst (λ (l : Layout). BrickLaw rows l (objects_in rows new) (entry_at before))
         (sym (ap frame pins.shape.others))

@@ -29,6 +29,7 @@ use Rattle.clr_moves.proofs.PlacesInPlugs.{in_part-same}
 use Rattle.clr_plugs.specs.BrickEntries.{BricksView}
 use Rattle.clr_reloc.specs.Relocated.{HasRelocated}
 use Rattle.clr_survivors.proofs.ItemsOf.{item-of}
+use Rattle.clr_moves.specs.declared.parts.Parts.TheVariants.{Generations}
 
 module _ (rows : List TypeRow) (view mid : HeapView) (g : ℕ) (vs : List Move) (r : HasRelocated rows view mid g vs)
   where
@@ -38,9 +39,9 @@ module _ (rows : List TypeRow) (view mid : HeapView) (g : ℕ) (vs : List Move) 
     pub frame-between : frame mid ≡ frame view
     frame-between = ap frame r.others
 
-    pub may-go-on : (x : ℕ) → MayGo view g vs x → MayGo mid g vs x
+    pub may-go-on : (x : ℕ) → MayGo view (Generations g) vs x → MayGo mid (Generations g) vs x
     may-go-on x may = elim may [
-      | inl none ↦ inl (λ t p. none t (in_part-same view mid g t x shape-between p))
+      | inl none ↦ inl (λ t p. none t (in_part-same view mid (Generations g) t x shape-between p))
       | inr plug ↦ inr plug
     ]
 
@@ -103,11 +104,12 @@ module _ (rows : List TypeRow) (view mid : HeapView) (g : ℕ) (vs : List Move) 
         ap (λ x. has_mark (word_of mid x)) (turned-place o ∙ k.at) ∙ ap has_mark (r.heads k.item k.listed).1
         ∙ ap (λ x. has_mark (word_of view x)) (sym k.at)
 
-    pub turned-spared : (o : Object) → IsIn o (objects_in rows view) → is_spared mid g (turned o) ≡ is_spared view g o
+    pub turned-spared : (o : Object) → IsIn o (objects_in rows view)
+        → is_spared mid (Generations g) (turned o) ≡ is_spared view (Generations g) o
     turned-spared o n =
-        ap (λ (b : Bool). b || not (is_in_parts mid g (turned o).place)) (turned-mark o n)
-        ∙ ap (λ (x : ℕ). is_marked view o || not (is_in_parts mid g x)) (turned-place o)
-        ∙ ap (λ (h : HeapView). is_marked view o || not (is_in_parts h g o.place)) r.others
+        ap (λ (b : Bool). b || not (is_in_parts mid (Generations g) (turned o).place)) (turned-mark o n)
+        ∙ ap (λ (x : ℕ). is_marked view o || not (is_in_parts mid (Generations g) x)) (turned-place o)
+        ∙ ap (λ (h : HeapView). is_marked view o || not (is_in_parts h (Generations g) o.place)) r.others
 
     -- ---- the machine
 
@@ -161,8 +163,9 @@ module _ (rows : List TypeRow) (view mid : HeapView) (g : ℕ) (vs : List Move) 
           ∙ ap (λ x. has_mark (word_of view x)) (sym k.at))
 
       -- THE SAME COMPACTION is that of the machine with its new slots
-      pub compaction-stays : (kept : ℕ → Bool) (after : Layout) → IsCompactionOf rows view g vs m kept after
-          → IsCompactionOf rows mid g vs relocated_machine kept after
+      pub compaction-stays : (kept : ℕ → Bool) (after : Layout)
+          → IsCompactionOf rows view (Generations g) vs m kept after
+          → IsCompactionOf rows mid (Generations g) vs relocated_machine kept after
       compaction-stays kept after c = record {
         memory = record {
           types = memory.types;
@@ -194,19 +197,20 @@ module _ (rows : List TypeRow) (view mid : HeapView) (g : ℕ) (vs : List Move) 
         (record { segments = refl; start1 = refl; start0 = refl })
 
     pub remembered-on : (bricks : BricksView) (entry : ℕ → ℤ) (below first : ℤ)
-        → AreRemembered rows view bricks g entry below first → AreRemembered rows mid bricks g entry below first
+        → AreRemembered rows view bricks (Generations g) entry below first
+        → AreRemembered rows mid bricks (Generations g) entry below first
     remembered-on bricks entry below first a = record {
       law = brick_law-kept rows rows (frame view) (frame mid) (objects_in rows view) (objects_in rows mid) same-bounds
           same-places entry a.law;
-      others = λ i untouched. a.others i (subst (λ (h : HeapView). IsUntouched h g i) r.others untouched);
+      others = λ i untouched. a.others i (subst (λ (h : HeapView). IsUntouched h (Generations g) i) r.others untouched);
       below_is = λ e is within.
           let count = ap (λ (h : HeapView). length h.segments) r.others in
           a.below_is e (sym (ap (λ (h : HeapView). segment_at h e) r.others) ∙ is
           ∙ ap (λ (h : HeapView). ephemeral (frame h)) r.others) (omega (arith, within, count))
-          ∙ sym (ap (λ (h : HeapView). entry (part_of h g e / 4096 - 1)) r.others);
+          ∙ sym (ap (λ (h : HeapView). entry (part_of h (Generations g) e / 4096 - 1)) r.others);
       first_is = λ e is within.
           let count = ap (λ (h : HeapView). length h.segments) r.others in
           a.first_is e (sym (ap (λ (h : HeapView). segment_at h e) r.others) ∙ is
           ∙ ap (λ (h : HeapView). ephemeral (frame h)) r.others) (omega (arith, within, count))
-          ∙ sym (ap (λ (h : HeapView). entry (part_of h g e / 4096)) r.others);
+          ∙ sym (ap (λ (h : HeapView). entry (part_of h (Generations g) e / 4096)) r.others);
     }

@@ -10,7 +10,7 @@ use Rattle.clr_types.specs.Segments.{Layout, stands_in}
 use Rattle.clr_types.specs.Types.{TypeRow}
 use Rattle.clr_types.specs.declared.segment.SegInfo.{SegInfo}
 use Rattle.clr_types.specs.declared.segment.SegKind.{SegKind}
-use Rattle.clr_types.specs.declared.segment.SegKind.TheVariants.{Ephemeral, Large, Small}
+use Rattle.clr_types.specs.declared.segment.SegKind.TheVariants.{Ephemeral, Large, Small, Pinned}
 use Rattle.clr_types.proofs.ListMembers.{any-from, any-in}
 use Rattle.clr_types.proofs.SegmentFacts.{between-stands, one_home}
 use Rattle.clr_heap.specs.View.{first_of, frame, HeapView, IsHeap, last_of, segment_at}
@@ -29,28 +29,34 @@ use Rattle.clr_compact.proofs.Gone.{into_parts, out_of_parts}
 use Rattle.clr_scan.specs.OldParts.{HaveOldParts, old_end}
 use Rattle.clr_survivors.proofs.ItemsOf.{item-of}
 use Rattle.clr_survivors.proofs.LeftGoes.{condemned-is}
+use Rattle.clr_types.specs.Segments.{is_large_or_pinned}
+use Rattle.clr_moves.specs.declared.parts.Parts.TheVariants.{Generations}
 
 -- ---- kinds
 
-small-is : (k : SegKind) → same_kind Large k ≡ false → is_small_or_ephemeral k ≡ true
+small-is : (k : SegKind) → is_large_or_pinned k ≡ false → is_small_or_ephemeral k ≡ true
 small-is Small e = refl
 small-is Ephemeral e = refl
 small-is Large e = absurd cc
+small-is Pinned e = absurd cc
 
-not-large : (k : SegKind) → is_small_or_ephemeral k ≡ true → same_kind Large k ≡ false
+not-large : (k : SegKind) → is_small_or_ephemeral k ≡ true → is_large_or_pinned k ≡ false
 not-large Small e = refl
 not-large Ephemeral e = refl
 not-large Large e = absurd cc
+not-large Pinned e = absurd cc
 
 young-small : (k : SegKind) → same_kind Ephemeral k ≡ true → is_small_or_ephemeral k ≡ true
 young-small Small e = absurd cc
 young-small Ephemeral e = refl
 young-small Large e = absurd cc
+young-small Pinned e = absurd cc
 
 turned-kind : (k : SegKind) → same_kind k Ephemeral ≡ same_kind Ephemeral k
 turned-kind Small = refl
 turned-kind Ephemeral = refl
 turned-kind Large = refl
+turned-kind Pinned = refl
 
 or-last : (b : Bool) → (b || true) ≡ true
 or-last true = refl
@@ -88,16 +94,16 @@ module _ (rows : List TypeRow) (h : HeapView) (heap : IsHeap h) (held : IsHeld r
 
   -- what stands in no large segment stands in a part
   pub full-home : (o : Object) → IsIn o (objects_in rows h) → is_large_place h o.place ≡ false
-      → is_in_parts h 2 o.place ≡ true
+      → is_in_parts h (Generations 2) o.place ≡ true
   full-home o n off =
       let t = segment-of o n in
       let s = segment_at h t.segment in
       let stands = between-stands s o.place t.low t.high in
-      let kind : is_small_or_ephemeral s.kind ≡ true = elim (cases_Bool (same_kind Large s.kind)) [
+      let kind : is_small_or_ephemeral s.kind ≡ true = elim (cases_Bool (is_large_or_pinned s.kind)) [
         | inl large ↦ absurd (both_ways (is_large_place h o.place) off
-            (any-from (λ (u : SegInfo). same_kind Large u.kind && stands_in u o.place) h.segments s
+            (any-from (λ (u : SegInfo). is_large_or_pinned u.kind && stands_in u o.place) h.segments s
             (at-in h.segments t.segment empty_segment t.in_range)
-            (and_from (same_kind Large s.kind) (stands_in s o.place) large stands)))
+            (and_from (is_large_or_pinned s.kind) (stands_in s o.place) large stands)))
         | inr small ↦ small-is s.kind small
       ] in
       let start : part_start (frame h) 2 s ≡ first_place s = whole (same_kind Ephemeral s.kind) in
@@ -127,7 +133,7 @@ module _ (rows : List TypeRow) (h : HeapView) (heap : IsHeap h) (held : IsHeld r
 
   -- what it goes over stands in a part
   pub young-home : (g : ℕ) → g ≤ 1 → HaveOldParts rows h g → (o : Object) → IsIn o (objects_in rows h)
-      → is_reached_by h g o.place ≡ true → is_in_parts h g o.place ≡ true
+      → is_reached_by h g o.place ≡ true → is_in_parts h (Generations g) o.place ≡ true
   young-home g young parts o n reached =
       let t = segment-of o n in
       let s = segment_at h t.segment in
@@ -162,12 +168,12 @@ module _ (rows : List TypeRow) (h : HeapView) (heap : IsHeap h) (held : IsHeld r
 
 -- no place of a part stands in a large segment
 pub large-outside : (rows : List TypeRow) (h : HeapView) (m : Machine) → IsMemoryOf rows h m → IsLaid m → (g x : ℕ)
-    → is_in_parts h g x ≡ true → is_large_place h x ≡ false
+    → is_in_parts h (Generations g) x ≡ true → is_large_place h x ≡ false
 large-outside rows h m memory laid g x inside = elim (cases_Bool (is_large_place h x)) [
   | inl large ↦
       let (s, i, passes) =
-      any-in (λ (u : SegInfo). same_kind Large u.kind && stands_in u x) h.segments large in
-      let (kind, stands) = and_parts (same_kind Large s.kind) (stands_in s x) passes in
+      any-in (λ (u : SegInfo). is_large_or_pinned u.kind && stands_in u x) h.segments large in
+      let (kind, stands) = and_parts (is_large_or_pinned s.kind) (stands_in s x) passes in
       let (t, into, up) = out_of_parts h g x inside in
       let u = segment_at h t in
       let (small, part) = and_parts (is_small_or_ephemeral u.kind) (has_condemned_part g u) into.takes in
@@ -175,7 +181,7 @@ large-outside rows h m memory laid g x inside = elim (cases_Bool (is_large_place
       λ v j. subst (λ (l : Layout). IsIn v l.segments) (sym memory.layout) j in
       let same : s ≡ u = one_home m.layout laid.layout s u x (among s i)
       (among u (at-in h.segments t empty_segment into.in_range)) stands (between-stands u x up into.high) in
-      absurd (both_ways (same_kind Large u.kind) (not-large u.kind small)
-      (ap (λ (v : SegInfo). same_kind Large v.kind) (sym same) ∙ kind))
+      absurd (both_ways (is_large_or_pinned u.kind) (not-large u.kind small)
+      (ap (λ (v : SegInfo). is_large_or_pinned v.kind) (sym same) ∙ kind))
   | inr off ↦ off
 ]

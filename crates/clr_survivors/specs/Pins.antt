@@ -4,6 +4,7 @@ use Rattle.std.specs.Prelude.{if◌then◌else◌, ◌≤◌, nat_le}
 use Rattle.std.specs.FinMap as finmap
 use Rattle.std.specs.FinMap.{FinMap}
 use Rattle.std.specs.Ordering.{nat_cmp}
+pub use Rattle.clr_types.specs.Bits.{pinned_header}
 use Rattle.clr_types.specs.Kinds.{is_pinned_kind}
 use Rattle.clr_types.specs.Types.{TypeRow}
 use Rattle.clr_types.specs.declared.handle.Handle.{Handle}
@@ -11,7 +12,6 @@ use Rattle.clr_heap.specs.View.{heap_items, HeapView, SameShape, word_of}
 use Rattle.clr_view.specs.Marks.{Marked}
 use Rattle.clr_view.specs.SlotValues.{StandsAt}
 use Rattle.clr_view.specs.View.{AreFreeHeads, IsHeld, layout_in, objects_in}
-use Rattle.clr_plan.specs.Pinned.{has_pin}
 
 -- a pinned handle with a number below n has the place, from `low` on, as its target, which isn't null
 pub record IsPinnedBelow (table : FinMap nat_cmp Handle) (low n place : ℕ) : Type 0 where
@@ -33,13 +33,6 @@ abbrev pub PinsStand : List TypeRow → HeapView → FinMap nat_cmp Handle → T
 PinsStand rows h table =
     (n : ℕ) (row : Handle) → finmap.get table n ≡ Some row → is_pinned_kind row.kind ≡ true → 0 < row.target
     → StandsAt rows h row.target
-
--- the header with this in its bit, and all other bits as they were
-abbrev pub pinned_header : Bool → ℕ → ℕ
-pinned_header on header =
-    if on && not (has_pin header) then header + 0x20000000
-    else if not on && has_pin header then header - 0x20000000
-    else header
 
 -- The header at b says this, where it is one of an object that such a handle pins and that stands at `low` or above it,
 -- and all else is as it was.

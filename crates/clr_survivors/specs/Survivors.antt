@@ -20,7 +20,7 @@ use Rattle.clr_heap.specs.View.{HeapView}
 use Rattle.clr_model.specs.Collection.{bytes_promoted}
 use Rattle.clr_model.specs.Compaction.{IsCompacted, Move, moved_by}
 use Rattle.clr_model.specs.Machine.{Machine, Object, ref}
-use Rattle.clr_model.specs.Sweep.{survivors, swept_kind}
+use Rattle.clr_model.specs.Sweep.{survivors, swept_others}
 use Rattle.clr_view.specs.Memory.{is_left, IsLeft}
 use Rattle.clr_view.specs.View.{layout_in, objects_in}
 use Rattle.clr_view.specs.World.{World}
@@ -86,7 +86,7 @@ pub record HaveMoved (old new : World) (g : ℕ) (n : Machine) (kept : ℕ → B
   pub null : moved_by moves 0 ≡ 0
   pub objects : objects_in new.rows new.heap ≡ sorted_by (λ o. o.name) (left_objects old.rows old.heap g moves)
   pub layout : layout_in new.rows new.heap
-      ≡ (if g == 2 then swept_kind Large after 2 (survivors n g kept) else after)
+      ≡ (if g == 2 then swept_others after 2 (survivors n g kept) else after)
   pub locals : new.locals ≡ map (moved_by moves) old.locals
   pub handles : new.handles ≡ map_values (relocated (moved_by moves)) old.handles
   pub entries : new.entries ≡ map (moved_by moves) old.entries

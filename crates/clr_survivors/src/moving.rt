@@ -37,7 +37,7 @@ use clr_compact::{Slides, compact};
 use clr_final::Finals;
 use clr_handles::Handles;
 use clr_heap::Heap;
-use clr_moves::{Planned, Promoted, promoted_bytes};
+use clr_moves::{Parts, Planned, Promoted, promoted_bytes};
 use clr_pinq::PinQueue;
 use clr_plan::plan;
 use clr_reloc::relocate;
@@ -93,9 +93,10 @@ pub fn move_survivors(
     ensures occupied { g ≡ 2 → HasObjects types.now heap.new }
     ensures limit { heap.new.limit ≡ heap.old.limit }
     ensures empty { pins.new.entries ≡ [] }
-    ensures room { pins.old.spare ≤ pins.new.spare }
+    ensures room { pins.new.spare ≡ pins.old.spare }
     ensures pinned { pinned_in handles.new ≡ pinned_in handles.old }
     ensures spare { finals.new.spare ≡ finals.old.spare }
+    ensures entries { length finals.new.entries ≡ length finals.old.entries }
 {
     heap.lawful();
     handles.lawful();
@@ -137,7 +138,7 @@ fn plan_pinned(
         → TestsMarks types.now heap.old g kept
         → HasPlannedPinned types.now heap.old heap.new bricks.old bricks.new pins.new.entries handles.now g m kept
         result }
-    ensures spare { pins.old.spare ≤ pins.new.spare + length pins.new.entries }
+    ensures spare { pins.old.spare ≡ pins.new.spare + length pins.new.entries }
     ensures spans { spans bricks.new ≡ spans bricks.old }
 {
     heap.lawful();
@@ -176,11 +177,11 @@ fn move_by_plan(
     ensures start1 { heap.new.start1 ≡ planned.now.start1 }
     ensures start0 { heap.new.start0 ≡ planned.now.start0 }
     ensures empty { pins.new.entries ≡ [] }
-    ensures spare { pins.old.spare + length pins.old.entries ≤ pins.new.spare }
+    ensures spare { pins.new.spare ≡ pins.old.spare + length pins.old.entries }
     ensures cards { spans cards.new ≡ spans cards.old }
     ensures bricks { spans bricks.new ≡ spans bricks.old }
 {
-    let promoted = promoted_bytes(heap, types, bricks, g, planned);
+    let promoted = promoted_bytes(heap, types, bricks, Parts::Generations(g), planned);
     relocate(heap, types, cards, bricks, pins, g, planned);
     move_roots(heap, bricks, g, handles, finals, locals);
     compact(heap, types, bricks, pins, g, planned, slides);

@@ -3,15 +3,11 @@ ghost use Rattle.std.specs.Prelude.{◌≡◌, ◌-◌, ◌<◌, ◌≤◌, Matc
 ghost use Rattle.clr_heap.specs.View.{stored, word_of};
 ghost use Rattle.clr_view.specs.SlotValues.{StandsAt};
 ghost use Rattle.clr_view.specs.View.{IsHeld};
-ghost use Rattle.clr_plan.specs.Pinned as pinned;
 ghost use Rattle.clr_survivors.specs.Pins.{HasPins, pinned_header, pins_from, PinsStand};
 
 use clr_handles::Handles;
 use clr_heap::Heap;
-use clr_types::{Handle, Types};
-
-// The bit of an object's header that says that a plan leaves it where it is.
-const PINNED: u64 = 0x2000_0000;
+use clr_types::{Handle, Types, header};
 
 // Says in the headers of all targets of pinned handles, as far as they stand at `low` or above it, whether they are
 // pinned.
@@ -52,24 +48,6 @@ fn set_pin(heap: &mut Heap, types: &Types, near: usize, place: u64, on: bool)
 {
     heap.lawful();
     let k = heap.segment_near(near, place - 8);
-    let header = heap.word_at(k, place - 8);
-    heap.set_word_at(k, place - 8, with_pin(header, on));
-}
-
-// The header with this in its bit.
-fn with_pin(header: u64, on: bool) -> u64
-    ensures { result ≡ pinned_header on header }
-{
-    match (on, has_pin(header)) {
-        (true, false) => header + PINNED,
-        (false, true) => header - PINNED,
-        (true, true) | (false, false) => header,
-    }
-}
-
-// Whether a header says that its object is pinned.
-fn has_pin(header: u64) -> bool
-    ensures { result ≡ pinned.has_pin header }
-{
-    header / PINNED % 2 == 1
+    let word = heap.word_at(k, place - 8);
+    heap.set_word_at(k, place - 8, header::with_pinned(word, on));
 }

@@ -17,10 +17,11 @@ enter_whole_part-requires-clause-walk c =
     let unmarking = c.loop-k.invariant.unmarking in
     let n = c.segments-count.ensures.count in
     let inside : k < length h.segments = omega (arith, n, c.loop-k-test.true) in
-    let same = ap (λ (g : HeapView). segment_at g k) unmarking.shape.others in
-    let on : takes 2 (segment_at h k) ≡ true =
-    ap (takes 2) (sym (c.info.ensures.value ∙ same)) ∙ sym c.takes_part.ensures ∙ c.if-takes_part.true in
-    whole-walk c.args.types.now h c.loop-k.heap c.segments-count.ensures.heap c.requires.parts k inside unmarking on
+    let same = ap (λ (x : HeapView). segment_at x k) unmarking.shape.others in
+    let on : takes c.args.g (segment_at h k) ≡ true =
+    ap (takes c.args.g) (sym (c.info.ensures.value ∙ same)) ∙ sym c.takes_part.ensures ∙ c.if-takes_part.true in
+    whole-walk c.args.types.now c.args.g c.requires.whole h c.loop-k.heap c.segments-count.ensures.heap c.requires.parts
+    k inside unmarking on
 
 pub loop-k-preserved : goal.loop-k-preserved
 loop-k-preserved c =
@@ -32,35 +33,39 @@ loop-k-preserved c =
     let heap = c.segments-count.ensures.heap in
     let n = c.segments-count.ensures.count in
     let inside : k < length h.segments = omega (arith, n, c.loop-k-test.true) in
-    let same = ap (λ (g : HeapView). segment_at g k) inv.unmarking.shape.others in
-    let told : takes 2 (segment_at h k) ≡ c.takes_part.result =
-    ap (takes 2) (sym (c.info.ensures.value ∙ same)) ∙ sym c.takes_part.ensures in
-    let U : HeapView → Type 0 = λ g. IsUnmarking rows h g 2 (k + 1) in
-    let K : BricksView → Type 0 = λ b. AreKeptElsewhere h 2 c.args.bricks.now b in
-    let W : BricksView → Type 0 = λ b. AreWholeUpTo rows h b (k + 1) in
+    let same = ap (λ (x : HeapView). segment_at x k) inv.unmarking.shape.others in
+    let told : takes c.args.g (segment_at h k) ≡ c.takes_part.result =
+    ap (takes c.args.g) (sym (c.info.ensures.value ∙ same)) ∙ sym c.takes_part.ensures in
+    let U : HeapView → Type 0 = λ x. IsUnmarking rows h x c.args.g (k + 1) in
+    let K : BricksView → Type 0 = λ b. AreKeptElsewhere h c.args.g c.args.bricks.now b in
+    let W : BricksView → Type 0 = λ b. AreWholeUpTo rows c.args.g h b (k + 1) in
     elim c.if-takes_part.branch [
       | then-takes_part w ↦
           let on = told ∙ w.if-takes_part.true in
           let done = w.enter_whole_part.ensures in
           record {
             unmarking = subst U (sym w.heap-is)
-                (whole-unmarked rows h mid heap c.requires.parts k inside inv.unmarking on w.enter_whole_part.new.heap
+                (whole-unmarked rows c.args.g c.requires.whole h mid heap c.requires.parts k inside inv.unmarking on
+                w.enter_whole_part.new.heap
                 done.shape done.words);
             kept = subst K (sym w.bricks-is)
-                (kept-more h 2 k c.args.bricks.now c.loop-k.bricks w.enter_whole_part.new.bricks heap inside on inv.kept
+                (kept-more h c.args.g k c.args.bricks.now c.loop-k.bricks w.enter_whole_part.new.bricks heap inside on
+                inv.kept
                 (λ b out. done.others b (λ of. out (subst (λ (s : SegInfo). IsBrickOf s b) same of))) done.spans);
             entered = subst W (sym w.bricks-is)
-                (whole-more rows h mid heap c.requires.parts k inside inv.unmarking c.loop-k.bricks inv.entered on
+                (whole-more rows c.args.g c.requires.whole h mid heap c.requires.parts k inside inv.unmarking
+                c.loop-k.bricks inv.entered on
                 w.enter_whole_part.new.bricks done.entered done.others);
           }
       | else-takes_part w ↦
           let off = told ∙ w.if-takes_part.false in
           record {
             unmarking = subst U (sym w.heap-is)
-                (unmarked_same rows h 2 heap c.requires.parts mid k inside inv.unmarking off);
+                (unmarked_same rows h c.args.g heap c.requires.parts mid k inside inv.unmarking off);
             kept = subst K (sym w.bricks-is) inv.kept;
             entered = subst W (sym w.bricks-is)
-                (whole-passes rows h mid heap c.requires.parts k inside inv.unmarking c.loop-k.bricks inv.entered off);
+                (whole-passes rows c.args.g c.requires.whole h mid heap c.requires.parts k inside inv.unmarking
+                c.loop-k.bricks inv.entered off);
           }
     ]
 

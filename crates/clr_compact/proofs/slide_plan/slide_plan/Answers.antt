@@ -122,7 +122,8 @@ loop-front-preserved-in-Some c = λ view vs o told.
     (c.loop-front.invariant view vs o told) c.lawful.ensures c.room_end.result c.room_end.ensures
     (omega (arith, n, test)) c.in-Some.plug lands
     c.pass.new.self c.land_plug-near.new.heap c.to.result c.size.result c.add_plug.new.self c.to.ensures c.size.ensures
-    (c.pass.ensures vs w.order w.next within) c.land_plug-near.ensures.shape c.land_plug-near.ensures.words c.add_plug.ensures
+    (c.pass.ensures vs w.order w.next within) c.land_plug-near.ensures.shape c.land_plug-near.ensures.words
+    c.add_plug.ensures
 
 pub loop-front-smaller : goal.loop-front-smaller
 loop-front-smaller c =

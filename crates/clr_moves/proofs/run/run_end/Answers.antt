@@ -79,19 +79,19 @@ loop-place-preserved c = λ last run.
     let l = c.loop-place-test.true in
     let less : c.loop-place.place < last_of c.args.heap.now c.args.k = omega (arith, end, l) in
     let on : has_mark (word_of c.args.heap.now c.loop-place.place) ≡ true =
-    ap has_mark (sym c.word_at-mt.ensures) ∙ sym c.is_marked_word.ensures ∙ c.if-not-is_marked_word.false in
+    ap has_mark (sym c.word_at-mt.ensures) ∙ sym c.is_marked.ensures ∙ c.if-not-is_marked.false in
     let e = ap (λ i. i.size) c.item_of_word-place.ensures in
     let P : ℕ → Type 0 = λ n. IsMarkedRun c.args.types.now c.args.heap.now c.args.k (c.loop-place.place + n) last in
     subst P (sym e) (run_on c.args.types.now c.args.heap.now c.args.k c.loop-place.place last
     (c.loop-place.invariant last run) less on)
 
-pub returns-then-not-is_marked_word : goal.returns-then-not-is_marked_word
-returns-then-not-is_marked_word c =
+pub returns-then-not-is_marked : goal.returns-then-not-is_marked
+returns-then-not-is_marked c =
     let end = ap (λ (s : SegInfo). s.end) c.info-end.ensures.value in
     let l = c.loop-place-test.true in
     let less : c.loop-place.place < last_of c.args.heap.now c.args.k = omega (arith, end, l) in
     let off : has_mark (word_of c.args.heap.now c.loop-place.place) ≡ false =
-    ap has_mark (sym c.word_at-mt.ensures) ∙ sym c.is_marked_word.ensures ∙ c.if-not-is_marked_word.true in
+    ap has_mark (sym c.word_at-mt.ensures) ∙ sym c.is_marked.ensures ∙ c.if-not-is_marked.true in
     record {
       end = λ last run. run_stops c.args.types.now c.args.heap.now c.args.k c.loop-place.place last
           (c.loop-place.invariant last run) less off;

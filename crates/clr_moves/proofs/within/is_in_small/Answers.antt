@@ -60,3 +60,16 @@ returns-in-Large-clause-outside c = λ off t i.
     ∙ c.in-Large.is) in
     both_ways false refl
     (sym kind ∙ (in_segment h c.args.place c.segment_below.ensures.heap c.segment_below.result t b i).kind)
+
+pub returns-in-Pinned-clause-outside : goal.returns-in-Pinned-clause-outside
+returns-in-Pinned-clause-outside c = λ off t i.
+    let h = c.args.heap.now in
+    let b : IsBelow h c.args.place c.segment_below.result = record {
+      in_range = c.segment_below.ensures.in_range;
+      below = c.segment_below.ensures.below;
+      above = c.segment_below.ensures.above;
+    } in
+    let kind = ap is_small_or_ephemeral (sym (ap (λ (s : SegInfo). s.kind) c.info-segment.ensures.value)
+    ∙ c.in-Pinned.is) in
+    both_ways false refl
+    (sym kind ∙ (in_segment h c.args.place c.segment_below.ensures.heap c.segment_below.result t b i).kind)

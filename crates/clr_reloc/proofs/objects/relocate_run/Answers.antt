@@ -1,7 +1,8 @@
 use Rattle.std.proofs.Common.{◌≡◌, ◌+◌, ◌-◌, ◌*◌, ap, sym, ◌∙◌, subst, arith}
 use Rattle.clr_types.specs.Descriptors.{offsets_from}
 use Rattle.clr_mark.proofs.RunReferences.{run_more}
-use Rattle.clr_reloc.proofs.ObjectLoops.{HasPassed, passed_all, passed_more, passed_none, run_around, slot_at, slot_card}
+use Rattle.clr_reloc.proofs.ObjectLoops.{HasPassed, passed_all, passed_more, passed_none, run_around, slot_at}
+use Rattle.clr_reloc.proofs.ObjectLoops.{slot_card}
 use Rattle.clr_reloc.proofs.ObjectLoops.{slot_fits, slot_next}
 use Rattle.clr_reloc.proofs.objects.relocate_run.Goals as goal
 

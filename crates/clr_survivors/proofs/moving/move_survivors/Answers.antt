@@ -1,7 +1,8 @@
 use Rattle.clr_handles.specs.Tops.{pinned_in}
 use Rattle.clr_view.specs.View.{IsHeld}
 use Rattle.clr_bricks.specs.Bricks.{entry_at}
-use Rattle.std.proofs.Common.{refl, ap, sym, ◌∙◌, arith}
+use Rattle.std.proofs.Common.{refl, ap, sym, ◌∙◌, arith, length}
+use Rattle.std.proofs.lemmas.List.{length-map}
 use Rattle.clr_view.specs.Memory.{is_left_name}
 use Rattle.clr_view.proofs.LeftNames.{tests_marks}
 use Rattle.clr_survivors.proofs.CanMoveAll.{can-move, IsGiven, left-stands}
@@ -234,6 +235,13 @@ returns-clause-pinned c =
     let s = stages at in
     let (m, kept, course) = some-course s (ran at) in
     ap pinned_in course.went.gone.table_is ∙ pinned-relocated (moved_by course.begun.plan.moves) c.args.handles.now
+
+pub returns-clause-entries : goal.returns-clause-entries
+returns-clause-entries c =
+    let at = (goal.at.returns-clause-entries c).After-lawful-4 in
+    let s = stages at in
+    let (m, kept, course) = some-course s (ran at) in
+    ap length course.went.gone.entries_is ∙ length-map c.args.finals.now.entries (moved_by course.begun.plan.moves)
 
 pub returns-clause-spare : goal.returns-clause-spare
 returns-clause-spare c =

@@ -13,8 +13,8 @@ pub overflow_sub-place-2 : goal.overflow_sub-place-2
 overflow_sub-place-2 c =
     header-high c.args.types.now c.args.heap.now c.args.place c.lawful.ensures c.requires.held c.requires.stands
 
-pub word_at-header-requires : goal.word_at-header-requires
-word_at-header-requires c = record {
+pub word_at-word-requires : goal.word_at-word-requires
+word_at-word-requires c = record {
   word = header-has c.args.types.now c.args.heap.now c.args.place c.lawful.ensures c.requires.held c.requires.stands;
   segment = c.segment_near-k.ensures;
 }

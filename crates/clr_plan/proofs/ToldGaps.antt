@@ -1,0 +1,165 @@
+-- The word before each plug tells how many bytes below it are unused.
+use Rattle.std.proofs.Common.{◌≡◌, ◌⊎◌, inl, inr, ℕ, suc, ◌+◌, ◌-◌, ◌<◌, ◌≤◌, true, List, [], ◌∷◌, length}
+use Rattle.std.proofs.Common.{sym, ap, subst, ◌∙◌, arith}
+use Rattle.std.specs.List.{AllByRecursion}
+use Rattle.std.proofs.lemmas.Bool.{cases_order}
+use Rattle.clr_types.specs.Rising.{first, IsIn, later}
+use Rattle.clr_types.specs.Types.{TypeRow}
+use Rattle.clr_heap.specs.View.{HeapView, last_of, segment_at, word_of}
+use Rattle.clr_heap.proofs.Framing.{lawful_at}
+use Rattle.clr_heap.proofs.Staying.{segment_order}
+use Rattle.clr_model.specs.Compaction.{Move, Plug, plug_end}
+use Rattle.clr_pinq.specs.Queue.{QueueView}
+use Rattle.clr_plugs.specs.BrickEntries.{BricksView}
+use Rattle.clr_plugs.specs.Plans.{IsTold}
+use Rattle.clr_moves.specs.Moves.{IsInPart, move_at, part_of, plug_stop, takes}
+use Rattle.clr_plan.specs.Heaps.{AreFor, IsLaidBelow, part_plugs, plugs_below}
+use Rattle.clr_plan.specs.LaidParts.{planned_plugs}
+use Rattle.clr_plan.specs.Planned.{AreUnusedBelow, TellGaps}
+use Rattle.clr_plan.specs.Plans.{CanPlanHeap}
+use Rattle.clr_plan.proofs.Assembled as assembled
+use Rattle.clr_plan.proofs.Fitting.{move-of, plug-at}
+use Rattle.clr_plan.proofs.Homes.{AreGapped, gapped-above, home-of, in-all, inside-of, lies-in, part-first, part-gapped}
+use Rattle.clr_plan.proofs.Homes.{sized}
+use Rattle.clr_moves.specs.declared.parts.Parts.TheVariants.{Generations}
+
+-- the word before a plug of a part tells the bytes below it, down to where the others before it end
+record HasGap (word : ℕ → ℕ) (below : ℕ) (ps : List Plug) (q : Plug) : Type 0 where
+  pub low_end : ℕ
+  pub told : word (q.start - 32) ≡ q.start - low_end
+  pub order : low_end ≤ q.start
+  pub low : below ≤ low_end
+  pub ends : (low_end ≡ below) ⊎ ((w : Plug) × IsIn w ps × (plug_end w ≡ low_end))
+  pub others : (w : Plug) → IsIn w ps → (plug_end w ≤ low_end) ⊎ (q.start ≤ w.start)
+
+gap-of : (word : ℕ → ℕ) (below : ℕ) (ps : List Plug) (vs : List Move) → AreFor ps vs → AreGapped below ps
+    → AllByRecursion (IsTold word) (planned_plugs below ps vs) → (q : Plug) → IsIn q ps → HasGap word below ps q
+gap-of word below [] vs f g told q i = elim i [ ]
+gap-of word below (p ∷ ps) [] f g told q i = absurd f
+gap-of word below (p ∷ ps) (v ∷ vs) f g told q first = record {
+  low_end = below;
+  told = told.0.gap;
+  order = (let a = g.0 in omega arith);
+  low = omega arith;
+  ends = inl (omega arith);
+  others = others;
+}
+  where
+    others : (w : Plug) → IsIn w (p ∷ ps) → (plug_end w ≤ below) ⊎ (p.start ≤ w.start)
+    others w first = inr (omega arith)
+    others w (later i) = let a = gapped-above (plug_end p) ps g.1 w i in inr (omega arith)
+gap-of word below (p ∷ ps) (v ∷ vs) f g told q (later i) =
+    let r = gap-of word (plug_end p) ps vs f.2 g.1 told.1 q i in
+    record {
+      low_end = r.low_end;
+      told = r.told;
+      order = r.order;
+      low = (let a = g.0 in let b = r.low in omega arith);
+      ends = elim r.ends [
+        | inl e ↦ inr (p, first, sym e)
+        | inr (w, j, e) ↦ inr (w, later j, e)
+      ];
+      others = others r;
+    }
+  where
+    others : (r : HasGap word (plug_end p) ps q) → (w : Plug) → IsIn w (p ∷ ps) → (plug_end w ≤ r.low_end)
+        ⊎ (q.start ≤ w.start)
+    others r w first = inl r.low
+    others r w (later j) = r.others w j
+
+module _ (rows : List TypeRow) (old now : HeapView) (bricks0 bricks : BricksView) (queue0 queue : QueueView) (g e : ℕ)
+    (can : CanPlanHeap rows old g e) (moves : List Move) (laid : IsLaidBelow rows old now bricks0 bricks queue0 queue g
+    e (suc e) moves) where
+  abbrev all : List Plug
+  all = plugs_below rows old g e (suc e)
+
+  fits : AreFor all moves
+  fits = assembled.fits rows old now bricks0 bricks queue0 queue g e can moves laid
+
+  abbrev Standing : Plug → Type 0
+  Standing = assembled.Stands rows old now bricks0 bricks queue0 queue g e can moves laid
+
+  standing : (q : Plug) → IsIn q all → Standing q
+  standing = assembled.stands rows old now bricks0 bricks queue0 queue g e can moves laid
+
+  in-part : (q : Plug) (place : ℕ) → (s : Standing q) → place ≡ q.start
+      → IsInPart now (Generations g) s.number place
+  in-part q place s is =
+      let low = s.low in
+      let high = s.high in
+      let size = s.size in
+      let inside = inside-of rows old g e can s.number s.below in
+      let top = (lawful_at old s.number can.heap inside).high in
+      let there : IsInPart (record old { memories = now.memories }) (Generations g) s.number place = record {
+        in_range = inside;
+        takes = s.taken;
+        low = omega (arith, is, low);
+        high = omega (arith, is, high, size, top);
+      } in
+      subst (λ (h : HeapView). IsInPart h (Generations g) s.number place) (sym laid.words.shape.others) there
+
+  module _ (t : ℕ) (l : t < suc e) (on : takes (Generations g) (segment_at old t) ≡ true) (q : Plug)
+      (i : IsIn q (part_plugs rows old g e t)) where
+    gap : HasGap (word_of now) (part_of old (Generations g) t) (part_plugs rows old g e t) q
+    gap = gap-of (word_of now) (part_of old (Generations g) t) (part_plugs rows old g e t) (laid.each t)
+        (laid.fit t l on) (part-gapped rows old g e can t l on) (laid.plans t l on).told q i
+
+    -- each plug of a part ends no higher, or starts no lower
+    apart : (w : Plug) → IsIn w all → (plug_end w ≤ gap.low_end) ⊎ (q.start ≤ w.start)
+    apart w j = let s = standing w j in elim (cases_order s.number t) [
+      | inl same ↦ gap.others w (subst (λ n. IsIn w (part_plugs rows old g e n)) same s.known)
+      | inr other ↦ elim other [
+        | inl u ↦ inl (
+            let o = segment_order old s.number t can.heap u (inside-of rows old g e can t l) in
+            let top = (lawful_at old s.number can.heap (inside-of rows old g e can s.number s.below)).high in
+            let f = part-first rows old g e can t l on in
+            let h = s.high in
+            let m = gap.low in
+            omega (arith, o, top, f, h, m))
+        | inr u ↦ inr (
+            let o = segment_order old t s.number can.heap u (inside-of rows old g e can s.number s.below) in
+            let top = (lawful_at old t can.heap (inside-of rows old g e can t l)).high in
+            let f = s.first_low in
+            let m = s.low in
+            let h = (lies-in rows old g e can t l on q i).high in
+            omega (arith, o, top, f, h, m))
+      ]
+    ]
+
+  -- THE WORD before each plug tells the unused bytes below it
+  pub gaps : TellGaps now (Generations g) moves
+  gaps k within =
+      let r = plug-at all moves fits k within in
+      let s = standing r.plug r.known in
+      let told = gap s.number s.below s.taken r.plug s.known in
+      let same : part_of now (Generations g) s.number ≡ part_of old (Generations g) s.number = ap (λ (h : HeapView). part_of
+      h (Generations g) s.number) laid.words.shape.others in
+      let word : word_of now ((move_at moves k).start - 32) ≡ r.plug.start - told.low_end = subst (λ n. word_of now (n - 32)
+      ≡ r.plug.start - told.low_end) (sym r.start) told.told in
+      let start = r.start in
+      let order = told.order in
+      let low = told.low in
+      let high = s.high in
+      let size = s.size in
+      record {
+        part = s.number;
+        inside = in-part r.plug (move_at moves k).start s start;
+        within = omega (arith, same, word, start, order, low);
+        unused = λ j l. (
+            let w = plug-at all moves fits j l in
+            let w_start = w.start in
+            let w_size = w.size in
+            elim (apart s.number s.below s.taken r.plug s.known w.plug w.known) [
+              | inl u ↦ inl (omega (arith, u, word, start, order, w_start, w_size))
+              | inr u ↦ inr (omega (arith, u, start, w_start))
+            ]
+            );
+        ends = elim told.ends [
+          | inl u ↦ inl (omega (arith, u, same, word, start, order))
+          | inr (w, i, u) ↦
+              let m = move-of all moves fits w (in-all rows old g e can (suc e) s.number w s.below s.taken i) in
+              let m_start = m.start in
+              let m_size = m.size in
+              inr (m.index, m.within, omega (arith, u, word, start, order, m_start, m_size))
+        ];
+      }

@@ -18,7 +18,7 @@ use Rattle.clr_heap.specs.View.{HeapView}
 use Rattle.clr_model.specs.Collection.{kept_or_null, object_after, row_after, row_of_kind}
 use Rattle.clr_model.specs.Lawful.{HasItsSecond}
 use Rattle.clr_model.specs.Machine.{Machine, Object, ref}
-use Rattle.clr_model.specs.Reach.{First, follows, HeldBy, Kept, starts}
+use Rattle.clr_model.specs.Reach.{IsAlive, follows, HeldBy, Kept, starts}
 use Rattle.clr_model.specs.Reach.{StartOf, woken}
 use Rattle.clr_view.specs.Memory.{is_left, is_left_name, IsLeft}
 use Rattle.clr_view.specs.View.{objects_in}
@@ -27,7 +27,7 @@ use Rattle.clr_collect.proofs.InLists.{in_got}
 use Rattle.clr_collect.specs.Collecting.{objects_unflagged, TestsKept}
 
 -- what is alive before finalisation is kept
-more-reached : (m : Machine) (start : ℕ → Type 0) (first : ℕ → Bool) (x : ℕ) → First m start x → Kept m start first x
+more-reached : (m : Machine) (start : ℕ → Type 0) (first : ℕ → Bool) (x : ℕ) → IsAlive m start x → Kept m start first x
 more-reached m start first x (starts s) = starts (inl s)
 more-reached m start first x (follows {x = y} r e) = follows (more-reached m start first y r) e
 

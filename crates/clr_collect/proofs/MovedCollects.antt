@@ -15,15 +15,16 @@ use Rattle.clr_types.proofs.ListMembers.{any-map, any-on, filter-map, map-map, m
 use Rattle.clr_types.proofs.MapValues.{values-map_values}
 use Rattle.clr_model.specs.declared.Collected.{Collected}
 use Rattle.clr_model.specs.declared.How.{How}
-use Rattle.clr_model.specs.Collection.{bytes_promoted, compacts, decides_to_compact, IsCollected, IsSmallLaid}
+use Rattle.clr_model.specs.Collection.{bytes_promoted, compacts, decides_to_compact, IsSmallLaid, marking_after}
 use Rattle.clr_model.specs.Collection.{kept_or_null}
 use Rattle.clr_model.specs.Collection.{object_after, objects_after, released, row_after, row_of_kind, sums_after}
 use Rattle.clr_model.specs.Compaction.{IsCompacted, Move, moved_by}
 use Rattle.clr_model.specs.Lookups.{is_pinned, object_size}
 use Rattle.clr_model.specs.Machine.{Machine, Object}
 use Rattle.clr_model.specs.Reach.{StartOf, woken}
-use Rattle.clr_model.specs.Sweep.{is_condemned, Survivor, survivor, survivors, swept_kind}
+use Rattle.clr_model.specs.Sweep.{is_condemned, Survivor, survivor, survivors, swept_others}
 use Rattle.clr_collect.specs.Collecting.{objects_unflagged, TestsKept}
+use Rattle.clr_model.proofs.PlainCollections.{IsPlainlyCollected}
 
 -- ---- pins
 
@@ -105,7 +106,7 @@ module _ (m : Machine) (g : ℕ) (first kept : ℕ → Bool) where
       (decided : compacts how (decides_to_compact m g (survivors m g kept)) ≡ true)
       (compacted : IsCompacted m.layout g (survivors m g kept) moves small) where
     abbrev pub laid : Layout
-    laid = if g == 2 then swept_kind Large small 2 (survivors m g kept) else small
+    laid = if g == 2 then swept_others small 2 (survivors m g kept) else small
 
     -- the machine that such a collection leaves
     abbrev pub moved_machine : Collected → Machine
@@ -116,6 +117,7 @@ module _ (m : Machine) (g : ℕ) (first kept : ℕ → Bool) where
       ready = m.ready ++ woken m first;
       layout = if g == 2 then released laid (objects_after m first kept moves) else laid;
       sums = sums_after m g answer.promoted1 answer.promoted2;
+      background = marking_after (g == 2) m.background;
     }
 
     -- THE COLLECTION: with these tests and moves, and what was counted
@@ -123,12 +125,14 @@ module _ (m : Machine) (g : ℕ) (first kept : ℕ → Bool) where
         → answer ≡ record {
           generation = g;
           compacted = true;
+          fitted = false;
+          background = false;
           kept = count_by (λ o. is_condemned m g o && kept o.name) m.objects;
           freed = count_by (λ o. is_condemned m g o && not (kept o.name)) m.objects;
           promoted1 = bytes_promoted m laid kept moves 0;
           promoted2 = bytes_promoted m laid kept moves 1;
         }
-        → IsCollected m g how (StartOf m g) answer (moved_machine answer)
+        → IsPlainlyCollected m g how false (StartOf m g) answer (moved_machine answer)
     compaction_collects answer is = record {
       first = first;
       kept = kept;
@@ -147,6 +151,8 @@ module _ (m : Machine) (g : ℕ) (first kept : ℕ → Bool) where
           ∙ ap (λ (b : Bool). record {
             generation = g;
             compacted = b;
+            fitted = false;
+            background = false;
             kept = count_by (λ o. is_condemned m g o && kept o.name) m.objects;
             freed = count_by (λ o. is_condemned m g o && not (kept o.name)) m.objects;
             promoted1 = bytes_promoted m laid kept moves 0;
@@ -159,6 +165,8 @@ module _ (m : Machine) (g : ℕ) (first kept : ℕ → Bool) where
         (is : answer ≡ record {
           generation = g;
           compacted = true;
+          fitted = false;
+          background = false;
           kept = count_by (λ o. is_condemned m g o && kept o.name) m.objects;
           freed = count_by (λ o. is_condemned m g o && not (kept o.name)) m.objects;
           promoted1 = bytes_promoted m laid kept moves 0;

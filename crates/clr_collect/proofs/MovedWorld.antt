@@ -1,5 +1,5 @@
 -- The whole collection that compacts, of every machine whose world it is: what counts and moves tell makes its answer.
-use Rattle.std.proofs.Common.{◌≡◌, ℕ, ◌+◌, ◌-◌, ◌^◌, ◌≤◌, ◌==◌, ◌&&◌, Bool, true, not, List}
+use Rattle.std.proofs.Common.{◌≡◌, ℕ, ◌+◌, ◌-◌, ◌^◌, ◌≤◌, ◌==◌, ◌&&◌, Bool, true, not, List, false}
 use Rattle.std.proofs.Common.{count_by}
 use Rattle.std.proofs.Common.{min, refl, ap, sym, ◌∙◌, subst, None}
 use Rattle.std.specs.Prelude.{MatchBool}
@@ -10,17 +10,15 @@ use Rattle.clr_final.specs.Queues.{Queues}
 use Rattle.clr_heap.specs.View.{HeapView, IsHeap}
 use Rattle.clr_model.specs.declared.Collected.{Collected}
 use Rattle.clr_model.specs.declared.How.{How}
-use Rattle.clr_model.specs.declared.How.TheVariants.{Compact}
 use Rattle.clr_model.specs.Collection.{begun, Collects, compacts, decides_to_compact}
 use Rattle.clr_model.specs.Compaction.{Move}
 use Rattle.clr_moves.specs.Moves.{moved_bytes}
 use Rattle.clr_model.specs.Lawful.{IsLaid, IsPlaceNamed}
+use Rattle.clr_model.specs.Laws.{IsUnslid}
 use Rattle.clr_model.specs.Lookups.{lowest_in_step}
 use Rattle.clr_model.specs.Machine.{Machine}
 use Rattle.clr_model.specs.Picture.{picture}
 use Rattle.clr_model.specs.Sweep.{is_condemned, Survivor, survivors}
-use Rattle.clr_model.proofs.CollectedLawful.{stays_lawful}
-use Rattle.clr_model.proofs.CollectionLaws.{picture_laid}
 use Rattle.clr_view.specs.Memory.{is_marked, is_reached_by, IsMemoryOf, TestsMarks}
 use Rattle.clr_view.specs.View.{IsHeld}
 use Rattle.clr_view.specs.World.{IsWorldOf, World}
@@ -33,6 +31,7 @@ use Rattle.clr_collect.proofs.SweepCollects.{counted, freed-is, kept-is, survive
 use Rattle.clr_collect.proofs.WholeCollection.{begun_laid, due, due_laid, due_memory}
 use Rattle.clr_collect.proofs.WholeMoved.{collects, collects_moves, left, next, ready_laid, ready_machine, ready_memory}
 use Rattle.clr_collect.proofs.WholeMoved.{world-is}
+use Rattle.clr_model.specs.Collection.{is_fit}
 
 module _ (w : World) (marked : HeapView) (handles : FinMap nat_cmp Handle) (queues : Queues)
     (g : ℕ) (least : g ≤ 2) (k : HasMarkedKept w marked handles queues g) (gone : HeapView)
@@ -46,7 +45,7 @@ module _ (w : World) (marked : HeapView) (handles : FinMap nat_cmp Handle) (queu
     g n
     kept promoted1 promoted2 before_count after_count)
     (full : g ≡ 2 → HasObjects w.rows gone)
-    (how : How) (threshold : ℕ)
+    (how : How) (unfitted : is_fit how ≡ false) (threshold : ℕ)
     (decides : (m : Machine) (kept : ℕ → Bool) → IsMemoryOf w.rows marked m → IsLaid m
     → TestsMarks w.rows marked g kept → m.options.compact ≡ threshold
     → true ≡ compacts how (decides_to_compact m g (survivors m g kept)))
@@ -54,12 +53,15 @@ module _ (w : World) (marked : HeapView) (handles : FinMap nat_cmp Handle) (queu
     (told : answer ≡ record {
       generation = g;
       compacted = true;
+      fitted = false;
+      background = false;
       kept = tally.kept;
       freed = tally.freed;
       promoted1 = promoted1;
       promoted2 = promoted2;
     }) where
-  module _ (m : Machine) (is : IsWorldOf w m) (named : IsPlaceNamed m) (idle : lowest_in_step m ≡ None) where
+  module _ (m : Machine) (is : IsWorldOf w m) (named : IsPlaceNamed m) (idle : lowest_in_step m ≡ None)
+      (unslid : IsUnslid m g) where
     moved : HaveMoved (world_with w.rows marked w.locals handles queues)
         (world_with w.rows gone locals table after_queues) g (ready_machine w marked handles queues g least k m)
         (left w marked handles queues g least k) promoted1 promoted2 before_count after_count
@@ -71,6 +73,8 @@ module _ (w : World) (marked : HeapView) (handles : FinMap nat_cmp Handle) (queu
     answered : answer ≡ record {
       generation = g;
       compacted = true;
+      fitted = false;
+      background = false;
       kept = count_by (λ o. is_condemned (begun m) g o && left w marked handles queues g least k o.name) m.objects;
       freed = count_by (λ o. is_condemned (begun m) g o && not (left w marked handles queues g least k o.name))
           m.objects;
@@ -82,6 +86,8 @@ module _ (w : World) (marked : HeapView) (handles : FinMap nat_cmp Handle) (queu
         ∙ ap (λ (t : Tally). record {
           generation = g;
           compacted = true;
+          fitted = false;
+          background = false;
           kept = t.kept;
           freed = t.freed;
           promoted1 = promoted1;
@@ -90,6 +96,8 @@ module _ (w : World) (marked : HeapView) (handles : FinMap nat_cmp Handle) (queu
         ∙ (λ t. record {
           generation = g;
           compacted = true;
+          fitted = false;
+          background = false;
           kept =
               counted (begun m) (begun_laid w marked handles queues g least k m named) g least k.first
               (left w marked handles queues g least k) (k.leaves m is named).tests w.rows marked
@@ -111,21 +119,6 @@ module _ (w : World) (marked : HeapView) (handles : FinMap nat_cmp Handle) (queu
           promoted2 = promoted2;
         })
 
-    -- the heap that is left is that of a lawful machine, whatever was to decide
-    pub moved_laid : (n : Machine) × IsMemoryOf w.rows new n × IsLaid n
-    moved_laid =
-        let next' =
-        next w marked handles queues g least k gone gone_heap gone_held locals table after_queues new ended m is named
-        idle promoted1 promoted2 before_count after_count moved Compact refl full answer in
-        let c =
-        collects w marked handles queues g least k gone gone_heap gone_held locals table after_queues new ended m is
-        named idle promoted1 promoted2 before_count after_count moved Compact refl full answer answered in
-        let world =
-        world-is w marked handles queues g least k gone gone_heap gone_held locals table after_queues new ended m is
-        named idle promoted1 promoted2 before_count after_count moved Compact refl full answer c in
-        let lawful = stays_lawful m named.lawful idle g least Compact answer next' c in
-        (picture next', world.memory, picture_laid next' lawful.laid)
-
     module _ (option : m.options.compact ≡ threshold) where
       decided : compacts how (decides_to_compact (begun m) g
           (survivors (begun m) g (left w marked handles queues g least k))) ≡ true
@@ -140,25 +133,29 @@ module _ (w : World) (marked : HeapView) (handles : FinMap nat_cmp Handle) (queu
       -- THE COLLECTION
       pub moved_collected : (after : Machine) × (c : Collects m g how answer after)
           × IsWorldOf (world_with w.rows new locals table after_queues) (picture after)
-          × CountsSlides c.moves answer before_count after_count
+          × CountsSlides c.collects.moves answer before_count after_count
       moved_collected =
           let c =
           collects w marked handles queues g least k gone gone_heap gone_held locals table after_queues new ended m is
           named
-          idle promoted1 promoted2 before_count after_count moved how decided full answer answered in (
-            next w marked handles queues g least k gone gone_heap gone_held locals table after_queues new ended m is named
-                idle promoted1 promoted2 before_count after_count moved how decided full answer,
+          idle unslid promoted1 promoted2 before_count after_count moved how unfitted decided full answer answered in (
+            next w marked handles queues g least k gone gone_heap gone_held locals table after_queues new ended m is
+                named
+                idle unslid promoted1 promoted2 before_count after_count moved how unfitted decided full answer,
             c,
             world-is w marked handles queues g least k gone gone_heap gone_held locals table after_queues new ended m is
                 named
-                idle promoted1 promoted2 before_count after_count moved how decided full answer c,
+                idle unslid promoted1 promoted2 before_count after_count moved how unfitted decided full answer c,
             subst (λ (b : Bool). MatchBool b
-                (after_count ≡ min (2 ^ 64 - 1) (before_count + (1 + moved_bytes c.moves))) (after_count ≡ before_count))
+                (after_count ≡ min (2 ^ 64 - 1) (before_count + (1 + moved_bytes c.collects.moves)))
+                (after_count ≡ before_count))
                 (sym (ap (λ (a : Collected). a.compacted) told))
                 (moved.slid
                 ∙ ap (λ (vs : List Move). min (2 ^ 64 - 1) (before_count + (1 + moved_bytes vs)))
-                (sym (collects_moves w marked handles queues g least k gone gone_heap gone_held locals table after_queues
+                (sym (collects_moves w marked handles queues g least k gone gone_heap gone_held locals table
+                after_queues
                 new
-                ended m is named idle promoted1 promoted2 before_count after_count moved how decided full answer
+                ended m is named idle unslid promoted1 promoted2 before_count after_count moved how unfitted decided
+                full answer
                 answered))),
           )

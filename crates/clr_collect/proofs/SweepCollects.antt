@@ -19,7 +19,7 @@ use Rattle.clr_heap.specs.View.{frame, HeapView, IsHeap}
 use Rattle.clr_model.specs.declared.Collected.{Collected}
 use Rattle.clr_model.specs.declared.How.{How}
 use Rattle.clr_model.specs.declared.How.TheVariants.{Sweep}
-use Rattle.clr_model.specs.Collection.{bytes_promoted, compacts, decides_to_compact, IsCollected, IsSmallLaid}
+use Rattle.clr_model.specs.Collection.{bytes_promoted, compacts, decides_to_compact, IsSmallLaid, marking_after}
 use Rattle.clr_model.specs.Collection.{object_after, objects_after, released}
 use Rattle.clr_model.specs.Collection.{row_after, sums_after}
 use Rattle.clr_model.specs.Lawful.{IsLaid}
@@ -27,7 +27,7 @@ use Rattle.clr_model.specs.Lookups.{object_size}
 use Rattle.clr_model.specs.Machine.{Machine, Object}
 use Rattle.clr_types.specs.Maps.{map_values}
 use Rattle.clr_model.specs.Reach.{starts, StartOf, woken}
-use Rattle.clr_model.specs.Sweep.{is_condemned, Survivor, survivor, survivors, swept_kind, swept_small}
+use Rattle.clr_model.specs.Sweep.{is_condemned, Survivor, survivor, survivors, swept_others, swept_small}
 use Rattle.clr_model.proofs.CollectedAges.{sweep_ages}
 use Rattle.clr_model.proofs.CollectedLayout.{large_ephemeral}
 use Rattle.clr_view.specs.Memory.{is_left, is_marked, is_reached_by, IsMemoryOf, TestsMarks}
@@ -39,6 +39,7 @@ use Rattle.clr_collect.specs.Released.{HasObjects, HasReleased}
 use Rattle.clr_collect.proofs.NeededSegments.{released_layout}
 use Rattle.clr_collect.proofs.SegmentsLost.{lost_objects}
 use Rattle.clr_collect.proofs.SweptLayouts.{swept_occupied}
+use Rattle.clr_model.proofs.PlainCollections.{IsPlainlyCollected}
 
 -- ---- small facts
 
@@ -78,7 +79,7 @@ module _ (m : Machine) (h : IsLaid m) (g : ℕ) (least : g ≤ 2) (first kept : 
   small = swept_small m.layout g (survivors m g kept)
 
   abbrev pub laid : Layout
-  laid = if g == 2 then swept_kind Large (swept_small m.layout g (survivors m g kept)) 2 (survivors m g kept)
+  laid = if g == 2 then swept_others (swept_small m.layout g (survivors m g kept)) 2 (survivors m g kept)
       else swept_small m.layout g (survivors m g kept)
 
   -- older objects are kept
@@ -93,9 +94,9 @@ module _ (m : Machine) (h : IsLaid m) (g : ℕ) (least : g ≤ 2) (first kept : 
   laid-is = go (g == 2) refl
     where
       go : (b : Bool) → (g == 2) ≡ b
-          → (if b then swept_kind Large (swept_small m.layout 2 survive) 2 survive else small)
-          ≡ (if b then swept_kind Large small 2 survive else small)
-      go true e = ap (λ (n : ℕ). swept_kind Large (swept_small m.layout n survive) 2 survive) (sym (eqb-true g 2 e))
+          → (if b then swept_others (swept_small m.layout 2 survive) 2 survive else small)
+          ≡ (if b then swept_others small 2 survive else small)
+      go true e = ap (λ (n : ℕ). swept_others (swept_small m.layout n survive) 2 survive) (sym (eqb-true g 2 e))
       go false e = refl
 
   -- sweeping the large heap changes no generation
@@ -105,7 +106,7 @@ module _ (m : Machine) (h : IsLaid m) (g : ℕ) (least : g ≤ 2) (first kept : 
       swept : ℕ → Layout
       swept n = swept_small m.layout n (survivors m n kept)
 
-      two-generation : generation (swept_kind Large (swept 2) 2 (survivors m 2 kept)) place ≡ generation (swept 2) place
+      two-generation : generation (swept_others (swept 2) 2 (survivors m 2 kept)) place ≡ generation (swept 2) place
       two-generation =
           ap (λ (s : SegInfo).
           if stands_in s place
@@ -114,9 +115,9 @@ module _ (m : Machine) (h : IsLaid m) (g : ℕ) (least : g ≤ 2) (first kept : 
           (large_ephemeral m h kept [] (swept 2) false (refl, refl))
 
       go : (b : Bool) → (g == 2) ≡ b
-          → generation (if b then swept_kind Large small 2 survive else small) place ≡ generation small place
+          → generation (if b then swept_others small 2 survive else small) place ≡ generation small place
       go true e =
-          subst (λ (n : ℕ). generation (swept_kind Large (swept n) 2 (survivors m n kept)) place
+          subst (λ (n : ℕ). generation (swept_others (swept n) 2 (survivors m n kept)) place
           ≡ generation (swept n) place) (sym (eqb-true g 2 e)) two-generation
       go false e = refl
 
@@ -164,6 +165,7 @@ module _ (m : Machine) (h : IsLaid m) (g : ℕ) (least : g ≤ 2) (first kept : 
     ready = m.ready ++ woken m first;
     layout = if g == 2 then released laid (objects_after m first kept []) else laid;
     sums = sums_after m g answer.promoted1 answer.promoted2;
+    background = marking_after (g == 2) m.background;
   }
 
   -- what a sweep that counted so answers
@@ -171,6 +173,8 @@ module _ (m : Machine) (h : IsLaid m) (g : ℕ) (least : g ≤ 2) (first kept : 
   told tally = record {
     generation = g;
     compacted = false;
+    fitted = false;
+    background = false;
     kept = tally.kept;
     freed = tally.freed;
     promoted1 = tally.promoted1;
@@ -238,7 +242,7 @@ module _ (m : Machine) (h : IsLaid m) (g : ℕ) (least : g ≤ 2) (first kept : 
 
     -- THE COLLECTION: with these tests, and the counts of the sweep
     pub sweep_collects : (answer : Collected) → answer ≡ told (tally_of rows marked g)
-        → IsCollected m g Sweep (StartOf m g) answer (swept_machine answer)
+        → IsPlainlyCollected m g Sweep false (StartOf m g) answer (swept_machine answer)
     sweep_collects answer is = record {
       first = first;
       kept = kept;
@@ -256,6 +260,8 @@ module _ (m : Machine) (h : IsLaid m) (g : ℕ) (least : g ≤ 2) (first kept : 
           ∙ (λ k. record {
             generation = g;
             compacted = false;
+            fitted = false;
+            background = false;
             kept = counted (is_kept marked g) (λ o. is_condemned m g o && kept o.name) kept-is k;
             freed =
                 counted (λ o. is_reached_by marked g o.place && not (is_marked marked o))
@@ -269,7 +275,7 @@ module _ (m : Machine) (h : IsLaid m) (g : ℕ) (least : g ≤ 2) (first kept : 
     -- and of another kind, where that comes to a sweep
     pub sweep_collects_as : (how : How) → compacts how (decides_to_compact m g (survivors m g kept)) ≡ false
         → (answer : Collected) → answer ≡ told (tally_of rows marked g)
-        → IsCollected m g how (StartOf m g) answer (swept_machine answer)
+        → IsPlainlyCollected m g how false (StartOf m g) answer (swept_machine answer)
     sweep_collects_as how decided answer is = record {
       first = first;
       kept = kept;
@@ -287,6 +293,8 @@ module _ (m : Machine) (h : IsLaid m) (g : ℕ) (least : g ≤ 2) (first kept : 
           ∙ (λ k. record {
             generation = g;
             compacted = sym decided k;
+            fitted = false;
+            background = false;
             kept = counted (is_kept marked g) (λ o. is_condemned m g o && kept o.name) kept-is k;
             freed =
                 counted (λ o. is_reached_by marked g o.place && not (is_marked marked o))
@@ -320,7 +328,7 @@ module _ (m : Machine) (h : IsLaid m) (g : ℕ) (least : g ≤ 2) (first kept : 
       pub rests_swept : swept.rests ≡ m.layout.rests
       rests_swept = ap (λ (l : Layout). l.rests) layout-swept ∙ go (g == 2)
         where
-          go : (b : Bool) → (if b then swept_kind Large small 2 survive else small).rests ≡ m.layout.rests
+          go : (b : Bool) → (if b then swept_others small 2 survive else small).rests ≡ m.layout.rests
           go true = refl
           go false = refl
 

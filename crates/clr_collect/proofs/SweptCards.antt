@@ -18,7 +18,7 @@ use Rattle.clr_heap.specs.View.{frame, HeapView}
 use Rattle.clr_model.specs.Collection.{object_after}
 use Rattle.clr_model.specs.Lawful.{IsLaid}
 use Rattle.clr_model.specs.Machine.{Machine, Object}
-use Rattle.clr_model.specs.Sweep.{has_condemned_part, segments_after, swept_end, swept_kind}
+use Rattle.clr_model.specs.Sweep.{has_condemned_part, segments_after, swept_end, swept_others}
 use Rattle.clr_model.proofs.CollectedAges.{sweep_ages}
 use Rattle.clr_view.specs.Memory.{is_left, IsMemoryOf, TestsMarks}
 use Rattle.clr_view.specs.View.{layout_in, objects_in}
@@ -27,6 +27,7 @@ use Rattle.clr_generations.specs.Tables.{AreTablesOf, units_of}
 use Rattle.clr_sweep.specs.Swept.{HasSwept}
 use Rattle.clr_collect.specs.Collecting.{TestsKept}
 use Rattle.clr_collect.proofs.SweepCollects.{laid, laid-generation, layout-swept, objects-after, plain, small, survive}
+use Rattle.clr_types.specs.Segments.{is_large_or_pinned}
 
 -- ---- generations
 
@@ -125,11 +126,11 @@ module _ (m : Machine) (h : IsLaid m) (g : ℕ) (least : g ≤ 2) (first kept : 
   units-whole unit = go (g == 2) refl
     where
       go : (b : Bool) → (g == 2) ≡ b
-          → map (units_of unit) (if b then swept_kind Large (small m h g least first kept tests) 2
+          → map (units_of unit) (if b then swept_others (small m h g least first kept tests) 2
           (survive m h g least first kept tests) else small m h g least first kept tests).segments
           ≡ map (units_of unit) m.layout.segments
       go true e =
-          units-after unit (same_kind Large) 2
+          units-after unit (is_large_or_pinned) 2
           (swept_end (small m h g least first kept tests) 2 (survive m h g least first kept tests))
           (small m h g least first kept tests).segments
           ∙ units-after unit is_small_or_ephemeral g

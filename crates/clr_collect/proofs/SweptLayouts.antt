@@ -9,7 +9,7 @@ use Rattle.clr_types.specs.Segments.{ephemeral, first_place, is_small_or_ephemer
 use Rattle.clr_types.specs.Segments.{stands_in}
 use Rattle.clr_types.specs.declared.segment.SegInfo.{SegInfo}
 use Rattle.clr_types.specs.declared.segment.SegKind.{SegKind}
-use Rattle.clr_types.specs.declared.segment.SegKind.TheVariants.{Small, Ephemeral, Large}
+use Rattle.clr_types.specs.declared.segment.SegKind.TheVariants.{Small, Ephemeral, Large, Pinned}
 use Rattle.clr_types.proofs.ChangedLists.{into_filter, out_of_filter}
 use Rattle.clr_types.proofs.ListMembers.{any-from, from-map}
 use Rattle.clr_types.proofs.SegmentFacts.{ephemeral-kind, lawful_segment, one_base}
@@ -19,7 +19,7 @@ use Rattle.clr_model.specs.Lawful.{IsLaid}
 use Rattle.clr_model.specs.Lookups.{object_piece}
 use Rattle.clr_model.specs.Machine.{Machine, Object}
 use Rattle.clr_model.specs.Sweep.{has_condemned_part, is_condemned, part_start, Survivor, survivor, survivor_piece}
-use Rattle.clr_model.specs.Sweep.{survivor_pieces, survivors, swept_end, swept_free, swept_kind, swept_small}
+use Rattle.clr_model.specs.Sweep.{survivor_pieces, survivors, swept_end, swept_free, swept_others, swept_small}
 use Rattle.clr_model.specs.Sweep.{taking_part}
 use Rattle.clr_model.proofs.AfterLayout.{ephemeral_after}
 use Rattle.clr_model.proofs.CollectedLayout.{whole_after, whole_ephemeral}
@@ -28,23 +28,27 @@ use Rattle.clr_model.proofs.LawfulPieces.{HasHome, object-in-pieces, piece-home}
 use Rattle.clr_model.proofs.LayoutLaws.{part_low}
 use Rattle.clr_model.proofs.SweptLawful.{sweep_end, sweep_tiles}
 use Rattle.clr_sweep.specs.Swept.{swept_layout}
+use Rattle.clr_types.specs.Segments.{is_large_or_pinned}
 
 -- ---- kinds and parts
 
-small-not_large : (k : SegKind) → is_small_or_ephemeral k ≡ true → same_kind Large k ≡ false
+small-not_large : (k : SegKind) → is_small_or_ephemeral k ≡ true → is_large_or_pinned k ≡ false
 small-not_large Small e = refl
 small-not_large Ephemeral e = refl
 small-not_large Large e = absurd cc
+small-not_large Pinned e = absurd cc
 
-large-is : (k : SegKind) → is_small_or_ephemeral k ≡ false → same_kind Large k ≡ true
+large-is : (k : SegKind) → is_small_or_ephemeral k ≡ false → is_large_or_pinned k ≡ true
 large-is Small e = absurd cc
 large-is Ephemeral e = absurd cc
 large-is Large e = refl
+large-is Pinned e = refl
 
 ephemeral-small : (k : SegKind) → same_kind Ephemeral k ≡ true → is_small_or_ephemeral k ≡ true
 ephemeral-small Small e = absurd cc
 ephemeral-small Ephemeral e = refl
 ephemeral-small Large e = absurd cc
+ephemeral-small Pinned e = absurd cc
 
 -- a full collection condemns all of every segment
 all-condemned : (s : SegInfo) → has_condemned_part 2 s ≡ true
@@ -112,7 +116,8 @@ module _ (m : Machine) (h : IsLaid m) (keeps : ℕ → Bool) where
       { end = swept_end m.layout 2 kept s } else s
 
   abbrev large_swept : SegInfo → SegInfo
-  large_swept s = if same_kind Large s.kind && has_condemned_part 2 s then record s { end = swept_end small 2 kept s }
+  large_swept s =
+      if is_large_or_pinned s.kind && has_condemned_part 2 s then record s { end = swept_end small 2 kept s }
       else s
 
   -- it ends where the last survivor does
@@ -141,7 +146,7 @@ module _ (m : Machine) (h : IsLaid m) (keeps : ℕ → Bool) where
           else u) off in
           let second_step : large_swept u ≡ record u { end = swept_end small 2 kept u } =
           ap (λ (b : Bool). if b then record u { end = swept_end small 2 kept u } else u)
-          (and_from (same_kind Large u.kind) (has_condemned_part 2 u) (large-is u.kind off) (all-condemned u)) in
+          (and_from (is_large_or_pinned u.kind) (has_condemned_part 2 u) (large-is u.kind off) (all-condemned u)) in
           ap large_swept first_step ∙ second_step
           ∙ ap (λ (n : ℕ). record u { end = end_of_last n (survivor_pieces u kept) }) (starts-first small u)
 
@@ -191,7 +196,7 @@ module _ (m : Machine) (h : IsLaid m) (g : ℕ) (least : g ≤ 2) (keeps : ℕ �
           (ephemeral-small (ephemeral m.layout).kind young) (ap (λ (b : Bool). b || (g == 2)) young)
 
   abbrev large : Layout
-  large = swept_kind Large swept 2 (survivors m g keeps)
+  large = swept_others swept 2 (survivors m g keeps)
 
   -- GENERATION 0 IS EMPTY at the end: it begins where the ephemeral segment ends
   pub whole_tail : (whole : Layout)

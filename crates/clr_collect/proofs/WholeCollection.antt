@@ -27,6 +27,7 @@ use Rattle.std.proofs.Common.{◌+◌, ◌-◌, ◌^◌, min}
 use Rattle.clr_moves.specs.Moves.{moved_bytes}
 use Rattle.clr_model.specs.Collection.{begun, Collects, compacts, decides_to_compact, object_after}
 use Rattle.clr_model.specs.Lawful.{IsLaid, IsPlaceNamed}
+use Rattle.clr_model.specs.Laws.{IsUnslid}
 use Rattle.clr_model.specs.Lookups.{lowest_in_step, object_piece, pieces}
 use Rattle.clr_model.specs.Machine.{Machine, Object}
 use Rattle.clr_model.specs.Picture.{picture}
@@ -60,6 +61,8 @@ use Rattle.clr_collect.proofs.SweepCollects.{rests_swept, survive-plain, swept_m
 use Rattle.clr_collect.proofs.SweepCollects.{sweep_collects_as, told}
 use Rattle.clr_collect.proofs.SweptLayouts.{whole_tail}
 use Rattle.clr_collect.proofs.YoungItems.{none_young}
+use Rattle.clr_model.specs.Collection.{is_fit}
+use Rattle.clr_model.proofs.PlainCollections.{from_plain}
 
 -- The heap of a world before its collection, and before its sweep, with what is kept marked.
 module _ (w : World) (marked : HeapView) (handles : FinMap nat_cmp Handle) (queues : Queues)
@@ -168,29 +171,32 @@ module _ (w : World) (marked : HeapView) (handles : FinMap nat_cmp Handle) (queu
 
         collects : (tally : Tally) → tally ≡ tally_of w.rows marked g → (answer : Collected)
             → answer ≡ told (begun m) (begun_laid m named) g least k.first left leaves.tests tally
-            → Collects m g Sweep answer (after answer)
-        collects tally counted answer same =
-            sweep_collects (begun m) (begun_laid m named) g least k.first left leaves.tests w.rows marked
+            → IsUnslid m g → Collects m g Sweep answer (after answer)
+        collects tally counted answer same unslid =
+            from_plain m g Sweep answer (after answer) unslid refl
+            (sweep_collects (begun m) (begun_laid m named) g least k.first left leaves.tests w.rows marked
             (due_memory m is named) k.marks answer
-            (same ∙ ap (told (begun m) (begun_laid m named) g least k.first left leaves.tests) counted)
+            (same ∙ ap (told (begun m) (begun_laid m named) g least k.first left leaves.tests) counted))
 
       -- THE COLLECTION of every machine whose world it is
       pub whole_collected : (tally : Tally) → tally ≡ tally_of w.rows marked g → (answer : Collected)
           → answer ≡ record {
             generation = g;
             compacted = false;
+            fitted = false;
+            background = false;
             kept = tally.kept;
             freed = tally.freed;
             promoted1 = tally.promoted1;
             promoted2 = tally.promoted2;
           }
-          → (m : Machine) → IsWorldOf w m → IsPlaceNamed m → lowest_in_step m ≡ None
+          → (m : Machine) → IsWorldOf w m → IsPlaceNamed m → lowest_in_step m ≡ None → IsUnslid m g
           → (after : Machine) × Collects m g Sweep answer after × IsWorldOf world (picture after)
-      whole_collected tally counted answer same m is named idle =
-          let c = collects m is named tally counted answer same in
+      whole_collected tally counted answer same m is named idle unslid =
+          let c = collects m is named tally counted answer same unslid in
           let still =
           picture_still (after m is named answer)
-          (after_sweep_is_sound m named idle g least answer (after m is named answer) c) in (
+          (after_sweep_is_sound m named idle g least unslid answer (after m is named answer) c) in (
             after m is named answer,
             c,
             subst (IsWorldOf world) (sym still)
@@ -198,41 +204,45 @@ module _ (w : World) (marked : HeapView) (handles : FinMap nat_cmp Handle) (queu
           )
 
       -- and of another kind, where that comes to a sweep
-      pub whole_collected_as : (how : How) (threshold : ℕ)
+      pub whole_collected_as : (how : How) → is_fit how ≡ false → (threshold : ℕ)
           → ((m : Machine) (kept : ℕ → Bool) → IsMemoryOf w.rows marked m → IsLaid m → TestsMarks w.rows marked g kept
           → m.options.compact ≡ threshold → false ≡ compacts how (decides_to_compact m g (survivors m g kept)))
           → (tally : Tally) → tally ≡ tally_of w.rows marked g → (answer : Collected)
           → answer ≡ record {
             generation = g;
             compacted = false;
+            fitted = false;
+            background = false;
             kept = tally.kept;
             freed = tally.freed;
             promoted1 = tally.promoted1;
             promoted2 = tally.promoted2;
           }
           → (slides : ℕ) (m : Machine) → IsWorldOf w m → IsPlaceNamed m → lowest_in_step m ≡ None
-          → m.options.compact ≡ threshold
+          → IsUnslid m g → m.options.compact ≡ threshold
           → (after : Machine) × (c : Collects m g how answer after) × IsWorldOf world (picture after)
-          × CountsSlides c.moves answer slides slides
-      whole_collected_as how threshold decides tally counts answer same slides m is named idle option =
-          let c = collects m is named tally counts answer same in
+          × CountsSlides c.collects.moves answer slides slides
+      whole_collected_as how unfitted threshold decides tally counts answer same slides m is named idle unslid option =
+          let c = collects m is named tally counts answer same unslid in
           let still =
           picture_still (after m is named answer)
-          (after_sweep_is_sound m named idle g least answer (after m is named answer) c) in
+          (after_sweep_is_sound m named idle g least unslid answer (after m is named answer) c) in
           let decided : compacts how (decides_to_compact (begun m) g (survivors (begun m) g left)) ≡ false =
           ap (λ (ss : List Survivor). compacts how (decides_to_compact (begun m) g ss))
           (sym (survive-plain (begun m) (begun_laid m named) g least k.first left (k.leaves m is named).tests))
           ∙ sym (decides (due m) left (due_memory m is named) (due_laid m named) k.marks option) in
           let as_told =
-          sweep_collects_as (begun m) (begun_laid m named) g least k.first left
+          from_plain m g how answer (after m is named answer) unslid unfitted
+          (sweep_collects_as (begun m) (begun_laid m named) g least k.first left
           (k.leaves m is named).tests w.rows marked
           (due_memory m is named) k.marks how decided answer
-          (same ∙ ap (told (begun m) (begun_laid m named) g least k.first left (k.leaves m is named).tests) counts) in (
+          (same ∙ ap (told (begun m) (begun_laid m named) g least k.first left (k.leaves m is named).tests) counts)) in (
             after m is named answer,
             as_told,
             subst (IsWorldOf world) (sym still)
                 (world-after m is named answer),
-            subst (λ (b : Bool). MatchBool b (slides ≡ min (2 ^ 64 - 1) (slides + (1 + moved_bytes as_told.moves)))
+            subst (λ (b : Bool). MatchBool b
+                (slides ≡ min (2 ^ 64 - 1) (slides + (1 + moved_bytes as_told.collects.moves)))
                 (slides ≡ slides)) (sym (ap (λ (a : Collected). a.compacted) same)) refl,
           )
 
@@ -240,7 +250,16 @@ module _ (w : World) (marked : HeapView) (handles : FinMap nat_cmp Handle) (queu
       pub new_index : Known → (index : Option (List Piece)) → index ≡ Some [] → IsIndex w.rows new index
       new_index (m, is, named, idle) index none =
           let answer : Collected =
-          record { generation = g; compacted = false; kept = 0; freed = 0; promoted1 = 0; promoted2 = 0 } in
+          record {
+            generation = g;
+            compacted = false;
+            fitted = false;
+            background = false;
+            kept = 0;
+            freed = 0;
+            promoted1 = 0;
+            promoted2 = 0;
+          } in
           let layout = (memory-after m is named answer).layout in
           let tail : new.start0 ≡ tail_of new =
           whole_tail (begun m) (begun_laid m named) g least left (after m is named answer).objects

@@ -23,10 +23,11 @@ use Rattle.clr_model.specs.Collection.{begun, bytes_promoted, Collects, compacts
 use Rattle.clr_model.specs.Collection.{base_of_first, objects_after, released}
 use Rattle.clr_model.specs.Compaction.{IsCompacted, moved_by}
 use Rattle.clr_model.specs.Lawful.{IsLaid, IsPlaceNamed}
+use Rattle.clr_model.specs.Laws.{IsUnslid}
 use Rattle.clr_model.specs.Lookups.{lowest_in_step, place_of}
 use Rattle.clr_model.specs.Machine.{Machine, Object}
 use Rattle.clr_model.specs.Picture.{picture, renamed_object}
-use Rattle.clr_model.specs.Sweep.{is_condemned, Survivor, survivors, swept_kind}
+use Rattle.clr_model.specs.Sweep.{is_condemned, Survivor, survivors, swept_others}
 use Rattle.clr_model.proofs.CollectedLawful.{stays_lawful}
 use Rattle.clr_model.proofs.NamedWell.{AreNamed, lawful-named}
 use Rattle.clr_view.specs.Memory.{is_left, is_left_name, IsMemoryOf}
@@ -45,6 +46,8 @@ use Rattle.clr_collect.proofs.NeededSegments.{released_layout}
 use Rattle.clr_collect.proofs.SegmentsLost.{lost_objects}
 use Rattle.clr_collect.proofs.SweepCollects.{left-is}
 use Rattle.clr_collect.proofs.WholeCollection.{begun_laid, due_laid, due_memory}
+use Rattle.clr_model.specs.Collection.{is_fit}
+use Rattle.clr_model.proofs.PlainCollections.{from_plain, is_usual}
 
 -- The heap of a world before its collection, and when what is kept is marked.
 module _ (w : World) (marked : HeapView) (handles : FinMap nat_cmp Handle) (queues : Queues)
@@ -76,11 +79,11 @@ module _ (w : World) (marked : HeapView) (handles : FinMap nat_cmp Handle) (queu
     world = world_with w.rows new locals table after_queues
 
     module _ (m : Machine) (is : IsWorldOf w m) (named : IsPlaceNamed m) (idle : lowest_in_step m ≡ None)
-        (promoted1 promoted2 before_count after_count : ℕ)
+        (unslid : IsUnslid m g) (promoted1 promoted2 before_count after_count : ℕ)
         (moved : HaveMoved (world_with w.rows marked w.locals handles queues)
         (world_with w.rows gone locals table after_queues) g (ready_machine m) left promoted1 promoted2
         before_count after_count)
-        (how : How)
+        (how : How) (unfitted : is_fit how ≡ false)
         (decided : compacts how (decides_to_compact (begun m) g (survivors (begun m) g left)) ≡ true)
         (full : g ≡ 2 → HasObjects w.rows gone) where
       abbrev leaves : LeavesKept (begun m) g k.first left (objects_in w.rows marked) handles queues
@@ -100,14 +103,14 @@ module _ (w : World) (marked : HeapView) (handles : FinMap nat_cmp Handle) (queu
       -- ---- the answer
 
       laid-is : layout_in w.rows gone
-          ≡ (if g == 2 then swept_kind Large moved.after 2 (survivors (begun m) g left) else moved.after)
+          ≡ (if g == 2 then swept_others moved.after 2 (survivors (begun m) g left) else moved.after)
       laid-is =
           moved.layout
-          ∙ ap (λ (ss : List Survivor). if g == 2 then swept_kind Large moved.after 2 ss else moved.after) survive
+          ∙ ap (λ (ss : List Survivor). if g == 2 then swept_others moved.after 2 ss else moved.after) survive
 
       promoted-is : (e : ℕ) → bytes_promoted (ready_machine m) (layout_in w.rows gone) left moved.moves e
           ≡ bytes_promoted (begun m)
-          (if g == 2 then swept_kind Large moved.after 2 (survivors (begun m) g left) else moved.after)
+          (if g == 2 then swept_others moved.after 2 (survivors (begun m) g left) else moved.after)
           left moved.moves e
       promoted-is e =
           promoted-turned (begun m) g k.first left (layout_in w.rows gone) moved.moves e
@@ -117,6 +120,8 @@ module _ (w : World) (marked : HeapView) (handles : FinMap nat_cmp Handle) (queu
           → answer ≡ record {
             generation = g;
             compacted = true;
+            fitted = false;
+            background = false;
             kept = count_by (λ o. is_condemned (begun m) g o && left o.name) m.objects;
             freed = count_by (λ o. is_condemned (begun m) g o && not (left o.name)) m.objects;
             promoted1 = promoted1;
@@ -124,27 +129,32 @@ module _ (w : World) (marked : HeapView) (handles : FinMap nat_cmp Handle) (queu
           }
           → Collects m g how answer (next answer)
       collects answer same =
-          compaction_collects (begun m) g k.first left leaves.tests how moved.moves moved.after decided went answer
+          from_plain m g how answer (next answer) unslid unfitted
+          (compaction_collects (begun m) g k.first left leaves.tests how moved.moves moved.after decided went answer
           (same
           ∙ (λ t. record {
             generation = g;
             compacted = true;
+            fitted = false;
+            background = false;
             kept = count_by (λ o. is_condemned (begun m) g o && left o.name) m.objects;
             freed = count_by (λ o. is_condemned (begun m) g o && not (left o.name)) m.objects;
             promoted1 = (moved.promoted1_is ∙ promoted-is 0) t;
             promoted2 = (moved.promoted2_is ∙ promoted-is 1) t;
-          }))
+          })))
 
       pub collects_moves : (answer : Collected)
           (same : answer ≡ record {
             generation = g;
             compacted = true;
+            fitted = false;
+            background = false;
             kept = count_by (λ o. is_condemned (begun m) g o && left o.name) m.objects;
             freed = count_by (λ o. is_condemned (begun m) g o && not (left o.name)) m.objects;
             promoted1 = promoted1;
             promoted2 = promoted2;
           })
-          → (collects answer same).moves ≡ moved.moves
+          → (collects answer same).collects.moves ≡ moved.moves
       unfolding collects
       collects_moves answer same =
           compaction_moves (begun m) g k.first left leaves.tests how moved.moves moved.after decided went answer _
@@ -153,7 +163,8 @@ module _ (w : World) (marked : HeapView) (handles : FinMap nat_cmp Handle) (queu
 
       module _ (answer : Collected) (c : Collects m g how answer (next answer)) where
         sound : AreNamed (next answer)
-        sound = lawful-named (next answer) (stays_lawful m named.lawful idle g least how answer (next answer) c)
+        sound = lawful-named (next answer)
+            (stays_lawful m named.lawful idle g how (is_usual g how least unfitted) answer (next answer) c)
 
         abbrev to : ℕ → ℕ
         to = place_of (next answer).objects
@@ -236,8 +247,8 @@ module _ (w : World) (marked : HeapView) (handles : FinMap nat_cmp Handle) (queu
             (ends (g == 2) refl ended).1
             ∙ ap (λ (l : Layout). if g == 2 then released l (objects_in w.rows gone) else l) laid-is
             ∙ ap (λ (l : Layout). if g == 2 then l
-            else (if g == 2 then swept_kind Large moved.after 2 (survivors (begun m) g left) else moved.after))
-            (released-is (if g == 2 then swept_kind Large moved.after 2 (survivors (begun m) g left) else moved.after))
+            else (if g == 2 then swept_others moved.after 2 (survivors (begun m) g left) else moved.after))
+            (released-is (if g == 2 then swept_others moved.after 2 (survivors (begun m) g left) else moved.after))
 
         -- THE WORLD of what comes after
         pub world-is : IsWorldOf world (picture (next answer))

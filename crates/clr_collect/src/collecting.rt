@@ -1,7 +1,8 @@
 // A collection of a generation and of all younger ones.
-ghost use Rattle.std.specs.Prelude.{◌≡◌, ℕ, ◌+◌, ◌≤◌, ◌==◌, [], None, Some, MatchBool, true};
-ghost use Rattle.clr_model.specs.Collection.{Collects};
+ghost use Rattle.std.specs.Prelude.{◌≡◌, ℕ, ◌+◌, ◌≤◌, ◌==◌, [], length, None, Some, MatchBool, true, false};
+ghost use Rattle.clr_model.specs.Collection.{Collects, is_fit};
 ghost use Rattle.clr_model.specs.Lawful.{IsPlaceNamed};
+ghost use Rattle.clr_model.specs.Laws.{IsUnslid};
 ghost use Rattle.clr_model.specs.Lookups.{lowest_in_step};
 ghost use Rattle.clr_model.specs.Machine.{Machine};
 ghost use Rattle.clr_model.specs.Picture.{picture};
@@ -60,8 +61,10 @@ use clr_types::Types;
 /// 1 to 2. Nothing is marked before and after, and no free item's head is. Headers and padding are clean before and
 /// after, and the finalisation queue has room for as many entries as before. `pins` is empty before and after, with
 /// room for four entries more than there are pinned handles, and `slides` counts one for a compaction, and each byte
-/// of a plug that went. Cards and bricks obey their laws before and after. It needs no memory:
-/// where there is none for the index of the contexts, that is dropped.
+/// of a plug that went. Cards and bricks obey their laws before and after. It takes no memory: the finalisation queue
+/// and `pins` have room for no more than they had room for, nor has the marker's stack. The index of the contexts is
+/// that of a heap without free items of generation 0 after a sweep, which leaves none, and after a compaction it is
+/// dropped: it is made anew where room is next wanted.
 pub fn collect(
     types: &Types,
     heap: &mut Heap,
@@ -80,6 +83,7 @@ pub fn collect(
 ) -> Collected
     requires generation { g ≤ 2 }
     requires threshold { threshold ≤ 100 }
+    requires unfitted { is_fit how ≡ false }
     requires held { IsHeld types.now heap.old }
     requires unmarked { IsUnmarked types.now heap.old }
     requires free_heads { AreFreeHeads types.now heap.old }
@@ -90,10 +94,10 @@ pub fn collect(
     requires empty { pins.old.entries ≡ [] }
     requires room { pinned_in handles.old + 4 ≤ pins.old.spare }
     ensures collected { (m : Machine) → IsWorldOf (world_with types.now heap.old locals.old handles.old finals.old) m
-        → IsPlaceNamed m → lowest_in_step m ≡ None → m.options.compact ≡ threshold
+        → IsPlaceNamed m → lowest_in_step m ≡ None → IsUnslid m g → m.options.compact ≡ threshold
         → (after : Machine) × (c : Collects m g how result after)
         × IsWorldOf (world_with types.now heap.new locals.new handles.new finals.new) (picture after)
-        × CountsSlides c.moves result slides.old slides.new }
+        × CountsSlides c.collects.moves result slides.old slides.new }
     ensures held { IsHeld types.now heap.new }
     ensures unmarked { IsUnmarked types.now heap.new }
     ensures free_heads { AreFreeHeads types.now heap.new }
@@ -101,10 +105,13 @@ pub fn collect(
     ensures index { IsIndex types.now heap.new contexts.new }
     ensures limit { heap.new.limit ≡ heap.old.limit }
     ensures marker { marker.new ≡ record marker.old { stack = []; range = None; oldest = g } }
+    ensures index_after { MatchBool result.compacted (contexts.new ≡ None) (contexts.new ≡ Some []) }
     ensures spare { finals.old.spare ≤ finals.new.spare }
+    ensures none_added { finals.new.spare + length finals.new.entries ≤ finals.old.spare + length finals.old.entries }
     ensures tables { AreTablesOf types.now heap.new cards.new bricks.new }
     ensures empty { pins.new.entries ≡ [] }
     ensures room { pinned_in handles.new + 4 ≤ pins.new.spare }
+    ensures pins_room { pins.new.spare ≡ pins.old.spare }
 {
     heap.lawful();
     mark_kept(
@@ -122,7 +129,7 @@ pub fn collect(
     );
     heap.lawful();
     release_after(heap, types, cards, bricks, g);
-    contexts.renew(heap, types);
+    contexts.lose();
     answer(
         g,
         true,
@@ -139,6 +146,8 @@ fn answer(g: u8, compacted: bool, tally: Tally) -> Collected
     ensures { result ≡ record {
       generation = g;
       compacted = compacted;
+      fitted = false;
+      background = false;
       kept = tally.kept;
       freed = tally.freed;
       promoted1 = tally.promoted1;
@@ -148,6 +157,8 @@ fn answer(g: u8, compacted: bool, tally: Tally) -> Collected
     Collected {
         generation: g,
         compacted,
+        fitted: false,
+        background: false,
         kept: tally.kept,
         freed: tally.freed,
         promoted1: tally.promoted1,
@@ -193,6 +204,7 @@ fn mark_kept(
         finals.new g }
     ensures marker { marker.new ≡ record marker.old { stack = []; range = None; oldest = g } }
     ensures spare { finals.old.spare ≤ finals.new.spare }
+    ensures none_added { finals.new.spare + length finals.new.entries ≤ finals.old.spare + length finals.old.entries }
     ensures tables { AreTablesOf types.now heap.new cards.new bricks.now }
     ensures cards { (i : ℕ) → is_card_set cards.new i ≡ true → is_card_set cards.old i ≡ true }
 {

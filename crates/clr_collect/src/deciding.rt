@@ -15,9 +15,9 @@ use clr_model::How;
 use clr_sweep::{Tally, count, extent, kept_bytes};
 use clr_types::Types;
 
-// What a collection of generation `g` counts where it compacts, when what it keeps is marked, and `None` where it sweeps:
-// as `how` says, and where that leaves it open, it compacts where more than `threshold` hundredths of the bytes of the
-// condemned parts of the small heap are free. A young one decides by the bytes that it counts.
+// What a collection of generation `g` counts where it compacts, when what it keeps is marked, and `None` where it
+// sweeps: as `how` says, and where that leaves it open, it compacts where more than `threshold` hundredths of the bytes
+// of the condemned parts of the small heap are free. A young one decides by the bytes that it counts.
 pub(crate) fn counted_to_compact(
     heap: &Heap,
     types: &Types,
@@ -38,6 +38,7 @@ pub(crate) fn counted_to_compact(
     match how {
         How::Sweep => None,
         How::Compact => Some(count(heap, types, g)),
+        How::Fit => Some(count(heap, types, g)),
         How::Decide if g == 2 => counted_whole(heap, types, threshold),
         How::Decide => {
             let tally = count(heap, types, g);

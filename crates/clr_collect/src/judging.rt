@@ -1,5 +1,5 @@
 // What becomes of finalisation entries and of handles whose objects aren't reached.
-ghost use Rattle.std.specs.Prelude.{◌≡◌, ◌≤◌};
+ghost use Rattle.std.specs.Prelude.{◌≡◌, ◌+◌, ◌≤◌, length};
 ghost use Rattle.clr_types.specs.Maps.{map_values};
 ghost use Rattle.clr_types.specs.declared.handle.Kind.TheVariants.{Dependent, Weak, WeakLong};
 ghost use Rattle.clr_handles.specs.Laws.{cleared};
@@ -27,6 +27,7 @@ pub(crate) fn judge_entries(types: &Types, heap: &mut Heap, marker: &Marker, fin
     ensures judged { HaveBeenJudged types.now heap.old marker.now.oldest finals.old finals.new }
     ensures unflagged { HasUnflagged types.now heap.old heap.new marker.now.oldest finals.old.entries }
     ensures spare { finals.old.spare ≤ finals.new.spare }
+    ensures none_added { finals.new.spare + length finals.new.entries ≤ finals.old.spare + length finals.old.entries }
 {
     heap.lawful();
     let low = marker.lowest_condemned(heap);

@@ -69,6 +69,7 @@ module _ (rows : List TypeRow) (h : HeapView) (k i n : ℕ) (ms : List Memory) (
   heap_wiped = record {
     memories = f.shape ∙ heap.memories;
     segments = heap.segments;
+    highest = heap.highest;
     disjoint = heap.disjoint;
     below_top = heap.below_top;
     one_ephemeral = heap.one_ephemeral;

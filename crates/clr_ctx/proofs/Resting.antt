@@ -13,7 +13,7 @@ use Rattle.clr_types.specs.Segments.{empty_segment, ephemeral, flat_option, rese
 use Rattle.clr_types.specs.declared.item.Item.{Item}
 use Rattle.clr_types.specs.declared.segment.SegInfo.{SegInfo}
 use Rattle.clr_types.specs.declared.segment.SegKind.{SegKind}
-use Rattle.clr_types.specs.declared.segment.SegKind.TheVariants.{Small, Ephemeral, Large}
+use Rattle.clr_types.specs.declared.segment.SegKind.TheVariants.{Small, Ephemeral, Large, Pinned}
 use Rattle.clr_types.proofs.ChangedLists.{all-map, out_of_filter}
 use Rattle.clr_types.proofs.ListMembers.{filter-rises, from-map, in_append}
 use Rattle.clr_types.proofs.RisingLists.{all_at, in_cons}
@@ -141,6 +141,7 @@ pub other_kind : (kind : SegKind) → kind ≢ Ephemeral → same_kind kind Ephe
 other_kind Small ne = refl
 other_kind Ephemeral ne = absurd (ne refl)
 other_kind Large ne = refl
+other_kind Pinned ne = refl
 
 module _ (rows : List TypeRow) (h : HeapView) (k i : ℕ) (ms : List Memory) (o : Option Piece) (heap : IsHeap h)
     (l : k < length h.segments) (young : (segment_at h k).kind ≡ Ephemeral)
@@ -152,6 +153,7 @@ module _ (rows : List TypeRow) (h : HeapView) (k i : ℕ) (ms : List Memory) (o 
   heap_rested = record {
     memories = shape ∙ heap.memories;
     segments = heap.segments;
+    highest = heap.highest;
     disjoint = heap.disjoint;
     below_top = heap.below_top;
     one_ephemeral = heap.one_ephemeral;

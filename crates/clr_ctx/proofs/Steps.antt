@@ -11,7 +11,7 @@ use Rattle.clr_types.specs.Segments.{ended_at, ephemeral, fits_in_tail, reserved
 use Rattle.clr_types.specs.Segments.{segment_or_empty}
 use Rattle.clr_types.specs.declared.segment.SegInfo.{SegInfo}
 use Rattle.clr_types.specs.declared.segment.SegKind.{SegKind}
-use Rattle.clr_types.specs.declared.segment.SegKind.TheVariants.{Small, Ephemeral, Large}
+use Rattle.clr_types.specs.declared.segment.SegKind.TheVariants.{Small, Ephemeral, Large, Pinned}
 use Rattle.clr_types.proofs.ChangedLists.{rising-sorted, sorted_by-done}
 use Rattle.clr_heap.specs.Memories.{clears, InOne}
 use Rattle.clr_heap.specs.View.{first_of, frame, freed, HasHead, HeapView, IsHeap, last_of, rest_between, rest_bounds}
@@ -51,6 +51,7 @@ kind_is : (kind : SegKind) → same_kind Ephemeral kind ≡ true → kind ≡ Ep
 kind_is Small e = absurd cc
 kind_is Ephemeral e = refl
 kind_is Large e = absurd cc
+kind_is Pinned e = absurd cc
 
 pub is_young : (h : HeapView) (k : ℕ) → IsEphemeral h k → (segment_at h k).kind ≡ Ephemeral
 is_young h k e =

@@ -1,4 +1,5 @@
--- Heaps where a run of parts of the ephemeral segment gives way to another, and every object stays: objects and contexts.
+-- Heaps where a run of parts of the ephemeral segment gives way to another, and every object stays: objects and
+-- contexts.
 use Rattle.std.proofs.Common.{◌≡◌, ◌≢◌, ◌⊎◌, inl, inr, ℕ, zero, suc, ◌+◌, ◌%◌, ◌<◌, ◌≤◌, true, List, [], ◌∷◌, ◌++◌}
 use Rattle.std.proofs.Common.{length, get_or, set, refl, ap, sym, ◌∙◌, subst, arith, filter, map, Option, None, Some}
 use Rattle.std.proofs.lemmas.Bool.{cases_Bool, cases_eq}

@@ -84,6 +84,22 @@ impl Contexts {
         self.complete = list_free(heap, types, k, start0, &mut self.items);
     }
 
+    /// Makes it the index of the free items of generation 0, as `renew` does, where it was dropped and no thread has a
+    /// context. Else it stays as it is.
+    ///
+    /// The heap is that of a lawful machine.
+    pub fn renew_lost(&mut self, heap: &Heap, types: &Types)
+        requires held { IsHeld types.now heap.now }
+        requires laid { (m : Machine) × IsMemoryOf types.now heap.now m × IsLaid m }
+        requires index { IsIndex types.now heap.now self.old }
+        ensures index { IsIndex types.now heap.now self.new }
+        ensures kept { IfSome self.old (λ _. self.new ≡ self.old) }
+    {
+        if !self.complete && has_no_contexts(heap) {
+            self.renew(heap, types);
+        }
+    }
+
     /// Whether an object of this size fits at the front of a thread's context.
     #[inline(always)]
     pub fn fits(&self, heap: &Heap, t: usize, size: u64) -> bool
@@ -230,4 +246,17 @@ impl Contexts {
         let taken = tail_share_of(heap, size);
         open_behind(heap, types, t, taken);
     }
+}
+
+// Whether nothing is left of the context of any thread.
+fn has_no_contexts(heap: &Heap) -> bool
+    ensures { result ≡ true → heap.now.rests ≡ no_rests }
+{
+    heap.lawful();
+    for thread in 1..17 {
+        if heap.hole(thread).is_some() {
+            return false;
+        }
+    }
+    true
 }

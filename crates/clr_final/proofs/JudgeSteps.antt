@@ -280,4 +280,8 @@ module _ (answers : ℕ → Verdict → Type 0) (low : ℕ) (old new settled rea
       (record {
         places = sorted-taken answers low taken old.items new.items ready.items ready'.items were.taken_few sorted;
         spare = omega (arith, both, less, same, same');
+        none_added =
+            let longer = fewer.longer in
+            let room = were.room in
+            omega (arith, both, less, longer, room, same, same');
       })

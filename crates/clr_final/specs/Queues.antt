@@ -53,10 +53,11 @@ pub record ArePlacesJudged (answers : ℕ → Verdict → Type 0) (low : ℕ) (o
   pub alive : new ≡ with_verdict is_alive old verdicts
   pub woken : ready' ≡ ready ++ with_verdict is_woken old verdicts
 
--- so it is with the entries, and there isn't less room
+-- so it is with the entries, and there isn't less room for more, nor more room in all
 pub record HasJudged (answers : ℕ → Verdict → Type 0) (low : ℕ) (old new : Queues) : Type 0 where
   pub places : ArePlacesJudged answers low old.entries new.entries old.ready new.ready
   pub spare : old.spare ≤ new.spare
+  pub none_added : new.spare + length new.entries ≤ old.spare + length old.entries
 
 -- where a place has moved: what lies below `low` stays, and of each other place an answer tells
 abbrev pub IsMoved : (ℕ → ℕ → Type 0) → ℕ → ℕ → ℕ → Type 0

@@ -1,11 +1,12 @@
--- An object is born at the front of a free item of a large segment: what is left of the item is still free.
+-- An object is born at the front of a free item of a segment of a kind whose objects are old from birth: what is left
+-- of the item is still free.
 use Rattle.std.proofs.Common.{◌≡◌, ◌⊎◌, inl, inr, ℕ, ◌+◌, ◌-◌, ◌%◌, ◌<◌, ◌≤◌, true, Bool, List, [], ◌∷◌, ◌++◌}
 use Rattle.std.proofs.Common.{length, refl, ap, sym, ◌∙◌, subst, arith, filter}
 use Rattle.clr_types.specs.Rising.{IsIn, IsRisingBy}
 use Rattle.clr_types.specs.Types.{TypeRow, form_at, mt_of, size_of}
 use Rattle.clr_types.specs.Ranges.{fits, Piece, piece_end}
 use Rattle.clr_types.specs.declared.item.Item.{Item}
-use Rattle.clr_types.specs.declared.segment.SegKind.TheVariants.{Large}
+use Rattle.clr_types.specs.declared.segment.SegKind.{SegKind}
 use Rattle.clr_types.proofs.ChangedLists.{out_of_filter}
 use Rattle.clr_types.proofs.ListMembers.{filter-rises}
 use Rattle.clr_types.proofs.SegmentFacts.{between-stands}
@@ -23,40 +24,44 @@ use Rattle.clr_model.specs.Allocation.{stands_in_kind, taken_from}
 use Rattle.clr_view.specs.View.{free_among, free_in, is_free, IsHeld, layout_in, tail_of}
 use Rattle.clr_view.proofs.Bearing.{fits-is}
 use Rattle.clr_view.proofs.Born.{heap-rested}
-use Rattle.clr_view.proofs.Carving.{carved, CarvedWords, Carves, left_free, left_heads, left_objects, wiped_in, wiped_out}
+use Rattle.clr_view.proofs.Carving.{carved, CarvedWords, Carves, left_free, left_heads, left_objects, wiped_in}
+use Rattle.clr_view.proofs.Carving.{wiped_out}
 use Rattle.clr_view.proofs.Fronts.{clear-behind}
 use Rattle.clr_view.proofs.Listings.{heap-rise}
 use Rattle.clr_view.proofs.Swapping.{Swaps}
 use Rattle.clr_sweep.proofs.LayoutSwept.{free-rise}
 use Rattle.clr_items.proofs.Lists.{apart_around, place, taken-between}
-use Rattle.clr_large.specs.Births.{HasLargeNewborn}
-use Rattle.clr_large.specs.Places.{items_left, large_items, with_place_taken}
+use Rattle.clr_large.specs.Births.{HasNewbornIn}
+use Rattle.clr_large.specs.Places.{IsOldKind, items_left, kind_items, with_place_taken}
 use Rattle.clr_large.specs.declared.places.Place.TheVariants.{Item as AtItem}
-use Rattle.clr_large.proofs.Homes.{head_shapes, in_kind, IsBorneAt, large_item, large_other, LargeItemAt, no_holes}
+use Rattle.clr_large.proofs.Homes.{head_shapes, in_kind, IsBorneAt, kind_item, KindItemAt, no_holes}
+use Rattle.clr_large.proofs.OldKinds.{old-other}
 use Rattle.clr_large.proofs.Newborns.{cells_borne, clean_borne, free_after, free_before, heads_borne, held_borne}
 use Rattle.clr_large.proofs.Newborns.{high_free, IsBorneIn, low_free, objects_borne, unmarked_borne}
 use Rattle.clr_items.proofs.TakenItems.{filter-taken}
 
--- an object is asked for that fits in a free item of a large segment
-pub record FitsItem (rows : List TypeRow) (h : HeapView) (p : Piece) (t n : ℕ) : Type 0 where
+-- an object is asked for that fits in a free item of a segment of the kind
+pub record FitsItem (group : SegKind) (rows : List TypeRow) (h : HeapView) (p : Piece) (t n : ℕ) : Type 0 where
+  pub old : IsOldKind group
   pub heap : IsHeap h
   pub held : IsHeld rows h
   pub item : IsMakeable rows t n
   pub object : 0 < t
-  pub listed : IsIn p (large_items (layout_in rows h))
+  pub listed : IsIn p (kind_items group (layout_in rows h))
   pub within : fits (size_of (form_at rows t) n) p.size ≡ true
 
-module _ (rows : List TypeRow) (h : HeapView) (p : Piece) (t n : ℕ) (asked : FitsItem rows h p t n) where
+module _ (group : SegKind) (rows : List TypeRow) (h : HeapView) (p : Piece) (t n : ℕ)
+    (asked : FitsItem group rows h p t n) where
   open asked use {heap, held, item, listed, object, within}
 
   abbrev size : ℕ
   size = size_of (form_at rows t) n
 
   abbrev k : ℕ
-  k = (large_item rows h p heap held listed).0
+  k = (kind_item group rows h p heap held listed).0
 
-  at : LargeItemAt rows h k p
-  at = (large_item rows h p heap held listed).1
+  at : KindItemAt group rows h k p
+  at = (kind_item group rows h p heap held listed).1
 
   abbrev low : ℕ
   low = p.place
@@ -210,11 +215,11 @@ module _ (rows : List TypeRow) (h : HeapView) (p : Piece) (t n : ℕ) (asked : F
           let whole = item.whole in
           let least = item.least in
           let most = at.most in
-          let large = kind_now k ∙ at.large in
+          let other = old-other group (segment_at new k).kind asked.old (kind_now k ∙ at.is_of) in
           Spells-append (sight rows new k) (item_part (made_item rows low t n) ∷ []) ls low mid high
           (Spells-made (sight rows new k) low t n (record { mt = leaves.mt; len = leaves.len }) item
-          (no_holes new k low large))
-          (left_spelled rows new k mid high cuts (omega arith) at.whole (omega arith) (λ more. no_holes new k mid large)
+          (no_holes new k low other))
+          (left_spelled rows new k mid high cuts (omega arith) at.whole (omega arith) (λ more. no_holes new k mid other)
           head_left)
 
       swaps : Swaps rows h new k low high (x ∷ []) ns
@@ -255,7 +260,7 @@ module _ (rows : List TypeRow) (h : HeapView) (p : Piece) (t n : ℕ) (asked : F
           let least = item.least in
           let up = item_low in
           record {
-            other = large_other (segment_at h k).kind at.large;
+            other = old-other group (segment_at h k).kind asked.old at.is_of;
             kinds = kind_now;
             rests = ap (λ (g : HeapView). g.rests) to_new.others;
             start0 = ap (λ (g : HeapView). g.start0) to_new.others;
@@ -303,28 +308,29 @@ module _ (rows : List TypeRow) (h : HeapView) (p : Piece) (t n : ℕ) (asked : F
       item_layout = λ e. record (frame (to_new.others e)) { free = free_taken e }
 
       abbrev passes : Piece → Bool
-      passes q = stands_in_kind Large (layout_in rows h) q.place
+      passes q = stands_in_kind group (layout_in rows h) q.place
 
       left_stands : mid < high → passes (record { place = mid; size = high - mid }) ≡ true
       left_stands more =
           let from = at.low in
           let to = at.high in
           let end = (lawful_at h k heap at.in_range).high in
-          in_kind rows h k mid at.in_range at.large
+          in_kind group rows h k mid at.in_range at.is_of
           (between-stands (segment_at h k) mid (omega arith) (omega arith))
 
       chosen : (passes p ≡ true) × IsIn p (free_in rows h)
       chosen = out_of_filter passes p (free_in rows h) listed
 
-      item_items : large_items (layout_in rows new) ≡ items_left size (AtItem p) (large_items (layout_in rows h))
+      item_items : kind_items group (layout_in rows new) ≡ items_left size (AtItem p)
+          (kind_items group (layout_in rows h))
       item_items =
-          ap large_items item_layout
+          ap (kind_items group) item_layout
           ∙ ap (λ (ps : List Piece). filter passes (taken_from low size ps)) was
           ∙ filter-taken passes fs p bs size rising chosen.0 left_stands
           ∙ ap (λ (ps : List Piece). taken_from low size (filter passes ps)) (sym was)
 
       -- AN OBJECT BORN IN A FREE ITEM
-      item_born : HasLargeNewborn rows h new p.place t n
+      item_born : HasNewbornIn group rows h new p.place t n
       item_born = record {
         objects = objects_borne rows h new k low high t n (x ∷ []) ls swaps borne;
         layout = inl (p, chosen.1, chosen.0, within, refl, item_layout);
@@ -337,6 +343,7 @@ module _ (rows : List TypeRow) (h : HeapView) (p : Piece) (t n : ℕ) (asked : F
       }
 
       -- whatever the heap is called
-      pub item_borne : (made : HeapView) → made ≡ placed rows wiped p.place t n → IsBorneAt rows h made (AtItem p) t n
-      item_borne made is = subst (λ g. IsBorneAt rows h g (AtItem p) t n) (sym is)
+      pub item_borne : (made : HeapView) → made ≡ placed rows wiped p.place t n
+          → IsBorneAt group rows h made (AtItem p) t n
+      item_borne made is = subst (λ g. IsBorneAt group rows h g (AtItem p) t n) (sym is)
           (record { born = item_born; layout = item_layout; items = item_items })

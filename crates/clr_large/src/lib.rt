@@ -1,8 +1,9 @@
-//! The large segments: where a large object goes, its birth there, and new large segments.
+//! The segments beside the small heap, large and pinned ones: where an object goes in those of a kind, its birth there,
+//! and new ones.
 #![tactic(auto)]
 
-pub use crate::acquiring::acquire_large;
-pub use crate::items::LargeItems;
+pub use crate::acquiring::acquire_of_kind;
+pub use crate::items::KindItems;
 
 mod acquiring;
 mod births;

@@ -1,10 +1,11 @@
 -- What is kept is swept or moved, and empty segments are given back.
-use Rattle.std.proofs.Common.{◌∙◌, ap, is_some, refl, sym, arith, true}
-use Rattle.clr_model.specs.declared.How.TheVariants.{Compact}
+use Rattle.std.proofs.Common.{◌∙◌, ap, is_some, refl, sym, arith, false, true}
+use Rattle.std.proofs.Common.{◌≡◌, [], Bool, MatchBool, None, Some, subst}
+use Rattle.clr_model.specs.declared.Collected.{Collected}
 use Rattle.clr_collect.specs.Collecting.{world_with}
 use Rattle.clr_collect.proofs.AfterRelease.{clean_still, heads_still}
 use Rattle.clr_collect.proofs.AfterRelease.{unmarked_still}
-use Rattle.clr_collect.proofs.MovedWorld.{moved_collected, moved_laid}
+use Rattle.clr_collect.proofs.MovedWorld.{moved_collected}
 use Rattle.clr_collect.proofs.WholeCollection.{clean_after, heads_after, lost, memory_laid}
 use Rattle.clr_collect.proofs.WholeCollection.{new_index, none_given, none_marked}
 use Rattle.clr_collect.proofs.WholeCollection.{whole_collected_as, whole_tables}
@@ -59,7 +60,7 @@ returns-in_default-clause-collected c =
     (world_with c.args.types.now c.args.heap.now c.args.locals.now c.args.handles.now c.args.finals.now)
     c.mark_kept.new.heap c.mark_kept.new.handles c.mark_kept.new.finals c.args.g c.requires.generation
     c.mark_kept.ensures.kept c.sweep-swept.new.heap c.lawful-in_default.ensures c.sweep-swept.ensures.swept
-    c.release_after.new.heap c.release_after.ensures.released c.args.how c.args.threshold
+    c.release_after.new.heap c.release_after.ensures.released c.args.how c.requires.unfitted c.args.threshold
     (λ n kept memory laid marks same. sym (ap is_some c.in_default.is)
     ∙ c.counted_to_compact.ensures.decides n kept memory laid marks same)
     c.sweep-swept.result c.sweep-swept.ensures.tally c.answer.result c.answer.ensures c.args.slides.now
@@ -145,31 +146,8 @@ move_survivors-promoted-requires-clause-room c =
     let room = c.requires.room in
     omega (arith, same, room)
 
-pub renew-requires-clause-laid : goal.renew-requires-clause-laid
-renew-requires-clause-laid c =
-    let (m, is, named, idle) = c.requires.world in
-    moved_laid
-    (world_with c.args.types.now c.args.heap.now c.args.locals.now c.args.handles.now c.args.finals.now)
-    c.mark_kept.new.heap c.mark_kept.new.handles c.mark_kept.new.finals c.args.g c.requires.generation
-    c.mark_kept.ensures.kept c.move_survivors-promoted.new.heap c.lawful-2.ensures
-    c.move_survivors-promoted.ensures.held c.move_survivors-promoted.new.locals c.move_survivors-promoted.new.handles
-    c.move_survivors-promoted.new.finals c.release_after-2.new.heap c.release_after-2.ensures.released
-    c.move_survivors-promoted.result.to1 c.move_survivors-promoted.result.to2 c.args.slides.now
-    c.move_survivors-promoted.new.slides c.move_survivors-promoted.ensures.moved
-    c.move_survivors-promoted.ensures.occupied
-    Compact 0 (λ n kept memory laid marks same. refl)
-    c.in-Some.tally c.in-Some.ensures.counted
-    (record {
-      generation = c.args.g;
-      compacted = true;
-      kept = c.in-Some.tally.kept;
-      freed = c.in-Some.tally.freed;
-      promoted1 = c.move_survivors-promoted.result.to1;
-      promoted2 = c.move_survivors-promoted.result.to2;
-    }) refl m is named idle
-
 pub returns-clause-collected : goal.returns-clause-collected
-returns-clause-collected c m is named idle option =
+returns-clause-collected c m is named idle unslid option =
     moved_collected
     (world_with c.args.types.now c.args.heap.now c.args.locals.now c.args.handles.now c.args.finals.now)
     c.mark_kept.new.heap c.mark_kept.new.handles c.mark_kept.new.finals c.args.g c.requires.generation
@@ -179,10 +157,10 @@ returns-clause-collected c m is named idle option =
     c.move_survivors-promoted.result.to1 c.move_survivors-promoted.result.to2 c.args.slides.now
     c.move_survivors-promoted.new.slides c.move_survivors-promoted.ensures.moved
     c.move_survivors-promoted.ensures.occupied
-    c.args.how c.args.threshold
+    c.args.how c.requires.unfitted c.args.threshold
     (λ n kept memory laid marks same. sym (ap is_some c.in-Some.is)
     ∙ c.counted_to_compact.ensures.decides n kept memory laid marks same)
-    c.in-Some.tally c.in-Some.ensures.counted c.answer-2.result c.answer-2.ensures m is named idle option
+    c.in-Some.tally c.in-Some.ensures.counted c.answer-2.result c.answer-2.ensures m is named idle unslid option
 
 pub returns-clause-unmarked : goal.returns-clause-unmarked
 returns-clause-unmarked c =
@@ -213,3 +191,16 @@ returns-clause-room c =
     let more = c.move_survivors-promoted.ensures.room in
     let room = c.requires.room in
     omega (arith, same, still, more, room)
+
+-- it compacted
+pub returns-clause-index_after : goal.returns-clause-index_after
+returns-clause-index_after c =
+    let compacts : c.answer-2.result.compacted ≡ true = ap (λ (a : Collected). a.compacted) c.answer-2.ensures in
+    subst (λ (b : Bool). MatchBool b (c.lose.new.self ≡ None) (c.lose.new.self ≡ Some [])) (sym compacts) c.lose.ensures
+
+-- it swept
+pub returns-in_default-clause-index_after : goal.returns-in_default-clause-index_after
+returns-in_default-clause-index_after c =
+    let sweeps : c.answer.result.compacted ≡ false = ap (λ (a : Collected). a.compacted) c.answer.ensures in
+    subst (λ (b : Bool). MatchBool b (c.forget.new.self ≡ None) (c.forget.new.self ≡ Some [])) (sym sweeps)
+    c.forget.ensures

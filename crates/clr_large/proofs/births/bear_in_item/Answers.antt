@@ -3,7 +3,7 @@ use Rattle.clr_types.specs.Types.{form_at, size_of}
 use Rattle.clr_heap.specs.Memories.{clears, InOne}
 use Rattle.clr_heap.specs.View.{freed, HasHead, placed, word_of}
 use Rattle.clr_view.proofs.Carving.{Carves, carves_part}
-use Rattle.clr_large.specs.Births.{HasLargeNewborn}
+use Rattle.clr_large.specs.Births.{HasNewbornIn}
 use Rattle.clr_large.specs.declared.places.Place.TheVariants.{Item}
 use Rattle.clr_large.proofs.Homes.{IsBorneAt}
 use Rattle.clr_large.proofs.ItemBirths.{FitsItem, item_borne, item_cells, item_cut, item_head, item_left_head, item_low}
@@ -17,7 +17,8 @@ make_free-requires-clause-head c =
     let less = c.if-size.true in
     let all = c.size.ensures.value in
     let size = c.item_size-size.ensures in
-    let asked : FitsItem c.args.types.now h c.args.item c.args.t.0 c.args.len = record {
+    let asked : FitsItem c.args.kind c.args.types.now h c.args.item c.args.t.0 c.args.len = record {
+      old = c.requires.old;
       heap = c.lawful.ensures;
       held = c.requires.held;
       item = c.requires.item;
@@ -26,11 +27,13 @@ make_free-requires-clause-head c =
       within = c.requires.place.1;
     } in
     subst₂ (λ (a n : ℕ). HasHead h (a + n)) (sym c.place-place.ensures) (sym size)
-    (item_left_head c.args.types.now h c.args.item c.args.t.0 c.args.len asked (omega (arith, less, all, size)))
+    (item_left_head c.args.kind c.args.types.now h c.args.item c.args.t.0 c.args.len asked
+    (omega (arith, less, all, size)))
 
 -- what was asked for
-asks : (c : Joined-size) → FitsItem c.args.types.now c.args.heap.now c.args.item c.args.t.0 c.args.len
+asks : (c : Joined-size) → FitsItem c.args.kind c.args.types.now c.args.heap.now c.args.item c.args.t.0 c.args.len
 asks c = record {
+  old = c.requires.old;
   heap = c.lawful.ensures;
   held = c.requires.held;
   item = c.requires.item;
@@ -47,7 +50,7 @@ carves c =
     let n = size_of (form_at c.args.types.now c.args.t.0) c.args.len in
     let size = c.item_size-size.ensures in
     let all = c.size.ensures.value in
-    let cut = item_cut c.args.types.now h c.args.item c.args.t.0 c.args.len (asks c) in
+    let cut = item_cut c.args.kind c.args.types.now h c.args.item c.args.t.0 c.args.len (asks c) in
     elim c.if-size.branch [
       | then-size w ↦
           let less = w.if-size.true in
@@ -61,7 +64,7 @@ carves c =
 pub overflow_sub-place : goal.overflow_sub-place
 overflow_sub-place c =
     let d = (goal.at.overflow_sub-place c).Joined-size in
-    let low = item_low c.args.types.now c.args.heap.now c.args.item c.args.t.0 c.args.len (asks d) in
+    let low = item_low c.args.kind c.args.types.now c.args.heap.now c.args.item c.args.t.0 c.args.len (asks d) in
     let at = c.place-place.ensures in
     omega (arith, low, at)
 
@@ -70,7 +73,8 @@ clear_cells-requires c =
     let d = (goal.at.clear_cells-requires c).Joined-size in
     subst₂ (λ (a n : ℕ). InOne c.if-size.heap.memories (a - 8) n) (sym c.place-place.ensures)
     (sym c.item_size-size.ensures)
-    (item_cells c.args.types.now c.args.heap.now c.args.item c.args.t.0 c.args.len (asks d) c.if-size.heap (carves d))
+    (item_cells c.args.kind c.args.types.now c.args.heap.now c.args.item c.args.t.0 c.args.len (asks d) c.if-size.heap
+    (carves d))
 
 -- the cells of the object were cleared
 cleared : (c : After-clear_cells) → (b : ℕ) → b % 8 ≡ 0
@@ -84,23 +88,26 @@ make_object-requires-clause-head c =
     let d = (goal.at.make_object-requires-clause-head c).Joined-size in
     let e = (goal.at.make_object-requires-clause-head c).After-clear_cells in
     subst (HasHead c.clear_cells.new.self) (sym c.place-place.ensures)
-    (item_head c.args.types.now c.args.heap.now c.args.item c.args.t.0 c.args.len (asks d) c.if-size.heap (carves d)
+    (item_head c.args.kind c.args.types.now c.args.heap.now c.args.item c.args.t.0 c.args.len (asks d) c.if-size.heap
+    (carves d)
     c.clear_cells.new.self c.clear_cells.ensures.shape (cleared e))
 
 -- the birth
-borne : (c : After-make_object) → IsBorneAt c.args.types.now c.args.heap.now c.make_object.new.self
+borne : (c : After-make_object) → IsBorneAt c.args.kind c.args.types.now c.args.heap.now c.make_object.new.self
     (Item c.args.item) c.args.t.0 c.args.len
 borne c =
     let d = (goal.at.returns-clause-born c).Joined-size in
     let e = (goal.at.returns-clause-born c).After-clear_cells in
-    item_borne c.args.types.now c.args.heap.now c.args.item c.args.t.0 c.args.len (asks d) c.if-size.heap (carves d)
+    item_borne c.args.kind c.args.types.now c.args.heap.now c.args.item c.args.t.0 c.args.len (asks d) c.if-size.heap
+    (carves d)
     c.clear_cells.new.self c.clear_cells.ensures.shape (cleared e) c.make_object.new.self
     (c.make_object.ensures.words
     ∙ ap (λ a. placed c.args.types.now c.clear_cells.new.self a c.args.t.0 c.args.len) c.place-place.ensures)
 
 pub returns-clause-born : goal.returns-clause-born
 returns-clause-born c =
-    subst (λ a. HasLargeNewborn c.args.types.now c.args.heap.now c.make_object.new.self a c.args.t.0 c.args.len)
+    subst (λ a. HasNewbornIn c.args.kind c.args.types.now c.args.heap.now c.make_object.new.self a c.args.t.0
+    c.args.len)
     (sym c.place-place.ensures) (borne c).born
 
 pub returns-clause-layout : goal.returns-clause-layout

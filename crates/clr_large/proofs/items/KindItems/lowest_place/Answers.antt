@@ -2,9 +2,9 @@ use Rattle.std.proofs.Common.{◌≡◌, Some, None, sym, ◌∙◌, subst, arit
 use Rattle.clr_heap.specs.View.{last_of}
 use Rattle.clr_view.specs.View.{layout_in}
 use Rattle.clr_large.specs.Places.{address_of}
-use Rattle.clr_large.specs.Searches.{first_large, IsFirstTail}
+use Rattle.clr_large.specs.Searches.{first_of_kind, IsFirstTail}
 use Rattle.clr_large.proofs.LowestPlace.{item_place, lower_place, lowest, no_place, tail_place}
-use Rattle.clr_large.proofs.items.LargeItems.lowest_place.Goals as goal
+use Rattle.clr_large.proofs.items.KindItems.lowest_place.Goals as goal
 
 pub returns-in-Some-Some-clause-some : goal.returns-in-Some-Some-clause-some
 returns-in-Some-Some-clause-some c =
@@ -12,12 +12,12 @@ returns-in-Some-Some-clause-some c =
     let h = c.args.heap.now in
     let item = c.in-Some-Some.item in
     let k = c.in-Some-Some.k in
-    let first : Some item ≡ first_large (layout_in rows h) c.args.size = sym c.in-Some-Some.is-0
+    let first : Some item ≡ first_of_kind c.args.kind (layout_in rows h) c.args.size = sym c.in-Some-Some.is-0
     ∙ c.first_fit-item.ensures in
-    let tail = subst (IsFirstTail h c.args.size) c.in-Some-Some.is-1 c.first_tail-tail.ensures in
+    let tail = subst (IsFirstTail c.args.kind h c.args.size) c.in-Some-Some.is-1 c.first_tail-tail.ensures in
     let is = c.lower.ensures in (
-      lower_place rows h c.args.size item k c.lower.result first tail is,
-      lowest rows h c.args.size c.lawful.ensures c.requires.held (Some item) (Some k) first tail
+      lower_place c.args.kind rows h c.args.size item k c.lower.result first tail is,
+      lowest c.args.kind rows h c.args.size c.lawful.ensures c.requires.held (Some item) (Some k) first tail
           (address_of h c.lower.result) (is.1, is.2),
     )
 
@@ -26,11 +26,11 @@ returns-in-Some-None-clause-some c =
     let rows = c.args.types.now in
     let h = c.args.heap.now in
     let item = c.in-Some-None.item in
-    let first : Some item ≡ first_large (layout_in rows h) c.args.size = sym c.in-Some-None.is-0
+    let first : Some item ≡ first_of_kind c.args.kind (layout_in rows h) c.args.size = sym c.in-Some-None.is-0
     ∙ c.first_fit-item.ensures in
-    let tail = subst (IsFirstTail h c.args.size) c.in-Some-None.is-1 c.first_tail-tail.ensures in (
-      item_place rows h c.args.size item first,
-      lowest rows h c.args.size c.lawful.ensures c.requires.held (Some item) None first tail item.place
+    let tail = subst (IsFirstTail c.args.kind h c.args.size) c.in-Some-None.is-1 c.first_tail-tail.ensures in (
+      item_place c.args.kind rows h c.args.size item first,
+      lowest c.args.kind rows h c.args.size c.lawful.ensures c.requires.held (Some item) None first tail item.place
           (omega arith, tt),
     )
 
@@ -39,11 +39,11 @@ returns-in-None-Some-clause-some c =
     let rows = c.args.types.now in
     let h = c.args.heap.now in
     let k = c.in-None-Some.k in
-    let first : None ≡ first_large (layout_in rows h) c.args.size = sym c.in-None-Some.is-0
+    let first : None ≡ first_of_kind c.args.kind (layout_in rows h) c.args.size = sym c.in-None-Some.is-0
     ∙ c.first_fit-item.ensures in
-    let tail = subst (IsFirstTail h c.args.size) c.in-None-Some.is-1 c.first_tail-tail.ensures in (
-      tail_place rows h c.args.size k tail,
-      lowest rows h c.args.size c.lawful.ensures c.requires.held None (Some k) first tail (last_of h k)
+    let tail = subst (IsFirstTail c.args.kind h c.args.size) c.in-None-Some.is-1 c.first_tail-tail.ensures in (
+      tail_place c.args.kind rows h c.args.size k tail,
+      lowest c.args.kind rows h c.args.size c.lawful.ensures c.requires.held None (Some k) first tail (last_of h k)
           (tt, omega arith),
     )
 
@@ -51,5 +51,6 @@ pub returns-in-None-None-clause-none : goal.returns-in-None-None-clause-none
 returns-in-None-None-clause-none c =
     let rows = c.args.types.now in
     let h = c.args.heap.now in
-    λ _. no_place rows h c.args.size c.lawful.ensures c.requires.held c.first_fit-item.result c.first_tail-tail.result
+    λ _. no_place c.args.kind rows h c.args.size c.lawful.ensures c.requires.held c.first_fit-item.result
+    c.first_tail-tail.result
     c.first_fit-item.ensures c.first_tail-tail.ensures c.in-None-None.is-0 c.in-None-None.is-1

@@ -1,29 +1,29 @@
 use Rattle.std.proofs.Common.{◌≡◌, ℕ, ◌+◌, ◌*◌, ◌/◌, ◌<◌, ◌≤◌, true, refl, sym, ◌∙◌, subst, subst₂, arith}
-use Rattle.clr_types.specs.declared.segment.SegKind.TheVariants.{Large}
 use Rattle.clr_covers.specs.Covers.{is_covered}
 use Rattle.clr_model.specs.Allocation.{has_room_in}
 use Rattle.clr_heap.specs.View.{frame}
 use Rattle.clr_view.specs.View.{layout_in, newborn_at, objects_in}
 use Rattle.clr_generations.proofs.AddedObjects.{HasOneMore}
-use Rattle.clr_generations.proofs.OldBirthFacts.{old_newborn, old_newborn-bricks, old_newborn-cards}
-use Rattle.clr_generations.proofs.OldBirthFacts.{old_newborn-covered, old_newborn-ends}
+use Rattle.clr_large.proofs.KindBirthFacts.{old_newborn, old_newborn-bricks, old_newborn-cards}
+use Rattle.clr_large.proofs.KindBirthFacts.{old_newborn-covered, old_newborn-ends}
 use Rattle.clr_large.specs.Places.{IsLowest}
 use Rattle.clr_large.proofs.LowestPlace.{place_has_room}
 use Rattle.clr_large.proofs.PlacedBirths.{one_more}
-use Rattle.clr_large.proofs.items.LargeItems.bear.Goals as goal
-use Rattle.clr_large.proofs.items.LargeItems.bear.Goals.{After-lawful-2}
+use Rattle.clr_large.proofs.items.KindItems.bear.Goals as goal
+use Rattle.clr_large.proofs.items.KindItems.bear.Goals.{After-lawful-2}
 
 -- the heap has one object more
 more : (c : After-lawful-2) → HasOneMore c.args.types.now c.args.heap.now c.bear_placed-place.new.heap
     c.bear_placed-place.result c.args.t.0 c.args.len
-more c = one_more c.args.types.now c.args.heap.now c.bear_placed-place.new.heap c.bear_placed-place.result c.args.t.0
+more c = one_more c.args.kind c.args.types.now c.args.heap.now c.bear_placed-place.new.heap c.bear_placed-place.result
+    c.args.t.0
     c.args.len c.lawful.ensures c.requires.held c.lawful-2.ensures c.bear_placed-place.ensures.born
 
 pub enter_old_newborn-requires-clause-fits : goal.enter_old_newborn-requires-clause-fits
 enter_old_newborn-requires-clause-fits c =
     let d = (goal.at.enter_old_newborn-requires-clause-fits c).After-lawful-2 in
     let size = c.item_size-size.ensures in
-    let ends = old_newborn-ends c.args.types.now c.args.heap.now c.bear_placed-place.new.heap
+    let ends = old_newborn-ends c.args.kind c.requires.old c.args.types.now c.args.heap.now c.bear_placed-place.new.heap
     c.bear_placed-place.result c.args.t.0 c.args.len (more d) c.bear_placed-place.ensures.born.layout in
     omega (arith, size, ends)
 
@@ -33,26 +33,29 @@ enter_old_newborn-requires-clause-covered c =
     let place = c.bear_placed-place.result in
     subst (λ (n : ℕ). (i : ℕ) → place / 4096 ≤ i → 4096 * i < place + n → is_covered c.args.bricks.now i ≡ true)
     (sym c.item_size-size.ensures)
-    (old_newborn-covered c.args.types.now c.args.heap.now c.bear_placed-place.new.heap place c.args.t.0 c.args.len
+    (old_newborn-covered c.args.kind c.requires.old c.args.types.now c.args.heap.now c.bear_placed-place.new.heap place
+    c.args.t.0 c.args.len
     (more d) c.bear_placed-place.ensures.born.layout c.args.bricks.now c.requires.bricks)
 
 pub returns-clause-some : goal.returns-clause-some
 returns-clause-some c =
     let size = c.item_size-size.ensures in
-    subst (λ (n : ℕ). has_room_in Large (layout_in c.args.types.now c.args.heap.now) n ≡ true) size
-    (place_has_room c.args.types.now c.args.heap.now c.item_size-size.result c.in_ok-found.found
+    subst (λ (n : ℕ). has_room_in c.args.kind (layout_in c.args.types.now c.args.heap.now) n ≡ true) size
+    (place_has_room c.args.kind c.args.types.now c.args.heap.now c.item_size-size.result c.in_ok-found.found
     c.in_ok-found.ensures.some.0)
 
 pub returns-clause-lowest : goal.returns-clause-lowest
 returns-clause-lowest c =
-    subst₂ (λ (n place : ℕ). IsLowest (layout_in c.args.types.now c.args.heap.now) n place) c.item_size-size.ensures
+    subst₂ (λ (n place : ℕ). IsLowest c.args.kind (layout_in c.args.types.now c.args.heap.now) n place)
+    c.item_size-size.ensures
     (sym c.bear_placed-place.ensures.place) c.in_ok-found.ensures.some.1
 
 pub returns-clause-own_bricks : goal.returns-clause-own_bricks
 returns-clause-own_bricks c =
     let d = (goal.at.returns-clause-own_bricks c).After-lawful-2 in
     c.enter_old_newborn.ensures.spans
-    ∙ old_newborn-bricks c.args.types.now c.args.heap.now c.bear_placed-place.new.heap c.bear_placed-place.result
+    ∙ old_newborn-bricks c.args.kind c.requires.old c.args.types.now c.args.heap.now c.bear_placed-place.new.heap
+    c.bear_placed-place.result
     c.args.t.0 c.args.len (more d) c.bear_placed-place.ensures.born.layout c.args.bricks.now c.requires.bricks
 
 pub returns-clause-bricks : goal.returns-clause-bricks
@@ -64,10 +67,12 @@ returns-clause-bricks c = λ law.
     let place = c.bear_placed-place.result in
     c.enter_old_newborn.ensures.bricks rows (frame old) (frame new) (objects_in rows old) (objects_in rows new)
     (newborn_at rows place c.args.t.0 c.args.len) refl (sym c.item_size-size.ensures)
-    (old_newborn rows old new place c.args.t.0 c.args.len (more d) c.bear_placed-place.ensures.born.layout) law
+    (old_newborn c.args.kind c.requires.old rows old new place c.args.t.0 c.args.len
+    (more d) c.bear_placed-place.ensures.born.layout) law
 
 pub returns-clause-cards : goal.returns-clause-cards
 returns-clause-cards c = λ closed.
     let d = (goal.at.returns-clause-cards c).After-lawful-2 in
-    old_newborn-cards c.args.types.now c.args.heap.now c.bear_placed-place.new.heap c.bear_placed-place.result
+    old_newborn-cards c.args.kind c.requires.old c.args.types.now c.args.heap.now c.bear_placed-place.new.heap
+    c.bear_placed-place.result
     c.args.t.0 c.args.len (more d) c.bear_placed-place.ensures.born.layout closed

@@ -278,6 +278,8 @@ fn shows_replies_and_refusals(rt: HostRuntime) {
             Reply::Collected(Collected {
                 generation: 1,
                 compacted: true,
+                fitted: false,
+                background: false,
                 kept: 2,
                 freed: 3,
                 promoted1: 4,

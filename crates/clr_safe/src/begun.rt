@@ -15,8 +15,8 @@ pub enum Begun {
         object: u64,
         slot: u64,
     },
-    /// There is room in the thread's context for an object of this type, with `len` elements where it is an array, which
-    /// the local is to take. With `finalizer` there is room for its finalisation entry, too.
+    /// There is room in the thread's context for an object of this type, with `len` elements where it is an array,
+    /// which the local is to take. With `finalizer` there is room for its finalisation entry, too.
     Birth {
         type_id: TypeId,
         len: u64,

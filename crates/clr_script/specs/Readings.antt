@@ -1,6 +1,8 @@
 -- What a reader answers, told by the instruction that the words spell.
-use Rattle.std.specs.Prelude.{◌≡◌, ℕ, List, Option}
+use Rattle.std.specs.Prelude.{◌≡◌, ℕ, List, None, Option, Some, ◌==◌, bytes_eq, codes, if◌then◌else◌}
 use Rattle.std.specs.Option.{option_map}
+use Rattle.clr_model.specs.declared.How.{How}
+use Rattle.clr_model.specs.declared.How.TheVariants.{Fit}
 use Rattle.clr_model.specs.declared.command.Command.{Command}
 use Rattle.clr_model.specs.Instructions.{Instruction, instruction_of, plain}
 use Rattle.clr_model.specs.LineGrammar.{IsLine}
@@ -16,3 +18,7 @@ IsReadAs bytes command = (i : Instruction) × IsLine bytes i × (instruction_of 
 -- the bytes are the line of no instruction
 abbrev pub IsNoLine : List ℕ → Type 0
 IsNoLine bytes = (i : Instruction) → IsLine bytes i → ⊥
+
+-- the kind of collection of a generation that the third of its words names
+abbrev pub fitting_in : ℕ → List ℕ → Option How
+fitting_in g word = if bytes_eq word (codes "fitting") then (if g == 1 then Some Fit else None) else None

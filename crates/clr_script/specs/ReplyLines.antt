@@ -7,7 +7,7 @@ use Rattle.clr_model.specs.ReplyText.{refusal_words}
 
 -- the number of a segment's kind is one
 abbrev pub IsShowable : Reply → Type 0
-IsShowable (reply.Where w) = w.kind ≤ 2
+IsShowable (reply.Where w) = w.kind ≤ 3
 IsShowable _ = Unit {0}
 
 abbrev pub IsFirstOf : List (List ℕ) → List ℕ → Type 0

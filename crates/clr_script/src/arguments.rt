@@ -3,8 +3,9 @@ ghost use Rattle.std.specs.Prelude.{◌≡◌, ℕ};
 ghost use Rattle.std.specs.Option.{option_map};
 ghost use Rattle.clr_model.specs.Parsing.{one_local_in, one_handle_in, address_after_in, locals_in};
 ghost use Rattle.clr_model.specs.Parsing.{local_and_number_in, local_and_handle_in, load_in, store_in, number_store_in};
-ghost use Rattle.clr_model.specs.Parsing.{length_in, birth_in, how_in, second_in};
+ghost use Rattle.clr_model.specs.Parsing.{length_in, birth_in, how_in, one_number_in, second_in};
 ghost use Rattle.clr_script.specs.Cuts.{words_left};
+ghost use Rattle.clr_script.specs.Readings.{fitting_in};
 
 use crate::cut::{Rest, no_word, one_word, take_word, three_words, two_words};
 use crate::fields::{read_address, read_handle, read_local, read_name, read_number};
@@ -25,6 +26,14 @@ pub fn read_one_handle(rest: Rest<'_>) -> Option<u64>
     ensures { result ≡ one_handle_in (words_left rest.entry) }
 {
     read_handle(one_word(rest)?)
+}
+
+/// A number.
+#[tactic(auto, unfolding(clr_model::specs::Parsing::one_number_in))]
+pub fn read_one_number(rest: Rest<'_>) -> Option<u64>
+    ensures { result ≡ one_number_in (words_left rest.entry) }
+{
+    read_number(one_word(rest)?)
 }
 
 /// An address.
@@ -113,10 +122,24 @@ pub fn read_birth<'a>(rest: Rest<'a>) -> Option<(u64, &'a [u8], Option<u64>)>
     Some((local, name, read_length(rest)?))
 }
 
-/// `compacting`, `sweeping` or nothing.
+// `fitting` for generation 1.
+fn read_fitting(g: u8, word: &[u8]) -> Option<How>
+    ensures { result ≡ fitting_in g word.now }
+{
+    if g != 1 {
+        return None;
+    }
+    if word == b"fitting".as_slice() {
+        Some(How::Fit)
+    } else {
+        None
+    }
+}
+
+/// `compacting`, `sweeping` or nothing, or `fitting` for generation 1.
 #[tactic(auto, unfolding(clr_model::specs::Parsing::how_in))]
-pub fn read_how(rest: Rest<'_>) -> Option<How>
-    ensures { result ≡ how_in (words_left rest.entry) }
+pub fn read_how(g: u8, rest: Rest<'_>) -> Option<How>
+    ensures { result ≡ how_in g (words_left rest.entry) }
 {
     let Some((word, rest)) = take_word(rest) else {
         return Some(How::Decide);
@@ -128,7 +151,7 @@ pub fn read_how(rest: Rest<'_>) -> Option<How>
     if word == b"sweeping".as_slice() {
         return Some(How::Sweep);
     }
-    None
+    read_fitting(g, word)
 }
 
 /// The second local of a handle: a dependent one has it, and no other.

@@ -2,12 +2,12 @@
 ghost use Rattle.std.specs.Prelude.{◌≡◌, ◌<◌, ◌≤◌, ◌↔◌, ◌⊎◌, ℕ, length, IfOk, IfErr};
 ghost use Rattle.std.specs.Option.{option_map};
 ghost use Rattle.clr_model.specs.Instructions.{show_segments};
-ghost use Rattle.clr_model.specs.Parsing.{heaps_in, other_in, line_in, thread_in};
+ghost use Rattle.clr_model.specs.Parsing.{heaps_in, marking_in, other_in, line_in, thread_in};
 ghost use Rattle.clr_script.specs.Cuts.{words_left};
 ghost use Rattle.clr_script.specs.Readings.{Reads, IsReadAs, IsNoLine};
 
-use crate::arguments::read_one_address;
-use crate::cut::{Rest, next_word, no_word, one_word};
+use crate::arguments::{read_one_address, read_one_number};
+use crate::cut::{Rest, next_word, no_word, one_word, take_word};
 use crate::fields::read_thread;
 use crate::options::read_filter;
 use crate::shapes::read_define;
@@ -28,6 +28,17 @@ fn read_gc(rest: Rest<'_>) -> Option<()>
         Some(())
     } else {
         None
+    }
+}
+
+// What stands behind `background` in a line that is no thread's.
+#[tactic(auto, unfolding(clr_model::specs::Parsing::marking_in))]
+fn read_marking<'a>(rest: Rest<'a>) -> Option<Command<'a>>
+    ensures { Reads result (marking_in (words_left rest.entry)) }
+{
+    let (word, rest) = take_word(rest)?;
+    by_row! { word;
+        b"step": n = read_one_number(rest) => Command::BackgroundStep { n },
     }
 }
 

@@ -119,7 +119,11 @@ fn put_collected(collected: &Collected, into: &mut [u8; 256]) -> usize
 {
     let at = append(into, 0, b"collected");
     let at = append_number(into, at, u64::from(collected.generation));
-    let phase = if collected.compacted {
+    let phase = if collected.background {
+        b"background".as_slice()
+    } else if collected.fitted {
+        b"fit".as_slice()
+    } else if collected.compacted {
         b"compact".as_slice()
     } else {
         b"sweep".as_slice()
@@ -133,7 +137,7 @@ fn put_collected(collected: &Collected, into: &mut [u8; 256]) -> usize
 
 // Writes where an object stands, and gives its length.
 fn put_where(found: &Where, into: &mut [u8; 256]) -> usize
-    requires { found.now.kind ≤ 2 }
+    requires { found.now.kind ≤ 3 }
     ensures short { result < 256 }
     ensures text { take result into.new ≡ reply_text (Reply.Where found.now) }
 {
@@ -142,12 +146,37 @@ fn put_where(found: &Where, into: &mut [u8; 256]) -> usize
     let segment = match found.kind {
         0 => b"small".as_slice(),
         1 => b"ephemeral".as_slice(),
-        _ => b"large".as_slice(),
+        2 => b"large".as_slice(),
+        _ => b"pinned".as_slice(),
     };
     let at = append_word(into, at, segment);
     let at = append_address(into, at, found.base);
     let at = append_word(into, at, b"size");
     append_number(into, at, found.size)
+}
+
+// Writes how much an object's slots reach, and gives its length.
+fn put_size(place: u64, objects: u64, bytes: u64, into: &mut [u8; 256]) -> usize
+    ensures short { result < 256 }
+    ensures text { take result into.new ≡ reply_text (Reply.Size place objects bytes) }
+{
+    let at = append(into, 0, b"objsize");
+    let at = append_address(into, at, place);
+    let at = append_word(into, at, b"objects");
+    let at = append_number(into, at, objects);
+    let at = append_word(into, at, b"bytes");
+    append_number(into, at, bytes)
+}
+
+// Writes what a step of the background marking did, and gives its length.
+fn put_scanned(scanned: u64, gray: u64, into: &mut [u8; 256]) -> usize
+    ensures short { result < 256 }
+    ensures text { take result into.new ≡ reply_text (Reply.Scanned scanned gray) }
+{
+    let at = append(into, 0, b"scanned");
+    let at = append_number(into, at, scanned);
+    let at = append_word(into, at, b"gray");
+    append_number(into, at, gray)
 }
 
 // Writes the text of a reply, and gives its length.
@@ -172,6 +201,12 @@ fn put_text(reply: &Reply, into: &mut [u8; 256]) -> usize
         Reply::Collected(collected) => put_collected(collected, into),
         Reply::Where(found) => put_where(found, into),
         Reply::Clean => append(into, 0, b"clean"),
+        Reply::Size {
+            place,
+            objects,
+            bytes,
+        } => put_size(*place, *objects, *bytes, into),
+        Reply::Scanned { scanned, gray } => put_scanned(*scanned, *gray, into),
     }
 }
 
@@ -272,5 +307,8 @@ fn refusal_name(refusal: &Refusal) -> &'static [u8]
         Refusal::NoObject => b"no-object",
         Refusal::Empty => b"empty",
         Refusal::NoMemory => b"nomem",
+        Refusal::HasReferences => b"has-references",
+        Refusal::BackgroundRunning => b"background-running",
+        Refusal::NoBackground => b"no-background",
     }
 }

@@ -4,12 +4,15 @@
 // The command of the row with this word. `None` where no row has it, or where other words than those wanted stand
 // behind it.
 macro_rules! by_row {
-    ($word:ident; $($text:literal: $found:pat = $reader:expr => $command:expr,)*) => {{
+    ($word:ident; $($text:literal: $found:pat = $reader:expr => $command:expr,)*) => {
+        by_row! { $word, None; $($text: $found = $reader => $command,)* }
+    };
+    ($word:ident, $other:expr; $($text:literal: $found:pat = $reader:expr => $command:expr,)*) => {{
         $(if $word == $text.as_slice() {
             let $found = $reader?;
             return Some($command);
         })*
-        None
+        $other
     }};
 }
 
@@ -26,6 +29,8 @@ macro_rules! other_rows {
             b"verifyheap": () = no_word($rest) => Command::VerifyHeap,
             b"gchandles": () = no_word($rest) => Command::GcHandles,
             b"finalizequeue": () = no_word($rest) => Command::FinalizeQueue,
+            b"objsize": a = read_one_address($rest) => Command::ObjSize { a },
+            b"background": command = read_marking($rest) => command,
         }
     };
 }
@@ -33,7 +38,7 @@ macro_rules! other_rows {
 // The lines of a thread, by their verbs.
 macro_rules! thread_rows {
     ($t:ident, $verb:ident, $rest:ident) => {
-        by_row! { $verb;
+        by_row! { $verb, read_seldom($t, $verb, $rest);
             b"get": (to, from, index) = read_load($rest) => Command::Get { t: $t, to, from, index },
             b"set": (into, index, from) = read_store($rest) => Command::Set { t: $t, into, index, from },
             b"put": (into, index, value) = read_number_store($rest) => Command::Put { t: $t, into, index, value },
@@ -57,6 +62,17 @@ macro_rules! thread_rows {
     };
 }
 
+// Those on pinned segments, background collections and the large heap.
+macro_rules! seldom_rows {
+    ($t:ident, $verb:ident, $rest:ident) => {
+        by_row! { $verb;
+            b"new-pinned": command = read_pinned($t, $rest) => command,
+            b"background": command = read_pause($t, $rest) => command,
+            b"compact-large": command = read_once($t, $rest) => command,
+        }
+    };
+}
+
 // What a thread begins, by the word behind `begin`.
 macro_rules! begin_rows {
     ($t:ident, $verb:ident, $rest:ident) => {
@@ -70,4 +86,5 @@ macro_rules! begin_rows {
 pub(crate) use begin_rows;
 pub(crate) use by_row;
 pub(crate) use other_rows;
+pub(crate) use seldom_rows;
 pub(crate) use thread_rows;

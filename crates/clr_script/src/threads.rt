@@ -1,16 +1,17 @@
 //! The lines of threads.
 ghost use Rattle.std.specs.Prelude.{◌≡◌, ℕ};
-ghost use Rattle.clr_model.specs.Parsing.{begin_in, collect_in, create_in, threaded_in};
+ghost use Rattle.clr_model.specs.Parsing.{begin_in, collect_in, create_in, once_in, pause_in, pinned_in, seldom_in};
+ghost use Rattle.clr_model.specs.Parsing.{threaded_in};
 ghost use Rattle.clr_script.specs.Cuts.{words_left};
 ghost use Rattle.clr_script.specs.Readings.{Reads};
 
 use crate::arguments::{
     read_birth, read_how, read_load, read_local_and_handle, read_local_and_number, read_locals,
-    read_number_store, read_one_handle, read_one_local, read_second, read_store,
+    read_number_store, read_one_handle, read_one_local, read_one_number, read_second, read_store,
 };
-use crate::cut::{Rest, no_word, take_word};
-use crate::fields::{read_generation, read_kind, read_local};
-use crate::table::{begin_rows, by_row, thread_rows};
+use crate::cut::{Rest, no_word, one_word, take_word};
+use crate::fields::{read_generation, read_kind, read_local, read_name};
+use crate::table::{begin_rows, by_row, seldom_rows, thread_rows};
 use clr_model::Command;
 
 // What stands behind `collect`.
@@ -20,7 +21,7 @@ fn read_collect<'a>(t: u64, rest: Rest<'a>) -> Option<Command<'a>>
 {
     let (word, rest) = take_word(rest)?;
     let g = read_generation(word)?;
-    let how = read_how(rest)?;
+    let how = read_how(g, rest)?;
     Some(Command::Collect { t, g, how })
 }
 
@@ -49,6 +50,57 @@ fn read_begin<'a>(t: u64, rest: Rest<'a>) -> Option<Command<'a>>
 {
     let (verb, rest) = take_word(rest)?;
     begin_rows!(t, verb, rest)
+}
+
+// What stands behind `new-pinned`.
+#[tactic(auto, unfolding(clr_model::specs::Parsing::pinned_in))]
+fn read_pinned<'a>(t: u64, rest: Rest<'a>) -> Option<Command<'a>>
+    ensures { Reads result (pinned_in t (words_left rest.entry)) }
+{
+    let (local, rest) = take_word(rest)?;
+    let (name, rest) = take_word(rest)?;
+    let local = read_local(local)?;
+    let name = read_name(name)?;
+    let len = read_one_number(rest)?;
+    Some(Command::NewPinned {
+        t,
+        local,
+        name,
+        len,
+    })
+}
+
+// What stands behind `background` in the line of a thread.
+#[tactic(auto, unfolding(clr_model::specs::Parsing::pause_in))]
+fn read_pause<'a>(t: u64, rest: Rest<'a>) -> Option<Command<'a>>
+    ensures { Reads result (pause_in t (words_left rest.entry)) }
+{
+    let (word, rest) = take_word(rest)?;
+    by_row! { word;
+        b"begin": () = no_word(rest) => Command::BackgroundBegin { t },
+        b"end": () = no_word(rest) => Command::BackgroundEnd { t },
+    }
+}
+
+// What stands behind `compact-large`.
+#[tactic(auto, unfolding(clr_model::specs::Parsing::once_in))]
+fn read_once<'a>(t: u64, rest: Rest<'a>) -> Option<Command<'a>>
+    ensures { Reads result (once_in t (words_left rest.entry)) }
+{
+    let word = one_word(rest)?;
+    if word == b"once".as_slice() {
+        Some(Command::CompactLarge { t })
+    } else {
+        None
+    }
+}
+
+// What stands behind the verb of a thread's line on pinned segments, background collections or the large heap.
+#[tactic(auto, unfolding(clr_model::specs::Parsing::seldom_in))]
+fn read_seldom<'a>(t: u64, verb: &[u8], rest: Rest<'a>) -> Option<Command<'a>>
+    ensures { Reads result (seldom_in t verb.now (words_left rest.entry)) }
+{
+    seldom_rows!(t, verb, rest)
 }
 
 /// What stands behind the word of a thread.

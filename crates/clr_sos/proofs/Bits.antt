@@ -1,5 +1,6 @@
 -- A bit more in a set of numbers.
-use Rattle.std.proofs.Common.{◌≡◌, ◌≢◌, inl, inr, ℕ, ◌*◌, ◌^◌, ◌/◌, ◌%◌, ◌<◌, ◌||◌, true, List, length, get_or, set, eqb}
+use Rattle.std.proofs.Common.{◌≡◌, ◌≢◌, inl, inr, ℕ, ◌*◌, ◌^◌, ◌/◌, ◌%◌, ◌<◌, ◌||◌, true, List, length, get_or, set}
+use Rattle.std.proofs.Common.{eqb}
 use Rattle.std.proofs.Common.{ap, sym, ◌∙◌, arith, bit_or, w64, nat_eq, get_or-set_same, get_or-set_other}
 use Rattle.std.specs.Int.{bit_at}
 use Rattle.std.proofs.lemmas.Bool.{cases_Bool, cases_eq, eqb-true, eqb-false}

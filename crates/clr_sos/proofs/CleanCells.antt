@@ -16,7 +16,7 @@ use Rattle.clr_view.specs.View.{is_object}
 use Rattle.clr_view.specs.Clean.{AreZero, IsCleanHeader, slots_end}
 use Rattle.clr_sos.specs.CheckedCells.{begins_in, checked_item, checked_size, contents_fault, crosses, first_byte}
 use Rattle.clr_sos.specs.CheckedCells.{is_header, is_inside, is_length, is_whole, Rules, sized_item, suits, typed_item}
-use Rattle.clr_sos.specs.Faults.{is_young, large_size, rules_of, words_in}
+use Rattle.clr_sos.specs.Faults.{is_young, rules_of, words_in}
 use Rattle.clr_sos.specs.CellScans.{suits_object}
 use Rattle.clr_sos.specs.Faultless.{IsWellPlaced}
 use Rattle.clr_sos.proofs.CleanItems.{IsClean}
@@ -40,17 +40,17 @@ bytes_none (suc n) k from base w clear =
     rw (test, shift, at) (bytes_none n (k + 1) from base w (λ j low high up. clear j (omega arith) (omega arith) up))
 
 -- an object whose padding is zero has no fault behind its method table word, and a free item never has
-pub contents_none : (rows : List TypeRow) (h : HeapView) (k p t len : ℕ) → p % 8 ≡ 0
+pub contents_none : (rows : List TypeRow) (large : ℕ) (h : HeapView) (k p t len : ℕ) → p % 8 ≡ 0
     → ((t == 0) ≡ false
     → AreZero (word_of h) (p + slots_end (form_at rows t) len) (p + size_of (form_at rows t) len - 8))
-    → contents_fault (rules_of rows h k) (words_in h) p t len ≡ None
-contents_none rows h k p t len z clear = elim (cases_Bool (t == 0)) [
+    → contents_fault (rules_of rows large h k) (words_in h) p t len ≡ None
+contents_none rows large h k p t len z clear = elim (cases_Bool (t == 0)) [
   | inl free ↦
       let zero_type : t ≡ 0 = grind (arith, free) in
-      let from = padding_free (rules_of rows h k) p t len refl zero_type in
-      no_padding (rules_of rows h k) (word_of h) p t len (omega (arith, from))
+      let from = padding_free (rules_of rows large h k) p t len refl zero_type in
+      no_padding (rules_of rows large h k) (word_of h) p t len (omega (arith, from))
   | inr object ↦
-      let rules = rules_of rows h k in
+      let rules = rules_of rows large h k in
       let size = size_of (form_at rows t) len in
       let from = padding_object rules p t len object in
       let is = has_size (form_at rows t) len in
@@ -87,8 +87,8 @@ begins_less (Some hole ∷ holes) p e high l h =
 
 -- ---- one item
 
-module _ (rows : List TypeRow) (h : HeapView) (k : ℕ) (i : Item) (clean : IsClean rows h i)
-    (placed : IsWellPlaced h k i) (names : NamesItem rows (word_of h) i.place)
+module _ (rows : List TypeRow) (large : ℕ) (h : HeapView) (k : ℕ) (i : Item) (clean : IsClean rows h i)
+    (placed : IsWellPlaced large h k i) (names : NamesItem rows (word_of h) i.place)
     (is : i ≡ item_at rows (word_of h) i.place) (below : i.place + i.size ≤ last_of h k)
     (aligned : i.place % 8 ≡ 0) where
   abbrev p : ℕ
@@ -101,7 +101,7 @@ module _ (rows : List TypeRow) (h : HeapView) (k : ℕ) (i : Item) (clean : IsCl
   len = i.len
 
   abbrev rules : Rules
-  rules = rules_of rows h k
+  rules = rules_of rows large h k
 
   number : type_number (word_of h p) ≡ t
   unfolding item_at
@@ -151,12 +151,12 @@ module _ (rows : List TypeRow) (h : HeapView) (k : ℕ) (i : Item) (clean : IsCl
         rw young (elim (h' young) [ inl low ↦ grind (arith, low) | inr high ↦ grind (arith, high, n) ])
   ]
 
-  suited : suits (segment_at h k).kind large_size t (size_of (form_at rows t) len) ≡ true
-  suited = suits_is (segment_at h k).kind t (size_of (form_at rows t) len) ∙ elim (cases_Bool (t == 0)) [
+  suited : suits (segment_at h k).kind large t (size_of (form_at rows t) len) ≡ true
+  suited = suits_is large (segment_at h k).kind t (size_of (form_at rows t) len) ∙ elim (cases_Bool (t == 0)) [
     | inl free ↦ rw free refl
     | inr object ↦
         let stands : is_object i ≡ true = grind (arith, object) in
-        rw object (ap (suits_object (segment_at h k).kind) (sym size_is) ∙ placed.suits stands)
+        rw object (ap (suits_object large (segment_at h k).kind) (sym size_is) ∙ placed.suits stands)
   ]
 
   whole_ok : is_whole rules p t (size_of (form_at rows t) len) ≡ true
@@ -172,7 +172,7 @@ module _ (rows : List TypeRow) (h : HeapView) (k : ℕ) (i : Item) (clean : IsCl
 
   contents_ok : contents_fault rules (words_in h) p t len ≡ None
   contents_ok =
-      contents_none rows h k p t len aligned
+      contents_none rows large h k p t len aligned
       (λ object a low high. let stands : is_object i ≡ true = grind (arith, object) in let n = size_is in
       clean.padding stands a low (omega (arith, high, n)))
 
@@ -210,7 +210,7 @@ module _ (rows : List TypeRow) (h : HeapView) (k : ℕ) (i : Item) (clean : IsCl
       let first_clear : begins_in (holes_of h k) p (p + 24) ≡ false =
       begins_less (holes_of h k) p (p + 24) (p + size_of (form_at rows t) len) (omega (arith, least)) apart in
       let inside : is_inside rules p 24 ≡ true = rw (end, first_clear) refl in
-      item_from rows h k p inside (header_ok clean.header)
+      item_from rows large h k p inside (header_ok clean.header)
       ∙ ap (typed_item rules (words_in h) p (word_of h (p - 8))) (type_found rows (word_of h p) t known clean.unmarked)
       ∙ typed (is_array (form_at rows t)) refl (final_ok clean.header)
       ∙ ap Ok made_is

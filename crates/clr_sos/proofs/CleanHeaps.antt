@@ -23,16 +23,16 @@ use Rattle.clr_sos.proofs.CleanCells.{item_clean}
 use Rattle.clr_sos.proofs.JudgedNames.{lowest-none}
 use Rattle.clr_sos.proofs.ScanSteps.{at_end, at_hole, at_item, same_fault}
 
-module _ (rows : List TypeRow) (h : HeapView) (k : ℕ) where
+module _ (rows : List TypeRow) (large : ℕ) (h : HeapView) (k : ℕ) where
   abbrev rules : Rules
-  rules = rules_of rows h k
+  rules = rules_of rows large h k
 
   abbrev words : Words
   words = words_in h
 
   -- parts whose items are clean and well placed have no fault
   none_along : (ps : List Part) (p f : ℕ) → p % 8 ≡ 0 → Spells (sight rows h k) p ps (last_of h k) → last_of h k ≤ p + f
-      → ((i : Item) → IsIn i (items_in ps) → IsClean rows h i × IsWellPlaced h k i)
+      → ((i : Item) → IsIn i (items_in ps) → IsClean rows h i × IsWellPlaced large h k i)
       → fault_of (checked_items f rules words p) ≡ None
   none_along [] p f z s enough each = ap fault_of (at_end f rules words p (omega (arith, s)))
   none_along (rest_part low high ∷ ps) p zero z s enough each =
@@ -55,14 +55,14 @@ module _ (rows : List TypeRow) (h : HeapView) (k : ℕ) where
       let names : NamesItem rows (word_of h) i.place = subst (NamesItem rows (word_of h)) (sym at) s.2 in
       let is : i ≡ item_at rows (word_of h) i.place = s.1 ∙ ap (item_at rows (word_of h)) (sym at) in
       let ok : checked_item rules words i.place ≡ Ok i =
-      item_clean rows h k i own.0 own.1 names is (omega arith) (ap (λ (n : ℕ). n % 8) at ∙ z) in
+      item_clean rows large h k i own.0 own.1 names is (omega arith) (ap (λ (n : ℕ). n % 8) at ∙ z) in
       let here : checked_item rules words p ≡ Ok i = ap (checked_item rules words) (sym at) ∙ ok in
       ap fault_of (at_item f rules words p i (omega arith) s.0 here)
       ∙ same_fault i (checked_items f rules words (p + i.size))
       ∙ none_along ps (p + i.size) f (omega arith) s.3 (omega arith) (λ j m. each j (later m))
 
-  pub segment_clean : (locals : List ℕ) → IsHeap h → k < length h.segments → IsFaultless rows h locals
-      → segment_fault rows h k ≡ None
+  pub segment_clean : (locals : List ℕ) → IsHeap h → k < length h.segments → IsFaultless rows large h locals
+      → segment_fault rows large h k ≡ None
   segment_clean locals heap l lawful =
       let seg = lawful_at h k heap l in
       let base = seg.base in
@@ -94,20 +94,21 @@ module _ (rows : List TypeRow) (h : HeapView) (k : ℕ) where
       ] in
       rw bounds none
 
-segments_clean : (rows : List TypeRow) (h : HeapView) (k n : ℕ) → ((j : ℕ) → j < k + n → segment_fault rows h j ≡ None)
-    → segments_fault rows h k n ≡ None
+segments_clean : (rows : List TypeRow) (large : ℕ) (h : HeapView) (k n : ℕ)
+    → ((j : ℕ) → j < k + n → segment_fault rows large h j ≡ None) → segments_fault rows large h k n ≡ None
 unfolding segments_fault
-segments_clean rows h k zero each = refl
-segments_clean rows h k (suc n) each =
-    rw (each k (omega arith)) (segments_clean rows h (k + 1) n (λ j l. each j (omega arith)))
+segments_clean rows large h k zero each = refl
+segments_clean rows large h k (suc n) each =
+    rw (each k (omega arith)) (segments_clean rows large h (k + 1) n (λ j l. each j (omega arith)))
 
 -- nothing is wrong with a lawful view
-pub lawful_is_clean : (rows : List TypeRow) (h : HeapView) (locals : List ℕ) → IsHeap h → IsFaultless rows h locals
-    → first_fault rows h locals ≡ None
-lawful_is_clean rows h locals heap lawful =
+pub lawful_is_clean : (rows : List TypeRow) (large : ℕ) (h : HeapView) (locals : List ℕ) → IsHeap h
+    → IsFaultless rows large h locals → first_fault rows large h locals ≡ None
+lawful_is_clean rows large h locals heap lawful =
     let items = heap_items rows h in
-    let one : segments_fault rows h 0 (length h.segments) ≡ None =
-    segments_clean rows h 0 (length h.segments) (λ j l. segment_clean rows h j locals heap (omega (arith, l)) lawful) in
+    let one : segments_fault rows large h 0 (length h.segments) ≡ None =
+    segments_clean rows large h 0 (length h.segments)
+    (λ j l. segment_clean rows large h j locals heap (omega (arith, l)) lawful) in
     let two : references_fault rows h ≡ None =
     ap (lowest None)
     (filter-none (λ a. not (is_name items (word_of h a))) (addresses rows items)

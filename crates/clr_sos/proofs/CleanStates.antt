@@ -13,7 +13,7 @@ use Rattle.clr_types.specs.Descriptors.{reference_offsets}
 use Rattle.clr_types.specs.declared.item.Item.{Item}
 use Rattle.clr_types.specs.declared.segment.SegInfo.{SegInfo}
 use Rattle.clr_types.specs.declared.segment.SegKind.{SegKind}
-use Rattle.clr_types.specs.declared.segment.SegKind.TheVariants.{Small, Ephemeral, Large}
+use Rattle.clr_types.specs.declared.segment.SegKind.TheVariants.{Small, Ephemeral, Large, Pinned}
 use Rattle.clr_types.specs.declared.shape.Slot.{Slot}
 use Rattle.clr_types.proofs.ChangedLists.{append_left, into_filter, IsIn-map, out_of_filter}
 use Rattle.clr_types.proofs.ListMembers.{append_right, from-map}
@@ -93,6 +93,7 @@ young_kind : (kind : SegKind) → same_kind kind Ephemeral ≡ true → kind ≡
 young_kind Small e = absurd cc
 young_kind Ephemeral e = refl
 young_kind Large e = absurd cc
+young_kind Pinned e = absurd cc
 
 is_bytes_free : (rows : List TypeRow) (t : ℕ) → t ≡ 0 → is_bytes (form_at rows t) ≡ true
 is_bytes_free rows t e = ap (λ (n : ℕ). is_bytes (form_at rows n)) e
@@ -227,18 +228,20 @@ module _ (v : View) (machine : Machine) (heap : IsHeap v.heap.now) (s : IsCleanS
           → begins_in (if same_kind kind Ephemeral then h.rests else []) i.place (i.place + i.size) ≡ false
       go Small e = refl
       go Large e = refl
+      go Pinned e = refl
       go Ephemeral e = none_begins h.rests i.place (i.place + i.size) (λ n r is.
           let context = s.held.contexts n r is in
           rest_apart (sight rows h k) (parts_of rows h k) i r.place (piece_end r) (first_of h k) (last_of h k)
           (s.held.walkable k l).spelled (part-among (parts_of rows h k) i listed) (context.among k l e))
 
   suited : (kind : SegKind) (o : Object) (size : ℕ) → size ≡ size_of (form_at rows o.type) o.len → Suits m o kind
-      → suits_object kind size ≡ true
+      → suits_object v.large kind size ≡ true
   suited Small o size e l = let g = s.large in grind (arith, e, l, g)
   suited Ephemeral o size e l = let g = s.large in grind (arith, e, l, g)
   suited Large o size e l = let g = s.large in grind (arith, e, l, g)
+  suited Pinned o size e l = refl
 
-  placed : (k : ℕ) (i : Item) → k < length h.segments → IsIn i (listing rows h k) → IsWellPlaced h k i
+  placed : (k : ℕ) (i : Item) → k < length h.segments → IsIn i (listing rows h k) → IsWellPlaced v.large h k i
   placed k i l listed =
       let all = listed_from rows h k i l listed in
       let piece = piece_listed i all in
@@ -277,7 +280,7 @@ module _ (v : View) (machine : Machine) (heap : IsHeap v.heap.now) (s : IsCleanS
       let least = hole.least in
       record { above = bounds.0; below = bounds.1; least = omega arith; aligned = hole.whole }
 
-  pub clean_state_is_faultless : AreInside h × IsFaultless rows h locals
+  pub clean_state_is_faultless : AreInside h × IsFaultless rows v.large h locals
   clean_state_is_faultless = (
     inside,
     record {

@@ -61,11 +61,11 @@ bytes_clear (suc n) k from base w none j low high up =
     ]
 
 -- an object without a fault behind its method table word has clear padding
-padding_clear : (rows : List TypeRow) (h : HeapView) (k p t len : ℕ) → p % 8 ≡ 0 → (t == 0) ≡ false
-    → contents_fault (rules_of rows h k) (words_in h) p t len ≡ None
+padding_clear : (rows : List TypeRow) (large : ℕ) (h : HeapView) (k p t len : ℕ) → p % 8 ≡ 0 → (t == 0) ≡ false
+    → contents_fault (rules_of rows large h k) (words_in h) p t len ≡ None
     → AreZero (word_of h) (p + slots_end (form_at rows t) len) (p + size_of (form_at rows t) len - 8)
-padding_clear rows h k p t len z object none a low high =
-    let rules = rules_of rows h k in
+padding_clear rows large h k p t len z object none a low high =
+    let rules = rules_of rows large h k in
     let size = size_of (form_at rows t) len in
     let from = padding_object rules p t len object in
     let is = has_size (form_at rows t) len in
@@ -91,10 +91,10 @@ padding_clear rows h k p t len z object none a low high =
 
 -- ---- one item
 
-module _ (rows : List TypeRow) (h : HeapView) (k : ℕ) (i : Item) (s : IsSound (rules_of rows h k) (word_of h) i.place i)
-    (aligned : i.place % 8 ≡ 0) where
+module _ (rows : List TypeRow) (large : ℕ) (h : HeapView) (k : ℕ) (i : Item)
+    (s : IsSound (rules_of rows large h k) (word_of h) i.place i) (aligned : i.place % 8 ≡ 0) where
   abbrev rules : Rules
-  rules = rules_of rows h k
+  rules = rules_of rows large h k
 
   type_is : i.type_id.0 ≡ s.t
   type_is = ap (λ (j : Item). j.type_id.0) s.is
@@ -112,7 +112,7 @@ module _ (rows : List TypeRow) (h : HeapView) (k : ℕ) (i : Item) (s : IsSound 
     padding = λ object.
         let same = type_is in
         let other : (s.t == 0) ≡ false = grind (arith, object, same) in
-        let zeros = padding_clear rows h k i.place s.t s.len aligned other s.contents in
+        let zeros = padding_clear rows large h k i.place s.t s.len aligned other s.contents in
         λ a low high.
         let n = size_is in
         let end : slots_end (form_at rows i.type_id.0) i.len ≡ slots_end (form_at rows s.t) s.len =
@@ -131,7 +131,7 @@ module _ (rows : List TypeRow) (h : HeapView) (k : ℕ) (i : Item) (s : IsSound 
         | inl below ↦ inr (grind (arith, here, below, n))
       ]
 
-  pub sound_placed : IsWellPlaced h k i
+  pub sound_placed : IsWellPlaced large h k i
   sound_placed =
       let size = size_of (form_at rows s.t) s.len in
       let whole = and_parts (is_inside rules i.place size) _ s.whole in
@@ -148,18 +148,18 @@ module _ (rows : List TypeRow) (h : HeapView) (k : ℕ) (i : Item) (s : IsSound 
         suits = λ object.
             let same = type_is in
             let other : (s.t == 0) ≡ false = grind (arith, object, same) in
-            let suited = sym (suits_is (segment_at h k).kind s.t size) ∙ more.1 in
-            ap (suits_object (segment_at h k).kind) size_is ∙ (sym (rw other refl) ∙ suited);
+            let suited = sym (suits_is large (segment_at h k).kind s.t size) ∙ more.1 in
+            ap (suits_object large (segment_at h k).kind) size_is ∙ (sym (rw other refl) ∙ suited);
       }
 
 -- ---- a segment
 
-module _ (rows : List TypeRow) (h : HeapView) (k : ℕ) (heap : IsHeap h) (l : k < length h.segments)
+module _ (rows : List TypeRow) (large : ℕ) (h : HeapView) (k : ℕ) (heap : IsHeap h) (l : k < length h.segments)
     (inside : AreInside h) where
   -- each item that is spelled passes the checks
   checked_along : (ps : List Part) (p f : ℕ) → first_of h k ≤ p → Spells (sight rows h k) p ps (last_of h k)
-      → last_of h k ≤ p + f → fault_of (checked_items f (rules_of rows h k) (words_in h) p) ≡ None
-      → (i : Item) → IsIn i (items_in ps) → checked_item (rules_of rows h k) (words_in h) i.place ≡ Ok i
+      → last_of h k ≤ p + f → fault_of (checked_items f (rules_of rows large h k) (words_in h) p) ≡ None
+      → (i : Item) → IsIn i (items_in ps) → checked_item (rules_of rows large h k) (words_in h) i.place ≡ Ok i
   checked_along [] p f low s enough none i m = elim m [ ]
   checked_along (rest_part to high ∷ ps) p zero low s enough none i m =
       let up = s.2 in let e = Spells-le (sight rows h k) ps high (last_of h k) s.4 in absurd (omega arith)
@@ -167,7 +167,7 @@ module _ (rows : List TypeRow) (h : HeapView) (k : ℕ) (heap : IsHeap h) (l : k
       let up = s.2 in
       let e = Spells-le (sight rows h k) ps high (last_of h k) s.4 in
       checked_along ps high f (omega arith) s.4 (omega arith)
-      (sym (ap fault_of (at_hole f (rules_of rows h k) (words_in h) p high (omega arith) s.1)) ∙ none) i m
+      (sym (ap fault_of (at_hole f (rules_of rows large h k) (words_in h) p high (omega arith) s.1)) ∙ none) i m
   checked_along (item_part j ∷ ps) p zero low s enough none i m =
       let size = item_size (sight rows h k) j p s.1 s.2 in
       let e = Spells-le (sight rows h k) ps (p + j.size) (last_of h k) s.3 in
@@ -176,16 +176,16 @@ module _ (rows : List TypeRow) (h : HeapView) (k : ℕ) (heap : IsHeap h) (l : k
       go (checked_item rules words p) refl (λ q r. checked_along ps q f r)
     where
       rules : Rules
-      rules = rules_of rows h k
+      rules = rules_of rows large h k
 
       words : Words
       words = words_in h
 
-      go : (r : Result Item ℕ) → checked_item (rules_of rows h k) (words_in h) p ≡ r
+      go : (r : Result Item ℕ) → checked_item (rules_of rows large h k) (words_in h) p ≡ r
           → ((q : ℕ) → first_of h k ≤ q → Spells (sight rows h k) q ps (last_of h k) → last_of h k ≤ q + f
-          → fault_of (checked_items f (rules_of rows h k) (words_in h) q) ≡ None → (i : Item) → IsIn i (items_in ps)
-          → checked_item (rules_of rows h k) (words_in h) i.place ≡ Ok i)
-          → checked_item (rules_of rows h k) (words_in h) i.place ≡ Ok i
+          → fault_of (checked_items f (rules_of rows large h k) (words_in h) q) ≡ None → (i : Item)
+          → IsIn i (items_in ps) → checked_item (rules_of rows large h k) (words_in h) i.place ≡ Ok i)
+          → checked_item (rules_of rows large h k) (words_in h) i.place ≡ Ok i
       go (Err a) item again =
           let size = item_size (sight rows h k) j p s.1 s.2 in
           let e = Spells-le (sight rows h k) ps (p + j.size) (last_of h k) s.3 in
@@ -194,7 +194,7 @@ module _ (rows : List TypeRow) (h : HeapView) (k : ℕ) (heap : IsHeap h) (l : k
       go (Ok found) item again =
           let size = item_size (sight rows h k) j p s.1 s.2 in
           let e = Spells-le (sight rows h k) ps (p + j.size) (last_of h k) s.3 in
-          let same : found ≡ j = (spelled_item rows h k heap l inside p found low item).0 ∙ sym s.1 in
+          let same : found ≡ j = (spelled_item rows large h k heap l inside p found low item).0 ∙ sym s.1 in
           let moved : p + found.size ≡ p + j.size = ap (λ (x : Item). p + x.size) same in
           elim (in_cons m) [
             | inl here ↦
@@ -207,15 +207,15 @@ module _ (rows : List TypeRow) (h : HeapView) (k : ℕ) (heap : IsHeap h) (l : k
                 ∙ sym (ap fault_of (at_item f rules words p found (omega arith) s.0 item)) ∙ none) i more
           ]
 
-  bounds_ok : segment_fault rows h k ≡ None
+  bounds_ok : segment_fault rows large h k ≡ None
       → (has_bounds h k ≡ true)
-      × (fault_of (checked_items (last_of h k) (rules_of rows h k) (words_in h) (first_of h k)) ≡ None)
+      × (fault_of (checked_items (last_of h k) (rules_of rows large h k) (words_in h) (first_of h k)) ≡ None)
   bounds_ok e = elim (cases_Bool (has_bounds h k)) [
     | inl on ↦ (on, sym (rw on refl) ∙ e)
     | inr off ↦ let clash : Some (segment_at h k).base ≡ None = sym (rw off refl) ∙ e in absurd cc
   ]
 
-  pub bounds_have : segment_fault rows h k ≡ None → is_young h k ≡ true → HasBounds h k
+  pub bounds_have : segment_fault rows large h k ≡ None → is_young h k ≡ true → HasBounds h k
   bounds_have e young =
       let on = (bounds_ok e).0 in
       let parts = (and_parts (is_between (first_of h k) (last_of h k) (reserved_end (segment_at h k))) _ on).1 in
@@ -228,11 +228,11 @@ module _ (rows : List TypeRow) (h : HeapView) (k : ℕ) (heap : IsHeap h) (l : k
         high = grind (arith, both);
       }
 
-  pub item_sound : AreWalkable rows h → segment_fault rows h k ≡ None → (i : Item) → IsIn i (listing rows h k)
-      → IsSound (rules_of rows h k) (word_of h) i.place i
+  pub item_sound : AreWalkable rows h → segment_fault rows large h k ≡ None → (i : Item) → IsIn i (listing rows h k)
+      → IsSound (rules_of rows large h k) (word_of h) i.place i
   item_sound walkable e i m =
       let walk = walkable k l in
-      item_ok (rules_of rows h k) (word_of h) i.place i
+      item_ok (rules_of rows large h k) (word_of h) i.place i
       (checked_along (parts_of rows h k) (first_of h k) (last_of h k) (omega arith) walk.spelled (omega arith)
       (bounds_ok e).1 i m)
 
@@ -253,20 +253,20 @@ not_false true e = refl
 not_false false e = sym e
 
 -- a view without a fault is lawful
-pub lawful_if : (rows : List TypeRow) (h : HeapView) (locals : List ℕ) → IsHeap h → AreInside h
-    → first_fault rows h locals ≡ None → IsFaultless rows h locals
-lawful_if rows h locals heap inside e =
+pub lawful_if : (rows : List TypeRow) (large : ℕ) (h : HeapView) (locals : List ℕ) → IsHeap h → AreInside h
+    → first_fault rows large h locals ≡ None → IsFaultless rows large h locals
+lawful_if rows large h locals heap inside e =
     let items = heap_items rows h in
     let one =
-    none_or (segments_fault rows h 0 (length h.segments))
+    none_or (segments_fault rows large h 0 (length h.segments))
     (or_else (references_fault rows h) (locals_fault rows h locals)) e in
     let two = none_or (references_fault rows h) (locals_fault rows h locals) one.1 in
-    let walkable = are_walkable rows h heap inside one.0 in
-    let each : (k : ℕ) → k < length h.segments → segment_fault rows h k ≡ None =
-    λ k l. none_each rows h 0 (length h.segments) k one.0 (omega arith) (omega (arith, l)) in
+    let walkable = are_walkable rows large h heap inside one.0 in
+    let each : (k : ℕ) → k < length h.segments → segment_fault rows large h k ≡ None =
+    λ k l. none_each rows large h 0 (length h.segments) k one.0 (omega arith) (omega (arith, l)) in
     let sound : (k : ℕ) (l : k < length h.segments) (i : Item) → IsIn i (listing rows h k)
-    → IsSound (rules_of rows h k) (word_of h) i.place i =
-    λ k l i m. item_sound rows h k heap l inside walkable (each k l) i m in
+    → IsSound (rules_of rows large h k) (word_of h) i.place i =
+    λ k l i m. item_sound rows large h k heap l inside walkable (each k l) i m in
     let good : list_all (is_name items) locals ≡ true = elim (cases_Bool (list_all (is_name items) locals)) [
       | inl on ↦ on
       | inr off ↦
@@ -277,11 +277,11 @@ lawful_if rows h locals heap inside e =
     λ i m.
     let home = listed-in rows h i 0 (length h.segments) m in
     let l : home.0 < length h.segments = let b = home.1 in omega arith in
-    sound_clean rows h home.0 i (sound home.0 l i home.2) (walked_is rows h home.0 i walkable l home.2).aligned in
+    sound_clean rows large h home.0 i (sound home.0 l i home.2) (walked_is rows h home.0 i walkable l home.2).aligned in
     record {
       walkable = walkable;
-      bounds = λ k l young. bounds_have rows h k heap l inside (each k l) young;
-      placed = λ k i l m. sound_placed rows h k i (sound k l i m) (walked_is rows h k i walkable l m).aligned;
+      bounds = λ k l young. bounds_have rows large h k heap l inside (each k l) young;
+      placed = λ k i l m. sound_placed rows large h k i (sound k l i m) (walked_is rows h k i walkable l m).aligned;
       clean = clean-all rows h clean;
       unmarked = unmarked-all rows h clean;
       free_heads = heads-all rows h clean;

@@ -36,10 +36,10 @@ pub none_or : (o later : Option ℕ) → or_else o later ≡ None → (o ≡ Non
 none_or None later e = (refl, e)
 none_or (Some a) later e = let clash : Some a ≡ None = e in absurd cc
 
-module _ (rows : List TypeRow) (h : HeapView) (k : ℕ) (heap : IsHeap h) (l : k < length h.segments)
+module _ (rows : List TypeRow) (large : ℕ) (h : HeapView) (k : ℕ) (heap : IsHeap h) (l : k < length h.segments)
     (inside : AreInside h) where
   abbrev rules : Rules
-  rules = rules_of rows h k
+  rules = rules_of rows large h k
 
   abbrev words : Words
   words = words_in h
@@ -108,7 +108,7 @@ module _ (rows : List TypeRow) (h : HeapView) (k : ℕ) (heap : IsHeap h) (l : k
           ∙ sym (ap fault_of (at_item f rules words p i under hole item)) ∙ e) in
           (item_part i ∷ more.0, (hole, is.0, is.1, more.1))
 
-  pub walkable_from : segment_fault rows h k ≡ None → IsWalkable rows h k
+  pub walkable_from : segment_fault rows large h k ≡ None → IsWalkable rows h k
   walkable_from e =
       let lawful = lawful_at h k heap l in
       let base = lawful.base in
@@ -124,18 +124,19 @@ module _ (rows : List TypeRow) (h : HeapView) (k : ℕ) (heap : IsHeap h) (l : k
       go false on = let clash : Some (segment_at h k).base ≡ None = sym (rw on refl) ∙ e in absurd cc
 
 -- no segment has a fault
-pub none_each : (rows : List TypeRow) (h : HeapView) (i m k : ℕ) → segments_fault rows h i m ≡ None → i ≤ k → k < i + m
-    → segment_fault rows h k ≡ None
+pub none_each : (rows : List TypeRow) (large : ℕ) (h : HeapView) (i m k : ℕ) → segments_fault rows large h i m ≡ None
+    → i ≤ k → k < i + m → segment_fault rows large h k ≡ None
 unfolding segments_fault
-none_each rows h i zero k e low high = absurd (omega arith)
-none_each rows h i (suc m) k e low high =
-    let parts = none_or (segment_fault rows h i) (segments_fault rows h (i + 1) m) e in
+none_each rows large h i zero k e low high = absurd (omega arith)
+none_each rows large h i (suc m) k e low high =
+    let parts = none_or (segment_fault rows large h i) (segments_fault rows large h (i + 1) m) e in
     elim (cases_lt i k) [
-      | inl later ↦ none_each rows h (i + 1) m k parts.1 (omega arith) (omega arith)
-      | inr here ↦ let same : i ≡ k = omega arith in subst (λ (j : ℕ). segment_fault rows h j ≡ None) same parts.0
+      | inl later ↦ none_each rows large h (i + 1) m k parts.1 (omega arith) (omega arith)
+      | inr here ↦ let same : i ≡ k = omega arith in subst (λ (j : ℕ). segment_fault rows large h j ≡ None) same parts.0
     ]
 
-pub are_walkable : (rows : List TypeRow) (h : HeapView) → IsHeap h → AreInside h
-    → segments_fault rows h 0 (length h.segments) ≡ None → AreWalkable rows h
-are_walkable rows h heap inside e k l =
-    walkable_from rows h k heap l inside (none_each rows h 0 (length h.segments) k e (omega arith) (omega arith))
+pub are_walkable : (rows : List TypeRow) (large : ℕ) (h : HeapView) → IsHeap h → AreInside h
+    → segments_fault rows large h 0 (length h.segments) ≡ None → AreWalkable rows h
+are_walkable rows large h heap inside e k l =
+    walkable_from rows large h k heap l inside
+    (none_each rows large h 0 (length h.segments) k e (omega arith) (omega arith))

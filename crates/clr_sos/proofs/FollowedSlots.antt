@@ -12,7 +12,8 @@ use Rattle.clr_model.specs.Reach.{SlotNames}
 use Rattle.clr_view.specs.SlotValues.{IsObjectAt}
 use Rattle.clr_view.specs.View.{objects_in}
 use Rattle.clr_mark.specs.Markings.{item_references}
-use Rattle.clr_mark.proofs.References.{no_references, reference_has, reference_index, reference_low, refers_from, refers_to}
+use Rattle.clr_mark.proofs.References.{no_references, reference_has, reference_index, reference_low, refers_from}
+use Rattle.clr_mark.proofs.References.{refers_to}
 use Rattle.clr_sos.specs.Reaching.{HasAdded, HasGrown, IsObjectOf, IsOrigin, IsSearch, IsSound, no_entry, place_at}
 use Rattle.clr_sos.specs.declared.reach.Entry.{Entry}
 use Rattle.clr_sos.specs.declared.reach.Origin.TheVariants.{Through}

@@ -35,6 +35,7 @@ pub mod ViewNames
 pub mod Seen
 pub mod Searching
 pub mod ReachedAll
+pub mod SlotsAlone
 pub mod Adding
 pub mod Ties
 pub mod FollowedSlots

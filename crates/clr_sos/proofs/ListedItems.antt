@@ -1,6 +1,7 @@
 -- Items of a listing, those that are shown among them, and what they come to.
 use Rattle.std.proofs.Common.{◌≡◌, ◌∙◌, ◌+◌, ◌≤◌, ◌<◌, ◌^◌, Bool, true, false, List, [], ◌∷◌, ◌++◌, filter}
-use Rattle.std.proofs.Common.{length, not, if◌then◌else◌, ap, arith, append-nil, append_assoc, length-append, refl, subst, sym}
+use Rattle.std.proofs.Common.{length, not, if◌then◌else◌, ap, arith, append-nil, append_assoc, length-append, refl}
+use Rattle.std.proofs.Common.{subst, sym}
 use Rattle.std.proofs.Common.{cond}
 use Rattle.std.specs.List.{AllByRecursion}
 use Rattle.std.proofs.lemmas.List.Elements.{filter-append}

@@ -1,5 +1,6 @@
 -- The text of a heap's listing is that of the machine that a view shows.
-use Rattle.std.proofs.Common.{◌≡◌, ◌∙◌, ◌&&◌, ◌⊎◌, inl, inr, ℕ, ◌<◌, Bool, true, List, ◌++◌, ap, arith, filter, map, nat_le, not, subst, sym}
+use Rattle.std.proofs.Common.{◌≡◌, ◌∙◌, ◌&&◌, ◌⊎◌, inl, inr, ℕ, ◌<◌, Bool, true, List, ◌++◌, ap, arith, filter, map}
+use Rattle.std.proofs.Common.{nat_le, not, subst, sym}
 use Rattle.std.proofs.lemmas.Bool.{ne_eqb}
 use Rattle.clr_types.specs.Rising.{IsIn, sorted_by, Tests}
 use Rattle.clr_types.specs.Segments.{Layout}

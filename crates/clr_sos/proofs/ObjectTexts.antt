@@ -76,7 +76,8 @@ module _ (m : Machine) (rows : List TypeRow) (h : HeapView) (types : m.types ≡
 
   -- THE TEXT OF AN ITEM that is the object with a place is the text of that object
   pub item_text-shows : (a : ℕ) (i : Item) → IsHeap h → IsHeld rows h
-      → IsObjectWith rows (word_of h) a (heap_items rows h) (objects_in rows h) i → item_text rows h i ≡ dumpobj_text m a
+      → IsObjectWith rows (word_of h) a (heap_items rows h) (objects_in rows h) i
+      → item_text rows h i ≡ dumpobj_text m a
   item_text-shows a i heap held is =
       let size = listed-sized rows h i heap held is.listed in
       ap (λ (n : ℕ). item_text rows h (record i { size = n })) size

@@ -1,5 +1,6 @@
 -- The line of the object with a place.
-use Rattle.std.proofs.Common.{◌≡◌, ℕ, List, [], ◌∷◌, ◌++◌, append_assoc, ap, map, refl, ◌∙◌, Some, if◌then◌else◌, nat_eq}
+use Rattle.std.proofs.Common.{◌≡◌, ℕ, List, [], ◌∷◌, ◌++◌, append_assoc, ap, map, refl, ◌∙◌, Some, if◌then◌else◌}
+use Rattle.std.proofs.Common.{nat_eq}
 use Rattle.clr_types.specs.Rising.{find_by}
 use Rattle.clr_types.specs.Types.{TypeRow}
 use Rattle.clr_types.specs.declared.item.Item.{Item}

@@ -83,6 +83,7 @@ module _ (rows : List TypeRow) (h : HeapView) (heap : IsHeap h) (held : IsHeld r
       let size = listed-sized rows h i heap held is.listed in
       let told = ap (size_or_zero rows) (sym is.told) in
       ap (where_in (generation (frame h) a) (segment_at h (memory_index h.memories a))) (size ∙ told)
-      ∙ sym (first-with (layout_in rows h) h.segments (memory_index h.memories a) a _ empty_segment object-in_range stands
+      ∙ sym (first-with (layout_in rows h) h.segments
+      (memory_index h.memories a) a _ empty_segment object-in_range stands
       not-before)
       ∙ λ j. where_of (record m { types = sym types j; objects = sym objects j; layout = sym layout j }) a

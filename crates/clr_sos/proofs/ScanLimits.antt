@@ -6,14 +6,14 @@ use Rattle.std.proofs.lemmas.Bool.{cases_Bool}
 use Rattle.clr_types.specs.declared.TypeId.{TypeId}
 use Rattle.clr_types.specs.Types.{form_at, mt_of, size_of, TypeRow}
 use Rattle.clr_types.specs.declared.segment.SegKind.{SegKind}
-use Rattle.clr_types.specs.declared.segment.SegKind.TheVariants.{Small, Ephemeral, Large}
+use Rattle.clr_types.specs.declared.segment.SegKind.TheVariants.{Small, Ephemeral, Large, Pinned}
 use Rattle.clr_heap.specs.Memories.{HasWord, memory_index}
 use Rattle.clr_heap.proofs.Addresses.{has_word, index_is_segment}
 use Rattle.clr_heap.proofs.Framing.{lawful_at}
 use Rattle.clr_heap.specs.View.{HeapView, holes_of, IsHeap, last_of, segment_at, word_of}
 use Rattle.clr_sos.specs.CheckedCells.{checked_item, is_header, typed_item, checked_size, crosses, is_inside, is_whole}
 use Rattle.clr_sos.specs.CheckedCells.{number_in, suits, type_of_word}
-use Rattle.clr_sos.specs.Faults.{large_size, rules_of, words_in}
+use Rattle.clr_sos.specs.Faults.{rules_of, words_in}
 use Rattle.clr_sos.specs.CellScans.{fits_there, IsNext, IsPlace, limits_of, size_with, suits_object}
 
 -- the type of a method table word
@@ -41,10 +41,16 @@ pub type_is : (rows : List TypeRow) (mt : ℕ) (found : Option TypeId)
 type_is rows mt None h = type_unknown rows mt h
 type_is rows mt (Some t) h = type_found rows mt t.0 h.0 h.1
 
-pub suits_is : (kind : SegKind) (t size : ℕ) → suits kind large_size t size ≡ ((t == 0) || suits_object kind size)
-suits_is Small t size = refl
-suits_is Ephemeral t size = refl
-suits_is Large t size = refl
+any_or : (b : Bool) → true ≡ (b || true)
+any_or true = refl
+any_or false = refl
+
+pub suits_is : (large : ℕ) (kind : SegKind) (t size : ℕ)
+    → suits kind large t size ≡ ((t == 0) || suits_object large kind size)
+suits_is large Small t size = refl
+suits_is large Ephemeral t size = refl
+suits_is large Large t size = refl
+suits_is large Pinned t size = any_or (t == 0)
 
 neither : (a b c d : Bool) → (a && (not b && (not c && d))) ≡ (a && (not (b || c) && d))
 neither false b c d = refl
@@ -52,10 +58,11 @@ neither true true c d = refl
 neither true false true d = refl
 neither true false false d = refl
 
-module _ (rows : List TypeRow) (h : HeapView) (k place next : ℕ) (is : IsNext (holes_of h k) place next)
+module _ (rows : List TypeRow) (large : ℕ) (h : HeapView) (k place next : ℕ) (is : IsNext (holes_of h k) place next)
     (small : last_of h k < 2 ^ 64) where
   pub inside_is : (size : ℕ)
-      → is_inside (rules_of rows h k) place size ≡ (nat_le (place + size) (last_of h k) && nat_le (place + size) next)
+      → is_inside (rules_of rows large h k) place size
+      ≡ (nat_le (place + size) (last_of h k) && nat_le (place + size) next)
   inside_is size = elim (cases_Bool (nat_le (place + size) (last_of h k))) [
     | inl on ↦
         let below : place + size ≤ last_of h k = grind (arith, on) in
@@ -65,17 +72,18 @@ module _ (rows : List TypeRow) (h : HeapView) (k place next : ℕ) (is : IsNext 
     | inr off ↦ rw off refl
   ]
 
-  whole_is : (t size : ℕ) → is_whole (rules_of rows h k) place t size ≡ fits_there (limits_of h k) next place t size
+  whole_is : (t size : ℕ)
+      → is_whole (rules_of rows large h k) place t size ≡ fits_there (limits_of large h k) next place t size
   whole_is t size =
       let a = inside_is size in
-      let s = suits_is (segment_at h k).kind t size in
+      let s = suits_is large (segment_at h k).kind t size in
       rw (a, s)
       (neither (nat_le (place + size) (last_of h k) && nat_le (place + size) next)
-      (crosses (limits_of h k).start1 place size) (crosses (limits_of h k).start0 place size)
-      ((t == 0) || suits_object (segment_at h k).kind size))
+      (crosses (limits_of large h k).start1 place size) (crosses (limits_of large h k).start0 place size)
+      ((t == 0) || suits_object large (segment_at h k).kind size))
 
   pub size_is : (t len : ℕ)
-      → checked_size (rules_of rows h k) place t len ≡ size_with rows (limits_of h k) next place t len
+      → checked_size (rules_of rows large h k) place t len ≡ size_with rows (limits_of large h k) next place t len
   size_is t len = rw (whole_is t (size_of (form_at rows t) len)) refl
 
 -- the words of a cell are the segment's
@@ -91,9 +99,10 @@ cell_words h k p a heap at z low high =
     )
 
 -- an item whose first 24 bytes are inside, with a lawful header
-pub item_from : (rows : List TypeRow) (h : HeapView) (k p : ℕ) → is_inside (rules_of rows h k) p 24 ≡ true
+pub item_from : (rows : List TypeRow) (large : ℕ) (h : HeapView) (k p : ℕ)
+    → is_inside (rules_of rows large h k) p 24 ≡ true
     → is_header (word_of h (p - 8)) ≡ true
-    → checked_item (rules_of rows h k) (words_in h) p
-    ≡ typed_item (rules_of rows h k) (words_in h) p (word_of h (p - 8)) (type_of_word rows (word_of h p))
+    → checked_item (rules_of rows large h k) (words_in h) p
+    ≡ typed_item (rules_of rows large h k) (words_in h) p (word_of h (p - 8)) (type_of_word rows (word_of h p))
 unfolding checked_item
-item_from rows h k p inside header = rw (inside, header) refl
+item_from rows large h k p inside header = rw (inside, header) refl

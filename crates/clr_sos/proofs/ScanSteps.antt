@@ -45,9 +45,9 @@ same_fault i (Err a) = refl
 
 -- ---- the scan
 
-module _ (rows : List TypeRow) (h : HeapView) (k : ℕ) where
+module _ (rows : List TypeRow) (large : ℕ) (h : HeapView) (k : ℕ) where
   abbrev rules : Rules
-  rules = rules_of rows h k
+  rules = rules_of rows large h k
 
   abbrev words : Words
   words = words_in h
@@ -56,7 +56,7 @@ module _ (rows : List TypeRow) (h : HeapView) (k : ℕ) where
   whole = fault_of (checked_items (last_of h k) rules words (first_of h k))
 
   pub scan_starts : (next : ℕ) → first_of h k % 8 ≡ 0 → first_of h k ≤ last_of h k
-      → IsNext (holes_of h k) (first_of h k) next → IsScanning rows h k (first_of h k) next
+      → IsNext (holes_of h k) (first_of h k) next → IsScanning rows large h k (first_of h k) next
   scan_starts next z l is =
       record {
         aligned = z;
@@ -68,17 +68,17 @@ module _ (rows : List TypeRow) (h : HeapView) (k : ℕ) where
         same = refl;
       }
 
-  module _ (p next : ℕ) (s : IsScanning rows h k p next) where
+  module _ (p next : ℕ) (s : IsScanning rows large h k p next) where
     pub scan_ends : last_of h k ≤ p → whole ≡ None
     scan_ends l = sym s.same ∙ ap fault_of (at_end s.fuel rules words p l)
 
     module _ (l : p < last_of h k) where
       pub scan_hole : (high now : ℕ) → IsRoom h k p high → hole_from (holes_of h k) p ≡ Some high
-          → IsNext (holes_of h k) high now → IsScanning rows h k high now
+          → IsNext (holes_of h k) high now → IsScanning rows large h k high now
       scan_hole high now room e is = go s.fuel s.enough s.same
         where
           go : (f : ℕ) → last_of h k ≤ p + f → fault_of (checked_items f rules words p) ≡ whole
-              → IsScanning rows h k high now
+              → IsScanning rows large h k high now
           go zero enough same = absurd (omega arith)
           go (suc f) enough same =
               let low = s.low in
@@ -101,11 +101,11 @@ module _ (rows : List TypeRow) (h : HeapView) (k : ℕ) where
           go (suc f) enough same = sym same ∙ ap fault_of (at_fault f rules words p a l e bad)
 
       pub scan_item : (i : Item) → hole_from (holes_of h k) p ≡ None → checked_item rules words p ≡ Ok i
-          → last_of h k < 2 ^ 64 → IsScanning rows h k (p + i.size) next
+          → last_of h k < 2 ^ 64 → IsScanning rows large h k (p + i.size) next
       scan_item i e ok small = go s.fuel s.enough s.same
         where
           go : (f : ℕ) → last_of h k ≤ p + f → fault_of (checked_items f rules words p) ≡ whole
-              → IsScanning rows h k (p + i.size) next
+              → IsScanning rows large h k (p + i.size) next
           go zero enough same = absurd (omega arith)
           go (suc f) enough same =
               let room = roomy rules (word_of h) p i (item_ok rules (word_of h) p i ok) in
@@ -131,15 +131,18 @@ module _ (rows : List TypeRow) (h : HeapView) (k : ℕ) where
 
 -- ---- all segments
 
-segments_more : (rows : List TypeRow) (h : HeapView) (k n m : ℕ) → n - k ≡ suc m
-    → segments_fault rows h k (n - k) ≡ or_else (segment_fault rows h k) (segments_fault rows h (k + 1) m)
+segments_more : (rows : List TypeRow) (large : ℕ) (h : HeapView) (k n m : ℕ) → n - k ≡ suc m
+    → segments_fault rows large h k (n - k)
+    ≡ or_else (segment_fault rows large h k) (segments_fault rows large h (k + 1) m)
 unfolding segments_fault
-segments_more rows h k n m e = ap (segments_fault rows h k) e
+segments_more rows large h k n m e = ap (segments_fault rows large h k) e
 
-pub segments_step : (rows : List TypeRow) (h : HeapView) (k n : ℕ) → k < n
-    → segments_fault rows h k (n - k) ≡ or_else (segment_fault rows h k) (segments_fault rows h (k + 1) (n - (k + 1)))
-segments_step rows h k n l = segments_more rows h k n (n - (k + 1)) (omega arith)
+pub segments_step : (rows : List TypeRow) (large : ℕ) (h : HeapView) (k n : ℕ) → k < n
+    → segments_fault rows large h k (n - k)
+    ≡ or_else (segment_fault rows large h k) (segments_fault rows large h (k + 1) (n - (k + 1)))
+segments_step rows large h k n l = segments_more rows large h k n (n - (k + 1)) (omega arith)
 
-pub segments_done : (rows : List TypeRow) (h : HeapView) (k n : ℕ) → n ≤ k → segments_fault rows h k (n - k) ≡ None
+pub segments_done : (rows : List TypeRow) (large : ℕ) (h : HeapView) (k n : ℕ) → n ≤ k
+    → segments_fault rows large h k (n - k) ≡ None
 unfolding segments_fault
-segments_done rows h k n l = let none : n - k ≡ 0 = omega arith in ap (segments_fault rows h k) none
+segments_done rows large h k n l = let none : n - k ≡ 0 = omega arith in ap (segments_fault rows large h k) none

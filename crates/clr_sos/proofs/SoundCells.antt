@@ -8,7 +8,7 @@ use Rattle.clr_types.specs.Ranges.{Piece, piece_end}
 use Rattle.clr_types.specs.Segments.{same_kind}
 use Rattle.clr_types.specs.declared.item.Item.{Item}
 use Rattle.clr_types.specs.declared.segment.SegKind.{SegKind}
-use Rattle.clr_types.specs.declared.segment.SegKind.TheVariants.{Small, Ephemeral, Large}
+use Rattle.clr_types.specs.declared.segment.SegKind.TheVariants.{Small, Ephemeral, Large, Pinned}
 use Rattle.clr_heap.specs.Parts.{hole_from, made_item}
 use Rattle.clr_heap.specs.View.{HeapView, holes_of, last_of, segment_at}
 use Rattle.clr_view.specs.Clean.{IsCleanHeader}
@@ -203,6 +203,7 @@ hole_inside h k p high inside l e = go (segment_at h k).kind refl e
         → hole_from (if same_kind kind Ephemeral then h.rests else []) p ≡ Some high → IsRoom h k p high
     go Small is e = let clash : None ≡ Some high = e in absurd cc
     go Large is e = let clash : None ≡ Some high = e in absurd cc
+    go Pinned is e = let clash : None ≡ Some high = e in absurd cc
     go Ephemeral is e =
         let r = rest_found h.rests p high e in
         let place = inside r.number k r.rest r.is l is in

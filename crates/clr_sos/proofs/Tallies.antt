@@ -1,6 +1,7 @@
 -- The tally of each type, with one item more, and the lines of all.
 use Rattle.std.proofs.Common.{◌≡◌, ◌≢◌, ◌∙◌, ◌==◌, ℕ, zero, suc, ◌+◌, ◌<◌, Bool, true, false, List, [], ◌∷◌, ◌++◌}
-use Rattle.std.proofs.Common.{length, get_or, set, length-set, filter, ap, ap₂, arith, append-nil, append_assoc, refl, subst, sym}
+use Rattle.std.proofs.Common.{length, get_or, set, length-set, filter, ap, ap₂, arith, append-nil, append_assoc, refl}
+use Rattle.std.proofs.Common.{subst, sym}
 use Rattle.std.proofs.lemmas.Bool.{cond-false, eqb-false, eqb-true, ne_eqb}
 use Rattle.std.proofs.lemmas.List.{get_or-set_other, get_or-set_same}
 use Rattle.std.specs.Prelude.{decimal}
@@ -103,7 +104,8 @@ within-with_item tallies xs i known all = λ type l. go type (i.type_id.0 == typ
     go type false e old =
         let other : type ≢ i.type_id.0 = λ same. eqb-false i.type_id.0 type e (sym same) in
         subst (λ (t : Tally). IsTallyWithin t (xs ++ i ∷ []))
-        (sym (get_or-set_other tallies i.type_id.0 type (tallied (get_or tallies i.type_id.0 no_tally) i) no_tally other))
+        (sym (get_or-set_other tallies i.type_id.0 type
+        (tallied (get_or tallies i.type_id.0 no_tally) i) no_tally other))
         old
 
 pub tallies-within_counted : (tallies new : List Tally) (xs : List Item) (i : Item) → i.type_id.0 < length tallies

@@ -1,5 +1,6 @@
 -- A walk over the whole heap, a segment at a time.
-use Rattle.std.proofs.Common.{◌≡◌, ◌∙◌, ℕ, suc, ◌+◌, ◌-◌, ◌<◌, ◌≤◌, List, [], ◌∷◌, ◌++◌, length, ap, ap₂, sym, subst, refl}
+use Rattle.std.proofs.Common.{◌≡◌, ◌∙◌, ℕ, suc, ◌+◌, ◌-◌, ◌<◌, ◌≤◌, List, [], ◌∷◌, ◌++◌, length, ap, ap₂, sym, subst}
+use Rattle.std.proofs.Common.{refl}
 use Rattle.std.proofs.Common.{arith, rules, true, false}
 use Rattle.std.specs.Prelude.{is_some, MatchOption, Option, Some, None}
 use Rattle.std.specs.Iterator.{item_count, MakesProgress}
@@ -46,7 +47,8 @@ pub next-ahead : (rows : List TypeRow) (h : HeapView) (left whole : List Item) (
 next-ahead rows h left whole found next count none empty l is =
     let more : suc (count - (next + 1)) ≡ count - next = omega arith in
     ap (listings rows h next) more
-    ∙ ap₂ (λ (f : Option Item) (items : List Item). found_first f (ahead items rows h next count)) (sym none) (sym empty)
+    ∙ ap₂ (λ (f : Option Item) (items : List Item). found_first f (ahead items rows h next count)) (sym none)
+    (sym empty)
     ∙ is
 
 -- where the last segment's items are given, nothing is ahead

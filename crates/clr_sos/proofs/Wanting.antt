@@ -16,7 +16,8 @@ from-known n (row ∷ rows) mt t low high is =
     go : (b : Bool) → (mt_of n == mt) ≡ b → (n + 1 ≤ t → has_mt_from (n + 1) rows mt ≡ true)
         → (b || has_mt_from (n + 1) rows mt) ≡ true
     go true e rest = refl
-    go false e rest = rest (let other : n ≢ t = λ same. eqb-false (mt_of n) mt e (ap mt_of same ∙ sym is) in omega arith)
+    go false e rest =
+        rest (let other : n ≢ t = λ same. eqb-false (mt_of n) mt e (ap mt_of same ∙ sym is) in omega arith)
 
 pub mt-known : (rows : List TypeRow) (mt t : ℕ) → t ≤ length rows → mt ≡ mt_of t → has_mt rows mt ≡ true
 mt-known rows mt t l is = go (mt_of 0 == mt) refl

@@ -1,30 +1,32 @@
 -- Where a check of a segment stands.
-use Rattle.std.specs.Prelude.{◌≡◌, ℕ, ◌+◌, ◌-◌, ◌%◌, ◌^◌, ◌<◌, ◌≤◌, ◌==◌, ◌&&◌, ◌||◌, not, Bool, List, length, nat_lt}
+use Rattle.std.specs.Prelude.{true, ◌≡◌, ℕ, ◌+◌, ◌-◌, ◌%◌, ◌^◌, ◌<◌, ◌≤◌, ◌==◌, ◌&&◌, ◌||◌, not, Bool, List, length}
+use Rattle.std.specs.Prelude.{nat_lt}
 use Rattle.std.specs.Prelude.{nat_le, if◌then◌else◌, Option, Result, Ok, Err}
 use Rattle.clr_types.specs.Ranges.{Piece}
 use Rattle.clr_types.specs.Segments.{first_place, same_kind}
 use Rattle.clr_types.specs.Types.{form_at, size_of, TypeRow}
 use Rattle.clr_types.specs.declared.segment.SegInfo.{SegInfo}
 use Rattle.clr_types.specs.declared.segment.SegKind.{SegKind}
-use Rattle.clr_types.specs.declared.segment.SegKind.TheVariants.{Small, Ephemeral, Large}
+use Rattle.clr_types.specs.declared.segment.SegKind.TheVariants.{Small, Ephemeral, Large, Pinned}
 use Rattle.clr_heap.specs.View.{first_of, HeapView, last_of, segment_at}
 use Rattle.clr_sos.specs.CheckedCells.{begins_in, crosses, is_length, Rules}
-use Rattle.clr_sos.specs.Faults.{is_between, is_young, large_size, rules_of}
+use Rattle.clr_sos.specs.Faults.{is_between, is_young, rules_of}
 use Rattle.clr_sos.specs.declared.verify.cells.Limits.{Limits}
 use Rattle.clr_sos.specs.declared.verify.cells.Scan.{Scan}
 
--- the kind, the end and the boundaries of segment k
-abbrev pub limits_of : HeapView → ℕ → Limits
-limits_of h k = record {
+-- the kind, the end and the boundaries of segment k, where objects of `large` bytes and more are large
+abbrev pub limits_of : ℕ → HeapView → ℕ → Limits
+limits_of large h k = record {
   kind = (segment_at h k).kind;
   end = last_of h k;
   start1 = if is_young h k then h.start1 else 0;
   start0 = if is_young h k then h.start0 else 0;
+  large = large;
 }
 
 -- what the checks know of a segment
 abbrev pub rules_in : Scan → Rules
-rules_in s = rules_of s.types.now s.heap.now s.k
+rules_in s = rules_of s.types.now s.limits.large s.heap.now s.k
 
 -- a place of segment k below its end
 pub record IsPlace (h : HeapView) (k p : ℕ) : Type 0 where
@@ -43,11 +45,12 @@ are_ordered s limits =
     not (same_kind s.kind Ephemeral)
     || (is_between (first_place s) limits.start1 s.end && is_between limits.start1 limits.start0 s.end)
 
--- an object of this size stands in a segment of this kind
-abbrev pub suits_object : SegKind → ℕ → Bool
-suits_object Small size = nat_lt size large_size
-suits_object Ephemeral size = nat_lt size large_size
-suits_object Large size = nat_le large_size size
+-- an object of this size stands in a segment of this kind, where those of `large` bytes and more are large
+abbrev pub suits_object : ℕ → SegKind → ℕ → Bool
+suits_object large Small size = nat_lt size large
+suits_object large Ephemeral size = nat_lt size large
+suits_object large Large size = nat_le large size
+suits_object large Pinned size = true
 
 -- whether so many bytes end within the segment, before the next hole and within the generation where they begin, and
 -- suit the segment
@@ -55,7 +58,7 @@ abbrev pub fits_there : Limits → ℕ → ℕ → ℕ → ℕ → Bool
 fits_there limits next place t size =
     (nat_le (place + size) limits.end && nat_le (place + size) next)
     && (not (crosses limits.start1 place size || crosses limits.start0 place size)
-    && ((t == 0) || suits_object limits.kind size))
+    && ((t == 0) || suits_object limits.large limits.kind size))
 
 -- the size of an item of this type and length, where it is lawful
 abbrev pub size_with : List TypeRow → Limits → ℕ → ℕ → ℕ → ℕ → Result ℕ ℕ

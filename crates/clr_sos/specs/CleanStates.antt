@@ -8,7 +8,7 @@ use Rattle.clr_view.specs.Marks.{IsUnmarked}
 use Rattle.clr_view.specs.View.{AreFreeHeads, IsHeld}
 use Rattle.clr_sos.specs.declared.view.View.{View}
 use Rattle.clr_sos.specs.Faultless.{IsFaultless}
-use Rattle.clr_sos.specs.Faults.{AreInside, large_size}
+use Rattle.clr_sos.specs.Faults.{AreInside}
 use Rattle.clr_sos.specs.Views.{IsViewOf}
 
 -- What is seen is a lawful machine, named by places. No object is marked, and headers and padding are clean.
@@ -19,10 +19,10 @@ pub record IsCleanState (v : View) (m : Machine) : Type 0 where
   pub clean : AreClean v.types.now v.heap.now
   pub seen : IsViewOf v m
   pub sound : IsPlaceNamed m
-  pub large : m.options.large ≡ large_size
+  pub large : v.large ≡ m.options.large
 
 -- what such a state shows meets the condition of `verifyheap`, and has no fault
 abbrev pub CleanStateLaw : Type 0
 CleanStateLaw =
     (v : View) (m : Machine) → IsHeap v.heap.now → IsCleanState v m
-    → AreInside v.heap.now × IsFaultless v.types.now v.heap.now v.locals.now
+    → AreInside v.heap.now × IsFaultless v.types.now v.large v.heap.now v.locals.now

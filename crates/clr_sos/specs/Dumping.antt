@@ -1,5 +1,6 @@
 -- What the items of a listing come to, in all and by type.
-use Rattle.std.specs.Prelude.{◌≡◌, ℕ, ◌+◌, ◌<◌, ◌≤◌, ◌^◌, List, [], ◌∷◌, filter, length, not, if◌then◌else◌, ◌==◌, codes}
+use Rattle.std.specs.Prelude.{◌≡◌, ℕ, ◌+◌, ◌<◌, ◌≤◌, ◌^◌, List, [], ◌∷◌, filter, length, not, if◌then◌else◌, ◌==◌}
+use Rattle.std.specs.Prelude.{codes}
 use Rattle.std.specs.Prelude.{decimal, get_or}
 use Rattle.std.specs.List.{AllByRecursion}
 use Rattle.clr_types.specs.Types.{TypeRow, mt_of, name_of}

@@ -15,12 +15,13 @@ use Rattle.clr_sos.specs.CheckedCells.{begins_in}
 use Rattle.clr_sos.specs.Faults.{addresses, is_young}
 use Rattle.clr_sos.specs.CellScans.{suits_object}
 
--- an item of segment k lies in one generation, apart from holes, and suits the segment
-pub record IsWellPlaced (h : HeapView) (k : ℕ) (i : Item) : Type 0 where
+-- an item of segment k lies in one generation, apart from holes, and suits the segment, where objects of `large` bytes
+-- and more are large
+pub record IsWellPlaced (large : ℕ) (h : HeapView) (k : ℕ) (i : Item) : Type 0 where
   pub old : is_young h k ≡ true → DoesNotCross h.start1 (item_piece i)
   pub young : is_young h k ≡ true → DoesNotCross h.start0 (item_piece i)
   pub apart : begins_in (holes_of h k) i.place (i.place + i.size) ≡ false
-  pub suits : is_object i ≡ true → suits_object (segment_at h k).kind i.size ≡ true
+  pub suits : is_object i ≡ true → suits_object large (segment_at h k).kind i.size ≡ true
 
 -- the boundaries stand in order in segment k, at multiples of 8
 pub record HasBounds (h : HeapView) (k : ℕ) : Type 0 where
@@ -32,10 +33,10 @@ pub record HasBounds (h : HeapView) (k : ℕ) : Type 0 where
 -- Nothing is wrong with a heap and the locals: the words spell items, the boundaries stand in order, each item is well
 -- placed, headers, marks, padding and the heads of free items are as between lines, and each reference and each local
 -- is null or the place of an object.
-pub record IsFaultless (rows : List TypeRow) (h : HeapView) (locals : List ℕ) : Type 0 where
+pub record IsFaultless (rows : List TypeRow) (large : ℕ) (h : HeapView) (locals : List ℕ) : Type 0 where
   pub walkable : AreWalkable rows h
   pub bounds : (k : ℕ) → k < length h.segments → is_young h k ≡ true → HasBounds h k
-  pub placed : (k : ℕ) (i : Item) → k < length h.segments → IsIn i (listing rows h k) → IsWellPlaced h k i
+  pub placed : (k : ℕ) (i : Item) → k < length h.segments → IsIn i (listing rows h k) → IsWellPlaced large h k i
   pub clean : AreClean rows h
   pub unmarked : IsUnmarked rows h
   pub free_heads : AreFreeHeads rows h

@@ -1,4 +1,5 @@
--- What `verifyheap` answers: the first address of a heap that isn't lawful.
+-- What `verifyheap` answers: the first address of a heap that isn't lawful. Objects of `large` bytes and more are
+-- large.
 use Rattle.std.specs.Prelude.{◌≡◌, ℕ, zero, suc, ◌+◌, ◌%◌, ◌<◌, ◌≤◌, Bool, false, not, ◌&&◌, ◌||◌, nat_le, min, ◌==◌}
 use Rattle.std.specs.Prelude.{if◌then◌else◌, List, [], ◌∷◌, length, map, filter, get_or, Option, Some, None, Result, Ok}
 use Rattle.std.specs.Prelude.{Err}
@@ -14,10 +15,6 @@ use Rattle.clr_heap.specs.View.{first_of, heap_items, HeapView, holes_of, last_o
 use Rattle.clr_view.specs.View.{is_object}
 use Rattle.clr_sos.specs.CheckedCells.{checked_items, fault_of, or_else, Rules, Words}
 
--- the least size of a large object, in bytes
-abbrev pub large_size : ℕ
-large_size = 85000
-
 -- ---- the first pass: ends, boundaries and items
 
 -- every word of a heap is there
@@ -28,15 +25,16 @@ words_in h a = Some (word_of h a)
 abbrev pub is_young : HeapView → ℕ → Bool
 is_young h k = same_kind (segment_at h k).kind Ephemeral
 
--- what the checks know of segment k; the boundaries matter in the ephemeral segment alone
-abbrev pub rules_of : List TypeRow → HeapView → ℕ → Rules
-rules_of rows h k = record {
+-- what the checks know of segment k, where objects of `large` bytes and more are large; the boundaries matter in the
+-- ephemeral segment alone
+abbrev pub rules_of : List TypeRow → ℕ → HeapView → ℕ → Rules
+rules_of rows large h k = record {
   rows = rows;
   kind = (segment_at h k).kind;
   end = last_of h k;
   start1 = if is_young h k then h.start1 else 0;
   start0 = if is_young h k then h.start0 else 0;
-  large = large_size;
+  large = large;
   holes = holes_of h k;
   free_is_clear = false;
 }
@@ -53,17 +51,18 @@ has_bounds h k =
     || (is_between (first_of h k) h.start1 (last_of h k) && is_between h.start1 h.start0 (last_of h k)))
 
 -- the first fault of the items of segment k
-abbrev pub items_fault_of : List TypeRow → HeapView → ℕ → Option ℕ
-items_fault_of rows h k = fault_of (checked_items (last_of h k) (rules_of rows h k) (words_in h) (first_of h k))
+abbrev pub items_fault_of : List TypeRow → ℕ → HeapView → ℕ → Option ℕ
+items_fault_of rows large h k =
+    fault_of (checked_items (last_of h k) (rules_of rows large h k) (words_in h) (first_of h k))
 
 -- the first fault of segment k; that of a bound is its base
-abbrev pub segment_fault : List TypeRow → HeapView → ℕ → Option ℕ
-segment_fault rows h k = if has_bounds h k then items_fault_of rows h k else Some (segment_at h k).base
+abbrev pub segment_fault : List TypeRow → ℕ → HeapView → ℕ → Option ℕ
+segment_fault rows large h k = if has_bounds h k then items_fault_of rows large h k else Some (segment_at h k).base
 
 -- the first fault of n segments from segment k on
-unfoldable pub segments_fault : List TypeRow → HeapView → ℕ → ℕ → Option ℕ
-segments_fault rows h k zero = None
-segments_fault rows h k (suc n) = or_else (segment_fault rows h k) (segments_fault rows h (k + 1) n)
+unfoldable pub segments_fault : List TypeRow → ℕ → HeapView → ℕ → ℕ → Option ℕ
+segments_fault rows large h k zero = None
+segments_fault rows large h k (suc n) = or_else (segment_fault rows large h k) (segments_fault rows large h (k + 1) n)
 
 -- ---- the second pass: references and locals
 
@@ -104,9 +103,9 @@ locals_fault rows h locals = if list_all (is_name (heap_items rows h)) locals th
 -- ---- the answer
 
 -- first the segments, then the references, then the locals
-abbrev pub first_fault : List TypeRow → HeapView → List ℕ → Option ℕ
-first_fault rows h locals =
-    or_else (segments_fault rows h 0 (length h.segments))
+abbrev pub first_fault : List TypeRow → ℕ → HeapView → List ℕ → Option ℕ
+first_fault rows large h locals =
+    or_else (segments_fault rows large h 0 (length h.segments))
     (or_else (references_fault rows h) (locals_fault rows h locals))
 
 abbrev pub verdict : Option ℕ → Result (Unit {0}) ℕ

@@ -11,6 +11,7 @@ pub mod CleanStates
 pub mod Bits
 pub mod Dumping
 pub mod Reaching
+pub mod SlotReaching
 pub mod Walks
 pub mod Wants
 pub mod RootTexts

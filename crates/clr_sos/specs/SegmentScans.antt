@@ -7,12 +7,12 @@ use Rattle.clr_sos.specs.CellScans.{IsNext}
 use Rattle.clr_sos.specs.Faults.{rules_of, words_in}
 
 -- the first fault of segment k is that from p on, and the next hole from there is known
-pub record IsScanning (rows : List TypeRow) (h : HeapView) (k p next : ℕ) : Type 0 where
+pub record IsScanning (rows : List TypeRow) (large : ℕ) (h : HeapView) (k p next : ℕ) : Type 0 where
   pub aligned : p % 8 ≡ 0
   pub low : first_of h k ≤ p
   pub high : p ≤ last_of h k
   pub following : IsNext (holes_of h k) p next
   pub fuel : ℕ
   pub enough : last_of h k ≤ p + fuel
-  pub same : fault_of (checked_items fuel (rules_of rows h k) (words_in h) p)
-      ≡ fault_of (checked_items (last_of h k) (rules_of rows h k) (words_in h) (first_of h k))
+  pub same : fault_of (checked_items fuel (rules_of rows large h k) (words_in h) p)
+      ≡ fault_of (checked_items (last_of h k) (rules_of rows large h k) (words_in h) (first_of h k))

@@ -6,6 +6,7 @@ pub use crate::handles::gchandles;
 pub use crate::listing::dumpheap;
 pub use crate::object_text::dumpobj;
 pub use crate::queues::finalizequeue;
+pub use crate::reach::{Entry, Reached, reach_by_slots};
 pub use crate::roots::gcroot;
 pub use crate::segments::eeheap;
 pub use crate::verify::{clean_states_are_lawful, verifyheap, verifyheap_with_room};

@@ -25,8 +25,8 @@ use std::alloc::{AllocError, Global};
 /// The items of the heap that pass the options: objects and free items, by rising place.
 ///
 /// An item passes where it has the method table word and the name of its type that the options ask for, where its bytes
-/// are at least `min` and at most `max`, and where the roots reach it (`Life::Live`) or don't (`Life::Dead`), as no free
-/// item does.
+/// are at least `min` and at most `max`, and where the roots reach it (`Life::Live`) or don't (`Life::Dead`), as no
+/// free item does.
 ///
 /// With `Mode::Full` there is a line for each item, `PLACE MT BYTES TYPE`. With `Mode::Stat` there is a line for each
 /// type with an item that passes, by the type's number, `MT COUNT BYTES TYPE`. Both end with the line of the totals,
@@ -34,8 +34,9 @@ use std::alloc::{AllocError, Global};
 /// line for each item, `PLACE`, or the one line `none`.
 ///
 /// Places and method table words have 16 hexadecimal digits, and all other numbers are decimal. `UnknownType` comes
-/// exactly where no type has the method table word or the name that the options ask for, and `NoMemory` only where there
-/// was no memory for the text or for the search from the roots, which `Life::Any` doesn't need. Nothing else fails.
+/// exactly where no type has the method table word or the name that the options ask for, and `NoMemory` only where
+/// there was no memory for the text or for the search from the roots, which `Life::Any` doesn't need. Nothing else
+/// fails.
 pub fn dumpheap(alloc: Global, view: &View<'_>, filter: &Filter<'_>) -> Result<Vec<u8>, SosFault>
     requires lawful { IsLawfulView view.now }
     ensures unknown { (m : Machine) → IsViewOf view.now m → (result ≡ Err SosFault.UnknownType)

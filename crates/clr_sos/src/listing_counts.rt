@@ -1,5 +1,6 @@
 // A listing of the heap by type.
-ghost use Rattle.std.specs.Prelude.{◌≡◌, ℕ, ◌+◌, ◌<◌, ◌≤◌, ◌^◌, ◌++◌, Bool, filter, get_or, IfOk, length, List, OnOk, set};
+ghost use Rattle.std.specs.Prelude.{◌≡◌, ℕ, ◌+◌, ◌<◌, ◌≤◌, ◌^◌, ◌++◌, Bool, filter, get_or, IfOk, length, List, OnOk};
+ghost use Rattle.std.specs.Prelude.{set};
 ghost use Rattle.std.specs.Prelude.{[]};
 ghost use Rattle.clr_types.specs.declared.item.Item.{Item};
 ghost use Rattle.clr_model.specs.declared.Mode.TheVariants.{Stat};
@@ -39,7 +40,8 @@ pub(crate) fn put_counts<F: Fn(u64) -> bool>(
 ) -> Result<(), AllocError>
     requires listed { AreListed types.now items }
     requires ask { MayAskOf (λ place. F.pre live.now place) items }
-    ensures { OnOk result ((test : ℕ → Bool) → AnswersFor (λ place answer. F.post live.now place answer) test items.entry
+    ensures { OnOk result
+        ((test : ℕ → Bool) → AnswersFor (λ place answer. F.post live.now place answer) test items.entry
         → text.new.items ≡ text.old.items
         ++ dump_by_mode Stat types.now (filter (is_wanted wanted.now test) items.entry)) }
 {

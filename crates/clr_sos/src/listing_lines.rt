@@ -46,7 +46,8 @@ pub(crate) fn put_lines<F: Fn(u64) -> bool>(
 ) -> Result<(), AllocError>
     requires listed { AreListed types.now items }
     requires ask { MayAskOf (λ place. F.pre live.now place) items }
-    ensures { OnOk result ((test : ℕ → Bool) → AnswersFor (λ place answer. F.post live.now place answer) test items.entry
+    ensures { OnOk result
+        ((test : ℕ → Bool) → AnswersFor (λ place answer. F.post live.now place answer) test items.entry
         → text.new.items ≡ text.old.items
         ++ dump_by_mode Full types.now (filter (is_wanted wanted.now test) items.entry)) }
 {
@@ -74,7 +75,8 @@ pub(crate) fn put_places<F: Fn(u64) -> bool>(
     live: &F,
 ) -> Result<(), AllocError>
     requires ask { MayAskOf (λ place. F.pre live.now place) items }
-    ensures { OnOk result ((test : ℕ → Bool) → AnswersFor (λ place answer. F.post live.now place answer) test items.entry
+    ensures { OnOk result
+        ((test : ℕ → Bool) → AnswersFor (λ place answer. F.post live.now place answer) test items.entry
         → text.new.items ≡ text.old.items
         ++ dump_by_mode Short [] (filter (is_wanted wanted.now test) items.entry)) }
 {

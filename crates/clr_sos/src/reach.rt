@@ -1,20 +1,24 @@
-// What the roots reach: a search beside the heap, breadth first.
-ghost use Rattle.std.specs.Prelude.{◌≡◌, ℕ, ◌+◌, ◌<◌, false, [], length, IfOk, IfSome, IfNone, OnOk};
+// What the roots reach, and what an object reaches by slots: a search beside the heap, breadth first.
+ghost use Rattle.std.specs.Prelude.{◌≡◌, ℕ, ◌+◌, ◌<◌, ◌↔◌, false, [], length, IfOk, IfSome, IfNone, OnOk};
+ghost use Rattle.std.specs.FinMap as finmap;
 ghost use Rattle.clr_types.specs.Rising.{Tests};
 ghost use Rattle.clr_heap.specs.Memories.{HasWord};
 ghost use Rattle.clr_model.specs.Machine.{Machine};
-ghost use Rattle.clr_model.specs.Reach.{Live, SecondOf, SlotNames};
+ghost use Rattle.clr_model.specs.Reach.{Live, Reach, SecondOf, SlotNames};
 ghost use Rattle.clr_view.specs.View.{objects_in};
 ghost use Rattle.clr_mark.specs.Roots.{IsRoot};
 ghost use Rattle.clr_mark.specs.Ties.{IsTarget};
-ghost use Rattle.clr_sos.specs.Reaching.{AreTies, HasAdded, HasGrown, HasRoom, is_listed, is_seen, IsListed, IsObjectOf};
+ghost use Rattle.clr_sos.specs.Reaching.{AreTies, HasAdded, HasGrown, HasRoom, is_listed, is_seen, IsListed};
+ghost use Rattle.clr_sos.specs.Reaching.{IsObjectOf};
 ghost use Rattle.clr_sos.specs.Reaching.{IsOrigin, IsSearch, IsSound, place_at};
+ghost use Rattle.clr_sos.specs.SlotReaching.{AreReachedBySlots};
 ghost use Rattle.clr_sos.specs.Views.{IsLawfulView, IsViewOf};
 
 use crate::View;
 use crate::reach::bits::Bits;
 use crate::reach::ties::{Tie, first_tie, ties_of};
-use clr_handles::MOST_HANDLES;
+use clr_final::Finals;
+use clr_handles::{Handles, MOST_HANDLES};
 use clr_heap::Heap;
 use clr_view::object_item;
 use std::alloc::{AllocError, Global};
@@ -37,22 +41,22 @@ pub(crate) enum Origin {
 
 /// An object that was found.
 #[derive(Clone, Copy)]
-pub(crate) struct Entry {
-    pub(crate) place: u64,
+pub struct Entry {
+    pub place: u64,
     pub(crate) origin: Origin,
 }
 
-/// The objects that roots reach, in the order in which a search breadth first finds them. The search touches no mark
-/// of the heap: it has a bit for each word of each segment.
+/// The objects that roots, or an object, reach, in the order in which a search breadth first finds them. The search
+/// touches no mark of the heap: it has a bit for each word of each segment.
 #[derive(Drop)]
-pub(crate) struct Reached {
+pub struct Reached {
     pub(crate) seen: Vec<Bits>,
-    pub(crate) entries: Vec<Entry>,
+    pub entries: Vec<Entry>,
 }
 
 /// What the roots of a view reach. The roots come first: what locals name by threads and numbers, what strong and
-/// pinned handles hold by their numbers, and the f-reachable queue. Each slot of what is reached is followed once, and a
-/// bit tells whether its object was found before. It takes such a bit for each word of the heap's used ranges, and 24
+/// pinned handles hold by their numbers, and the f-reachable queue. Each slot of what is reached is followed once, and
+/// a bit tells whether its object was found before. It takes such a bit for each word of the heap's used ranges, and 24
 /// bytes for each object that it finds. `find` then goes over all that was found.
 pub(crate) fn reach(alloc: Global, view: &View<'_>) -> Result<Reached, AllocError>
     requires lawful { IsLawfulView view.now }
@@ -72,6 +76,53 @@ pub(crate) fn reach(alloc: Global, view: &View<'_>) -> Result<Reached, AllocErro
     while next < reached.entries.len() {
         reached.follow_slots(view, next)?;
         reached.follow_ties(view, &ties, next)?;
+        next += 1;
+    }
+    Ok(reached)
+}
+
+/// What the object at a place reaches by slots: itself, each object that a slot of it names, each that a slot of these
+/// names, and so on. Dependent handles don't count. Each slot of what is reached is followed once. It takes a bit for
+/// each word of the heap's used ranges, as `reach` does, and 24 bytes for each object that it finds.
+///
+/// That is what the roots of another view reach: of one that has the place as its only local, no handles and no
+/// f-reachable queue.
+pub fn reach_by_slots(alloc: Global, view: &View<'_>, place: u64) -> Result<Reached, AllocError>
+    requires lawful { IsLawfulView view.now }
+    requires stands { IsObjectOf view.now place }
+    ensures { IfOk result (λ r. AreReachedBySlots view.now place r.entries.items) }
+{
+    view.heap.lawful();
+    let locals = [place];
+    let handles = Handles::new(alloc);
+    let finals = Finals::new(alloc);
+    let only = View {
+        types: view.types,
+        heap: view.heap,
+        bricks: view.bricks,
+        handles: &handles,
+        finals: &finals,
+        locals: &locals,
+        limit: view.limit,
+        large: view.large,
+    };
+    follow_locals(alloc, &only)
+}
+
+// What the locals of a view reach that has no handles and no f-reachable queue: by slots alone.
+fn follow_locals(alloc: Global, view: &View<'_>) -> Result<Reached, AllocError>
+    requires sound { IsSound view.now }
+    requires handles { view.now.handles.now ≡ finmap.empty }
+    requires ready { view.now.finals.now.ready ≡ [] }
+    ensures search { IfOk result (λ r. IsSearch view.now r.seen.items r.entries.items) }
+    ensures exact { IfOk result (λ r. (x : ℕ) → IsListed r.entries.items x
+        ↔ Reach (SlotNames (objects_in view.now.types.now view.now.heap.now)) (IsRoot view.now.locals.now) x) }
+{
+    let mut reached = Reached::new(alloc, view.heap)?;
+    reached.add_locals(view)?;
+    let mut next = 0;
+    while next < reached.entries.len() {
+        reached.follow_slots(view, next)?;
         next += 1;
     }
     Ok(reached)

@@ -83,6 +83,7 @@ fn kind_text(kind: SegKind) -> &'static [u8]
         SegKind::Small => b"small",
         SegKind::Ephemeral => b"ephemeral",
         SegKind::Large => b"large",
+        SegKind::Pinned => b"pinned",
     }
 }
 
@@ -98,7 +99,7 @@ fn put_boundaries(text: &mut Vec<u8>, heap: &Heap, kind: SegKind) -> Result<(), 
             text.extend_from_slice(b" gen0 ")?;
             put_address(text, start0)
         }
-        SegKind::Small | SegKind::Large => Ok(()),
+        SegKind::Small | SegKind::Large | SegKind::Pinned => Ok(()),
     }
 }
 

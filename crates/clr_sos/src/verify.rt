@@ -26,17 +26,20 @@ const ROOM: usize = 32768;
 /// - the segments by rising base: boundaries that don't stand in order are named by the segment's base. Of its items,
 ///   by rising place, a wrong header, method table word or length is named by that word, an item that crosses a
 ///   boundary, a hole or the segment's end or has the wrong size for the segment by its header, and the first byte of
-///   padding that isn't zero by its own address. The rests of contexts are passed over.
+///   padding that isn't zero by its own address. The rests of contexts are passed over. An object of the view's `large`
+///   bytes or more suits a large segment, and a smaller one a small or the ephemeral segment.
 /// - the reference with the lowest address that is neither null nor the place of an object.
 /// - a local that is neither. Its fault is the address 0.
 ///
-/// The types, the limit, handles and queues aren't checked. The view may be any: its heap needn't spell items. It takes
-/// no memory. References are judged by a bit for each word of 16 MiB of places at a time, and the heap is walked once
-/// for each such range that has places: where a caller has more room, `verifyheap_with_room` is faster.
+/// The types, the limit, `large`, handles and queues aren't checked. The view may be any: its heap needn't spell items.
+/// It takes no memory. References are judged by a bit for each word of 16 MiB of places at a time, and the heap is
+/// walked once for each such range that has places: where a caller has more room, `verifyheap_with_room` is faster.
 pub fn verifyheap(view: &View<'_>) -> Result<(), u64>
     requires holes { AreInside view.now.heap.now }
-    ensures fault { result ≡ verdict (first_fault view.now.types.now view.now.heap.now view.now.locals.now) }
-    ensures lawful { (result ≡ Ok tt) ↔ IsFaultless view.now.types.now view.now.heap.now view.now.locals.now }
+    ensures fault { result
+        ≡ verdict (first_fault view.now.types.now view.now.large view.now.heap.now view.now.locals.now) }
+    ensures lawful { (result ≡ Ok tt)
+        ↔ IsFaultless view.now.types.now view.now.large view.now.heap.now view.now.locals.now }
 {
     let mut room = [0; ROOM];
     verifyheap_with_room(view, &mut room)
@@ -47,8 +50,10 @@ pub fn verifyheap(view: &View<'_>) -> Result<(), u64>
 pub fn verifyheap_with_room(view: &View<'_>, room: &mut [u64]) -> Result<(), u64>
     requires holes { AreInside view.now.heap.now }
     requires some { 0 < length room.old }
-    ensures fault { result ≡ verdict (first_fault view.now.types.now view.now.heap.now view.now.locals.now) }
-    ensures lawful { (result ≡ Ok tt) ↔ IsFaultless view.now.types.now view.now.heap.now view.now.locals.now }
+    ensures fault { result
+        ≡ verdict (first_fault view.now.types.now view.now.large view.now.heap.now view.now.locals.now) }
+    ensures lawful { (result ≡ Ok tt)
+        ↔ IsFaultless view.now.types.now view.now.large view.now.heap.now view.now.locals.now }
 {
     match fault(view, room) {
         Some(address) => Err(address),
@@ -61,10 +66,10 @@ fn fault(view: &View<'_>, room: &mut [u64]) -> Option<u64>
     requires holes { AreInside view.now.heap.now }
     requires some { 0 < length room.old }
     ensures heap { IsHeap view.now.heap.now }
-    ensures fault { result ≡ first_fault view.now.types.now view.now.heap.now view.now.locals.now }
+    ensures fault { result ≡ first_fault view.now.types.now view.now.large view.now.heap.now view.now.locals.now }
 {
     view.heap.lawful();
-    match segments_fault(view.heap, view.types) {
+    match segments_fault(view.heap, view.types, view.large) {
         Some(address) => Some(address),
         None => names_fault(view.heap, view.types, view.locals, room),
     }

@@ -47,5 +47,6 @@ fn number_of_kind(kind: SegKind) -> u8
         SegKind::Small => 0,
         SegKind::Ephemeral => 1,
         SegKind::Large => 2,
+        SegKind::Pinned => 3,
     }
 }

@@ -7,6 +7,7 @@ use clr_final::Finals;
 use clr_handles::Handles;
 use clr_heap::Heap;
 use clr_sos::{View, verifyheap, verifyheap_with_room};
+use clr_types::header::SUPPRESSED;
 use clr_types::{Shape, Types};
 use std::alloc::Global;
 use std::process::Abort;
@@ -80,7 +81,7 @@ fn put_items(rt: &impl Abort, heap: &mut Heap)
     put(rt, heap, 0x1000_1030, 0xff_ffff_ffff);
     put(rt, heap, 0x1000_1040, FREE);
     put(rt, heap, 0x1000_1048, 8);
-    put(rt, heap, 0x1000_1058, 0x4000_0000);
+    put(rt, heap, 0x1000_1058, SUPPRESSED);
     put(rt, heap, 0x1000_1060, FREE + 192);
     finish(rt, heap, 0x1000_1060, 0x1000_1078);
 }
@@ -107,6 +108,7 @@ fn verified(
         finals: &finals,
         locals: &locals,
         limit: LIMIT,
+        large: 85_000,
     };
     let answer = verifyheap(&view);
     let mut room = [7];
@@ -167,7 +169,7 @@ fn faults_of_words_are_found(rt: HostRuntime) -> Result<(), Fail> {
             (0x1000_1008, 0, 0, Ok(())),
             (0x1000_1058, 0, 0, Ok(())),
             // headers
-            (0x1000_0ff8, 0x4000_0000, 0, Err(0x1000_0ff8)),
+            (0x1000_0ff8, SUPPRESSED, 0, Err(0x1000_0ff8)),
             (0x1000_1038, 1, 0, Err(0x1000_1038)),
             // method table words
             (0x1000_1000, FREE + 65, 0, Err(0x1000_1000)),

@@ -1,5 +1,6 @@
 -- Numbers and their texts.
-use Rattle.std.specs.Prelude.{◌≡◌, ◌&&◌, ◌<◌, ◌≤◌, ◌^◌, ◌↔◌, ℕ, Bool, true, false, Option, Some, None, Result, Ok, Err, IfOk, IsTrue, IsFalse, decimal, if◌then◌else◌, nat_lt, unwrap_or}
+use Rattle.std.specs.Prelude.{◌≡◌, ◌&&◌, ◌<◌, ◌≤◌, ◌^◌, ◌↔◌, ℕ, Bool, true, false, Option, Some, None, Result, Ok, Err}
+use Rattle.std.specs.Prelude.{IfOk, IsTrue, IsFalse, decimal, if◌then◌else◌, nat_lt, unwrap_or}
 use Rattle.std.specs.Result.{result_ok}
 use Rattle.std.specs.Str.Parse.{digits_value}
 use Rattle.std.proofs.Common.{refl, sym, ap, ap₂, ◌∙◌, arith}
@@ -37,5 +38,6 @@ pub number_read : (text : Text) (r : Result ℕ NumFault) → IfOk r (λ n. text
     → result_ok r ≡ number_in text
 number_read text (Ok n) value small form large = sym (ap number_in value ∙ number_decimal n small)
 number_read text (Err NotNumber) value small form large = sym (ap (λ b. by b (digits_value 10 text)) (form.0 refl))
-number_read text (Err TooLarge) value small form large = sym (ap₂ (λ a b. if a && b then Some (digits_value 10 text) else None) (large.0 refl).0
+number_read text (Err TooLarge) value small form large =
+    sym (ap₂ (λ a b. if a && b then Some (digits_value 10 text) else None) (large.0 refl).0
     (le-ltb (digits_value 10 text) (2 ^ 64) (large.0 refl).1))

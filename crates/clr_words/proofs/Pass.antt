@@ -63,7 +63,8 @@ if_known is_known items = if is_known then items else None
 abbrev pub turn : List Text → Stage → Kind → List Text → Text → List Text → Next → Option Items
 turn names ready dashes places word seen next = next behind places seen
 turn names ready (whole name) places word seen next = if_known (is_among name names) (next (waits name) places seen)
-turn names ready (joint name text) places word seen next = if_known (is_among name names) (keep name text seen (next ready places))
+turn names ready (joint name text) places word seen next =
+    if_known (is_among name names) (keep name text seen (next ready places))
 turn names ready flag places word seen next = None
 turn names ready other places word seen next = at_place places word seen (next ready)
 turn names (waits name) other places word seen next = keep name word seen (next ready places)

@@ -1,10 +1,13 @@
 -- The pass takes just the words that spell a line, and finds what the line says.
-use Rattle.std.specs.Prelude.{◌≡◌, ◌++◌, ◌<◌, ◌^◌, ℕ, Bool, true, false, List, [], ◌∷◌, Option, Some, None, codes, decimal, map, option_map, unwrap_or}
+use Rattle.std.specs.Prelude.{◌≡◌, ◌++◌, ◌<◌, ◌^◌, ℕ, Bool, true, false, List, [], ◌∷◌, Option, Some, None, codes}
+use Rattle.std.specs.Prelude.{decimal, map, option_map, unwrap_or}
 use Rattle.std.specs.List.{list_all}
 use Rattle.std.proofs.Common.{refl, sym, ap, ap₂, ◌∙◌, subst}
 use Rattle.std.proofs.lemmas.Bool.{and_parts, and_from}
-use Rattle.clr_words.specs.Grammar.{AreSmall, IsSaidOnce, Line, Part, Said, Text, dashed, is_among, is_option_part, joined, option_names, placed, places_of, said, spaced, spelled}
-use Rattle.clr_words.proofs.Pass.{Items, Kind, Stage, at_place, behind, dashes, flag, if_known, joint, keep_by, kind_of, other, pass, ready, turn, waits, whole}
+use Rattle.clr_words.specs.Grammar.{AreSmall, IsSaidOnce, Line, Part, Said, Text, dashed, is_among, is_option_part}
+use Rattle.clr_words.specs.Grammar.{joined, option_names, placed, places_of, said, spaced, spelled}
+use Rattle.clr_words.proofs.Pass.{Items, Kind, Stage, at_place, behind, dashes, flag, if_known, joint, keep_by, kind_of}
+use Rattle.clr_words.proofs.Pass.{other, pass, ready, turn, waits, whole}
 use Rattle.clr_words.proofs.Looks.{Looks, kind_joint, kind_number, kind_whole, looks}
 
 abbrev pub texts_of : List Said → Items
@@ -23,21 +26,27 @@ Goes stage places seen words numbers = pass option_names stage places seen words
 
 keeps : (name text : Text) (o : Option Items) (more : Items) (is_seen : Bool) → is_seen ≡ false → o ≡ Some more
     → keep_by is_seen name text o ≡ Some ((name, text) ∷ more)
-keeps name text o more is_seen new is = ap (λ b. keep_by b name text o) new ∙ ap (option_map (λ items. (name, text) ∷ items)) is
+keeps name text o more is_seen new is =
+    ap (λ b. keep_by b name text o) new ∙ ap (option_map (λ items. (name, text) ∷ items)) is
 
-numbers_go : (numbers : List Said) (places seen : List Text) → names_of numbers ≡ places → IsSaidOnce seen numbers → AreSmall numbers
+numbers_go : (numbers : List Said) (places seen : List Text) → names_of numbers ≡ places → IsSaidOnce seen numbers
+    → AreSmall numbers
     → Goes behind places seen (spelled_numbers numbers) numbers
 unfolding pass
 numbers_go [] places seen are once small = refl
 numbers_go (x ∷ xs) places seen are once small =
     subst (λ (ps : List Text). Goes behind ps seen (spelled_numbers (x ∷ xs)) (x ∷ xs)) are
-    (keeps x.0 (decimal x.1) (pass option_names behind (names_of xs) (x.0 ∷ seen) (spelled_numbers xs)) (texts_of xs) (is_among x.0 seen) once.0
+    (keeps x.0 (decimal x.1) (pass option_names behind (names_of xs) (x.0 ∷ seen) (spelled_numbers xs)) (texts_of xs)
+    (is_among x.0 seen) once.0
     (numbers_go xs (names_of xs) (x.0 ∷ seen) refl once.1 small.1))
 
-parts_go : (parts : List Part) (more : Option (List Said)) (places seen : List Text) → list_all (is_option_part option_names) parts ≡ true
-    → places_of (record { parts = parts; behind = more }) ≡ places → IsSaidOnce seen (said (record { parts = parts; behind = more }))
+parts_go : (parts : List Part) (more : Option (List Said)) (places seen : List Text)
+    → list_all (is_option_part option_names) parts ≡ true
+    → places_of (record { parts = parts; behind = more }) ≡ places
+    → IsSaidOnce seen (said (record { parts = parts; behind = more }))
     → AreSmall (said (record { parts = parts; behind = more }))
-    → Goes ready places seen (spelled (record { parts = parts; behind = more })) (said (record { parts = parts; behind = more }))
+    → Goes ready places seen (spelled (record { parts = parts; behind = more }))
+    (said (record { parts = parts; behind = more }))
 unfolding pass
 parts_go [] None places seen options are once small = refl
 parts_go [] (Some numbers) places seen options are once small = numbers_go numbers places seen are once small
@@ -49,25 +58,30 @@ parts_go (spaced name n ∷ parts) more places seen options are once small =
     ap (λ k. turn option_names ready k places (dashed name) seen next) (kind_whole name named)
     ∙ (ap (λ b. if_known b (next (waits name) places seen)) named
     ∙ (ap (λ k. turn option_names (waits name) k places (decimal n) seen after) (kind_number n small.0)
-    ∙ keeps name (decimal n) (pass option_names ready places (name ∷ seen) (spelled line)) (texts_of (said line)) (is_among name seen) once.0
+    ∙ keeps name (decimal n) (pass option_names ready places (name ∷ seen) (spelled line)) (texts_of (said line))
+    (is_among name seen) once.0
     (parts_go parts more places (name ∷ seen) (and_parts (is_among name option_names) _ options).1 are once.1 small.1)))
 parts_go (joined name n ∷ parts) more places seen options are once small =
     let line : Line = record { parts = parts; behind = more } in
     let next = λ (stage : Stage) (ps : List Text) (known : List Text). pass option_names stage ps known (spelled line) in
     let named = (and_parts (is_among name option_names) _ options).0 in
-    ap (λ k. turn option_names ready k places (dashed name ++ (codes "=" ++ decimal n)) seen next) (kind_joint name (decimal n) named)
+    ap (λ k. turn option_names ready k places (dashed name ++ (codes "=" ++ decimal n)) seen next)
+    (kind_joint name (decimal n) named)
     ∙ (ap (λ b. if_known b (keep_by (is_among name seen) name (decimal n) (next ready places (name ∷ seen)))) named
-    ∙ keeps name (decimal n) (pass option_names ready places (name ∷ seen) (spelled line)) (texts_of (said line)) (is_among name seen) once.0
+    ∙ keeps name (decimal n) (pass option_names ready places (name ∷ seen) (spelled line)) (texts_of (said line))
+    (is_among name seen) once.0
     (parts_go parts more places (name ∷ seen) (and_parts (is_among name option_names) _ options).1 are once.1 small.1))
 parts_go (placed place n ∷ parts) more places seen options are once small =
     let line : Line = record { parts = parts; behind = more } in
     let next = λ (stage : Stage) (ps : List Text) (known : List Text). pass option_names stage ps known (spelled line) in
     subst (λ (ps : List Text). Goes ready ps seen (decimal n ∷ spelled line) ((place, n) ∷ said line)) are
     (ap (λ k. turn option_names ready k (place ∷ places_of line) (decimal n) seen next) (kind_number n small.0)
-    ∙ keeps place (decimal n) (pass option_names ready (places_of line) (place ∷ seen) (spelled line)) (texts_of (said line)) (is_among place seen) once.0
+    ∙ keeps place (decimal n) (pass option_names ready (places_of line) (place ∷ seen) (spelled line))
+    (texts_of (said line)) (is_among place seen) once.0
     (parts_go parts more (places_of line) (place ∷ seen) options refl once.1 small.1))
 
-pub line_goes : (line : Line) (places : List Text) → list_all (is_option_part option_names) line.parts ≡ true → places_of line ≡ places
+pub line_goes : (line : Line) (places : List Text) → list_all (is_option_part option_names) line.parts ≡ true
+    → places_of line ≡ places
     → IsSaidOnce [] (said line) → AreSmall (said line) → Goes ready places [] (spelled line) (said line)
 line_goes line places options are once small = parts_go line.parts line.behind places [] options are once small
 
@@ -91,23 +105,27 @@ IsRight parts = list_all (is_option_part option_names) parts ≡ true
 abbrev Spells : Stage → List Text → List Text → List Text → Items → Type 0
 Spells ready places seen words items =
     (line : Line) × (words ≡ spelled line) × IsRight line.parts × IsRead places seen items (places_of line) (said line)
-Spells (waits name) places seen words items = (number : ℕ) × (line : Line) × (words ≡ decimal number ∷ spelled line) × IsRight line.parts
+Spells (waits name) places seen words items =
+    (number : ℕ) × (line : Line) × (words ≡ decimal number ∷ spelled line) × IsRight line.parts
     × IsRead places seen items (places_of line) ((name, number) ∷ said line)
 Spells behind places seen words items =
     (numbers : List Said) × (words ≡ spelled_numbers numbers) × IsRead places seen items (names_of numbers) numbers
 
-pub keep_parts : (is_seen : Bool) (name text : Text) (o : Option Items) (items : Items) → keep_by is_seen name text o ≡ Some items
+pub keep_parts : (is_seen : Bool) (name text : Text) (o : Option Items) (items : Items)
+    → keep_by is_seen name text o ≡ Some items
     → (is_seen ≡ false) × ((more : Items) × (o ≡ Some more) × ((name, text) ∷ more ≡ items))
 keep_parts true name text o items e = absurd cc
 keep_parts false name text None items e = absurd cc
 keep_parts false name text (Some more) items e = (refl, (more, refl, ap (λ (o : Option Items). unwrap_or o []) e))
 
-pub known_parts : (known : Bool) (o : Option Items) (items : Items) → if_known known o ≡ Some items → (known ≡ true) × (o ≡ Some items)
+pub known_parts : (known : Bool) (o : Option Items) (items : Items) → if_known known o ≡ Some items → (known ≡ true)
+    × (o ≡ Some items)
 known_parts true o items e = (refl, e)
 known_parts false o items e = absurd cc
 
 -- one more name, with its number
-more_read : (places seen : List Text) (name text : Text) (items more : Items) (number : ℕ) (names : List Text) (numbers : List Said)
+more_read : (places seen : List Text) (name text : Text) (items more : Items) (number : ℕ) (names : List Text)
+    (numbers : List Said)
     → (name, text) ∷ more ≡ items → is_among name seen ≡ false → number < 2 ^ 64 → text ≡ decimal number
     → IsRead places (name ∷ seen) more names numbers → IsRead places seen items names ((name, number) ∷ numbers)
 more_read places seen name text items more number names numbers are new small is read = record {
@@ -118,7 +136,8 @@ more_read places seen name text items more number names numbers are new small is
   small = (small, read.small);
 }
 
-place_read : (place : Text) (places seen : List Text) (items : Items) (names : List Text) (numbers : List Said) → IsRead places seen items names numbers
+place_read : (place : Text) (places seen : List Text) (items : Items) (names : List Text) (numbers : List Said)
+    → IsRead places seen items names numbers
     → IsRead (place ∷ places) seen items (place ∷ names) numbers
 place_read place places seen items names numbers read = record {
   left = read.left;
@@ -129,7 +148,9 @@ place_read place places seen items names numbers read = record {
 }
 
 abbrev Sound : List Text → Type 0
-Sound words = (stage : Stage) (places seen : List Text) (items : Items) → AreNumbers items → pass option_names stage places seen words ≡ Some items
+Sound words =
+    (stage : Stage) (places seen : List Text) (items : Items) → AreNumbers items
+    → pass option_names stage places seen words ≡ Some items
     → Spells stage places seen words items
 
 ends : Sound []
@@ -159,8 +180,10 @@ ends behind places seen items numbers e = (
   },
 )
 
-module _ (word : Text) (rest : List Text) (next : Sound rest) (seen : List Text) (items : Items) (numbers : AreNumbers items) where
-  from_behind : (places : List Text) → pass option_names behind places seen (word ∷ rest) ≡ Some items → Spells behind places seen (word ∷ rest) items
+module _ (word : Text) (rest : List Text) (next : Sound rest) (seen : List Text) (items : Items)
+    (numbers : AreNumbers items) where
+  from_behind : (places : List Text) → pass option_names behind places seen (word ∷ rest) ≡ Some items
+      → Spells behind places seen (word ∷ rest) items
   unfolding pass
   from_behind [] e = absurd cc
   from_behind (place ∷ places) e =
@@ -170,10 +193,13 @@ module _ (word : Text) (rest : List Text) (next : Sound rest) (seen : List Text)
         (place, all.0.0) ∷ found.0,
         ap₂ (λ (w : Text) (ws : List Text). w ∷ ws) all.0.2 found.1,
         place_read place places seen items (names_of found.0) ((place, all.0.0) ∷ found.0)
-            (more_read places seen place word items parts.1.0 all.0.0 (names_of found.0) found.0 parts.1.2 parts.0 all.0.1 all.0.2 found.2),
+            (more_read places seen place word items parts.1.0 all.0.0
+            (names_of found.0) found.0 parts.1.2 parts.0 all.0.1 all.0.2 found.2),
       )
 
-  from_waits : (name : Text) (places : List Text) (k : Kind) → turn option_names (waits name) k places word seen (λ stage ps known. pass option_names stage ps known rest) ≡ Some items
+  from_waits : (name : Text) (places : List Text) (k : Kind)
+      → turn option_names (waits name) k places word seen
+      (λ stage ps known. pass option_names stage ps known rest) ≡ Some items
       → Spells (waits name) places seen (word ∷ rest) items
   from_waits name places other e =
       let parts = keep_parts (is_among name seen) name word (pass option_names ready places (name ∷ seen) rest) items e in
@@ -183,14 +209,17 @@ module _ (word : Text) (rest : List Text) (next : Sound rest) (seen : List Text)
         found.0,
         ap₂ (λ (w : Text) (ws : List Text). w ∷ ws) all.0.2 found.1,
         found.2,
-        more_read places seen name word items parts.1.0 all.0.0 (places_of found.0) (said found.0) parts.1.2 parts.0 all.0.1 all.0.2 found.3,
+        more_read places seen name word items parts.1.0 all.0.0 (places_of found.0)
+            (said found.0) parts.1.2 parts.0 all.0.1 all.0.2 found.3,
       )
   from_waits name places dashes e = absurd cc
   from_waits name places (whole option) e = absurd cc
   from_waits name places (joint option text) e = absurd cc
   from_waits name places flag e = absurd cc
 
-  from_place : (places : List Text) → at_place places word seen (λ ps known. pass option_names ready ps known rest) ≡ Some items → Spells ready places seen (word ∷ rest) items
+  from_place : (places : List Text)
+      → at_place places word seen (λ ps known. pass option_names ready ps known rest) ≡ Some items
+      → Spells ready places seen (word ∷ rest) items
   from_place [] e = absurd cc
   from_place (place ∷ places) e =
       let parts = keep_parts (is_among place seen) place word (pass option_names ready places (place ∷ seen) rest) items e in
@@ -200,14 +229,21 @@ module _ (word : Text) (rest : List Text) (next : Sound rest) (seen : List Text)
         ap₂ (λ (w : Text) (ws : List Text). w ∷ ws) all.0.2 found.1,
         found.2,
         place_read place places seen items (places_of found.0) ((place, all.0.0) ∷ said found.0)
-            (more_read places seen place word items parts.1.0 all.0.0 (places_of found.0) (said found.0) parts.1.2 parts.0 all.0.1 all.0.2 found.3),
+            (more_read places seen place word items parts.1.0 all.0.0 (places_of found.0)
+            (said found.0) parts.1.2 parts.0 all.0.1 all.0.2 found.3),
       )
 
-  from_ready : (places : List Text) (k : Kind) → Looks k word → turn option_names ready k places word seen (λ stage ps known. pass option_names stage ps known rest) ≡ Some items
+  from_ready : (places : List Text) (k : Kind) → Looks k word
+      → turn option_names ready k places word seen
+      (λ stage ps known. pass option_names stage ps known rest) ≡ Some items
       → Spells ready places seen (word ∷ rest) items
   from_ready places dashes look e =
-      let found = next behind places seen items numbers e in
-      (record { parts = []; behind = Some found.0 }, ap₂ (λ (w : Text) (ws : List Text). w ∷ ws) look found.1, refl, found.2)
+      let found = next behind places seen items numbers e in (
+        record { parts = []; behind = Some found.0 },
+        ap₂ (λ (w : Text) (ws : List Text). w ∷ ws) look found.1,
+        refl,
+        found.2,
+      )
   from_ready places (whole name) look e =
       let known = known_parts (is_among name option_names) (pass option_names (waits name) places seen rest) items e in
       let found = next (waits name) places seen items numbers known.1 in (
@@ -222,23 +258,28 @@ module _ (word : Text) (rest : List Text) (next : Sound rest) (seen : List Text)
       let all = subst AreNumbers (sym parts.1.2) numbers in
       let found = next ready places (name ∷ seen) parts.1.0 all.1 parts.1.1 in (
         record found.0 { parts = joined name all.0.0 ∷ found.0.parts },
-        ap₂ (λ (w : Text) (ws : List Text). w ∷ ws) (look ∙ ap (λ (t : Text). dashed name ++ (codes "=" ++ t)) all.0.2) found.1,
+        ap₂ (λ (w : Text) (ws : List Text). w ∷ ws)
+            (look ∙ ap (λ (t : Text). dashed name ++ (codes "=" ++ t)) all.0.2) found.1,
         and_from (is_among name option_names) _ known.0 found.2,
-        more_read places seen name text items parts.1.0 all.0.0 (places_of found.0) (said found.0) parts.1.2 parts.0 all.0.1 all.0.2 found.3,
+        more_read places seen name text items parts.1.0 all.0.0 (places_of found.0)
+            (said found.0) parts.1.2 parts.0 all.0.1 all.0.2 found.3,
       )
   from_ready places flag look e = absurd cc
   from_ready places other look e = from_place places e
 
 steps : (word : Text) (rest : List Text) → Sound rest → Sound (word ∷ rest)
 unfolding pass
-steps word rest next ready places seen items numbers e = from_ready word rest next seen items numbers places (kind_of word) (looks word) e
-steps word rest next (waits name) places seen items numbers e = from_waits word rest next seen items numbers name places (kind_of word) e
+steps word rest next ready places seen items numbers e =
+    from_ready word rest next seen items numbers places (kind_of word) (looks word) e
+steps word rest next (waits name) places seen items numbers e =
+    from_waits word rest next seen items numbers name places (kind_of word) e
 steps word rest next behind places seen items numbers e = from_behind word rest next seen items numbers places e
 
 sound : (words : List Text) → Sound words
 sound [] = ends
 sound (word ∷ rest) = steps word rest (sound rest)
 
-pub words_spell : (words places : List Text) (items : Items) → AreNumbers items → pass option_names ready places [] words ≡ Some items
+pub words_spell : (words places : List Text) (items : Items) → AreNumbers items
+    → pass option_names ready places [] words ≡ Some items
     → (line : Line) × (words ≡ spelled line) × IsRight line.parts × IsRead places [] items (places_of line) (said line)
 words_spell words places items numbers e = sound words ready places [] items numbers e

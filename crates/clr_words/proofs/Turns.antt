@@ -1,17 +1,22 @@
 -- What clap's walk makes of a word, by the word's kind.
-use Rattle.std.specs.Prelude.{◌≡◌, ℕ, Bool, true, false, not, List, [], ◌∷◌, Option, Some, None, if◌then◌else◌, length, slice_get}
+use Rattle.std.specs.Prelude.{◌≡◌, ℕ, Bool, true, false, not, List, [], ◌∷◌, Option, Some, None, if◌then◌else◌, length}
+use Rattle.std.specs.Prelude.{slice_get}
 use Rattle.std.specs.Prelude.{encode_utf8, drop}
 use Rattle.std.proofs.Common.{refl, ap, ◌∙◌}
 use Rattle.std.specs.Str.{bytes_eq, chars}
 use Rattle.clap.specs.Lexer.{long_of, short_of}
-use Rattle.clap.specs.Walk.{Held, Row, Rule, Step, Text, Names, Waiting, Walk, idle, trailing, after_step, arg_by_long, arg_by_short, bundle_met, long_word, plain, plain_word, short_met}
-use Rattle.clap.specs.Walk.{short_or_plain, walked, after_flag, bundle_step, done, long_or_other, option, positional, subcommand_met, subcommand_or_other}
+use Rattle.clap.specs.Walk.{Held, Row, Rule, Step, Text, Names, Waiting, Walk, idle, trailing, after_step, arg_by_long}
+use Rattle.clap.specs.Walk.{arg_by_short, bundle_met, long_word, plain, plain_word, short_met}
+use Rattle.clap.specs.Walk.{short_or_plain, walked, after_flag, bundle_step, done, long_or_other, option, positional}
+use Rattle.clap.specs.Walk.{subcommand_met, subcommand_or_other}
 use Rattle.std.specs.Option.{option_map_or}
 use Rattle.clap.specs.Simple.{Shape, new_shape}
 use Rattle.clap.specs.Kinds.{Kinds, or_else}
-use Rattle.clap.specs.Faults.{bundle_fault, bundle_step_fault, flag_word_fault, flags_fault, long_fault, other_fault, short_fault, step_fault, turn_fault}
+use Rattle.clap.specs.Faults.{bundle_fault, bundle_step_fault, flag_word_fault, flags_fault, long_fault, other_fault}
+use Rattle.clap.specs.Faults.{short_fault, step_fault, turn_fault}
 use Rattle.clap.specs.declared.error.kind.ErrorKind.TheVariants as kind
-use Rattle.clr_words.proofs.Pass.{Kind, dashes, whole, joint, flag, other, kind_by, kind_of, kind_of_first, kind_of_long, kind_of_short}
+use Rattle.clr_words.proofs.Pass.{Kind, dashes, whole, joint, flag, other, kind_by, kind_of, kind_of_first}
+use Rattle.clr_words.proofs.Pass.{kind_of_long, kind_of_short}
 
 -- a command with these rules, once it is built: one without subcommands, or one that wants one
 abbrev pub level : Text → Bool → List Rule → Shape
@@ -38,10 +43,14 @@ walk_from is_trailing waiting position h =
 
 abbrev pub fault_by : Text → Bool → List Rule → Waiting → ℕ → Held → Text → Kind → Kinds
 fault_by command is_leaf c waiting position h word dashes = []
-fault_by command is_leaf c waiting position h word (whole name) = or_else (long_fault c false (arg_by_long c name) None h)
-    (step_fault (level command is_leaf c) position (long_word c waiting word name None h).0 (long_word c waiting word name None h).1)
-fault_by command is_leaf c waiting position h word (joint name text) = or_else (long_fault c false (arg_by_long c name) (Some text) h)
-    (step_fault (level command is_leaf c) position (long_word c waiting word name (Some text) h).0 (long_word c waiting word name (Some text) h).1)
+fault_by command is_leaf c waiting position h word (whole name) =
+    or_else (long_fault c false (arg_by_long c name) None h)
+    (step_fault (level command is_leaf c) position (long_word c waiting word name None h).0
+    (long_word c waiting word name None h).1)
+fault_by command is_leaf c waiting position h word (joint name text) =
+    or_else (long_fault c false (arg_by_long c name) (Some text) h)
+    (step_fault (level command is_leaf c) position (long_word c waiting word name (Some text) h).0
+    (long_word c waiting word name (Some text) h).1)
 fault_by command is_leaf c waiting position h word flag = kind.UnknownArgument ∷ []
 fault_by command is_leaf c waiting position h word other =
     step_fault (level command is_leaf c) position (plain_word c waiting word h).0 (plain_word c waiting word h).1
@@ -49,19 +58,23 @@ fault_by command is_leaf c waiting position h word other =
 abbrev pub walk_by : List Rule → Waiting → ℕ → Held → Text → Kind → Walk
 walk_by c waiting position h word dashes = walk_from true waiting position h
 walk_by c waiting position h word (whole name) =
-    after_step c word (walk_from false waiting position h) (long_word c waiting word name None h).0 (long_word c waiting word name None h).1
+    after_step c word (walk_from false waiting position h) (long_word c waiting word name None h).0
+    (long_word c waiting word name None h).1
 walk_by c waiting position h word (joint name text) =
-    after_step c word (walk_from false waiting position h) (long_word c waiting word name (Some text) h).0 (long_word c waiting word name (Some text) h).1
+    after_step c word (walk_from false waiting position h) (long_word c waiting word name (Some text) h).0
+    (long_word c waiting word name (Some text) h).1
 walk_by c waiting position h word flag = walk_from false waiting position h
 walk_by c waiting position h word other =
-    after_step c word (walk_from false waiting position h) (plain_word c waiting word h).0 (plain_word c waiting word h).1
+    after_step c word (walk_from false waiting position h) (plain_word c waiting word h).0
+    (plain_word c waiting word h).1
 
 pub none_met : (waiting : Waiting) (word : Text) → subcommand_met [] waiting word ≡ None
 none_met idle word = refl
 none_met (option id) word = refl
 none_met positional word = refl
 
-module _ (command : Text) (is_leaf : Bool) (c : List Rule) (names : Names) (no_short : (x : ℕ) → arg_by_short c x ≡ None) (waiting : Waiting) (position : ℕ) (rows : List Row)
+module _ (command : Text) (is_leaf : Bool) (c : List Rule) (names : Names)
+    (no_short : (x : ℕ) → arg_by_short c x ≡ None) (waiting : Waiting) (position : ℕ) (rows : List Row)
     (pending : Option (Text × List Text)) (word : Text) (unmet : subcommand_met names waiting word ≡ None) where
   abbrev h : Held
   h = held rows pending
@@ -86,21 +99,27 @@ module _ (command : Text) (is_leaf : Bool) (c : List Rule) (names : Names) (no_s
   abbrev walk_of : Held × Step → Walk
   walk_of met = after_step c word (walk_from false waiting position h) met.0 met.1
 
-  by_long : (name : Text) (text : Option Text) → turn_by false (Some (name, text)) None ≡ fault_by command is_leaf c waiting position h word (kind_of_long name text)
+  by_long : (name : Text) (text : Option Text)
+      → turn_by false (Some (name, text)) None ≡ fault_by command is_leaf c waiting position h word
+      (kind_of_long name text)
   by_long name None = refl
   by_long name (Some text) = refl
 
   by_first : (k : ℕ) (flags : Text) (first : Option ℕ)
       → or_else (bundle_step_fault c false first flags 0 h (flags_fault c false k))
-      (step_of (after_flag c waiting word (bundle_step c first flags 0 plain h (bundle_met c k)).0 (bundle_step c first flags 0 plain h (bundle_met c k)).1))
+      (step_of (after_flag c waiting word (bundle_step c first flags 0 plain h (bundle_met c k)).0
+      (bundle_step c first flags 0 plain h (bundle_met c k)).1))
       ≡ fault_by command is_leaf c waiting position h word (kind_of_first first)
   by_first k flags None = refl
   by_first k flags (Some x) = let rest = drop (length (encode_utf8 x)) flags in
       ap (λ (found : Option Rule). or_else (short_fault c false found rest h (flags_fault c false k rest 0))
-      (step_of (after_flag c waiting word (short_met c found rest h (bundle_met c k rest 0 done)).0 (short_met c found rest h (bundle_met c k rest 0 done)).1)))
+      (step_of (after_flag c waiting word (short_met c found rest h (bundle_met c k rest 0 done)).0
+      (short_met c found rest h (bundle_met c k rest 0 done)).1)))
       (no_short x)
 
-  by_flags : (flags : Text) → turn_by false None (Some flags) ≡ fault_by command is_leaf c waiting position h word (kind_of_short (Some flags))
+  by_flags : (flags : Text)
+      → turn_by false None (Some flags) ≡ fault_by command is_leaf c waiting position h word
+      (kind_of_short (Some flags))
   unfolding flags_fault bundle_met chars
   by_flags [] = refl
   by_flags (x ∷ xs) = by_first (length xs) (x ∷ xs) (slice_get (chars (x ∷ xs)) 0)
@@ -114,12 +133,15 @@ module _ (command : Text) (is_leaf : Bool) (c : List Rule) (names : Names) (no_s
 
   pub turn_is : turn_fault (level command is_leaf c) names (walk_from false waiting position h) word
       ≡ fault_by command is_leaf c waiting position h word (kind_of word)
-  turn_is = ap (λ met. or_else (other_fault (level command is_leaf c) met word h) (step_of (subcommand_or_other c met waiting position word h)))
-      unmet ∙ (go (bytes_eq word (45 ∷ 45 ∷ [])) (long_of word) ∙ by_looks (bytes_eq word (45 ∷ 45 ∷ [])) (long_of word) (short_of word))
+  turn_is = ap (λ met. or_else (other_fault (level command is_leaf c) met word h)
+      (step_of (subcommand_or_other c met waiting position word h)))
+      unmet ∙ (go (bytes_eq word (45 ∷ 45 ∷ [])) (long_of word)
+      ∙ by_looks (bytes_eq word (45 ∷ 45 ∷ [])) (long_of word) (short_of word))
     where
       go : (is_dashes : Bool) (long : Option (Text × Option Text))
           → or_else (if is_dashes then [] else flag_word_fault c false long word h)
-          (step_of (if is_dashes then (h, trailing position) else long_or_other c waiting word long h)) ≡ turn_by is_dashes long (short_of word)
+          (step_of (if is_dashes then (h, trailing position) else long_or_other c waiting word long h)) ≡ turn_by
+          is_dashes long (short_of word)
       go true long = refl
       go false None = refl
       go false (Some p) = refl
@@ -127,7 +149,8 @@ module _ (command : Text) (is_leaf : Bool) (c : List Rule) (names : Names) (no_s
   -- ---- where the walk stands then
 
   walk_by_first : (k : ℕ) (flags : Text) (first : Option ℕ) → (kind_of_first first ≡ flag → ⊥)
-      → walk_of (after_flag c waiting word (bundle_step c first flags 0 plain h (bundle_met c k)).0 (bundle_step c first flags 0 plain h (bundle_met c k)).1)
+      → walk_of (after_flag c waiting word (bundle_step c first flags 0 plain h (bundle_met c k)).0
+      (bundle_step c first flags 0 plain h (bundle_met c k)).1)
       ≡ walk_by c waiting position h word (kind_of_first first)
   walk_by_first k flags None no_flag = refl
   walk_by_first k flags (Some x) no_flag = absurd (no_flag refl)
@@ -138,24 +161,29 @@ module _ (command : Text) (is_leaf : Bool) (c : List Rule) (names : Names) (no_s
   walk_by_flags [] no_flag = refl
   walk_by_flags (x ∷ xs) no_flag = walk_by_first (length xs) (x ∷ xs) (slice_get (chars (x ∷ xs)) 0) no_flag
 
-  walk_by_long : (name : Text) (text : Option Text) → walk_of (met_by false (Some (name, text)) None) ≡ walk_by c waiting position h word (kind_of_long name text)
+  walk_by_long : (name : Text) (text : Option Text)
+      → walk_of (met_by false (Some (name, text)) None) ≡ walk_by c waiting position h word (kind_of_long name text)
   walk_by_long name None = refl
   walk_by_long name (Some text) = refl
 
-  walk_by_looks : (is_dashes : Bool) (long : Option (Text × Option Text)) (short : Option Text) → (kind_by is_dashes long short ≡ flag → ⊥)
+  walk_by_looks : (is_dashes : Bool) (long : Option (Text × Option Text)) (short : Option Text)
+      → (kind_by is_dashes long short ≡ flag → ⊥)
       → walk_of (met_by is_dashes long short) ≡ walk_by c waiting position h word (kind_by is_dashes long short)
   walk_by_looks true long short no_flag = refl
   walk_by_looks false (Some p) short no_flag = walk_by_long p.0 p.1
   walk_by_looks false None None no_flag = refl
   walk_by_looks false None (Some flags) no_flag = walk_by_flags flags no_flag
 
-  pub walked_is : (kind_of word ≡ flag → ⊥) → walked c names (walk_from false waiting position h) word ≡ walk_by c waiting position h word (kind_of word)
+  pub walked_is : (kind_of word ≡ flag → ⊥)
+      → walked c names (walk_from false waiting position h) word ≡ walk_by c waiting position h word (kind_of word)
   unfolding walked
   walked_is no_flag = ap (λ met. walk_of (subcommand_or_other c met waiting position word h)) unmet
-      ∙ (go (bytes_eq word (45 ∷ 45 ∷ [])) (long_of word) ∙ walk_by_looks (bytes_eq word (45 ∷ 45 ∷ [])) (long_of word) (short_of word) no_flag)
+      ∙ (go (bytes_eq word (45 ∷ 45 ∷ [])) (long_of word)
+      ∙ walk_by_looks (bytes_eq word (45 ∷ 45 ∷ [])) (long_of word) (short_of word) no_flag)
     where
       go : (is_dashes : Bool) (long : Option (Text × Option Text))
-          → walk_of (if is_dashes then (h, trailing position) else long_or_other c waiting word long h) ≡ walk_of (met_by is_dashes long (short_of word))
+          → walk_of (if is_dashes then (h, trailing position) else long_or_other c waiting word long h) ≡ walk_of
+          (met_by is_dashes long (short_of word))
       go true long = refl
       go false None = refl
       go false (Some p) = refl

@@ -93,7 +93,9 @@ AreSmall [] = Unit {0}
 AreSmall (first ∷ rest) = (first.1 < 2 ^ 64) × AreSmall rest
 
 abbrev pub option_names : List Text
-option_names = codes "limit" ∷ codes "segment" ∷ codes "b0" ∷ codes "b1" ∷ codes "b2" ∷ codes "bl" ∷ codes "compact" ∷ []
+option_names =
+    codes "limit" ∷ codes "segment" ∷ codes "b0" ∷ codes "b1" ∷ codes "b2" ∷ codes "bl" ∷ codes "compact"
+    ∷ codes "large" ∷ []
 
 abbrev pub soak_places : List Text
 soak_places = codes "SEED" ∷ codes "N" ∷ []
@@ -120,7 +122,7 @@ options_said said = record {
   b2 = number_of (codes "b2") defaults.b2 said;
   bl = number_of (codes "bl") defaults.bl said;
   compact = number_of (codes "compact") defaults.compact said;
-  large = defaults.large;
+  large = number_of (codes "large") defaults.large said;
 }
 
 -- the words are the command's name and this line, which says these options

@@ -8,7 +8,8 @@ use Rattle.clr_model.specs.Run.{defaults}
 
 -- the number that a text is, where it fits a `u64`
 abbrev pub number_in : Text → Option ℕ
-number_in text = if is_decimal_form text && nat_lt (digits_value 10 text) (2 ^ 64) then Some (digits_value 10 text) else None
+number_in text =
+    if is_decimal_form text && nat_lt (digits_value 10 text) (2 ^ 64) then Some (digits_value 10 text) else None
 
 -- the same of a text that may be left out
 abbrev pub number_or : ℕ → Option Text → Option ℕ
@@ -24,4 +25,4 @@ pub record AreRead (rows : List Row) (options : Options) : Type 0 where
   pub b2 : number_or defaults.b2 (first_of (codes "b2") rows) ≡ Some options.b2
   pub bl : number_or defaults.bl (first_of (codes "bl") rows) ≡ Some options.bl
   pub compact : number_or defaults.compact (first_of (codes "compact") rows) ≡ Some options.compact
-  pub large : defaults.large ≡ options.large
+  pub large : number_or defaults.large (first_of (codes "large") rows) ≡ Some options.large

@@ -1,6 +1,5 @@
 -- Settings as the options of the machine.
 use Rattle.clr_model.specs.Machine.{Options}
-use Rattle.clr_model.specs.Run.{defaults}
 use Rattle.clr_words.specs.declared.settings.Settings.{Settings}
 
 abbrev pub options_of : Settings → Options
@@ -12,5 +11,5 @@ options_of settings = record {
   b2 = settings.b2;
   bl = settings.bl;
   compact = settings.compact;
-  large = defaults.large;
+  large = settings.large;
 }

@@ -42,8 +42,10 @@ pub(crate) fn read(alloc: Global, words: &[String]) -> Result<Option<CommandLine
 
 // What is said, where the words are taken.
 fn read_matches(matches: &ArgMatches<'_>) -> Option<CommandLine>
-    ensures run { (rows : List Row) → subcommand_rows_of matches.now ≡ Some (codes "run", rows) → IsRunRead rows result }
-    ensures soak { (rows : List Row) → subcommand_rows_of matches.now ≡ Some (codes "soak", rows) → IsSoakRead rows result }
+    ensures run { (rows : List Row) → subcommand_rows_of matches.now ≡ Some (codes "run", rows)
+        → IsRunRead rows result }
+    ensures soak { (rows : List Row) → subcommand_rows_of matches.now ≡ Some (codes "soak", rows)
+        → IsSoakRead rows result }
 {
     let (name, found) = matches.subcommand()?;
     if name == "run" {

@@ -54,7 +54,8 @@ fn make_program<'a>(alloc: Global) -> Result<Command<'a>, AllocError>
 // Adds the options of a command.
 fn add_options<'a>(alloc: Global, command: Command<'a>) -> Result<Command<'a>, AllocError>
     ensures shape { IfOk result (λ made. app_of made ≡ with_options (app_of command.entry)) }
-    ensures local { (out-Command command.entry).has_globals ≡ false → IfOk result (λ made. (out-Command made).has_globals ≡ false) }
+    ensures local { (out-Command command.entry).has_globals ≡ false
+        → IfOk result (λ made. (out-Command made).has_globals ≡ false) }
 {
     command
         .arg(make_option(alloc, "limit"))?
@@ -63,7 +64,8 @@ fn add_options<'a>(alloc: Global, command: Command<'a>) -> Result<Command<'a>, A
         .arg(make_option(alloc, "b1"))?
         .arg(make_option(alloc, "b2"))?
         .arg(make_option(alloc, "bl"))?
-        .arg(make_option(alloc, "compact"))
+        .arg(make_option(alloc, "compact"))?
+        .arg(make_option(alloc, "large"))
 }
 
 // An option that takes a number.

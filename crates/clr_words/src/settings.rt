@@ -30,6 +30,8 @@ pub struct Settings {
     pub bl: u64,
     /// The percentage of free space from which a collection that decides compacts.
     pub compact: u64,
+    /// The bytes of an object from which on it is a large one.
+    pub large: u64,
 }
 
 impl Settings {
@@ -60,6 +62,7 @@ impl Settings {
         let b2 = option(found, "b2", 4_194_304)?;
         let bl = option(found, "bl", 4_194_304)?;
         let compact = option(found, "compact", 50)?;
+        let large = option(found, "large", 85_000)?;
         Some(Settings {
             limit,
             segment,
@@ -68,10 +71,12 @@ impl Settings {
             b2,
             bl,
             compact,
+            large,
         })
     }
 
-    // Whether each number is within its bounds. A segment is made of whole pages, and the limit takes two segments.
+    // Whether each number is within its bounds. A segment is made of whole pages, and the limit takes two segments. The
+    // objects that are small end before the last page of a segment.
     fn are_lawful(&self) -> bool
         ensures { IsTrue result ↔ AreLawfulOptions (options_of self.now) }
     {
@@ -85,6 +90,8 @@ impl Settings {
             && self.b2 <= GIBIBYTE
             && self.bl <= GIBIBYTE
             && self.compact <= 100
+            && 85_000 <= self.large
+            && self.large <= self.segment - 4096
     }
 }
 

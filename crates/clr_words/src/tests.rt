@@ -12,6 +12,7 @@ const DEFAULTS: Settings = Settings {
     b2: 4_194_304,
     bl: 4_194_304,
     compact: 50,
+    large: 85_000,
 };
 
 /// What the words of a line say, which stand between single spaces. It promises nothing, so that what `command` ensures
@@ -74,7 +75,15 @@ fn says_nothing(rt: HostRuntime) -> Result<(), Fail> {
         "run --b0 18446744073709551616",
         "run --b 5",
         "run -b0 5",
-        "run --large 85000",
+        "run --large",
+        "run --large=",
+        "run --large 85000 --large 85000",
+        "run --large 84999",
+        "run --large 16773121",
+        "run --large 258049 --segment 262144",
+        "run --segment 262144 --large 262144",
+        "run --segment 67108864 --large 67104769",
+        "run --large 18446744073709551615",
         "run --b0 1073741825",
         "run --b1 1073741825",
         "run --b2 1073741825",
@@ -102,6 +111,7 @@ fn says_nothing(rt: HostRuntime) -> Result<(), Fail> {
         "soak +1 2",
         "soak x 2",
         "soak 1 2 --compact 101",
+        "soak 1 2 --large 84999",
         "soak 1 2 --b0 1 --b0 1",
         "soak --b0 1 2",
     ] {
@@ -206,8 +216,39 @@ fn says_a_run(rt: HostRuntime) -> Result<(), Fail> {
                 ..DEFAULTS
             },
         ),
+        ("run --large 85000", DEFAULTS),
         (
-            "run --compact 7 --bl=6 --b2 5 --b1=4 --b0 3 --segment=266240 --limit 532480",
+            "run --large=100000",
+            Settings {
+                large: 100_000,
+                ..DEFAULTS
+            },
+        ),
+        (
+            "run --large 16773120",
+            Settings {
+                large: 16_773_120,
+                ..DEFAULTS
+            },
+        ),
+        (
+            "run --large 258048 --segment 262144",
+            Settings {
+                segment: 262_144,
+                large: 258_048,
+                ..DEFAULTS
+            },
+        ),
+        (
+            "run --segment 67108864 --large 67104768",
+            Settings {
+                segment: 67_108_864,
+                large: 67_104_768,
+                ..DEFAULTS
+            },
+        ),
+        (
+            "run --large 90000 --compact 7 --bl=6 --b2 5 --b1=4 --b0 3 --segment=266240 --limit 532480",
             Settings {
                 limit: 532_480,
                 segment: 266_240,
@@ -216,6 +257,7 @@ fn says_a_run(rt: HostRuntime) -> Result<(), Fail> {
                 b2: 5,
                 bl: 6,
                 compact: 7,
+                large: 90_000,
             },
         ),
     ] {
@@ -230,6 +272,10 @@ fn says_a_run(rt: HostRuntime) -> Result<(), Fail> {
 #[test]
 fn says_a_generated_script(rt: HostRuntime) -> Result<(), Fail> {
     let five = Settings { b0: 5, ..DEFAULTS };
+    let larger = Settings {
+        large: 258_048,
+        ..DEFAULTS
+    };
     for (line, settings, seed, count) in [
         ("soak 1 2", DEFAULTS, 1, 2),
         ("soak 0 1", DEFAULTS, 0, 1),
@@ -241,6 +287,7 @@ fn says_a_generated_script(rt: HostRuntime) -> Result<(), Fail> {
         ("soak 1 --b0=5 2", five, 1, 2),
         ("soak 1 2 --b0 5", five, 1, 2),
         ("soak --b0 5 1 -- 2", five, 1, 2),
+        ("soak --large 258048 1 2", larger, 1, 2),
     ] {
         let want = CommandLine::Soak {
             settings,

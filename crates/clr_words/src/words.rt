@@ -1,4 +1,5 @@
-ghost use Rattle.std.specs.Prelude.{◌≡◌, ◌<◌, ◌∷◌, ◌++◌, [], List, ℕ, length, map, OnOk, OnErr, IfOk, slice_get, None, Some};
+ghost use Rattle.std.specs.Prelude.{◌≡◌, ◌<◌, ◌∷◌, ◌++◌, [], List, ℕ, length, map, OnOk, OnErr, IfOk, slice_get, None};
+ghost use Rattle.std.specs.Prelude.{Some};
 ghost use Rattle.clr_model.specs.Machine.{Options};
 ghost use Rattle.clr_words.specs.CommandLines.{IsSaid};
 ghost use Rattle.clr_words.specs.Grammar.{SaysNothing, SaysRun, SaysSoak};

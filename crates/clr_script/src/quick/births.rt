@@ -1,8 +1,8 @@
 //! The lines that make objects, in front of a text, and the whole ones that collect them. Each reader takes the text
 //! behind the verb that its contract names.
-ghost use Rattle.std.specs.Prelude.{◌≡◌, ◌∷◌, ◌++◌, ℕ, IfSome, IsTrue, codes, position, not};
+ghost use Rattle.std.specs.Prelude.{◌≡◌, ◌∷◌, ◌++◌, ◌≤◌, ℕ, IfSome, IsTrue, codes, position, not};
 ghost use Rattle.std.specs.List.{list_all};
-ghost use Rattle.clr_model.specs.LineGrammar.{is_name, is_name_byte, how_words, number_words, IsWord};
+ghost use Rattle.clr_model.specs.LineGrammar.{is_name, is_name_byte, how_words, number_words, IsHowForm, IsWord};
 ghost use Rattle.clr_model.specs.Instructions.{new_object};
 ghost use Rattle.clr_script.specs.Fronts.{behind, Continues, SpellsBehind};
 
@@ -78,9 +78,9 @@ pub fn read_new(text: &[u8]) -> Option<(u64, &[u8], Option<u64>, &[u8])>
     Some((local, name, len, rest))
 }
 
-// How to collect: the last word, or nothing.
+// How to collect, but for `fitting`: the last word, or nothing.
 fn last_how(text: &[u8]) -> Option<How>
-    ensures { IfSome result (λ how. text.now ≡ behind (how_words how)) }
+    ensures { IfSome result (λ how. (text.now ≡ behind (how_words how)) × ((g : ℕ) → g ≤ 2 → IsHowForm g how)) }
 {
     if text.is_empty() {
         return Some(How::Decide);

@@ -10,21 +10,18 @@ ghost use Rattle.clr_sos.specs.Faults.{words_in};
 ghost use Rattle.clr_sos.specs.CellScans.{IsNext, IsPlace, limits_of, rules_in, size_with, suits_object};
 
 use clr_heap::{Heap, Item, SegKind};
+use clr_types::header::SUPPRESSED;
 use clr_types::{Shape, TypeId, Types};
 
-/// The header of an object whose finaliser is suppressed.
-const SUPPRESSED: u64 = 0x4000_0000;
-
-/// The least size of a large object, in bytes.
-const LARGE: u64 = 85_000;
-
-// The kind of a segment, its end, and the boundaries of the generations, which are 0 outside the ephemeral segment.
+// The kind of a segment, its end, the boundaries of the generations, which are 0 outside the ephemeral segment, and the
+// least size of a large object.
 #[derive(Clone, Copy)]
 pub struct Limits {
     pub kind: SegKind,
     pub end: u64,
     pub start1: u64,
     pub start0: u64,
+    pub large: u64,
 }
 
 // A segment that is checked: the heap and its types, the number of the segment, and its limits.
@@ -41,7 +38,7 @@ pub struct Scan<'a> {
 #[tactic(auto, unfolding(crate::specs::CheckedCells::checked_item))]
 pub fn checked_item(scan: &Scan<'_>, next: u64, place: u64) -> Result<Item, u64>
     requires place { IsPlace scan.now.heap.now scan.now.k place }
-    requires limits { scan.now.limits ≡ limits_of scan.now.heap.now scan.now.k }
+    requires limits { scan.now.limits ≡ limits_of scan.now.limits.large scan.now.heap.now scan.now.k }
     requires next { IsNext (holes_of scan.now.heap.now scan.now.k) place next }
     ensures { result ≡ cells.checked_item (rules_in scan.now) (words_in scan.now.heap.now) place }
 {
@@ -68,7 +65,7 @@ fn typed_item(
 ) -> Result<Item, u64>
     requires place { IsPlace scan.now.heap.now scan.now.k place }
     requires room { place + 24 ≤ last_of scan.now.heap.now scan.now.k }
-    requires limits { scan.now.limits ≡ limits_of scan.now.heap.now scan.now.k }
+    requires limits { scan.now.limits ≡ limits_of scan.now.limits.large scan.now.heap.now scan.now.k }
     requires next { IsNext (holes_of scan.now.heap.now scan.now.k) place next }
     requires known { IfSome found (λ t. t.0 ≤ length scan.now.types.now) }
     ensures { result ≡ cells.typed_item (rules_in scan.now) (words_in scan.now.heap.now) place header
@@ -98,7 +95,7 @@ fn sized_item(
     len: u64,
 ) -> Result<Item, u64>
     requires place { IsPlace scan.now.heap.now scan.now.k place }
-    requires limits { scan.now.limits ≡ limits_of scan.now.heap.now scan.now.k }
+    requires limits { scan.now.limits ≡ limits_of scan.now.limits.large scan.now.heap.now scan.now.k }
     requires next { IsNext (holes_of scan.now.heap.now scan.now.k) place next }
     requires known { type_id.0 ≤ length scan.now.types.now }
     ensures { result ≡ cells.sized_item (rules_in scan.now) (words_in scan.now.heap.now) place type_id.0 len
@@ -164,7 +161,7 @@ fn checked_size(
     };
     if !is_inside(limits.end, next, place, size)
         || crosses(limits, place, size)
-        || !suits(limits.kind, size)
+        || !suits(limits.large, limits.kind, size)
     {
         return Err(place - 8);
     }
@@ -180,13 +177,14 @@ fn crosses(limits: Limits, place: u64, size: u64) -> bool
     (place < limits.start1 && limits.start1 < end) || (place < limits.start0 && limits.start0 < end)
 }
 
-// Whether an object of this size stands in a segment of this kind.
-fn suits(kind: SegKind, size: u64) -> bool
-    ensures { result ≡ suits_object kind size }
+// Whether an object of this size stands in a segment of this kind, where those of `large` bytes and more are large.
+fn suits(large: u64, kind: SegKind, size: u64) -> bool
+    ensures { result ≡ suits_object large kind size }
 {
     match kind {
-        SegKind::Large => size >= LARGE,
-        SegKind::Small | SegKind::Ephemeral => size < LARGE,
+        SegKind::Large => size >= large,
+        SegKind::Pinned => true,
+        SegKind::Small | SegKind::Ephemeral => size < large,
     }
 }
 

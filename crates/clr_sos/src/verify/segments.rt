@@ -10,13 +10,13 @@ use crate::verify::cells::{Limits, Scan, checked_item};
 use clr_heap::{Heap, SegInfo, SegKind};
 use clr_types::Types;
 
-// The first fault of the segments.
-pub fn segments_fault(heap: &Heap, types: &Types) -> Option<u64>
+// The first fault of the segments, where objects of `large` bytes and more are large.
+pub fn segments_fault(heap: &Heap, types: &Types, large: u64) -> Option<u64>
     requires { AreInside heap.now }
-    ensures { result ≡ verify.segments_fault types.now heap.now 0 (length heap.now.segments) }
+    ensures { result ≡ verify.segments_fault types.now large heap.now 0 (length heap.now.segments) }
 {
     for k in 0..heap.segments() {
-        match segment_fault(heap, types, k) {
+        match segment_fault(heap, types, large, k) {
             Some(a) => return Some(a),
             None => {}
         }
@@ -25,12 +25,12 @@ pub fn segments_fault(heap: &Heap, types: &Types) -> Option<u64>
 }
 
 // The first fault of segment `k`.
-fn segment_fault(heap: &Heap, types: &Types, k: usize) -> Option<u64>
+fn segment_fault(heap: &Heap, types: &Types, large: u64, k: usize) -> Option<u64>
     requires in_range { k < length heap.now.segments }
     requires rests { AreInside heap.now }
-    ensures { result ≡ verify.segment_fault types.now heap.now k }
+    ensures { result ≡ verify.segment_fault types.now large heap.now k }
 {
-    let limits = limits(heap, k);
+    let limits = limits(heap, large, k);
     let segment = heap.info(k);
     if is_ordered(segment, limits) {
         items_fault(&Scan {
@@ -44,10 +44,10 @@ fn segment_fault(heap: &Heap, types: &Types, k: usize) -> Option<u64>
     }
 }
 
-// The kind, the end and the boundaries of segment `k`.
-fn limits(heap: &Heap, k: usize) -> Limits
+// The kind, the end and the boundaries of segment `k`, where objects of `large` bytes and more are large.
+fn limits(heap: &Heap, large: u64, k: usize) -> Limits
     requires { k < length heap.now.segments }
-    ensures { result ≡ limits_of heap.now k }
+    ensures { result ≡ limits_of large heap.now k }
 {
     let segment = heap.info(k);
     let (start1, start0) = if segment.kind == SegKind::Ephemeral {
@@ -60,6 +60,7 @@ fn limits(heap: &Heap, k: usize) -> Limits
         end: segment.end,
         start1,
         start0,
+        large,
     }
 }
 
@@ -81,9 +82,9 @@ fn is_ordered(segment: SegInfo, limits: Limits) -> bool
 // The first fault of the items of a segment.
 fn items_fault(scan: &Scan<'_>) -> Option<u64>
     requires in_range { scan.now.k < length scan.now.heap.now.segments }
-    requires limits { scan.now.limits ≡ limits_of scan.now.heap.now scan.now.k }
+    requires limits { scan.now.limits ≡ limits_of scan.now.limits.large scan.now.heap.now scan.now.k }
     requires rests { AreInside scan.now.heap.now }
-    ensures { result ≡ items_fault_of scan.now.types.now scan.now.heap.now scan.now.k }
+    ensures { result ≡ items_fault_of scan.now.types.now scan.now.limits.large scan.now.heap.now scan.now.k }
 {
     scan.heap.lawful();
     let mut place = scan.heap.info(scan.k).first_place();

@@ -7,7 +7,8 @@ use Rattle.clr_sos.proofs.ListedItems.{next-count, next-in, next-known, told_tes
 use Rattle.clr_sos.proofs.ListedItems.{within-counted, within-more}
 use Rattle.clr_sos.proofs.ShownLines.{totals-all, totals-more, totals-skip}
 use Rattle.clr_sos.proofs.Tallies.{tallies-all}
-use Rattle.clr_sos.proofs.Tallies.{length-counted, tallies-more, tallies-skip, tallies-within_counted, tallies-within_more}
+use Rattle.clr_sos.proofs.Tallies.{length-counted, tallies-more, tallies-skip, tallies-within_counted}
+use Rattle.clr_sos.proofs.Tallies.{tallies-within_more}
 use Rattle.clr_sos.proofs.listing_counts.count_items.Goals as goal
 
 pub shows-requires : goal.shows-requires

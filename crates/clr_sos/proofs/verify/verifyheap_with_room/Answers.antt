@@ -9,14 +9,14 @@ returns-in-Some-clause-lawful c = (
   λ lawful.
       let clash : Some c.in-Some.address ≡ None =
       sym c.in-Some.is ∙ c.fault.ensures.fault
-      ∙ lawful_is_clean c.args.view.now.types.now c.args.view.now.heap.now c.args.view.now.locals.now
-      c.fault.ensures.heap lawful in
+      ∙ lawful_is_clean c.args.view.now.types.now c.args.view.now.large c.args.view.now.heap.now
+      c.args.view.now.locals.now c.fault.ensures.heap lawful in
       absurd cc,
 )
 
 pub returns-in-None-clause-lawful : goal.returns-in-None-clause-lawful
 returns-in-None-clause-lawful c = (
-  λ e. lawful_if c.args.view.now.types.now c.args.view.now.heap.now c.args.view.now.locals.now c.fault.ensures.heap
-      c.requires.holes (sym c.fault.ensures.fault ∙ c.in-None.is),
+  λ e. lawful_if c.args.view.now.types.now c.args.view.now.large c.args.view.now.heap.now
+      c.args.view.now.locals.now c.fault.ensures.heap c.requires.holes (sym c.fault.ensures.fault ∙ c.in-None.is),
   λ lawful. refl,
 )

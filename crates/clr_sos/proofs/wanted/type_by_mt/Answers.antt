@@ -12,6 +12,7 @@ pub returns-in_ok-found-in-Some : goal.returns-in_ok-found-in-Some
 returns-in_ok-found-in-Some c =
     let known = c.in_ok-found-in-Some.ensures in
     rw c.in-Some.is (
-      ap (λ (b : Bool). b && true) (mt-known c.args.types.now c.in-Some.word c.in_ok-found-in-Some.found.0 known.0 known.1),
+      ap (λ (b : Bool). b && true)
+          (mt-known c.args.types.now c.in-Some.word c.in_ok-found-in-Some.found.0 known.0 known.1),
       λ item. same-mt c.in_ok-found-in-Some.found.0 item.type_id.0 c.in-Some.word known.1,
     )

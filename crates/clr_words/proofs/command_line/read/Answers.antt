@@ -5,10 +5,12 @@ use Rattle.clr_words.proofs.Answering.{nothing_by_fault, said_by_matches}
 use Rattle.clr_words.proofs.command_line.read.Goals as goal
 
 pub returns-in_default : goal.returns-in_default
-returns-in_default c = nothing_by_fault (map (λ w. string_bytes w) c.args.words.now) (rw c.in_default.is at c.in_ok-matches.ensures)
+returns-in_default c =
+    nothing_by_fault (map (λ w. string_bytes w) c.args.words.now) (rw c.in_default.is at c.in_ok-matches.ensures)
 
 pub returns : goal.returns
 returns c =
     let found = rw c.in-Some.is at c.in_ok-matches.ensures in
-    said_by_matches (map (λ w. string_bytes w) c.args.words.now) (subcommand_rows_of c.in-Some.matches) found.0 found.1 c.read_matches.result
+    said_by_matches (map (λ w. string_bytes w) c.args.words.now)
+    (subcommand_rows_of c.in-Some.matches) found.0 found.1 c.read_matches.result
     c.read_matches.ensures.run c.read_matches.ensures.soak

@@ -13,7 +13,10 @@ returns-clause-shape c =
     let made4 = c.in_ok-arg-4.ensures.shape c.make_option-4.ensures.local ∙ ap₂ with_rule made3 c.make_option-4.ensures.rule in
     let made5 = c.in_ok-arg-5.ensures.shape c.make_option-5.ensures.local ∙ ap₂ with_rule made4 c.make_option-5.ensures.rule in
     let made6 = c.in_ok-arg-6.ensures.shape c.make_option-6.ensures.local ∙ ap₂ with_rule made5 c.make_option-6.ensures.rule in
-    IfOk-weaker c.arg-7.result _ _ (λ made adds. adds.shape c.make_option-7.ensures.local ∙ ap₂ with_rule made6 c.make_option-7.ensures.rule) c.arg-7.ensures
+    let made7 = c.in_ok-arg-7.ensures.shape c.make_option-7.ensures.local ∙ ap₂ with_rule made6 c.make_option-7.ensures.rule in
+    IfOk-weaker c.arg-8.result _ _
+    (λ made adds. adds.shape c.make_option-8.ensures.local ∙ ap₂ with_rule made7 c.make_option-8.ensures.rule)
+    c.arg-8.ensures
 
 pub returns-clause-local : goal.returns-clause-local
 returns-clause-local c = λ local.
@@ -23,4 +26,6 @@ returns-clause-local c = λ local.
     let made4 = c.in_ok-arg-4.ensures.globals ∙ or_from _ _ made3 c.make_option-4.ensures.local in
     let made5 = c.in_ok-arg-5.ensures.globals ∙ or_from _ _ made4 c.make_option-5.ensures.local in
     let made6 = c.in_ok-arg-6.ensures.globals ∙ or_from _ _ made5 c.make_option-6.ensures.local in
-    IfOk-weaker c.arg-7.result _ _ (λ made adds. adds.globals ∙ or_from _ _ made6 c.make_option-7.ensures.local) c.arg-7.ensures
+    let made7 = c.in_ok-arg-7.ensures.globals ∙ or_from _ _ made6 c.make_option-7.ensures.local in
+    IfOk-weaker c.arg-8.result _ _
+    (λ made adds. adds.globals ∙ or_from _ _ made7 c.make_option-8.ensures.local) c.arg-8.ensures

@@ -23,4 +23,6 @@ returns c =
     let top4 = ap app_of_fields c.disable_version_flag.ensures ∙ ap (on_top (λ (s : Shape). record s { disable_version_flag = true })) top3 in
     let top = ap app_of_fields c.subcommand_required.ensures ∙ ap (on_top (λ (s : Shape). record s { subcommand_required = true })) top4 in
     let one = c.in_ok-subcommand.ensures.shape run_local ∙ ap₂ with_subcommand top (ap (λ (a : App). a.top) run) in
-    IfOk-weaker c.subcommand-2.result _ _ (λ made adds. adds.shape soak_local ∙ ap₂ with_subcommand one (ap (λ (a : App). a.top) soak)) c.subcommand-2.ensures
+    IfOk-weaker c.subcommand-2.result _ _
+    (λ made adds. adds.shape soak_local ∙ ap₂ with_subcommand one (ap (λ (a : App). a.top) soak))
+    c.subcommand-2.ensures

@@ -6,5 +6,6 @@ use Rattle.clr_words.proofs.settings.number.Goals as goal
 
 pub returns : goal.returns
 returns c = c.ok.ensures.value
-    ∙ (number_read c.as_bytes.result.now c.read_dec.result c.read_dec.ensures.value c.read_dec.ensures.bound c.read_dec.ensures.not_number c.read_dec.ensures.too_large
+    ∙ (number_read c.as_bytes.result.now c.read_dec.result c.read_dec.ensures.value c.read_dec.ensures.bound
+    c.read_dec.ensures.not_number c.read_dec.ensures.too_large
     ∙ ap number_in c.as_bytes.ensures.value)

@@ -6,7 +6,10 @@ use Rattle.clr_words.specs.Reading.{number_or}
 use Rattle.clr_words.proofs.settings.option.Goals as goal
 
 pub returns-in-Some : goal.returns-in-Some
-returns-in-Some c = c.number.ensures ∙ ap (number_or c.args.default) (c.in-Some.ensures ∙ first_value-rows (found_of c.args.found.now) c.args.name.now)
+returns-in-Some c =
+    c.number.ensures
+    ∙ ap (number_or c.args.default) (c.in-Some.ensures ∙ first_value-rows (found_of c.args.found.now) c.args.name.now)
 
 pub returns-in-None : goal.returns-in-None
-returns-in-None c = ap (number_or c.args.default) (c.in-None.ensures ∙ first_value-rows (found_of c.args.found.now) c.args.name.now)
+returns-in-None c =
+    ap (number_or c.args.default) (c.in-None.ensures ∙ first_value-rows (found_of c.args.found.now) c.args.name.now)

@@ -7,7 +7,12 @@ use Rattle.clr_words.specs.Reading.{number_in}
 use Rattle.clr_words.proofs.settings.place.Goals as goal
 
 pub returns-in_err-get_str : goal.returns-in_err-get_str
-returns-in_err-get_str c = c.from_residual.ensures ∙ ap (option_and_then number_in) (c.in_err-get_str.ensures ∙ first_value-rows (found_of c.args.found.now) c.args.name.now)
+returns-in_err-get_str c =
+    c.from_residual.ensures
+    ∙ ap (option_and_then number_in)
+    (c.in_err-get_str.ensures ∙ first_value-rows (found_of c.args.found.now) c.args.name.now)
 
 pub returns : goal.returns
-returns c = c.number.ensures ∙ ap (option_and_then number_in) (c.in_ok-get_str.ensures ∙ first_value-rows (found_of c.args.found.now) c.args.name.now)
+returns c = c.number.ensures
+    ∙ ap (option_and_then number_in)
+    (c.in_ok-get_str.ensures ∙ first_value-rows (found_of c.args.found.now) c.args.name.now)

@@ -23,11 +23,13 @@ loop-found-preserved c =
     let none = not-found c.loop-found.found c.loop-found-test.ensures in
     record {
       inside = record { walkable = inside.walkable; all = inside.all; some = omega (arith, low) };
-      gives = first-given c.next-found-in-loop-found.result c.walk-self-inside.result c.next-found-in-loop-found.new.self
+      gives = first-given c.next-found-in-loop-found.result c.walk-self-inside.result
+          c.next-found-in-loop-found.new.self
           rest c.next-found-in-loop-found.ensures.steps
           ∙ ap (λ (items : List Item). items ++ rest) c.walk-self-inside.ensures.items
           ∙ next-ahead c.loop-found.self-inside.types.now c.loop-found.self-inside.heap.now
-          c.loop-found.self-inside.walk _ c.loop-found.found c.loop-found.self-inside.next c.loop-found.self-inside.count
+          c.loop-found.self-inside.walk _ c.loop-found.found c.loop-found.self-inside.next
+          c.loop-found.self-inside.count
           none (c.loop-found.invariant.none none) low c.loop-found.invariant.gives;
       none = none-left c.next-found-in-loop-found.result c.walk-self-inside.result c.next-found-in-loop-found.new.self
           c.next-found-in-loop-found.ensures.steps;

@@ -40,7 +40,8 @@ loop-h-preserved c =
                 ∙ ap (λ (r : Row). is_dependent r.kind) (sym is) ∙ dependent)
           ]))
       | in_default w ↦ subst P (ap (λ v. v.items) (sym w.ties-is))
-          (list-skip hs n ties c.loop-h.invariant (λ row e dependent some. w.in_default.not-Some row (c.get.ensures.value ∙ e)))
+          (list-skip hs n ties c.loop-h.invariant
+          (λ row e dependent some. w.in_default.not-Some row (c.get.ensures.value ∙ e)))
     ]
 
 pub returns : goal.returns

@@ -44,6 +44,7 @@ word_at-requires-clause-segment c =
 pub returns : goal.returns
 returns c =
     let rows = c.args.scan.now.types.now in
+    let large = c.args.scan.now.limits.large in
     let h = c.args.scan.now.heap.now in
     let k = c.args.scan.now.k in
     let p = c.args.place in
@@ -55,16 +56,16 @@ returns c =
     let small : last_of h k < 2 ^ 64 = omega arith in
     let end : c.args.scan.now.limits.end ≡ last_of h k = ap (λ (l : Limits). l.end) c.requires.limits in
     let said : c.is_inside.result ≡ true = grind (arith, c.if-not-is_inside.false) in
-    let inside : is_inside (rules_of rows h k) p 24 ≡ true =
-    inside_is rows h k p c.args.next c.requires.next small 24
+    let inside : is_inside (rules_of rows large h k) p 24 ≡ true =
+    inside_is rows large h k p c.args.next c.requires.next small 24
     ∙ ap (λ (e : ℕ). nat_le (p + 24) e && nat_le (p + 24) c.args.next) (sym end) ∙ sym c.is_inside.ensures ∙ said in
     let told : c.is_header.result ≡ true = grind (arith, c.if-not-is_header.false) in
     let lawful_header : is_header header ≡ true =
     ap is_header (sym c.word_at-header.ensures) ∙ sym c.is_header.ensures ∙ told in
     c.typed_item.ensures
-    ∙ ap (λ (n : ℕ). typed_item (rules_of rows h k) (words_in h) p n
+    ∙ ap (λ (n : ℕ). typed_item (rules_of rows large h k) (words_in h) p n
     (option_map (λ (t : TypeId). t.0) c.by_mt-found.result)) c.word_at-header.ensures
-    ∙ ap (typed_item (rules_of rows h k) (words_in h) p header)
+    ∙ ap (typed_item (rules_of rows large h k) (words_in h) p header)
     (sym (type_is rows c.word_at.result c.by_mt-found.result c.by_mt-found.ensures)
     ∙ ap (type_of_word rows) c.word_at.ensures)
-    ∙ sym (item_from rows h k p inside lawful_header)
+    ∙ sym (item_from rows large h k p inside lawful_header)

@@ -43,14 +43,16 @@ word_at-requires-clause-segment c =
 
 pub returns-then-type_id-eq0 : goal.returns-then-type_id-eq0
 returns-then-type_id-eq0 c =
-    let rules = rules_of c.args.scan.now.types.now c.args.scan.now.heap.now c.args.scan.now.k in
+    let rules = rules_of c.args.scan.now.types.now c.args.scan.now.limits.large c.args.scan.now.heap.now
+    c.args.scan.now.k in
     let t = c.args.type_id.0 in
     let from = padding_free rules c.args.place t c.args.len refl c.if-type_id-eq0.true in
     sym (no_padding rules (word_of c.args.scan.now.heap.now) c.args.place t c.args.len (omega (arith, from)))
 
 pub returns-then-padding-eq0 : goal.returns-then-padding-eq0
 returns-then-padding-eq0 c =
-    let rules = rules_of c.args.scan.now.types.now c.args.scan.now.heap.now c.args.scan.now.k in
+    let rules = rules_of c.args.scan.now.types.now c.args.scan.now.limits.large c.args.scan.now.heap.now
+    c.args.scan.now.k in
     let t = c.args.type_id.0 in
     let object : (t == 0) ≡ false = grind (arith, c.if-type_id-eq0.false) in
     let from = padding_object rules c.args.place t c.args.len object in
@@ -61,7 +63,8 @@ returns-then-padding-eq0 c =
 
 pub returns : goal.returns
 returns c =
-    let rules = rules_of c.args.scan.now.types.now c.args.scan.now.heap.now c.args.scan.now.k in
+    let rules = rules_of c.args.scan.now.types.now c.args.scan.now.limits.large c.args.scan.now.heap.now
+    c.args.scan.now.k in
     let t = c.args.type_id.0 in
     let h = c.args.scan.now.heap.now in
     let object : (t == 0) ≡ false = grind (arith, c.if-type_id-eq0.false) in

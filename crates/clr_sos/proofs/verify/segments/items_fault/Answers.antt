@@ -21,8 +21,8 @@ loop-place-init c =
     c.first_place-place.ensures ∙ ap first_place c.info.ensures.value in
     let z : first_of h k % 8 ≡ 0 = omega arith in
     let next : ℕ = c.first_hole-next.result in
-    subst (λ (p : ℕ). IsScanning c.args.scan.now.types.now h k p next) (sym at)
-    (scan_starts c.args.scan.now.types.now h k next z low
+    subst (λ (p : ℕ). IsScanning c.args.scan.now.types.now c.args.scan.now.limits.large h k p next) (sym at)
+    (scan_starts c.args.scan.now.types.now c.args.scan.now.limits.large h k next z low
     (subst (λ (p : ℕ). IsNext (holes_of h k) p next) at c.first_hole-next.ensures))
 
 pub first_hole-next-requires-in-Some-clause-small : goal.first_hole-next-requires-in-Some-clause-small
@@ -58,16 +58,18 @@ loop-place-preserved-in-Some c =
     sym c.hole_at.ensures ∙ c.in-Some.is in
     let room = hole_inside h k c.loop-place.place c.in-Some.high c.requires.rests c.requires.in_range hole in
     let test = c.loop-place-test.true in
-    scan_hole c.args.scan.now.types.now h k c.loop-place.place c.loop-place.next c.loop-place.invariant
-    (omega arith) c.in-Some.high c.first_hole-next-in-Some.result room hole c.first_hole-next-in-Some.ensures
+    scan_hole c.args.scan.now.types.now c.args.scan.now.limits.large h k c.loop-place.place c.loop-place.next
+    c.loop-place.invariant (omega arith) c.in-Some.high c.first_hole-next-in-Some.result room hole
+    c.first_hole-next-in-Some.ensures
 
 pub overflow_add-place : goal.overflow_add-place
 overflow_add-place c =
     let h = c.args.scan.now.heap.now in
     let k = c.args.scan.now.k in
+    let rules = rules_of c.args.scan.now.types.now c.args.scan.now.limits.large h k in
     let room =
-    roomy (rules_of c.args.scan.now.types.now h k) (word_of h) c.loop-place.place c.in-Ok.item
-    (item_ok (rules_of c.args.scan.now.types.now h k) (word_of h) c.loop-place.place c.in-Ok.item
+    roomy rules (word_of h) c.loop-place.place c.in-Ok.item
+    (item_ok rules (word_of h) c.loop-place.place c.in-Ok.item
     (sym c.checked_item.ensures ∙ c.in-Ok.is)) in
     let below = room.below in
     let lawful = c.info.ensures.lawful in
@@ -83,9 +85,10 @@ loop-place-smaller c =
     let h = c.args.scan.now.heap.now in
     let k = c.args.scan.now.k in
     let end : c.args.scan.now.limits.end ≡ last_of h k = ap (λ (l : Limits). l.end) c.requires.limits in
+    let rules = rules_of c.args.scan.now.types.now c.args.scan.now.limits.large h k in
     let room =
-    roomy (rules_of c.args.scan.now.types.now h k) (word_of h) c.loop-place.place c.in-Ok.item
-    (item_ok (rules_of c.args.scan.now.types.now h k) (word_of h) c.loop-place.place c.in-Ok.item
+    roomy rules (word_of h) c.loop-place.place c.in-Ok.item
+    (item_ok rules (word_of h) c.loop-place.place c.in-Ok.item
     (sym c.checked_item.ensures ∙ c.in-Ok.is)) in
     let least = room.least in
     let test = c.loop-place-test.true in
@@ -101,8 +104,9 @@ loop-place-preserved c =
     let top = c.info.ensures.below_top in
     let fits = c.info.ensures.fits in
     let test = c.loop-place-test.true in
-    scan_item c.args.scan.now.types.now h k c.loop-place.place c.loop-place.next c.loop-place.invariant
-    (omega arith) c.in-Ok.item (sym c.hole_at.ensures ∙ c.in-None.is) (sym c.checked_item.ensures ∙ c.in-Ok.is)
+    scan_item c.args.scan.now.types.now c.args.scan.now.limits.large h k c.loop-place.place c.loop-place.next
+    c.loop-place.invariant (omega arith) c.in-Ok.item (sym c.hole_at.ensures ∙ c.in-None.is)
+    (sym c.checked_item.ensures ∙ c.in-Ok.is)
     (omega arith)
 
 pub returns-in-Err : goal.returns-in-Err
@@ -111,8 +115,9 @@ returns-in-Err c =
     let k = c.args.scan.now.k in
     let end : c.args.scan.now.limits.end ≡ last_of h k = ap (λ (l : Limits). l.end) c.requires.limits in
     let test = c.loop-place-test.true in
-    sym (scan_fault c.args.scan.now.types.now h k c.loop-place.place c.loop-place.next c.loop-place.invariant
-    (omega arith) c.in-Err.a (sym c.hole_at.ensures ∙ c.in-None.is) (sym c.checked_item.ensures ∙ c.in-Err.is))
+    sym (scan_fault c.args.scan.now.types.now c.args.scan.now.limits.large h k c.loop-place.place c.loop-place.next
+    c.loop-place.invariant (omega arith) c.in-Err.a (sym c.hole_at.ensures ∙ c.in-None.is)
+    (sym c.checked_item.ensures ∙ c.in-Err.is))
 
 pub returns : goal.returns
 returns c =
@@ -120,5 +125,5 @@ returns c =
     let k = c.args.scan.now.k in
     let end : c.args.scan.now.limits.end ≡ last_of h k = ap (λ (l : Limits). l.end) c.requires.limits in
     let test = c.loop-place-test.false in
-    sym (scan_ends c.args.scan.now.types.now h k c.loop-place.place c.loop-place.next c.loop-place.invariant
-    (omega arith))
+    sym (scan_ends c.args.scan.now.types.now c.args.scan.now.limits.large h k c.loop-place.place c.loop-place.next
+    c.loop-place.invariant (omega arith))

@@ -10,7 +10,8 @@ pub returns-in_err-limit-clause-none : goal.returns-in_err-limit-clause-none
 returns-in_err-limit-clause-none c = λ none options read. never _ options.limit c.in_err-limit.ensures read.limit
 
 pub returns-in_err-segment-clause-none : goal.returns-in_err-segment-clause-none
-returns-in_err-segment-clause-none c = λ none options read. never _ options.segment c.in_err-segment.ensures read.segment
+returns-in_err-segment-clause-none c =
+    λ none options read. never _ options.segment c.in_err-segment.ensures read.segment
 
 pub returns-in_err-b0-clause-none : goal.returns-in_err-b0-clause-none
 returns-in_err-b0-clause-none c = λ none options read. never _ options.b0 c.in_err-b0.ensures read.b0
@@ -25,7 +26,11 @@ pub returns-in_err-bl-clause-none : goal.returns-in_err-bl-clause-none
 returns-in_err-bl-clause-none c = λ none options read. never _ options.bl c.in_err-bl.ensures read.bl
 
 pub returns-in_err-compact-clause-none : goal.returns-in_err-compact-clause-none
-returns-in_err-compact-clause-none c = λ none options read. never _ options.compact c.in_err-compact.ensures read.compact
+returns-in_err-compact-clause-none c =
+    λ none options read. never _ options.compact c.in_err-compact.ensures read.compact
+
+pub returns-in_err-large-clause-none : goal.returns-in_err-large-clause-none
+returns-in_err-large-clause-none c = λ none options read. never _ options.large c.in_err-large.ensures read.large
 
 pub returns-clause-said : goal.returns-clause-said
 returns-clause-said c = record {
@@ -36,7 +41,7 @@ returns-clause-said c = record {
   b2 = sym c.in_ok-b2.ensures;
   bl = sym c.in_ok-bl.ensures;
   compact = sym c.in_ok-compact.ensures;
-  large = refl;
+  large = sym c.in_ok-large.ensures;
 }
 
 pub returns-clause-none : goal.returns-clause-none

@@ -14,6 +14,7 @@ returns c =
     record {
       said = said;
       run = λ options says. IfOk-weaker c.read.result _ _ (run_answered words options says) said;
-      soak = λ options seed count says. IfOk-weaker c.read.result _ _ (soak_answered words options seed count says) said;
+      soak = λ options seed count says. IfOk-weaker c.read.result _ _
+          (soak_answered words options seed count says) said;
       nothing = λ nothing. IfOk-weaker c.read.result _ _ (nothing_answered words nothing) said;
     }

@@ -1,0 +1,163 @@
+-- The objects that a search has found, counted entry by entry.
+use Rattle.std.proofs.Common.{◌≡◌, ◌≢◌, ◌↔◌, ℕ, zero, suc, ◌+◌, ◌<◌, ◌≤◌, Bool, true, false, ◌||◌, List, [], ◌∷◌}
+use Rattle.std.proofs.Common.{length, take}
+use Rattle.std.proofs.Common.{filter, sum_by, count_by, nat_eq, Some, refl, sym, ap, ◌∙◌, subst, arith}
+use Rattle.std.proofs.lemmas.Bool.{ne_eqb}
+use Rattle.std.proofs.lemmas.List.{get_or-take, length-take-le, take_more}
+use Rattle.std.proofs.lemmas.List.Folds.{list_any-append}
+use Rattle.std.proofs.lemmas.List.Sums.{sum_by-cons}
+use Rattle.std.proofs.Math.Seq.{take-length}
+use Rattle.clr_types.specs.Types.{TypeRow}
+use Rattle.clr_types.specs.declared.item.Item.{Item}
+use Rattle.clr_types.proofs.ChangedLists.{into_filter, IsIn-map}
+use Rattle.clr_types.proofs.ListSums.{counted, sum-filter_below, sum-filtered}
+use Rattle.clr_heap.specs.Parts.{item_at}
+use Rattle.clr_heap.specs.View.{heap_items, HeapView, IsHeap, item_with_place, only_object, word_of}
+use Rattle.clr_model.specs.Lookups.{object_size}
+use Rattle.clr_model.specs.Machine.{Machine, Object}
+use Rattle.clr_model.proofs.CollectedObjects.{found_by}
+use Rattle.clr_model.specs.Reach.{Reach, SlotNames}
+use Rattle.clr_view.specs.SlotValues.{IsObjectAt, StandsAt}
+use Rattle.clr_view.specs.View.{IsHeld, is_object, object_in, objects_in}
+use Rattle.clr_view.proofs.HeldBytes.{objects_bytes_bounded}
+use Rattle.clr_view.proofs.Listed.{listed-sized}
+use Rattle.clr_view.proofs.Listings.{heap-rise}
+use Rattle.clr_view.proofs.ObjectItems.{stands-item}
+use Rattle.clr_view.proofs.Rises.{objects-rise}
+use Rattle.clr_sos.specs.Reaching.{entry_of, is_listed, no_entry, place_at}
+use Rattle.clr_sos.specs.SlotReaching.{AreReachedBySlots}
+use Rattle.clr_sos.specs.Views.{IsViewOf}
+use Rattle.clr_sos.specs.declared.reach.Entry.{Entry}
+use Rattle.clr_sos.specs.declared.view.View.{View}
+use Rattle.clr_sos.proofs.ObjectsByPlace.{object-with_place}
+use Rattle.clr_sos.proofs.ReachedAll.{listed-told, unlisted}
+use Rattle.clr_objsize.specs.Sizes.{HasCounted, IsSizeOf}
+use Rattle.clr_objsize.specs.declared.sizes.Total.{Total}
+use Rattle.clr_objsize.proofs.OneMore.{or_false, sum-one_more}
+
+-- where nothing passes the sum is 0
+sum-none : {X : Type 0} (weight : X → ℕ) (xs : List X) → sum_by (counted (λ (x : X). false) weight) xs ≡ 0
+sum-none weight [] = refl
+sum-none weight (x ∷ xs) =
+    let one = sum_by-cons (counted (λ y. false) weight) x xs in
+    let rest = sum-none weight xs in
+    omega (arith, one, rest)
+
+-- whether one of the first n entries has the place
+abbrev pub is_among : List Entry → ℕ → ℕ → Bool
+is_among es n x = is_listed (take n es) x
+
+-- what the objects count that are among the first n entries
+abbrev pub sum_among : View → List Entry → ℕ → (Object → ℕ) → ℕ
+sum_among v es n weight =
+    sum_by (counted (λ (o : Object). is_among es n o.name) weight) (objects_in v.types.now v.heap.now)
+
+-- at first that is nothing
+pub none-among : (v : View) (es : List Entry) (weight : Object → ℕ) → 0 ≡ sum_among v es 0 weight
+none-among v es weight = sym (sum-none weight (objects_in v.types.now v.heap.now))
+
+module _ (es : List Entry) where
+  -- an entry more
+  among-more : (n : ℕ) → n < length es → (x : ℕ) → is_among es (n + 1) x ≡ (is_among es n x || nat_eq (place_at es n) x)
+  among-more n l x =
+      let test : Entry → Bool = λ e. nat_eq e.place x in
+      ap (λ (xs : List Entry). is_listed xs x) (take_more es n no_entry l)
+      ∙ list_any-append test (take n es) (entry_of es n ∷ [])
+      ∙ ap (λ (b : Bool). is_among es n x || b) (or_false (nat_eq (place_at es n) x))
+
+  -- its place is none of the places before
+  among-fresh : (n : ℕ) → n < length es → ((i j : ℕ) → i < j → j < length es → place_at es i ≢ place_at es j)
+      → is_among es n (place_at es n) ≡ false
+  among-fresh n l distinct = unlisted (take n es) (place_at es n) (λ j k.
+      let count = length-take-le n es (omega (arith, l)) in
+      let low : j < n = omega (arith, k, count) in
+      ap (λ (e : Entry). nat_eq e.place (place_at es n)) (get_or-take n es j no_entry low)
+      ∙ ne_eqb (place_at es j) (place_at es n) (distinct j n low l))
+
+module _ (v : View) (heap : IsHeap v.heap.now) (held : IsHeld v.types.now v.heap.now) (a : ℕ) (es : List Entry)
+    (r : AreReachedBySlots v a es) where
+  -- the object of an entry counts once
+  among-counted : (n : ℕ) (i : Item) (weight : Object → ℕ) → n < length es
+      → IsObjectAt v.types.now v.heap.now (place_at es n) i
+      → sum_among v es (n + 1) weight ≡ sum_among v es n weight + weight (object_in v.types.now (word_of v.heap.now) i)
+  among-counted n i weight l at =
+      let rows = v.types.now in
+      let h = v.heap.now in
+      sum-one_more (λ (o : Object). o.name) weight (is_among es n) (place_at es n) (is_among es (n + 1))
+      (among-more es n l) (object_in rows (word_of h) i) (objects_in rows h)
+      (objects-rise rows (word_of h) (heap_items rows h) (heap-rise rows h held.walkable heap))
+      (IsIn-map (object_in rows (word_of h)) (into_filter is_object (heap_items rows h) at.object at.listed))
+      at.at (among-fresh es n l r.distinct)
+
+  -- so do its bytes
+  pub bytes-more : (n : ℕ) (i : Item) → n < length es → IsObjectAt v.types.now v.heap.now (place_at es n) i
+      → sum_among v es (n + 1) (object_size v.types.now) ≡ sum_among v es n (object_size v.types.now) + i.size
+  bytes-more n i l at =
+      let more = among-counted n i (object_size v.types.now) l at in
+      let size = listed-sized v.types.now v.heap.now i heap held at.listed in
+      omega (arith, more, size)
+
+  -- they are few
+  pub bytes-few : (n : ℕ) → sum_among v es n (object_size v.types.now) ≤ 1073741824
+  bytes-few n =
+      let os = objects_in v.types.now v.heap.now in
+      let test : Object → Bool = λ o. is_among es n o.name in
+      let same = sum-filtered test (object_size v.types.now) os in
+      let below = sum-filter_below test (object_size v.types.now) os in
+      let most = objects_bytes_bounded v.types.now v.heap.now heap held in
+      let within = heap.within_limit in
+      let small = heap.limit_small in
+      omega (arith, same, below, most, within, small)
+
+  -- as many objects were counted as there are entries
+  counts : (n : ℕ) → n ≤ length es → sum_among v es n (λ (o : Object). 1) ≡ n
+  counts zero l = sum-none (λ (o : Object). 1) (objects_in v.types.now v.heap.now)
+  counts (suc n) l =
+      let more : n + 1 ≡ suc n = omega arith in
+      let below : n < length es = omega (arith, l) in
+      let stands = r.stand n below in
+      let at = stands-item v.types.now v.heap.now heap held (place_at es n) stands in
+      subst (λ (k : ℕ). sum_among v es k (λ (o : Object). 1) ≡ k) more
+      (among-counted n (item_at v.types.now (word_of v.heap.now) (place_at es n)) (λ (o : Object). 1) below at
+      ∙ ap (λ (k : ℕ). k + 1) (counts n (omega (arith, l))))
+
+  -- ALL ENTRIES, as objects of the heap
+  sums-all : (weight : Object → ℕ) → sum_among v es (length es) weight
+      ≡ sum_by (counted (λ (o : Object). is_listed es o.name) weight) (objects_in v.types.now v.heap.now)
+  sums-all weight =
+      ap (λ (xs : List Entry). sum_by (counted (λ (o : Object). is_listed xs o.name) weight)
+      (objects_in v.types.now v.heap.now)) (take-length es)
+
+  pub all-counted : (n bytes : ℕ) → n ≡ length es → bytes ≡ sum_among v es n (object_size v.types.now)
+      → HasCounted v es (record { objects = length es; bytes = bytes })
+  all-counted n bytes all sum = record {
+    objects = sym (counts (length es) (omega arith)) ∙ sums-all (λ (o : Object). 1);
+    bytes = sum ∙ ap (λ (k : ℕ). sum_among v es k (object_size v.types.now)) all ∙ sums-all (object_size v.types.now)
+        ∙ sym (sum-filtered (λ (o : Object). is_listed es o.name) (object_size v.types.now)
+        (objects_in v.types.now v.heap.now));
+  }
+
+-- THE SIZE OF AN OBJECT in a machine that is shown
+pub size-told : (v : View) (a : ℕ) (es : List Entry) (total : Total) → AreReachedBySlots v a es
+    → HasCounted v es total → (m : Machine) → IsViewOf v m → IsSizeOf m a total
+size-told v a es total r c m is = (
+  is_listed es,
+  λ x. subst (λ (os : List Object). (is_listed es x ≡ true) ↔ Reach (SlotNames os) (λ y. y ≡ a) x) (sym is.objects) (
+    λ e. (r.exact x).0 ((listed-told es x).0 e),
+    λ q. (listed-told es x).1 ((r.exact x).1 q),
+  ),
+  c.objects ∙ ap (count_by (λ (o : Object). is_listed es o.name)) (sym is.objects),
+  c.bytes
+      ∙ ap (λ (rows : List TypeRow). sum_by (object_size rows)
+      (filter (λ (o : Object). is_listed es o.name) (objects_in v.types.now v.heap.now))) (sym is.types)
+      ∙ ap (λ (os : List Object). sum_by (object_size m.types) (filter (λ (o : Object). is_listed es o.name) os))
+      (sym is.objects),
+)
+
+-- an item that a look-up by its place finds is an object that stands there
+pub stands-there : (rows : List TypeRow) (h : HeapView) → IsHeap h → IsHeld rows h → (a : ℕ) (i : Item)
+    → Some i ≡ only_object (item_with_place (heap_items rows h) a) → StandsAt rows h a
+stands-there rows h heap held a i some =
+    let is = object-with_place rows h heap held a i some in
+    let (o, at) = found_by (λ (o : Object). o.place) a (objects_in rows h) (object_in rows (word_of h) i) is.told in
+    (object_in rows (word_of h) i, o, at)

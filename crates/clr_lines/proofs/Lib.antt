@@ -1,3 +1,4 @@
+pub mod Built
 pub mod LineSteps
 pub mod FrontSteps
 pub mod TopGrows

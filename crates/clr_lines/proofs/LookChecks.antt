@@ -6,7 +6,7 @@ use Rattle.clr_types.specs.Rising.{IsIn, first, later, find_by, Tests}
 use Rattle.clr_types.specs.Segments.{Layout, generation, stands_in}
 use Rattle.clr_types.specs.declared.segment.SegInfo.{SegInfo}
 use Rattle.clr_types.specs.declared.segment.SegKind.{SegKind}
-use Rattle.clr_types.specs.declared.segment.SegKind.TheVariants.{Small, Ephemeral, Large}
+use Rattle.clr_types.specs.declared.segment.SegKind.TheVariants.{Small, Ephemeral, Large, Pinned}
 use Rattle.clr_types.proofs.ChangedLists.{IsIn-map}
 use Rattle.clr_types.proofs.ListMembers.{from-map}
 use Rattle.clr_types.proofs.SortedLists.{into_sorted_by, out_of_sorted_by}
@@ -127,25 +127,26 @@ module _ (i : Instruction) (a : ℕ) (line : IsPlaceLine i a) (old : Machine) wh
 -- ---- where an object stands
 
 -- the number of a segment's kind is one
-pub where_kind : (m : Machine) (a : ℕ) → (where_of m a).kind ≤ 2
+pub where_kind : (m : Machine) (a : ℕ) → (where_of m a).kind ≤ 3
 where_kind m a = go m.layout m.layout.segments a _
   where
-    number : (kind : SegKind) → kind_number kind ≤ 2
+    number : (kind : SegKind) → kind_number kind ≤ 3
     number Small = omega arith
     number Ephemeral = omega arith
     number Large = omega arith
+    number Pinned = omega arith
 
-    go : (layout : Layout) (ss : List SegInfo) (place size : ℕ) → (where_of_segments layout ss place size).kind ≤ 2
+    go : (layout : Layout) (ss : List SegInfo) (place size : ℕ) → (where_of_segments layout ss place size).kind ≤ 3
     go layout [] place size = omega arith
     go layout (s ∷ ss) place size = pick (stands_in s place) (go layout ss place size)
       where
-        pick : (b : Bool) → (where_of_segments layout ss place size).kind ≤ 2 →
+        pick : (b : Bool) → (where_of_segments layout ss place size).kind ≤ 3 →
             (if b then record {
               generation = generation layout place;
               kind = kind_number s.kind;
               base = s.base;
               size = size;
-            } else where_of_segments layout ss place size).kind ≤ 2
+            } else where_of_segments layout ss place size).kind ≤ 3
         pick true h = number s.kind
         pick false h = h
 

@@ -27,7 +27,8 @@ use Rattle.clr_sos.specs.declared.fault.SosFault.TheVariants as fault
 use Rattle.clr_sos.specs.RootTexts.{TellsRoot}
 use Rattle.clr_sos.specs.Wants.{is_unknown}
 use Rattle.clr_lines.specs.Outcomes.{found_outcome, text_outcome, where_outcome}
-use Rattle.clr_lines.proofs.LookChecks.{absent_follows, IsPlaceLine, object_line, present_follows, root_line, tests_life}
+use Rattle.clr_lines.proofs.LookChecks.{absent_follows, IsPlaceLine, object_line, present_follows, root_line}
+use Rattle.clr_lines.proofs.LookChecks.{tests_life}
 use Rattle.clr_lines.proofs.LookChecks.{where_kind, where_line}
 
 -- A command promises of each machine that is seen so what it shows of it. The machine that is seen is one of these.
@@ -138,10 +139,10 @@ module _ (Sees : Machine → Type 0) (old : Machine) (sees : Sees old) where
   -- its segment has a kind
   pub found_kind : (a : ℕ) (told : Option Where)
       → IfSome told (λ found. (m : Machine) → Sees m → found ≡ where_of m a)
-      → IfSome told (λ found. found.kind ≤ 2)
+      → IfSome told (λ found. found.kind ≤ 3)
   found_kind a None is = is
   found_kind a (Some found) is =
-      subst (λ (w : Where). w.kind ≤ 2) (sym (is old sees)) (where_kind old a)
+      subst (λ (w : Where). w.kind ≤ 3) (sym (is old sees)) (where_kind old a)
 
   -- ---- the listing
 
@@ -160,7 +161,7 @@ module _ (Sees : Machine → Type 0) (old : Machine) (sees : Sees old) where
       -- the checks behind that of the types
       none_else : List (Option Refusal)
       none_else =
-          None ∷ None ∷ None ∷ None ∷ None ∷ None ∷ None ∷ None ∷ None ∷ None ∷ None ∷ None ∷ None ∷ []
+          None ∷ None ∷ None ∷ None ∷ None ∷ None ∷ None ∷ None ∷ None ∷ None ∷ None ∷ None ∷ None ∷ None ∷ []
 
       only : (r : Option Refusal) → first_of_all (r ∷ none_else) ≡ r
       only None = refl

@@ -28,7 +28,6 @@ pub record IsTakenFrom (v : View) (m : Machine) : Type 0 where
   pub unmarked : IsUnmarked m.types v.heap.now
   pub free_heads : AreFreeHeads m.types v.heap.now
   pub clean : AreClean m.types v.heap.now
-  pub large : m.options.large ≡ 85000
   pub sound : IsPlaceNamed m
   pub bricks : AreBricksOf m.layout v.bricks.now
   pub brick_law : BrickLaw m.types m.layout m.objects (entry_at v.bricks.now)
@@ -37,6 +36,7 @@ pub record IsTakenFrom (v : View) (m : Machine) : Type 0 where
   pub entries : v.finals.now.entries ≡ m.entries
   pub ready : v.finals.now.ready ≡ m.ready
   pub limit : v.limit ≡ m.options.limit
+  pub large : v.large ≡ m.options.large
 
 -- free items play no part in the law of bricks
 law-framed : (rows : List TypeRow) (h : HeapView) (covers : List (CoverView ℤ))
@@ -79,7 +79,8 @@ module _ (v : View) (m : Machine) (is : IsTakenFrom v m) where
       subst (λ (os : List Object). BrickLaw v.types.now (layout_in v.types.now v.heap.now) os (entry_at v.bricks.now))
       objects-are
       (subst (λ (l : Layout). BrickLaw v.types.now l m.objects (entry_at v.bricks.now)) layout-is
-      (subst (λ (rows : List TypeRow). BrickLaw rows m.layout m.objects (entry_at v.bricks.now)) types-are is.brick_law))
+      (subst (λ (rows : List TypeRow). BrickLaw rows m.layout m.objects (entry_at v.bricks.now)) types-are
+      is.brick_law))
 
   pub taken_lawful : IsLawfulView v
   taken_lawful = record {

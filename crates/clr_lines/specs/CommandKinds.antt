@@ -6,6 +6,8 @@ use Rattle.clr_model.specs.declared.command.Command.TheVariants.{BeginNew, Begin
 use Rattle.clr_model.specs.declared.command.Command.TheVariants.{Fetch, Finalizer, Free, Handle, Reregister, Second}
 use Rattle.clr_model.specs.declared.command.Command.TheVariants.{DumpHeap, DumpObj, EeHeap, FinalizeQueue, GcHandles}
 use Rattle.clr_model.specs.declared.command.Command.TheVariants.{GcRoot, GcWhere, Suppress, VerifyHeap}
+use Rattle.clr_model.specs.declared.command.Command.TheVariants.{BackgroundBegin, BackgroundEnd, BackgroundStep}
+use Rattle.clr_model.specs.declared.command.Command.TheVariants.{CompactLarge, NewPinned, ObjSize}
 
 -- slots of objects, and locals
 abbrev pub is_on_slots : Command → Bool
@@ -36,6 +38,16 @@ is_on_threads (BeginSet t into index from) = true
 is_on_threads (BeginNew t local name len) = true
 is_on_threads (Step t) = true
 is_on_threads _ = false
+
+-- its lines are read and not obeyed
+abbrev pub is_unbuilt : Command → Bool
+is_unbuilt (CompactLarge t) = true
+is_unbuilt (NewPinned t local name len) = true
+is_unbuilt (BackgroundBegin t) = true
+is_unbuilt (BackgroundStep n) = true
+is_unbuilt (BackgroundEnd t) = true
+is_unbuilt (ObjSize a) = true
+is_unbuilt _ = false
 
 -- it shows the heap, and changes nothing
 abbrev pub is_look : Command → Bool

@@ -1,5 +1,7 @@
 //! What a line of bytes does: it is read, and its command is obeyed.
-ghost use Rattle.std.specs.Prelude.{◌+◌, ◌^◌, ◌≤◌, length};
+ghost use Rattle.std.specs.Prelude.{◌≡◌, ◌+◌, ◌^◌, ◌≤◌, length, true};
+ghost use Rattle.clr_model.specs.Collection as collection;
+ghost use Rattle.clr_lines.specs.CommandKinds.{is_unbuilt};
 ghost use Rattle.clr_lines.specs.Lines.{FollowsLine};
 ghost use Rattle.clr_script.specs.Readings.{IsReadAs};
 ghost use Rattle.clr_lines.specs.Outcomes.{outcome_of, CanShow};
@@ -9,7 +11,7 @@ use crate::looks::obey_look;
 use crate::outcome::{Outcome, told_collected, told_mt, told_place};
 use crate::slots::obey_slot;
 use crate::threads::obey_thread;
-use clr_model::Command;
+use clr_model::{Command, How, Refusal};
 use clr_runtime::Runtime;
 use clr_script::{read_line, read_quick};
 use std::alloc::Global;
@@ -19,10 +21,10 @@ use std::alloc::Global;
 /// addresses more.
 #[inline]
 pub fn execute(runtime: &mut Runtime, alloc: Global, line: &[u8]) -> Outcome
-    requires { runtime.old.layout.top ≤ 2 ^ 61 }
-    ensures follows { FollowsLine runtime.old line.now (outcome_of result) runtime.new }
+    requires { runtime.old.machine.layout.top ≤ 2 ^ 61 }
+    ensures follows { FollowsLine runtime.old.machine line.now (outcome_of result) runtime.new.machine }
     ensures shows { CanShow result }
-    ensures grows { runtime.new.layout.top ≤ runtime.old.layout.top + 2 ^ 30 }
+    ensures grows { runtime.new.machine.layout.top ≤ runtime.old.machine.layout.top + 2 ^ 30 }
 {
     // what is seen is sound: it stands for a lawful machine, and a step of that reserves little
     let _ = runtime.heap();
@@ -35,7 +37,7 @@ pub fn execute(runtime: &mut Runtime, alloc: Global, line: &[u8]) -> Outcome
 // Does what a line says that isn't one of those that scripts are mostly made of.
 #[inline(never)]
 fn execute_rarely(runtime: &mut Runtime, alloc: Global, line: &[u8]) -> Outcome
-    ensures follows { FollowsLine runtime.old line.now (outcome_of result) runtime.new }
+    ensures follows { FollowsLine runtime.old.machine line.now (outcome_of result) runtime.new.machine }
     ensures shows { CanShow result }
 {
     match read_line(line) {
@@ -49,7 +51,7 @@ fn execute_rarely(runtime: &mut Runtime, alloc: Global, line: &[u8]) -> Outcome
 fn obey(runtime: &mut Runtime, alloc: Global, line: &[u8], command: Command<'_>) -> Outcome
     requires short { length line.now ≤ 4096 }
     requires read { IsReadAs line.now command }
-    ensures follows { FollowsLine runtime.old line.now (outcome_of result) runtime.new }
+    ensures follows { FollowsLine runtime.old.machine line.now (outcome_of result) runtime.new.machine }
     ensures shows { CanShow result }
 {
     let _ = line;
@@ -65,7 +67,12 @@ fn obey(runtime: &mut Runtime, alloc: Global, line: &[u8], command: Command<'_>)
             name,
             len,
         } => told_place(runtime.new_object(t, local, name, len)),
-        Command::Collect { t, g, how } => told_collected(runtime.collect(t, g, how)),
+        Command::Collect { t, g, how } => {
+            if is_fit(how) {
+                return Outcome::Refused(Refusal::Syntax);
+            }
+            told_collected(runtime.collect(t, g, how))
+        }
         Command::Get { .. }
         | Command::Set { .. }
         | Command::Put { .. }
@@ -92,5 +99,33 @@ fn obey(runtime: &mut Runtime, alloc: Global, line: &[u8], command: Command<'_>)
         | Command::BeginSet { .. }
         | Command::BeginNew { .. }
         | Command::Step { .. } => obey_thread(runtime, command),
+        Command::CompactLarge { .. }
+        | Command::NewPinned { .. }
+        | Command::BackgroundBegin { .. }
+        | Command::BackgroundStep { .. }
+        | Command::BackgroundEnd { .. }
+        | Command::ObjSize { .. } => refuse_unbuilt(runtime, line, command),
     }
+}
+
+// Whether a collection of this kind fits survivors into older free items.
+fn is_fit(how: How) -> bool
+    ensures { result ≡ collection.is_fit how }
+{
+    match how {
+        How::Fit => true,
+        How::Decide | How::Compact | How::Sweep => false,
+    }
+}
+
+// Refuses a line that is read and not obeyed.
+#[inline(never)]
+fn refuse_unbuilt(_runtime: &Runtime, _line: &[u8], _command: Command<'_>) -> Outcome
+    requires short { length _line.now ≤ 4096 }
+    requires read { IsReadAs _line.now _command }
+    requires unbuilt { is_unbuilt _command ≡ true }
+    ensures follows { FollowsLine _runtime.now.machine _line.now (outcome_of result) _runtime.now.machine }
+    ensures shows { CanShow result }
+{
+    Outcome::Refused(Refusal::Syntax)
 }

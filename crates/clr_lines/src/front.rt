@@ -75,8 +75,8 @@ fn answer_get<'a>(
     into: &mut [u8; 256],
 ) -> Option<(usize, &'a [u8])>
     ensures fits { IfSome result (λ p. p.0 ≤ 256) }
-    ensures done { MatchOption result (runtime.new ≡ runtime.old) (λ p. IsDone runtime.old
-        (thread_word t ++ ((32 ∷ codes "get") ++ text.now)) p.1.now (take p.0 into.new) runtime.new) }
+    ensures done { MatchOption result (runtime.new ≡ runtime.old) (λ p. IsDone runtime.old.machine
+        (thread_word t ++ ((32 ∷ codes "get") ++ text.now)) p.1.now (take p.0 into.new) runtime.new.machine) }
 {
     let (to, from, index, rest) = read_get(text)?;
     let written = tell_place(runtime.get(t, to, from, index), into);
@@ -92,8 +92,8 @@ fn answer_set<'a>(
     into: &mut [u8; 256],
 ) -> Option<(usize, &'a [u8])>
     ensures fits { IfSome result (λ p. p.0 ≤ 256) }
-    ensures done { MatchOption result (runtime.new ≡ runtime.old) (λ p. IsDone runtime.old
-        (thread_word t ++ ((32 ∷ codes "set") ++ text.now)) p.1.now (take p.0 into.new) runtime.new) }
+    ensures done { MatchOption result (runtime.new ≡ runtime.old) (λ p. IsDone runtime.old.machine
+        (thread_word t ++ ((32 ∷ codes "set") ++ text.now)) p.1.now (take p.0 into.new) runtime.new.machine) }
 {
     let (object, index, from, rest) = read_set(text)?;
     let written = tell_done(runtime.set(t, object, index, from), into);
@@ -109,8 +109,8 @@ fn answer_put<'a>(
     into: &mut [u8; 256],
 ) -> Option<(usize, &'a [u8])>
     ensures fits { IfSome result (λ p. p.0 ≤ 256) }
-    ensures done { MatchOption result (runtime.new ≡ runtime.old) (λ p. IsDone runtime.old
-        (thread_word t ++ ((32 ∷ codes "put") ++ text.now)) p.1.now (take p.0 into.new) runtime.new) }
+    ensures done { MatchOption result (runtime.new ≡ runtime.old) (λ p. IsDone runtime.old.machine
+        (thread_word t ++ ((32 ∷ codes "put") ++ text.now)) p.1.now (take p.0 into.new) runtime.new.machine) }
 {
     let (object, index, value, rest) = read_put(text)?;
     let written = tell_done(runtime.put(t, object, index, value), into);
@@ -126,8 +126,8 @@ fn answer_read<'a>(
     into: &mut [u8; 256],
 ) -> Option<(usize, &'a [u8])>
     ensures fits { IfSome result (λ p. p.0 ≤ 256) }
-    ensures done { MatchOption result (runtime.new ≡ runtime.old) (λ p. IsDone runtime.old
-        (thread_word t ++ ((32 ∷ codes "read") ++ text.now)) p.1.now (take p.0 into.new) runtime.new) }
+    ensures done { MatchOption result (runtime.new ≡ runtime.old) (λ p. IsDone runtime.old.machine
+        (thread_word t ++ ((32 ∷ codes "read") ++ text.now)) p.1.now (take p.0 into.new) runtime.new.machine) }
 {
     let (from, index, rest) = read_slot(text)?;
     let written = tell_number(runtime.read(t, from, index), into);
@@ -143,8 +143,8 @@ fn answer_copy<'a>(
     into: &mut [u8; 256],
 ) -> Option<(usize, &'a [u8])>
     ensures fits { IfSome result (λ p. p.0 ≤ 256) }
-    ensures done { MatchOption result (runtime.new ≡ runtime.old) (λ p. IsDone runtime.old
-        (thread_word t ++ ((32 ∷ codes "copy") ++ text.now)) p.1.now (take p.0 into.new) runtime.new) }
+    ensures done { MatchOption result (runtime.new ≡ runtime.old) (λ p. IsDone runtime.old.machine
+        (thread_word t ++ ((32 ∷ codes "copy") ++ text.now)) p.1.now (take p.0 into.new) runtime.new.machine) }
 {
     let (to, from, rest) = read_copy(text)?;
     let written = tell_place(runtime.copy(t, to, from), into);
@@ -160,8 +160,8 @@ fn answer_null<'a>(
     into: &mut [u8; 256],
 ) -> Option<(usize, &'a [u8])>
     ensures fits { IfSome result (λ p. p.0 ≤ 256) }
-    ensures done { MatchOption result (runtime.new ≡ runtime.old) (λ p. IsDone runtime.old
-        (thread_word t ++ ((32 ∷ codes "null") ++ text.now)) p.1.now (take p.0 into.new) runtime.new) }
+    ensures done { MatchOption result (runtime.new ≡ runtime.old) (λ p. IsDone runtime.old.machine
+        (thread_word t ++ ((32 ∷ codes "null") ++ text.now)) p.1.now (take p.0 into.new) runtime.new.machine) }
 {
     let (local, rest) = read_null(text)?;
     let written = tell_done(runtime.clear(t, local), into);
@@ -177,8 +177,8 @@ fn answer_new<'a>(
     into: &mut [u8; 256],
 ) -> Option<(usize, &'a [u8])>
     ensures fits { IfSome result (λ p. p.0 ≤ 256) }
-    ensures done { MatchOption result (runtime.new ≡ runtime.old) (λ p. IsDone runtime.old
-        (thread_word t ++ ((32 ∷ codes "new") ++ text.now)) p.1.now (take p.0 into.new) runtime.new) }
+    ensures done { MatchOption result (runtime.new ≡ runtime.old) (λ p. IsDone runtime.old.machine
+        (thread_word t ++ ((32 ∷ codes "new") ++ text.now)) p.1.now (take p.0 into.new) runtime.new.machine) }
 {
     let (local, name, len, rest) = read_new(text)?;
     let written = tell_place(runtime.new_object(t, local, name, len), into);
@@ -194,8 +194,8 @@ fn answer_verb<'a>(
     into: &mut [u8; 256],
 ) -> Option<(usize, &'a [u8])>
     ensures fits { IfSome result (λ p. p.0 ≤ 256) }
-    ensures done { MatchOption result (runtime.new ≡ runtime.old) (λ p. IsDone runtime.old
-        (thread_word t ++ 32 ∷ text.now) p.1.now (take p.0 into.new) runtime.new) }
+    ensures done { MatchOption result (runtime.new ≡ runtime.old) (λ p. IsDone runtime.old.machine
+        (thread_word t ++ 32 ∷ text.now) p.1.now (take p.0 into.new) runtime.new.machine) }
 {
     match text {
         [b'g', b'e', b't', words @ ..] => answer_get(runtime, t, words, into),
@@ -224,8 +224,8 @@ fn line_window(text: &[u8]) -> &[u8]
 pub fn answer_front(runtime: &mut Runtime, text: &[u8], into: &mut [u8; 256]) -> Option<Answered>
     ensures fits { IfSome result (λ a. a.written ≤ 256) }
     ensures answered { MatchOption result (runtime.new ≡ runtime.old)
-        (λ a. IsAnswered runtime.old text.now a.read (take a.written into.new) runtime.new) }
-    ensures grows { runtime.new.layout.top ≤ runtime.old.layout.top + 2 ^ 30 }
+        (λ a. IsAnswered runtime.old.machine text.now a.read (take a.written into.new) runtime.new.machine) }
+    ensures grows { runtime.new.machine.layout.top ≤ runtime.old.machine.layout.top + 2 ^ 30 }
 {
     // what is seen is sound: it stands for a lawful machine, and a step of that reserves little
     let _ = runtime.heap();

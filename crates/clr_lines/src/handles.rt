@@ -14,7 +14,9 @@ use clr_runtime::Runtime;
 pub fn obey_handle(runtime: &mut Runtime, command: Command<'_>) -> Outcome
     requires handles { is_on_handles command ≡ true }
     requires formed { IsWellFormed (instruction_of command) }
-    ensures follows { Follows runtime.old (instruction_of command.entry) (outcome_of result) runtime.new }
+    ensures follows { Follows runtime.old.machine (instruction_of command.entry)
+        (outcome_of result) runtime.new.machine }
+    ensures handles { is_on_handles command.entry ≡ true }
     ensures shows { CanShow result }
 {
     match command {

@@ -20,7 +20,9 @@ use std::alloc::Global;
 #[inline(never)]
 pub fn obey_look(runtime: &Runtime, alloc: Global, command: Command<'_>) -> Outcome
     requires looks { is_look command ≡ true }
-    ensures follows { Follows runtime.now (instruction_of command.entry) (outcome_of result) runtime.now }
+    ensures follows { Follows runtime.now.machine (instruction_of command.entry)
+        (outcome_of result) runtime.now.machine }
+    ensures looks { is_look command.entry ≡ true }
     ensures shows { CanShow result }
 {
     let view = view_of(runtime);
@@ -38,8 +40,9 @@ pub fn obey_look(runtime: &Runtime, alloc: Global, command: Command<'_>) -> Outc
 }
 
 // Checks the heap, and finds no fault.
+#[inline(never)]
 fn verify(runtime: &Runtime) -> Outcome
-    ensures follows { Follows runtime.now verify_heap (outcome_of result) runtime.now }
+    ensures follows { Follows runtime.now.machine verify_heap (outcome_of result) runtime.now.machine }
     ensures shows { CanShow result }
 {
     clean_states_are_lawful();
@@ -53,9 +56,9 @@ fn verify(runtime: &Runtime) -> Outcome
 
 // What the commands look at.
 fn view_of(runtime: &Runtime) -> View<'_>
-    ensures seen { IsViewOf result runtime.now }
+    ensures seen { IsViewOf result runtime.now.machine }
     ensures lawful { IsLawfulView result }
-    ensures clean { IsCleanState result runtime.now }
+    ensures clean { IsCleanState result runtime.now.machine }
 {
     View {
         types: runtime.types(),
@@ -65,5 +68,6 @@ fn view_of(runtime: &Runtime) -> View<'_>
         finals: runtime.finals(),
         locals: runtime.locals(),
         limit: runtime.limit(),
+        large: runtime.large(),
     }
 }

@@ -107,7 +107,7 @@ pub fn told_text(told: Result<Vec<u8>, NoMemory>) -> Outcome
 
 /// The outcome of a command that tells where an object stands.
 pub fn told_where(told: Option<Where>) -> Outcome
-    requires kind { IfSome told (λ place. place.kind ≤ 2) }
+    requires kind { IfSome told (λ place. place.kind ≤ 3) }
     ensures is { outcome_of result ≡ where_outcome told }
     ensures shows { CanShow result }
 {

@@ -12,7 +12,9 @@ use clr_runtime::Runtime;
 /// Does what such a command says, and tells its outcome. A line that is refused leaves the state as it was.
 pub fn obey_slot(runtime: &mut Runtime, command: Command<'_>) -> Outcome
     requires slots { is_on_slots command ≡ true }
-    ensures follows { Follows runtime.old (instruction_of command.entry) (outcome_of result) runtime.new }
+    ensures follows { Follows runtime.old.machine (instruction_of command.entry)
+        (outcome_of result) runtime.new.machine }
+    ensures slots { is_on_slots command.entry ≡ true }
     ensures shows { CanShow result }
 {
     match command {

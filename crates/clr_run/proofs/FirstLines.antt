@@ -41,7 +41,8 @@ is_first text line rest read cut count =
 
 -- where no line was begun, the first line of a text goes on the script
 pub goes_front : (old : Session) (new : Machine) (left text reply : List ℕ) (read : ℕ) (before after : Option (List ℕ))
-    → length old.line.items ≡ 0 → IsAnswered old.runtime text read reply new → Wrote before after old.pending left reply
+    → length old.line.items ≡ 0 → IsAnswered old.runtime.machine text read reply new
+    → Wrote before after old.pending left reply
     → (0 < read) × (read ≤ length text)
     × ((options : Options) (taken : List ℕ) (outcomes : List Outcome) → IsAt options old taken outcomes
     → (more : List Outcome) × Progress options new old.line.items (taken ++ take read text) (outcomes ++ more)
@@ -54,7 +55,8 @@ goes_front old new left text reply read before after none answered wrote =
       first.within,
       λ options taken outcomes at.
           let goes = goes_line old new old.line.items left answered.line answered.outcome before after answered.unfed
-          (λ begun kept. follows_rest old.runtime new old.line.items answered.line begun answered.outcome none kept
+          (λ begun kept. follows_rest old.runtime.machine new old.line.items answered.line begun answered.outcome none
+          kept
           answered.follows) (none_left old.line.items none) told options taken outcomes at in (
             goes.0,
             subst (λ (l : List ℕ). Progress options new old.line.items (taken ++ l) (outcomes ++ goes.0)) first.taken
@@ -70,14 +72,14 @@ stops_more old next rest text before after e stops =
     stops_on old old [] next rest text before before after e (goes_none old before) stops
 
 pub stops_front : (old : Session) (new : Machine) (text : List ℕ) (before after : Option (List ℕ))
-    → length old.line.items ≡ 0 → StopsFront old.runtime new text before after old.pending
+    → length old.line.items ≡ 0 → StopsFront old.runtime.machine new text before after old.pending
     → Stops old text before after
 stops_front old new text before after none stopped =
     let answered = stopped.answered in
     stops_more old (answered.line ++ 10 ∷ []) answered.rest text before after
     (answered.cut ∙ sym (append_assoc answered.line (10 ∷ []) answered.rest))
     (stops_line old new answered.line answered.outcome before after answered.unfed
-    (λ begun kept. follows_rest old.runtime new old.line.items answered.line begun answered.outcome none kept
+    (λ begun kept. follows_rest old.runtime.machine new old.line.items answered.line begun answered.outcome none kept
     answered.follows) (subst (λ (l : List ℕ). WroteSome before after (old.pending ++ l)) answered.told stopped.wrote))
 
 -- a line that a line feed ends is the first of the text
@@ -95,21 +97,24 @@ stops_feed old text at before after feed stops =
 
 -- a session of the same parts goes on in the same way
 pub goes_same : (one two new : Session) (bytes : List ℕ) (before mid after : Option (List ℕ))
-    → two.runtime ≡ one.runtime → two.line.items ≡ one.line.items → two.pending ≡ one.pending → mid ≡ before
+    → two.runtime.machine ≡ one.runtime.machine → two.line.items ≡ one.line.items → two.pending ≡ one.pending
+    → mid ≡ before
     → Goes two new bytes mid after
     → Goes one new bytes before after
 goes_same one two new bytes before mid after r l p w goes options taken outcomes at =
     let g = goes options taken outcomes (rw (r, l) at) in
     (g.0, g.1, rw (← w, ← p) g.2)
 
-pub stops_same : (one two : Session) (bytes : List ℕ) (before mid after : Option (List ℕ)) → two.runtime ≡ one.runtime
+pub stops_same : (one two : Session) (bytes : List ℕ) (before mid after : Option (List ℕ))
+    → two.runtime.machine ≡ one.runtime.machine
     → two.line.items ≡ one.line.items → two.pending ≡ one.pending → mid ≡ before → Stops two bytes mid after
     → Stops one bytes before after
 stops_same one two bytes before mid after r l p w stops options taken outcomes at =
     rw (← w, ← p) (stops options taken outcomes (rw (r, l) at))
 
 goes_line_same : (one two new : Session) (text : List ℕ) (before mid after : Option (List ℕ))
-    → two.runtime ≡ one.runtime → two.line.items ≡ one.line.items → two.pending ≡ one.pending → mid ≡ before
+    → two.runtime.machine ≡ one.runtime.machine → two.line.items ≡ one.line.items → two.pending ≡ one.pending
+    → mid ≡ before
     → (found : Option ℕ)
     → GoesLine two new text mid after found → GoesLine one new text before after found
 goes_line_same one two new text before mid after r l p w None (unfed, stays, goes) =
@@ -118,7 +123,8 @@ goes_line_same one two new text before mid after r l p w (Some count) (some, wit
     (some, within, goes_same one two new (take count text) before mid after r l p w goes)
 
 pub ok_same : {E : Type 0} (one two new : Session) (text : List ℕ) (before mid after : Option (List ℕ))
-    → two.runtime ≡ one.runtime → two.line.items ≡ one.line.items → two.pending ≡ one.pending → mid ≡ before
+    → two.runtime.machine ≡ one.runtime.machine → two.line.items ≡ one.line.items → two.pending ≡ one.pending
+    → mid ≡ before
     → (found : Result (Option ℕ) E) → IfOk found (GoesLine two new text mid after)
     → IfOk found (GoesLine one new text before after)
 ok_same one two new text before mid after r l p w (Ok found) goes =
@@ -165,7 +171,7 @@ pub piece_ends : (one two new : Session) (piece kept : List ℕ) (from : ℕ) (f
     → GoesLine two new (take (length piece - from) (drop from piece)) mid after found
     → kept ≡ take 4097 (new.line.items ++ take (length piece - from) (drop from piece))
     → (options : Options) (taken : List ℕ) (outcomes : List Outcome) → IsAt options one taken outcomes
-    → (x : List Outcome) × Progress options new.runtime kept (taken ++ piece) (outcomes ++ x)
+    → (x : List Outcome) × Progress options new.runtime.machine kept (taken ++ piece) (outcomes ++ x)
     × Wrote before after one.pending new.pending (run_text x)
 piece_ends one two new piece kept from found before mid after is goes line left =
     let rest = take (length piece - from) (drop from piece) in

@@ -27,7 +27,8 @@ pub run_options : (options : Options) (line : Option CommandLine) (settings : Se
 run_options options line settings made is made_is (other, says, options_are) =
     sym (made_is ∙ (ap options_of (same_run settings other (sym is ∙ says)) ∙ options_are))
 
-pub record IsSaidSoak (options : Options) (made : runtime.Options) (seed other_seed count other_count : ℕ) : Type 0 where
+pub record IsSaidSoak (options : Options) (made : runtime.Options)
+    (seed other_seed count other_count : ℕ) : Type 0 where
   pub options_are : options ≡ made_with made
   pub seed_is : seed ≡ other_seed
   pub count_is : count ≡ other_count

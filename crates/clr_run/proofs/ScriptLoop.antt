@@ -80,7 +80,7 @@ pub finished : (options : Options) (session new : Session)
     Running options session held held1 written written1 limit left → Taken held1 held2 []
     → EndsWritten session new written1 written2 →
     (taken : List ℕ) × (answered : Answered options script_lines held held2 written written2 taken)
-    × StandsFor new.runtime answered.last × (length taken ≤ limit)
+    × StandsFor new.runtime.machine answered.last × (length taken ≤ limit)
 finished options session new held held1 held2 written written1 written2 limit left running read ends =
     let more = ends options running.taken running.outcomes running.at in (
       running.taken,

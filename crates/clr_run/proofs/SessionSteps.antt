@@ -117,17 +117,19 @@ pub goes_kept : (one two : Session) (bytes more all kept : List ℕ) (before aft
     → all ≡ bytes ++ more → Goes one two bytes before after
     → IsUnfed more → kept ≡ take 4097 (two.line.items ++ more)
     → (options : Options) (taken : List ℕ) (outcomes : List Outcome) → IsAt options one taken outcomes
-    → (x : List Outcome) × Progress options two.runtime kept (taken ++ all) (outcomes ++ x)
+    → (x : List Outcome) × Progress options two.runtime.machine kept (taken ++ all) (outcomes ++ x)
     × Wrote before after one.pending two.pending (run_text x)
 goes_kept one two bytes more all kept before after e goes unfed line options taken outcomes at =
     let a = goes options taken outcomes at in
-    let last = kept_on options two.runtime two.line.items kept (taken ++ bytes) more (outcomes ++ a.0) a.1 unfed line in
+    let last = kept_on options two.runtime.machine two.line.items kept (taken ++ bytes) more (outcomes ++ a.0) a.1 unfed
+    line in
     (a.0, rw (e, ← append_assoc) (rw append-nil at last), a.2)
 
 -- a line that a line feed ended was answered
 pub goes_line : (old : Session) (new : Machine) (line left rest : List ℕ) (outcome : Outcome)
     (before after : Option (List ℕ)) → IsUnfed rest
-    → ((begun : List ℕ) → old.line.items ≡ take 4097 begun → FollowsLine old.runtime (begun ++ rest) outcome new)
+    → ((begun : List ℕ) → old.line.items ≡ take 4097 begun
+    → FollowsLine old.runtime.machine (begun ++ rest) outcome new)
     → line ≡ []
     → Wrote before after old.pending left (outcome_text outcome)
     → (options : Options) (taken : List ℕ) (outcomes : List Outcome) → IsAt options old taken outcomes
@@ -135,7 +137,7 @@ pub goes_line : (old : Session) (new : Machine) (line left rest : List ℕ) (out
     × Wrote before after old.pending left (run_text more)
 goes_line old new line left rest outcome before after unfed follows none wrote options taken outcomes at = (
   outcome ∷ [],
-  rw none (answered_line options old.runtime new old.line.items taken rest outcomes outcome at unfed
+  rw none (answered_line options old.runtime.machine new old.line.items taken rest outcomes outcome at unfed
       (follows (begun taken) at.kept)),
   rw (run_text-one outcome) wrote,
 )
@@ -161,10 +163,11 @@ stops_on one two bytes next rest piece before mid after e goes stops = λ option
 -- the reply to a line that a line feed ended was written in part
 pub stops_line : (old : Session) (new : Machine) (rest : List ℕ) (outcome : Outcome) (before after : Option (List ℕ))
     → IsUnfed rest
-    → ((begun : List ℕ) → old.line.items ≡ take 4097 begun → FollowsLine old.runtime (begun ++ rest) outcome new)
+    → ((begun : List ℕ) → old.line.items ≡ take 4097 begun
+    → FollowsLine old.runtime.machine (begun ++ rest) outcome new)
     → WroteSome before after (old.pending ++ outcome_text outcome) → Stops old (rest ++ 10 ∷ []) before after
 stops_line old new rest outcome before after unfed follows wrote = λ options taken outcomes at.
-    let next = answered_line options old.runtime new old.line.items taken rest outcomes outcome at unfed
+    let next = answered_line options old.runtime.machine new old.line.items taken rest outcomes outcome at unfed
     (follows (begun taken) at.kept) in
     record {
       part = rest ++ 10 ∷ [];
@@ -179,13 +182,13 @@ stops_line old new rest outcome before after unfed follows wrote = λ options ta
 -- the end of the script with a line begun
 pub ends_line : (old : Session) (new : Machine) (left : List ℕ) (outcome : Outcome) (before after : Option (List ℕ))
     → 0 < length old.line.items
-    → ((begun : List ℕ) → old.line.items ≡ take 4097 begun → FollowsLine old.runtime (begun ++ []) outcome new)
+    → ((begun : List ℕ) → old.line.items ≡ take 4097 begun → FollowsLine old.runtime.machine (begun ++ []) outcome new)
     → Wrote before after old.pending left (outcome_text outcome)
     → (options : Options) (taken : List ℕ) (outcomes : List Outcome) → IsAt options old taken outcomes
     → (more : List Outcome) × (last : Machine) × RunOver options (script_lines taken) (outcomes ++ more) last
     × StandsFor new last × Wrote before after old.pending left (run_text more)
 ends_line old new left outcome before after some follows wrote options taken outcomes at =
-    let last = answered_last options old.runtime new old.line.items taken outcomes outcome at some
+    let last = answered_last options old.runtime.machine new old.line.items taken outcomes outcome at some
     (follows (begun taken) at.kept) in
     (outcome ∷ [], last.0, last.1, last.2, rw (run_text-one outcome) wrote)
 
@@ -193,16 +196,16 @@ ends_line old new left outcome before after some follows wrote options taken out
 pub ends_none : (session : Session) (written : Option (List ℕ)) → length session.line.items ≡ 0
     → Ends session session written written
 ends_none session written none = λ options taken outcomes at.
-    let last = all_ended options session.runtime session.line.items taken outcomes at none in
+    let last = all_ended options session.runtime.machine session.line.items taken outcomes at none in
     ([], last.0, rw append-nil last.1, last.2, wrote_none written session.pending)
 
 -- the reply to the last line was written in part
 pub stops_last : (old : Session) (new : Machine) (outcome : Outcome) (before after : Option (List ℕ))
     → 0 < length old.line.items
-    → ((begun : List ℕ) → old.line.items ≡ take 4097 begun → FollowsLine old.runtime (begun ++ []) outcome new)
+    → ((begun : List ℕ) → old.line.items ≡ take 4097 begun → FollowsLine old.runtime.machine (begun ++ []) outcome new)
     → WroteSome before after (old.pending ++ outcome_text outcome) → StopsLast old before after
 stops_last old new outcome before after some follows wrote = λ options taken outcomes at.
-    let last = answered_last options old.runtime new old.line.items taken outcomes outcome at some
+    let last = answered_last options old.runtime.machine new old.line.items taken outcomes outcome at some
     (follows (begun taken) at.kept) in
     record { more = outcome ∷ []; last = last.0; run = last.1; wrote = rw (run_text-one outcome) wrote }
 

@@ -1,5 +1,6 @@
 -- The loop over the lines of a generated script, and what comes of it.
-use Rattle.std.proofs.Common.{◌≡◌, ◌∙◌, ℕ, cond, ◌+◌, ◌≤◌, List, [], ◌∷◌, ◌++◌, length, refl, sym, ap, subst, arith, take, Option}
+use Rattle.std.proofs.Common.{◌≡◌, ◌∙◌, ℕ, cond, ◌+◌, ◌≤◌, List, [], ◌∷◌, ◌++◌, length, refl, sym, ap, subst, arith}
+use Rattle.std.proofs.Common.{take, Option}
 use Rattle.std.proofs.Common.{append_assoc, append-nil, length-append, Bool, true, false}
 use mir.Val.{bool_byte}
 use Rattle.std.proofs.lemmas.List.Sums.{sum_by-append}
@@ -114,7 +115,8 @@ pub of_made : (seen new : Machine) (seed count lines refusals : ℕ) (made : Lis
 of_made seen new seed count lines refusals made is told = subst (λ (ls : List (List ℕ)). (outcomes : List Outcome)
     × FollowsLines seen ls outcomes new × (lines ≡ length outcomes) × (refusals ≡ refused_count outcomes)) is told
 
-module _ (options : Options) (seen new : Machine) (seed count lines refusals : ℕ) (opens : StandsFor seen (opening options))
+module _ (options : Options) (seen new : Machine) (seed count lines refusals : ℕ)
+    (opens : StandsFor seen (opening options))
     (were_run : WereRun seen seed count lines refusals new) where
   -- the run over these lines
   run_over : (last : Machine) × RunOver options (made_lines seed count) were_run.0 last × StandsFor new last

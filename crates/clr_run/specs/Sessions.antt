@@ -12,7 +12,7 @@ use Rattle.clr_run.specs.declared.script.session.Session.{Session}
 
 -- a session that began with these options
 abbrev pub IsAt : Options → Session → List ℕ → List Outcome → Type 0
-IsAt options session taken outcomes = Progress options session.runtime session.line.items taken outcomes
+IsAt options session taken outcomes = Progress options session.runtime.machine session.line.items taken outcomes
 
 -- these bytes were answered, and the answers were written or wait
 abbrev pub Goes : Session → Session → List ℕ → Option (List ℕ) → Option (List ℕ) → Type 0
@@ -21,10 +21,11 @@ Goes old new bytes before after = (options : Options) (taken : List ℕ) (outcom
     (more : List Outcome) × IsAt options new (taken ++ bytes) (outcomes ++ more)
     × Wrote before after old.pending new.pending (run_text more)
 
--- The line that ends first in a text was answered, so many bytes with its line feed; or none ends in it, and nothing
--- changed.
+-- The line that ends first in a text was answered, so many bytes with its line feed; or none ends in it, and the machine
+-- stays.
 abbrev pub GoesLine : Session → Session → List ℕ → Option (List ℕ) → Option (List ℕ) → Option ℕ → Type 0
-GoesLine old new text before after None = IsUnfed text × (new.runtime ≡ old.runtime) × Goes old new [] before after
+GoesLine old new text before after None =
+    IsUnfed text × (new.runtime.machine ≡ old.runtime.machine) × Goes old new [] before after
 GoesLine old new text before after (Some count) =
     (0 < count) × (count ≤ length text) × Goes old new (take count text) before after
 
@@ -33,7 +34,7 @@ abbrev pub Ends : Session → Session → Option (List ℕ) → Option (List ℕ
 Ends old new before after = (options : Options) (taken : List ℕ) (outcomes : List Outcome)
     → IsAt options old taken outcomes →
     (more : List Outcome) × (last : Machine) × RunOver options (script_lines taken) (outcomes ++ more) last
-    × StandsFor new.runtime last
+    × StandsFor new.runtime.machine last
     × Wrote before after old.pending new.pending (run_text more)
 
 -- Writing stopped at a line that these bytes ended: the lines up to there were answered, and a part of what waited and
@@ -77,5 +78,5 @@ abbrev pub EndsWritten : Session → Session → Option (List ℕ) → Option (L
 EndsWritten old new before after = (options : Options) (taken : List ℕ) (outcomes : List Outcome)
     → IsAt options old taken outcomes →
     (more : List Outcome) × (last : Machine) × RunOver options (script_lines taken) (outcomes ++ more) last
-    × StandsFor new.runtime last
+    × StandsFor new.runtime.machine last
     × Wrote before after old.pending [] (run_text more)

@@ -1,5 +1,6 @@
 -- A new large segment: what still holds of the parts of a runtime.
-use Rattle.std.proofs.Common.{◌≡◌, ◌∙◌, ℕ, ◌+◌, ◌<◌, ◌↔◌, Bool, true, false, nat_le, List, refl, ap, sym, subst}
+use Rattle.std.proofs.Common.{◌≡◌, ◌∙◌, ℕ, ◌+◌, ◌/◌, ◌<◌, ◌↔◌, inl, inr, Bool, true, false, nat_le, List, refl, ap, sym}
+use Rattle.std.proofs.Common.{subst}
 use Rattle.std.proofs.Common.{Result, Ok, Err, ℤ}
 use Rattle.std.specs.Prelude.{OnErr, OnOk}
 use Rattle.std.proofs.lemmas.Bool.{leb-false}
@@ -12,18 +13,23 @@ use Rattle.clr_heap.specs.declared.heap.segments.AcquireFault.TheVariants.{OverL
 use Rattle.clr_view.specs.Clean.{AreClean}
 use Rattle.clr_view.specs.Marks.{IsUnmarked}
 use Rattle.clr_view.specs.View.{AreFreeHeads, IsHeld, layout_in, objects_in}
-use Rattle.clr_generations.specs.Tables.{AreTablesOf}
+use Rattle.clr_bricks.specs.Bricks.{entry_at}
+use Rattle.clr_cards.specs.Cards.{is_card_set}
+use Rattle.clr_generations.specs.Laws.{BrickLaw, NamesNoMore}
+use Rattle.clr_generations.specs.Tables.{AreBricksOf, AreCardsOf, AreTablesBy}
+use Rattle.clr_large.proofs.AcquiredKind.{tables_with}
 use Rattle.clr_ctx.specs.Contexts.{young_items}
-use Rattle.clr_large.specs.Places.{large_items}
-use Rattle.clr_large.proofs.LargeKept.{young_with_segment}
+use Rattle.clr_large.specs.Places.{kind_items}
+use Rattle.clr_large.proofs.KindKept.{young_with_segment}
 use Rattle.clr_model.specs.Allocation.{allows, segment_for, with_segment}
 use Rattle.clr_model.specs.Lawful.{IsPlaceNamed}
+use Rattle.clr_model.specs.Machine.{Object}
 use Rattle.clr_model.proofs.SegmentAdded.{acquired_lawful}
+use Rattle.clr_safe.specs.Threads.{steps_of}
 use Rattle.clr_runtime.specs.LargeRooms.{with_large_segment}
-use Rattle.clr_runtime.specs.RuntimeView.{IsRuntime, seen}
+use Rattle.clr_runtime.specs.RuntimeView.{IsBegunStore, IsRuntime, IsToldBy, seen}
 use Rattle.clr_runtime.specs.declared.parts.Parts.{Parts}
 use Rattle.clr_runtime.proofs.IndexKept.{index_kept}
-use Rattle.clr_runtime.proofs.StepsKept.{tables-carded}
 
 -- a segment was acquired
 abbrev acquired_one : Result (Unit {0}) AcquireFault
@@ -59,6 +65,30 @@ module _ (p : Parts) (is : IsRuntime p) (size : ℕ) (new : HeapView)
         uncounted = is.shown.sound.uncounted;
       })
 
+  -- what is told of references to younger objects is told still
+  told-still : (cards : List (CoverView ℕ)) → ((i : ℕ) → is_card_set cards i ≡ is_card_set p.cards i) → (a : ℕ)
+      → IsToldBy p.types p.heap p.cards p.safe a → IsToldBy p.types new cards p.safe a
+  told-still cards sets a (inl set) = inl (sets (a / 2048) ∙ set)
+  told-still cards sets a (inr begun) =
+      inr (subst (λ (os : List Object). IsBegunStore p.types os (steps_of p.safe) a) (sym objects) begun)
+
+  -- so the cards and bricks are those of the heap with the segment
+  pub acquired_tables : (cards : List (CoverView ℕ)) (bricks : List (CoverView ℤ)) → AreCardsOf (frame new) cards
+      → AreBricksOf (frame new) bricks → ((i : ℕ) → is_card_set cards i ≡ is_card_set p.cards i)
+      → NamesNoMore p.types (frame p.heap) (objects_in p.types p.heap) (frame new) (objects_in p.types new)
+      → (BrickLaw p.types (frame p.heap) (objects_in p.types p.heap) (entry_at p.bricks)
+      → BrickLaw p.types (frame new) (objects_in p.types new) (entry_at bricks))
+      → AreTablesBy p.types new cards bricks (IsToldBy p.types new cards p.safe)
+  acquired_tables cards bricks own_cards own_bricks sets names law =
+      let t = tables_with p.types p.heap new p.cards cards p.bricks bricks (IsToldBy p.types p.heap p.cards p.safe)
+      own_cards own_bricks names law is.tables in
+      record {
+        cards = t.cards;
+        bricks = t.bricks;
+        card_law = λ a n. told-still cards sets a (t.card_law a n);
+        brick_law = t.brick_law;
+      }
+
   -- what holds of the parts of a runtime still holds, whether there is a new segment or not
   pub acquired_kept : (cards : List (CoverView ℕ)) (bricks : List (CoverView ℤ))
       (result : Result (Unit {0}) AcquireFault)
@@ -67,10 +97,11 @@ module _ (p : Parts) (is : IsRuntime p) (size : ℕ) (new : HeapView)
       ≡ with_segment (layout_in p.types p.heap) Large (segment_for (seen p) size))
       → OnErr result (new ≡ p.heap)
       → ((result ≡ Err OverLimit) ↔ (p.heap.limit < reserved_sum (frame p.heap) + segment_for (seen p) size))
-      → large_items (layout_in p.types new) ≡ large_items (layout_in p.types p.heap) → IsHeld p.types new
+      → kind_items Large (layout_in p.types new) ≡ kind_items Large (layout_in p.types p.heap) → IsHeld p.types new
       → (IsUnmarked p.types p.heap → IsUnmarked p.types new)
       → (AreFreeHeads p.types p.heap → AreFreeHeads p.types new) → (AreClean p.types p.heap → AreClean p.types new)
-      → AreTablesOf p.types new cards bricks → IsRuntime (record p { heap = new; cards = cards; bricks = bricks })
+      → AreTablesBy p.types new cards bricks (IsToldBy p.types new cards p.safe)
+      → IsRuntime (record p { heap = new; cards = cards; bricks = bricks })
   acquired_kept cards bricks (Ok done) words layout stays told items held unmarked heads clean tables = record {
     shown = record {
       locals = is.shown.locals;
@@ -82,12 +113,12 @@ module _ (p : Parts) (is : IsRuntime p) (size : ℕ) (new : HeapView)
           (may-reserve (reserved_sum (frame p.heap) + reserved) p.options.limit
           (subst (λ n. (acquired_one ≡ Err OverLimit) ↔ (n < reserved_sum (frame p.heap) + reserved)) is.limit told));
     };
-    tables = tables-carded cards p.safe bricks p.types new tables;
+    tables = tables;
     owed = is.owed;
     finalizers = is.finalizers;
     index = index_kept young_items p.types p.types p.heap new p.contexts
-        (ap young_items layout ∙ young_with_segment (layout_in p.types p.heap) reserved) is.index;
-    large = index_kept large_items p.types p.types p.heap new p.large items is.large;
+        (ap young_items layout ∙ young_with_segment Large refl (layout_in p.types p.heap) reserved) is.index;
+    large = index_kept (kind_items Large) p.types p.types p.heap new p.large items is.large;
     limit = ap (λ (h : HeapView). h.limit) words ∙ is.limit;
     pins = is.pins;
     room = is.room;
@@ -97,7 +128,7 @@ module _ (p : Parts) (is : IsRuntime p) (size : ℕ) (new : HeapView)
       subst (λ (h : HeapView). IsRuntime (record p { heap = h })) (sym stays) is in
       record {
         shown = before.shown;
-        tables = tables-carded cards p.safe bricks p.types new tables;
+        tables = tables;
         owed = before.owed;
         finalizers = before.finalizers;
         index = before.index;

@@ -5,7 +5,8 @@ use Rattle.std.proofs.Common.{unwrap_or, ◌⊎◌, inl, inr}
 use Rattle.std.proofs.lemmas.Bool.{le-leb, le-ltb, lt-leb}
 use Rattle.clr_types.specs.Types.{form_at, has_finalizer, is_array, number_of, type_row, TypeRow}
 use Rattle.clr_model.specs.declared.Refusal.{Refusal}
-use Rattle.clr_model.specs.declared.Refusal.TheVariants.{BadShape, Blocked, MidStep, NoMemory, NoSlot, NotMidStep, TooBig}
+use Rattle.clr_model.specs.declared.Refusal.TheVariants.{BadShape, Blocked, MidStep, NoMemory, NoSlot, NotMidStep}
+use Rattle.clr_model.specs.declared.Refusal.TheVariants.{TooBig}
 use Rattle.clr_model.specs.declared.Refusal.TheVariants.{UnknownThread, UnknownType}
 use Rattle.clr_model.specs.declared.Reply.TheVariants.{Done}
 use Rattle.clr_model.specs.Allocation.{Attempt, own_fits, roomed}
@@ -36,8 +37,9 @@ checks_behind thread held stepping number suits away big = first_of_all (
     ∷ held
     ∷ refuse_if (stepping && true) MidStep
     ∷ refuse_if (not stepping && false) NotMidStep
+    ∷ None
     ∷ refuse_if (is_none number) UnknownType
-    ∷ None ∷ refuse_if (not suits) BadShape ∷ None
+    ∷ None ∷ refuse_if (not suits) BadShape ∷ None ∷ None
     ∷ refuse_if (away || false) NoSlot
     ∷ None ∷ None ∷ None ∷ None ∷ None ∷ None
     ∷ refuse_if big TooBig ∷ None ∷ None ∷ [])

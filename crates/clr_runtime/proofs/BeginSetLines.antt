@@ -91,7 +91,8 @@ module _ (t into index from : ℕ) (m : Machine) (named : IsBirthNamed m)
       (keeps_apart m (lawful-named m named.lawful) name)
       ∙ (λ i. with_slot (picture-with_step m t (begun_store name index) i) (sym (local_of-picture m t into) i) index
       (ref (sym (local_of-picture m t from) i)))
-      ∙ (λ i. with_step (with_slot (picture m) (local_of (picture m) t into) index (ref (local_of (picture m) t from))) t
+      ∙ (λ i. with_step
+      (with_slot (picture m) (local_of (picture m) t into) index (ref (local_of (picture m) t from))) t
       (begun_store (sym (local_of-picture m t into) i) index))
 
 pub begin_set_alike : (t into index from : ℕ) → IsAlike (begin_set t into index from)

@@ -46,7 +46,7 @@ use Rattle.clr_runtime.proofs.StepsKept.{tables-by}
 -- ---- the checks
 
 module _ {w : World} {sums : Sums} {options : Options} {threads : Threads} (is : IsShown w sums options threads)
-    (large : options.large ≡ 85000) (t local : ℕ) (name : List ℕ) (len : Option ℕ) where
+    (t local : ℕ) (name : List ℕ) (len : Option ℕ) where
   abbrev s : Machine
   s = shown w sums options threads
 
@@ -61,19 +61,22 @@ module _ {w : World} {sums : Sums} {options : Options} {threads : Threads} (is :
     begin_measured BadShape (type, known, unsuited) =
         begin_follows_shape s t local name len type run known unsuited
     begin_measured NoSlot (type, is, high) = begin_follows_local s t local name len type run is.known is.suited high
-    begin_measured TooBig (type, is, low, big) =
-        begin_follows_large s t local name len type run is.known is.suited low (omega (arith, large, big))
+    begin_measured TooBig (type, asked, low, big) =
+        let large = is.sound.lawful.options.large_greatest in
+        let segment = is.sound.lawful.options.segment_greatest in
+        begin_follows_large s t local name len type run asked.known asked.suited low
+        (omega (arith, large, segment, big))
     begin_measured _ none = absurd none
 
     module _ (request : Request) (measured : IsMeasured w.rows local name len request) where
       -- the object is large
-      pub begin_large : 85000 ≤ request.size → Follows s (begin_new t local name len) (refused TooBig) s
+      pub begin_large : options.large ≤ request.size → Follows s (begin_new t local name len) (refused TooBig) s
       begin_large least =
           let same = measured.size_is in
           begin_follows_large s t local name len request.type_id.0 run measured.suited.known measured.suited.suited
-          measured.local (omega (arith, large, same, least))
+          measured.local (omega (arith, same, least))
 
-      module _ (small : request.size < 85000) where
+      module _ (small : request.size < options.large) where
         -- there is no memory for the finalisation entry that the type wants
         pub begin_lacks : (entries ready : List ℕ) → entries ≡ w.entries → ready ≡ w.ready → request.finalizer ≡ true
             → Follows s (begin_new t local name len) (refused NoMemory)
@@ -81,7 +84,7 @@ module _ {w : World} {sums : Sums} {options : Options} {threads : Threads} (is :
         begin_lacks entries ready kept waiting final =
             room_follows is entries ready kept waiting (begin_new t local name len) (refused NoMemory)
             (begin_follows_memory s t local name len request.type_id.0
-            (may_bear is large t local name len passed request measured small) (sym measured.entry ∙ final))
+            (may_bear is t local name len passed request measured small) (sym measured.entry ∙ final))
 
         -- no room was made, and what was done for it stays
         pub begin_fails : (new : Machine) (why : NoRoom) (r : Refusal) → r ≡ refusal_of_room why
@@ -89,7 +92,7 @@ module _ {w : World} {sums : Sums} {options : Options} {threads : Threads} (is :
             → Follows s (begin_new t local name len) (refused r) new
         begin_fails new why r told room =
             begin_follows_fails s t local name len request.type_id.0
-            (may_bear is large t local name len passed request measured small) new (attempt_of (Err why)) (refused r)
+            (may_bear is t local name len passed request measured small) new (attempt_of (Err why)) (refused r)
             (subst (λ b. FollowsRoom s t b (attempt_of (Err why)) new) measured.size_is room) (fails-so why r told)
 
 -- ---- the room is made

@@ -65,7 +65,8 @@ store_begun w sums options threads t place index i slot has new into from v pass
     ≡ shown (record w { heap = new }) sums options (with_begun threads t (Store place index)) =
     (λ k. with_step (with_slot s (local_of s t into) index (ref (sym is k))) t (begun_store (sym at k) index))
     ∙ ap (λ (m : Machine). with_step m t (begun_store place index))
-    (stored-shown w sums options threads t place index i slot has new (local_of s t into) v true (has.object.at ∙ at) kind
+    (stored-shown w sums options threads t place index i slot has new (local_of s t into) v true
+    (has.object.at ∙ at) kind
     stored)
     ∙ begun-shown (record w { heap = new }) sums options threads t (Store place index) in
     subst (Follows s (begin_set t into index from) (answered Done)) after
@@ -173,7 +174,8 @@ module _ {w : World} {sums : Sums} {options : Options} {threads : Threads} (is :
           → o ≡ object_in w.rows (word_of w.heap) item
       this-object o i name =
           one o (object_in w.rows (word_of w.heap) item)
-          (sym (found-at s is.sound o i object (sym (all_at (λ (o : Object). o.name ≡ o.place) i is.sound.places) ∙ name))
+          (sym (found-at s is.sound o i object
+          (sym (all_at (λ (o : Object). o.name ≡ o.place) i is.sound.places) ∙ name))
           ∙ at.named)
         where
           one : (a b : Object) → Some a ≡ Some b → a ≡ b

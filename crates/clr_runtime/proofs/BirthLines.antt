@@ -90,7 +90,6 @@ module _ (rows : List TypeRow) (local : ℕ) (name : List ℕ) (len : Option ℕ
 -- ---- the checks
 
 module _ {w : World} {sums : Sums} {options : Options} {threads : Threads} (is : IsShown w sums options threads)
-    (large : options.large ≡ 85000)
     (t local : ℕ) (name : List ℕ) (len : Option ℕ) where
   abbrev s : Machine
   s = shown w sums options threads
@@ -114,38 +113,39 @@ module _ {w : World} {sums : Sums} {options : Options} {threads : Threads} (is :
 
     module _ (request : Request) (measured : IsMeasured rows local name len request) where
       -- no check fails, and the object is small
-      pub may_bear : request.size < 85000 → MayBear s t local name len request.type_id.0
+      pub may_bear : request.size < options.large → MayBear s t local name len request.type_id.0
       may_bear small = record {
         run = run;
         known = measured.suited.known;
         shape = measured.suited.suited;
         local = measured.local;
-        small = let same = measured.size_is in omega (arith, large, same, small);
+        small = let same = measured.size_is in omega (arith, same, small);
       }
 
       -- or it is large
-      pub may_bear_large : 85000 ≤ request.size → MayBearLarge s t local name len request.type_id.0
+      pub may_bear_large : options.large ≤ request.size → MayBearLarge s t local name len request.type_id.0
       may_bear_large least = record {
         run = run;
         known = measured.suited.known;
         shape = measured.suited.suited;
         local = measured.local;
-        is_large = let same = measured.size_is in omega (arith, large, same, least);
+        is_large = let same = measured.size_is in omega (arith, same, least);
         most = let same = measured.size_is in let most = measured.most in omega (arith, same, most);
       }
 
       -- there is no memory for the finalisation entry that the type wants
       lacks-entry : has_finalizer (type_row rows request.type_id.0) ≡ true
           → Follows s (new_object t local name len) (refused refusal.NoMemory) s
-      lacks-entry final = go (nat_lt request.size 85000) refl
+      lacks-entry final = go (nat_lt request.size options.large) refl
         where
-          go : (b : Bool) → nat_lt request.size 85000 ≡ b
+          go : (b : Bool) → nat_lt request.size options.large ≡ b
               → Follows s (new_object t local name len) (refused refusal.NoMemory) s
           go true e =
-              new_follows_memory s t local name len request.type_id.0 (may_bear (ltb-true request.size 85000 e)) final
+              new_follows_memory s t local name len request.type_id.0
+              (may_bear (ltb-true request.size options.large e)) final
           go false e =
               new_follows_large_memory s t local name len request.type_id.0
-              (may_bear_large (ltb-false request.size 85000 e)) final
+              (may_bear_large (ltb-false request.size options.large e)) final
 
       -- the same where room was made in the queue
       pub lacks_follows : (entries ready : List ℕ) → entries ≡ w.entries → ready ≡ w.ready
@@ -157,7 +157,7 @@ module _ {w : World} {sums : Sums} {options : Options} {threads : Threads} (is :
           (lacks-entry (sym measured.entry ∙ final))
 
       -- no room was made, and what was done for it stays
-      pub fails_follows : request.size < 85000 → (new : Machine) (why : NoRoom) (r : Refusal)
+      pub fails_follows : request.size < options.large → (new : Machine) (why : NoRoom) (r : Refusal)
           → r ≡ refusal_of_room why
           → FollowsRoom (shown w sums options threads) t request.size (attempt_of (Err why)) new
           → Follows (shown w sums options threads) (new_object t local name len) (refused r) new
@@ -167,7 +167,7 @@ module _ {w : World} {sums : Sums} {options : Options} {threads : Threads} (is :
           (fails-so why r told)
 
       -- the same for a large object
-      pub large_fails_follows : 85000 ≤ request.size → (new : Machine) (why : NoRoom) (r : Refusal)
+      pub large_fails_follows : options.large ≤ request.size → (new : Machine) (why : NoRoom) (r : Refusal)
           → r ≡ refusal_of_room why
           → FollowsLargeFails (shown w sums options threads) request.size (attempt_of (Err why)) new
           → Follows (shown w sums options threads) (new_object t local name len) (refused r) new

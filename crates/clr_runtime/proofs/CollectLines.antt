@@ -1,6 +1,7 @@
 -- Collections of a runtime's parts, and the line that collects, on what is seen.
 use Rattle.std.proofs.Common.{◌≡◌, ◌≢◌, ◌∙◌, ℕ, ◌+◌, ◌^◌, ◌<◌, ◌≤◌, ◌==◌, if◌then◌else◌, Bool, List, [], ◌∷◌}
 use Rattle.std.proofs.Common.{length, map, refl, ap, subst, sym, arith, replicate, MatchOption, Option, None, Some}
+use Rattle.std.proofs.Common.{false}
 use Rattle.std.proofs.lemmas.Bool.{ne_eqb}
 use Rattle.std.proofs.lemmas.List.{length-map}
 use Rattle.clr_types.specs.Ranges.{Piece}
@@ -16,13 +17,17 @@ use Rattle.clr_model.specs.declared.Collected.{Collected}
 use Rattle.clr_model.specs.declared.How.{How}
 use Rattle.clr_model.specs.declared.Refusal.TheVariants as refusal
 use Rattle.clr_model.specs.declared.Reply.TheVariants as reply
-use Rattle.clr_model.specs.Collection.{Collects, sums_after}
+use Rattle.clr_model.specs.Collection.{Collects, is_fit, marking_after, sums_after}
+use Rattle.clr_model.proofs.CollectionKeeps.{collects_keeps}
+use Rattle.clr_model.proofs.PlainCollections.{is_usual, PlainlyCollects, plainly}
+use Rattle.std.specs.Option.{option_map}
 use Rattle.clr_model.specs.Instructions.{collect_heap}
 use Rattle.clr_model.specs.Lawful.{IsPlaceNamed}
+use Rattle.clr_model.specs.Laws.{IsUnslid}
 use Rattle.clr_model.specs.Lookups.{lowest_in_step, lowest_step_from, place_of}
-use Rattle.clr_model.specs.Machine.{begun_new, begun_store, Machine, no_step, Options, Sums, ThreadStep}
+use Rattle.clr_model.specs.Machine.{begun_new, begun_store, Machine, Marking, no_step, Options, Sums, ThreadStep}
 use Rattle.clr_model.specs.Outcomes.{answered, refused}
-use Rattle.clr_model.specs.Picture.{picture, renamed_step}
+use Rattle.clr_model.specs.Picture.{picture, renamed_marking, renamed_step}
 use Rattle.clr_model.specs.RoomFollows.{HasCollected}
 use Rattle.clr_model.specs.Run.{Follows}
 use Rattle.clr_model.proofs.CollectedLawful.{rests_gone}
@@ -34,7 +39,9 @@ use Rattle.clr_model.proofs.RoomFollows.{collection_left}
 use Rattle.clr_model.proofs.SeenSound.{seen_sound}
 use Rattle.clr_model.proofs.SeenStands.{sound_stands}
 use Rattle.clr_collect.specs.Collecting.{CountsSlides}
+use Rattle.clr_collect.proofs.CountedSlides.{counted_slides}
 use Rattle.clr_runtime.specs.RuntimeView.{collected_sums, IsShown}
+use Rattle.clr_runtime.specs.Slides.{CountsCollection}
 
 -- ---- what a collection leaves of a machine
 
@@ -47,7 +54,8 @@ still-steps to t (begun_store object slot ∷ steps) none = absurd cc
 still-steps to t (begun_new type len local ∷ steps) none = absurd cc
 
 module _ (m : Machine) (g : ℕ) (how : How) (answer : Collected) (after : Machine) (idle : lowest_in_step m ≡ None)
-    (c : Collects m g how answer after) where
+    (c : Collects m g how answer after) (unslid : IsUnslid m g) (none : m.background ≡ None)
+    (unfitted : is_fit how ≡ false) where
   -- The picture of what a collection leaves, from what it is of memory, locals, handles and queues. Steps, holder and
   -- options are as before, and the sums are those that the answer gives.
   pub collected_picture : (w : World) → IsWorldOf w (picture after)
@@ -64,8 +72,13 @@ module _ (m : Machine) (g : ℕ) (how : How) (answer : Collected) (after : Machi
       }
   collected_picture w is =
       let memory = is.memory in
+      let plain : PlainlyCollects m g how answer after = plainly m g how answer after unslid unfitted c in
+      let to = renamed_marking (place_of after.objects) in
+      let background : (picture after).background ≡ m.background =
+      ap (λ (n : Machine). option_map to n.background) plain.state
+      ∙ ap (λ (r : Option Marking). option_map to (marking_after (g == 2) r)) none ∙ sym none in
       let steps : (picture after).steps ≡ m.steps =
-      ap (map (renamed_step (place_of after.objects))) (ap (λ (n : Machine). n.steps) c.state)
+      ap (map (renamed_step (place_of after.objects))) (ap (λ (n : Machine). n.steps) plain.state)
       ∙ still-steps (place_of after.objects) 1 m.steps idle in
       λ k. record m {
         born = 0;
@@ -77,9 +90,11 @@ module _ (m : Machine) (g : ℕ) (how : How) (answer : Collected) (after : Machi
         entries = is.entries k;
         ready = is.ready k;
         steps = steps k;
-        holder = (c.state k).holder;
-        sums = (c.state k).sums;
-        options = (c.state k).options;
+        holder = (plain.state k).holder;
+        sums = (plain.state k).sums;
+        options = (plain.state k).options;
+        compacts_large = (plain.state k).compacts_large;
+        background = background k;
       }
 
 -- where no rest of a context is left, no thread has one
@@ -92,12 +107,13 @@ none_rest (Some p ∷ rests) none = absurd cc
 
 -- the collection is done
 pub collect_done : (s : Machine) (t g : ℕ) (how : How) → MayRun s t → lowest_in_step s ≡ None → g ≤ 2
+    → is_fit how ≡ false
     → (answer : Collected) (new : Machine)
     → ((after : Machine) × Collects s g how answer after × (new ≡ picture after))
     → Follows s (collect_heap t g how) (answered (reply.Collected answer)) new
-collect_done s t g how run idle least answer new (after, collects, is) =
+collect_done s t g how run idle least unfitted answer new (after, collects, is) =
     subst (Follows s (collect_heap t g how) (answered (reply.Collected answer))) (sym is)
-    (collect_follows s t g how answer after least run idle collects)
+    (collect_follows s t g how answer after (is_usual g how least unfitted) run idle collects)
 
 -- a thread is waited for, which is in mid-step
 pub collect_waits : (s : Machine) (t g : ℕ) (how : How) → MayRun s t → (k : ℕ) → lowest_in_step s ≡ Some k
@@ -118,12 +134,14 @@ collect_waits s t g how run k busy =
 
 -- what is seen after a collection is sound
 collected-sound : (s : Machine) → IsPlaceNamed s → lowest_in_step s ≡ None → (g : ℕ) → g ≤ 2 → (how : How)
-    (new : Machine) → HasCollected s g how new → IsPlaceNamed new
-collected-sound s sound idle g least how new collected =
+    → is_fit how ≡ false
+    → (new : Machine) → HasCollected s g how new → IsPlaceNamed new
+collected-sound s sound idle g least how unfitted new collected =
     let (m, stands) = sound_stands s sound in
     let still : lowest_in_step m ≡ None =
     sym (lowest_in_step-picture m) ∙ ap lowest_in_step stands.seen_is ∙ idle in
-    let (answer, mid, done, left) = collection_left s g how new least collected m stands still in
+    let (answer, mid, done, left) = collection_left s g how new (is_usual g how least unfitted) collected m stands still
+    in
     seen_sound new mid left.stands
 
 -- ---- the parts of a runtime
@@ -160,19 +178,36 @@ pub told_of : (w : World) (sums : Sums) (options : Options) (threads : Threads) 
     → lowest_step_from 1 (steps_of threads) ≡ None → (g : ℕ) (how : How) (locals : List ℕ) → locals ≡ w.locals
     → (new : World) (answer : Collected) (before after : ℕ)
     → ((m : Machine) → IsWorldOf (record w { locals = locals }) m → IsPlaceNamed m → lowest_in_step m ≡ None
-    → m.options.compact ≡ options.compact → (left : Machine) × (c : Collects m g how answer left)
-    × IsWorldOf new (picture left) × CountsSlides c.moves answer before after)
+    → IsUnslid m g → m.options.compact ≡ options.compact → (left : Machine) × (c : Collects m g how answer left)
+    × IsWorldOf new (picture left) × CountsSlides c.collects.moves answer before after)
     → Told w sums options threads g how new answer
 told_of w sums options threads is idle g how locals same new answer before after collected =
     let (left, collects, world, counts) =
     collected (shown w sums options threads)
     (subst (λ (ls : List ℕ). IsWorldOf (record w { locals = ls }) (shown w sums options threads)) (sym same)
     (world-seen threads))
-    is.sound idle refl in
+    is.sound idle refl refl in
     (left, collects, world)
 
+-- and a compaction is counted
+pub counts_of : (w : World) (sums : Sums) (options : Options) (threads : Threads) → IsShown w sums options threads
+    → lowest_step_from 1 (steps_of threads) ≡ None → (g : ℕ) (how : How) (locals : List ℕ) → locals ≡ w.locals
+    → (new : World) (answer : Collected) (before after : ℕ)
+    → ((m : Machine) → IsWorldOf (record w { locals = locals }) m → IsPlaceNamed m → lowest_in_step m ≡ None
+    → IsUnslid m g → m.options.compact ≡ options.compact → (left : Machine) × (c : Collects m g how answer left)
+    × IsWorldOf new (picture left) × CountsSlides c.collects.moves answer before after)
+    → CountsCollection answer.compacted before after
+counts_of w sums options threads is idle g how locals same new answer before after collected =
+    let (left, collects, world, counts) =
+    collected (shown w sums options threads)
+    (subst (λ (ls : List ℕ). IsWorldOf (record w { locals = ls }) (shown w sums options threads)) (sym same)
+    (world-seen threads))
+    is.sound idle refl refl in
+    counted_slides collects.collects.moves answer before after counts
+
 module _ {w : World} {sums : Sums} {options : Options} {threads : Threads} (is : IsShown w sums options threads)
-    (idle : lowest_step_from 1 (steps_of threads) ≡ None) (g : ℕ) (least : g ≤ 2) (how : How) (new : World)
+    (idle : lowest_step_from 1 (steps_of threads) ≡ None) (g : ℕ) (least : g ≤ 2) (how : How)
+    (unfitted : is_fit how ≡ false) (new : World)
     (answer : Collected) (told : Told w sums options threads g how new answer) where
   abbrev s : Machine
   s = shown w sums options threads
@@ -186,13 +221,13 @@ module _ {w : World} {sums : Sums} {options : Options} {threads : Threads} (is :
       × (shown new (collected_sums sums g answer.promoted1 answer.promoted2) options threads ≡ picture after)
   has_collected =
       let (after, collects, world) = told in
-      (after, collects, sym (collected_picture s g how answer after idle collects new world))
+      (after, collects, sym (collected_picture s g how answer after idle collects refl refl unfitted new world))
 
   -- it is sound
   sound-after : IsPlaceNamed (shown new after_sums options threads)
   sound-after =
       let (after, collects, is_seen) = has_collected in
-      collected-sound s is.sound idle g least how (shown new after_sums options threads)
+      collected-sound s is.sound idle g least how unfitted (shown new after_sums options threads)
       (answer, after, collects, is_seen)
 
   bounded-after : HaveSmallSums after_sums
@@ -220,7 +255,7 @@ module _ {w : World} {sums : Sums} {options : Options} {threads : Threads} (is :
       let (after, collects, world) = told in
       ap length (sym world.locals)
       ∙ length-map after.locals (place_of after.objects)
-      ∙ ap (λ (m : Machine). length m.locals) collects.state
+      ∙ ap length (collects_keeps s g how answer after collects).locals
       ∙ is.locals
 
   -- no thread has a context
@@ -228,7 +263,7 @@ module _ {w : World} {sums : Sums} {options : Options} {threads : Threads} (is :
   no_contexts-after =
       let (after, collects, world) = told in
       let none = ap (λ (l : Layout). rest_pieces l.rests) (sym world.memory.layout)
-      ∙ rests_gone s is.sound.lawful idle g least how answer after collects in
+      ∙ rests_gone s is.sound.lawful idle g how (is_usual g how least unfitted) answer after collects in
       none_rest new.heap.rests none
       ∙ ap (λ n. replicate n None) sound-after.lawful.laid.layout.threads
 

@@ -9,7 +9,8 @@ use Rattle.clr_model.specs.Allocation.{context_front, rest_fits}
 use Rattle.clr_model.specs.Machine.{begun_new, begun_store, Machine, no_step, ThreadStep}
 use Rattle.clr_model.specs.Lookups.{is_step, is_thread, place_of, step_of}
 use Rattle.clr_model.specs.Instructions.{finish_step}
-use Rattle.clr_model.specs.Checks.{first_of_all, refusal as first_refusal, refuse_if, with_some, unknown_thread, blocked}
+use Rattle.clr_model.specs.Checks.{first_of_all, refusal as first_refusal, refuse_if, with_some, unknown_thread}
+use Rattle.clr_model.specs.Checks.{blocked}
 use Rattle.clr_model.specs.Checks.{mid_step, not_mid_step}
 use Rattle.clr_model.specs.Outcomes.{answered, refused}
 use Rattle.clr_model.specs.Picture.{picture, renamed_step}
@@ -43,7 +44,7 @@ finish-same s t =
   where
     go : (a b c d : Option Refusal) → first_of_all (
         a ∷ b ∷ c ∷ d ∷ None ∷ None ∷ None ∷ None ∷ None ∷ None ∷ None ∷ None ∷ None ∷ None ∷ None ∷ None ∷ None ∷ None
-        ∷ [])
+        ∷ None ∷ None ∷ [])
         ≡ first_of_all (a ∷ b ∷ c ∷ d ∷ [])
     go (Some r) b c d = refl
     go None (Some r) c d = refl

@@ -31,6 +31,7 @@ use Rattle.clr_runtime.specs.Shown.{shown}
 use Rattle.clr_runtime.specs.declared.parts.Parts.{Parts}
 use Rattle.clr_runtime.proofs.BirthDone.{spent_more}
 use Rattle.clr_runtime.proofs.FinishLines.{begun_birth, finish_birth_done}
+use Rattle.clr_runtime.proofs.RuntimeKept.{small_enough}
 use Rattle.clr_runtime.proofs.StepsBegun.{begun-within, with_begun}
 use Rattle.clr_runtime.proofs.StepsSeen.{step-seen}
 
@@ -58,19 +59,18 @@ module _ (p : Parts) (is : IsRuntime p) (t : ℕ) (thread : is_thread t ≡ true
   pub birth_known : (0 < type.0) × (type.0 ≤ length p.types)
   birth_known = type-there p.types type.0 birth_may.typed
 
-  pub birth_small : size_of (form_at p.types type.0) len < 85000
-  birth_small = birth_may.small
+  pub birth_most : size_of (form_at p.types type.0) len ≤ 1073741824
+  birth_most = small_enough is.shown (size_of (form_at p.types type.0) len) birth_may.small
 
   pub birth_makeable : IsMakeable p.types type.0 len
   birth_makeable =
       let lawful = size-lawful (form_at p.types type.0) len in
-      let small = birth_small in
       let (low, high) = birth_known in
       record {
         known = high;
         no_length = birth_may.class;
         least = lawful.0;
-        most = omega (arith, small);
+        most = birth_most;
         whole = lawful.1;
         free = λ none. absurd (omega (arith, low, none));
       }

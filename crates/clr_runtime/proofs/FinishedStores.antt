@@ -32,7 +32,8 @@ module _ (p : Parts) (is : IsRuntime p) (t object index : ℕ) (thread : is_thre
       (finish_store_done (seen p) t object index thread (store-step is.shown t object index begun))
 
   module _ (after : List (CoverView ℕ)) (next : Threads) (same : next ≡ with_begun p.safe t Nothing) where
-    pub store_finished : Follows (seen p) (finish_step t) (answered Done) (seen (record p { cards = after; safe = next }))
+    pub store_finished : Follows (seen p) (finish_step t) (answered Done)
+        (seen (record p { cards = after; safe = next }))
     store_finished =
         subst (λ (threads : Threads). Follows (seen p) (finish_step t) (answered Done)
         (seen (record p { safe = threads }))) (sym same) finished

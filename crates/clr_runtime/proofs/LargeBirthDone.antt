@@ -16,7 +16,7 @@ use Rattle.clr_generations.specs.Laws.{BrickLaw, NamesNoMore}
 use Rattle.clr_generations.specs.Tables.{AreBricksOf, AreTablesBy}
 use Rattle.clr_generations.proofs.KeptTables.{bounds-from}
 use Rattle.clr_generations.proofs.SameBounds.{HasSameBounds, outlines, outlines_ended, units-same}
-use Rattle.clr_large.specs.Births.{HasLargeNewborn}
+use Rattle.clr_large.specs.Births.{HasNewbornIn}
 use Rattle.clr_model.specs.declared.Reply.TheVariants.{Place}
 use Rattle.clr_model.specs.Allocation.{IsPlacedIn}
 use Rattle.clr_model.specs.Instructions.{new_object}
@@ -51,7 +51,7 @@ bounds-placed old new size place placed = elim placed [
 
 -- where the birth keeps the laws, its cards and bricks are those of the new heap
 pub large_tables : (rows : List TypeRow) (old new : HeapView) (place t n : ℕ) (cards : List (CoverView ℕ))
-    (threads : Threads) (before bricks : List (CoverView ℤ)) → HasLargeNewborn rows old new place t n
+    (threads : Threads) (before bricks : List (CoverView ℤ)) → HasNewbornIn Large rows old new place t n
     → AreBricksOf (frame new) bricks
     → (BrickLaw rows (frame old) (objects_in rows old) (entry_at before)
     → BrickLaw rows (frame new) (objects_in rows new) (entry_at bricks))
@@ -104,7 +104,7 @@ module _ (old : Machine) {w : World} {sums : Sums} {options : Options} {threads 
   size-is = has.is ∙ ap (λ (rs : List TypeRow). measure_of rs type len) (sym has.types)
 
   module _ (new : HeapView) (place j : ℕ) (entries ready : List ℕ)
-      (newborn : HasLargeNewborn rows h new place type (unwrap_or len 0)) (index : j ≡ local_index t local)
+      (newborn : HasNewbornIn Large rows h new place type (unwrap_or len 0)) (index : j ≡ local_index t local)
       (registered : entries ≡ born_entries (shown w sums options threads) type place) (waiting : ready ≡ w.ready) where
     -- the world with the object
     abbrev born_world : World

@@ -35,3 +35,4 @@ pub mod FinishedStores
 pub mod BegunBirths
 pub mod FinishedBirths
 pub mod QuietThreads
+pub mod Counted

@@ -109,7 +109,7 @@ module _ (i : Instruction) (t : ℕ) (locals : List ℕ) (more : Machine → Lis
       (refuse_if (is_away locals) NoSlot) e))
     where
       go : (a b c d x : Option Refusal) → first_of_all (a ∷ b ∷ c ∷ d ∷ x ∷ []) ≡ Some r
-          → first_of_all (a ∷ b ∷ c ∷ d ∷ None ∷ None ∷ None ∷ None ∷ x ∷ more s) ≡ Some r
+          → first_of_all (a ∷ b ∷ c ∷ d ∷ None ∷ None ∷ None ∷ None ∷ None ∷ None ∷ x ∷ more s) ≡ Some r
       go (Some q) b c d x e = e
       go None (Some q) c d x e = e
       go None None (Some q) d x e = e

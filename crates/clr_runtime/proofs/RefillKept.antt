@@ -4,6 +4,7 @@ use Rattle.std.proofs.Common.{refl, sym, ap, subst, arith, Option, Some, None, i
 use Rattle.std.specs.Prelude.{slice_get}
 use Rattle.std.specs.List.{AllByRecursion}
 use Rattle.std.proofs.lemmas.Bool.{le-leb, lt-leb}
+use Rattle.clr_types.specs.declared.segment.SegKind.TheVariants.{Large}
 use Rattle.clr_types.specs.Ranges.{IsLawfulSize, Piece}
 use Rattle.clr_heap.specs.View.{HeapView, IsHeap}
 use Rattle.clr_ctx.specs.Contexts.{IsIndex}
@@ -19,8 +20,8 @@ use Rattle.clr_model.specs.Lookups.{is_step, is_thread, lowest_in_step, step_of,
 use Rattle.clr_model.specs.Machine.{Machine, no_step, Options, Sums, ThreadStep}
 use Rattle.clr_model.proofs.CollectedPresent.{all_idle}
 use Rattle.clr_model.proofs.ContextRefilled.{refill_lawful}
-use Rattle.clr_large.specs.Places.{large_items}
-use Rattle.clr_large.proofs.LargeKept.{large_refilled}
+use Rattle.clr_large.specs.Places.{kind_items}
+use Rattle.clr_large.proofs.KindKept.{kind_refilled}
 use Rattle.clr_runtime.specs.Rooms.{HasNewContext, IsRefill, IsRefillInBudget}
 use Rattle.clr_runtime.specs.RuntimeView.{IsRuntime, IsShown, seen}
 use Rattle.clr_runtime.specs.declared.parts.Parts.{Parts}
@@ -107,8 +108,9 @@ module _ (p : Parts) (is : IsRuntime p) (heap : IsHeap p.heap) (t size : ℕ) (l
       owed = is.owed;
       finalizers = is.finalizers;
       index = listed;
-      large = index_kept large_items p.types p.types p.heap mid p.large
-          (large_refilled (seen p) is.shown.sound.lawful t size (layout_in p.types mid) refilled.layout) is.large;
+      large = index_kept (kind_items Large) p.types p.types p.heap mid p.large
+          (kind_refilled (seen p) is.shown.sound.lawful Large refl t size (layout_in p.types mid) refilled.layout)
+          is.large;
       limit = refilled.limit ∙ is.limit;
       pins = is.pins;
       room = is.room;

@@ -8,7 +8,7 @@ use Rattle.clr_model.specs.declared.Collected.{Collected}
 use Rattle.clr_model.specs.declared.How.{How}
 use Rattle.clr_model.specs.declared.How.TheVariants.{Compact, Decide}
 use Rattle.clr_model.specs.Allocation.{out_of_memory, out_of_room, own_fits, roomed, waits}
-use Rattle.clr_model.specs.Collection.{Collects, which}
+use Rattle.clr_model.specs.Collection.{Collects, generation_to_collect}
 use Rattle.clr_model.specs.Lookups.{is_step, is_thread, lowest_in_step, step_of}
 use Rattle.clr_model.specs.Machine.{Machine}
 use Rattle.clr_model.specs.Picture.{picture}
@@ -54,15 +54,16 @@ module _ (t size : ℕ) (thread : is_thread t ≡ true) (sized : IsLawfulSize si
       (room_waits (seen p) t size own tried.0 k (sym (ap (λ (r : Parts). lowest_in_step (seen r)) tried.1) ∙ busy))
 
   module _ (q : Parts) (tried : IsRefillInBudget p q t size false) (calm : lowest_in_step (seen q) ≡ None) (g : ℕ)
-      (due : g ≡ which (seen q)) (p1 : Parts) (answer : Collected)
+      (due : g ≡ generation_to_collect (seen q)) (p1 : Parts) (answer : Collected)
       (first : (after : Machine) × Collects (seen q) g Decide answer after × (seen p1 ≡ picture after)) where
     none_steps : lowest_in_step (seen p) ≡ None
     none_steps = sym (ap (λ (r : Parts). lowest_in_step (seen r)) tried.1) ∙ calm
 
-    young : HasCollected (seen p) (which (seen p)) Decide (seen p1)
+    young : HasCollected (seen p) (generation_to_collect (seen p)) Decide (seen p1)
     young =
         let same = ap seen tried.1 in
-        collected_of (seen q) (seen p) g (which (seen p)) Decide (seen p1) answer same (due ∙ ap which same) first
+        collected_of (seen q) (seen p) g (generation_to_collect (seen p)) Decide (seen p1) answer same
+        (due ∙ ap generation_to_collect same) first
 
     -- a refill after a collection of the generation that the sums choose
     pub made_after_first : (r : Parts) → IsRefill p1 r t size true → FollowsRoom (seen p) t size roomed (seen r)

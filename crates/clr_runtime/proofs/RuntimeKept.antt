@@ -27,11 +27,11 @@ module _ {w : World} {sums : Sums} {options : Options} {threads : Threads} (is :
   s = shown w sums options threads
 
   -- the bytes that were born stay a word: they are within the limit
-  pub spent_fits : (size : ℕ) → size < 85000 → sums.spent0 + size < 2 ^ 64
-  spent_fits size small =
+  pub spent_fits : (size : ℕ) → size ≤ 1073741824 → sums.spent0 + size < 2 ^ 64
+  spent_fits size most =
       let within = (sums_bounded s is.sound.lawful).spent0 in
       let limit = is.sound.lawful.options.limit_greatest in
-      omega (arith, within, limit, small)
+      omega (arith, within, limit, most)
 
   -- so do those of large objects
   pub spent_large_fits : (size : ℕ) → size ≤ 1073741824 → sums.spent_large + size < 2 ^ 64
@@ -39,6 +39,13 @@ module _ {w : World} {sums : Sums} {options : Options} {threads : Threads} (is :
       let within = (sums_bounded s is.sound.lawful).spent_large in
       let limit = is.sound.lawful.options.limit_greatest in
       omega (arith, within, limit, most)
+
+  -- a small object has no more bytes than any
+  pub small_enough : (size : ℕ) → size < options.large → size ≤ 1073741824
+  small_enough size small =
+      let large = is.sound.lawful.options.large_greatest in
+      let segment = is.sound.lawful.options.segment_greatest in
+      omega (arith, small, large, segment)
 
   -- whatever names objects has changed, and the heap stayed
   pub names_kept : (i : Instruction) (outcome : Outcome) (locals : List ℕ) (handles : FinMap nat_cmp Handle)

@@ -1,8 +1,10 @@
 -- A new ephemeral segment: what still holds of the parts of a runtime, and that a small object has room in it.
-use Rattle.std.proofs.Common.{◌≡◌, ◌∙◌, ℕ, ◌+◌, ◌<◌, ◌≤◌, ◌&&◌, Bool, true, false, List, [], sym, ap, subst, arith, ℤ}
+use Rattle.std.proofs.Common.{refl, ◌≡◌, ◌∙◌, ℕ, ◌+◌, ◌<◌, ◌≤◌, ◌&&◌, Bool, true, false, List, [], sym, ap, subst}
+use Rattle.std.proofs.Common.{arith, ℤ}
 use Rattle.std.proofs.Common.{◌↔◌, inl, inr, Err, Ok, Result, Some}
 use Rattle.std.specs.List.{list_any}
 use Rattle.std.proofs.lemmas.Bool.{both_ways, cases_lt, le-leb, or_right}
+use Rattle.clr_types.specs.declared.segment.SegKind.TheVariants.{Large}
 use Rattle.clr_types.specs.Ranges.{fits}
 use Rattle.clr_types.specs.Segments.{ephemeral, fits_in_tail, Layout, opening_segment, reserved_sum, rest_pieces}
 use Rattle.clr_types.specs.Segments.{segment_or_empty}
@@ -22,8 +24,8 @@ use Rattle.clr_model.specs.Lawful.{IsLawful, IsPlaceNamed}
 use Rattle.clr_model.specs.Machine.{Machine}
 use Rattle.clr_model.proofs.SealedLawful.{sealed_lawful}
 use Rattle.clr_model.proofs.SealedSums.{one_sealed}
-use Rattle.clr_large.specs.Places.{large_items}
-use Rattle.clr_large.proofs.LargeKept.{large_sealed}
+use Rattle.clr_large.specs.Places.{kind_items}
+use Rattle.clr_large.proofs.KindKept.{kind_sealed}
 use Rattle.clr_runtime.specs.Rooms.{HasNewContext, IsRefill, IsSealedRefill, IsSealing, with_new_segment}
 use Rattle.clr_runtime.specs.RuntimeView.{IsRuntime, seen}
 use Rattle.clr_runtime.specs.declared.parts.Parts.{Parts}
@@ -94,8 +96,8 @@ module _ (p : Parts) (is : IsRuntime p) (bare : p.heap.rests ≡ no_rests)
     owed = is.owed;
     finalizers = is.finalizers;
     index = sym (none_young p.types new heap held young-at_end);
-    large = index_kept large_items p.types p.types p.heap new p.large
-        (ap large_items layout ∙ large_sealed (layout_in p.types p.heap) p.options.segment) is.large;
+    large = index_kept (kind_items Large) p.types p.types p.heap new p.large
+        (ap (kind_items Large) layout ∙ kind_sealed Large refl (layout_in p.types p.heap) p.options.segment) is.large;
     limit = ap (λ (h : HeapView). h.limit) words ∙ is.limit;
     pins = is.pins;
     room = is.room;
@@ -104,17 +106,17 @@ module _ (p : Parts) (is : IsRuntime p) (bare : p.heap.rests ≡ no_rests)
 -- ---- a context in the new segment
 
 -- a small object has room in it
-room-sealed : (m : Machine) → IsLawful m → (size : ℕ) → size < 85000
+room-sealed : (m : Machine) → IsLawful m → (size : ℕ) → size < m.options.large
     → has_room (with_new_segment m).layout size ≡ true
 room-sealed m lawful size small =
-    let least = lawful.options.segment_least in
+    let within = lawful.options.large_greatest in
     let next = sealed m.layout m.options.segment in
     or_right (list_any (λ p. is_young_item next p && fits size p.size) next.free) (fits_in_tail (ephemeral next) size)
     (subst (λ (s : SegInfo). fits_in_tail s size ≡ true) (sym (ephemeral-sealed m.layout m.options.segment))
     (le-leb (m.layout.top + 0x1000 + size) (m.layout.top + m.options.segment) (omega arith)))
 
 -- so a refill finds it
-pub sealing_refilled : (p q r : Parts) (t size : ℕ) → IsRuntime p → size < 85000
+pub sealing_refilled : (p q r : Parts) (t size : ℕ) → IsRuntime p → size < p.options.large
     → IsSealing (seen p) (seen q) (Ok tt) → (b : Bool) → IsRefill q r t size b
     → IsSealedRefill (seen p) (seen r) t size (Ok tt)
 sealing_refilled p q r t size is small (may, same) true made =

@@ -12,6 +12,7 @@ use Rattle.clr_model.specs.Lawful.{AllFrom, HasItsRoom, IsBirthNamed, IsLawful, 
 use Rattle.clr_model.proofs.ContextChange.{thread-between}
 use Rattle.clr_model.proofs.Naming.{map-slice_set}
 use Rattle.clr_model.proofs.RootsChanged.{shaped_alike}
+use Rattle.clr_model.proofs.MarkingKept.{marking_kept, old_as}
 
 -- ---- what one thread has begun
 
@@ -121,6 +122,9 @@ with_threads_lawful m named steps holder begun held =
           promoted1 = h.sums.promoted1;
           promoted2 = h.sums.promoted2;
         };
+        marking =
+            marking_kept m next m.background
+            (old_as m next (λ o. o) (λ o. refl) (λ o i. i) (λ o i old. old)) h.marking;
       };
       born = named.born;
     }
@@ -160,7 +164,8 @@ with_step_lawful m named t thread s there room =
 pub picture-with_step : (m : Machine) (t : ℕ) (s : ThreadStep)
     → picture (with_step m t s) ≡ with_step (picture m) t (renamed_step (place_of m.objects) s)
 picture-with_step m t s =
-    ap (λ steps. record (picture m) { steps = steps }) (map-slice_set (renamed_step (place_of m.objects)) m.steps (t - 1) s)
+    ap (λ steps. record (picture m) { steps = steps })
+    (map-slice_set (renamed_step (place_of m.objects)) m.steps (t - 1) s)
 
 -- a thread holds the others, or none does any more
 pub with_holder_lawful : (m : Machine) → IsBirthNamed m → (holder : Option ℕ)

@@ -41,7 +41,8 @@ pub begun-shown : (w : World) (sums : Sums) (options : Options) (threads : Threa
     → with_step (shown w sums options threads) t (step_by what)
     ≡ shown w sums options (record threads { begun = set threads.begun (t - 1) what })
 begun-shown w sums options threads t what =
-    ap (λ steps. record (shown w sums options threads) { steps = steps }) (sym (steps_of-set threads.begun (t - 1) what))
+    ap (λ steps. record (shown w sums options threads) { steps = steps })
+    (sym (steps_of-set threads.begun (t - 1) what))
 
 module _ {w : World} {sums : Sums} {options : Options} {threads : Threads} (is : IsShown w sums options threads) where
   -- each thread has its entry
@@ -85,7 +86,8 @@ finalizer-of rows threads t type len local finalizer begun tells =
 
 -- ---- what is told of references to younger objects
 
-module _ (rows : List TypeRow) (h : HeapView) (cards : List (CoverView ℕ)) (threads : Threads) (t : ℕ) (what : Begun) where
+module _ (rows : List TypeRow) (h : HeapView) (cards : List (CoverView ℕ)) (threads : Threads) (t : ℕ)
+    (what : Begun) where
   -- an address that a store tells which isn't the thread's own is told still
   pub store-still : (a : ℕ) (store : IsBegunStore rows (objects_in rows h) (steps_of threads) a)
       → (step_by (begun_by threads t) ≡ begun_store store.object.name store.slot → ⊥)

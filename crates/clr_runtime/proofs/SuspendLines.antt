@@ -25,7 +25,7 @@ passed-thread i t locals more line s e =
   where
     go : (known : Bool) (held : Option Refusal) (stepping : Bool)
         → first_of_all (refuse_if (not known) UnknownThread ∷ held ∷ refuse_if (stepping && true) MidStep
-        ∷ refuse_if (not stepping && false) NotMidStep ∷ None ∷ None ∷ None ∷ None
+        ∷ refuse_if (not stepping && false) NotMidStep ∷ None ∷ None ∷ None ∷ None ∷ None ∷ None
         ∷ refuse_if (is_away locals) NoSlot ∷ more s) ≡ None
         → known ≡ true
     go true held stepping e = refl

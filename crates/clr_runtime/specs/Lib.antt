@@ -1,6 +1,7 @@
 pub mod Options
 pub mod Shown
 pub mod RuntimeView
+pub mod Slides
 pub mod Outcomes
 pub mod Checks
 pub mod Births

@@ -2,7 +2,6 @@
 use Rattle.clr_model.specs.Machine as machine
 use Rattle.clr_runtime.specs.declared.options.Options.{Options}
 
--- objects of 85,000 bytes and more are large
 abbrev pub options_of : Options → machine.Options
 options_of o = record {
   limit = o.limit;
@@ -12,5 +11,5 @@ options_of o = record {
   b2 = o.b2;
   bl = o.bl;
   compact = o.compact;
-  large = 85000;
+  large = o.large;
 }

@@ -1,6 +1,7 @@
 -- What holds of the parts of a runtime, and the machine that they show.
 use Rattle.std.specs.Prelude.{◌≡◌, ℕ, ◌+◌, ◌/◌, ◌≤◌, ◌==◌, if◌then◌else◌, length, List, [], true, ◌⊎◌}
 use Rattle.std.specs.List.{AllByRecursion}
+use Rattle.clr_types.specs.declared.segment.SegKind.TheVariants.{Large}
 use Rattle.clr_types.specs.Rising.{IsIn}
 use Rattle.clr_types.specs.Types.{form_at, has_finalizer, slot_offset, type_row, TypeRow}
 use Rattle.clr_covers.specs.Covers.{CoverView}
@@ -14,12 +15,13 @@ use Rattle.clr_view.specs.View.{AreFreeHeads, IsHeld, objects_in}
 use Rattle.clr_view.specs.World.{World}
 use Rattle.clr_model.specs.Machine.{begun_store, Machine, Object, Options, Sums, ThreadStep}
 use Rattle.clr_model.specs.Lawful.{IsPlaceNamed}
+use Rattle.clr_model.specs.Run as run
 use Rattle.clr_ctx.specs.Contexts.{IsIndex}
 use Rattle.clr_generations.specs.Tables.{AreTablesBy}
 use Rattle.clr_safe.specs.Threads.{births_owed, steps_of, Threads}
 use Rattle.clr_safe.specs.declared.begun.Begun.{Begun}
 use Rattle.clr_safe.specs.declared.begun.Begun.TheVariants.{Birth, Nothing, Store}
-use Rattle.clr_large.specs.Places.{IsLargeIndex}
+use Rattle.clr_large.specs.Places.{IsKindIndex}
 use Rattle.clr_runtime.specs.Options.{options_of}
 use Rattle.clr_runtime.specs.declared.parts.Parts.{Parts}
 use Rattle.clr_runtime.specs.declared.sums.Sums as code
@@ -54,6 +56,18 @@ world_of r = record {
 
 abbrev pub seen : Parts → Machine
 seen r = shown (world_of r) (sums_of r.sums) (options_of r.options) r.safe
+
+-- a runtime: the machine that it shows, and how much its compactions have moved, counted with the compactions
+pub record RuntimeView : Type 0 where
+  pub machine : Machine
+  pub slides : ℕ
+
+abbrev pub viewed : Parts → RuntimeView
+viewed r = record { machine = seen r; slides = r.slides }
+
+-- its machine stands for another one
+abbrev pub StandsFor : RuntimeView → Machine → Type 0
+StandsFor runtime m = run.StandsFor runtime.machine m
 
 -- What holds of the parts of a runtime. What is seen is lawful, and its objects are named by their places. Between
 -- lines no object is marked, and no free item's head is. The headers and the padding of objects say nothing else.
@@ -94,7 +108,7 @@ pub record IsRuntime (r : Parts) : Type 0 where
   pub owed : births_owed r.safe ≤ r.finals.spare
   pub finalizers : AllByRecursion (TellsFinalizer r.types) r.safe.begun
   pub index : IsIndex r.types r.heap r.contexts
-  pub large : IsLargeIndex r.types r.heap r.large
+  pub large : IsKindIndex Large r.types r.heap r.large
   pub limit : r.heap.limit ≡ r.options.limit
   pub pins : r.pins.entries ≡ []
   pub room : pinned_in r.handles + 4 ≤ r.pins.spare

@@ -13,7 +13,8 @@ use Rattle.clr_runtime.specs.RuntimeView.{seen}
 use Rattle.clr_runtime.specs.declared.births.Request.{Request}
 use Rattle.clr_runtime.specs.declared.parts.Parts.{Parts}
 
--- The checks on the thread of a line that finishes a step: there is such a thread, and it is in mid-step. One that isn't
+-- The checks on the thread of a line that finishes a step: there is such a thread, and it is in mid-step. One that
+-- isn't
 -- may be held by another one.
 abbrev pub finish_checks : Machine → ℕ → List (Option Refusal)
 finish_checks s t =

@@ -5,6 +5,7 @@ ghost use Rattle.clr_runtime.specs.Births.{FollowsAsked, IsAsked, IsDefined, Mea
 ghost use Rattle.clr_runtime.specs.Checks.{thread_refusal};
 ghost use Rattle.clr_runtime.specs.Outcomes.{refusal_of_room};
 ghost use Rattle.clr_runtime.specs.RuntimeView.{IsRuntime, seen};
+ghost use Rattle.clr_runtime.specs.Slides.{Grew};
 
 use crate::NoMemory;
 use crate::checks::index_of;
@@ -14,12 +15,9 @@ use crate::rooms::{NoRoom, make_room};
 use crate::runtime::{LOCALS_OF_A_THREAD, Runtime};
 use clr_final::Finals;
 use clr_generations::bear;
-use clr_heap::AcquireFault;
+use clr_heap::{AcquireFault, SegKind};
 use clr_model::Refusal;
 use clr_types::{TypeId, Types};
-
-/// Objects of this many bytes and more are large.
-pub(crate) const LARGE: u64 = 85_000;
 
 /// What a line that makes an object asks for: its type and, where that is an array, how many elements; its bytes, and
 /// whether it is to be finalised.
@@ -45,16 +43,16 @@ impl Runtime {
     /// more than 2^30 bytes, in this order; then with `NoMemory` where a finalisation entry is wanted and there is no
     /// memory for it. Such a line changes nothing.
     ///
-    /// An object of less than 85,000 bytes stands at the front of the context of its thread. Where that has no room,
-    /// the thread gets a new one: from the first free item of generation 0 in which the object fits, or from the tail
-    /// of its segment. Where the bytes of such objects that were born since the last collection would pass the budget
-    /// `b0` with it, or where no new context has room, the line collects first, as the option `compact` decides:
-    /// generation 0, and generation 1 too where the bytes promoted to it passed `b1`, and then all where also those
-    /// promoted to generation 2 passed `b2`. Where there is no room then, either, it makes a full compacting
-    /// collection. Where there is none after that, the ephemeral segment is sealed: all in it is old from then on, and
-    /// the new context is in a new segment.
+    /// An object of fewer bytes than the option `large` stands at the front of the context of its thread. Where that
+    /// has no room, the thread gets a new one: from the first free item of generation 0 in which the object fits, or
+    /// from the tail of its segment. Where the bytes of such objects that were born since the last collection would
+    /// pass the budget `b0` with it, or where no new context has room, the line collects first, as the option
+    /// `compact` decides: generation 0, and generation 1 too where the bytes promoted to it passed `b1`, and then all
+    /// where also those promoted to generation 2 passed `b2`. Where there is no room then, either, it makes a full
+    /// compacting collection. Where there is none after that, the ephemeral segment is sealed: all in it is old from
+    /// then on, and the new context is in a new segment.
     ///
-    /// A larger one stands in a large segment, at a place at which it fits: the front of a free item, or the bytes
+    /// Any other stands in a large segment, at a place at which it fits: the front of a free item, or the bytes
     /// behind a segment's end. Where the bytes of large objects that were born since the last full collection would
     /// pass the budget `bl` with it, or where there is no such place, the line makes a full collection, as the option
     /// `compact` decides. Where there is none then, either, it makes a full compacting one. Where there is none after
@@ -64,7 +62,8 @@ impl Runtime {
     /// Where the line would collect and another thread is in mid-step, it is refused with `Wait` for the lowest of
     /// these, and changes nothing. It is refused with `Oom` exactly where there is no room after the full compacting
     /// collection and the limit allows no segment more, and with `NoMemory` also where it allows one and there is no
-    /// memory for it. What the collections left stays.
+    /// memory for it. What the collections left stays. Where it is refused with `Oom`, `slides` has counted a
+    /// compaction.
     #[inline(always)]
     pub fn new_object(
         &mut self,
@@ -73,7 +72,9 @@ impl Runtime {
         name: &[u8],
         len: Option<u64>,
     ) -> Result<u64, Refusal>
-        ensures { Follows self.old (new_object t local name.now len) (place_outcome result) self.new }
+        ensures follows { Follows self.old.machine (new_object t local name.now len)
+            (place_outcome result) self.new.machine }
+        ensures grew { result ≡ Err Refusal.Oom → Grew self.old.slides self.new.slides }
     {
         if let Some(refusal) = self.refused_thread(t) {
             return Err(refusal);
@@ -86,7 +87,8 @@ impl Runtime {
         let Ok(()) = reserve_entry(&mut self.parts.finals, owed, request.finalizer) else {
             return Err(Refusal::NoMemory);
         };
-        if request.size < LARGE {
+        let large = self.parts.options.large;
+        if request.size < large {
             return make_small(&mut self.parts, t, local, request);
         }
         make_large(&mut self.parts, t, local, request)
@@ -101,8 +103,9 @@ fn make_small(parts: &mut Parts, t: u64, local: u64, request: Request) -> Result
     requires passed { thread_refusal (seen parts.old) t ≡ None }
     requires asked { IsAsked parts.old.types local request }
     requires entry { request.finalizer ≡ true → births_owed parts.old.safe + 1 ≤ parts.old.finals.spare }
-    requires small { request.size < 85000 }
+    requires small { request.size < parts.old.options.large }
     ensures made { FollowsAsked parts.old parts.new t local request result }
+    ensures grew { result ≡ Err Refusal.Oom → Grew parts.old.slides parts.new.slides }
     ensures runtime { IsRuntime parts.new }
 {
     let thread = t as usize;
@@ -132,8 +135,9 @@ fn make_large(parts: &mut Parts, t: u64, local: u64, request: Request) -> Result
     requires passed { thread_refusal (seen parts.old) t ≡ None }
     requires asked { IsAsked parts.old.types local request }
     requires entry { request.finalizer ≡ true → births_owed parts.old.safe + 1 ≤ parts.old.finals.spare }
-    requires large { 85000 ≤ request.size }
+    requires large { parts.old.options.large ≤ request.size }
     ensures made { FollowsAsked parts.old parts.new t local request result }
+    ensures grew { result ≡ Err Refusal.Oom → Grew parts.old.slides parts.new.slides }
     ensures runtime { IsRuntime parts.new }
 {
     if let Err(why) = make_large_room(parts, request.size) {
@@ -143,6 +147,7 @@ fn make_large(parts: &mut Parts, t: u64, local: u64, request: Request) -> Result
         &mut parts.heap,
         &parts.types,
         &mut parts.bricks,
+        SegKind::Large,
         request.type_id,
         request.len,
     )

@@ -15,7 +15,7 @@ impl Runtime {
     // only finish that, whoever holds the others.
     #[inline(always)]
     pub(crate) fn refused_thread(&self, t: u64) -> Option<Refusal>
-        ensures value { result ≡ thread_refusal self.now t }
+        ensures value { result ≡ thread_refusal self.now.machine t }
         ensures known { result ≡ None → is_thread t ≡ true }
     {
         if !is_known(t) {
@@ -31,7 +31,7 @@ impl Runtime {
     #[inline(never)]
     fn refused_beside(&self, t: u64) -> Option<Refusal>
         requires { is_thread t ≡ true }
-        ensures { result ≡ thread_refusal self.now t }
+        ensures { result ≡ thread_refusal self.now.machine t }
     {
         if self.parts.safe.in_step(t) {
             return Some(Refusal::MidStep);
@@ -45,7 +45,7 @@ impl Runtime {
     // Why a line of a thread that names these two locals is refused before it looks at any object.
     #[inline(always)]
     pub(crate) fn refused_names(&self, t: u64, first: u64, second: u64) -> Option<Refusal>
-        ensures value { result ≡ names_refusal self.now t (first ∷ second ∷ []) }
+        ensures value { result ≡ names_refusal self.now.machine t (first ∷ second ∷ []) }
         ensures known { result ≡ None → is_thread t ≡ true }
         ensures locals { result ≡ None → (first < 64) × (second < 64) }
     {

@@ -1,11 +1,12 @@
 //! The line that collects, and the collections that it and allocations make.
-ghost use Rattle.std.specs.Prelude.{◌≡◌, ◌≤◌, None};
+ghost use Rattle.std.specs.Prelude.{◌≡◌, ◌+◌, ◌≤◌, IfOk, length, MatchBool, None, Some, [], false};
 ghost use Rattle.clr_heap.specs.View.{no_rests};
-ghost use Rattle.clr_model.specs.Collection.{Collects};
+ghost use Rattle.clr_model.specs.Collection.{Collects, is_fit};
 ghost use Rattle.clr_model.specs.Lookups.{lowest_in_step};
 ghost use Rattle.clr_model.specs.Machine.{Machine};
 ghost use Rattle.clr_model.specs.Picture.{picture};
 ghost use Rattle.clr_runtime.specs.RuntimeView.{IsRuntime, seen};
+ghost use Rattle.clr_runtime.specs.Slides.{CountsCollection};
 
 use crate::parts::Parts;
 use crate::runtime::Runtime;
@@ -29,10 +30,12 @@ impl Runtime {
     ///
     /// It is refused for an unknown thread, with `Blocked` where another thread holds all others, with `MidStep` where
     /// the thread is in mid-step itself, and with `Wait` for the lowest other thread in mid-step, in this order. It
-    /// needs no memory.
+    /// takes no memory. `slides` counts a compaction, and no sweep.
     pub fn collect(&mut self, t: u64, g: u8, how: How) -> Result<Collected, Refusal>
         requires generation { g ≤ 2 }
-        ensures { Follows self.old (collect_heap t g how) (collected_outcome result) self.new }
+        requires unfitted { is_fit how ≡ false }
+        ensures follows { Follows self.old.machine (collect_heap t g how) (collected_outcome result) self.new.machine }
+        ensures counted { IfOk result (λ c. CountsCollection c.compacted self.old.slides self.new.slides) }
     {
         if let Some(refusal) = self.refused_thread(t) {
             return Err(refusal);
@@ -45,23 +48,35 @@ impl Runtime {
 
     /// How many compactions there were, and how many bytes they moved, together. It stays at the last value of a `u64`
     /// where it would pass it.
-    pub fn slides(&self) -> u64 {
+    pub fn slides(&self) -> u64
+        ensures { result ≡ self.now.slides }
+    {
         self.parts.slides.count()
     }
 }
 
 // Collects generation `g` and all younger ones, as `how` says. No thread is in mid-step, and none has a context
-// afterwards. The finalisation queue still has room for as many entries. The index of free items of large segments is
-// dropped, and made anew where room is next wanted there.
+// afterwards. The finalisation queue still has room for as many entries. It takes no memory: no queue has room for more
+// than it had room for, nor has the marker's stack. The index of free items of large segments is dropped, and after a
+// compaction that of the contexts; each is made anew where room is next wanted there.
 pub(crate) fn collect_parts(parts: &mut Parts, g: u8, how: How) -> Collected
     requires generation { g ≤ 2 }
+    requires unfitted { is_fit how ≡ false }
     requires runtime { IsRuntime parts.old }
     requires idle { lowest_in_step (seen parts.old) ≡ None }
     ensures collected { (after : Machine) × Collects (seen parts.old) g how result after
         × (seen parts.new ≡ picture after) }
     ensures no_contexts { parts.new.heap.rests ≡ no_rests }
     ensures runtime { IsRuntime parts.new }
+    ensures slides { CountsCollection result.compacted parts.old.slides parts.new.slides }
     ensures spare { parts.old.finals.spare ≤ parts.new.finals.spare }
+    ensures options { parts.new.options ≡ parts.old.options }
+    ensures none_added { parts.new.finals.spare + length parts.new.finals.entries
+        ≤ parts.old.finals.spare + length parts.old.finals.entries }
+    ensures pins_room { parts.new.pins.spare ≡ parts.old.pins.spare }
+    ensures stack { parts.new.marker.capacity ≡ parts.old.marker.capacity }
+    ensures index_after { MatchBool result.compacted (parts.new.contexts ≡ None) (parts.new.contexts ≡ Some []) }
+    ensures large_index { parts.new.large ≡ None }
     ensures types { parts.new.types ≡ parts.old.types }
     ensures safe { parts.new.safe ≡ parts.old.safe }
 {

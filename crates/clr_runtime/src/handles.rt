@@ -34,7 +34,8 @@ impl Runtime {
         second: Option<u64>,
     ) -> Result<u64, Refusal>
         requires form { IsHandleForm kind second }
-        ensures { Follows self.old (create_handle t kind local second) (handle_outcome result) self.new }
+        ensures { Follows self.old.machine (create_handle t kind local second)
+            (handle_outcome result) self.new.machine }
     {
         if let Some(refusal) = self.refused_names(t, local, second.unwrap_or(local)) {
             return Err(refusal);
@@ -61,7 +62,7 @@ impl Runtime {
     /// It is refused for a thread that may not go on, a local from 64 on, and a number that isn't in use, in this
     /// order.
     pub fn fetch(&mut self, t: u64, to: u64, h: u64) -> Result<u64, Refusal>
-        ensures { Follows self.old (fetch_target t to h) (place_outcome result) self.new }
+        ensures { Follows self.old.machine (fetch_target t to h) (place_outcome result) self.new.machine }
     {
         if let Some(refusal) = self.refused_names(t, to, to) {
             return Err(refusal);
@@ -78,7 +79,7 @@ impl Runtime {
     ///
     /// It is refused as `fetch` is, and last for a handle of another kind.
     pub fn second(&mut self, t: u64, to: u64, h: u64) -> Result<u64, Refusal>
-        ensures { Follows self.old (fetch_second t to h) (place_outcome result) self.new }
+        ensures { Follows self.old.machine (fetch_second t to h) (place_outcome result) self.new.machine }
     {
         if let Some(refusal) = self.refused_names(t, to, to) {
             return Err(refusal);
@@ -97,7 +98,7 @@ impl Runtime {
     ///
     /// It is refused for a thread that may not go on, and a number that isn't in use, in this order.
     pub fn free(&mut self, t: u64, h: u64) -> Result<(), Refusal>
-        ensures { Follows self.old (free_handle t h) (done_outcome result) self.new }
+        ensures { Follows self.old.machine (free_handle t h) (done_outcome result) self.new.machine }
     {
         if let Some(refusal) = self.refused_thread(t) {
             return Err(refusal);

@@ -7,12 +7,13 @@ ghost use Rattle.clr_model.specs.Lookups.{lowest_in_step};
 ghost use Rattle.clr_runtime.specs.LargeRooms.{has_place_in_budget, IsAcquired};
 ghost use Rattle.clr_runtime.specs.Rooms.{attempt_of};
 ghost use Rattle.clr_runtime.specs.RuntimeView.{IsRuntime, seen};
+ghost use Rattle.clr_runtime.specs.Slides.{Grew};
 
 use crate::collections::collect_parts;
 use crate::parts::Parts;
 use crate::rooms::NoRoom;
-use clr_heap::AcquireFault;
-use clr_large::acquire_large;
+use clr_heap::{AcquireFault, SegKind};
+use clr_large::acquire_of_kind;
 use clr_model::How;
 
 /// Segments are reserved in whole pages of so many bytes, and objects start so far behind a segment's base.
@@ -27,12 +28,13 @@ const PAGE: u64 = 4096;
 #[inline(never)]
 pub(crate) fn make_large_room(parts: &mut Parts, size: u64) -> Result<(), NoRoom>
     requires runtime { IsRuntime parts.old }
-    requires least { 85000 ≤ size }
+    requires least { parts.old.options.large ≤ size }
     requires whole { size % 8 ≡ 0 }
     requires most { size ≤ 1073741824 }
     ensures place { OnOk result (FollowsToPlace (seen parts.old) size (seen parts.new)) }
     ensures fits { OnOk result (has_room_in Large (seen parts.new).layout size ≡ true) }
     ensures err { OnErr result (FollowsLargeFails (seen parts.old) size (attempt_of result) (seen parts.new)) }
+    ensures grew { result ≡ Err (NoRoom.Acquire AcquireFault.OverLimit) → Grew parts.old.slides parts.new.slides }
     ensures runtime { IsRuntime parts.new }
     ensures spare { parts.old.finals.spare ≤ parts.new.finals.spare }
     ensures types { parts.new.types ≡ parts.old.types }
@@ -65,6 +67,7 @@ fn has_room_in_budget(parts: &mut Parts, size: u64) -> bool
     ensures place { result ≡ has_place_in_budget (seen parts.old) size }
     ensures seen { seen parts.new ≡ seen parts.old }
     ensures runtime { IsRuntime parts.new }
+    ensures slides { parts.new.slides ≡ parts.old.slides }
     ensures finals { parts.new.finals ≡ parts.old.finals }
     ensures types { parts.new.types ≡ parts.old.types }
     ensures safe { parts.new.safe ≡ parts.old.safe }
@@ -82,36 +85,40 @@ fn has_large_room(parts: &mut Parts, size: u64) -> bool
     ensures place { result ≡ has_room_in Large (seen parts.old).layout size }
     ensures seen { seen parts.new ≡ seen parts.old }
     ensures runtime { IsRuntime parts.new }
+    ensures slides { parts.new.slides ≡ parts.old.slides }
     ensures finals { parts.new.finals ≡ parts.old.finals }
     ensures types { parts.new.types ≡ parts.old.types }
     ensures safe { parts.new.safe ≡ parts.old.safe }
 {
-    parts.large.room(&parts.heap, &parts.types, size)
+    parts
+        .large
+        .room(&parts.heap, &parts.types, SegKind::Large, size)
 }
 
 // Acquires a large segment in which the size fits, where the limit allows one and there is memory for it. It reserves
 // as many bytes as the options say, or as many whole pages as the object takes behind the first, where these are more.
-// No thread is in mid-step.
+// Threads may be in mid-step.
 //
 // `OverLimit` comes exactly where the limit allows no such segment, and `NoMemory` where there is no memory for it, its
 // cards or its bricks. Nothing that is seen changes then.
 fn acquire_for(parts: &mut Parts, size: u64) -> Result<(), AcquireFault>
     requires runtime { IsRuntime parts.old }
-    requires idle { lowest_in_step (seen parts.old) ≡ None }
     requires most { size ≤ 1073741824 }
     ensures acquired { IsAcquired (seen parts.old) (seen parts.new) size result }
     ensures runtime { IsRuntime parts.new }
+    ensures slides { parts.new.slides ≡ parts.old.slides }
     ensures finals { parts.new.finals ≡ parts.old.finals }
     ensures types { parts.new.types ≡ parts.old.types }
     ensures safe { parts.new.safe ≡ parts.old.safe }
 {
     let pages = (size + PAGE - 1) / PAGE;
     let reserved = parts.options.segment.max(PAGE + pages * PAGE);
-    acquire_large(
+    acquire_of_kind(
         &mut parts.heap,
         &parts.types,
         &mut parts.cards,
         &mut parts.bricks,
+        SegKind::Large,
         reserved,
     )
 }

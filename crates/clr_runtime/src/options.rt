@@ -24,6 +24,8 @@ pub struct Options {
     pub bl: u64,
     /// The percentage of free space from which a collection that decides compacts.
     pub compact: u64,
+    /// The bytes of an object from which on it is a large one.
+    pub large: u64,
 }
 
 impl Options {
@@ -39,11 +41,13 @@ impl Options {
             b2: 4_194_304,
             bl: 4_194_304,
             compact: 50,
+            large: 85_000,
         }
     }
 
     /// Whether a runtime may be made with these: a segment has 256 KiB to 64 MiB in whole pages, the limit takes two of
-    /// them and is at most 1 GiB, as is each budget, and the percentage is at most 100.
+    /// them and is at most 1 GiB, as is each budget, the percentage is at most 100, and large objects begin at 85,000
+    /// bytes or more, and at a page less than a segment at most.
     pub fn is_lawful(&self) -> bool
         ensures { IsTrue result ↔ AreLawfulOptions (options_of self.now) }
     {
@@ -57,5 +61,7 @@ impl Options {
             && self.b2 <= GIBIBYTE
             && self.bl <= GIBIBYTE
             && self.compact <= 100
+            && 85_000 <= self.large
+            && self.large <= self.segment - 4096
     }
 }

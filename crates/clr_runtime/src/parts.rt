@@ -8,7 +8,7 @@ use clr_ctx::Contexts;
 use clr_final::Finals;
 use clr_handles::Handles;
 use clr_heap::Heap;
-use clr_large::LargeItems;
+use clr_large::KindItems;
 use clr_mark::Marker;
 use clr_pinq::PinQueue;
 use clr_safe::Safe;
@@ -26,7 +26,7 @@ pub(crate) struct Parts {
     pub(crate) bricks: Bricks,
     pub(crate) contexts: Contexts,
     /// The index of free items of large segments.
-    pub(crate) large: LargeItems,
+    pub(crate) large: KindItems,
     pub(crate) marker: Marker,
     pub(crate) locals: Vec<u64>,
     pub(crate) handles: Handles,

@@ -2,17 +2,20 @@
 ghost use Rattle.std.specs.Prelude.{◌≡◌, ◌%◌, ◌<◌, ◌≤◌, None, OnOk, false, true};
 ghost use Rattle.clr_heap.specs.View.{no_rests};
 ghost use Rattle.clr_model.specs.Allocation.{own_fits};
-ghost use Rattle.clr_model.specs.Collection.{which};
+ghost use Rattle.clr_model.specs.Collection.{Collects, generation_to_collect, is_fit};
 ghost use Rattle.clr_model.specs.Lookups.{is_step, lowest_in_step, step_of};
+ghost use Rattle.clr_model.specs.Machine.{Machine};
+ghost use Rattle.clr_model.specs.Picture.{picture};
 ghost use Rattle.clr_model.specs.RoomFollows.{FollowsRoom};
 ghost use Rattle.clr_runtime.specs.Rooms.{attempt_of, IsRefill, IsRefillInBudget, IsSealedRefill};
 ghost use Rattle.clr_runtime.specs.RuntimeView.{IsRuntime, seen};
+ghost use Rattle.clr_runtime.specs.Slides.{CountsCollection, Grew};
 
 use crate::collections::collect_parts;
 use crate::parts::Parts;
 use crate::sealing::seal_parts;
 use clr_heap::AcquireFault;
-use clr_model::How;
+use clr_model::{Collected, How};
 
 /// Why there is no room for an object.
 #[derive(Clone, Copy)]
@@ -38,9 +41,10 @@ pub(crate) fn make_room(parts: &mut Parts, thread: usize, size: u64) -> Result<(
     requires idle { is_step (step_of (seen parts.old) thread) ≡ false }
     requires least { 24 ≤ size }
     requires whole { size % 8 ≡ 0 }
-    requires small { size < 85000 }
+    requires small { size < parts.old.options.large }
     ensures room { FollowsRoom (seen parts.old) thread size (attempt_of result) (seen parts.new) }
     ensures fits { OnOk result (own_fits (seen parts.new).layout thread size ≡ true) }
+    ensures grew { result ≡ Err (NoRoom.Acquire AcquireFault.OverLimit) → Grew parts.old.slides parts.new.slides }
     ensures runtime { IsRuntime parts.new }
     ensures spare { parts.old.finals.spare ≤ parts.new.finals.spare }
     ensures types { parts.new.types ≡ parts.old.types }
@@ -49,6 +53,7 @@ pub(crate) fn make_room(parts: &mut Parts, thread: usize, size: u64) -> Result<(
     if fits_in_context(parts, thread, size) {
         return Ok(());
     }
+    renew_index(parts);
     find_room(parts, thread, size)
 }
 
@@ -62,10 +67,11 @@ fn find_room(parts: &mut Parts, thread: usize, size: u64) -> Result<(), NoRoom>
     requires idle { is_step (step_of (seen parts.old) thread) ≡ false }
     requires least { 24 ≤ size }
     requires whole { size % 8 ≡ 0 }
-    requires small { size < 85000 }
+    requires small { size < parts.old.options.large }
     requires full { own_fits (seen parts.old).layout thread size ≡ false }
     ensures room { FollowsRoom (seen parts.old) thread size (attempt_of result) (seen parts.new) }
     ensures fits { OnOk result (own_fits (seen parts.new).layout thread size ≡ true) }
+    ensures grew { result ≡ Err (NoRoom.Acquire AcquireFault.OverLimit) → Grew parts.old.slides parts.new.slides }
     ensures runtime { IsRuntime parts.new }
     ensures spare { parts.old.finals.spare ≤ parts.new.finals.spare }
     ensures types { parts.new.types ≡ parts.old.types }
@@ -78,11 +84,11 @@ fn find_room(parts: &mut Parts, thread: usize, size: u64) -> Result<(), NoRoom>
         return Err(NoRoom::Wait(k as u32));
     }
     let g = generation_due(parts);
-    let _ = collect_parts(parts, g, How::Decide);
+    let _ = collect_for_room(parts, g, How::Decide);
     if refill(parts, thread, size) {
         return Ok(());
     }
-    let _ = collect_parts(parts, 2, How::Compact);
+    let _ = collect_for_room(parts, 2, How::Compact);
     if refill(parts, thread, size) {
         return Ok(());
     }
@@ -92,12 +98,45 @@ fn find_room(parts: &mut Parts, thread: usize, size: u64) -> Result<(), NoRoom>
     }
 }
 
+// Makes the index of the contexts anew, where a compaction has dropped it and no thread has a context yet. Nothing else
+// changes.
+#[cold]
+#[inline(never)]
+fn renew_index(parts: &mut Parts)
+    requires { IsRuntime parts.old }
+    ensures others { parts.new ≡ record parts.old { contexts = parts.new.contexts } }
+    ensures runtime { IsRuntime parts.new }
+{
+    parts.contexts.renew_lost(&parts.heap, &parts.types);
+}
+
+// Collects as `collect_parts` does, and makes the index of the contexts anew.
+fn collect_for_room(parts: &mut Parts, g: u8, how: How) -> Collected
+    requires generation { g ≤ 2 }
+    requires unfitted { is_fit how ≡ false }
+    requires runtime { IsRuntime parts.old }
+    requires idle { lowest_in_step (seen parts.old) ≡ None }
+    ensures collected { (after : Machine) × Collects (seen parts.old) g how result after
+        × (seen parts.new ≡ picture after) }
+    ensures no_contexts { parts.new.heap.rests ≡ no_rests }
+    ensures runtime { IsRuntime parts.new }
+    ensures slides { CountsCollection result.compacted parts.old.slides parts.new.slides }
+    ensures spare { parts.old.finals.spare ≤ parts.new.finals.spare }
+    ensures options { parts.new.options ≡ parts.old.options }
+    ensures types { parts.new.types ≡ parts.old.types }
+    ensures safe { parts.new.safe ≡ parts.old.safe }
+{
+    let collected = collect_parts(parts, g, how);
+    renew_index(parts);
+    collected
+}
+
 // Whether the size fits at the front of the thread's context as it is.
 #[inline(always)]
 fn fits_in_context(parts: &Parts, thread: usize, size: u64) -> bool
     requires positive { 0 < thread }
     requires few { thread ≤ 16 }
-    requires small { size < 85000 }
+    requires most { size ≤ 1073741824 }
     ensures { result ≡ own_fits (seen parts.now).layout thread size }
 {
     parts.contexts.fits(&parts.heap, thread, size)
@@ -106,7 +145,7 @@ fn fits_in_context(parts: &Parts, thread: usize, size: u64) -> bool
 // The generation that an allocation collects: 0, or 1 where more bytes went to it than its budget has, or 2 where more
 // went to that, too.
 fn generation_due(parts: &Parts) -> u8
-    ensures due { result ≡ which (seen parts.now) }
+    ensures due { result ≡ generation_to_collect (seen parts.now) }
     ensures within { result ≤ 2 }
 {
     if parts.sums.promoted1 <= parts.options.b1 {
@@ -127,9 +166,10 @@ fn refill_in_budget(parts: &mut Parts, thread: usize, size: u64) -> bool
     requires idle { is_step (step_of (seen parts.old) thread) ≡ false }
     requires least { 24 ≤ size }
     requires whole { size % 8 ≡ 0 }
-    requires small { size < 85000 }
+    requires most { size ≤ 1073741824 }
     ensures refilled { IsRefillInBudget parts.old parts.new thread size result }
     ensures runtime { IsRuntime parts.new }
+    ensures slides { parts.new.slides ≡ parts.old.slides }
     ensures finals { parts.new.finals ≡ parts.old.finals }
     ensures types { parts.new.types ≡ parts.old.types }
     ensures safe { parts.new.safe ≡ parts.old.safe }
@@ -149,9 +189,10 @@ fn refill(parts: &mut Parts, thread: usize, size: u64) -> bool
     requires idle { is_step (step_of (seen parts.old) thread) ≡ false }
     requires least { 24 ≤ size }
     requires whole { size % 8 ≡ 0 }
-    requires small { size < 85000 }
+    requires most { size ≤ 1073741824 }
     ensures refilled { IsRefill parts.old parts.new thread size result }
     ensures runtime { IsRuntime parts.new }
+    ensures slides { parts.new.slides ≡ parts.old.slides }
     ensures finals { parts.new.finals ≡ parts.old.finals }
     ensures types { parts.new.types ≡ parts.old.types }
     ensures safe { parts.new.safe ≡ parts.old.safe }
@@ -173,9 +214,10 @@ fn refill_by_sealing(parts: &mut Parts, thread: usize, size: u64) -> Result<(), 
     requires few { thread ≤ 16 }
     requires least { 24 ≤ size }
     requires whole { size % 8 ≡ 0 }
-    requires small { size < 85000 }
+    requires small { size < parts.old.options.large }
     ensures refilled { IsSealedRefill (seen parts.old) (seen parts.new) thread size result }
     ensures runtime { IsRuntime parts.new }
+    ensures slides { parts.new.slides ≡ parts.old.slides }
     ensures finals { parts.new.finals ≡ parts.old.finals }
     ensures types { parts.new.types ≡ parts.old.types }
     ensures safe { parts.new.safe ≡ parts.old.safe }

@@ -16,7 +16,7 @@ use clr_final::Finals;
 use clr_generations::cover_segments;
 use clr_handles::Handles;
 use clr_heap::Heap;
-use clr_large::LargeItems;
+use clr_large::KindItems;
 use clr_mark::Marker;
 use clr_model::Refusal;
 use clr_pinq::PinQueue;
@@ -38,9 +38,10 @@ pub(crate) const LOCALS_OF_A_THREAD: u64 = 64;
 /// The types, the heap with its cards and bricks, the contexts, the marker, the locals, the handles and the
 /// finalisation queue of a script that runs. Each call is one line.
 ///
-/// Contracts see the machine whose objects are named by their places. After each call the runtime stands for the next
-/// state of each graph machine that it stood for before, and the answer is that step's reply. A refused call leaves the
-/// state as it was, but for one of `new_object` that finds no room after it has collected.
+/// Contracts see the machine whose objects are named by their places, and the count of what compactions have moved.
+/// After each call the machine stands for the next state of each graph machine that it stood for before, and the answer
+/// is that step's reply. A refused call leaves the state as it was, but for one of `new_object` or `begin_new` that
+/// finds no room after it has collected.
 ///
 /// A thread may not go on where its number isn't one from 1 to 16, where another thread holds all others (`Blocked`),
 /// and where it is in mid-step itself (`MidStep`). Each line of a thread is refused for that first, in this order.
@@ -50,18 +51,18 @@ pub struct Runtime {
 }
 
 impl Model for Runtime {
-    ghost use Rattle.clr_model.specs.Machine.{Machine};
+    ghost use Rattle.clr_runtime.specs.RuntimeView.{RuntimeView};
 
-    ghost Value = { Machine };
+    ghost Value = { RuntimeView };
 
     ghost use Rattle.std.specs.Coded.{codes};
     ghost use Rattle.clr_types.specs.HandleCode.{handles_code};
 
     ghost coded = { Prim.hlevel (codes, handles_code) };
 
-    ghost use Rattle.clr_runtime.specs.RuntimeView.{seen, IsRuntime};
+    ghost use Rattle.clr_runtime.specs.RuntimeView.{viewed, IsRuntime};
 
-    ghost view = { λ r. seen r.parts };
+    ghost view = { λ r. viewed r.parts };
 
     ghost invariant = { λ r. IsRuntime r.parts };
 }
@@ -70,7 +71,7 @@ impl Runtime {
     ghost use Rattle.clr_model.specs.Instructions.{define_type};
     ghost use Rattle.clr_model.specs.Lawful.{AreLawfulOptions, IsPlaceNamed};
     ghost use Rattle.clr_model.specs.LineGrammar.{is_name};
-    ghost use Rattle.clr_model.specs.Run.{Follows, opening, StandsFor};
+    ghost use Rattle.clr_model.specs.Run.{Follows, opening};
     ghost use Rattle.clr_heap.specs.View.{IsHeap};
     ghost use Rattle.clr_view.specs.Clean.{AreClean};
     ghost use Rattle.clr_view.specs.Marks.{IsUnmarked};
@@ -78,7 +79,7 @@ impl Runtime {
     ghost use Rattle.clr_bricks.specs.Bricks.{entry_at};
     ghost use Rattle.clr_cards.specs.Cards.{is_card_set};
     ghost use Rattle.clr_generations.specs.Laws.{BrickLaw, NamesYounger};
-    ghost use Rattle.clr_runtime.specs.RuntimeView.{IsBegunStore};
+    ghost use Rattle.clr_runtime.specs.RuntimeView.{IsBegunStore, StandsFor};
     ghost use Rattle.clr_generations.specs.Tables.{AreBricksOf, AreCardsOf};
     ghost use Rattle.clr_runtime.specs.Outcomes.{mt_outcome};
 
@@ -119,7 +120,7 @@ impl Runtime {
             cards,
             bricks,
             contexts: Contexts::new(alloc),
-            large: LargeItems::new(alloc),
+            large: KindItems::new(alloc),
             marker,
             locals,
             handles: Handles::new(alloc),
@@ -139,7 +140,8 @@ impl Runtime {
     /// The refusals are those of `Types::define`, in their order.
     pub fn define(&mut self, name: &[u8], shape: Shape<'_>, finalizer: bool) -> Result<u64, Refusal>
         requires { is_name name.now ≡ true }
-        ensures { Follows self.old (define_type name.now (form_of shape.entry) finalizer) (mt_outcome result) self.new }
+        ensures { Follows self.old.machine (define_type name.now (form_of shape.entry) finalizer)
+            (mt_outcome result) self.new.machine }
     {
         match self.parts.types.define(name, shape, finalizer) {
             Ok(t) => Ok(self.parts.types.mt(t)),
@@ -150,25 +152,25 @@ impl Runtime {
     /// The table of types.
     #[inline]
     pub fn types(&self) -> &Types
-        ensures { result.now ≡ self.now.types }
+        ensures { result.now ≡ self.now.machine.types }
     {
         &self.parts.types
     }
 
-    /// The heap, of which the options limit the segments. Objects of 85,000 bytes and more stand in its large segments.
-    /// No object is marked, each free item has the head of free space without a mark, and the headers and the padding of
-    /// objects say nothing else. What is seen is a lawful state whose objects are named by their places.
+    /// The heap, of which the options limit the segments. Objects of `large` bytes and more stand in its large
+    /// segments. No object is marked, each free item has the head of free space without a mark, and the headers and
+    /// the padding of objects say nothing else. What is seen is a lawful state whose objects are named by their
+    /// places.
     #[inline]
     pub fn heap(&self) -> &Heap
-        ensures objects { self.now.objects ≡ objects_in self.now.types result.now }
-        ensures layout { self.now.layout ≡ layout_in self.now.types result.now }
-        ensures held { IsHeld self.now.types result.now }
-        ensures unmarked { IsUnmarked self.now.types result.now }
-        ensures free_heads { AreFreeHeads self.now.types result.now }
-        ensures clean { AreClean self.now.types result.now }
-        ensures limit { result.now.limit ≡ self.now.options.limit }
-        ensures large { self.now.options.large ≡ 85000 }
-        ensures sound { IsPlaceNamed self.now }
+        ensures objects { self.now.machine.objects ≡ objects_in self.now.machine.types result.now }
+        ensures layout { self.now.machine.layout ≡ layout_in self.now.machine.types result.now }
+        ensures held { IsHeld self.now.machine.types result.now }
+        ensures unmarked { IsUnmarked self.now.machine.types result.now }
+        ensures free_heads { AreFreeHeads self.now.machine.types result.now }
+        ensures clean { AreClean self.now.machine.types result.now }
+        ensures limit { result.now.limit ≡ self.now.machine.options.limit }
+        ensures sound { IsPlaceNamed self.now.machine }
     {
         &self.parts.heap
     }
@@ -178,10 +180,10 @@ impl Runtime {
     /// and not finished.
     #[inline]
     pub fn cards(&self) -> &Cards
-        ensures covers { AreCardsOf self.now.layout result.now }
-        ensures law { (a : ℕ) → NamesYounger self.now.types self.now.layout self.now.objects a
+        ensures covers { AreCardsOf self.now.machine.layout result.now }
+        ensures law { (a : ℕ) → NamesYounger self.now.machine.types self.now.machine.layout self.now.machine.objects a
             → (is_card_set result.now (a / 2048) ≡ true)
-            ⊎ IsBegunStore self.now.types self.now.objects self.now.steps a }
+            ⊎ IsBegunStore self.now.machine.types self.now.machine.objects self.now.machine.steps a }
     {
         &self.parts.cards
     }
@@ -191,8 +193,9 @@ impl Runtime {
     /// entries lead to the nearest one below in which an object starts.
     #[inline]
     pub fn bricks(&self) -> &Bricks
-        ensures covers { AreBricksOf self.now.layout result.now }
-        ensures law { BrickLaw self.now.types self.now.layout self.now.objects (entry_at result.now) }
+        ensures covers { AreBricksOf self.now.machine.layout result.now }
+        ensures law { BrickLaw self.now.machine.types self.now.machine.layout self.now.machine.objects
+            (entry_at result.now) }
     {
         &self.parts.bricks
     }
@@ -200,7 +203,7 @@ impl Runtime {
     /// The locals, 64 for each of 16 threads, by thread. Null is 0.
     #[inline]
     pub fn locals(&self) -> &[u64]
-        ensures value { result.now ≡ self.now.locals }
+        ensures value { result.now ≡ self.now.machine.locals }
         ensures count { length result.now ≡ 1024 }
     {
         &self.parts.locals
@@ -209,7 +212,7 @@ impl Runtime {
     /// The handles in use, by their numbers.
     #[inline]
     pub fn handles(&self) -> &Handles
-        ensures { result.now ≡ self.now.handles }
+        ensures { result.now ≡ self.now.machine.handles }
     {
         &self.parts.handles
     }
@@ -218,8 +221,8 @@ impl Runtime {
     /// finaliser.
     #[inline]
     pub fn finals(&self) -> &Finals
-        ensures entries { result.now.entries ≡ self.now.entries }
-        ensures ready { result.now.ready ≡ self.now.ready }
+        ensures entries { result.now.entries ≡ self.now.machine.entries }
+        ensures ready { result.now.ready ≡ self.now.machine.ready }
     {
         &self.parts.finals
     }
@@ -227,9 +230,17 @@ impl Runtime {
     /// How many bytes all segments may reserve together.
     #[inline]
     pub fn limit(&self) -> u64
-        ensures { result ≡ self.now.options.limit }
+        ensures { result ≡ self.now.machine.options.limit }
     {
         self.parts.options.limit
+    }
+
+    /// The bytes of an object from which on it is a large one.
+    #[inline]
+    pub fn large(&self) -> u64
+        ensures { result ≡ self.now.machine.options.large }
+    {
+        self.parts.options.large
     }
 }
 

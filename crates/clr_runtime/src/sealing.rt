@@ -20,6 +20,7 @@ pub(crate) fn seal_parts(parts: &mut Parts) -> Result<(), AcquireFault>
     requires no_contexts { parts.old.heap.rests ≡ no_rests }
     ensures sealed { IsSealing (seen parts.old) (seen parts.new) result }
     ensures runtime { IsRuntime parts.new }
+    ensures slides { parts.new.slides ≡ parts.old.slides }
     ensures finals { parts.new.finals ≡ parts.old.finals }
     ensures types { parts.new.types ≡ parts.old.types }
     ensures safe { parts.new.safe ≡ parts.old.safe }

@@ -10,9 +10,10 @@ ghost use Rattle.clr_safe.specs.declared.begun.Begun.TheVariants.{Birth, Store};
 ghost use Rattle.clr_runtime.specs.Births.{IsAsked};
 ghost use Rattle.clr_runtime.specs.Checks.{thread_refusal};
 ghost use Rattle.clr_runtime.specs.RuntimeView.{IsRuntime, seen};
+ghost use Rattle.clr_runtime.specs.Slides.{Grew};
 ghost use Rattle.clr_runtime.specs.Steps.{finish_refusal, FollowsBegun};
 
-use crate::births::{LARGE, Request, measure, refusal_of, register_entry, reserve_entry};
+use crate::births::{Request, measure, refusal_of, register_entry, reserve_entry};
 use crate::checks::{index_of, is_known};
 use crate::parts::Parts;
 use crate::rooms::make_room;
@@ -35,7 +36,7 @@ impl Runtime {
     ///
     /// It is refused as `set` is.
     pub fn begin_set(&mut self, t: u64, into: u64, index: u64, from: u64) -> Result<(), Refusal>
-        ensures { Follows self.old (begin_set t into index from) (done_outcome result) self.new }
+        ensures { Follows self.old.machine (begin_set t into index from) (done_outcome result) self.new.machine }
     {
         if let Some(refusal) = self.refused_names(t, into, from) {
             return Err(refusal);
@@ -68,8 +69,8 @@ impl Runtime {
     /// thread `t`. The object is born by the `step` of this thread, and the local takes it then. Until then the thread
     /// is in mid-step: each other line of it is refused, and no line collects.
     ///
-    /// It is refused as `new_object` is, but with `TooBig` already from 85,000 bytes on. So it finds room in the steps
-    /// in which `new_object` finds it for such an object.
+    /// It is refused as `new_object` is, but with `TooBig` already from the bytes of the option `large` on. So it finds
+    /// room in the steps in which `new_object` finds it for such an object.
     pub fn begin_new(
         &mut self,
         t: u64,
@@ -77,7 +78,9 @@ impl Runtime {
         name: &[u8],
         len: Option<u64>,
     ) -> Result<(), Refusal>
-        ensures { Follows self.old (begin_new t local name.now len) (done_outcome result) self.new }
+        ensures follows { Follows self.old.machine (begin_new t local name.now len)
+            (done_outcome result) self.new.machine }
+        ensures grew { result ≡ Err Refusal.Oom → Grew self.old.slides self.new.slides }
     {
         if let Some(refusal) = self.refused_thread(t) {
             return Err(refusal);
@@ -86,7 +89,8 @@ impl Runtime {
             Ok(request) => request,
             Err(refusal) => return Err(refusal),
         };
-        if request.size >= LARGE {
+        let large = self.parts.options.large;
+        if request.size >= large {
             return Err(Refusal::TooBig);
         }
         let owed = self.parts.safe.births_owed();
@@ -97,13 +101,13 @@ impl Runtime {
     }
 
     /// Finishes what thread `t` has begun, whoever holds it. Of a store that is the card of its slot, and the answer is
-    /// `None`. Of an object it is the birth, and the answer is its place, which the local takes. It takes no memory: room
-    /// for the object and for its entry was made before.
+    /// `None`. Of an object it is the birth, and the answer is its place, which the local takes. It takes no memory:
+    /// room for the object and for its entry was made before.
     ///
     /// It is refused for an unknown thread, with `Blocked` where another thread holds all others and this one isn't in
     /// mid-step, and with `NotMidStep` where it isn't, in this order.
     pub fn step(&mut self, t: u64) -> Result<Option<u64>, Refusal>
-        ensures { Follows self.old (finish_step t) (step_outcome result) self.new }
+        ensures { Follows self.old.machine (finish_step t) (step_outcome result) self.new.machine }
     {
         if !is_known(t) {
             return Err(Refusal::UnknownThread);
@@ -129,8 +133,8 @@ impl Runtime {
     // Why a thread that isn't in mid-step has no step to finish.
     fn refused_idle(&self, t: u64) -> Refusal
         requires thread { is_thread t ≡ true }
-        requires idle { is_step (step_of self.now t) ≡ false }
-        ensures { finish_refusal self.now t ≡ Some result }
+        requires idle { is_step (step_of self.now.machine t) ≡ false }
+        ensures { finish_refusal self.now.machine t ≡ Some result }
     {
         match self.parts.safe.holder() {
             Some(h) if h != t => Refusal::Blocked(h as u32),
@@ -146,8 +150,9 @@ fn begin_small(parts: &mut Parts, t: u64, local: u64, request: Request) -> Resul
     requires passed { thread_refusal (seen parts.old) t ≡ None }
     requires asked { IsAsked parts.old.types local request }
     requires entry { request.finalizer ≡ true → births_owed parts.old.safe + 1 ≤ parts.old.finals.spare }
-    requires small { request.size < 85000 }
+    requires small { request.size < parts.old.options.large }
     ensures begun { FollowsBegun parts.old parts.new t local request result }
+    ensures grew { result ≡ Err Refusal.Oom → Grew parts.old.slides parts.new.slides }
     ensures runtime { IsRuntime parts.new }
 {
     if let Err(why) = make_room(parts, t as usize, request.size) {

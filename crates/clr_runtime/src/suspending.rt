@@ -13,7 +13,7 @@ impl Runtime {
     /// It is refused for an unknown thread, with `Blocked` where another thread holds all others, and with `MidStep`
     /// where the thread is in mid-step, in this order.
     pub fn suspend(&mut self, t: u64) -> Result<(), Refusal>
-        ensures { Follows self.old (suspend_others t) (done_outcome result) self.new }
+        ensures { Follows self.old.machine (suspend_others t) (done_outcome result) self.new.machine }
     {
         if let Some(refusal) = self.refused_thread(t) {
             return Err(refusal);
@@ -26,7 +26,7 @@ impl Runtime {
     ///
     /// It is refused as `suspend` is.
     pub fn resume(&mut self, t: u64) -> Result<(), Refusal>
-        ensures { Follows self.old (resume_others t) (done_outcome result) self.new }
+        ensures { Follows self.old.machine (resume_others t) (done_outcome result) self.new.machine }
     {
         if let Some(refusal) = self.refused_thread(t) {
             return Err(refusal);

@@ -4,7 +4,7 @@ ghost use Rattle.std.specs.Prelude.{IfSome, IsSome, IsSomeAnd, ◌↔◌, ◌⊎
 ghost use Rattle.clr_model.specs.Lawful.{AreLawfulOptions};
 ghost use Rattle.clr_model.specs.Machine.{Machine, Options};
 ghost use Rattle.clr_model.specs.LineGrammar.{script_lines, ended_lines};
-ghost use Rattle.clr_model.specs.Run.{StandsFor};
+ghost use Rattle.clr_runtime.specs.RuntimeView.{StandsFor};
 ghost use Rattle.clr_runtime.specs.Options.{options_of};
 ghost use Rattle.clr_words.specs.Grammar.{SaysNothing, SaysRun, SaysSoak};
 ghost use Rattle.clr_words.specs.Settings as settings_said;
@@ -38,28 +38,29 @@ fn run_script<S: Source, K: Sink>(
     source: &mut S,
     sink: &mut K,
 ) -> Status
-    requires started { IsAt session.old.runtime.options session.old [] [] }
+    requires started { IsAt session.old.runtime.machine.options session.old [] [] }
     requires empty { session.old.pending ≡ [] }
     requires buffer { 0 < length buffer.old }
-    requires room { session.old.runtime.layout.top + 2 ^ 30 * (limit + 1) ≤ 2 ^ 61 }
+    requires room { session.old.runtime.machine.layout.top + 2 ^ 30 * (limit + 1) ≤ 2 ^ 61 }
     ensures done { result ≡ Status.Done → (taken : List ℕ)
-        × (answered : Answered session.old.runtime.options script_lines
+        × (answered : Answered session.old.runtime.machine.options script_lines
         (S.held source.old) (S.held source.new) (K.written sink.old) (K.written sink.new) taken)
         × StandsFor session.new.runtime answered.last
         × (length taken ≤ limit) × IfSome (S.held source.new) (λ rest. rest ≡ []) }
+    ensures low { result ≡ Status.Done → session.new.runtime.machine.layout.top ≤ 2 ^ 61 }
     ensures read_before { result ≡ Status.ReadFault → (taken : List ℕ)
-        × Answered session.old.runtime.options ended_lines
+        × Answered session.old.runtime.machine.options ended_lines
         (S.held source.old) (S.held source.new) (K.written sink.old) (K.written sink.new) taken
         × (length taken ≤ limit) }
     ensures read_fault { result ≡ Status.ReadFault → Rose (S.faults source.old) (S.faults source.new) }
     ensures source_counted { result ≢ Status.ReadFault → S.faults source.new ≡ S.faults source.old }
     ensures write_before { result ≡ Status.WriteFault →
-        CutShort session.old.runtime.options limit
+        CutShort session.old.runtime.machine.options limit
         (S.held source.old) (S.held source.new) (K.written sink.old) (K.written sink.new) }
     ensures write_fault { result ≡ Status.WriteFault → Rose (K.faults sink.old) (K.faults sink.new) }
     ensures sink_counted { result ≢ Status.WriteFault → K.faults sink.new ≡ K.faults sink.old }
     ensures too_much { result ≡ Status.TooMuch → (taken : List ℕ) × (byte : ℕ)
-        × Answered session.old.runtime.options ended_lines
+        × Answered session.old.runtime.machine.options ended_lines
         (S.held source.old) (option_map (λ rest. byte ∷ rest) (S.held source.new))
         (K.written sink.old) (K.written sink.new) taken
         × (length taken ≡ limit) }
@@ -110,6 +111,7 @@ fn run_source<S: Source, K: Sink>(
         × (answered : Answered (options_of options) script_lines
         (S.held source.old) (S.held source.new) (K.written sink.old) (K.written sink.new) taken)
         × (length taken ≤ SCRIPT_LIMIT) × IsSomeAnd end_state.new (λ runtime. StandsFor runtime answered.last) }
+    ensures low { result ≡ Status.Done → IsSomeAnd end_state.new (λ runtime. runtime.machine.layout.top ≤ 2 ^ 61) }
     ensures no_state { result ≢ Status.Done → end_state.new ≡ None }
     ensures read_before { result ≡ Status.ReadFault → (taken : List ℕ)
         × Answered (options_of options) ended_lines
@@ -164,6 +166,7 @@ fn options_from(settings: Settings) -> clr_runtime::Options
         b2: settings.b2,
         bl: settings.bl,
         compact: settings.compact,
+        large: settings.large,
     }
 }
 

@@ -60,8 +60,8 @@ impl Session {
     pub fn new(alloc: Global, options: Options) -> Result<Session, NoMemory>
         requires { AreLawfulOptions (options_of options) }
         ensures at { IfOk result (λ session. IsAt (options_of options) session [] []) }
-        ensures made_with { IfOk result (λ session. session.runtime.options ≡ options_of options) }
-        ensures top { IfOk result (λ session. session.runtime.layout.top ≡ 0x10000000 + 2 * options.segment) }
+        ensures made_with { IfOk result (λ session. session.runtime.machine.options ≡ options_of options) }
+        ensures top { IfOk result (λ session. session.runtime.machine.layout.top ≡ 0x10000000 + 2 * options.segment) }
         ensures empty { IfOk result (λ session. session.pending ≡ []) }
     {
         let Ok(runtime) = Runtime::new(alloc, options) else {
@@ -82,13 +82,13 @@ impl Session {
     // Does what the begun line and the bytes behind it say.
     fn execute(&mut self, rest: &[u8]) -> Outcome
         requires unfed { IsUnfed rest.now }
-        requires room { self.old.runtime.layout.top ≤ 2 ^ 61 }
+        requires room { self.old.runtime.machine.layout.top ≤ 2 ^ 61 }
         ensures shows { CanShow result }
         ensures line { self.new.line.items ≡ [] }
         ensures pending { self.new.pending ≡ self.old.pending }
         ensures follows { (begun : List ℕ) → self.old.line.items ≡ take 4097 begun →
-            FollowsLine self.old.runtime (begun ++ rest.now) (outcome_of result) self.new.runtime }
-        ensures grows { self.new.runtime.layout.top ≤ self.old.runtime.layout.top + 2 ^ 30 }
+            FollowsLine self.old.runtime.machine (begun ++ rest.now) (outcome_of result) self.new.runtime.machine }
+        ensures grows { self.new.runtime.machine.layout.top ≤ self.old.runtime.machine.layout.top + 2 ^ 30 }
     {
         if self.line.is_empty() {
             return execute(&mut self.runtime, self.alloc, rest);
@@ -102,13 +102,13 @@ impl Session {
     // Answers the line that these bytes and a line feed end.
     fn end_line<K: Sink>(&mut self, sink: &mut K, rest: &[u8]) -> Result<(), Failed>
         requires unfed { IsUnfed rest.now }
-        requires room { self.old.runtime.layout.top ≤ 2 ^ 61 }
+        requires room { self.old.runtime.machine.layout.top ≤ 2 ^ 61 }
         ensures bytes { OnOk result
             (Goes self.old self.new (rest.now ++ 10 ∷ []) (K.written sink.old) (K.written sink.new)) }
         ensures stops { OnErr result (Stops self.old (rest.now ++ 10 ∷ []) (K.written sink.old) (K.written sink.new)) }
         ensures counted { OnOk result (K.faults sink.new ≡ K.faults sink.old) }
         ensures cause { OnErr result (Rose (K.faults sink.old) (K.faults sink.new)) }
-        ensures grows { self.new.runtime.layout.top ≤ self.old.runtime.layout.top + 2 ^ 30 }
+        ensures grows { self.new.runtime.machine.layout.top ≤ self.old.runtime.machine.layout.top + 2 ^ 30 }
     {
         let outcome = self.execute(rest);
         put_outcome(&mut self.pending, sink, &outcome)
@@ -118,13 +118,13 @@ impl Session {
     // where no line ends in them.
     #[inline]
     fn answer_line<K: Sink>(&mut self, sink: &mut K, text: &[u8]) -> Result<Option<usize>, Failed>
-        requires { self.old.runtime.layout.top ≤ 2 ^ 61 }
+        requires { self.old.runtime.machine.layout.top ≤ 2 ^ 61 }
         ensures bytes { IfOk result (GoesLine self.old self.new text.now (K.written sink.old) (K.written sink.new)) }
         ensures stops { OnErr result (Stops self.old text.now (K.written sink.old) (K.written sink.new)) }
         ensures some { OnErr result (0 < length text.now) }
         ensures counted { OnOk result (K.faults sink.new ≡ K.faults sink.old) }
         ensures cause { OnErr result (Rose (K.faults sink.old) (K.faults sink.new)) }
-        ensures grows { self.new.runtime.layout.top ≤ self.old.runtime.layout.top + 2 ^ 30 }
+        ensures grows { self.new.runtime.machine.layout.top ≤ self.old.runtime.machine.layout.top + 2 ^ 30 }
     {
         if !self.line.is_empty() {
             return self.answer_any(sink, text);
@@ -139,13 +139,13 @@ impl Session {
     #[cold]
     #[inline(never)]
     fn answer_any<K: Sink>(&mut self, sink: &mut K, text: &[u8]) -> Result<Option<usize>, Failed>
-        requires { self.old.runtime.layout.top ≤ 2 ^ 61 }
+        requires { self.old.runtime.machine.layout.top ≤ 2 ^ 61 }
         ensures bytes { IfOk result (GoesLine self.old self.new text.now (K.written sink.old) (K.written sink.new)) }
         ensures stops { OnErr result (Stops self.old text.now (K.written sink.old) (K.written sink.new)) }
         ensures some { OnErr result (0 < length text.now) }
         ensures counted { OnOk result (K.faults sink.new ≡ K.faults sink.old) }
         ensures cause { OnErr result (Rose (K.faults sink.old) (K.faults sink.new)) }
-        ensures grows { self.new.runtime.layout.top ≤ self.old.runtime.layout.top + 2 ^ 30 }
+        ensures grows { self.new.runtime.machine.layout.top ≤ self.old.runtime.machine.layout.top + 2 ^ 30 }
     {
         let Some(at) = first_feed(text) else {
             return Ok(None);
@@ -157,12 +157,13 @@ impl Session {
     // Answers the lines that the next bytes of the script end, and keeps what is behind them.
     #[inline(never)]
     fn answer_piece<K: Sink>(&mut self, sink: &mut K, piece: &[u8]) -> Result<(), Failed>
-        requires { self.old.runtime.layout.top + 2 ^ 30 * length piece.now ≤ 2 ^ 61 }
+        requires { self.old.runtime.machine.layout.top + 2 ^ 30 * length piece.now ≤ 2 ^ 61 }
         ensures bytes { OnOk result (Goes self.old self.new piece.now (K.written sink.old) (K.written sink.new)) }
         ensures stops { OnErr result (Stops self.old piece.now (K.written sink.old) (K.written sink.new)) }
         ensures counted { OnOk result (K.faults sink.new ≡ K.faults sink.old) }
         ensures cause { OnErr result (Rose (K.faults sink.old) (K.faults sink.new)) }
-        ensures grows { self.new.runtime.layout.top ≤ self.old.runtime.layout.top + 2 ^ 30 * length piece.now }
+        ensures grows { self.new.runtime.machine.layout.top
+            ≤ self.old.runtime.machine.layout.top + 2 ^ 30 * length piece.now }
     {
         let mut from = 0;
         while let Some(count) = self.answer_line(sink, &piece[from..])? {
@@ -174,12 +175,12 @@ impl Session {
 
     // Answers the line that is begun where the script ends, if there is one.
     fn answer_end<K: Sink>(&mut self, sink: &mut K) -> Result<(), Failed>
-        requires { self.old.runtime.layout.top ≤ 2 ^ 61 }
+        requires { self.old.runtime.machine.layout.top ≤ 2 ^ 61 }
         ensures bytes { OnOk result (Ends self.old self.new (K.written sink.old) (K.written sink.new)) }
         ensures stops { OnErr result (StopsLast self.old (K.written sink.old) (K.written sink.new)) }
         ensures counted { OnOk result (K.faults sink.new ≡ K.faults sink.old) }
         ensures cause { OnErr result (Rose (K.faults sink.old) (K.faults sink.new)) }
-        ensures grows { self.new.runtime.layout.top ≤ self.old.runtime.layout.top + 2 ^ 30 }
+        ensures grows { self.new.runtime.machine.layout.top ≤ self.old.runtime.machine.layout.top + 2 ^ 30 }
     {
         if self.line.is_empty() {
             return Ok(());
@@ -190,13 +191,14 @@ impl Session {
 
     /// Takes the next bytes of the script, and writes the replies to the lines that they end.
     pub fn take_piece<K: Sink>(&mut self, sink: &mut K, piece: &[u8]) -> Result<(), Failed>
-        requires { self.old.runtime.layout.top + 2 ^ 30 * length piece.now ≤ 2 ^ 61 }
+        requires { self.old.runtime.machine.layout.top + 2 ^ 30 * length piece.now ≤ 2 ^ 61 }
         ensures bytes { OnOk result
             (GoesWritten self.old self.new piece.now (K.written sink.old) (K.written sink.new)) }
         ensures stops { OnErr result (Stops self.old piece.now (K.written sink.old) (K.written sink.new)) }
         ensures counted { OnOk result (K.faults sink.new ≡ K.faults sink.old) }
         ensures cause { OnErr result (Rose (K.faults sink.old) (K.faults sink.new)) }
-        ensures grows { self.new.runtime.layout.top ≤ self.old.runtime.layout.top + 2 ^ 30 * length piece.now }
+        ensures grows { self.new.runtime.machine.layout.top
+            ≤ self.old.runtime.machine.layout.top + 2 ^ 30 * length piece.now }
     {
         self.answer_piece(sink, piece)?;
         self.pending.flush(sink)
@@ -204,12 +206,12 @@ impl Session {
 
     /// Takes the end of the script: a line that is begun is answered, and all replies are written.
     pub fn take_end<K: Sink>(&mut self, sink: &mut K) -> Result<(), Failed>
-        requires { self.old.runtime.layout.top ≤ 2 ^ 61 }
+        requires { self.old.runtime.machine.layout.top ≤ 2 ^ 61 }
         ensures bytes { OnOk result (EndsWritten self.old self.new (K.written sink.old) (K.written sink.new)) }
         ensures stops { OnErr result (StopsLast self.old (K.written sink.old) (K.written sink.new)) }
         ensures counted { OnOk result (K.faults sink.new ≡ K.faults sink.old) }
         ensures cause { OnErr result (Rose (K.faults sink.old) (K.faults sink.new)) }
-        ensures grows { self.new.runtime.layout.top ≤ self.old.runtime.layout.top + 2 ^ 30 }
+        ensures grows { self.new.runtime.machine.layout.top ≤ self.old.runtime.machine.layout.top + 2 ^ 30 }
     {
         self.answer_end(sink)?;
         self.pending.flush(sink)

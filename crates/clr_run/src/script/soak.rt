@@ -4,7 +4,7 @@ ghost use Rattle.std.specs.Prelude.{IfOk, IsSomeAnd, List};
 ghost use Rattle.clr_model.specs.Lawful.{AreLawfulOptions};
 ghost use Rattle.clr_model.specs.Machine.{Machine};
 ghost use Rattle.clr_model.specs.Outcomes as model;
-ghost use Rattle.clr_model.specs.Run.{StandsFor};
+ghost use Rattle.clr_runtime.specs.RuntimeView.{StandsFor};
 ghost use Rattle.clr_model.specs.declared.Reply.TheVariants.{Clean};
 ghost use Rattle.clr_lines.specs.Outcomes.{outcome_of};
 ghost use Rattle.clr_runtime.specs.Options.{options_of};
@@ -72,9 +72,9 @@ struct Tally {
 
 // Does the lines of a generated script, and counts them.
 fn run_made(runtime: &mut Runtime, alloc: Global, seed: u32, count: u32) -> Tally
-    requires { runtime.old.layout.top + 2 ^ 30 * (count + 3) ≤ 2 ^ 61 }
+    requires { runtime.old.machine.layout.top + 2 ^ 30 * (count + 3) ≤ 2 ^ 61 }
     ensures { (outcomes : List model.Outcome)
-        × FollowsLines runtime.old (made_lines seed count) outcomes runtime.new
+        × FollowsLines runtime.old.machine (made_lines seed count) outcomes runtime.new.machine
         × (result.lines ≡ length outcomes) × (result.refused ≡ refused_count outcomes) }
 {
     let mut made = Made::new(seed, count);
@@ -101,11 +101,11 @@ fn is_refused(outcome: Outcome) -> bool
     matches!(outcome, Outcome::Refused(_))
 }
 
-// What is written in the end: how many lines were run and refused, what there is of each type, and that the words of the
-// heap are right.
+// What is written in the end: how many lines were run and refused, what there is of each type, and that the words of
+// the heap are right.
 fn summary(runtime: &Runtime, alloc: Global, tally: Tally) -> Result<Vec<u8>, NoMemory>
     requires { (m : Machine) × StandsFor runtime.now m }
-    ensures { IfOk result (λ text. text.items ≡ summary_text tally.lines tally.refused runtime.now) }
+    ensures { IfOk result (λ text. text.items ≡ summary_text tally.lines tally.refused runtime.now.machine) }
 {
     let Tally { lines, refused } = tally;
     let mut text = format!(in alloc; "lines {lines} refused {refused}\n")?.into_bytes();
@@ -119,7 +119,7 @@ fn summary(runtime: &Runtime, alloc: Global, tally: Tally) -> Result<Vec<u8>, No
 // The reply to `dumpheap -stat`.
 fn show_types(runtime: &Runtime, alloc: Global) -> Result<Vec<u8>, NoMemory>
     requires { (m : Machine) × StandsFor runtime.now m }
-    ensures { IfOk result (λ text. text.items ≡ stat_text runtime.now) }
+    ensures { IfOk result (λ text. text.items ≡ stat_text runtime.now.machine) }
 {
     let filter = Filter {
         mode: Mode::Stat,

@@ -78,8 +78,8 @@ fn answer_line(into: &mut [u8], runtime: &mut Runtime, text: &[u8]) -> Option<(u
     requires { 256 ≤ length into.old }
     ensures within { IfSome result (λ p. p.1 ≤ length into.new) }
     ensures answered { MatchOption result (runtime.new ≡ runtime.old)
-        (λ p. IsAnswered runtime.old text.now p.0 (take p.1 into.new) runtime.new) }
-    ensures grows { runtime.new.layout.top ≤ runtime.old.layout.top + 2 ^ 30 }
+        (λ p. IsAnswered runtime.old.machine text.now p.0 (take p.1 into.new) runtime.new.machine) }
+    ensures grows { runtime.new.machine.layout.top ≤ runtime.old.machine.layout.top + 2 ^ 30 }
 {
     let line = into.first_chunk_mut::<256>()?;
     let answered = answer_front(runtime, text, line)?;
@@ -99,9 +99,9 @@ fn answer_behind(
     ensures within { IfSome result (λ p. p.1 ≤ length buffer.new) }
     ensures kept { take at buffer.new ≡ take at buffer.old }
     ensures answered { MatchOption result (runtime.new ≡ runtime.old)
-        (λ p. (reply : List ℕ) × IsAnswered runtime.old text.now p.0 reply runtime.new
+        (λ p. (reply : List ℕ) × IsAnswered runtime.old.machine text.now p.0 reply runtime.new.machine
         × (take p.1 buffer.new ≡ take at buffer.old ++ reply)) }
-    ensures grows { runtime.new.layout.top ≤ runtime.old.layout.top + 2 ^ 30 }
+    ensures grows { runtime.new.machine.layout.top ≤ runtime.old.machine.layout.top + 2 ^ 30 }
 {
     let (read, written) = answer_line(&mut buffer[at..], runtime, text)?;
     Some((read, at + written))
@@ -192,13 +192,13 @@ impl Pending {
         runtime: &mut Runtime,
         text: &[u8],
     ) -> Result<Option<usize>, Failed>
-        ensures answered { IfOk result (AnswersFront runtime.old runtime.new text.now
+        ensures answered { IfOk result (AnswersFront runtime.old.machine runtime.new.machine text.now
             (K.written sink.old) (K.written sink.new) self.old self.new) }
-        ensures part { OnErr result (StopsFront runtime.old runtime.new text.now
+        ensures part { OnErr result (StopsFront runtime.old.machine runtime.new.machine text.now
             (K.written sink.old) (K.written sink.new) self.old) }
         ensures counted { OnOk result (K.faults sink.new ≡ K.faults sink.old) }
         ensures cause { OnErr result (Rose (K.faults sink.old) (K.faults sink.new)) }
-        ensures grows { runtime.new.layout.top ≤ runtime.old.layout.top + 2 ^ 30 }
+        ensures grows { runtime.new.machine.layout.top ≤ runtime.old.machine.layout.top + 2 ^ 30 }
     {
         let Some((read, end)) = answer_behind(&mut self.buffer, self.filled, runtime, text) else {
             return Ok(None);

@@ -17,7 +17,7 @@ fn ended(alloc: Global, texts: &[&str]) -> Result<(Status, Vec<u8>), Fail> {
 
 #[test]
 fn ends_as_the_words_say(rt: HostRuntime) -> Result<(), Fail> {
-    let cases: [(&[&str], Status); 10] = [
+    let cases: [(&[&str], Status); 14] = [
         (&[], Status::Usage),
         (&["image"], Status::Usage),
         (&["run", "--help"], Status::Usage),
@@ -27,12 +27,22 @@ fn ends_as_the_words_say(rt: HostRuntime) -> Result<(), Fail> {
             &["run", "--limit", "524287", "--segment", "262144"],
             Status::Usage,
         ),
+        (&["run", "--large", "84999"], Status::Usage),
+        (
+            &["run", "--large", "258049", "--segment", "262144"],
+            Status::Usage,
+        ),
         (&["soak"], Status::Usage),
         (&["soak", "1", "0"], Status::Usage),
         (
             &["run", "--limit", "524288", "--segment", "262144"],
             Status::Done,
         ),
+        (
+            &["run", "--large", "258048", "--segment", "262144"],
+            Status::Done,
+        ),
+        (&["run", "--large=100000"], Status::Done),
         (&["run", "--b0=0"], Status::Done),
     ];
     for (texts, want) in cases {

@@ -3,9 +3,10 @@ use Rattle.clr_lines.proofs.TopGrows.{top_grows}
 use Rattle.clr_lines.proofs.execute.execute.Goals as goal
 
 pub returns-in-Some-clause-grows : goal.returns-in-Some-clause-grows
-returns-in-Some-clause-grows c = top_grows c.args.runtime.now c.obey.new.runtime c.args.line.now _
+returns-in-Some-clause-grows c = top_grows c.args.runtime.now.machine c.obey.new.runtime.machine c.args.line.now _
     c.heap.ensures.sound c.obey.ensures.follows
 
 pub returns-in-None-clause-grows : goal.returns-in-None-clause-grows
-returns-in-None-clause-grows c = top_grows c.args.runtime.now c.execute_rarely.new.runtime c.args.line.now _
+returns-in-None-clause-grows c =
+    top_grows c.args.runtime.now.machine c.execute_rarely.new.runtime.machine c.args.line.now _
     c.heap.ensures.sound c.execute_rarely.ensures.follows

@@ -1,4 +1,5 @@
 -- What the line says is one call of the runtime.
+use Rattle.std.proofs.Common.{refl}
 use Rattle.clr_model.specs.Instructions.{copy_local}
 use Rattle.clr_lines.proofs.front.answer_copy.Goals as goal
 
@@ -7,6 +8,7 @@ returns-clause-done c =
     let w = c.in_ok-to in
     record {
       instruction = copy_local c.args.t w.to w.from;
+      built = refl;
       front = w.ensures c.args.t c.ranges.t.fits;
       outcome = _;
       follows = c.copy.ensures;

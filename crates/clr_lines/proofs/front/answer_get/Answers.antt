@@ -1,4 +1,5 @@
 -- What the line says is one call of the runtime.
+use Rattle.std.proofs.Common.{refl}
 use Rattle.clr_model.specs.Instructions.{get_slot}
 use Rattle.clr_lines.proofs.front.answer_get.Goals as goal
 
@@ -7,6 +8,7 @@ returns-clause-done c =
     let w = c.in_ok-to in
     record {
       instruction = get_slot c.args.t w.to w.from w.index;
+      built = refl;
       front = w.ensures c.args.t c.ranges.t.fits;
       outcome = _;
       follows = c.get.ensures;

@@ -1,4 +1,5 @@
 -- What the line says is one call of the runtime.
+use Rattle.std.proofs.Common.{refl}
 use Rattle.clr_model.specs.Instructions.{new_object}
 use Rattle.clr_lines.proofs.front.answer_new.Goals as goal
 
@@ -7,8 +8,9 @@ returns-clause-done c =
     let w = c.in_ok-local in
     record {
       instruction = new_object c.args.t w.local w.name.now w.len;
+      built = refl;
       front = w.ensures c.args.t c.ranges.t.fits;
       outcome = _;
-      follows = c.new_object.ensures;
+      follows = c.new_object.ensures.follows;
       told = c.tell_place-written.ensures.text;
     }

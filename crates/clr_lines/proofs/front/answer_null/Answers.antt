@@ -1,4 +1,5 @@
 -- What the line says is one call of the runtime.
+use Rattle.std.proofs.Common.{refl}
 use Rattle.clr_model.specs.Instructions.{clear_local}
 use Rattle.clr_lines.proofs.front.answer_null.Goals as goal
 
@@ -7,6 +8,7 @@ returns-clause-done c =
     let w = c.in_ok-local in
     record {
       instruction = clear_local c.args.t w.local;
+      built = refl;
       front = w.ensures c.args.t c.ranges.t.fits;
       outcome = _;
       follows = c.clear.ensures;

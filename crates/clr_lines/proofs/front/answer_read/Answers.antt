@@ -1,4 +1,5 @@
 -- What the line says is one call of the runtime.
+use Rattle.std.proofs.Common.{refl}
 use Rattle.clr_model.specs.Instructions.{read_number}
 use Rattle.clr_lines.proofs.front.answer_read.Goals as goal
 
@@ -7,6 +8,7 @@ returns-clause-done c =
     let w = c.in_ok-from in
     record {
       instruction = read_number c.args.t w.from w.index;
+      built = refl;
       front = w.ensures c.args.t c.ranges.t.fits;
       outcome = _;
       follows = c.read.ensures;

@@ -1,4 +1,5 @@
 -- What the line says is one call of the runtime.
+use Rattle.std.proofs.Common.{refl}
 use Rattle.clr_model.specs.Instructions.{set_slot}
 use Rattle.clr_lines.proofs.front.answer_set.Goals as goal
 
@@ -7,6 +8,7 @@ returns-clause-done c =
     let w = c.in_ok-object in
     record {
       instruction = set_slot c.args.t w.object w.index w.from;
+      built = refl;
       front = w.ensures c.args.t c.ranges.t.fits;
       outcome = _;
       follows = c.set.ensures;

@@ -5,7 +5,7 @@ use Rattle.clr_lines.proofs.looks.view_of.Goals as goal
 pub returns : goal.returns
 returns c =
     let heap = c.heap.ensures in
-    let taken : IsTakenFrom _ c.args.runtime.now = record {
+    let taken : IsTakenFrom _ c.args.runtime.now.machine = record {
       types = c.types.ensures;
       objects = heap.objects;
       layout = heap.layout;
@@ -13,7 +13,6 @@ returns c =
       unmarked = heap.unmarked;
       free_heads = heap.free_heads;
       clean = heap.clean;
-      large = heap.large;
       sound = heap.sound;
       bricks = c.bricks.ensures.covers;
       brick_law = c.bricks.ensures.law;
@@ -22,5 +21,6 @@ returns c =
       entries = c.finals.ensures.entries;
       ready = c.finals.ensures.ready;
       limit = c.limit.ensures;
+      large = c.large.ensures;
     } in
     record { seen = taken_seen _ _ taken; lawful = taken_lawful _ _ taken; clean = taken_clean _ _ taken }

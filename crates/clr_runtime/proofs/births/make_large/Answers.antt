@@ -1,10 +1,12 @@
 -- The object is born in a large segment, or no place was found.
+use Rattle.std.proofs.Common.{Err}
 use Rattle.std.proofs.Common.{◌≡◌, ◌+◌, ◌∙◌, ◌<◌, ◌^◌, [], ◌∷◌, ◌++◌, if◌then◌else◌, arith, refl, sym, List, Option}
 use Rattle.std.proofs.Common.{ap, subst, ℕ, unwrap_or}
+use Rattle.clr_types.specs.declared.segment.SegKind.TheVariants.{Large}
 use Rattle.clr_types.specs.Types.{TypeRow, has_finalizer, type_row}
 use Rattle.clr_ctx.specs.Contexts.{young_items}
-use Rattle.clr_large.specs.Births.{HasLargeNewborn}
-use Rattle.clr_large.proofs.LargeKept.{young_placed}
+use Rattle.clr_large.specs.Births.{HasNewbornIn}
+use Rattle.clr_large.proofs.KindKept.{young_placed}
 use Rattle.clr_model.proofs.Birth.{born_entries}
 use Rattle.clr_runtime.specs.Births.{IsMeasured}
 use Rattle.clr_runtime.specs.RuntimeView.{seen}
@@ -14,13 +16,16 @@ use Rattle.clr_runtime.proofs.LargeBirthDone.{HasItsPlace, large_tables, placed_
 use Rattle.clr_safe.specs.Threads.{births_owed}
 use Rattle.clr_runtime.proofs.RuntimeKept.{owed_left, spent_large_fits}
 use Rattle.clr_runtime.proofs.TablesKept.{closed}
+use Rattle.clr_runtime.specs.declared.rooms.NoRoom.{NoRoom}
+use Rattle.clr_model.specs.declared.Refusal.TheVariants.{Oom}
+use Rattle.clr_runtime.proofs.Counted.{full-room, refused-as}
 use Rattle.clr_runtime.proofs.births.make_large.Goals as goal
 use Rattle.clr_runtime.proofs.births.make_large.Goals.{After-register_entry, In_default}
 
 -- no place was found, and what was done for it stays
 pub returns-in-Err-clause-made : goal.returns-in-Err-clause-made
 returns-in-Err-clause-made c =
-    λ name len measured. large_fails_follows c.requires.runtime.shown refl c.args.t c.args.local name len
+    λ name len measured. large_fails_follows c.requires.runtime.shown c.args.t c.args.local name len
     c.requires.passed c.args.request measured c.requires.large (seen c.make_large_room.new.parts) c.in-Err.why
     c.refusal_of.result c.refusal_of.ensures c.in-Err.ensures.err
 
@@ -39,7 +44,7 @@ placed : (c : In_default) (name : List ℕ) (len : Option ℕ)
     c.args.request.type_id.0 c.args.request.size
 placed c name len measured = record {
   sound = c.requires.runtime.shown.sound;
-  may = may_bear_large c.requires.runtime.shown refl c.args.t c.args.local name len c.requires.passed c.args.request
+  may = may_bear_large c.requires.runtime.shown c.args.t c.args.local name len c.requires.passed c.args.request
       measured c.requires.large;
   types = c.in_default.ensures.types;
   is = measured.size_is;
@@ -86,11 +91,11 @@ registered c name len measured =
 -- the object is born, with the length that was given
 born : (c : After-register_entry) (name : List ℕ) (len : Option ℕ)
     → IsMeasured c.args.parts.now.types c.args.local name len c.args.request
-    → HasLargeNewborn c.make_large_room.new.parts.types c.make_large_room.new.parts.heap c.bear.new.heap
+    → HasNewbornIn Large c.make_large_room.new.parts.types c.make_large_room.new.parts.heap c.bear.new.heap
     c.in-Some.place c.args.request.type_id.0 (unwrap_or len 0)
 born c name len measured =
     let p = c.make_large_room.new.parts in
-    subst (HasLargeNewborn p.types p.heap c.bear.new.heap c.in-Some.place c.args.request.type_id.0) measured.len_is
+    subst (HasNewbornIn Large p.types p.heap c.bear.new.heap c.in-Some.place c.args.request.type_id.0) measured.len_is
     c.in-Some.ensures.born
 
 pub returns-clause-made : goal.returns-clause-made
@@ -128,9 +133,18 @@ returns-clause-runtime c =
           omega (arith, entry, same, more)) is.owed c.register_entry.ensures.spare;
       finalizers = is.finalizers;
       index = index_kept young_items p.types p.types p.heap new.heap p.contexts
-          (young_placed (seen p) is.shown.sound.lawful _ c.in-Some.place _ done.born.layout) is.index;
+          (young_placed (seen p) is.shown.sound.lawful Large refl _ c.in-Some.place _ done.born.layout) is.index;
       large = done.index;
       limit = done.born.limit ∙ is.limit;
       pins = is.pins;
       room = is.room;
     }
+
+-- where no room was made because the limit allows no segment, a compaction was counted
+pub returns-in-Err-clause-grew : goal.returns-in-Err-clause-grew
+returns-in-Err-clause-grew c = λ oom. c.in-Err.ensures.grew
+    (ap (λ (w : NoRoom). Err w) (full-room c.in-Err.why c.refusal_of.result c.refusal_of.ensures
+    (refused-as c.refusal_of.result Oom oom)))
+
+pub returns-clause-grew : goal.returns-clause-grew
+returns-clause-grew c = λ oom. absurd cc

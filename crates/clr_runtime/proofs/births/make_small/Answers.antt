@@ -1,10 +1,11 @@
 -- The object is born at the front of its thread's context, or no room was made.
-use Rattle.std.proofs.Common.{◌≡◌, ◌+◌, ◌∙◌, ◌<◌, ◌^◌, [], ◌∷◌, ◌++◌, if◌then◌else◌, arith, refl, sym, List, Option}
+use Rattle.std.proofs.Common.{◌≡◌, ◌+◌, ◌∙◌, ◌<◌, ◌^◌, [], ◌∷◌, ◌++◌, if◌then◌else◌, arith, Err, sym, List, Option}
 use Rattle.std.proofs.Common.{ap, subst, ℕ, true, unwrap_or}
+use Rattle.clr_types.specs.declared.segment.SegKind.TheVariants.{Large}
 use Rattle.clr_types.specs.Types.{TypeRow, form_at, has_finalizer, size_of, type_row}
 use Rattle.clr_ctx.specs.Contexts.{young_items}
 use Rattle.clr_heap.specs.View.{frame}
-use Rattle.clr_large.specs.Places.{large_items}
+use Rattle.clr_large.specs.Places.{kind_items}
 use Rattle.clr_view.specs.View.{HasNewborn}
 use Rattle.clr_model.specs.Allocation.{own_fits}
 use Rattle.clr_model.proofs.FrontBirth.{born_entries}
@@ -18,6 +19,9 @@ use Rattle.clr_runtime.proofs.LimitKept.{born_limit}
 use Rattle.clr_safe.specs.Threads.{births_owed}
 use Rattle.clr_runtime.proofs.RuntimeKept.{owed_left, spent_fits}
 use Rattle.clr_runtime.proofs.TablesKept.{birth_tables}
+use Rattle.clr_runtime.specs.declared.rooms.NoRoom.{NoRoom}
+use Rattle.clr_model.specs.declared.Refusal.TheVariants.{Oom}
+use Rattle.clr_runtime.proofs.Counted.{full-room, refused-as}
 use Rattle.clr_runtime.proofs.births.make_small.Goals as goal
 use Rattle.clr_runtime.proofs.births.make_small.Goals.{After-register_entry, In_default}
 
@@ -27,7 +31,7 @@ make_room-requires-clause-idle c = (may_run (seen c.args.parts.now) c.args.t c.r
 -- no room was made, and what was done for it stays
 pub returns-in-Err-clause-made : goal.returns-in-Err-clause-made
 returns-in-Err-clause-made c =
-    λ name len measured. fails_follows c.requires.runtime.shown refl c.args.t c.args.local name len c.requires.passed
+    λ name len measured. fails_follows c.requires.runtime.shown c.args.t c.args.local name len c.requires.passed
     c.args.request measured c.requires.small (seen c.make_room.new.parts) c.in-Err.why c.refusal_of.result
     c.refusal_of.ensures c.in-Err.ensures.room
 
@@ -46,7 +50,7 @@ roomy : (c : In_default) (name : List ℕ) (len : Option ℕ)
     c.args.request.type_id.0 c.args.request.size
 roomy c name len measured = record {
   sound = c.requires.runtime.shown.sound;
-  may = may_bear c.requires.runtime.shown refl c.args.t c.args.local name len c.requires.passed c.args.request
+  may = may_bear c.requires.runtime.shown c.args.t c.args.local name len c.requires.passed c.args.request
       measured c.requires.small;
   types = c.in_default.ensures.types;
   is = measured.size_is;
@@ -91,8 +95,9 @@ register_entry-requires c = λ wanted.
 
 pub overflow_add-parts : goal.overflow_add-parts
 overflow_add-parts c =
+    let (name, len, measured) = c.requires.asked in
     let fits : c.make_room.new.parts.sums.spent0 + c.args.request.size < 2 ^ 64 =
-    spent_fits c.in_default.ensures.runtime.shown c.args.request.size c.requires.small in
+    spent_fits c.in_default.ensures.runtime.shown c.args.request.size measured.most in
     omega arith
 
 -- the entries with the object, where its type has a finaliser
@@ -156,9 +161,18 @@ returns-clause-runtime c =
       finalizers = is.finalizers;
       index = index_kept young_items p.types p.types p.heap done.new.heap p.contexts
           (ap young_items done.ensures.born.layout) is.index;
-      large = index_kept large_items p.types p.types p.heap done.new.heap p.large
-          (ap large_items done.ensures.born.layout) is.large;
+      large = index_kept (kind_items Large) p.types p.types p.heap done.new.heap p.large
+          (ap (kind_items Large) done.ensures.born.layout) is.large;
       limit = born_limit p.types p.heap done.new.heap c.args.t type c.args.request.len done.ensures.words ∙ is.limit;
       pins = is.pins;
       room = is.room;
     }
+
+-- where no room was made because the limit allows no segment, a compaction was counted
+pub returns-in-Err-clause-grew : goal.returns-in-Err-clause-grew
+returns-in-Err-clause-grew c = λ oom. c.in-Err.ensures.grew
+    (ap (λ (w : NoRoom). Err w) (full-room c.in-Err.why c.refusal_of.result c.refusal_of.ensures
+    (refused-as c.refusal_of.result Oom oom)))
+
+pub returns-clause-grew : goal.returns-clause-grew
+returns-clause-grew c = λ oom. absurd cc

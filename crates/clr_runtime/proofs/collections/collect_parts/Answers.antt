@@ -1,12 +1,14 @@
 -- The parts after a collection show the picture of what it leaves of the machine that is seen.
-use Rattle.std.proofs.Common.{◌≡◌, ◌∙◌, ℕ, List, arith, sym, subst}
+use Rattle.std.proofs.Common.{◌≡◌, ◌∙◌, ℕ, List, ap, arith, sym, subst}
 use Rattle.std.specs.Vec.{with_items}
 use Rattle.std.proofs.lemmas.List.{with_items_is}
 use Rattle.clr_view.specs.World.{World}
 use Rattle.clr_collect.specs.Collecting.{world_with}
+use Rattle.clr_mark.specs.Waiting.{MarkerView}
 use Rattle.clr_runtime.specs.Options.{options_of}
 use Rattle.clr_runtime.specs.RuntimeView.{sums_of, world_of}
-use Rattle.clr_runtime.proofs.CollectLines.{collect_kept, first_fits, has_collected, locals-after, no_contexts-after}
+use Rattle.clr_runtime.proofs.CollectLines.{collect_kept, counts_of, first_fits, has_collected, locals-after}
+use Rattle.clr_runtime.proofs.CollectLines.{no_contexts-after}
 use Rattle.clr_runtime.proofs.StepsKept.{tables-carded, tables-idle}
 use Rattle.clr_runtime.proofs.CollectLines.{second_fits, Told, told_of, whole_world}
 use Rattle.clr_runtime.proofs.collections.collect_parts.Goals as goal
@@ -41,7 +43,8 @@ same_locals : (c : After-collect-collected)
 same_locals c =
     let p = c.args.parts.now in
     with_items_is p.locals c.collect-collected.new.locals
-    (locals-after c.requires.runtime.shown c.requires.idle c.args.g c.requires.generation c.args.how (left_world c)
+    (locals-after c.requires.runtime.shown c.requires.idle c.args.g c.requires.generation c.args.how c.requires.unfitted
+    (left_world c)
     c.collect-collected.result (left c) ∙ sym c.requires.runtime.shown.locals ∙ sym p.locals.ok.0)
 
 told : (c : After-collect-collected) → Told (world_of c.args.parts.now) (sums_of c.args.parts.now.sums)
@@ -68,26 +71,30 @@ collect-collected-requires-clause-free_heads c = c.requires.runtime.shown.free_h
 pub collected-parts-requires-clause-first : goal.collected-parts-requires-clause-first
 collected-parts-requires-clause-first c =
     let before = (goal.at.collected-parts-requires-clause-first c).After-collect-collected in
-    first_fits c.requires.runtime.shown c.requires.idle c.args.g c.requires.generation c.args.how (new_world before)
+    first_fits c.requires.runtime.shown c.requires.idle c.args.g c.requires.generation c.args.how c.requires.unfitted
+    (new_world before)
     c.collect-collected.result (told before)
 
 pub collected-parts-requires-clause-second : goal.collected-parts-requires-clause-second
 collected-parts-requires-clause-second c =
     let before = (goal.at.collected-parts-requires-clause-second c).After-collect-collected in
-    second_fits c.requires.runtime.shown c.requires.idle c.args.g c.requires.generation c.args.how (new_world before)
+    second_fits c.requires.runtime.shown c.requires.idle c.args.g c.requires.generation c.args.how c.requires.unfitted
+    (new_world before)
     c.collect-collected.result (told before)
 
 pub returns-clause-collected : goal.returns-clause-collected
 returns-clause-collected c =
     let before = (goal.at.returns-clause-collected c).After-collect-collected in
     rw c.collected-parts.ensures
-    (has_collected c.requires.runtime.shown c.requires.idle c.args.g c.requires.generation c.args.how (new_world before)
+    (has_collected c.requires.runtime.shown c.requires.idle c.args.g c.requires.generation c.args.how
+    c.requires.unfitted (new_world before)
     c.collect-collected.result (told before))
 
 pub returns-clause-no_contexts : goal.returns-clause-no_contexts
 returns-clause-no_contexts c =
     let before = (goal.at.returns-clause-no_contexts c).After-collect-collected in
     no_contexts-after c.requires.runtime.shown c.requires.idle c.args.g c.requires.generation c.args.how
+    c.requires.unfitted
     (new_world before)
     c.collect-collected.result (told before)
 
@@ -99,6 +106,7 @@ returns-clause-runtime c =
     record {
       shown = rw c.collected-parts.ensures
           (collect_kept c.requires.runtime.shown c.requires.idle c.args.g c.requires.generation c.args.how
+          c.requires.unfitted
           (new_world before)
           done.result (told before) done.ensures.held done.ensures.unmarked done.ensures.free_heads done.ensures.clean);
       tables = tables-carded done.new.cards p.safe done.new.bricks p.types done.new.heap done.ensures.tables;
@@ -113,3 +121,15 @@ returns-clause-runtime c =
       pins = done.ensures.empty;
       room = done.ensures.room;
     }
+
+pub returns-clause-slides : goal.returns-clause-slides
+returns-clause-slides c =
+    let before = (goal.at.returns-clause-slides c).After-collect-collected in
+    let p = c.args.parts.now in
+    let done = c.collect-collected in
+    counts_of (world_of p) (sums_of p.sums) (options_of p.options) p.safe c.requires.runtime.shown c.requires.idle
+    c.args.g c.args.how c.deref_mut.result.now c.deref_mut.ensures.value (left_world before) done.result p.slides
+    done.new.slides done.ensures.collected
+
+pub returns-clause-stack : goal.returns-clause-stack
+returns-clause-stack c = ap (λ (m : MarkerView). m.capacity) c.collect-collected.ensures.marker

@@ -1,6 +1,8 @@
 -- Each exit of the ladder.
-use Rattle.std.proofs.Common.{sym, ◌∙◌, Ok, Err}
+use Rattle.std.proofs.Common.{◌≡◌, sym, ◌∙◌, Ok, Err, subst}
 use Rattle.clr_runtime.specs.RuntimeView.{seen}
+use Rattle.clr_runtime.specs.Slides.{CountsCollection, Grew}
+use Rattle.clr_runtime.proofs.Counted.{compacting, grown, surely}
 use Rattle.clr_runtime.proofs.LargeRoomMade.{acquired_fits, placed_after_first, placed_after_full, placed_in_new}
 use Rattle.clr_runtime.proofs.LargeRoomMade.{placed_after_wait, placed_nowhere, placed_within}
 use Rattle.clr_runtime.proofs.StepsSeen.{still_calm}
@@ -22,12 +24,6 @@ pub collect_parts-requires-2-clause-idle : goal.collect_parts-requires-2-clause-
 collect_parts-requires-2-clause-idle c =
     still_calm c.has_room_in_budget.new.parts.safe c.has_large_room.new.parts.safe
     (c.has_large_room.ensures.safe ∙ c.collect_parts.ensures.safe) c.in_default.ensures.safe
-
-pub acquire_for-requires-clause-idle : goal.acquire_for-requires-clause-idle
-acquire_for-requires-clause-idle c =
-    still_calm c.has_room_in_budget.new.parts.safe c.has_large_room-2.new.parts.safe
-    (c.has_large_room-2.ensures.safe ∙ c.collect_parts-2.ensures.safe ∙ c.has_large_room.ensures.safe
-    ∙ c.collect_parts.ensures.safe) c.in_default.ensures.safe
 
 pub returns-then-has_large_room-clause-place : goal.returns-then-has_large_room-clause-place
 returns-then-has_large_room-clause-place c =
@@ -82,3 +78,39 @@ returns-in-Err-acquire_for-clause-err c =
     (sym c.has_large_room-2.ensures.place ∙ c.if-has_large_room-2.false) (seen c.has_large_room-2.new.parts)
     c.has_large_room-2.ensures.seen (seen c.acquire_for.new.parts) (Err c.in-Err-acquire_for.fault)
     c.in-Err-acquire_for.ensures.acquired
+
+-- ---- what is counted
+
+pub returns-then-has_room_in_budget-clause-grew : goal.returns-then-has_room_in_budget-clause-grew
+returns-then-has_room_in_budget-clause-grew c = λ full. absurd cc
+
+pub returns-in-Err-clause-grew : goal.returns-in-Err-clause-grew
+returns-in-Err-clause-grew c = λ full. absurd cc
+
+pub returns-then-has_large_room-clause-grew : goal.returns-then-has_large_room-clause-grew
+returns-then-has_large_room-clause-grew c = λ full. absurd cc
+
+pub returns-then-has_large_room-2-clause-grew : goal.returns-then-has_large_room-2-clause-grew
+returns-then-has_large_room-2-clause-grew c = λ full. absurd cc
+
+pub returns-in-Ok-clause-grew : goal.returns-in-Ok-clause-grew
+returns-in-Ok-clause-grew c = λ full. absurd cc
+
+-- the second collection compacted
+pub returns-in-Err-acquire_for-clause-grew : goal.returns-in-Err-acquire_for-clause-grew
+returns-in-Err-acquire_for-clause-grew c = λ full.
+    let start = c.args.parts.now.slides in
+    let first = c.collect_parts in
+    let second = c.collect_parts-2 in
+    let (after, collects, is) = second.ensures.collected in
+    let one : CountsCollection first.result.compacted start first.new.parts.slides =
+    subst (λ n. CountsCollection first.result.compacted n first.new.parts.slides) c.has_room_in_budget.ensures.slides
+    first.ensures.slides in
+    let two : Grew c.has_large_room.new.parts.slides second.new.parts.slides =
+    surely second.result.compacted c.has_large_room.new.parts.slides second.new.parts.slides
+    (compacting (seen c.has_large_room.new.parts) 2 second.result after collects) second.ensures.slides in
+    let last : c.acquire_for.new.parts.slides ≡ second.new.parts.slides =
+    c.in-Err-acquire_for.ensures.slides ∙ c.has_large_room-2.ensures.slides in
+    subst (Grew start) (sym last)
+    (grown first.result.compacted start first.new.parts.slides second.new.parts.slides one
+    (subst (λ n. Grew n second.new.parts.slides) c.has_large_room.ensures.slides two))

@@ -1,16 +1,39 @@
 -- Each exit of the ladder, behind its first step.
-use Rattle.std.proofs.Common.{ap, ◌∙◌, Result, Ok, Err}
+use Rattle.std.proofs.Common.{◌≡◌, ◌<◌, ap, ◌∙◌, Result, Ok, Err, subst, sym}
 use Rattle.clr_heap.specs.declared.heap.segments.AcquireFault.{AcquireFault}
 use Rattle.clr_model.specs.RoomFollows.{FollowsRoom}
 use Rattle.clr_runtime.specs.Rooms.{attempt_of, IsSealedRefill}
 use Rattle.clr_runtime.specs.RuntimeView.{seen}
+use Rattle.clr_runtime.specs.Slides.{CountsCollection, Grew}
+use Rattle.clr_runtime.proofs.Counted.{compacting, grown, surely}
 use Rattle.clr_runtime.proofs.RefillKept.{thread-idle, thread-known}
+use Rattle.clr_runtime.specs.declared.options.Options.{Options}
 use Rattle.clr_runtime.specs.declared.parts.Parts.{Parts}
+use Rattle.clr_runtime.proofs.RuntimeKept.{small_enough}
 use Rattle.clr_runtime.proofs.RoomMade.{made_after_first, made_after_full, made_by_sealing, made_in_budget}
 use Rattle.clr_runtime.proofs.RoomMade.{made_to_wait, room_result, sealing_fits}
 use Rattle.clr_runtime.proofs.StepsSeen.{still_calm}
 use Rattle.clr_runtime.proofs.rooms.find_room.Goals as goal
 use Rattle.clr_runtime.proofs.rooms.find_room.Goals.{After-refill_by_sealing}
+
+pub refill_in_budget-requires-clause-most : goal.refill_in_budget-requires-clause-most
+refill_in_budget-requires-clause-most c = small_enough c.requires.runtime.shown c.args.size c.requires.small
+
+pub refill-requires-clause-most : goal.refill-requires-clause-most
+refill-requires-clause-most c = small_enough c.requires.runtime.shown c.args.size c.requires.small
+
+pub refill-requires-2-clause-most : goal.refill-requires-2-clause-most
+refill-requires-2-clause-most c = small_enough c.requires.runtime.shown c.args.size c.requires.small
+
+-- neither steps that found no room nor collections change the options
+pub refill_by_sealing-requires-clause-small : goal.refill_by_sealing-requires-clause-small
+refill_by_sealing-requires-clause-small c =
+    let first = ap (λ (p : Parts). p.options) c.if-refill_in_budget.ensures.refilled.1 in
+    let second = ap (λ (p : Parts). p.options) c.if-refill.ensures.refilled.1 in
+    let third = ap (λ (p : Parts). p.options) c.if-refill-2.ensures.refilled.1 in
+    subst (λ (o : Options). c.args.size < o.large)
+    (sym (third ∙ c.collect_for_room-2.ensures.options ∙ second ∙ c.collect_for_room.ensures.options ∙ first))
+    c.requires.small
 
 pub returns-then-refill_in_budget-clause-room : goal.returns-then-refill_in_budget-clause-room
 returns-then-refill_in_budget-clause-room c =
@@ -29,26 +52,27 @@ returns-in-Err-clause-room c =
 
 pub refill-requires-clause-idle : goal.refill-requires-clause-idle
 refill-requires-clause-idle c =
-    thread-idle (seen c.collect_parts.new.parts) c.args.thread
-    (still_calm c.refill_in_budget.new.parts.safe c.collect_parts.new.parts.safe c.collect_parts.ensures.safe
+    thread-idle (seen c.collect_for_room.new.parts) c.args.thread
+    (still_calm c.refill_in_budget.new.parts.safe c.collect_for_room.new.parts.safe c.collect_for_room.ensures.safe
     c.in_default.ensures.safe)
 
-pub collect_parts-requires-2-clause-idle : goal.collect_parts-requires-2-clause-idle
-collect_parts-requires-2-clause-idle c =
+pub collect_for_room-requires-2-clause-idle : goal.collect_for_room-requires-2-clause-idle
+collect_for_room-requires-2-clause-idle c =
     still_calm c.refill_in_budget.new.parts.safe c.refill.new.parts.safe
-    (c.refill.ensures.safe ∙ c.collect_parts.ensures.safe) c.in_default.ensures.safe
+    (c.refill.ensures.safe ∙ c.collect_for_room.ensures.safe) c.in_default.ensures.safe
 
 pub refill-requires-2-clause-idle : goal.refill-requires-2-clause-idle
 refill-requires-2-clause-idle c =
-    thread-idle (seen c.collect_parts-2.new.parts) c.args.thread
-    (still_calm c.refill_in_budget.new.parts.safe c.collect_parts-2.new.parts.safe
-    (c.collect_parts-2.ensures.safe ∙ c.refill.ensures.safe ∙ c.collect_parts.ensures.safe)
+    thread-idle (seen c.collect_for_room-2.new.parts) c.args.thread
+    (still_calm c.refill_in_budget.new.parts.safe c.collect_for_room-2.new.parts.safe
+    (c.collect_for_room-2.ensures.safe ∙ c.refill.ensures.safe ∙ c.collect_for_room.ensures.safe)
     c.in_default.ensures.safe)
 
 pub refill_by_sealing-requires-clause-idle : goal.refill_by_sealing-requires-clause-idle
 refill_by_sealing-requires-clause-idle c =
     still_calm c.refill_in_budget.new.parts.safe c.refill-2.new.parts.safe
-    (c.refill-2.ensures.safe ∙ c.collect_parts-2.ensures.safe ∙ c.refill.ensures.safe ∙ c.collect_parts.ensures.safe)
+    (c.refill-2.ensures.safe ∙ c.collect_for_room-2.ensures.safe ∙ c.refill.ensures.safe
+    ∙ c.collect_for_room.ensures.safe)
     c.in_default.ensures.safe
 
 pub returns-then-refill-clause-room : goal.returns-then-refill-clause-room
@@ -57,8 +81,8 @@ returns-then-refill-clause-room c =
     (thread-known c.args.thread c.requires.positive c.requires.few) (c.requires.least, c.requires.whole)
     c.args.parts.now c.requires.full c.refill_in_budget.new.parts
     c.if-refill_in_budget.ensures.refilled c.in_default.ensures.safe c.generation_due-g.result
-    c.generation_due-g.ensures.due c.collect_parts.new.parts c.collect_parts.result
-    c.collect_parts.ensures.collected c.refill.new.parts
+    c.generation_due-g.ensures.due c.collect_for_room.new.parts c.collect_for_room.result
+    c.collect_for_room.ensures.collected c.refill.new.parts
     c.if-refill.ensures.refilled
 
 pub returns-then-refill-2-clause-room : goal.returns-then-refill-2-clause-room
@@ -67,14 +91,14 @@ returns-then-refill-2-clause-room c =
     (thread-known c.args.thread c.requires.positive c.requires.few) (c.requires.least, c.requires.whole)
     c.args.parts.now c.requires.full c.refill_in_budget.new.parts
     c.if-refill_in_budget.ensures.refilled c.in_default.ensures.safe c.generation_due-g.result
-    c.generation_due-g.ensures.due c.collect_parts.new.parts c.collect_parts.result
-    c.collect_parts.ensures.collected c.refill.new.parts
-    c.if-refill.ensures.refilled c.collect_parts-2.new.parts c.collect_parts-2.result
-    c.collect_parts-2.ensures.collected c.refill-2.new.parts c.if-refill-2.ensures.refilled
+    c.generation_due-g.ensures.due c.collect_for_room.new.parts c.collect_for_room.result
+    c.collect_for_room.ensures.collected c.refill.new.parts
+    c.if-refill.ensures.refilled c.collect_for_room-2.new.parts c.collect_for_room-2.result
+    c.collect_for_room-2.ensures.collected c.refill-2.new.parts c.if-refill-2.ensures.refilled
 
 pub refill_by_sealing-requires-clause-no_contexts : goal.refill_by_sealing-requires-clause-no_contexts
 refill_by_sealing-requires-clause-no_contexts c =
-    ap (λ (p : Parts). p.heap.rests) c.if-refill-2.ensures.refilled.1 ∙ c.collect_parts-2.ensures.no_contexts
+    ap (λ (p : Parts). p.heap.rests) c.if-refill-2.ensures.refilled.1 ∙ c.collect_for_room-2.ensures.no_contexts
 
 -- what the last step comes to
 by_sealing : (c : After-refill_by_sealing) (result : Result (Unit {0}) AcquireFault)
@@ -86,10 +110,10 @@ by_sealing c =
     (thread-known c.args.thread c.requires.positive c.requires.few) (c.requires.least, c.requires.whole)
     c.args.parts.now c.requires.full c.refill_in_budget.new.parts
     c.if-refill_in_budget.ensures.refilled c.in_default.ensures.safe c.generation_due-g.result
-    c.generation_due-g.ensures.due c.collect_parts.new.parts c.collect_parts.result
-    c.collect_parts.ensures.collected c.refill.new.parts
-    c.if-refill.ensures.refilled c.collect_parts-2.new.parts c.collect_parts-2.result
-    c.collect_parts-2.ensures.collected c.refill-2.new.parts c.if-refill-2.ensures.refilled
+    c.generation_due-g.ensures.due c.collect_for_room.new.parts c.collect_for_room.result
+    c.collect_for_room.ensures.collected c.refill.new.parts
+    c.if-refill.ensures.refilled c.collect_for_room-2.new.parts c.collect_for_room-2.result
+    c.collect_for_room-2.ensures.collected c.refill-2.new.parts c.if-refill-2.ensures.refilled
     c.refill_by_sealing.new.parts
 
 pub returns-in-Ok-clause-room : goal.returns-in-Ok-clause-room
@@ -106,3 +130,39 @@ pub returns-in-Err-refill_by_sealing-clause-room : goal.returns-in-Err-refill_by
 returns-in-Err-refill_by_sealing-clause-room c =
     let at = (goal.at.returns-in-Err-refill_by_sealing-clause-room c).After-refill_by_sealing in
     by_sealing at (Err c.in-Err-refill_by_sealing.fault) c.in-Err-refill_by_sealing.ensures.refilled
+
+-- ---- what is counted
+
+pub returns-then-refill_in_budget-clause-grew : goal.returns-then-refill_in_budget-clause-grew
+returns-then-refill_in_budget-clause-grew c = λ full. absurd cc
+
+pub returns-in-Err-clause-grew : goal.returns-in-Err-clause-grew
+returns-in-Err-clause-grew c = λ full. absurd cc
+
+pub returns-then-refill-clause-grew : goal.returns-then-refill-clause-grew
+returns-then-refill-clause-grew c = λ full. absurd cc
+
+pub returns-then-refill-2-clause-grew : goal.returns-then-refill-2-clause-grew
+returns-then-refill-2-clause-grew c = λ full. absurd cc
+
+pub returns-in-Ok-clause-grew : goal.returns-in-Ok-clause-grew
+returns-in-Ok-clause-grew c = λ full. absurd cc
+
+-- the second collection compacted
+pub returns-in-Err-refill_by_sealing-clause-grew : goal.returns-in-Err-refill_by_sealing-clause-grew
+returns-in-Err-refill_by_sealing-clause-grew c = λ full.
+    let start = c.args.parts.now.slides in
+    let first = c.collect_for_room in
+    let second = c.collect_for_room-2 in
+    let (after, collects, is) = second.ensures.collected in
+    let one : CountsCollection first.result.compacted start first.new.parts.slides =
+    subst (λ n. CountsCollection first.result.compacted n first.new.parts.slides) c.refill_in_budget.ensures.slides
+    first.ensures.slides in
+    let two : Grew c.refill.new.parts.slides second.new.parts.slides =
+    surely second.result.compacted c.refill.new.parts.slides second.new.parts.slides
+    (compacting (seen c.refill.new.parts) 2 second.result after collects) second.ensures.slides in
+    let last : c.refill_by_sealing.new.parts.slides ≡ second.new.parts.slides =
+    c.in-Err-refill_by_sealing.ensures.slides ∙ c.refill-2.ensures.slides in
+    subst (Grew start) (sym last)
+    (grown first.result.compacted start first.new.parts.slides second.new.parts.slides one
+    (subst (λ n. Grew n second.new.parts.slides) c.refill.ensures.slides two))

@@ -7,7 +7,7 @@ use Rattle.clr_runtime.proofs.rooms.refill_in_budget.Goals as goal
 pub overflow_add-parts : goal.overflow_add-parts
 overflow_add-parts c =
     let fits : c.args.parts.now.sums.spent0 + c.args.size < 2 ^ 64 =
-    spent_fits c.requires.runtime.shown c.args.size c.requires.small in
+    spent_fits c.requires.runtime.shown c.args.size c.requires.most in
     omega arith
 
 pub returns-then-parts-size-clause-refilled : goal.returns-then-parts-size-clause-refilled

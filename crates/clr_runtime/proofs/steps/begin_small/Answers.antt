@@ -1,5 +1,5 @@
 -- There is room for the object, and the thread has begun it, or no room was made.
-use Rattle.std.proofs.Common.{◌≡◌, ◌∙◌, false, ap, arith, refl, sym, List, ℕ, Option}
+use Rattle.std.proofs.Common.{◌≡◌, ◌∙◌, false, ap, arith, Err, sym, List, ℕ, Option}
 use Rattle.clr_types.specs.Types.{has_finalizer, type_row, TypeRow}
 use Rattle.clr_model.specs.Lookups.{is_step}
 use Rattle.clr_safe.specs.Threads.{begun_by, births_owed, step_by}
@@ -11,6 +11,9 @@ use Rattle.clr_runtime.proofs.BirthDone.{HasItsRoom}
 use Rattle.clr_runtime.proofs.BirthLines.{may_bear}
 use Rattle.clr_runtime.proofs.NamesChecked.{may_run}
 use Rattle.clr_runtime.proofs.StepsSeen.{step-seen}
+use Rattle.clr_runtime.specs.declared.rooms.NoRoom.{NoRoom}
+use Rattle.clr_model.specs.declared.Refusal.TheVariants.{Oom}
+use Rattle.clr_runtime.proofs.Counted.{full-room, refused-as}
 use Rattle.clr_runtime.proofs.steps.begin_small.Goals as goal
 use Rattle.clr_runtime.proofs.steps.begin_small.Goals.{In_default}
 
@@ -20,7 +23,7 @@ make_room-requires-clause-idle c = (may_run (seen c.args.parts.now) c.args.t c.r
 -- no room was made, and what was done for it stays
 pub returns-in-Err-clause-begun : goal.returns-in-Err-clause-begun
 returns-in-Err-clause-begun c =
-    λ name len measured. begin_fails c.requires.runtime.shown refl c.args.t c.args.local name len c.requires.passed
+    λ name len measured. begin_fails c.requires.runtime.shown c.args.t c.args.local name len c.requires.passed
     c.args.request measured c.requires.small (seen c.make_room.new.parts) c.in-Err.why c.refusal_of.result
     c.refusal_of.ensures c.in-Err.ensures.room
 
@@ -31,7 +34,7 @@ roomy : (c : In_default) (name : List ℕ) (len : Option ℕ)
     c.args.request.type_id.0 c.args.request.size
 roomy c name len measured = record {
   sound = c.requires.runtime.shown.sound;
-  may = may_bear c.requires.runtime.shown refl c.args.t c.args.local name len c.requires.passed c.args.request
+  may = may_bear c.requires.runtime.shown c.args.t c.args.local name len c.requires.passed c.args.request
       measured c.requires.small;
   types = c.in_default.ensures.types;
   is = measured.size_is;
@@ -69,3 +72,12 @@ returns-clause-runtime c =
     omega (arith, entry, same, more))
     (measured.entry ∙ ap (λ (rows : List TypeRow). has_finalizer (type_row rows request.type_id.0))
     (sym c.in_default.ensures.types))
+
+-- where no room was made because the limit allows no segment, a compaction was counted
+pub returns-in-Err-clause-grew : goal.returns-in-Err-clause-grew
+returns-in-Err-clause-grew c = λ oom. c.in-Err.ensures.grew
+    (ap (λ (w : NoRoom). Err w) (full-room c.in-Err.why c.refusal_of.result c.refusal_of.ensures
+    (refused-as c.refusal_of.result Oom oom)))
+
+pub returns-clause-grew : goal.returns-clause-grew
+returns-clause-grew c = λ oom. absurd cc

@@ -2,8 +2,9 @@
 use Rattle.std.proofs.Common.{◌≡◌, ◌∙◌, ◌+◌, ◌<◌, ◌^◌, ◌++◌, [], ◌∷◌, ap, arith, if◌then◌else◌, slice_set, subst}
 use Rattle.std.proofs.Common.{sym}
 use Rattle.std.specs.Vec.{with_item}
+use Rattle.clr_types.specs.declared.segment.SegKind.TheVariants.{Large}
 use Rattle.clr_ctx.specs.Contexts.{young_items}
-use Rattle.clr_large.specs.Places.{large_items}
+use Rattle.clr_large.specs.Places.{kind_items}
 use Rattle.clr_model.specs.declared.Reply.TheVariants.{Place}
 use Rattle.clr_model.specs.Instructions.{finish_step}
 use Rattle.clr_model.specs.Outcomes.{answered}
@@ -16,7 +17,7 @@ use Rattle.clr_runtime.specs.RuntimeView.{IsRuntime, IsToldBy, seen, sums_of, wo
 use Rattle.clr_runtime.specs.Shown.{shown}
 use Rattle.clr_runtime.proofs.BirthDone.{spent_more}
 use Rattle.clr_runtime.proofs.FinishedBirths.{birth_entry, birth_finished, birth_finished_shown, birth_known, birth_may}
-use Rattle.clr_runtime.proofs.FinishedBirths.{birth_makeable, birth_no_store, birth_owed, birth_room, birth_small}
+use Rattle.clr_runtime.proofs.FinishedBirths.{birth_makeable, birth_no_store, birth_owed, birth_room, birth_most}
 use Rattle.clr_runtime.proofs.IndexKept.{index_kept}
 use Rattle.clr_runtime.proofs.LimitKept.{born_limit}
 use Rattle.clr_runtime.proofs.RuntimeKept.{spent_fits}
@@ -33,9 +34,8 @@ item_size-size-requires-clause-known c =
 
 pub item_size-size-requires-clause-size : goal.item_size-size-requires-clause-size
 item_size-size-requires-clause-size c =
-    let small = birth_small c.args.parts.now c.requires.runtime c.args.t c.requires.thread c.args.type_id c.args.len
-    c.args.local c.args.finalizer c.requires.begun in
-    omega (arith, small)
+    birth_most c.args.parts.now c.requires.runtime c.args.t c.requires.thread c.args.type_id c.args.len c.args.local
+    c.args.finalizer c.requires.begun
 
 pub bear-place-requires-clause-item : goal.bear-place-requires-clause-item
 bear-place-requires-clause-item c =
@@ -67,11 +67,11 @@ index_of-requires-clause-local c =
 
 pub overflow_add-parts : goal.overflow_add-parts
 overflow_add-parts c =
-    let small = birth_small c.args.parts.now c.requires.runtime c.args.t c.requires.thread c.args.type_id c.args.len
+    let most = birth_most c.args.parts.now c.requires.runtime c.args.t c.requires.thread c.args.type_id c.args.len
     c.args.local c.args.finalizer c.requires.begun in
     let same = c.item_size-size.ensures in
     let fits : c.args.parts.now.sums.spent0 + c.item_size-size.result < 2 ^ 64 =
-    spent_fits c.requires.runtime.shown c.item_size-size.result (omega (arith, same, small)) in
+    spent_fits c.requires.runtime.shown c.item_size-size.result (omega (arith, same, most)) in
     omega (arith, fits)
 
 -- the entries with the object, where its type has a finaliser
@@ -139,8 +139,8 @@ returns-clause-runtime c =
       finalizers = finalizers-begun p.types p.safe c.args.t Nothing is.finalizers tt;
       index = index_kept young_items p.types p.types p.heap done.new.heap p.contexts
           (ap young_items done.ensures.born.layout) is.index;
-      large = index_kept large_items p.types p.types p.heap done.new.heap p.large
-          (ap large_items done.ensures.born.layout) is.large;
+      large = index_kept (kind_items Large) p.types p.types p.heap done.new.heap p.large
+          (ap (kind_items Large) done.ensures.born.layout) is.large;
       limit = born_limit p.types p.heap done.new.heap c.args.t type c.args.len done.ensures.words ∙ is.limit;
       pins = is.pins;
       room = is.room;

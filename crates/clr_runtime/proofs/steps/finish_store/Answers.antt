@@ -24,7 +24,8 @@ overflow_add-item c =
 
 pub set-requires : goal.set-requires
 set-requires c =
-    store-covered c.requires.runtime.shown c.args.t c.args.object c.args.index c.requires.begun c.object_item-item.result
+    store-covered c.requires.runtime.shown c.args.t c.args.object c.args.index c.requires.begun
+    c.object_item-item.result
     c.object_item-item.ensures c.slot-slot.result c.slot-slot.ensures.slot c.lawful.ensures c.args.parts.now.cards
     c.requires.runtime.tables.cards
 

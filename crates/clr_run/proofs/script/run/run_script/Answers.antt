@@ -10,7 +10,7 @@ returns-in-Ok-take_end-clause-done g c = λ e.
     let into = simp length-take at c.read.auto.into in
     let some : 0 < length c.read.new.into = omega (arith, into) in
     let read = rw c.if-count-eq0.true at c.in-Ok.ensures.bytes in
-    let f = finished c.args.session.now.runtime.options c.loop-count.session c.take_end.new.self _
+    let f = finished c.args.session.now.runtime.machine.options c.loop-count.session c.take_end.new.self _
     (g.S.Source.held c.loop-count.source) (g.S.Source.held c.read.new.self) _
     (g.K.Sink.written c.loop-count.sink) _ c.args.limit c.loop-count.left
     c.loop-count.invariant.running read c.in-Ok-take_end.ensures.bytes in (
@@ -22,12 +22,18 @@ returns-in-Ok-take_end-clause-done g c = λ e.
           (c.in-Ok.ensures.end c.if-count-eq0.true some),
     )
 
+pub returns-in-Ok-take_end-clause-low : goal.returns-in-Ok-take_end-clause-low
+returns-in-Ok-take_end-clause-low g c = λ e.
+    let grown = c.take_end.ensures.grows in
+    let room = c.loop-count.invariant.room in
+    omega (arith, grown, room)
+
 pub returns-then-left-eq0-clause-too_much : goal.returns-then-left-eq0-clause-too_much
 returns-then-left-eq0-clause-too_much g c = λ e.
     let into = simp length-take at c.read.auto.into in
     let count : length (take c.in-Ok.count c.read.new.into) ≡ 1 =
     simp length-take (omega (arith, into, c.in-Ok.ensures.bound)) in
-    past_limit c.args.session.now.runtime.options c.loop-count.session _
+    past_limit c.args.session.now.runtime.machine.options c.loop-count.session _
     (g.S.Source.held c.loop-count.source) _ _ _ c.args.limit c.loop-count.left _
     c.loop-count.invariant.running c.if-left-eq0.true c.in-Ok.ensures.bytes count
 
@@ -40,7 +46,7 @@ loop-count-preserved g c =
     let bound : c.in-Ok.count ≤ length c.read.new.into = c.in-Ok.ensures.bound in
     let goes = rw take-append-le at c.in-Ok-take_piece.ensures.bytes in
     record {
-      running = went_on c.args.session.now.runtime.options c.loop-count.session c.take_piece.new.self _
+      running = went_on c.args.session.now.runtime.machine.options c.loop-count.session c.take_piece.new.self _
           (g.S.Source.held c.loop-count.source) (g.S.Source.held c.read.new.self)
           _ (g.K.Sink.written c.loop-count.sink) _ c.args.limit c.loop-count.left c.in-Ok.count _
           c.loop-count.invariant.running c.in-Ok.ensures.bytes goes count within;
@@ -56,7 +62,8 @@ loop-count-preserved g c =
 pub returns-in-Err-clause-write_before : goal.returns-in-Err-clause-write_before
 returns-in-Err-clause-write_before g c = λ e.
     let read = rw c.if-count-eq0.true at c.in-Ok.ensures.bytes in
-    cut_short_last c.args.session.now.runtime.options c.loop-count.session _ (g.S.Source.held c.loop-count.source)
+    cut_short_last c.args.session.now.runtime.machine.options c.loop-count.session _
+    (g.S.Source.held c.loop-count.source)
     (g.S.Source.held c.read.new.self) _ (g.K.Sink.written c.loop-count.sink) _ c.args.limit c.loop-count.left
     c.loop-count.invariant.running read c.in-Err.ensures.stops
 
@@ -67,7 +74,7 @@ returns-in_default-take_piece-clause-write_before g c = λ e.
     let into = simp length-take at c.read.auto.into in
     let few : length (take c.in-Ok.count c.read.new.into) ≤ c.loop-count.left =
     simp length-take (omega (arith, into, c.in-Ok.ensures.bound)) in
-    cut_short c.args.session.now.runtime.options c.loop-count.session _ (g.S.Source.held c.loop-count.source)
+    cut_short c.args.session.now.runtime.machine.options c.loop-count.session _ (g.S.Source.held c.loop-count.source)
     (g.S.Source.held c.read.new.self) _ (g.K.Sink.written c.loop-count.sink) _ c.args.limit c.loop-count.left _
     c.loop-count.invariant.running c.in-Ok.ensures.bytes few stops
 
@@ -75,7 +82,7 @@ pub returns-in_default-clause-read_before : goal.returns-in_default-clause-read_
 returns-in_default-clause-read_before g c = λ e.
     let running = c.loop-count.invariant.running in (
       running.taken,
-      rw c.in_default.ensures.kept (so_far c.args.session.now.runtime.options c.loop-count.session _
+      rw c.in_default.ensures.kept (so_far c.args.session.now.runtime.machine.options c.loop-count.session _
           (g.S.Source.held c.loop-count.source) _ _ c.args.limit c.loop-count.left running),
       let counted = running.counted in omega (arith, counted),
     )

@@ -1,7 +1,7 @@
 -- What a run of a script answers, from what its loop does, with the options that the session was made with.
 use Rattle.std.proofs.Common.{sym, arith, subst, []}
 use Rattle.clr_model.specs.Machine.{Options}
-use Rattle.clr_model.specs.Run.{StandsFor}
+use Rattle.clr_runtime.specs.RuntimeView.{StandsFor}
 use Rattle.clr_run.specs.Sessions.{IsAt}
 use Rattle.clr_run.proofs.ScriptLoop.{headline}
 use Rattle.clr_run.proofs.script.run.run_source.Goals as goal
@@ -17,6 +17,12 @@ returns-in-Done-clause-done g c = λ e.
     rw (sym c.in-Ok.ensures.made_with)
     (let (taken, answered, stands, short, ended) = c.run_script.ensures.done c.in-Done.is in
     (taken, answered, short, rw c.into_runtime.ensures stands))
+
+pub returns-in-Done-clause-low : goal.returns-in-Done-clause-low
+returns-in-Done-clause-low g c = λ e. rw c.into_runtime.ensures (c.run_script.ensures.low c.in-Done.is)
+
+pub returns-in_default-run_script-clause-low : goal.returns-in_default-run_script-clause-low
+returns-in_default-run_script-clause-low g c = λ e. absurd (c.in_default-run_script.not-Done e)
 
 pub returns-in_default-run_script-clause-headline : goal.returns-in_default-run_script-clause-headline
 returns-in_default-run_script-clause-headline g c = λ e. absurd (c.in_default-run_script.not-Done e)

@@ -22,5 +22,6 @@ returns-in-Ok-write_all-clause-done g c = λ e.
 
 pub returns-in-Err-clause-write_before : goal.returns-in-Err-clause-write_before
 returns-in-Err-clause-write_before g c = λ e.
-    cut_short (options_of c.args.options) _ _ c.args.seed c.args.count _ _ c.in-Ok.ensures c.run_made-tally.ensures _ _ _
+    cut_short (options_of c.args.options) _ _ c.args.seed c.args.count _ _ c.in-Ok.ensures c.run_made-tally.ensures _ _
+    _
     (c.deref.ensures.value ∙ c.in-Ok-summary.ensures) c.in-Err.ensures.part

@@ -8,6 +8,7 @@ pub returns-clause-answered : goal.returns-clause-answered
 returns-clause-answered c =
     let answered = c.in_ok-answered.answered in
     let fits = c.in_ok-answered.ensures.fits in
-    subst (λ (l : List ℕ). IsAnswered c.args.runtime.now c.args.text.now answered.read l c.answer_front.new.runtime)
+    subst (λ (l : List ℕ). IsAnswered c.args.runtime.now.machine c.args.text.now answered.read l
+    c.answer_front.new.runtime.machine)
     (sym (take-append-le answered.written c.answer_front.new.into _
     (omega (arith, fits, length-append {A = ℕ}, length-drop {A = ℕ})))) c.in_ok-answered.ensures.answered

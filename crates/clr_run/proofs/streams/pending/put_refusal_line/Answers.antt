@@ -5,5 +5,6 @@ use Rattle.clr_run.proofs.streams.pending.put_refusal_line.Goals as goal
 
 pub returns-in-Some-clause-text : goal.returns-in-Some-clause-text
 returns-in-Some-clause-text c =
-    take-append-le c.put_refusal.result c.put_refusal.new.into _ (omega (arith, length-append {A = ℕ}, length-drop {A = ℕ}))
+    take-append-le c.put_refusal.result c.put_refusal.new.into _
+    (omega (arith, length-append {A = ℕ}, length-drop {A = ℕ}))
     ∙ c.put_refusal.ensures.text

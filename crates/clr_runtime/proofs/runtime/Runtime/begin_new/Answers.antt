@@ -1,36 +1,59 @@
 -- There is room for the object, or the line is refused for the first check that fails.
+use Rattle.std.proofs.Common.{ap, Some}
+use Rattle.clr_model.specs.declared.Refusal.{Refusal}
+use Rattle.clr_model.specs.declared.Refusal.TheVariants.{Oom}
+use Rattle.clr_runtime.proofs.Counted.{measure-not-oom, refused-as, thread-not-oom}
 use Rattle.std.proofs.Common.{◌∙◌, refl, sym}
 use Rattle.clr_model.specs.Instructions.{begin_new}
 use Rattle.clr_runtime.proofs.BegunBirths.{begin_lacks, begin_large, begin_measured}
 use Rattle.clr_runtime.proofs.NamesChecked.{thread_refused}
 use Rattle.clr_runtime.proofs.runtime.Runtime.begin_new.Goals as goal
 
-pub returns-in-Some : goal.returns-in-Some
-returns-in-Some c =
-    thread_refused (begin_new c.args.t c.args.local c.args.name.now c.args.len) c.args.t refl refl c.args.self.now
+pub returns-in-Some-clause-follows : goal.returns-in-Some-clause-follows
+returns-in-Some-clause-follows c =
+    thread_refused
+    (begin_new c.args.t c.args.local c.args.name.now c.args.len) c.args.t refl refl c.args.self.now.machine
     c.in-Some.refusal (sym c.refused_thread.ensures.value ∙ c.in-Some.is)
 
-pub returns-in-Err : goal.returns-in-Err
-returns-in-Err c =
+pub returns-in-Err-clause-follows : goal.returns-in-Err-clause-follows
+returns-in-Err-clause-follows c =
     let passed = rw (← c.self.view_is) at (sym c.refused_thread.ensures.value ∙ c.in_default.is) in
     rw (← c.self.view_is)
-    (begin_measured c.self.invariant.shown refl c.args.t c.args.local c.args.name.now c.args.len passed
+    (begin_measured c.self.invariant.shown c.args.t c.args.local c.args.name.now c.args.len passed
     c.in-Err.refusal c.in-Err.ensures)
 
 -- the object is large
-pub returns-then-request-ge-LARGE : goal.returns-then-request-ge-LARGE
-returns-then-request-ge-LARGE c =
+pub returns-then-request-large-clause-follows : goal.returns-then-request-large-clause-follows
+returns-then-request-large-clause-follows c =
     let passed = rw (← c.self.view_is) at (sym c.refused_thread.ensures.value ∙ c.in_default.is) in
     rw (← c.self.view_is)
-    (begin_large c.self.invariant.shown refl c.args.t c.args.local c.args.name.now c.args.len passed c.in-Ok.request
-    c.in-Ok.ensures c.if-request-ge-LARGE.true)
+    (begin_large c.self.invariant.shown c.args.t c.args.local c.args.name.now c.args.len passed c.in-Ok.request
+    c.in-Ok.ensures c.if-request-large.true)
 
 -- there is no memory for an entry
-pub returns-in_default-reserve_entry : goal.returns-in_default-reserve_entry
-returns-in_default-reserve_entry c =
+pub returns-in_default-reserve_entry-clause-follows : goal.returns-in_default-reserve_entry-clause-follows
+returns-in_default-reserve_entry-clause-follows c =
     let finals = c.reserve_entry.new.finals in
     let passed = rw (← c.self.view_is) at (sym c.refused_thread.ensures.value ∙ c.in_default.is) in
     rw (← c.self.view_is)
-    (begin_lacks c.self.invariant.shown refl c.args.t c.args.local c.args.name.now c.args.len passed c.in-Ok.request
-    c.in-Ok.ensures c.if-request-ge-LARGE.false finals.entries finals.ready c.reserve_entry.ensures.entries
+    (begin_lacks c.self.invariant.shown c.args.t c.args.local c.args.name.now c.args.len passed c.in-Ok.request
+    c.in-Ok.ensures c.if-request-large.false finals.entries finals.ready c.reserve_entry.ensures.entries
     c.reserve_entry.ensures.ready c.in_default-reserve_entry.ensures.err)
+
+-- no check is told as a lack of room
+pub returns-in-Some-clause-grew : goal.returns-in-Some-clause-grew
+returns-in-Some-clause-grew c = λ oom.
+    absurd (thread-not-oom c.args.self.now.machine c.args.t
+    (sym c.refused_thread.ensures.value ∙ c.in-Some.is
+    ∙ ap (λ (r : Refusal). Some r) (refused-as c.in-Some.refusal Oom oom)))
+
+pub returns-in-Err-clause-grew : goal.returns-in-Err-clause-grew
+returns-in-Err-clause-grew c = λ oom.
+    absurd (measure-not-oom c.self.inside.parts.types c.args.local c.args.name.now c.args.len c.in-Err.refusal
+    c.in-Err.ensures (refused-as c.in-Err.refusal Oom oom))
+
+pub returns-in_default-reserve_entry-clause-grew : goal.returns-in_default-reserve_entry-clause-grew
+returns-in_default-reserve_entry-clause-grew c = λ oom. absurd cc
+
+pub returns-then-request-large-clause-grew : goal.returns-then-request-large-clause-grew
+returns-then-request-large-clause-grew c = λ oom. absurd cc

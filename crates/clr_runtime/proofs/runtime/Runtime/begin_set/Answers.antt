@@ -1,7 +1,8 @@
 -- The slot takes what the local holds, and the thread is in mid-step.
 use Rattle.std.proofs.Common.{◌≡◌, ◌∙◌, ◌-◌, [], ◌∷◌, ap, false, refl, subst, sym, arith, true≢false}
+use Rattle.clr_types.specs.declared.segment.SegKind.TheVariants.{Large}
 use Rattle.clr_ctx.specs.Contexts.{young_items}
-use Rattle.clr_large.specs.Places.{large_items}
+use Rattle.clr_large.specs.Places.{kind_items}
 use Rattle.clr_model.specs.declared.Reply.TheVariants.{Done}
 use Rattle.clr_model.specs.Instructions.{begin_set}
 use Rattle.clr_model.specs.Lookups.{is_step}
@@ -28,7 +29,7 @@ use Rattle.clr_runtime.proofs.runtime.Runtime.begin_set.Goals as goal
 pub returns-in-Some : goal.returns-in-Some
 returns-in-Some c =
     let l = begin_set_of c.args.t c.args.into c.args.index c.args.from in
-    names_refused l.instruction l.thread l.locals _ l.line l.alike c.args.self.now c.in-Some.refusal
+    names_refused l.instruction l.thread l.locals _ l.line l.alike c.args.self.now.machine c.in-Some.refusal
     (sym c.refused_names.ensures.value ∙ c.in-Some.is)
 
 pub find_slot-requires-clause-object : goal.find_slot-requires-clause-object
@@ -92,7 +93,8 @@ invariant_of-self c =
       finalizers = finalizers-begun r.types r.safe c.args.t (Store place c.args.index) c.self.invariant.finalizers tt;
       index = same_index young_items r.types r.types r.heap done.new.heap r.contexts stored.layout
           c.self.invariant.index;
-      large = same_index large_items r.types r.types r.heap done.new.heap r.large stored.layout c.self.invariant.large;
+      large = same_index
+          (kind_items Large) r.types r.types r.heap done.new.heap r.large stored.layout c.self.invariant.large;
       limit = stored_limit r.types r.heap done.new.heap c.in-Ok.found.item c.in-Ok.found.slot name
           done.ensures.words ∙ c.self.invariant.limit;
       pins = c.self.invariant.pins;

@@ -12,8 +12,8 @@ use Rattle.clr_runtime.proofs.runtime.Runtime.clear.Goals as goal
 pub returns-in-Some : goal.returns-in-Some
 returns-in-Some c =
     let l = clear_of c.args.t c.args.local in
-    names_refused l.instruction l.thread l.locals _ l.line l.alike c.args.self.now c.in-Some.refusal
-    (once c.args.self.now c.args.t c.args.local _ (sym c.refused_names.ensures.value ∙ c.in-Some.is))
+    names_refused l.instruction l.thread l.locals _ l.line l.alike c.args.self.now.machine c.in-Some.refusal
+    (once c.args.self.now.machine c.args.t c.args.local _ (sym c.refused_names.ensures.value ∙ c.in-Some.is))
 
 pub invariant_of-self : goal.invariant_of-self
 invariant_of-self c =

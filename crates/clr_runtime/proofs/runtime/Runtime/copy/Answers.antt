@@ -13,7 +13,7 @@ use Rattle.clr_runtime.proofs.runtime.Runtime.copy.Goals as goal
 pub returns-in-Some : goal.returns-in-Some
 returns-in-Some c =
     let l = copy_of c.args.t c.args.to c.args.from in
-    names_refused l.instruction l.thread l.locals _ l.line l.alike c.args.self.now c.in-Some.refusal
+    names_refused l.instruction l.thread l.locals _ l.line l.alike c.args.self.now.machine c.in-Some.refusal
     (sym c.refused_names.ensures.value ∙ c.in-Some.is)
 
 pub invariant_of-self : goal.invariant_of-self

@@ -1,7 +1,8 @@
 -- The table has the type, or it is refused for the first reason that fits.
+use Rattle.clr_types.specs.declared.segment.SegKind.TheVariants.{Large}
 use Rattle.clr_types.specs.Types.{form_of}
 use Rattle.clr_ctx.specs.Contexts.{young_items}
-use Rattle.clr_large.specs.Places.{large_items}
+use Rattle.clr_large.specs.Places.{kind_items}
 use Rattle.clr_runtime.specs.Options.{options_of}
 use Rattle.clr_runtime.specs.RuntimeView.{sums_of, world_of}
 use Rattle.clr_model.specs.Step.{new_row}
@@ -53,7 +54,7 @@ invariant_of-self c =
       index = defined_index young_items r.types c.define.new.self r.heap
           (new_row c.args.name.now form c.args.finalizer) c.define.result r.contexts c.self.invariant.shown.held
           c.define.ensures.defined c.define.ensures.err c.self.invariant.index;
-      large = defined_index large_items r.types c.define.new.self r.heap
+      large = defined_index (kind_items Large) r.types c.define.new.self r.heap
           (new_row c.args.name.now form c.args.finalizer) c.define.result r.large c.self.invariant.shown.held
           c.define.ensures.defined c.define.ensures.err c.self.invariant.large;
       limit = c.self.invariant.limit;

@@ -18,8 +18,8 @@ use Rattle.clr_runtime.proofs.runtime.Runtime.finalizer.Goals.{After-index_of}
 pub returns-in-Some : goal.returns-in-Some
 returns-in-Some c =
     let l = take_of c.args.t c.args.to in
-    names_refused l.instruction l.thread l.locals l.more l.line l.alike c.args.self.now c.in-Some.refusal
-    (once c.args.self.now c.args.t c.args.to _ (sym c.refused_names.ensures.value ∙ c.in-Some.is))
+    names_refused l.instruction l.thread l.locals l.more l.line l.alike c.args.self.now.machine c.in-Some.refusal
+    (once c.args.self.now.machine c.args.t c.args.to _ (sym c.refused_names.ensures.value ∙ c.in-Some.is))
 
 -- nothing waits
 pub returns-in_default-next : goal.returns-in_default-next

@@ -17,7 +17,7 @@ use Rattle.clr_runtime.proofs.runtime.Runtime.free.Goals.{In_default-free, In-Ok
 
 pub returns-in-Some : goal.returns-in-Some
 returns-in-Some c =
-    thread_refused (free_handle c.args.t c.args.h) c.args.t refl refl c.args.self.now c.in-Some.refusal
+    thread_refused (free_handle c.args.t c.args.h) c.args.t refl refl c.args.self.now.machine c.in-Some.refusal
     (sym c.refused_thread.ensures.value ∙ c.in-Some.is)
 
 -- a number that isn't in use

@@ -13,7 +13,7 @@ use Rattle.clr_runtime.proofs.runtime.Runtime.get.Goals as goal
 pub returns-in-Some : goal.returns-in-Some
 returns-in-Some c =
     let l = get_of c.args.t c.args.to c.args.from c.args.index in
-    names_refused l.instruction l.thread l.locals _ l.line l.alike c.args.self.now c.in-Some.refusal
+    names_refused l.instruction l.thread l.locals _ l.line l.alike c.args.self.now.machine c.in-Some.refusal
     (sym c.refused_names.ensures.value ∙ c.in-Some.is)
 
 pub find_slot-requires-clause-object : goal.find_slot-requires-clause-object

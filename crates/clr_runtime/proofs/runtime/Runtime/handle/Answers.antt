@@ -22,16 +22,16 @@ use Rattle.clr_runtime.proofs.runtime.Runtime.handle.Goals.{Joined-create_with_r
 pub returns-in-Some : goal.returns-in-Some
 returns-in-Some c =
     let l = create_of c.args.t c.args.kind c.args.local c.args.second c.requires.form in
-    let twice = ap (λ n. names_refusal c.args.self.now c.args.t (c.args.local ∷ n ∷ [])) c.unwrap_or.ensures in
-    names_refused l.instruction l.thread l.locals l.more l.line l.alike c.args.self.now c.in-Some.refusal
-    (named_once c.args.self.now c.args.t c.args.local c.args.second _
+    let twice = ap (λ n. names_refusal c.args.self.now.machine c.args.t (c.args.local ∷ n ∷ [])) c.unwrap_or.ensures in
+    names_refused l.instruction l.thread l.locals l.more l.line l.alike c.args.self.now.machine c.in-Some.refusal
+    (named_once c.args.self.now.machine c.args.t c.args.local c.args.second _
     (sym (c.refused_names.ensures.value ∙ twice) ∙ c.in-Some.is))
 
 -- the locals are there
 passed : (c : In_default) → names_refusal (seen c.self.inside.parts) c.args.t
     (c.args.local ∷ unwrap_or c.args.second c.args.local ∷ []) ≡ None
 passed c =
-    let twice = ap (λ n. names_refusal c.args.self.now c.args.t (c.args.local ∷ n ∷ [])) c.unwrap_or.ensures in
+    let twice = ap (λ n. names_refusal c.args.self.now.machine c.args.t (c.args.local ∷ n ∷ [])) c.unwrap_or.ensures in
     rw (← c.self.view_is) at (sym (c.refused_names.ensures.value ∙ twice) ∙ c.in_default.is)
 
 -- and this is the first one's object

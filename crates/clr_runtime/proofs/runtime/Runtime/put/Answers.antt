@@ -1,10 +1,11 @@
 -- The slot takes the number.
 use Rattle.std.proofs.Common.{sym, ◌∙◌}
+use Rattle.clr_types.specs.declared.segment.SegKind.TheVariants.{Large}
 use Rattle.clr_model.specs.Outcomes.{answered}
 use Rattle.clr_model.specs.declared.Reply.TheVariants.{Done}
 use Rattle.clr_model.proofs.LineFollows.{put_of}
 use Rattle.clr_ctx.specs.Contexts.{young_items}
-use Rattle.clr_large.specs.Places.{large_items}
+use Rattle.clr_large.specs.Places.{kind_items}
 use Rattle.clr_runtime.specs.RuntimeView.{seen, world_of}
 use Rattle.clr_runtime.proofs.IndexKept.{same_index}
 use Rattle.clr_runtime.proofs.LimitKept.{stored_limit}
@@ -18,8 +19,8 @@ use Rattle.clr_runtime.proofs.runtime.Runtime.put.Goals as goal
 pub returns-in-Some : goal.returns-in-Some
 returns-in-Some c =
     let l = put_of c.args.t c.args.into c.args.index c.args.value c.ranges.value.fits in
-    names_refused l.instruction l.thread l.locals _ l.line l.alike c.args.self.now c.in-Some.refusal
-    (once c.args.self.now c.args.t c.args.into _ (sym c.refused_names.ensures.value ∙ c.in-Some.is))
+    names_refused l.instruction l.thread l.locals _ l.line l.alike c.args.self.now.machine c.in-Some.refusal
+    (once c.args.self.now.machine c.args.t c.args.into _ (sym c.refused_names.ensures.value ∙ c.in-Some.is))
 
 pub find_slot-requires-clause-object : goal.find_slot-requires-clause-object
 find_slot-requires-clause-object c =
@@ -62,7 +63,8 @@ invariant_of-self c =
       finalizers = c.self.invariant.finalizers;
       index = same_index young_items r.types r.types r.heap done.new.heap r.contexts stored.layout
           c.self.invariant.index;
-      large = same_index large_items r.types r.types r.heap done.new.heap r.large stored.layout c.self.invariant.large;
+      large = same_index
+          (kind_items Large) r.types r.types r.heap done.new.heap r.large stored.layout c.self.invariant.large;
       limit = stored_limit r.types r.heap done.new.heap c.in-Ok.found.item c.in-Ok.found.slot number.result
           done.ensures.words ∙ c.self.invariant.limit;
       pins = c.self.invariant.pins;

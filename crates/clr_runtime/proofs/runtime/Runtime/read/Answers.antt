@@ -10,8 +10,8 @@ use Rattle.clr_runtime.proofs.runtime.Runtime.read.Goals as goal
 pub returns-in-Some : goal.returns-in-Some
 returns-in-Some c =
     let l = read_of c.args.t c.args.from c.args.index in
-    names_refused l.instruction l.thread l.locals _ l.line l.alike c.args.self.now c.in-Some.refusal
-    (once c.args.self.now c.args.t c.args.from _ (sym c.refused_names.ensures.value ∙ c.in-Some.is))
+    names_refused l.instruction l.thread l.locals _ l.line l.alike c.args.self.now.machine c.in-Some.refusal
+    (once c.args.self.now.machine c.args.t c.args.from _ (sym c.refused_names.ensures.value ∙ c.in-Some.is))
 
 pub find_slot-requires-clause-object : goal.find_slot-requires-clause-object
 find_slot-requires-clause-object c =

@@ -12,8 +12,8 @@ use Rattle.clr_runtime.proofs.runtime.Runtime.second.Goals as goal
 pub returns-in-Some : goal.returns-in-Some
 returns-in-Some c =
     let l = second_from c.args.t c.args.to c.args.h in
-    names_refused l.instruction l.thread l.locals l.more l.line l.alike c.args.self.now c.in-Some.refusal
-    (once c.args.self.now c.args.t c.args.to _ (sym c.refused_names.ensures.value ∙ c.in-Some.is))
+    names_refused l.instruction l.thread l.locals l.more l.line l.alike c.args.self.now.machine c.in-Some.refusal
+    (once c.args.self.now.machine c.args.t c.args.to _ (sym c.refused_names.ensures.value ∙ c.in-Some.is))
 
 pub returns-in_default-get : goal.returns-in_default-get
 returns-in_default-get c =

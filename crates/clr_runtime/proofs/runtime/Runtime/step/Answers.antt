@@ -12,7 +12,7 @@ use Rattle.clr_runtime.proofs.runtime.Runtime.step.Goals as goal
 pub returns-then-not-is_known : goal.returns-then-not-is_known
 returns-then-not-is_known c =
     let none : is_thread c.args.t ≡ false = sym c.is_known.ensures ∙ c.if-not-is_known.true in
-    finish_refused c.args.self.now c.args.t UnknownThread (finish_unknown c.args.self.now c.args.t none)
+    finish_refused c.args.self.now.machine c.args.t UnknownThread (finish_unknown c.args.self.now.machine c.args.t none)
 
 pub refused_idle-requires-clause-idle : goal.refused_idle-requires-clause-idle
 refused_idle-requires-clause-idle c =
@@ -23,4 +23,4 @@ refused_idle-requires-clause-idle c =
 
 pub returns-in-Nothing : goal.returns-in-Nothing
 returns-in-Nothing c =
-    finish_refused c.args.self.now c.args.t c.refused_idle.result c.refused_idle.ensures
+    finish_refused c.args.self.now.machine c.args.t c.refused_idle.result c.refused_idle.ensures

@@ -1,5 +1,6 @@
 -- The object's finaliser is suppressed, where there is one.
 use Rattle.std.proofs.Common.{◌≡◌, [], ◌∷◌, None, sym, ap, ◌∙◌}
+use Rattle.clr_types.specs.declared.segment.SegKind.TheVariants.{Large}
 use Rattle.clr_heap.specs.View.{HeapView}
 use Rattle.clr_runtime.specs.Shown.{shown}
 use Rattle.clr_model.specs.Instructions.{suppress_object}
@@ -9,7 +10,7 @@ use Rattle.clr_model.specs.Run.{Follows}
 use Rattle.clr_model.specs.declared.Reply.TheVariants.{Done}
 use Rattle.clr_model.proofs.FinalFollows.{suppress_of}
 use Rattle.clr_ctx.specs.Contexts.{young_items}
-use Rattle.clr_large.specs.Places.{large_items}
+use Rattle.clr_large.specs.Places.{kind_items}
 use Rattle.clr_runtime.specs.Checks.{names_refusal}
 use Rattle.clr_runtime.specs.Options.{options_of}
 use Rattle.clr_runtime.specs.RuntimeView.{seen, sums_of, world_of}
@@ -25,8 +26,8 @@ use Rattle.clr_runtime.proofs.runtime.Runtime.suppress.Goals.{After-index-place,
 pub returns-in-Some : goal.returns-in-Some
 returns-in-Some c =
     let l = suppress_of c.args.t c.args.local in
-    names_refused l.instruction l.thread l.locals l.more l.line l.alike c.args.self.now c.in-Some.refusal
-    (once c.args.self.now c.args.t c.args.local _ (sym c.refused_names.ensures.value ∙ c.in-Some.is))
+    names_refused l.instruction l.thread l.locals l.more l.line l.alike c.args.self.now.machine c.in-Some.refusal
+    (once c.args.self.now.machine c.args.t c.args.local _ (sym c.refused_names.ensures.value ∙ c.in-Some.is))
 
 -- the local is there, and this is its object
 passed : (c : After-index-place)
@@ -92,7 +93,8 @@ invariant_of-self c =
       owed = c.self.invariant.owed;
       finalizers = c.self.invariant.finalizers;
       index = same_index young_items r.types r.types r.heap new r.contexts set.flagged.layout c.self.invariant.index;
-      large = same_index large_items r.types r.types r.heap new r.large set.flagged.layout c.self.invariant.large;
+      large = same_index
+          (kind_items Large) r.types r.types r.heap new r.large set.flagged.layout c.self.invariant.large;
       limit = ap (λ (h : HeapView). h.limit) set.words ∙ c.self.invariant.limit;
       pins = c.self.invariant.pins;
       room = c.self.invariant.room;

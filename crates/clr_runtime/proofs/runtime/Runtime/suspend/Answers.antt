@@ -8,7 +8,7 @@ use Rattle.clr_runtime.proofs.runtime.Runtime.suspend.Goals as goal
 
 pub returns-in-Some : goal.returns-in-Some
 returns-in-Some c =
-    thread_refused (suspend_others c.args.t) c.args.t refl refl c.args.self.now c.in-Some.refusal
+    thread_refused (suspend_others c.args.t) c.args.t refl refl c.args.self.now.machine c.in-Some.refusal
     (sym c.refused_thread.ensures.value ∙ c.in-Some.is)
 
 pub invariant_of-self : goal.invariant_of-self

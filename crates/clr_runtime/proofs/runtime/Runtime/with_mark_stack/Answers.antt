@@ -1,11 +1,12 @@
 -- A new runtime shows the opening state.
 use Rattle.std.proofs.Common.{◌∙◌, List, Option, ap, refl, subst, sym}
+use Rattle.clr_types.specs.declared.segment.SegKind.TheVariants.{Large}
 use Rattle.clr_types.specs.Ranges.{Piece}
 use Rattle.clr_heap.specs.View.{frame, HeapView}
 use Rattle.clr_final.specs.Queues.{Queues}
 use Rattle.clr_view.specs.World.{World}
 use Rattle.clr_ctx.specs.Contexts.{IsIndex, young_items}
-use Rattle.clr_large.specs.Places.{IsLargeIndex, large_items}
+use Rattle.clr_large.specs.Places.{IsKindIndex, kind_items}
 use Rattle.clr_generations.specs.Tables.{AreBricksOf, AreCardsOf, AreTablesOf}
 use Rattle.clr_generations.proofs.OpeningTables.{tables-opening}
 use Rattle.clr_runtime.specs.Options.{options_of}
@@ -64,8 +65,9 @@ invariant_of-result c =
       index = subst (λ (i : Option (List Piece)). IsIndex made.types made.heap i) (sym c.new-5.ensures)
           (first_index young_items made.types made.heap c.args.options.segment _ c.requires.lawful.segment_aligned
           made.ensures made.ensures' refl);
-      large = subst (λ (i : Option (List Piece)). IsLargeIndex made.types made.heap i) (sym c.new-6.ensures)
-          (first_index large_items made.types made.heap c.args.options.segment _ c.requires.lawful.segment_aligned
+      large = subst (λ (i : Option (List Piece)). IsKindIndex Large made.types made.heap i) (sym c.new-6.ensures)
+          (first_index (kind_items Large) made.types made.heap c.args.options.segment _
+          c.requires.lawful.segment_aligned
           made.ensures made.ensures' refl);
       limit = ap (λ (h : HeapView). h.limit) made.ensures';
       pins = c.in_ok-reserve.ensures.entries ∙ c.in_ok-pins.ensures;

@@ -21,7 +21,7 @@ pub returns-in-Some-clause-bytes : goal.returns-in-Some-clause-bytes
 returns-in-Some-clause-bytes g c =
     let e = eqb-true _ _ (sym c.is_empty.ensures ∙ c.if-not-is_empty.false) in
     let answered = rw c.in-Some.is at c.in_ok-count.ensures.answered in
-    goes_front c.args.self.now c.answer_front.new.runtime c.answer_front.new.self c.args.text.now answered.0
+    goes_front c.args.self.now c.answer_front.new.runtime.machine c.answer_front.new.self c.args.text.now answered.0
     c.in-Some.count _ _ (omega (arith, e, c.args.self.now.line.ok)) answered.1 answered.2
 
 pub returns-clause-bytes : goal.returns-clause-bytes

@@ -6,7 +6,7 @@ abbrev pub invariant-loop-count : goal.invariant-loop-count
 invariant-loop-count g l = record {
   within : l.from ≤ length l.piece;
   goes : Goes l.initial.self l.self (take l.from l.piece) (g.K.Sink.written l.initial.sink) (g.K.Sink.written l.sink);
-  grows : l.self.runtime.layout.top ≤ l.initial.self.runtime.layout.top + 2 ^ 30 * l.from;
+  grows : l.self.runtime.machine.layout.top ≤ l.initial.self.runtime.machine.layout.top + 2 ^ 30 * l.from;
   counted : g.K.Sink.faults l.sink ≡ g.K.Sink.faults l.initial.sink;
 }
 

@@ -6,7 +6,8 @@ use Rattle.clr_run.proofs.script.session.Session.end_line.Goals as goal
 
 pub returns-clause-bytes : goal.returns-clause-bytes
 returns-clause-bytes g c = on_ok_weaker c.put_outcome.result
-    (λ wrote. goes_line c.args.self.now c.execute-outcome.new.self.runtime c.execute-outcome.new.self.line.items _
+    (λ wrote. goes_line c.args.self.now c.execute-outcome.new.self.runtime.machine c.execute-outcome.new.self.line.items
+    _
     c.args.rest.now (outcome_of c.execute-outcome.result) _ _
     c.requires.unfed c.execute-outcome.ensures.follows c.execute-outcome.ensures.line
     (rw c.execute-outcome.ensures.pending at wrote))
@@ -14,7 +15,7 @@ returns-clause-bytes g c = on_ok_weaker c.put_outcome.result
 
 pub returns-clause-stops : goal.returns-clause-stops
 returns-clause-stops g c = on_err_weaker c.put_outcome.result
-    (λ wrote. stops_line c.args.self.now c.execute-outcome.new.self.runtime c.args.rest.now
+    (λ wrote. stops_line c.args.self.now c.execute-outcome.new.self.runtime.machine c.args.rest.now
     (outcome_of c.execute-outcome.result) _ _
     c.requires.unfed c.execute-outcome.ensures.follows (rw c.execute-outcome.ensures.pending at wrote))
     c.put_outcome.ensures.part

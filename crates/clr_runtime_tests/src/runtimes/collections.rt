@@ -1,5 +1,6 @@
 // Collections of many objects, whatever room the mark stack has.
-ghost use Rattle.std.specs.Prelude.{◌≤◌};
+ghost use Rattle.std.specs.Prelude.{◌≡◌, ◌≤◌, false};
+ghost use Rattle.clr_model.specs.Collection.{is_fit};
 
 use super::define;
 use clr_model::{Collected, How, Refusal};
@@ -22,6 +23,7 @@ fn runtime_with_stack(alloc: Global, capacity: usize) -> Result<Runtime, Fail>
         b2: 1_073_741_824,
         bl: 1_073_741_824,
         compact: 50,
+        large: 85_000,
     };
     let mut runtime = Runtime::with_mark_stack(alloc, options, capacity)?;
     let _ = define(&mut runtime, b"Link", Shape::Class(b"r"))?;
@@ -73,11 +75,15 @@ fn halve_table(runtime: &mut Runtime, pairs: u64) -> Result<(), Refusal> {
 
 // A full collection answers these numbers of objects that are kept and freed, and of bytes that went to generation 1
 // and 2.
-fn expect_collected(rt: &impl Abort, runtime: &mut Runtime, how: How, want: [u64; 4]) {
+fn expect_collected(rt: &impl Abort, runtime: &mut Runtime, how: How, want: [u64; 4])
+    requires { is_fit how ≡ false }
+{
     let told = runtime.collect(16, 2, how);
     let want = Collected {
         generation: 2,
         compacted: how == How::Compact,
+        fitted: false,
+        background: false,
         kept: want[0],
         freed: want[1],
         promoted1: want[2],
@@ -87,7 +93,9 @@ fn expect_collected(rt: &impl Abort, runtime: &mut Runtime, how: How, want: [u64
 }
 
 // Collects a table of 10,000 pairs with all of them, with half of them, and without it.
-fn collect_table(rt: &impl Abort, runtime: &mut Runtime, how: How) {
+fn collect_table(rt: &impl Abort, runtime: &mut Runtime, how: How)
+    requires { is_fit how ≡ false }
+{
     assert_eq!(rt; make_table(runtime, 10_000), Ok(()));
     expect_collected(rt, runtime, how, [20_001, 0, 560_024, 0]);
     assert_eq!(rt; halve_table(runtime, 10_000), Ok(()));

@@ -12,6 +12,7 @@ enum Change {
     B2(u64),
     Bl(u64),
     Compact(u64),
+    Large(u64),
 }
 
 // What a runtime is made with where one option is another one.
@@ -25,6 +26,7 @@ fn changed(change: Change) -> Options {
         Change::B2(b2) => Options { b2, ..options },
         Change::Bl(bl) => Options { bl, ..options },
         Change::Compact(compact) => Options { compact, ..options },
+        Change::Large(large) => Options { large, ..options },
     }
 }
 
@@ -51,6 +53,11 @@ fn options_within_their_bounds_are_lawful(rt: HostRuntime) -> Result<(), Fail> {
         // a percentage
         (Change::Compact(100), true),
         (Change::Compact(101), false),
+        // from 85,000 bytes to a page less than a segment
+        (Change::Large(85_000), true),
+        (Change::Large(84_999), false),
+        (Change::Large(16_773_120), true),
+        (Change::Large(16_773_121), false),
     ];
     for (change, lawful) in rows {
         assert_eq!(rt; changed(change).is_lawful(), lawful);

@@ -49,6 +49,7 @@ fn runtime_of_segments(alloc: Global, count: u64) -> Result<Runtime, Fail>
         b2: 4_194_304,
         bl: 4_194_304,
         compact: 50,
+        large: 85_000,
     };
     let mut runtime = Runtime::new(alloc, options)?;
     let _ = define(&mut runtime, b"Pair", Shape::Class(b"rn"))?;

@@ -1,0 +1,107 @@
+"""Looks in the sources for what docs/ARCHITECTURE.md, MODEL.md and PROVED.md name, as crates, files, functions and clauses: run this file."""
+import re
+import sys
+import unittest
+from pathlib import Path
+
+sys.dont_write_bytecode = True
+TOP = Path(__file__).resolve().parent.parent
+CRATES = TOP / "crates"
+PAGES = {name: (TOP / "docs" / name).read_text(encoding="utf-8") for name in ("ARCHITECTURE.md", "MODEL.md", "PROVED.md")}
+
+
+def uses():
+    """What each crate uses, by its name."""
+    lines = [line.split("#")[0] for line in (TOP / "crates.txt").read_text(encoding="utf-8").splitlines()]
+    pairs = [line.split(":") for line in lines if ":" in line]
+    return {name.split()[0]: words.split() for name, words in pairs}
+
+
+def files(crate, *folders):
+    """The sources, definitions and lemmas of a crate that stand in one of these folders."""
+    return [path for folder in folders for path in (CRATES / crate / folder).rglob("*") if path.suffix in (".rt", ".antt")]
+
+
+def text(crates, *folders):
+    """All that stands there."""
+    return "\n".join(path.read_text(encoding="utf-8") for crate in crates for path in files(crate, *folders))
+
+
+def has_word(word, within):
+    return re.search(rf"(?<![\w]){re.escape(word)}(?![\w])", within) is not None
+
+
+def is_defined(name, within):
+    """Whether a definition, a struct or a function has the name."""
+    return re.search(rf"\b(record|abbrev|unfoldable|pub|struct|enum|trait|fn|mod) {re.escape(name)}\b", within) is not None
+
+
+def rows(page, columns):
+    """The rows of the page's tables that have so many columns, without their heads."""
+    split = [re.split(r"(?<!\\)\|", line.strip("|\n")) for line in re.findall(r"^\|.*\|$", page, re.MULTILINE)]
+    return [[cell.strip() for cell in row] for row in split if len(row) == columns and set(row[0]) != {"-"}]
+
+
+def sections():
+    """The parts of ARCHITECTURE.md that speak of one crate."""
+    return re.findall(r"^### (clr\w+)\n(.*?)(?=^##)", PAGES["ARCHITECTURE.md"], re.MULTILINE | re.DOTALL)
+
+
+class Names(unittest.TestCase):
+    def test_crates_are_those_of_crates_txt(self):
+        told = {row[0]: set(re.findall(r"\w+", row[2])) for row in rows(PAGES["ARCHITECTURE.md"], 3) if row[0].startswith("clr")}
+        self.assertEqual({name: told[name] - {"nothing"} for name in told}, {name: set(words) for name, words in uses().items()})
+
+    def test_files_stand_in_their_crate(self):
+        for crate, section in sections():
+            there = {path.name for path in files(crate, "src", "specs", "proofs")}
+            for name in re.findall(r"`(?:[\w/]+/)?(\w+\.(?:rt|antt))`", section):
+                with self.subTest(crate=crate, file=name):
+                    self.assertIn(name, there)
+
+    def test_definitions_and_lemmas_stand_in_their_crate(self):
+        for crate, section in sections():
+            all_of_it = text([crate], "src", "specs", "proofs")
+            there = {path.stem for path in files(crate, "specs", "proofs")}
+            for part in re.findall(r"`(?:specs|proofs)/`: (.*?)(?=\n- |\Z)", section, re.DOTALL):
+                for name in re.findall(r"`([A-Z]\w+)`", part):
+                    with self.subTest(crate=crate, name=name):
+                        self.assertTrue(name in there or is_defined(name, all_of_it))
+
+    def check_claim(self, where, clauses):
+        """The functions that `where` names, and the clauses, stand in the crates that it names."""
+        crates = [name for name in re.findall(r"\bclr\w+", where) if name in uses()]
+        code, definitions = text(crates, "src"), text(crates, "specs")
+        for name in re.findall(r"`([\w:]+)`", where):
+            with self.subTest(where=where, function=name):
+                self.assertRegex(code, rf"\b(fn|struct|enum|trait) {name.split('::')[-1]}\b")
+        for name in re.findall(r"`([\w.]+)`", clauses):
+            with self.subTest(where=where, clause=name):
+                self.assertTrue(has_word(name.split(".")[-1], code) or has_word(name.split(".")[-1], definitions))
+
+    def test_claims_name_functions_and_clauses(self):
+        claims = [row for row in rows(PAGES["PROVED.md"], 3) if "clr" in row[1]]
+        self.assertGreater(len(claims), 100)
+        for _, where, clauses in claims:
+            self.check_claim(where, clauses)
+
+    def test_rules_name_definitions_code_and_tests(self):
+        rules = [row for row in rows(PAGES["MODEL.md"], 6) if row[3].startswith("clr")]
+        self.assertGreater(len(rules), 20)
+        for _, _, defined, where, clauses, test in rules:
+            self.check_claim(where, re.sub(r" of `\w+`", "", clauses))
+            for crate, name, definitions in re.findall(r"(clr_\w+)? ?`(\w+\.antt)`(?:: ((?:`\w+`(?:, )?)+))?", defined):
+                path = CRATES / (crate or "clr_model") / "specs" / name
+                with self.subTest(where=where, file=name):
+                    self.assertTrue(path.exists())
+                for definition in re.findall(r"`(\w+)`", definitions):
+                    with self.subTest(file=name, definition=definition):
+                        self.assertTrue(is_defined(definition, path.read_text(encoding="utf-8")))
+            name = test.strip("`")
+            scripts = [TOP / folder / f"{name}.script" for folder in ("tests", "examples")]
+            with self.subTest(where=where, test=name):
+                self.assertTrue(any(script.exists() for script in scripts) or f"fn {name}(" in text(uses(), "src"))
+
+
+if __name__ == "__main__":
+    unittest.main()

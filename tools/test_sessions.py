@@ -1,0 +1,183 @@
+"""Tests of `ask` and `transcript`: run this file. A small program stands in for the real one, and where CLRHEAP names that, it is
+asked, too."""
+import importlib.util
+import io
+import os
+import subprocess
+import sys
+import tempfile
+import unittest
+from importlib.machinery import SourceFileLoader
+from pathlib import Path
+
+sys.dont_write_bytecode = True
+TOOLS = Path(__file__).resolve().parent
+sys.path.insert(0, str(TOOLS))
+
+import session as sessions  # noqa: E402
+
+
+def load_tool(name):
+    """A tool as a module, though its file's name isn't one of a module."""
+    loader = SourceFileLoader(name, str(TOOLS / name))
+    module = importlib.util.module_from_spec(importlib.util.spec_from_loader(name, loader))
+    sys.modules[name] = module
+    loader.exec_module(module)
+    return module
+
+
+ask = load_tool("ask")
+
+# It answers some lines as `clrheap` does, and ends at `end`.
+STAND_IN = '''#!/usr/bin/env python3
+import sys
+replies = {
+    "": "refused syntax", "t0 step": "refused unknown-thread", "gcwhere 0000000000000000": "refused no-object",
+    "two": "one\\ntwo", "full": "refused oom", "blocked": "refused blocked 3", "options": " ".join(sys.argv[1:]),
+    "dumpheap -stat": "00 1 24 A\\n01 2 999 B\\n02 3 72 C\\ntotal 6 bytes 1095 free 0",
+    "dumpheap -stat -live": "00 1 24 A\\ntotal 1 bytes 24 free 0",
+}
+for line in sys.stdin:
+    if line.strip() == "end":
+        sys.exit(3)
+    print(replies.get(line.rstrip("\\n"), "refused syntax"), flush=True)
+'''
+
+
+class WithProgram(unittest.TestCase):
+    def setUp(self):
+        folder = tempfile.TemporaryDirectory()
+        self.addCleanup(folder.cleanup)
+        self.folder = Path(folder.name)
+        self.program = self.folder / "program"
+        self.program.write_text(STAND_IN, encoding="ascii")
+        self.program.chmod(0o755)
+
+    def write(self, name, text):
+        path = self.folder / name
+        path.write_text(text, encoding="utf-8")
+        return str(path)
+
+    def run_tool(self, name, text, *words, program=""):
+        command = [sys.executable, "-B", str(TOOLS / name), program or str(self.program), *words]
+        return subprocess.run(command, input=text, capture_output=True, text=True, check=False, timeout=60)
+
+
+class Feeding(WithProgram):
+    def feed(self, text):
+        session, told = sessions.Session(str(self.program)), []
+        self.addCleanup(session.close)
+        return session.feed(io.BytesIO(text.encode()), told.append), told
+
+    def test_the_last_reply_and_what_was_refused(self):
+        (last, refused), told = self.feed("two\nfull\n\nfull\nblocked\ntwo\n")
+        self.assertEqual((last, dict(refused)), ("two", {"oom": 2, "syntax": 1, "blocked": 1}))
+        self.assertEqual(told, ["oom", "syntax", "blocked"])
+
+    def test_a_script_that_ends_without_a_line_feed(self):
+        self.assertEqual(self.feed("full\ntwo")[0], ("two", {"oom": 1}))
+        self.assertEqual(self.feed("")[0], ("", {}))
+
+    def test_replies_in_pieces_of_any_size(self):
+        piece, sessions.PIECE = sessions.PIECE, 7
+        try:
+            self.assertEqual(self.feed("full\n\n" * 50 + "two\n")[0], ("two", {"oom": 50, "syntax": 50}))
+        finally:
+            sessions.PIECE = piece
+
+    def test_a_program_that_ends(self):
+        with self.assertRaises(sessions.Ended) as fault:
+            self.feed("two\nend\n")
+        self.assertEqual(str(fault.exception), "the program ended with status 3")
+
+
+class Asking(WithProgram):
+    def test_each_reply_is_ended_by_an_empty_line(self):
+        ran = self.run_tool("ask", "two\nwhat\n\ntwo\n", self.write("a.script", "two\nfull\n"))
+        self.assertEqual(ran.stdout, "one\ntwo\n\nrefused syntax\n\nrefused syntax\n\none\ntwo\n\n")
+        self.assertIn("ask: 1 line was refused: 1 oom\n", ran.stderr)
+        self.assertEqual(ran.returncode, 0)
+
+    def test_options_are_those_said_or_those_beside_the_script(self):
+        script = self.write("a.script", "")
+        self.write("a.words", "run --limit 7 --b0 8\n")
+        self.assertEqual(self.run_tool("ask", "options\n", script).stdout, "run --limit 7 --b0 8\n\n")
+        self.assertEqual(self.run_tool("ask", "options\n", script, "--limit=9").stdout, "run --limit=9\n\n")
+
+    def test_sorted(self):
+        ran = self.run_tool("ask", "sorted\nsorted 1\nsorted 1 -live\n", self.write("a.script", ""))
+        whole = "01 2 999 B\n02 3 72 C\n00 1 24 A\ntotal 6 bytes 1095 free 0\n\n"
+        most = "01 2 999 B\ntotal 6 bytes 1095 free 0\n\n"
+        self.assertEqual(ran.stdout, whole + most + "00 1 24 A\ntotal 1 bytes 24 free 0\n\n")
+
+    def test_a_program_that_ends(self):
+        ran = self.run_tool("ask", "end\ntwo\n", self.write("a.script", ""))
+        self.assertEqual((ran.returncode, ran.stdout), (1, ""))
+        self.assertIn("the program ended with status 3", ran.stderr)
+
+    def test_words_that_are_wrong(self):
+        self.assertEqual(self.run_tool("ask", "").returncode, 2)
+        self.assertEqual(self.run_tool("ask", "", str(self.folder / "none")).returncode, 2)
+
+
+class Told:
+    """Stands in for a session: it answers from a table."""
+
+    REPLIES = {
+        "dumpobj 0000000000000010": ["object 0000000000000010 Shop size 32 gen 2", "slot 0 ref 0000000000000020", "slot 1 num 5"],
+        "dumpobj 0000000000000020": ["object 0000000000000020 Bus[] size 32 gen 2 length 1", "slot 0 ref 0000000000000030"],
+        "dumpobj 0000000000000040": ["refused no-object"],
+        "gcroot 0000000000000030": ["root t1 l0", "0000000000000010 Shop", "0000000000000020 Bus[]", "0000000000000030 Bus"],
+        "gcroot 0000000000000050": ["none"],
+    }
+
+    def ask(self, line):
+        return self.REPLIES[line]
+
+
+class Names(unittest.TestCase):
+    def answer(self, question, fields="Shop bus count\n"):
+        return ask.Answers(Told(), ask.Fields(fields)).answer(question)
+
+    def test_behind_slots(self):
+        shown = self.answer("dumpobj 0000000000000010")
+        self.assertEqual(shown[1:], ["slot 0 ref 0000000000000020 bus", "slot 1 num 5 count"])
+        self.assertEqual(self.answer("dumpobj 0000000000000040"), ["refused no-object"])
+
+    def test_on_the_way_from_a_root(self):
+        shown = self.answer("gcroot 0000000000000030")
+        self.assertEqual(shown, [
+            "root t1 l0", "0000000000000010 Shop bus", "0000000000000020 Bus[] slot 0", "0000000000000030 Bus",
+        ])
+        self.assertEqual(self.answer("gcroot 0000000000000050"), ["none"])
+
+    def test_without_them_replies_stay(self):
+        for question, reply in Told.REPLIES.items():
+            self.assertEqual(self.answer(question, ""), reply)
+
+
+class Transcripts(WithProgram):
+    def test_lines_and_replies(self):
+        ran = self.run_tool("transcript", "", self.write("a.script", "two\n\nfull"), "--limit", "9")
+        self.assertEqual(ran.stdout, "> two\none\ntwo\n> \nrefused syntax\n> full\nrefused oom\n")
+        ran = self.run_tool("transcript", "options\n", "-", "--limit", "9")
+        self.assertEqual((ran.returncode, ran.stdout), (0, "> options\nrun --limit 9\n"))
+
+    def test_a_program_that_ends(self):
+        ran = self.run_tool("transcript", "two\nend\ntwo\n", "-")
+        self.assertEqual((ran.returncode, ran.stdout), (3, "> two\none\ntwo\n"))
+
+    @unittest.skipUnless("CLRHEAP" in os.environ, "CLRHEAP names no program")
+    def test_the_program_itself(self):
+        script = "type Node class rn\nt1 new l0 Node\ndumpobj 0000000010001000\n\nverifyheap\n"
+        ran = self.run_tool("transcript", script, "-", program=os.environ["CLRHEAP"])
+        without = "".join(line for line in ran.stdout.splitlines(keepends=True) if not line.startswith("> "))
+        plain = subprocess.run([os.environ["CLRHEAP"], "run"], input=script, capture_output=True, text=True, check=True)
+        self.assertEqual(without, plain.stdout)
+        asked = self.run_tool("ask", "verifyheap\nfoo\n", self.write("a.script", script), program=os.environ["CLRHEAP"])
+        self.assertEqual((asked.stdout, asked.returncode), ("clean\n\nrefused syntax\n\n", 0))
+        self.assertIn("1 line was refused: 1 syntax", asked.stderr)
+
+
+if __name__ == "__main__":
+    unittest.main()

@@ -15,7 +15,8 @@ use Rattle.clr_heap.specs.View.{HeapView, holes_of, last_of, segment_at, word_of
 use Rattle.clr_view.specs.View.{is_object}
 use Rattle.clr_view.specs.Clean.{AreZero, IsCleanHeader, slots_end}
 use Rattle.clr_sos.specs.CheckedCells.{begins_in, checked_item, checked_size, contents_fault, crosses, first_byte}
-use Rattle.clr_sos.specs.CheckedCells.{is_header, is_inside, is_length, is_whole, Rules, sized_item, suits, typed_item}
+use Rattle.clr_sos.specs.CheckedCells.{is_header, is_inside, is_length, is_whole, may_hold, Rules, sized_item, suits}
+use Rattle.clr_sos.specs.CheckedCells.{typed_item}
 use Rattle.clr_sos.specs.Faults.{is_young, rules_of, words_in}
 use Rattle.clr_sos.specs.CellScans.{suits_object}
 use Rattle.clr_sos.specs.Faultless.{IsWellPlaced}
@@ -88,7 +89,7 @@ begins_less (Some hole ∷ holes) p e high l h =
 -- ---- one item
 
 module _ (rows : List TypeRow) (large : ℕ) (h : HeapView) (k : ℕ) (i : Item) (clean : IsClean rows h i)
-    (placed : IsWellPlaced large h k i) (names : NamesItem rows (word_of h) i.place)
+    (placed : IsWellPlaced rows large h k i) (names : NamesItem rows (word_of h) i.place)
     (is : i ≡ item_at rows (word_of h) i.place) (below : i.place + i.size ≤ last_of h k)
     (aligned : i.place % 8 ≡ 0) where
   abbrev p : ℕ
@@ -188,15 +189,18 @@ module _ (rows : List TypeRow) (large : ℕ) (h : HeapView) (k : ℕ) (i : Item)
   final_ok (inl none) = let e : (word_of h (p - 8) == 0) ≡ true = grind (arith, none) in rw e refl
   final_ok (inr suppressed) = let e = suppressed.1 in rw e (or_right (word_of h (p - 8) == 0) true refl)
 
+  held : may_hold (segment_at h k).kind (form_at rows t) ≡ true
+  held = placed.held
+
   typed : (b : Bool) → is_array (form_at rows t) ≡ b
       → ((word_of h (p - 8) == 0) || has_finalizer (type_row rows t)) ≡ true
       → typed_item rules (words_in h) p (word_of h (p - 8)) (Some t) ≡ Ok (made_item rows p t len)
   typed true array on =
       let word : word_of h (p + 8) ≡ len = sym (len_is ∙ rw array refl) in
-      rw (on, array, word) sized_ok
+      rw (on, held, array, word) sized_ok
   typed false array on =
       let none : 0 ≡ len = sym (len_is ∙ rw array refl) in
-      rw (on, array)
+      rw (on, held, array)
       (subst (λ (n : ℕ). sized_item rules (words_in h) p t n (checked_size rules p t n) ≡ Ok (made_item rows p t len))
       (sym none) sized_ok)
 

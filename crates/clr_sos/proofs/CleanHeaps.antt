@@ -32,7 +32,7 @@ module _ (rows : List TypeRow) (large : ℕ) (h : HeapView) (k : ℕ) where
 
   -- parts whose items are clean and well placed have no fault
   none_along : (ps : List Part) (p f : ℕ) → p % 8 ≡ 0 → Spells (sight rows h k) p ps (last_of h k) → last_of h k ≤ p + f
-      → ((i : Item) → IsIn i (items_in ps) → IsClean rows h i × IsWellPlaced large h k i)
+      → ((i : Item) → IsIn i (items_in ps) → IsClean rows h i × IsWellPlaced rows large h k i)
       → fault_of (checked_items f rules words p) ≡ None
   none_along [] p f z s enough each = ap fault_of (at_end f rules words p (omega (arith, s)))
   none_along (rest_part low high ∷ ps) p zero z s enough each =

@@ -1,8 +1,9 @@
 -- Nothing is wrong with what a runtime shows between lines.
 use Rattle.std.proofs.Common.{◌≡◌, ℕ, suc, ◌+◌, ◌<◌, ◌≤◌, ◌&&◌, ◌⊎◌, nat_lt, nat_le, if◌then◌else◌, IfSome, Bool, true}
 use Rattle.std.proofs.Common.{false, List, [], ◌∷◌, ◌++◌, filter, map, length, get_or, Option, Some, None, refl, sym}
-use Rattle.std.proofs.Common.{◌∙◌, ap, subst, arith, inl, inr}
+use Rattle.std.proofs.Common.{◌∙◌, ap, ap₂, subst, arith, inl, inr, not}
 use Rattle.std.specs.List.{AllByRecursion}
+use Rattle.std.proofs.lemmas.Bool.{cases_Bool}
 use Rattle.std.proofs.lemmas.Bool.{both_ways, cases_Bool}
 use Rattle.clr_types.specs.LawfulLayout.{DoesNotCross}
 use Rattle.clr_types.specs.Ranges.{Piece, piece_end}
@@ -38,7 +39,7 @@ use Rattle.clr_view.proofs.Listed.{listed-sized, part-among}
 use Rattle.clr_view.proofs.StoredSlots.{bytes-form, value-is}
 use Rattle.clr_view.proofs.Tails.{found-young, only-young}
 use Rattle.clr_generations.proofs.FoundItems.{in-at}
-use Rattle.clr_sos.specs.CheckedCells.{begins_in}
+use Rattle.clr_sos.specs.CheckedCells.{begins_in, may_hold}
 use Rattle.clr_sos.specs.declared.view.View.{View}
 use Rattle.clr_sos.specs.Faultless.{HasBounds, IsFaultless, IsWellPlaced}
 use Rattle.clr_sos.specs.CellScans.{suits_object}
@@ -241,7 +242,20 @@ module _ (v : View) (machine : Machine) (heap : IsHeap v.heap.now) (s : IsCleanS
   suited Large o size e l = let g = s.large in grind (arith, e, l, g)
   suited Pinned o size e l = refl
 
-  placed : (k : ℕ) (i : Item) → k < length h.segments → IsIn i (listing rows h k) → IsWellPlaced v.large h k i
+  -- a free item has the form of bytes, and an object that suits a pinned segment is an array without references
+  free_held : (kind : SegKind) (t : ℕ) → t ≡ 0 → may_hold kind (form_at rows t) ≡ true
+  free_held Small t e = refl
+  free_held Ephemeral t e = refl
+  free_held Large t e = refl
+  free_held Pinned t e = ap (λ (n : ℕ). may_hold Pinned (form_at rows n)) e
+
+  object_held : (kind : SegKind) (o : Object) → Suits m o kind → may_hold kind (form_at rows o.type) ≡ true
+  object_held Small o l = refl
+  object_held Ephemeral o l = refl
+  object_held Large o l = refl
+  object_held Pinned o l = ap₂ (λ (a b : Bool). a && not b) l.0 l.1
+
+  placed : (k : ℕ) (i : Item) → k < length h.segments → IsIn i (listing rows h k) → IsWellPlaced rows v.large h k i
   placed k i l listed =
       let all = listed_from rows h k i l listed in
       let piece = piece_listed i all in
@@ -254,16 +268,20 @@ module _ (v : View) (machine : Machine) (heap : IsHeap v.heap.now) (s : IsCleanS
       let home : segment_of m.layout i.place ≡ Some (segment_at h k) =
       segment_of-home m.layout lawful.laid.layout (segment_at h k) i.place (in-at h.segments k empty_segment l)
       (between-stands (segment_at h k) i.place above (omega arith)) in
+      let o = object_in rows (word_of h) i in
+      let fits : is_object i ≡ true → Suits m o (segment_at h k).kind =
+      λ object. subst (λ (x : Option SegInfo). IfSome x (λ (g : SegInfo). Suits m o g.kind)) home
+      (all_at (SuitsItsSegment m) (object_listed i all object) lawful.suited) in
       record {
         old = λ young. all_at (DoesNotCross h.start1) piece lawful.laid.whole1;
         young = λ young. all_at (DoesNotCross h.start0) piece lawful.laid.whole0;
         apart = apart k i l listed;
+        held = elim (cases_Bool (is_object i)) [
+          | inl object ↦ object_held (segment_at h k).kind o (fits object)
+          | inr free ↦ free_held (segment_at h k).kind i.type_id.0 (grind (arith, free))
+        ];
         suits = λ object.
-            let o = object_in rows (word_of h) i in
-            let fits =
-            subst (λ (x : Option SegInfo). IfSome x (λ (g : SegInfo). Suits m o g.kind)) home
-            (all_at (SuitsItsSegment m) (object_listed i all object) lawful.suited) in
-            suited (segment_at h k).kind o i.size (listed-sized rows h i heap s.held all) fits;
+            suited (segment_at h k).kind o i.size (listed-sized rows h i heap s.held all) (fits object);
       }
 
   inside : AreInside h

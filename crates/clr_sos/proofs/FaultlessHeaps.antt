@@ -20,7 +20,7 @@ use Rattle.clr_heap.proofs.Spelling.{item_size, Spells-le}
 use Rattle.clr_view.proofs.Listed.{listed-in}
 use Rattle.clr_view.specs.Clean.{AreZero, IsCleanHeader, slots_end}
 use Rattle.clr_sos.specs.CheckedCells.{begins_in, checked_item, checked_items, contents_fault, crosses, fault_of}
-use Rattle.clr_sos.specs.CheckedCells.{first_byte, is_inside, or_else, padding_from, Rules, Words}
+use Rattle.clr_sos.specs.CheckedCells.{first_byte, is_inside, may_hold, or_else, padding_from, Rules, Words}
 use Rattle.clr_sos.specs.Faults.{addresses, AreInside, first_fault, has_bounds, is_between, is_name, is_young}
 use Rattle.clr_sos.specs.Faults.{locals_fault, lowest, references_fault, rules_of, segment_fault, segments_fault}
 use Rattle.clr_sos.specs.Faults.{words_in}
@@ -131,7 +131,7 @@ module _ (rows : List TypeRow) (large : ℕ) (h : HeapView) (k : ℕ) (i : Item)
         | inl below ↦ inr (grind (arith, here, below, n))
       ]
 
-  pub sound_placed : IsWellPlaced large h k i
+  pub sound_placed : IsWellPlaced rows large h k i
   sound_placed =
       let size = size_of (form_at rows s.t) s.len in
       let whole = and_parts (is_inside rules i.place size) _ s.whole in
@@ -145,6 +145,7 @@ module _ (rows : List TypeRow) (large : ℕ) (h : HeapView) (k : ℕ) (i : Item)
         old = uncrossed h.start1 old;
         young = uncrossed h.start0 young;
         apart = ap (λ (n : ℕ). begins_in (holes_of h k) i.place (i.place + n)) size_is ∙ clear;
+        held = ap (λ (n : ℕ). may_hold (segment_at h k).kind (form_at rows n)) type_is ∙ s.held;
         suits = λ object.
             let same = type_is in
             let other : (s.t == 0) ≡ false = grind (arith, object, same) in

@@ -41,3 +41,4 @@ pub mod Ties
 pub mod FollowedSlots
 pub mod PlaceLines
 pub mod Trails
+pub mod HeldHeaps

@@ -57,13 +57,15 @@ module _ (rows : List TypeRow) (front rest left items : List Item) (i : Item) (s
   next-count =
       let long = length-bytes items listed.least in
       let few = listed.few in
-      let cut : length items ≡ length front + length (i ∷ left) = ap length (sym all) ∙ length-append front (i ∷ left) in
+      let cut : length items ≡ length front + length (i ∷ left) =
+      ap length (sym all) ∙ length-append front (i ∷ left) in
       omega (arith, long, few, cut)
 
   pub next-bytes : bytes_in front + i.size < 2 ^ 62
   next-bytes =
       let few = listed.few in
-      let cut : bytes_in items ≡ bytes_in front + bytes_in (i ∷ left) = ap bytes_in (sym all) ∙ bytes-append front (i ∷ left) in
+      let cut : bytes_in items ≡ bytes_in front + bytes_in (i ∷ left) =
+      ap bytes_in (sym all) ∙ bytes-append front (i ∷ left) in
       let one = sum_by-cons (λ (x : Item). x.size) i left in
       omega (arith, few, cut, one)
 

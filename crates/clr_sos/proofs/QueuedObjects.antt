@@ -14,7 +14,7 @@ use Rattle.clr_model.proofs.NamedWell.{found_named}
 use Rattle.clr_view.specs.SlotValues.{IsObjectAt, StandsAt}
 use Rattle.clr_view.specs.View.{is_object, object_in, objects_in}
 use Rattle.clr_view.proofs.ObjectItems.{in_map}
-use Rattle.clr_sos.specs.Views.{IsLawfulView, IsViewOf}
+use Rattle.clr_sos.specs.Views.{AllStand, IsLawfulView, IsViewOf}
 use Rattle.clr_sos.specs.declared.view.View.{View}
 
 -- ---- objects by place
@@ -54,10 +54,10 @@ module _ (v : View) (lawful : IsLawfulView v) where
       present-stands v.types.now v.heap.now place
       (subst (λ objects. is_some (object_named objects place) ≡ true) shown.objects there)
 
-  pub entries_stand : (place : ℕ) → IsIn place v.finals.now.entries → StandsAt v.types.now v.heap.now place
+  pub entries_stand : AllStand v.types.now v.heap.now v.finals.now.entries
   entries_stand place i = present place
       (all_at (IsPresent machine) (subst (IsIn place) (sym shown.entries) i) lawful.machine.2.lawful.names.entries)
 
-  pub ready_stand : (place : ℕ) → IsIn place v.finals.now.ready → StandsAt v.types.now v.heap.now place
+  pub ready_stand : AllStand v.types.now v.heap.now v.finals.now.ready
   ready_stand place i = present place
       (all_at (IsPresent machine) (subst (IsIn place) (sym shown.ready) i) lawful.machine.2.lawful.names.ready)

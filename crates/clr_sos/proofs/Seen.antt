@@ -96,7 +96,8 @@ module _ (h : HeapView) (seen : List (List ℕ)) (x : ℕ) (bits : List ℕ) (n 
       | inl is ↦
           let count = room.count in
           let own = n.at.in_range in
-          let here : get_or (set seen k bits) k [] ≡ bits = get_or-set_same seen k bits [] (omega (arith, own, count)) in
+          let here : get_or (set seen k bits) k [] ≡ bits =
+          get_or-set_same seen k bits [] (omega (arith, own, count)) in
           let was = room.room k own in
           let size : length (get_or (set seen k bits) k []) ≡ length (get_or seen k []) = ap length here ∙ same in
           subst (HasRoomAt h (set seen k bits)) (sym is) (omega (arith, was, size))

@@ -13,8 +13,8 @@ use Rattle.clr_heap.specs.Parts.{hole_from, made_item}
 use Rattle.clr_heap.specs.View.{HeapView, holes_of, last_of, segment_at}
 use Rattle.clr_view.specs.Clean.{IsCleanHeader}
 use Rattle.clr_sos.specs.CheckedCells.{begins_in, checked_item, checked_size, contents_fault, is_header, is_inside}
-use Rattle.clr_sos.specs.CheckedCells.{is_length, is_whole, number_in, Rules, sized_item, type_of_word, typed_item}
-use Rattle.clr_sos.specs.CheckedCells.{Words}
+use Rattle.clr_sos.specs.CheckedCells.{is_length, is_whole, may_hold, number_in, Rules, sized_item, type_of_word}
+use Rattle.clr_sos.specs.CheckedCells.{typed_item, Words}
 use Rattle.clr_sos.specs.Faults.{AreInside}
 use Rattle.clr_sos.proofs.PaddingBytes.{has_size}
 
@@ -24,6 +24,7 @@ pub record IsSound (rules : Rules) (word : ℕ → ℕ) (p : ℕ) (i : Item) : T
   pub len : ℕ
   pub known : t ≤ length rules.rows
   pub mt : word p ≡ mt_of t
+  pub held : may_hold rules.kind (form_at rules.rows t) ≡ true
   pub with_length : is_array (form_at rules.rows t) ≡ true → word (p + 8) ≡ len
   pub without : is_array (form_at rules.rows t) ≡ false → len ≡ 0
   pub length : is_length rules.rows t len ≡ true
@@ -89,19 +90,22 @@ module _ (rules : Rules) (word : ℕ → ℕ) (p : ℕ) (i : Item) where
   typed_ok header (Some t) o e =
       let known = type_known rules.rows (word p) t o in
       go known ((word (p - 8) == 0) || has_finalizer (type_row rules.rows t))
-      (is_array (form_at rules.rows t)) refl refl
+      (may_hold rules.kind (form_at rules.rows t)) (is_array (form_at rules.rows t)) refl refl refl
     where
-      go : (t ≤ length rules.rows) × (word p ≡ mt_of t) → (a b : Bool)
-          → ((word (p - 8) == 0) || has_finalizer (type_row rules.rows t)) ≡ a → is_array (form_at rules.rows t) ≡ b
+      go : (t ≤ length rules.rows) × (word p ≡ mt_of t) → (a held b : Bool)
+          → ((word (p - 8) == 0) || has_finalizer (type_row rules.rows t)) ≡ a
+          → may_hold rules.kind (form_at rules.rows t) ≡ held → is_array (form_at rules.rows t) ≡ b
           → IsSound rules word p i
-      go known false b on array = let clash : Err (p - 8) ≡ Ok i = sym (rw on refl) ∙ e in absurd cc
-      go known true true on array =
-          let sized = sized_ok rules words p t (word (p + 8)) i (sym (rw (on, array) refl) ∙ e) in
+      go known false held b on holds array = let clash : Err (p - 8) ≡ Ok i = sym (rw on refl) ∙ e in absurd cc
+      go known true false b on holds array = let clash : Err p ≡ Ok i = sym (rw (on, holds) refl) ∙ e in absurd cc
+      go known true true true on holds array =
+          let sized = sized_ok rules words p t (word (p + 8)) i (sym (rw (on, holds, array) refl) ∙ e) in
           record {
             t = t;
             len = word (p + 8);
             known = known.0;
             mt = known.1;
+            held = holds;
             with_length = λ y. refl;
             without =
                 λ n. absurd (both_ways (is_array (form_at rules.rows t)) n array);
@@ -113,13 +117,14 @@ module _ (rules : Rules) (word : ℕ → ℕ) (p : ℕ) (i : Item) where
             contents = sized.contents;
             header = lawful_header t header on;
           }
-      go known true false on array =
-          let sized = sized_ok rules words p t 0 i (sym (rw (on, array) refl) ∙ e) in
+      go known true true false on holds array =
+          let sized = sized_ok rules words p t 0 i (sym (rw (on, holds, array) refl) ∙ e) in
           record {
             t = t;
             len = 0;
             known = known.0;
             mt = known.1;
+            held = holds;
             with_length =
                 λ y. absurd (both_ways (is_array (form_at rules.rows t)) array y);
             without =

@@ -17,8 +17,9 @@ use Rattle.clr_view.specs.View.{objects_in}
 use Rattle.clr_view.specs.World.{HandlesStand, IsNullOrStands}
 use Rattle.clr_mark.specs.Roots.{AreObjects}
 use Rattle.clr_sos.specs.Reaching.{IsObjectOf, IsSound}
-use Rattle.clr_sos.specs.Views.{IsLawfulView, IsViewOf}
+use Rattle.clr_sos.specs.Views.{IsLawfulView, IsShownView, IsViewOf}
 use Rattle.clr_sos.specs.declared.view.View.{View}
+use Rattle.clr_sos.proofs.QueuedObjects.{entries_stand, ready_stand}
 
 module _ (v : View) (m : Machine) (is : IsViewOf v m) (named : IsPlaceNamed m) where
   names : AreNamed m
@@ -49,10 +50,6 @@ module _ (v : View) (m : Machine) (is : IsViewOf v m) (named : IsPlaceNamed m) w
   locals-stand x r = above-stands x r.not_null
       (names.locals x (subst (λ (ls : List ℕ). IsIn x ls) (sym is.locals) r.listed))
 
-  ready-stand : AreObjects v.types.now v.heap.now v.finals.now.ready
-  ready-stand x r = above-stands x r.not_null
-      (names.ready x (subst (λ (ls : List ℕ). IsIn x ls) (sym is.ready) r.listed))
-
   handles-stand : HandlesStand v.types.now v.heap.now v.handles.now
   handles-stand k row found =
       let used : finmap.get m.handles k ≡ Some row =
@@ -64,18 +61,32 @@ module _ (v : View) (m : Machine) (is : IsViewOf v m) (named : IsPlaceNamed m) w
         owned = all_at HasItsSecond (value-among m.handles k row used) named.lawful.seconds;
       }
 
--- A LAWFUL VIEW IS SOUND
-pub sound_view : (v : View) → IsHeap v.heap.now → IsLawfulView v → IsSound v
-sound_view v heap lawful =
+-- A LAWFUL VIEW IS SHOWN
+pub shown_view : (v : View) → IsLawfulView v → IsShownView v
+shown_view v lawful =
     let m = lawful.machine.0 in
     let is = lawful.machine.1 in
     let named = lawful.machine.2 in
     record {
-      closed = record { heap = heap; held = lawful.held; named = slots-stand v m is named };
-      handles = handles-stand v m is named;
+      held = lawful.held;
+      slots = slots-stand v m is named;
       locals = locals-stand v m is named;
-      ready = ready-stand v m is named;
+      handles = handles-stand v m is named;
+      entries = entries_stand v lawful;
+      ready = ready_stand v lawful;
     }
+
+-- so a search may follow what it names
+pub sound_shown : (v : View) → IsHeap v.heap.now → IsShownView v → IsSound v
+sound_shown v heap shown = record {
+  closed = record { heap = heap; held = shown.held; named = shown.slots };
+  handles = shown.handles;
+  locals = shown.locals;
+  ready = λ x r. shown.ready x r.listed;
+}
+
+pub sound_view : (v : View) → IsHeap v.heap.now → IsLawfulView v → IsSound v
+sound_view v heap lawful = sound_shown v heap (shown_view v lawful)
 
 -- it shows 64 locals of each of 16 threads
 pub count_locals : (v : View) → IsLawfulView v → length v.locals.now ≡ 1024

@@ -45,7 +45,8 @@ are_ordered s limits =
     not (same_kind s.kind Ephemeral)
     || (is_between (first_place s) limits.start1 s.end && is_between limits.start1 limits.start0 s.end)
 
--- an object of this size stands in a segment of this kind, where those of `large` bytes and more are large
+-- an object of this size stands in a segment of this kind, where those of `large` bytes and more are large; in pinned
+-- ones the size is any
 abbrev pub suits_object : ℕ → SegKind → ℕ → Bool
 suits_object large Small size = nat_lt size large
 suits_object large Ephemeral size = nat_lt size large

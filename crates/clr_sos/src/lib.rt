@@ -9,7 +9,9 @@ pub use crate::queues::finalizequeue;
 pub use crate::reach::{Entry, Reached, reach_by_slots};
 pub use crate::roots::gcroot;
 pub use crate::segments::eeheap;
-pub use crate::verify::{clean_states_are_lawful, verifyheap, verifyheap_with_room};
+pub use crate::verify::{
+    clean_states_are_lawful, faultless_heaps_are_held, verifyheap, verifyheap_with_room,
+};
 pub use crate::view::View;
 pub use crate::whereabouts::gcwhere;
 

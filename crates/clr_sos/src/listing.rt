@@ -1,5 +1,5 @@
 // The command that shows the items of the heap.
-ghost use Rattle.std.specs.Prelude.{◌≡◌, ◌↔◌, ℕ, Bool, Err, IfOk, Some, filter};
+ghost use Rattle.std.specs.Prelude.{◌≡◌, ◌≢◌, ◌↔◌, ℕ, Bool, Err, IfOk, Some, filter};
 ghost use Rattle.clr_types.specs.Rising.{Tests};
 ghost use Rattle.clr_heap.specs.View.{heap_items};
 ghost use Rattle.clr_view.specs.View.{IsHeld};
@@ -11,7 +11,7 @@ ghost use Rattle.clr_model.specs.Machine.{Machine};
 ghost use Rattle.clr_model.specs.Reach.{Live};
 ghost use Rattle.clr_model.specs.Sos.{dump_by_mode, dumpheap_text};
 ghost use Rattle.clr_model.specs.Step.{TestsLife};
-ghost use Rattle.clr_sos.specs.Views.{IsLawfulView, IsViewOf};
+ghost use Rattle.clr_sos.specs.Views.{IsShownView, IsViewOf};
 ghost use Rattle.clr_sos.specs.Wants.{is_wanted};
 
 use crate::View;
@@ -37,8 +37,12 @@ use std::alloc::{AllocError, Global};
 /// exactly where no type has the method table word or the name that the options ask for, and `NoMemory` only where
 /// there was no memory for the text or for the search from the roots, which `Life::Any` doesn't need. Nothing else
 /// fails.
+///
+/// The heap has to hold the objects of its words, as between lines, or of an image. Only where the options ask what the
+/// roots reach does each name have to be an object's.
 pub fn dumpheap(alloc: Global, view: &View<'_>, filter: &Filter<'_>) -> Result<Vec<u8>, SosFault>
-    requires lawful { IsLawfulView view.now }
+    requires held { IsHeld view.now.types.now view.now.heap.now }
+    requires shown { filter.now.life ≢ Any → IsShownView view.now }
     ensures unknown { (m : Machine) → IsViewOf view.now m → (result ≡ Err SosFault.UnknownType)
         ↔ (unknown_type m (dump_heap (options_of filter.now)) ≡ Some refusal.UnknownType) }
     ensures no_object { result ≡ Err SosFault.NoObject → ⊥ }
@@ -83,7 +87,7 @@ fn listing_by_life(
     mode: Mode,
     wanted: &Wanted,
 ) -> Result<Vec<u8>, AllocError>
-    requires lawful { IsLawfulView view.now }
+    requires shown { IsShownView view.now }
     ensures { IfOk result (λ text. (m : Machine) → IsViewOf view.now m → (live : ℕ → Bool) → Tests live (Live m)
         → text.items ≡ dump_by_mode mode view.now.types.now
         (filter (is_wanted wanted.now live) (heap_items view.now.types.now view.now.heap.now))) }

@@ -1,13 +1,12 @@
 // The finalisation queue, as text.
-ghost use Rattle.std.specs.Prelude.{◌≡◌, ℕ, ◌++◌, ◌∷◌, [], codes, decimal, IfOk, OnOk};
+ghost use Rattle.std.specs.Prelude.{◌≡◌, ◌++◌, ◌∷◌, [], codes, decimal, IfOk, OnOk};
 ghost use Rattle.std.specs.List.{flat_map};
-ghost use Rattle.clr_types.specs.Rising.{IsIn};
 ghost use Rattle.clr_model.specs.Machine.{Machine};
 ghost use Rattle.clr_model.specs.Sos.{finalizequeue_text, line};
 ghost use Rattle.clr_view.specs.SlotValues.{StandsAt};
 ghost use Rattle.clr_view.specs.View.{IsHeld, objects_in};
 ghost use Rattle.clr_sos.specs.TextPieces.{queued_line};
-ghost use Rattle.clr_sos.specs.Views.{IsLawfulView, IsViewOf};
+ghost use Rattle.clr_sos.specs.Views.{AllStand, IsViewOf};
 
 use crate::View;
 use crate::text::{put_address, put_number};
@@ -24,9 +23,11 @@ use std::alloc::{AllocError, Global};
 /// `entries COUNT ready COUNT`. An object that is registered twice has two lines.
 ///
 /// A place has 16 hexadecimal digits, and counts are decimal. `NoMemory` comes only where there was no memory for the
-/// text.
+/// text. The heap has to hold the objects of its words, and an object has to stand at each place of both lists.
 pub fn finalizequeue(alloc: Global, view: &View<'_>) -> Result<Vec<u8>, NoMemory>
-    requires lawful { IsLawfulView view.now }
+    requires held { IsHeld view.now.types.now view.now.heap.now }
+    requires entries { AllStand view.now.types.now view.now.heap.now view.now.finals.now.entries }
+    requires ready { AllStand view.now.types.now view.now.heap.now view.now.finals.now.ready }
     ensures text { IfOk result (λ text. (m : Machine) → IsViewOf view.now m → text.items ≡ finalizequeue_text m) }
 {
     let entries = view.finals.entries();
@@ -47,7 +48,7 @@ fn put_queue(
     places: &[u64],
 ) -> Result<(), AllocError>
     requires held { IsHeld types.now heap.now }
-    requires stand { (place : ℕ) → IsIn place places.now → StandsAt types.now heap.now place }
+    requires stand { AllStand types.now heap.now places.now }
     ensures { OnOk result (text.new.items ≡ text.old.items
         ++ flat_map (queued_line types.now (objects_in types.now heap.now) word.now) places.now) }
 {

@@ -59,14 +59,13 @@ pub struct Reached {
 /// a bit tells whether its object was found before. It takes such a bit for each word of the heap's used ranges, and 24
 /// bytes for each object that it finds. `find` then goes over all that was found.
 pub(crate) fn reach(alloc: Global, view: &View<'_>) -> Result<Reached, AllocError>
-    requires lawful { IsLawfulView view.now }
+    requires sound { IsSound view.now }
     ensures search { IfOk result (λ r. IsSearch view.now r.seen.items r.entries.items) }
     ensures exact { IfOk result (λ r. (m : Machine) → IsViewOf view.now m
         → Tests (is_listed r.entries.items) (Live m)) }
     ensures seen { IfOk result (λ r. (x : ℕ) → IsObjectOf view.now x
         → is_seen view.now.heap.now r.seen.items x ≡ is_listed r.entries.items x) }
 {
-    view.heap.lawful();
     let ties = ties_of(alloc, view.handles)?;
     let mut reached = Reached::new(alloc, view.heap)?;
     reached.add_locals(view)?;

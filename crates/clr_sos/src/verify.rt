@@ -11,7 +11,7 @@ mod segments;
 mod starts;
 mod windows;
 
-pub use crate::verify::laws::clean_states_are_lawful;
+pub use crate::verify::laws::{clean_states_are_lawful, faultless_heaps_are_held};
 use crate::verify::references::names_fault;
 use crate::verify::segments::segments_fault;
 use crate::view::View;
@@ -27,7 +27,8 @@ const ROOM: usize = 32768;
 ///   by rising place, a wrong header, method table word or length is named by that word, an item that crosses a
 ///   boundary, a hole or the segment's end or has the wrong size for the segment by its header, and the first byte of
 ///   padding that isn't zero by its own address. The rests of contexts are passed over. An object of the view's `large`
-///   bytes or more suits a large segment, and a smaller one a small or the ephemeral segment.
+///   bytes or more suits a large segment, and a smaller one a small or the ephemeral segment. A pinned segment holds
+///   free items and arrays without references, of any size: the method table word of another type is wrong there.
 /// - the reference with the lowest address that is neither null nor the place of an object.
 /// - a local that is neither. Its fault is the address 0.
 ///

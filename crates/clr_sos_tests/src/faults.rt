@@ -5,7 +5,7 @@ ghost use Rattle.clr_heap.specs.View.{no_rests};
 use clr_bricks::Bricks;
 use clr_final::Finals;
 use clr_handles::Handles;
-use clr_heap::Heap;
+use clr_heap::{Heap, SegKind};
 use clr_sos::{View, verifyheap, verifyheap_with_room};
 use clr_types::header::SUPPRESSED;
 use clr_types::{Shape, Types};
@@ -28,17 +28,38 @@ fn sample_types(alloc: Global) -> Result<Types, Fail> {
     Ok(types)
 }
 
+// Writes a word of segment `k`.
+fn put_in(rt: &impl Abort, heap: &mut Heap, k: usize, a: u64, v: u64)
+    requires { heap.old.rests ≡ no_rests }
+    ensures { heap.new.rests ≡ no_rests }
+{
+    assert!(rt; k < heap.segments());
+    let segment = heap.info(k);
+    assert!(rt; a % 8 == 0);
+    assert!(rt; segment.base <= a);
+    assert!(rt; a < segment.base + segment.reserved);
+    heap.set_word(a, v);
+}
+
 // Writes a word of the first segment.
 fn put(rt: &impl Abort, heap: &mut Heap, a: u64, v: u64)
     requires { heap.old.rests ≡ no_rests }
     ensures { heap.new.rests ≡ no_rests }
 {
-    assert!(rt; heap.segments() > 0);
-    let segment = heap.info(0);
-    assert!(rt; a % 8 == 0);
-    assert!(rt; segment.base <= a);
-    assert!(rt; a < segment.base + segment.reserved);
-    heap.set_word(a, v);
+    put_in(rt, heap, 0, a, v);
+}
+
+// Moves the end of segment `k`.
+fn end_at(rt: &impl Abort, heap: &mut Heap, k: usize, end: u64)
+    requires { heap.old.rests ≡ no_rests }
+    ensures { heap.new.rests ≡ no_rests }
+{
+    assert!(rt; k < heap.segments());
+    let segment = heap.info(k);
+    assert!(rt; end % 8 == 0);
+    assert!(rt; segment.base + 0x1000 <= end);
+    assert!(rt; end <= segment.base + segment.reserved);
+    heap.set_end(k, end);
 }
 
 // Ends the first segment. Generation 0 starts at `start0`, and generation 1 at the second item.
@@ -46,12 +67,7 @@ fn finish(rt: &impl Abort, heap: &mut Heap, start0: u64, end: u64)
     requires { heap.old.rests ≡ no_rests }
     ensures { heap.new.rests ≡ no_rests }
 {
-    assert!(rt; heap.segments() > 0);
-    let segment = heap.info(0);
-    assert!(rt; end % 8 == 0);
-    assert!(rt; segment.base + 0x1000 <= end);
-    assert!(rt; end <= segment.base + segment.reserved);
-    heap.set_end(0, end);
+    end_at(rt, heap, 0, end);
     heap.set_boundaries(0x1000_1020, start0);
 }
 
@@ -144,6 +160,22 @@ fn answers_each(
     Ok(())
 }
 
+// What is answered for a heap whose pinned segment has one item of 32 bytes, with this method table word and length.
+fn pinned_answer(
+    rt: &impl Abort,
+    alloc: Global,
+    types: &Types,
+    mt: u64,
+    len: u64,
+) -> Result<Result<(), u64>, Fail> {
+    let mut heap = Heap::new(alloc, 262_144, LIMIT)?;
+    let k = heap.acquire(SegKind::Pinned, 262_144)?;
+    put_in(rt, &mut heap, k, 0x1008_1000, mt);
+    put_in(rt, &mut heap, k, 0x1008_1008, len);
+    end_at(rt, &mut heap, k, 0x1008_1020);
+    verified(rt, alloc, types, &heap, 0)
+}
+
 #[test]
 fn a_reference_into_a_middle_is_found(rt: HostRuntime) -> Result<(), Fail> {
     let alloc = rt.alloc();
@@ -205,4 +237,29 @@ fn faults_of_names_are_found(rt: HostRuntime) -> Result<(), Fail> {
             (0x1000_1008, 0x1000_1028, 0x1000_1028, Err(0x1000_1008)),
         ],
     )
+}
+
+#[test]
+fn types_of_pinned_segments_are_checked(rt: HostRuntime) -> Result<(), Fail> {
+    let alloc = rt.alloc();
+    let mut types = Types::new(alloc)?;
+    let _ = types.define(b"Bytes", Shape::ByteArray, false)?;
+    let _ = types.define(b"Numbers", Shape::StructArray(b"n"), false)?;
+    let _ = types.define(b"Table", Shape::RefArray, false)?;
+    let _ = types.define(b"Names", Shape::StructArray(b"r"), false)?;
+    let _ = types.define(b"Pair", Shape::Class(b"nn"), false)?;
+    for (number, len, want) in [
+        (0, 8, Ok(())),
+        (1, 8, Ok(())),
+        (2, 1, Ok(())),
+        (3, 1, Err(0x1008_1000)),
+        (4, 1, Err(0x1008_1000)),
+        (5, 1, Err(0x1008_1000)),
+        (6, 1, Err(0x1008_1000)),
+        (1, 9, Err(0x1008_0ff8)),
+    ] {
+        let found = pinned_answer(&rt, alloc, &types, FREE + 64 * number, len)?;
+        assert_eq!(rt; found, want, "type {number}");
+    }
+    Ok(())
 }

@@ -77,6 +77,9 @@ fn typed_item(
     if header != 0 && !scan.types.finalizer(type_id) {
         return Err(place - 8);
     }
+    if !may_hold(scan.types, scan.limits.kind, type_id) {
+        return Err(place);
+    }
     scan.heap.lawful();
     let len = if scan.types.has_length(type_id) {
         scan.heap.word_at(scan.k, place + 8)
@@ -84,6 +87,21 @@ fn typed_item(
         0
     };
     sized_item(scan, next, place, type_id, len)
+}
+
+// Whether a segment of this kind holds items of this type. A pinned one holds free items and arrays without references.
+fn may_hold(types: &Types, kind: SegKind, type_id: TypeId) -> bool
+    requires { type_id.0 ≤ length types.now }
+    ensures { result ≡ cells.may_hold kind (form_at types.now type_id.0) }
+{
+    if kind != SegKind::Pinned {
+        return true;
+    }
+    match types.shape(type_id) {
+        Shape::ByteArray => true,
+        Shape::StructArray(pattern) => !pattern.contains(&b'r'),
+        Shape::Class(_) | Shape::RefArray => false,
+    }
 }
 
 // The item of this type and length at `place`.

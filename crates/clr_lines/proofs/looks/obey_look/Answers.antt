@@ -1,8 +1,18 @@
 -- Each command shows what is seen, or the line is refused.
 use Rattle.clr_sos.specs.Views.{IsViewOf}
+use Rattle.clr_sos.proofs.ViewNames.{shown_view}
 use Rattle.clr_lines.proofs.LookLines.{found_kind, handles_follow, listing_follows, object_follows, queues_follow}
 use Rattle.clr_lines.proofs.LookLines.{root_follows, segments_follow, where_follows}
 use Rattle.clr_lines.proofs.looks.obey_look.Goals as goal
+
+pub dumpheap-requires-clause-shown : goal.dumpheap-requires-clause-shown
+dumpheap-requires-clause-shown c = λ _. shown_view c.view_of-view.result c.view_of-view.ensures.lawful
+
+pub finalizequeue-requires-clause-entries : goal.finalizequeue-requires-clause-entries
+finalizequeue-requires-clause-entries c = (shown_view c.view_of-view.result c.view_of-view.ensures.lawful).entries
+
+pub finalizequeue-requires-clause-ready : goal.finalizequeue-requires-clause-ready
+finalizequeue-requires-clause-ready c = (shown_view c.view_of-view.result c.view_of-view.ensures.lawful).ready
 
 pub dumpobj-requires : goal.dumpobj-requires
 dumpobj-requires c =

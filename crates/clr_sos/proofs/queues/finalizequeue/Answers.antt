@@ -1,13 +1,14 @@
--- What is queued in a lawful view stands in the heap.
-use Rattle.std.proofs.Common.{List, ℕ, subst}
-use Rattle.clr_types.specs.Rising.{IsIn}
-use Rattle.clr_sos.proofs.QueuedObjects.{entries_stand, ready_stand}
+-- What is queued stands in the heap.
+use Rattle.std.proofs.Common.{List, ℕ, subst, sym}
+use Rattle.clr_sos.specs.Views.{AllStand}
 use Rattle.clr_sos.proofs.queues.finalizequeue.Goals as goal
 
 pub put_queue-requires-clause-stand : goal.put_queue-requires-clause-stand
-put_queue-requires-clause-stand c = λ place i. entries_stand c.args.view.now c.requires.lawful place
-    (subst (λ (places : List ℕ). IsIn place places) c.entries-entries.ensures i)
+put_queue-requires-clause-stand c =
+    subst (λ (places : List ℕ). AllStand c.args.view.now.types.now c.args.view.now.heap.now places)
+    (sym c.entries-entries.ensures) c.requires.entries
 
 pub put_queue-requires-2-clause-stand : goal.put_queue-requires-2-clause-stand
-put_queue-requires-2-clause-stand c = λ place i. ready_stand c.args.view.now c.requires.lawful place
-    (subst (λ (places : List ℕ). IsIn place places) c.ready-ready.ensures i)
+put_queue-requires-2-clause-stand c =
+    subst (λ (places : List ℕ). AllStand c.args.view.now.types.now c.args.view.now.heap.now places)
+    (sym c.ready-ready.ensures) c.requires.ready

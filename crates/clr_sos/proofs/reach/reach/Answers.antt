@@ -2,17 +2,7 @@
 use Rattle.std.proofs.Common.{arith}
 use Rattle.clr_sos.proofs.ReachedAll.{followed-more, reached-exactly, roots-listed, seen-told, tests-live}
 use Rattle.clr_sos.proofs.Searching.{grown-trans, listed-on}
-use Rattle.clr_sos.proofs.ViewNames.{sound_view}
 use Rattle.clr_sos.proofs.reach.reach.Goals as goal
-
-pub add_locals-requires-clause-sound : goal.add_locals-requires-clause-sound
-add_locals-requires-clause-sound c = sound_view c.args.view.now c.lawful.ensures c.requires.lawful
-
-pub add_targets-requires-clause-sound : goal.add_targets-requires-clause-sound
-add_targets-requires-clause-sound c = sound_view c.args.view.now c.lawful.ensures c.requires.lawful
-
-pub add_ready-requires-clause-sound : goal.add_ready-requires-clause-sound
-add_ready-requires-clause-sound c = sound_view c.args.view.now c.lawful.ensures c.requires.lawful
 
 pub loop-next-init : goal.loop-next-init
 loop-next-init c = record {
@@ -23,12 +13,6 @@ loop-next-init c = record {
       c.in_ok-add_targets.ensures c.in_ok-add_ready.ensures;
   followed = λ i y low. absurd (omega (arith, low));
 }
-
-pub follow_slots-requires-clause-sound : goal.follow_slots-requires-clause-sound
-follow_slots-requires-clause-sound c = sound_view c.args.view.now c.lawful.ensures c.requires.lawful
-
-pub follow_ties-requires-clause-sound : goal.follow_ties-requires-clause-sound
-follow_ties-requires-clause-sound c = sound_view c.args.view.now c.lawful.ensures c.requires.lawful
 
 pub loop-next-preserved : goal.loop-next-preserved
 loop-next-preserved c =
@@ -57,8 +41,8 @@ returns-clause-exact c =
     let past = c.loop-next-test.false in
     let count = c.len.ensures in
     let whole = c.loop-next.reached.entries.ok.0 in
-    let sound = sound_view v c.lawful.ensures c.requires.lawful in
-    tests-live v es (reached-exactly v sound c.loop-next.reached.seen.items es s.search s.roots c.loop-next.next
+    tests-live v es
+    (reached-exactly v c.requires.sound c.loop-next.reached.seen.items es s.search s.roots c.loop-next.next
     (omega (arith, past, count, whole)) s.followed)
 
 pub returns-clause-seen : goal.returns-clause-seen

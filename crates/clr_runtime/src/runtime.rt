@@ -81,6 +81,7 @@ impl Runtime {
     ghost use Rattle.clr_generations.specs.Laws.{BrickLaw, NamesYounger};
     ghost use Rattle.clr_runtime.specs.RuntimeView.{IsBegunStore, StandsFor};
     ghost use Rattle.clr_generations.specs.Tables.{AreBricksOf, AreCardsOf};
+    ghost use Rattle.clr_safe.specs.Threads.{steps_of};
     ghost use Rattle.clr_runtime.specs.Outcomes.{mt_outcome};
 
     /// No types, no objects, no handles, and every local is null.
@@ -225,6 +226,24 @@ impl Runtime {
         ensures ready { result.now.ready ≡ self.now.machine.ready }
     {
         &self.parts.finals
+    }
+
+    /// What each thread has begun and not finished, and the thread that holds all others, if one does.
+    #[inline]
+    pub fn threads(&self) -> &Safe
+        ensures steps { steps_of result.now ≡ self.now.machine.steps }
+        ensures holder { result.now.holder ≡ self.now.machine.holder }
+    {
+        &self.parts.safe
+    }
+
+    /// Whether the next collection of all generations compacts large segments. No line asks for that yet.
+    #[inline]
+    pub fn compact_large(&self) -> bool
+        ensures { result ≡ self.now.machine.compacts_large }
+    {
+        let _ = &self.parts.options;
+        false
     }
 
     /// How many bytes all segments may reserve together.

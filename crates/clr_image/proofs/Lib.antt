@@ -1,0 +1,5 @@
+pub mod FoundAgain
+pub mod Migration
+pub mod Shifted
+pub mod ShiftedHeap
+pub mod ImageMachines

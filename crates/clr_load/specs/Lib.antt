@@ -1,0 +1,16 @@
+pub mod Bodies
+pub mod FoundItems
+pub mod ItemScans
+pub mod KeptParts
+pub mod KnownStarts
+pub mod Loading
+pub mod RangeScans
+pub mod ReadTables
+pub mod Scans
+pub mod SeenItems
+pub mod Shown
+pub mod Sound
+pub mod Starts
+pub mod StepTests
+pub mod TableTests
+pub mod Wholes

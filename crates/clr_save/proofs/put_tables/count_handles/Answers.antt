@@ -1,0 +1,29 @@
+-- Each handle is counted.
+use Rattle.std.proofs.Common.{◌∙◌, length, ap, sym, arith}
+use Rattle.std.specs.FinMap as finmap
+use Rattle.clr_sos.proofs.NumberedEntries.{count-more, entries-all, none-before}
+use Rattle.clr_save.proofs.put_tables.count_handles.Goals as goal
+
+pub loop-number-init : goal.loop-number-init
+loop-number-init c =
+    let none = none-before c.args.handles.now in
+    record { count = sym (ap length none); few = omega arith; within = omega arith }
+
+pub loop-number-preserved : goal.loop-number-preserved
+loop-number-preserved c =
+    let next = c.in-Some.ensures.found in
+    let below = c.lawful.ensures c.in-Some.number c.in-Some._handle next.in_use in
+    let above = next.above in
+    let few = c.loop-number.invariant.few in
+    record {
+      count = rw c.loop-number.invariant.count
+          (count-more c.args.handles.now c.loop-number.from c.in-Some.number c.in-Some._handle next);
+      few = omega (arith, few, above);
+      within = omega (arith, below);
+    }
+
+pub returns : goal.returns
+returns c =
+    c.loop-number.invariant.count
+    ∙ ap length (entries-all c.args.handles.now c.loop-number.from c.lawful.ensures c.in_default.ensures.none)
+    ∙ sym (finmap.len-entries c.args.handles.now)

@@ -1,0 +1,11 @@
+pub mod Contents
+pub mod Laws
+pub mod ReadsBack
+pub mod SavedImages
+pub mod SavedWords
+pub mod Snapshots
+pub mod Writable
+pub mod Written
+pub mod WrittenCells
+pub mod WrittenHeap
+pub mod WrittenImage

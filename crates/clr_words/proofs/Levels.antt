@@ -1,31 +1,28 @@
--- What clap finds of all the words, as the pass says.
+-- What clap finds of the words behind a command's name, as the pass says.
 use Rattle.std.specs.Prelude.{◌≡◌, ◌≢◌, ◌++◌, ◌&&◌, ◌||◌, Bool, true, false, not, List, [], ◌∷◌, Option, Some, None}
-use Rattle.std.specs.Prelude.{codes, fold, find, if◌then◌else◌, is_some, map, option_and_then, option_map}
+use Rattle.std.specs.Prelude.{codes, fold, find, if◌then◌else◌, map, option_and_then}
 use Rattle.std.specs.List.{list_all, list_any}
 use Rattle.std.proofs.Common.{refl, sym, ap, ap₂, ◌∙◌, true≢false}
-use Rattle.std.proofs.lemmas.List.{append-nil, append_assoc}
 use Rattle.std.proofs.lemmas.Slice.Eq.{bytes_eq-Decides}
 use Rattle.std.specs.Str.{bytes_eq}
 use Rattle.std.specs.Option.{option_map_or}
 use Rattle.clap.specs.Facts.{explicit_source}
-use Rattle.clap.specs.Walk.{after_step, subcommand_met, subcommand_or_other, Names, Row, Rule, Text, Walk, arg_by_id}
-use Rattle.clap.specs.Walk.{arg_by_long, finished, has_row, idle, nothing_held, settled, walked, with_default}
+use Rattle.clap.specs.Walk.{Row, Rule, Text, Walk, arg_by_id}
+use Rattle.clap.specs.Walk.{arg_by_long, finished, has_row, idle, nothing_held, settled, with_default}
 use Rattle.clap.specs.Walk.{default_rows, is_empty, reading_by, rows_after}
-use Rattle.clap.specs.Simple.{App, Shape, entered, subcommand_of}
 use Rattle.clap.specs.Kinds.{Kinds, or_else}
 use Rattle.clap.specs.Takes.{is_given}
-use Rattle.clap.specs.Faults.{check_fault, entered_fault, other_fault, step_fault, defaults_fault, fault_of}
-use Rattle.clap.specs.Faults.{level_fault, settle_fault, walk_fault, turn_fault, given_default_fault}
+use Rattle.clap.specs.Faults.{check_fault, defaults_fault}
+use Rattle.clap.specs.Faults.{level_fault, settle_fault, walk_fault, given_default_fault}
 use Rattle.clap.specs.declared.error.kind.ErrorKind.TheVariants as kind
 use Rattle.clr_words.specs.Grammar.{is_among, option_names, soak_places}
-use Rattle.clr_words.specs.Parser.{program}
-use Rattle.clr_words.proofs.Pass.{Items, Kind, dashes, flag, joint, kind_of, other, pass, ready, whole}
-use Rattle.clr_words.proofs.Turns.{fault_by, held, leaf, level, turn_is, walk_by, walk_from, walked_is}
+use Rattle.clr_words.proofs.Pass.{Items, pass, ready}
+use Rattle.clr_words.proofs.Turns.{held, leaf, walk_from}
 use Rattle.clr_words.proofs.Rules.{AreRules, HavePlaces, built_option, built_place, first_faults, row_at, rows_at}
 use Rattle.clr_words.proofs.Rules.{some_kind}
 use Rattle.clr_words.proofs.Walked.{ComesTo, last, walk_comes}
 
--- ---- the rules of the two commands
+-- ---- the rules of the commands
 
 abbrev pub run_rules : List Rule
 run_rules = map built_option option_names
@@ -86,6 +83,14 @@ soak_are_rules = record {
   unknown = long_missing (built_place 1 (codes "SEED") ∷ built_place 2 (codes "N") ∷ []) (λ name. refl) option_names;
 }
 
+no_rules : AreRules [] []
+no_rules = record {
+  no_short = λ x. refl;
+  by_long = λ name e. absurd (true≢false (sym e));
+  by_id = λ name e. absurd (true≢false (sym e));
+  unknown = λ name e. refl;
+}
+
 run_places : HavePlaces run_rules 1 []
 run_places = refl
 
@@ -101,8 +106,8 @@ abbrev pub complete : List Text → Items → Option Items
 complete places items = if list_all (λ place. is_in place items) places then Some items else None
 
 -- the texts of a command's words, where they are taken and each place has one
-abbrev pub line_taken : List Text → List Text → Option Items
-line_taken places words = option_and_then (complete places) (pass option_names ready places [] words)
+abbrev pub line_taken : List Text → List Text → List Text → Option Items
+line_taken names places words = option_and_then (complete places) (pass names ready places [] words)
 
 -- what clap says of the words, with the rows at the end
 abbrev pub Gives : Kinds → List Row → Option Items → Type 0
@@ -197,14 +202,23 @@ module _ (command : Text) (c : List Rule) (places : List Text) (none : NoDefault
           λ e. some_kind kind.MissingRequiredArgument []
           (sym (checked ∙ ap (λ b. if not b then kind.MissingRequiredArgument ∷ [] else []) all) ∙ e)
 
-run_gives : (words : List Text)
-    → Gives (level_fault (leaf (codes "run") run_rules) [] nothing_held words false []) (rows_after run_rules [] words)
-    (line_taken [] words)
-run_gives words =
-    level_gives (codes "run") run_rules [] (refl, (refl, (refl, (refl, (refl, (refl, (refl, (refl, tt))))))))
+-- a command with options alone
+pub options_give : (command : Text) (words : List Text)
+    → Gives (level_fault (leaf command run_rules) [] nothing_held words false []) (rows_after run_rules [] words)
+    (line_taken option_names [] words)
+options_give command words =
+    level_gives command run_rules [] (refl, (refl, (refl, (refl, (refl, (refl, (refl, (refl, tt))))))))
     (λ items. refl) words
     (pass option_names ready [] [] words)
-    (walk_comes (codes "run") run_rules option_names run_are_rules words [] run_places)
+    (walk_comes command run_rules option_names run_are_rules words [] run_places)
+
+-- a command with nothing
+pub alone_gives : (command : Text) (words : List Text)
+    → Gives (level_fault (leaf command []) [] nothing_held words false []) (rows_after [] [] words)
+    (line_taken [] [] words)
+alone_gives command words =
+    level_gives command [] [] tt (λ items. refl) words (pass [] ready [] [] words)
+    (walk_comes command [] [] no_rules words [] refl)
 
 soak_wants : (items : Items)
     → list_any (λ (a : Rule). a.required && not (is_given a.id (rows_at items))) soak_rules ≡ not
@@ -218,202 +232,11 @@ soak_wants items =
     go true false = refl
     go false b = refl
 
-soak_gives : (words : List Text)
+pub soak_gives : (words : List Text)
     → Gives (level_fault (leaf (codes "soak") soak_rules) [] nothing_held words false [])
-    (rows_after soak_rules [] words) (line_taken soak_places words)
+    (rows_after soak_rules [] words) (line_taken option_names soak_places words)
 soak_gives words =
     level_gives (codes "soak") soak_rules soak_places
     (refl, (refl, (refl, (refl, (refl, (refl, (refl, (refl, (refl, (refl, tt)))))))))) soak_wants words
     (pass option_names ready soak_places [] words)
     (walk_comes (codes "soak") soak_rules option_names soak_are_rules words soak_places soak_have_places)
-
--- ---- all words
-
-abbrev pub Command : Type 0
-Command = Text × Items
-
-abbrev pub command_by : Bool → Bool → List Text → Option Command
-command_by is_run is_soak rest = if is_run then option_map (λ items. (codes "run", items)) (line_taken [] rest)
-    else (if is_soak then option_map (λ items. (codes "soak", items)) (line_taken soak_places rest) else None)
-
--- the command that the words name, with its texts
-abbrev pub parsed : List Text → Option Command
-parsed [] = None
-parsed (word ∷ rest) = command_by (bytes_eq (codes "run") word) (bytes_eq (codes "soak") word) rest
-
-abbrev pub GivesCommand : Kinds → Option (Text × List Row) → Option Command → Type 0
-GivesCommand fault found None = fault ≢ []
-GivesCommand fault found (Some command) = (fault ≡ []) × (found ≡ Some (command.0, rows_at command.1))
-
-abbrev top : Shape
-top = level (codes "clrheap") false []
-
-abbrev names : Names
-names = (codes "run", []) ∷ (codes "soak", []) ∷ []
-
-abbrev app : App
-app = record {
-  top = level (codes "clrheap") false [];
-  subs =
-      leaf (codes "run") run_rules ∷ leaf (codes "soak") soak_rules ∷ [];
-}
-
-abbrev begun : Walk
-begun = walk_from false idle 1 nothing_held
-
--- where a command was met, the walk stands, and all words behind go to it
-stopped_walk : (w : Walk) (name : Text) (words rest : List Text)
-    → fold (walked [] names)
-    (record w { stopped = Some (name, words) }) rest ≡ record w { stopped = Some (name, words ++ rest) }
-unfolding walked
-stopped_walk w name words [] = ap (λ ws. record w { stopped = Some (name, ws) }) (sym (append-nil words))
-stopped_walk w name words (x ∷ xs) =
-    stopped_walk w name (words ++ x ∷ []) xs
-    ∙ ap (λ ws. record w { stopped = Some (name, ws) }) (append_assoc words (x ∷ []) xs)
-
-no_fault_behind : (w : Walk) (name : Text) (words rest : List Text)
-    → walk_fault top names (record w { stopped = Some (name, words) }) rest ≡ []
-unfolding walk_fault walked
-no_fault_behind w name words [] = refl
-no_fault_behind w name words (x ∷ xs) = no_fault_behind w name (words ++ x ∷ []) xs
-
-nothing_more : (kinds : Kinds) → or_else kinds [] ≡ kinds
-nothing_more [] = refl
-nothing_more (k ∷ kinds) = refl
-
--- the fault of all words, by that of the first, the walk behind it, and where it ends
-abbrev whole_fault : Kinds → Kinds → Walk → Kinds
-whole_fault turn rest end =
-    or_else (or_else turn rest) (or_else (entered_fault app end.stopped) (or_else (settle_fault [] false end.held)
-    (or_else (defaults_fault (settled [] end.held).rows [])
-    (check_fault top (finished [] end.held) (is_some (entered app end.stopped))))))
-
-fault_is : (word : Text) (rest : List Text)
-    → fault_of program (word ∷ rest)
-    ≡ whole_fault (turn_fault top names begun word) (walk_fault top names (walked [] names begun word) rest)
-    (fold (walked [] names) (walked [] names begun word) rest)
-unfolding walk_fault
-fault_is word rest = refl
-
--- a word that names a command
-module _ (name word : Text) (rest : List Text) (rules : List Rule)
-    (enters : (words : List Text) → entered app (Some (name, words)) ≡ Some (name, rows_after rules [] words))
-    (faults : (words : List Text)
-    → entered_fault app (Some (name, words)) ≡ level_fault (leaf name rules) [] nothing_held words false [])
-    (turned : turn_fault top names begun word ≡ [])
-    (leads : walked [] names begun word ≡ record begun { stopped = Some (name, []) }) where
-  ends_at : fold (walked [] names) (walked [] names begun word) rest ≡ record begun { stopped = Some (name, rest) }
-  ends_at = ap (λ v. fold (walked [] names) v rest) leads ∙ stopped_walk begun name [] rest
-
-  command_fault : fault_of program (word ∷ rest) ≡ level_fault (leaf name rules) [] nothing_held rest false []
-  unfolding defaults_fault
-  command_fault = fault_is word rest
-      ∙ (ap (λ t. whole_fault t (walk_fault top names (walked [] names begun word) rest)
-      (fold (walked [] names) (walked [] names begun word) rest)) turned
-      ∙ (ap (λ v. whole_fault [] (walk_fault top names v rest)
-      (fold (walked [] names) (walked [] names begun word) rest)) leads
-      ∙ (ap (λ k. whole_fault [] k (fold (walked [] names) (walked [] names begun word) rest))
-      (no_fault_behind begun name [] rest)
-      ∙ (ap (whole_fault [] []) ends_at
-      ∙ (ap (λ o. or_else (entered_fault app (Some (name, rest))) (check_fault top [] (is_some o))) (enters rest)
-      ∙ (nothing_more (entered_fault app (Some (name, rest))) ∙ faults rest))))))
-
-  command_found : subcommand_of program (word ∷ rest) ≡ Some (name, rows_after rules [] rest)
-  command_found = ap (λ (v : Walk). entered app v.stopped) ends_at ∙ enters rest
-
-  command_gives : (o : Option Items)
-      → Gives (level_fault (leaf name rules) [] nothing_held rest false []) (rows_after rules [] rest) o
-      → GivesCommand (fault_of program (word ∷ rest)) (subcommand_of program (word ∷ rest))
-      (option_map (λ items. (name, items)) o)
-  command_gives None gives = λ e. gives (sym command_fault ∙ e)
-  command_gives (Some items) gives = (command_fault ∙ gives.0, command_found ∙ ap (λ r. Some (name, r)) gives.1)
-
--- the first word
-abbrev met_by : Bool → Bool → Option Text
-met_by is_run is_soak = option_map (λ (s : Text × List Text). s.0)
-    (if is_run || false then Some (codes "run", []) else (if is_soak || false then Some (codes "soak", []) else None))
-
-abbrev turn_with : Text → Option Text → Kinds
-turn_with word met = or_else (other_fault top met word nothing_held)
-    (step_fault top 1 (subcommand_or_other [] met idle 1 word nothing_held).0
-    (subcommand_or_other [] met idle 1 word nothing_held).1)
-
-abbrev walk_with : Text → Option Text → Walk
-walk_with word met =
-    after_step [] word begun (subcommand_or_other [] met idle 1 word nothing_held).0
-    (subcommand_or_other [] met idle 1 word nothing_held).1
-
-turn_by : (word : Text)
-    → turn_fault top names begun word ≡ turn_with word
-    (met_by (bytes_eq (codes "run") word) (bytes_eq (codes "soak") word))
-turn_by word = refl
-
-walk_by_met : (word : Text)
-    → walked [] names begun word ≡ walk_with word (met_by (bytes_eq (codes "run") word) (bytes_eq (codes "soak") word))
-unfolding walked
-walk_by_met word = refl
-
--- a word that names no command
-no_command : (word : Text) (rest : List Text) → subcommand_met names idle word ≡ None
-    → fault_of program (word ∷ rest) ≢ []
-unfolding walk_fault defaults_fault
-no_command word rest unmet = go (kind_of word) refl rest
-  where
-    turned_as : (k : Kind) → kind_of word ≡ k
-        → turn_fault top names begun word ≡ fault_by (codes "clrheap") false [] idle 1 nothing_held word k
-    turned_as k is =
-        turn_is (codes "clrheap") false [] names (λ x. refl) idle 1 [] None word unmet
-        ∙ ap (fault_by (codes "clrheap") false [] idle 1 nothing_held word) is
-
-    off_as : (k : Kind) (rest : List Text) → kind_of word ≡ k
-        → fault_by (codes "clrheap") false [] idle 1 nothing_held word k ≢ [] → fault_of program (word ∷ rest) ≢ []
-    off_as k rest is some =
-        first_faults (or_else (turn_fault top names begun word)
-        (walk_fault top names (walked [] names begun word) rest)) _
-        (first_faults (turn_fault top names begun word) _ (λ e. some (sym (turned_as k is) ∙ e)))
-
-    behind_dashes : (rest : List Text) → kind_of word ≡ dashes → fault_of program (word ∷ rest) ≢ []
-    behind_dashes rest is e =
-        go rest (sym (fault_is word rest
-        ∙ (ap (λ t. whole_fault t (walk_fault top names (walked [] names begun word) rest)
-        (fold (walked [] names) (walked [] names begun word) rest)) (turned_as dashes is)
-        ∙ ap (λ v. whole_fault [] (walk_fault top names v rest) (fold (walked [] names) v rest)) leads)) ∙ e)
-      where
-        no_flag : dashes ≡ flag → ⊥
-        no_flag e = absurd cc
-
-        leads : walked [] names begun word ≡ walk_from true idle 1 nothing_held
-        leads = walked_is (codes "clrheap") false [] names (λ x. refl) idle 1 [] None word unmet
-            (λ f. no_flag (sym is ∙ f)) ∙ ap (walk_by [] idle 1 nothing_held word) is
-
-        go : (rest : List Text)
-            → whole_fault [] (walk_fault top names (walk_from true idle 1 nothing_held) rest)
-            (fold (walked [] names) (walk_from true idle 1 nothing_held) rest) ≢ []
-        go [] = some_kind kind.MissingSubcommand []
-        go (x ∷ xs) = some_kind kind.UnknownArgument _
-
-    go : (k : Kind) → kind_of word ≡ k → (rest : List Text) → fault_of program (word ∷ rest) ≢ []
-    go dashes is rest = behind_dashes rest is
-    go (whole name) is rest = off_as (whole name) rest is (some_kind kind.UnknownArgument [])
-    go (joint name text) is rest = off_as (joint name text) rest is (some_kind kind.UnknownArgument [])
-    go flag is rest = off_as flag rest is (some_kind kind.UnknownArgument [])
-    go other is rest = off_as other rest is (some_kind kind.UnknownArgument _)
-
-pub parser_gives : (words : List Text)
-    → GivesCommand (fault_of program words) (subcommand_of program words) (parsed words)
-unfolding walk_fault defaults_fault
-parser_gives [] = some_kind kind.MissingSubcommand []
-parser_gives (word ∷ rest) = go (bytes_eq (codes "run") word) (bytes_eq (codes "soak") word) refl refl
-  where
-    go : (is_run is_soak : Bool) → bytes_eq (codes "run") word ≡ is_run → bytes_eq (codes "soak") word ≡ is_soak
-        → GivesCommand (fault_of program (word ∷ rest)) (subcommand_of program (word ∷ rest))
-        (command_by is_run is_soak rest)
-    go true is_soak run soak = command_gives (codes "run") word rest run_rules (λ words. refl) (λ words. refl)
-        (turn_by word ∙ ap (λ b. turn_with word (met_by b (bytes_eq (codes "soak") word))) run)
-        (walk_by_met word ∙ ap (λ b. walk_with word (met_by b (bytes_eq (codes "soak") word))) run) (line_taken [] rest)
-        (run_gives rest)
-    go false true run soak = command_gives (codes "soak") word rest soak_rules (λ words. refl) (λ words. refl)
-        (turn_by word ∙ ap₂ (λ a b. turn_with word (met_by a b)) run soak)
-        (walk_by_met word ∙ ap₂ (λ a b. walk_with word (met_by a b)) run soak) (line_taken soak_places rest)
-        (soak_gives rest)
-    go false false run soak = no_command word rest (ap₂ met_by run soak)

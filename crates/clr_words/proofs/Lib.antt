@@ -1,11 +1,14 @@
 pub mod Pass
 pub mod Turns
+pub mod Filled
 pub mod Rules
 pub mod Walked
 pub mod Levels
+pub mod Commands
 pub mod Looks
 pub mod Spelled
 pub mod Numbers
 pub mod Taken
 pub mod Meaning
+pub mod Lines
 pub mod Answering

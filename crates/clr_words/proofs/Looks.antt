@@ -1,5 +1,5 @@
 -- What words of each kind are, and of which kind the words of a line are.
-use Rattle.std.specs.Prelude.{◌≡◌, ◌≢◌, ◌++◌, ◌==◌, ◌&&◌, ◌||◌, ◌<◌, ◌+◌, ◌^◌, ℕ, zero, suc, Bool, true, false, not}
+use Rattle.std.specs.Prelude.{◌≡◌, ◌≢◌, ◌++◌, ◌==◌, ◌&&◌, ◌||◌, ◌<◌, ◌^◌, ℕ, zero, suc, Bool, true, false, not}
 use Rattle.std.specs.Prelude.{List, [], ◌∷◌, Option, Some, None, codes, decimal, if◌then◌else◌, option_and_then}
 use Rattle.std.specs.Prelude.{slice_get}
 use Rattle.std.specs.List.{list_all}

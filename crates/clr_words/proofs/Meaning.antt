@@ -1,6 +1,6 @@
 -- What the parser finds of the words is what they say.
 use Rattle.std.specs.Prelude.{◌≡◌, ◌&&◌, ◌||◌, ℕ, Bool, true, false, List, [], ◌∷◌, Option, Some, None, codes, decimal}
-use Rattle.std.specs.Prelude.{find, if◌then◌else◌, map, option_and_then, option_map, slice_get, unwrap_or}
+use Rattle.std.specs.Prelude.{find, if◌then◌else◌, map, option_and_then, slice_get, unwrap_or}
 use Rattle.std.specs.List.{list_all}
 use Rattle.std.specs.Str.{bytes_eq}
 use Rattle.std.proofs.Common.{refl, sym, ap, ap₂, ◌∙◌}
@@ -8,12 +8,11 @@ use Rattle.std.proofs.lemmas.Slice.Eq.{bytes_eq-Decides}
 use Rattle.clap.specs.Walk.{Row, first_of}
 use Rattle.clr_model.specs.Machine.{Options}
 use Rattle.clr_model.specs.Run.{defaults}
-use Rattle.clr_words.specs.Grammar.{AreSmall, IsLine, Line, Part, Said, Text, is_among, number_of, options_said}
-use Rattle.clr_words.specs.Grammar.{places_of, said, soak_places, spelled, spaced, joined, placed}
+use Rattle.clr_words.specs.Grammar.{AreSmall, IsLine, Line, Part, Said, Text, is_among, number_of, option_names}
+use Rattle.clr_words.specs.Grammar.{options_said, places_of, said, soak_places, spelled, spaced, joined, placed}
 use Rattle.clr_words.specs.Reading.{AreRead, number_or}
-use Rattle.clr_words.proofs.Pass.{behind}
 use Rattle.clr_words.proofs.Rules.{row_at, rows_at}
-use Rattle.clr_words.proofs.Levels.{complete, is_in, line_taken, parsed}
+use Rattle.clr_words.proofs.Levels.{complete, is_in, line_taken}
 use Rattle.clr_words.proofs.Numbers.{number_decimal}
 use Rattle.clr_words.proofs.Spelled.{line_goes, texts_of}
 
@@ -116,21 +115,20 @@ place_is_in (placed place n ∷ parts) more name e = by (bytes_eq place name) e 
 
 line_found : (places : List Text) (line : Line) → IsLine places line
     → list_all (λ place. is_in place (texts_of (said line))) places ≡ true
-    → line_taken places (spelled line) ≡ Some (texts_of (said line))
+    → line_taken option_names places (spelled line) ≡ Some (texts_of (said line))
 line_found places line is all =
     ap (option_and_then (complete places)) (line_goes line places is.options is.places is.once is.small)
     ∙ ap (λ b. if b then Some (texts_of (said line)) else None) all
 
-pub run_found : (words : List Text) (line : Line) → words ≡ codes "run" ∷ spelled line → IsLine [] line
-    → parsed words ≡ Some (codes "run", texts_of (said line))
-run_found words line are is =
-    ap parsed are ∙ ap (option_map (λ items. (codes "run", items))) (line_found [] line is refl)
+-- options alone
+pub options_found : (line : Line) → IsLine [] line
+    → line_taken option_names [] (spelled line) ≡ Some (texts_of (said line))
+options_found line is = line_found [] line is refl
 
-pub soak_found : (words : List Text) (line : Line) → words ≡ codes "soak" ∷ spelled line → IsLine soak_places line
-    → parsed words ≡ Some (codes "soak", texts_of (said line))
-soak_found words line are is =
+-- options and the places of a generated script
+pub soak_found : (line : Line) → IsLine soak_places line
+    → line_taken option_names soak_places (spelled line) ≡ Some (texts_of (said line))
+soak_found line is =
     let seed = place_is_in line.parts line.behind (codes "SEED") (ap (is_among (codes "SEED")) is.places) in
     let count = place_is_in line.parts line.behind (codes "N") (ap (is_among (codes "N")) is.places) in
-    ap parsed are
-    ∙ ap (option_map (λ items. (codes "soak", items)))
-    (line_found soak_places line is (ap₂ (λ a b. a && (b && true)) seed count))
+    line_found soak_places line is (ap₂ (λ a b. a && (b && true)) seed count)

@@ -52,8 +52,11 @@ parts_go [] None places seen options are once small = refl
 parts_go [] (Some numbers) places seen options are once small = numbers_go numbers places seen are once small
 parts_go (spaced name n ∷ parts) more places seen options are once small =
     let line : Line = record { parts = parts; behind = more } in
-    let next = λ (stage : Stage) (ps : List Text) (known : List Text). pass option_names stage ps known (decimal n ∷ spelled line) in
-    let after = λ (stage : Stage) (ps : List Text) (known : List Text). pass option_names stage ps known (spelled line) in
+    let next =
+    λ (stage : Stage) (ps : List Text) (known : List Text). pass option_names stage ps known (decimal n ∷ spelled line)
+    in
+    let after =
+    λ (stage : Stage) (ps : List Text) (known : List Text). pass option_names stage ps known (spelled line) in
     let named = (and_parts (is_among name option_names) _ options).0 in
     ap (λ k. turn option_names ready k places (dashed name) seen next) (kind_whole name named)
     ∙ (ap (λ b. if_known b (next (waits name) places seen)) named
@@ -63,7 +66,8 @@ parts_go (spaced name n ∷ parts) more places seen options are once small =
     (parts_go parts more places (name ∷ seen) (and_parts (is_among name option_names) _ options).1 are once.1 small.1)))
 parts_go (joined name n ∷ parts) more places seen options are once small =
     let line : Line = record { parts = parts; behind = more } in
-    let next = λ (stage : Stage) (ps : List Text) (known : List Text). pass option_names stage ps known (spelled line) in
+    let next =
+    λ (stage : Stage) (ps : List Text) (known : List Text). pass option_names stage ps known (spelled line) in
     let named = (and_parts (is_among name option_names) _ options).0 in
     ap (λ k. turn option_names ready k places (dashed name ++ (codes "=" ++ decimal n)) seen next)
     (kind_joint name (decimal n) named)
@@ -73,7 +77,8 @@ parts_go (joined name n ∷ parts) more places seen options are once small =
     (parts_go parts more places (name ∷ seen) (and_parts (is_among name option_names) _ options).1 are once.1 small.1))
 parts_go (placed place n ∷ parts) more places seen options are once small =
     let line : Line = record { parts = parts; behind = more } in
-    let next = λ (stage : Stage) (ps : List Text) (known : List Text). pass option_names stage ps known (spelled line) in
+    let next =
+    λ (stage : Stage) (ps : List Text) (known : List Text). pass option_names stage ps known (spelled line) in
     subst (λ (ps : List Text). Goes ready ps seen (decimal n ∷ spelled line) ((place, n) ∷ said line)) are
     (ap (λ k. turn option_names ready k (place ∷ places_of line) (decimal n) seen next) (kind_number n small.0)
     ∙ keeps place (decimal n) (pass option_names ready (places_of line) (place ∷ seen) (spelled line))
@@ -187,7 +192,8 @@ module _ (word : Text) (rest : List Text) (next : Sound rest) (seen : List Text)
   unfolding pass
   from_behind [] e = absurd cc
   from_behind (place ∷ places) e =
-      let parts = keep_parts (is_among place seen) place word (pass option_names behind places (place ∷ seen) rest) items e in
+      let parts =
+      keep_parts (is_among place seen) place word (pass option_names behind places (place ∷ seen) rest) items e in
       let all = subst AreNumbers (sym parts.1.2) numbers in
       let found = next behind places (place ∷ seen) parts.1.0 all.1 parts.1.1 in (
         (place, all.0.0) ∷ found.0,
@@ -202,7 +208,8 @@ module _ (word : Text) (rest : List Text) (next : Sound rest) (seen : List Text)
       (λ stage ps known. pass option_names stage ps known rest) ≡ Some items
       → Spells (waits name) places seen (word ∷ rest) items
   from_waits name places other e =
-      let parts = keep_parts (is_among name seen) name word (pass option_names ready places (name ∷ seen) rest) items e in
+      let parts =
+      keep_parts (is_among name seen) name word (pass option_names ready places (name ∷ seen) rest) items e in
       let all = subst AreNumbers (sym parts.1.2) numbers in
       let found = next ready places (name ∷ seen) parts.1.0 all.1 parts.1.1 in (
         all.0.0,
@@ -222,7 +229,8 @@ module _ (word : Text) (rest : List Text) (next : Sound rest) (seen : List Text)
       → Spells ready places seen (word ∷ rest) items
   from_place [] e = absurd cc
   from_place (place ∷ places) e =
-      let parts = keep_parts (is_among place seen) place word (pass option_names ready places (place ∷ seen) rest) items e in
+      let parts =
+      keep_parts (is_among place seen) place word (pass option_names ready places (place ∷ seen) rest) items e in
       let all = subst AreNumbers (sym parts.1.2) numbers in
       let found = next ready places (place ∷ seen) parts.1.0 all.1 parts.1.1 in (
         record found.0 { parts = placed place all.0.0 ∷ found.0.parts },
@@ -253,8 +261,11 @@ module _ (word : Text) (rest : List Text) (next : Sound rest) (seen : List Text)
         found.4,
       )
   from_ready places (joint name text) look e =
-      let known = known_parts (is_among name option_names) (keep_by (is_among name seen) name text (pass option_names ready places (name ∷ seen) rest)) items e in
-      let parts = keep_parts (is_among name seen) name text (pass option_names ready places (name ∷ seen) rest) items known.1 in
+      let known =
+      known_parts (is_among name option_names)
+      (keep_by (is_among name seen) name text (pass option_names ready places (name ∷ seen) rest)) items e in
+      let parts =
+      keep_parts (is_among name seen) name text (pass option_names ready places (name ∷ seen) rest) items known.1 in
       let all = subst AreNumbers (sym parts.1.2) numbers in
       let found = next ready places (name ∷ seen) parts.1.0 all.1 parts.1.1 in (
         record found.0 { parts = joined name all.0.0 ∷ found.0.parts },

@@ -61,10 +61,13 @@ module _ (allowed : List Text)
         (λ stage ps known. pass option_names stage ps known rest) ≡ Some items → AreOnce allowed seen items
     by_kind dashes e = next behind places seen items tt may e
     by_kind (whole name) e =
-        let known = known_parts (is_among name option_names) (pass option_names (waits name) places seen rest) items e in
+        let known =
+        known_parts (is_among name option_names) (pass option_names (waits name) places seen rest) items e in
         next (waits name) places seen items (options name known.0) may known.1
     by_kind (joint name text) e =
-        let known = known_parts (is_among name option_names) (keep_by (is_among name seen) name text (pass option_names ready places (name ∷ seen) rest)) items e in
+        let known =
+        known_parts (is_among name option_names)
+        (keep_by (is_among name seen) name text (pass option_names ready places (name ∷ seen) rest)) items e in
         kept name text seen (pass option_names ready places (name ∷ seen) rest) items (options name known.0) known.1
         (λ more is. next ready places (name ∷ seen) more tt may is)
     by_kind flag e = absurd cc

@@ -264,7 +264,8 @@ module _ (command : Text) (c : List Rule) where
           (λ e. no_place position (held rows pending) have (sym turned ∙ e))
       placing is_trailing (place ∷ places) seen position rows pending items clean have are turned walks =
           let w = walk_from is_trailing idle position (held rows pending) in
-          let after = walk_from is_trailing idle (min (position + 1) usize_max) (held (rows_at items) (Some (place, word ∷ []))) in
+          let after =
+          walk_from is_trailing idle (min (position + 1) usize_max) (held (rows_at items) (Some (place, word ∷ []))) in
           let passes = turned ∙ place_passes place places position (held rows pending) have clean.settles in
           let leads = walks ∙ placed is_trailing place places position rows pending word items have clean.rows_are in
           kept w (word ∷ rest) items place word (pass names (stage_at is_trailing) places (place ∷ seen) rest)

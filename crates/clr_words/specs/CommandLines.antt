@@ -4,18 +4,27 @@ use Rattle.clap.specs.Walk.{Row, first_of}
 use Rattle.clr_model.specs.Lawful.{AreLawfulOptions}
 use Rattle.clr_model.specs.Machine.{Options}
 use Rattle.clr_words.specs.Reading.{AreRead, number_in}
-use Rattle.clr_words.specs.Grammar.{SaysNothing, SaysRun, SaysSoak, Text}
+use Rattle.clr_words.specs.Grammar.{SaysImage, SaysInspect, SaysMigrate, SaysNothing, SaysRun, SaysSoak, Text}
 use Rattle.clr_words.specs.Settings.{options_of}
 use Rattle.clr_words.specs.declared.command_line.CommandLine.{CommandLine}
-use Rattle.clr_words.specs.declared.command_line.CommandLine.TheVariants.{Run, Soak}
+use Rattle.clr_words.specs.declared.command_line.CommandLine.TheVariants.{Image, Inspect, Migrate, Run, Soak}
+use Rattle.clr_words.specs.declared.settings.Settings.{Settings}
 
 -- the words say this command, or none
 abbrev pub IsSaid : List Text → Option CommandLine → Type 0
 IsSaid words (Some (Run settings)) = SaysRun words (options_of settings)
 IsSaid words (Some (Soak settings seed count)) = SaysSoak words (options_of settings) seed count
+IsSaid words (Some (Image settings)) = SaysImage words (options_of settings)
+IsSaid words (Some Inspect) = SaysInspect words
+IsSaid words (Some Migrate) = SaysMigrate words
 IsSaid words None = SaysNothing words
 
 -- ---- what is read of the rows behind a command's name
+
+-- the rows are of these settings
+pub record AreSettingsRead (rows : List Row) (settings : Settings) : Type 0 where
+  pub read : AreRead rows (options_of settings)
+  pub lawful : AreLawfulOptions (options_of settings)
 
 pub record AreSoakNumbers (rows : List Row) (seed count : ℕ) : Type 0 where
   pub seed_is : option_and_then number_in (first_of (codes "SEED") rows) ≡ Some seed
@@ -24,15 +33,19 @@ pub record AreSoakNumbers (rows : List Row) (seed count : ℕ) : Type 0 where
   pub some : 1 ≤ count
   pub not_too_many : count ≤ 1000000
 
--- the rows are of a run with these settings, or of no run
-abbrev pub IsRunRead : List Row → Option CommandLine → Type 0
-IsRunRead rows (Some (Run settings)) = AreRead rows (options_of settings) × AreLawfulOptions (options_of settings)
-IsRunRead rows (Some (Soak settings seed count)) = ⊥
-IsRunRead rows None = (options : Options) → AreRead rows options → AreLawfulOptions options → ⊥
+-- the rows are of a command with settings, which is this one, or of no such command
+abbrev pub IsReadWith : (Settings → CommandLine) → List Row → Option CommandLine → Type 0
+IsReadWith make rows (Some line) = (settings : Settings) × (line ≡ make settings) × AreSettingsRead rows settings
+IsReadWith make rows None = (options : Options) → AreRead rows options → AreLawfulOptions options → ⊥
 
 abbrev pub IsSoakRead : List Row → Option CommandLine → Type 0
-IsSoakRead rows (Some (Run settings)) = ⊥
-IsSoakRead rows (Some (Soak settings seed count)) =
-    AreRead rows (options_of settings) × AreLawfulOptions (options_of settings) × AreSoakNumbers rows seed count
+IsSoakRead rows (Some line) = (settings : Settings) × (seed : ℕ) × (count : ℕ) × (line ≡ Soak settings seed count)
+    × AreSettingsRead rows settings × AreSoakNumbers rows seed count
 IsSoakRead rows None = (options : Options) (seed count : ℕ) → AreRead rows options → AreLawfulOptions options
     → AreSoakNumbers rows seed count → ⊥
+
+-- ---- what is answered
+
+-- the answer is a command with settings, which have these options
+abbrev pub HasOptions : (Settings → CommandLine) → Options → Option CommandLine → Type 0
+HasOptions make options line = (settings : Settings) × (line ≡ Some (make settings)) × (options_of settings ≡ options)

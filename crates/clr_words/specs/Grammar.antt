@@ -1,5 +1,6 @@
 -- What the words of a command line say.
-use Rattle.std.specs.Prelude.{◌≡◌, ◌+◌, ◌^◌, ◌<◌, ◌≤◌, ◌++◌, ℕ, Bool, true, false, List, [], ◌∷◌, Option, Some, None}
+use Rattle.std.specs.Prelude.{◌≡◌, ◌^◌, ◌<◌, ◌≤◌, ◌++◌, ◌⊎◌, ℕ, Bool, true, false, List, [], ◌∷◌, Option, Some}
+use Rattle.std.specs.Prelude.{None}
 use Rattle.std.specs.Prelude.{codes, decimal, map, if◌then◌else◌}
 use Rattle.std.specs.List.{list_all, list_any}
 use Rattle.std.specs.Str.{bytes_eq}
@@ -144,7 +145,26 @@ SaysSoak words options seed count = (line : Line) × Says (codes "soak") soak_pl
     × (number_of (codes "SEED") 0 (said line) ≡ seed) × (seed < 2 ^ 32)
     × (number_of (codes "N") 0 (said line) ≡ count) × (1 ≤ count) × (count ≤ 1000000)
 
+-- these words run a script with these options, and save the heap that it leaves
+abbrev pub SaysImage : List Text → Options → Type 0
+SaysImage words options = (line : Line) × Says (codes "image") [] words options line
+
+-- the words are the command's name alone, or with one word `--` behind it
+abbrev pub SaysAlone : Text → List Text → Type 0
+SaysAlone name words = (words ≡ name ∷ []) ⊎ (words ≡ name ∷ codes "--" ∷ [])
+
+-- these words show what an image holds
+abbrev pub SaysInspect : List Text → Type 0
+SaysInspect words = SaysAlone (codes "inspect") words
+
+-- these words write an image in the newest form
+abbrev pub SaysMigrate : List Text → Type 0
+SaysMigrate words = SaysAlone (codes "migrate") words
+
 -- these words say no command
-abbrev pub SaysNothing : List Text → Type 0
-SaysNothing words = ((options : Options) → SaysRun words options → ⊥)
-    × ((options : Options) (seed count : ℕ) → SaysSoak words options seed count → ⊥)
+pub record SaysNothing (words : List Text) : Type 0 where
+  pub no_run : (options : Options) → SaysRun words options → ⊥
+  pub no_soak : (options : Options) (seed count : ℕ) → SaysSoak words options seed count → ⊥
+  pub no_image : (options : Options) → SaysImage words options → ⊥
+  pub no_inspect : SaysInspect words → ⊥
+  pub no_migrate : SaysMigrate words → ⊥

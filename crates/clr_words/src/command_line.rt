@@ -3,7 +3,8 @@ ghost use Rattle.std.specs.Prelude.{◌≡◌, IfOk, List, Some, codes, map, str
 ghost use Rattle.clap.specs.Matches.{found_of};
 ghost use Rattle.clap.specs.Simple.{subcommand_rows_of};
 ghost use Rattle.clap.specs.Walk.{Row, rows_of};
-ghost use Rattle.clr_words.specs.CommandLines.{IsRunRead, IsSaid, IsSoakRead};
+ghost use Rattle.clr_words.specs.CommandLines.{IsReadWith, IsSaid, IsSoakRead};
+ghost use Rattle.clr_words.specs.declared.command_line.CommandLine.TheVariants.{Image, Inspect, Migrate, Run};
 
 use crate::NoMemory;
 use crate::parser::parse;
@@ -28,6 +29,12 @@ pub enum CommandLine {
         /// How many lines are drawn.
         count: u32,
     },
+    /// A script is run, and the heap that it leaves is saved.
+    Image(Settings),
+    /// What an image holds is shown.
+    Inspect,
+    /// An image is written in the newest form.
+    Migrate,
 }
 
 /// The command that the words say. There is none where they say no command.
@@ -43,23 +50,38 @@ pub(crate) fn read(alloc: Global, words: &[String]) -> Result<Option<CommandLine
 // What is said, where the words are taken.
 fn read_matches(matches: &ArgMatches<'_>) -> Option<CommandLine>
     ensures run { (rows : List Row) → subcommand_rows_of matches.now ≡ Some (codes "run", rows)
-        → IsRunRead rows result }
+        → IsReadWith Run rows result }
     ensures soak { (rows : List Row) → subcommand_rows_of matches.now ≡ Some (codes "soak", rows)
         → IsSoakRead rows result }
+    ensures image { (rows : List Row) → subcommand_rows_of matches.now ≡ Some (codes "image", rows)
+        → IsReadWith Image rows result }
+    ensures inspect { (rows : List Row) → subcommand_rows_of matches.now ≡ Some (codes "inspect", rows)
+        → result ≡ Some Inspect }
+    ensures migrate { (rows : List Row) → subcommand_rows_of matches.now ≡ Some (codes "migrate", rows)
+        → result ≡ Some Migrate }
 {
     let (name, found) = matches.subcommand()?;
-    if name == "run" {
-        read_run(found)
-    } else {
-        read_soak(found)
+    match name {
+        "run" => read_run(found),
+        "soak" => read_soak(found),
+        "image" => read_image(found),
+        "inspect" => Some(CommandLine::Inspect),
+        _ => Some(CommandLine::Migrate),
     }
 }
 
 // What is said behind `run`.
 fn read_run(found: &ArgMatches<'_>) -> Option<CommandLine>
-    ensures { IsRunRead (rows_of (found_of found.now)) result }
+    ensures { IsReadWith Run (rows_of (found_of found.now)) result }
 {
     Some(CommandLine::Run(Settings::read(found)?))
+}
+
+// What is said behind `image`.
+fn read_image(found: &ArgMatches<'_>) -> Option<CommandLine>
+    ensures { IsReadWith Image (rows_of (found_of found.now)) result }
+{
+    Some(CommandLine::Image(Settings::read(found)?))
 }
 
 // What is said behind `soak`.

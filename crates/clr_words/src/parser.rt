@@ -1,10 +1,10 @@
 //! The words, read by `clap`.
 ghost use Rattle.std.specs.Prelude.{◌≡◌, ◌≢◌, [], IfOk, MatchOption, false, map, string_bytes};
 ghost use Rattle.clap.specs.Faults.{fault_of};
-ghost use Rattle.clap.specs.Simple.{app_of, subcommand_of, subcommand_rows_of};
+ghost use Rattle.clap.specs.Simple.{app_of, filled, subcommand_of, subcommand_rows_of};
 ghost use Rattle.clap.specs.Walk.{rule_of};
 ghost use Rattle.clap.specs.declared.builder.command.Command.TheViews.{out-Command};
-ghost use Rattle.clr_words.specs.Parser.{option_rule, place_rule, program, with_options};
+ghost use Rattle.clr_words.specs.Parser.{filled_app, option_rule, place_rule, program, with_options};
 
 use crate::NoMemory;
 use clap::error::ErrorKind;
@@ -33,14 +33,15 @@ pub(crate) fn parse<'a>(
     }
 }
 
-// The program with its two commands.
+// The program with its commands.
 fn make_program<'a>(alloc: Global) -> Result<Command<'a>, AllocError>
-    ensures { IfOk result (λ command. app_of command ≡ program) }
+    ensures { IfOk result (λ command. filled_app (app_of command) ≡ program) }
 {
     let run = add_options(alloc, Command::new(alloc, "run"))?;
     let soak = add_options(alloc, Command::new(alloc, "soak"))?
         .arg(make_place(alloc, "SEED"))?
         .arg(make_place(alloc, "N"))?;
+    let image = add_options(alloc, Command::new(alloc, "image"))?;
     Command::new(alloc, "clrheap")
         .no_binary_name(true)
         .disable_help_flag(true)
@@ -48,12 +49,15 @@ fn make_program<'a>(alloc: Global) -> Result<Command<'a>, AllocError>
         .disable_version_flag(true)
         .subcommand_required(true)
         .subcommand(run)?
-        .subcommand(soak)
+        .subcommand(soak)?
+        .subcommand(image)?
+        .subcommand(Command::new(alloc, "inspect"))?
+        .subcommand(Command::new(alloc, "migrate"))
 }
 
 // Adds the options of a command.
 fn add_options<'a>(alloc: Global, command: Command<'a>) -> Result<Command<'a>, AllocError>
-    ensures shape { IfOk result (λ made. app_of made ≡ with_options (app_of command.entry)) }
+    ensures shape { IfOk result (λ made. filled_app (app_of made) ≡ with_options (filled_app (app_of command.entry))) }
     ensures local { (out-Command command.entry).has_globals ≡ false
         → IfOk result (λ made. (out-Command made).has_globals ≡ false) }
 {
@@ -70,7 +74,7 @@ fn add_options<'a>(alloc: Global, command: Command<'a>) -> Result<Command<'a>, A
 
 // An option that takes a number.
 fn make_option<'a>(alloc: Global, name: &'a str) -> Arg<'a>
-    ensures rule { rule_of result ≡ option_rule name.entry.now }
+    ensures rule { filled (rule_of result) ≡ option_rule name.entry.now }
     ensures local { result.global ≡ false }
 {
     Arg::new(alloc, name).long(name)
@@ -78,7 +82,7 @@ fn make_option<'a>(alloc: Global, name: &'a str) -> Arg<'a>
 
 // A place that has to have a number.
 fn make_place<'a>(alloc: Global, name: &'a str) -> Arg<'a>
-    ensures rule { rule_of result ≡ place_rule name.entry.now }
+    ensures rule { filled (rule_of result) ≡ place_rule name.entry.now }
     ensures local { result.global ≡ false }
 {
     Arg::new(alloc, name).required(true)

@@ -41,8 +41,9 @@ fn says_nothing(rt: HostRuntime) -> Result<(), Fail> {
         "run run",
         "RUN",
         "ru",
-        "image",
-        "inspect",
+        "IMAGE",
+        "images",
+        "inspects",
         "help",
         "--help",
         "-h",
@@ -114,6 +115,39 @@ fn says_nothing(rt: HostRuntime) -> Result<(), Fail> {
         "soak 1 2 --large 84999",
         "soak 1 2 --b0 1 --b0 1",
         "soak --b0 1 2",
+        "image 5",
+        "image run",
+        "image -- 5",
+        "image -- --b0 5",
+        "image --b0",
+        "image --b0=",
+        "image --b0 --",
+        "image --b0 05",
+        "image --b0 5 --b0 5",
+        "image --large 84999",
+        "image --name 5",
+        "image --help",
+        "-- image",
+        "inspect 5",
+        "inspect x",
+        "inspect inspect",
+        "inspect migrate",
+        "inspect -- --",
+        "inspect -- 5",
+        "inspect --b0 5",
+        "inspect --b0=5",
+        "inspect --help",
+        "inspect -h",
+        "inspect ",
+        "-- inspect",
+        "migrate 5",
+        "migrate --limit 1073741824",
+        "migrate --b0=5",
+        "migrate -- x",
+        "migrate --version",
+        "migrate -V",
+        "migrate inspect",
+        "--b0 5 migrate",
     ] {
         assert!(rt; said(rt.alloc(), line)? == None, "{line}");
     }
@@ -265,6 +299,48 @@ fn says_a_run(rt: HostRuntime) -> Result<(), Fail> {
             said(rt.alloc(), line)? == Some(CommandLine::Run(settings)),
             "{line}"
         );
+    }
+    Ok(())
+}
+
+#[test]
+fn says_an_image(rt: HostRuntime) -> Result<(), Fail> {
+    for (line, settings) in [
+        ("image", DEFAULTS),
+        ("image --", DEFAULTS),
+        ("image --b0 0", Settings { b0: 0, ..DEFAULTS }),
+        ("image --b0=7 --", Settings { b0: 7, ..DEFAULTS }),
+        (
+            "image --large 90000 --compact 7 --bl=6 --b2 5 --b1=4 --b0 3 --segment=266240 --limit 532480",
+            Settings {
+                limit: 532_480,
+                segment: 266_240,
+                b0: 3,
+                b1: 4,
+                b2: 5,
+                bl: 6,
+                compact: 7,
+                large: 90_000,
+            },
+        ),
+    ] {
+        assert!(rt;
+            said(rt.alloc(), line)? == Some(CommandLine::Image(settings)),
+            "{line}"
+        );
+    }
+    Ok(())
+}
+
+#[test]
+fn says_what_is_done_with_an_image(rt: HostRuntime) -> Result<(), Fail> {
+    for (line, want) in [
+        ("inspect", CommandLine::Inspect),
+        ("inspect --", CommandLine::Inspect),
+        ("migrate", CommandLine::Migrate),
+        ("migrate --", CommandLine::Migrate),
+    ] {
+        assert!(rt; said(rt.alloc(), line)? == Some(want), "{line}");
     }
     Ok(())
 }

@@ -1,11 +1,9 @@
 ghost use Rattle.std.specs.Prelude.{◌≡◌, ◌<◌, ◌∷◌, ◌++◌, [], List, ℕ, length, map, OnOk, OnErr, IfOk, slice_get, None};
 ghost use Rattle.std.specs.Prelude.{Some};
 ghost use Rattle.clr_model.specs.Machine.{Options};
-ghost use Rattle.clr_words.specs.CommandLines.{IsSaid};
-ghost use Rattle.clr_words.specs.Grammar.{SaysNothing, SaysRun, SaysSoak};
-ghost use Rattle.clr_words.specs.Settings.{options_of};
-ghost use Rattle.clr_words.specs.declared.command_line.CommandLine.TheVariants.{Run, Soak};
-ghost use Rattle.clr_words.specs.declared.settings.Settings.{Settings};
+ghost use Rattle.clr_words.specs.CommandLines.{HasOptions, IsSaid};
+ghost use Rattle.clr_words.specs.Grammar.{SaysImage, SaysInspect, SaysMigrate, SaysNothing, SaysRun, SaysSoak};
+ghost use Rattle.clr_words.specs.declared.command_line.CommandLine.TheVariants.{Image, Inspect, Migrate, Run, Soak};
 
 use crate::NoMemory;
 use crate::command_line::{self, CommandLine};
@@ -71,10 +69,14 @@ impl Words {
         ensures said { IfOk result (λ line. IsSaid self.now line) }
 
         // What is said is answered.
-        ensures run { (options : Options) → SaysRun self.now options →
-            IfOk result (λ line. (settings : Settings) × (line ≡ Some (Run settings)) × (options_of settings ≡ options)) }
-        ensures soak { (options : Options) (seed count : ℕ) → SaysSoak self.now options seed count →
-            IfOk result (λ line. (settings : Settings) × (line ≡ Some (Soak settings seed count)) × (options_of settings ≡ options)) }
+        ensures run { (options : Options) → SaysRun self.now options
+            → IfOk result (λ line. HasOptions Run options line) }
+        ensures soak { (options : Options) (seed count : ℕ) → SaysSoak self.now options seed count
+            → IfOk result (λ line. HasOptions (λ settings. Soak settings seed count) options line) }
+        ensures image { (options : Options) → SaysImage self.now options
+            → IfOk result (λ line. HasOptions Image options line) }
+        ensures inspect { SaysInspect self.now → IfOk result (λ line. line ≡ Some Inspect) }
+        ensures migrate { SaysMigrate self.now → IfOk result (λ line. line ≡ Some Migrate) }
         ensures nothing { SaysNothing self.now → IfOk result (λ line. line ≡ None) }
     {
         command_line::read(self.alloc, self.texts.as_slice())

@@ -1,7 +1,7 @@
 -- What is read of the matches is what the words say.
 use Rattle.std.proofs.Common.{map, string_bytes}
 use Rattle.clap.specs.Simple.{subcommand_rows_of}
-use Rattle.clr_words.proofs.Answering.{nothing_by_fault, said_by_matches}
+use Rattle.clr_words.proofs.Answering.{each_read, nothing_by_fault, said_by_matches}
 use Rattle.clr_words.proofs.command_line.read.Goals as goal
 
 pub returns-in_default : goal.returns-in_default
@@ -11,6 +11,7 @@ returns-in_default c =
 pub returns : goal.returns
 returns c =
     let found = rw c.in-Some.is at c.in_ok-matches.ensures in
-    said_by_matches (map (λ w. string_bytes w) c.args.words.now)
-    (subcommand_rows_of c.in-Some.matches) found.0 found.1 c.read_matches.result
-    c.read_matches.ensures.run c.read_matches.ensures.soak
+    let rows = subcommand_rows_of c.in-Some.matches in
+    let read = c.read_matches.ensures in
+    said_by_matches (map (λ w. string_bytes w) c.args.words.now) rows found.0 found.1 c.read_matches.result
+    (each_read rows c.read_matches.result read.run read.soak read.image read.inspect read.migrate)

@@ -1,12 +1,13 @@
 -- The command is simple, so what is found of the words is known.
-use Rattle.std.proofs.Common.{◌≡◌, [], ap, inl, inr, map, string_bytes, subst, sym, ◌∙◌}
-use Rattle.clap.specs.Faults.{fault_of, is_simple_and_free}
+use Rattle.std.proofs.Common.{◌≡◌, [], inl, inr, map, string_bytes, subst, sym, ◌∙◌}
+use Rattle.clap.specs.Faults.{fault_of}
 use Rattle.clap.specs.Kinds.{HasKind, IsAmong, Kinds}
-use Rattle.clap.specs.Simple.{App, is_simple, subcommand_of}
+use Rattle.clap.specs.Simple.{app_of}
 use Rattle.clap.specs.Values.{kind_of}
 use Rattle.clap.specs.declared.error.Error.{Error}
 use Rattle.clap.specs.declared.error.kind.ErrorKind.TheVariants.{OutOfMemory}
 use Rattle.clr_words.specs.Parser.{program}
+use Rattle.clr_words.proofs.Filled.{fault_is, found_is, simple, simple_and_free}
 use Rattle.clr_words.proofs.parser.parse.Goals as goal
 
 -- an error that isn't for want of memory has one of the kinds
@@ -16,17 +17,20 @@ some_kind error kinds (inr among) other none = subst (IsAmong (kind_of error)) n
 
 pub returns-in-Ok-try_get_matches_from : goal.returns-in-Ok-try_get_matches_from
 returns-in-Ok-try_get_matches_from c =
-    let words = map (λ w. string_bytes w) c.args.words.now in (
-      ap (λ (a : App). fault_of a words) (sym c.in-Ok.ensures)
-          ∙ c.in-Ok-try_get_matches_from.ensures.kinds (ap is_simple_and_free c.in-Ok.ensures),
-      (c.in-Ok-try_get_matches_from.ensures.matches (ap is_simple c.in-Ok.ensures)).1
-          ∙ ap (λ (a : App). subcommand_of a words) c.in-Ok.ensures,
+    let words = map (λ w. string_bytes w) c.args.words.now in
+    let made = app_of c.in-Ok.program in
+    let are = c.in-Ok.ensures in (
+      sym (fault_is made are words)
+          ∙ c.in-Ok-try_get_matches_from.ensures.kinds (simple_and_free made are),
+      (c.in-Ok-try_get_matches_from.ensures.matches (simple made are)).1 ∙ found_is made are words,
     )
 
 pub returns : goal.returns
 returns c =
     let words = map (λ w. string_bytes w) c.args.words.now in
+    let made = app_of c.in-Ok.program in
+    let are = c.in-Ok.ensures in
     λ none. some_kind c.in-Err.error (fault_of program words)
-    (subst (λ (a : App). HasKind (fault_of a words) c.in-Err.error) c.in-Ok.ensures
-    (c.in-Err.ensures.kinds (ap is_simple_and_free c.in-Ok.ensures)))
+    (subst (λ (ks : Kinds). HasKind ks c.in-Err.error) (fault_is made are words)
+    (c.in-Err.ensures.kinds (simple_and_free made are)))
     (λ memory. c.in_default-kind.not-OutOfMemory (c.kind.ensures ∙ memory)) none

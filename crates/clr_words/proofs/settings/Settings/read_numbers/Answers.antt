@@ -1,6 +1,6 @@
 -- Each option is read, or has its default.
 use Rattle.std.specs.Prelude.{Some, None}
-use Rattle.std.proofs.Common.{refl, sym, ◌∙◌, ◌≡◌, ℕ, Option}
+use Rattle.std.proofs.Common.{sym, ◌∙◌, ◌≡◌, ℕ, Option}
 use Rattle.clr_words.proofs.settings.Settings.read_numbers.Goals as goal
 
 never : (o : Option ℕ) (n : ℕ) → None ≡ o → o ≡ Some n → ⊥

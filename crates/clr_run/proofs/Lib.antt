@@ -8,3 +8,6 @@ pub mod ScriptLoop
 pub mod SaidRuns
 pub mod SoakLoop
 pub mod SoakTexts
+pub mod SavedSteps
+pub mod ShownImages
+pub mod MadeImages

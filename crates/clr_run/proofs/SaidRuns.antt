@@ -1,12 +1,14 @@
 -- What words say, from the command that they were read as.
-use Rattle.std.proofs.Common.{◌≡◌, ◌∙◌, ℕ, Option, Some, sym, ap}
+use Rattle.std.proofs.Common.{◌≡◌, ◌≢◌, ◌∙◌, ℕ, List, Option, Some, None, sym, ap, inl, inr}
 use Rattle.clr_model.specs.Machine.{Options}
 use Rattle.clr_runtime.specs.Options.{options_of as made_with}
 use Rattle.clr_runtime.specs.declared.options.Options as runtime
+use Rattle.clr_words.specs.Grammar.{SaysInspect, SaysMigrate}
 use Rattle.clr_words.specs.Settings.{options_of}
 use Rattle.clr_words.specs.declared.command_line.CommandLine.{CommandLine}
-use Rattle.clr_words.specs.declared.command_line.CommandLine.TheVariants.{Run, Soak}
+use Rattle.clr_words.specs.declared.command_line.CommandLine.TheVariants.{Image, Inspect, Migrate, Run, Soak}
 use Rattle.clr_words.specs.declared.settings.Settings.{Settings}
+use Rattle.clr_run.specs.Images.{LooksAtImage}
 
 -- a command that runs a script, with these options
 abbrev pub IsRunWith : Options → Option CommandLine → Type 0
@@ -26,6 +28,20 @@ pub run_options : (options : Options) (line : Option CommandLine) (settings : Se
     → options ≡ made_with made
 run_options options line settings made is made_is (other, says, options_are) =
     sym (made_is ∙ (ap options_of (same_run settings other (sym is ∙ says)) ∙ options_are))
+
+-- a command that makes an image, with these options
+abbrev pub IsImageWith : Options → Option CommandLine → Type 0
+IsImageWith options line = (settings : Settings) × (line ≡ Some (Image settings)) × (options_of settings ≡ options)
+
+same_image : (a b : Settings) → Some (Image a) ≡ Some (Image b) → a ≡ b
+same_image a b e = cc
+
+-- and so are those of an image
+pub image_options : (options : Options) (line : Option CommandLine) (settings : Settings) (made : runtime.Options)
+    → line ≡ Some (Image settings) → made_with made ≡ options_of settings → IsImageWith options line
+    → options ≡ made_with made
+image_options options line settings made is made_is (other, says, options_are) =
+    sym (made_is ∙ (ap options_of (same_image settings other (sym is ∙ says)) ∙ options_are))
 
 pub record IsSaidSoak (options : Options) (made : runtime.Options)
     (seed other_seed count other_count : ℕ) : Type 0 where
@@ -58,3 +74,27 @@ soak_options options line settings made seed other_seed count other_count is mad
       seed_is = same_seed other settings seed count other_seed other_count same;
       count_is = same_count other settings seed count other_seed other_count same;
     }
+
+-- the words say one command
+pub no_other : {A : Type 0} (line : Option CommandLine) (command one other : CommandLine) → line ≡ Some command
+    → command ≡ one → line ≡ Some other → one ≢ other → A
+no_other line command one other is here said differ = absurd (differ (same command one other here (sym is ∙ said)))
+  where
+    same : (command one other : CommandLine) → command ≡ one → Some command ≡ Some other → one ≡ other
+    same command one other here e = cc
+
+-- words that say a command don't say none
+pub not_none : {A : Type 0} (line : Option CommandLine) (command : CommandLine) → line ≡ Some command → line ≡ None → A
+not_none line command here none = absurd (clash command (sym here ∙ none))
+  where
+    clash : (command : CommandLine) → Some command ≡ None → ⊥
+    clash command e = cc
+
+-- words that look at an image say no other command
+pub no_look : {A : Type 0} (words : List (List ℕ)) (line : Option CommandLine) (command one : CommandLine)
+    → line ≡ Some command → command ≡ one → (SaysInspect words → line ≡ Some Inspect)
+    → (SaysMigrate words → line ≡ Some Migrate) → one ≢ Inspect → one ≢ Migrate → LooksAtImage words → A
+no_look words line command one here is inspects migrates a b (inl says) =
+    no_other line command one Inspect here is (inspects says) a
+no_look words line command one here is inspects migrates a b (inr says) =
+    no_other line command one Migrate here is (migrates says) b

@@ -8,3 +8,4 @@ pub mod LineStretch
 pub mod Progress
 pub mod Sessions
 pub mod Soak
+pub mod Images

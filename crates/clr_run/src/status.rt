@@ -9,11 +9,11 @@ pub enum Status {
     ReadFault,
     /// A write failed.
     WriteFault,
-    /// There was no memory for the command. Nothing was read or written.
+    /// There was no memory for the command. Nothing was written, and `run` and `soak` have read nothing.
     Memory,
-    /// The script has more bytes than `SCRIPT_LIMIT`.
+    /// The script has more bytes than `SCRIPT_LIMIT`, or the image more than `IMAGE_LIMIT`.
     TooMuch,
-    /// The bytes are no image of a heap.
+    /// The bytes that `inspect` or `migrate` read are no image of a heap.
     BadImage,
 }
 

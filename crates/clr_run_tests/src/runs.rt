@@ -3,6 +3,7 @@ ghost use Rattle.std.specs.Prelude.{◌<◌};
 
 mod adapters;
 mod faults;
+mod images;
 mod lines;
 mod looks;
 mod scripts;
@@ -10,6 +11,7 @@ mod words;
 
 use clr_run::{MemorySink, MemorySource, Sink, Source, Status, Words, run};
 use std::alloc::Global;
+use std::process::Abort;
 use std::test::Fail;
 
 /// The reply to `dumpheap` where the heap is empty.
@@ -41,26 +43,57 @@ fn status_of<S: Source, K: Sink>(
     Ok(run(alloc, &words, source, sink, &mut None))
 }
 
-/// A script, the bytes that a call moves at most, and the calls that fail.
+/// A command over bytes in memory: how many a read and a write move at most, which read and which write fail, counted
+/// from 1, and for how many bytes there is room.
 #[derive(Clone, Copy)]
 struct Trial<'a> {
-    script: &'a [u8],
-    piece: usize,
-    failing_reads: &'a [u64],
-    failing_writes: &'a [u64],
+    command: &'a str,
+    input: &'a [u8],
+    read_piece: usize,
+    failing_read: u64,
+    write_piece: usize,
+    failing_write: u64,
     room: usize,
 }
 
-/// How the script ends, and what it wrote.
+/// How the command ends, and what it wrote.
 fn outcome_of(alloc: Global, trial: Trial<'_>) -> Result<(Status, Vec<u8>), Fail>
-    requires { 0 < trial.piece }
+    requires read { 0 < trial.read_piece }
+    requires write { 0 < trial.write_piece }
 {
-    let script = bytes_of(alloc, trial.script)?;
-    let reads = Vec::from_slice(alloc, trial.failing_reads)?;
-    let writes = Vec::from_slice(alloc, trial.failing_writes)?;
-    let mut source = MemorySource::new(script, trial.piece, reads);
-    let mut sink = MemorySink::new(alloc, trial.room, trial.piece, writes)?;
-    let status = status_of(alloc, &["run"], &mut source, &mut sink)?;
+    let input = bytes_of(alloc, trial.input)?;
+    let reads = Vec::from_slice(alloc, &[trial.failing_read])?;
+    let writes = Vec::from_slice(alloc, &[trial.failing_write])?;
+    let mut source = MemorySource::new(input, trial.read_piece, reads);
+    let mut sink = MemorySink::new(alloc, trial.room, trial.write_piece, writes)?;
+    let status = status_of(alloc, &[trial.command], &mut source, &mut sink)?;
     let text = bytes_of(alloc, sink.bytes())?;
     Ok((status, text))
+}
+
+/// How a command ends of which no call fails, and what it wrote.
+fn whole_outcome(alloc: Global, command: &str, input: &[u8]) -> Result<(Status, Vec<u8>), Fail> {
+    let trial = Trial {
+        command,
+        input,
+        read_piece: 1_000,
+        failing_read: 0,
+        write_piece: 700,
+        failing_write: 0,
+        room: 1_000_000,
+    };
+    outcome_of(alloc, trial)
+}
+
+/// Runs a script, and wants these replies.
+fn expect_replies(
+    rt: &impl Abort,
+    alloc: Global,
+    script: &[u8],
+    replies: &[u8],
+) -> Result<(), Fail> {
+    let (status, text) = whole_outcome(alloc, "run", script)?;
+    assert_eq!(rt; status, Status::Done);
+    assert!(rt; text.as_slice() == replies);
+    Ok(())
 }

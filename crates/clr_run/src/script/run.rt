@@ -6,14 +6,19 @@ ghost use Rattle.clr_model.specs.Machine.{Machine, Options};
 ghost use Rattle.clr_model.specs.LineGrammar.{script_lines, ended_lines};
 ghost use Rattle.clr_runtime.specs.RuntimeView.{StandsFor};
 ghost use Rattle.clr_runtime.specs.Options.{options_of};
-ghost use Rattle.clr_words.specs.Grammar.{SaysNothing, SaysRun, SaysSoak};
+ghost use Rattle.clr_image.specs.Texts.{Inspected, Migrated};
+ghost use Rattle.clr_words.specs.Grammar.{SaysImage, SaysInspect, SaysMigrate, SaysNothing, SaysRun, SaysSoak};
 ghost use Rattle.clr_words.specs.Settings as settings_said;
 ghost use Rattle.clr_run.specs.Faults.{Rose, Appended};
+ghost use Rattle.clr_run.specs.Images.{LooksAtImage, MakesImage, ShowsImage, WritesAtEnd};
 ghost use Rattle.clr_run.specs.Progress.{Answered, CutShort};
 ghost use Rattle.clr_run.specs.Runs.{IsRunOf};
 ghost use Rattle.clr_run.specs.Sessions.{IsAt};
 ghost use Rattle.clr_run.specs.Soak.{SoakCutShort, Soaked};
 
+use crate::images::making::image_source;
+use crate::images::reading::IMAGE_LIMIT;
+use crate::images::showing::{inspect_source, migrate_source};
 use crate::script::session::Session;
 use crate::script::soak::soak;
 use crate::status::Status;
@@ -90,9 +95,9 @@ fn run_script<S: Source, K: Sink>(
     }
 }
 
-// Runs the script that the source holds, over a runtime with these options, and tells what came of it. After `Done` the
-// end state is the runtime that ran the lines.
-fn run_source<S: Source, K: Sink>(
+/// Runs the script that the source holds, over a runtime with these options, and tells what came of it. After `Done` the
+/// end state is the runtime that ran the lines.
+pub(crate) fn run_source<S: Source, K: Sink>(
     alloc: Global,
     options: clr_runtime::Options,
     source: &mut S,
@@ -170,10 +175,15 @@ fn options_from(settings: Settings) -> clr_runtime::Options
     }
 }
 
-/// Runs the command that the words say. `run` runs the script that the source holds, and writes its replies to the
-/// sink. `soak` runs a generated script, and writes a summary of what it comes to. The words are those of the command
-/// line, without the program's name. After `Done` the end state is the runtime that ran the lines, and else there is
-/// none.
+/// Runs the command that the words say. The words are those of the command line, without the program's name.
+///
+/// - `run` runs the script that the source holds, and writes its replies to the sink.
+/// - `soak` runs a generated script, and writes a summary of what it comes to.
+/// - `image` runs the script that the source holds, and writes the image of the last state.
+/// - `inspect` writes what the commands show of the heap in the image that the source holds, and `migrate` the image in
+///   its second version. Of bytes that are no image both write the offset of the first fault.
+///
+/// After `Done` of `run`, `soak` and `image` the end state is the runtime that ran the lines, and else there is none.
 pub fn run<S: Source, K: Sink>(
     alloc: Global,
     words: &Words,
@@ -197,6 +207,18 @@ pub fn run<S: Source, K: Sink>(
         × (length taken ≤ SCRIPT_LIMIT) × IsSomeAnd end_state.new (λ runtime. StandsFor runtime answered.last) }
     ensures no_state { result ≢ Status.Done → end_state.new ≡ None }
 
+    // The image of the last state of such a run is written, and it is an image.
+    ensures image { (options : Options) → SaysImage words.now options →
+        MakesImage options SCRIPT_LIMIT (S.held source.old) (S.held source.new)
+        (K.written sink.old) (K.written sink.new) end_state.new result }
+
+    // What is shown of an image, and its second version; or the offset of the first fault of other bytes.
+    ensures inspect { SaysInspect words.now → ShowsImage Inspected IMAGE_LIMIT
+        (S.held source.old) (S.held source.new) (K.written sink.old) (K.written sink.new) result }
+    ensures migrate { SaysMigrate words.now → ShowsImage Migrated IMAGE_LIMIT
+        (S.held source.old) (S.held source.new) (K.written sink.old) (K.written sink.new) result }
+    ensures shown_state { LooksAtImage words.now → end_state.new ≡ None }
+
     // Each other answer has its cause.
     ensures usage { result ≢ Status.Memory → ((result ≡ Status.Usage) ↔ SaysNothing words.now) }
     ensures read_fault { result ≡ Status.ReadFault → Rose (S.faults source.old) (S.faults source.new) }
@@ -206,12 +228,15 @@ pub fn run<S: Source, K: Sink>(
         × Answered options ended_lines (S.held source.old) (option_map (λ rest. byte ∷ rest) (S.held source.new))
         (K.written sink.old) (K.written sink.new) taken
         × (length taken ≡ SCRIPT_LIMIT) }
-    ensures image { result ≢ Status.BadImage }
+    ensures bad_image { result ≡ Status.BadImage → LooksAtImage words.now }
 
     // A count that rises is answered, and before the first read nothing has changed.
     ensures source_counted { result ≢ Status.ReadFault → S.faults source.new ≡ S.faults source.old }
     ensures sink_counted { result ≢ Status.WriteFault → K.faults sink.new ≡ K.faults sink.old }
-    ensures memory { result ≡ Status.Memory → (source.new ≡ source.old) × (sink.new ≡ sink.old) }
+    ensures memory { result ≡ Status.Memory → sink.new ≡ sink.old }
+    ensures memory_unread { (WritesAtEnd words.now → ⊥) → result ≡ Status.Memory → source.new ≡ source.old }
+    ensures unwritten { WritesAtEnd words.now → (result ≡ Status.ReadFault) ⊎ (result ≡ Status.TooMuch) →
+        sink.new ≡ sink.old }
     ensures unread { result ≡ Status.Usage → (source.new ≡ source.old) × (sink.new ≡ sink.old) }
 
     // Where the words are right, the script isn't too long and no fault is counted, only memory can be wanting.
@@ -220,6 +245,17 @@ pub fn run<S: Source, K: Sink>(
         IsSome (S.held source.old) → (Rose (S.faults source.old) (S.faults source.new) → ⊥) →
         (Rose (K.faults sink.old) (K.faults sink.new) → ⊥) →
         (result ≡ Status.Done) ⊎ (result ≡ Status.Memory) }
+
+    ensures image_complete { (options : Options) → SaysImage words.now options →
+        IfSome (S.held source.old) (λ bytes. length bytes ≤ SCRIPT_LIMIT) →
+        IsSome (S.held source.old) → (Rose (S.faults source.old) (S.faults source.new) → ⊥) →
+        (Rose (K.faults sink.old) (K.faults sink.new) → ⊥) →
+        (result ≡ Status.Done) ⊎ (result ≡ Status.Memory) }
+    ensures shown_complete { LooksAtImage words.now →
+        IfSome (S.held source.old) (λ bytes. length bytes ≤ IMAGE_LIMIT) →
+        IsSome (S.held source.old) → (Rose (S.faults source.old) (S.faults source.new) → ⊥) →
+        (Rose (K.faults sink.old) (K.faults sink.new) → ⊥) →
+        (result ≡ Status.Done) ⊎ ((result ≡ Status.Memory) ⊎ (result ≡ Status.BadImage)) }
 
     // What was written before a fault.
     ensures read_before { (options : Options) → SaysRun words.now options → result ≡ Status.ReadFault → (taken : List ℕ)
@@ -257,5 +293,10 @@ pub fn run<S: Source, K: Sink>(
             seed,
             count,
         } => soak(alloc, options_from(settings), seed, count, sink, end_state),
+        CommandLine::Image(settings) => {
+            image_source(alloc, options_from(settings), source, sink, end_state)
+        }
+        CommandLine::Inspect => inspect_source(alloc, source, sink),
+        CommandLine::Migrate => migrate_source(alloc, source, sink),
     }
 }

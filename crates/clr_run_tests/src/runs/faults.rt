@@ -5,66 +5,70 @@ use super::{EMPTY_HEAP, Trial, outcome_of, status_of};
 use clr_run::{Failed, MemorySink, SCRIPT_LIMIT, Source, Status};
 use std::test::Fail;
 
-/// Two lines. The second one has no line feed.
-const TWO_LINES: &str = "dumpheap\ndumpheap";
+/// A line, and its front without the line feed.
+const LINE: &str = "type N class r\n";
+
+const FRONT: &str = "type N class r";
+
+/// Its reply.
+const REPLY: &str = "mt 00007ff000000040\n";
+
+/// The line, and a second one.
+const LINES: &str = "type N class r\nt1 new l0 N\n";
 
 /// Their replies.
-const TWO_REPLIES: &str = "total 0 bytes 0 free 0\ntotal 0 bytes 0 free 0\n";
+const REPLIES: &str = "mt 00007ff000000040\n0000000010001000\n";
 
 #[test]
-fn answers_the_lines_before_a_failed_read(rt: HostRuntime) -> Result<(), Fail> {
-    let cases: [(u64, Status, &str); 6] = [
-        (1, Status::ReadFault, ""),
-        (2, Status::ReadFault, ""),
-        (3, Status::ReadFault, EMPTY_HEAP),
-        // the second line is begun, and not run
-        (4, Status::ReadFault, EMPTY_HEAP),
+fn ends_where_a_call_fails(rt: HostRuntime) -> Result<(), Fail> {
+    // the script, the bytes of a read and of a write, the read and the write that fail, the room for replies, the
+    // status, and what stands written
+    let cases: [(&str, (usize, usize), (u64, u64), usize, Status, &str); 18] = [
+        (LINES, (10, 100), (1, 0), 100, Status::ReadFault, ""),
+        (LINES, (10, 100), (2, 0), 100, Status::ReadFault, ""),
+        (LINES, (10, 100), (3, 0), 100, Status::ReadFault, REPLY),
         // the read that would have told the end
-        (5, Status::Done, TWO_REPLIES),
-        (u64::MAX, Status::Done, TWO_REPLIES),
+        (LINES, (10, 100), (4, 0), 100, Status::ReadFault, REPLIES),
+        (LINES, (1, 100), (0, 0), 100, Status::Done, REPLIES),
+        (LINES, (7, 100), (0, 0), 100, Status::Done, REPLIES),
+        (LINES, (10, 100), (0, 0), 100, Status::Done, REPLIES),
+        (LINES, (27, 100), (0, 0), 100, Status::Done, REPLIES),
+        // a line without a line feed is one where the end is told
+        (FRONT, (14, 100), (2, 0), 100, Status::ReadFault, ""),
+        (FRONT, (14, 100), (0, 0), 100, Status::Done, REPLY),
+        (LINE, (15, 5), (0, 1), 100, Status::WriteFault, ""),
+        (LINE, (15, 5), (0, 2), 100, Status::WriteFault, "mt 00"),
+        (LINE, (15, 5), (0, 5), 100, Status::Done, REPLY),
+        // the room is full
+        (LINE, (15, 100), (0, 0), 0, Status::WriteFault, ""),
+        (LINE, (15, 100), (0, 0), 5, Status::WriteFault, "mt 00"),
+        (LINE, (15, 100), (0, 0), 20, Status::Done, REPLY),
+        (LINES, (27, 100), (0, 0), 20, Status::WriteFault, REPLY),
+        (LINES, (27, 100), (0, 0), 37, Status::Done, REPLIES),
     ];
-    for (failing, want, replies) in cases {
+    for (script, pieces, failing, room, want, replies) in cases {
+        assert!(rt; pieces.0 > 0);
+        assert!(rt; pieces.1 > 0);
         let trial = Trial {
-            script: TWO_LINES.as_bytes(),
-            piece: 7,
-            failing_reads: &[failing],
-            failing_writes: &[],
-            room: 100,
-        };
-        let (status, text) = outcome_of(rt.alloc(), trial)?;
-        assert_eq!(rt; status, want, "at {failing}");
-        assert_eq!(rt; text.as_slice(), replies.as_bytes(), "at {failing}");
-    }
-    Ok(())
-}
-
-#[test]
-fn writes_a_part_before_a_failed_write(rt: HostRuntime) -> Result<(), Fail> {
-    // the room, the write that fails, the status and the bytes that stand written
-    let cases: [(usize, u64, Status, usize); 10] = [
-        (0, 0, Status::WriteFault, 0),
-        (1, 0, Status::WriteFault, 1),
-        (22, 0, Status::WriteFault, 22),
-        (23, 0, Status::WriteFault, 23),
-        (45, 0, Status::WriteFault, 45),
-        (46, 0, Status::Done, 46),
-        (100, 1, Status::WriteFault, 0),
-        (100, 2, Status::WriteFault, 7),
-        (100, 5, Status::WriteFault, 23),
-        (100, 9, Status::Done, 46),
-    ];
-    for (room, failing, want, count) in cases {
-        let trial = Trial {
-            script: TWO_LINES.as_bytes(),
-            piece: 7,
-            failing_reads: &[],
-            failing_writes: &[failing],
+            command: "run",
+            input: script.as_bytes(),
+            read_piece: pieces.0,
+            failing_read: failing.0,
+            write_piece: pieces.1,
+            failing_write: failing.1,
             room,
         };
         let (status, text) = outcome_of(rt.alloc(), trial)?;
-        assert_eq!(rt; status, want, "with room {room} and failing {failing}");
-        assert_eq!(rt; text.len(), count, "with room {room} and failing {failing}");
-        assert!(rt; TWO_REPLIES.as_bytes().starts_with(text.as_slice()));
+        assert_eq!(rt;
+            status,
+            want,
+            "{script} by {pieces:?}, failing {failing:?}, room {room}"
+        );
+        assert_eq!(rt;
+            text.as_slice(),
+            replies.as_bytes(),
+            "{script} by {pieces:?}, failing {failing:?}, room {room}"
+        );
     }
     Ok(())
 }

@@ -1,31 +1,6 @@
 //! Limits of words, of lines and of the table of types, with their replies. More scripts stand in `tests` at the top.
-ghost use Rattle.std.specs.Prelude.{◌<◌};
-
-use super::{Trial, outcome_of};
-use clr_run::Status;
-use std::alloc::Global;
-use std::process::Abort;
+use super::expect_replies;
 use std::test::Fail;
-
-/// Runs a script, and wants these replies.
-fn expect_replies(
-    rt: &impl Abort,
-    alloc: Global,
-    script: &[u8],
-    replies: &[u8],
-) -> Result<(), Fail> {
-    let trial = Trial {
-        script,
-        piece: 100,
-        failing_reads: &[],
-        failing_writes: &[],
-        room: 1_000_000,
-    };
-    let (status, text) = outcome_of(alloc, trial)?;
-    assert_eq!(rt; status, Status::Done);
-    assert!(rt; text.as_slice() == replies);
-    Ok(())
-}
 
 #[test]
 fn limits_words_and_lines(rt: HostRuntime) -> Result<(), Fail> {

@@ -1,6 +1,5 @@
 //! Lines that show the heap, with their replies. More scripts stand in `tests` at the top.
-use super::{Trial, outcome_of};
-use clr_run::Status;
+use super::expect_replies;
 use std::alloc::Global;
 use std::process::Abort;
 use std::test::Fail;
@@ -24,17 +23,7 @@ fn expect_shown(rt: &impl Abort, alloc: Global, looks: &[(&str, &str)]) -> Resul
         script.push(b'\n')?;
         replies.extend_from_slice(reply.as_bytes())?;
     }
-    let trial = Trial {
-        script: script.as_slice(),
-        piece: 100,
-        failing_reads: &[],
-        failing_writes: &[],
-        room: 1_000_000,
-    };
-    let (status, text) = outcome_of(alloc, trial)?;
-    assert_eq!(rt; status, Status::Done);
-    assert!(rt; text.as_slice() == replies.as_slice());
-    Ok(())
+    expect_replies(rt, alloc, script.as_slice(), replies.as_slice())
 }
 
 #[test]

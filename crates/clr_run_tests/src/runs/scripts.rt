@@ -1,32 +1,6 @@
-//! Scripts and their replies, whatever the pieces in which they are read and written.
-use super::{EMPTY_HEAP, Trial, outcome_of};
-use clr_run::Status;
-use std::alloc::Global;
-use std::process::Abort;
+//! Scripts and their replies.
+use super::{EMPTY_HEAP, expect_replies};
 use std::test::Fail;
-
-/// Runs a script in pieces of three sizes, and wants these replies each time.
-fn expect_replies(
-    rt: &impl Abort,
-    alloc: Global,
-    script: &[u8],
-    replies: &[u8],
-) -> Result<(), Fail> {
-    for piece in [1, 7, 10] {
-        assert!(rt; piece > 0);
-        let trial = Trial {
-            script,
-            piece,
-            failing_reads: &[],
-            failing_writes: &[],
-            room: 1_000_000,
-        };
-        let (status, text) = outcome_of(alloc, trial)?;
-        assert_eq!(rt; status, Status::Done, "in pieces of {piece}");
-        assert!(rt; text.as_slice() == replies, "in pieces of {piece}");
-    }
-    Ok(())
-}
 
 #[test]
 fn answers_each_line(rt: HostRuntime) -> Result<(), Fail> {
@@ -38,8 +12,6 @@ fn answers_each_line(rt: HostRuntime) -> Result<(), Fail> {
             "mt 00007ff000000040\n0000000010001000\n0000000010001000 00007ff000000040 32 Node\n\
             total 1 bytes 32 free 0\n",
         ),
-        // the last line needs no line feed
-        ("dumpheap", EMPTY_HEAP),
         ("dumpheap\n", EMPTY_HEAP),
         ("\n\n", "refused syntax\nrefused syntax\n"),
         // no type is defined yet

@@ -17,9 +17,14 @@ fn ended(alloc: Global, texts: &[&str]) -> Result<(Status, Vec<u8>), Fail> {
 
 #[test]
 fn ends_as_the_words_say(rt: HostRuntime) -> Result<(), Fail> {
-    let cases: [(&[&str], Status); 14] = [
+    let cases: [(&[&str], Status); 19] = [
         (&[], Status::Usage),
-        (&["image"], Status::Usage),
+        (&["images"], Status::Usage),
+        (&["image", "x"], Status::Usage),
+        (&["image", "--large", "84999"], Status::Usage),
+        (&["image", "--b0", "1", "--b0", "2"], Status::Usage),
+        (&["inspect", "x"], Status::Usage),
+        (&["migrate", "x"], Status::Usage),
         (&["run", "--help"], Status::Usage),
         (&["run", "--b0", "1", "--b0", "2"], Status::Usage),
         (&["run", "--compact", "101"], Status::Usage),

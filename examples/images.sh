@@ -1,0 +1,24 @@
+#!/usr/bin/env bash
+# Makes an image of a small heap, shows it, damages it, and shows where: images.sh PROGRAM
+set -u
+program=$1
+folder=$(mktemp -d)
+trap 'rm -rf "$folder"' EXIT
+image=$folder/cycle.image
+"$program" image < "$(dirname "$0")/cycle.script" > "$image"
+echo "an image of $(stat -c %s "$image") bytes"
+"$program" inspect < "$image"
+
+# Byte N becomes B, in octal digits.
+damaged() {
+    head -c "$1" "$image"
+    printf "\\$2"
+    tail -c +"$(($1 + 2))" "$image"
+}
+
+echo "cut after 200 bytes: $(head -c 200 "$image" | "$program" inspect)"
+echo "another byte at its end: $( (cat "$image"; echo) | "$program" inspect)"
+for at in 0 8 40 48 90 152; do
+    echo "byte $at is 377: $(damaged "$at" 377 | "$program" inspect | head -n 1)"
+done
+"$program" migrate < "$image" | cmp - "$image" && echo "the second version stays where it is migrated"

@@ -1,4 +1,4 @@
-"""Looks in the sources for what docs/ARCHITECTURE.md, MODEL.md and PROVED.md name, as crates, files, functions and clauses: run this file."""
+"""Looks in the sources for what pages of docs/ name: crates, files, definitions, functions, clauses. Run this file."""
 import re
 import sys
 import unittest
@@ -7,7 +7,8 @@ from pathlib import Path
 sys.dont_write_bytecode = True
 TOP = Path(__file__).resolve().parent.parent
 CRATES = TOP / "crates"
-PAGES = {name: (TOP / "docs" / name).read_text(encoding="utf-8") for name in ("ARCHITECTURE.md", "MODEL.md", "PROVED.md")}
+NAMES = ("ARCHITECTURE.md", "MODEL.md", "PROVED.md", "THEOREM.md")
+PAGES = {name: (TOP / "docs" / name).read_text(encoding="utf-8") for name in NAMES}
 
 
 def uses():
@@ -19,7 +20,8 @@ def uses():
 
 def files(crate, *folders):
     """The sources, definitions and lemmas of a crate that stand in one of these folders."""
-    return [path for folder in folders for path in (CRATES / crate / folder).rglob("*") if path.suffix in (".rt", ".antt")]
+    paths = [path for folder in folders for path in (CRATES / crate / folder).rglob("*")]
+    return [path for path in paths if path.suffix in (".rt", ".antt")]
 
 
 def text(crates, *folders):
@@ -33,7 +35,8 @@ def has_word(word, within):
 
 def is_defined(name, within):
     """Whether a definition, a struct or a function has the name."""
-    return re.search(rf"\b(record|abbrev|unfoldable|pub|struct|enum|trait|fn|mod) {re.escape(name)}\b", within) is not None
+    kinds = "record|data|abbrev|unfoldable|pub|struct|enum|trait|fn|mod"
+    return re.search(rf"\b({kinds}) {re.escape(name)}\b", within) is not None
 
 
 def rows(page, columns):
@@ -49,8 +52,9 @@ def sections():
 
 class Names(unittest.TestCase):
     def test_crates_are_those_of_crates_txt(self):
-        told = {row[0]: set(re.findall(r"\w+", row[2])) for row in rows(PAGES["ARCHITECTURE.md"], 3) if row[0].startswith("clr")}
-        self.assertEqual({name: told[name] - {"nothing"} for name in told}, {name: set(words) for name, words in uses().items()})
+        crates = [row for row in rows(PAGES["ARCHITECTURE.md"], 3) if row[0].startswith("clr")]
+        told = {name: set(re.findall(r"\w+", words)) - {"nothing"} for name, _, words in crates}
+        self.assertEqual(told, {name: set(words) for name, words in uses().items()})
 
     def test_files_stand_in_their_crate(self):
         for crate, section in sections():
@@ -101,6 +105,22 @@ class Names(unittest.TestCase):
             scripts = [TOP / folder / f"{name}.script" for folder in ("tests", "examples")]
             with self.subTest(where=where, test=name):
                 self.assertTrue(any(script.exists() for script in scripts) or f"fn {name}(" in text(uses(), "src"))
+
+    def test_the_theorem_names_definitions_by_their_files(self):
+        page = re.sub(r"\s+(> )?", " ", PAGES["THEOREM.md"])
+        named = re.findall(r"((?:`\w+`(?:, )?)+) in `([\w/]+\.antt)`", page)
+        self.assertGreater(len(named), 30)
+        for definitions, name in named:
+            path = TOP / name if "/" in name else CRATES / "clr_model/specs" / name
+            for definition in re.findall(r"`(\w+)`", definitions):
+                with self.subTest(file=name, definition=definition):
+                    self.assertTrue(is_defined(definition, path.read_text(encoding="utf-8")))
+        clauses = re.findall(r"\| `(\w+)` of `(\w+)`, (clr\w+) \|", page)
+        self.assertGreater(len(clauses), 2)
+        for clause, function, crate in clauses:
+            with self.subTest(clause=clause, function=function):
+                contract = rf"fn {function}\b[^;]*\n    ensures {clause} "
+                self.assertTrue(re.search(contract, text([crate], "src")))
 
 
 if __name__ == "__main__":

@@ -1,38 +1,150 @@
-"""Runs the examples of docs/LINES.md with the program that CLRHEAP names, and compares the replies: run this file."""
+"""Runs what the pages show with the program that CLRHEAP names, and compares what it answers: run this file.
+
+Compared are scripts with replies (`> ` stands before a line), sessions of a shell (`$ ` stands before a command), the
+table of README.md, and the bytes and words of IMAGES.md. Other commands of a page are run: those of a hunt for a leak
+on a tiny dump, as they need no Java then.
+"""
 import os
 import re
 import subprocess
 import sys
+import tempfile
 import unittest
 from pathlib import Path
 
 sys.dont_write_bytecode = True
-PAGE = Path(__file__).resolve().parent.parent / "docs/LINES.md"
+TOP = Path(__file__).resolve().parent.parent
+sys.path.insert(0, str(TOP / "tools/from-hprof"))
+
+from test_from_hprof import tiny_dump  # noqa: E402
+
+PROGRAM = os.environ.get("CLRHEAP")
+PATHS = ("README.md", "docs/LINES.md", "docs/LEAKS.md", "docs/IMAGES.md", "tools/from-hprof/README.md")
+PAGES = {path: (TOP / path).read_text(encoding="utf-8") for path in PATHS}
+# How commands of the pages begin that need no Java, and what forms of commands have.
+RUN = ("clrheap ", "crates/", "tools/", "python3 tools/", "sed ", "echo ", "printf ")
+FORM = re.compile(r"\b[A-Z]{4,}\b|\[|--limit")
 
 
-def examples():
-    """The blocks of the page in which lines of a script, behind `> `, and replies stand."""
-    blocks = re.findall(r"^```\n(> .*?)^```$", PAGE.read_text(encoding="utf-8"), re.DOTALL | re.MULTILINE)
-    return [block.splitlines() for block in blocks]
+def blocks(page):
+    """The blocks of code of a page, fenced or indented, as lists of lines."""
+    fenced = re.findall(r"^```\w*\n(.*?)^```$", PAGES[page], re.DOTALL | re.MULTILINE)
+    outside = re.sub(r"^```\w*\n.*?^```$", "", PAGES[page], flags=re.DOTALL | re.MULTILINE)
+    indented = re.findall(r"(?:^    .*\n)+", outside, re.MULTILINE)
+    return [block.splitlines() for block in fenced] + [[line[4:] for line in block.splitlines()] for block in indented]
+
+
+def asked(block, mark):
+    """The lines of a block that stand behind a mark, each with the lines that answer it."""
+    pairs = []
+    for line in block:
+        if line.startswith(mark) or line == mark.rstrip():
+            pairs.append((line[len(mark):], []))
+        else:
+            pairs[-1][1].append(line)
+    return pairs
+
+
+def sessions(mark):
+    """The blocks of all pages that begin with a mark, each as a page and pairs of a line and its answer."""
+    marked = [(page, block) for page in PAGES for block in blocks(page) if block[0].startswith(mark)]
+    return [(page, asked(block, mark)) for page, block in marked]
 
 
 def replies(script):
     text = "".join(line + "\n" for line in script)
-    ran = subprocess.run([os.environ["CLRHEAP"], "run"], input=text, capture_output=True, text=True, check=True)
+    ran = subprocess.run([PROGRAM, "run"], input=text, capture_output=True, text=True, check=True)
     return ran.stdout.splitlines()
 
 
-class Examples(unittest.TestCase):
+class Scripts(unittest.TestCase):
     def test_each_heading_of_a_line_has_an_example(self):
-        headings = re.findall(r"^### `", PAGE.read_text(encoding="utf-8"), re.MULTILINE)
-        self.assertEqual(len(examples()), len(headings))
+        page = PAGES["docs/LINES.md"]
+        headings = re.findall(r"^### `", page, re.MULTILINE)
+        self.assertEqual(len(re.findall(r"^```\n> ", page, re.MULTILINE)), len(headings))
 
-    @unittest.skipUnless("CLRHEAP" in os.environ, "CLRHEAP names no program")
+    @unittest.skipUnless(PROGRAM, "CLRHEAP names no program")
     def test_replies_are_those_of_the_program(self):
-        for example in examples():
-            script = [line[2:] for line in example if line.startswith("> ")]
-            with self.subTest(script=script[-1]):
-                self.assertEqual(replies(script), [line for line in example if not line.startswith("> ")])
+        found = sessions("> ")
+        self.assertGreater(len(found), 30)
+        for page, pairs in found:
+            with self.subTest(page=page, script=pairs[-1][0]):
+                self.assertEqual(replies(line for line, _ in pairs), [line for _, answer in pairs for line in answer])
+
+    @unittest.skipUnless(PROGRAM, "CLRHEAP names no program")
+    def test_the_session_of_the_first_page(self):
+        rows = re.findall(r"^\| (?:`([^|`]*)` )?\| `([^|`]*)` \|$", PAGES["README.md"], re.MULTILINE)
+        self.assertGreater(len(rows), 10)
+        self.assertEqual(replies(line for line, _ in rows if line), [reply for _, reply in rows])
+
+
+@unittest.skipUnless(PROGRAM, "CLRHEAP names no program")
+class Commands(unittest.TestCase):
+    """Each test has a folder like the top of the repository, in which `clrheap` is that program."""
+
+    def setUp(self):
+        folder = tempfile.TemporaryDirectory()
+        self.addCleanup(folder.cleanup)
+        self.folder = Path(folder.name)
+        for name in ("tools", "examples"):
+            (self.folder / name).symlink_to(TOP / name)
+        for name in ("docs", "bin", "crates/clrheap/out"):
+            (self.folder / name).mkdir(parents=True)
+        for name in ("bin", "crates/clrheap/out"):
+            (self.folder / name / "clrheap").symlink_to(Path(PROGRAM).resolve())
+
+    def run_line(self, command):
+        path = f"{self.folder / 'bin'}{os.pathsep}{os.environ['PATH']}"
+        env = {**os.environ, "PATH": path, "PYTHONDONTWRITEBYTECODE": "1"}
+        ran = subprocess.run(
+            ["bash", "-c", command], cwd=self.folder, env=env, stdin=subprocess.DEVNULL,
+            capture_output=True, text=True, check=False,
+        )
+        return ran.returncode, ran.stdout + ran.stderr
+
+    def test_sessions_of_a_shell(self):
+        found = sessions("$ ")
+        self.assertGreater(len(found), 2)
+        for page, pairs in found:
+            for command, answer in pairs:
+                with self.subTest(page=page, command=command):
+                    self.assertEqual(self.run_line(command)[1].splitlines(), answer)
+
+    def test_other_commands(self):
+        """Those of a page run in their order."""
+        for name in ("leak", "app"):
+            (self.folder / f"{name}.hprof").write_bytes(tiny_dump())
+        lines = [(page, line) for page in PAGES for block in blocks(page) for line in block if line.startswith(RUN)]
+        commands = [(page, line) for page, line in lines if not FORM.search(line)]
+        self.assertGreater(len(commands), 8)
+        for page, command in commands:
+            with self.subTest(page=page, command=command):
+                status, text = self.run_line(command)
+                self.assertEqual(status, 0, text)
+        for drawn in (self.folder / "docs").iterdir():
+            self.assertEqual(drawn.read_bytes(), (TOP / "docs" / drawn.name).read_bytes(), drawn.name)
+
+    def test_an_image_by_hand(self):
+        page = PAGES["docs/IMAGES.md"]
+        first = next(pairs for path, pairs in sessions("$ ") if path == "docs/IMAGES.md")
+        self.run_line(first[0][0])
+        image = (self.folder / "n.image").read_bytes()
+        self.assertIn(f"The image above has {len(image):,} bytes.", page)
+        rows = re.findall(r"^\| (\d+) \| (`[0-9a-f .`,]+`) \|", page, re.MULTILINE)
+        self.assertGreater(len(rows), 15)
+        for offset, cells in rows:
+            told = b"".join(padded(cell) for cell in re.findall(r"`([^`]+)`", cells))
+            self.assertEqual(image[int(offset):int(offset) + len(told)], told, offset)
+        for offset, word in ((146, 0x1000_1008), (len(image), 0)):
+            (self.folder / "bad.image").write_bytes(image[:offset] + word.to_bytes(8, "little") + image[offset + 8:])
+            self.assertEqual(self.run_line("clrheap inspect < bad.image")[1], f"bad image at {offset}\n")
+            self.assertIn(f"`bad image at {offset}`", page)
+
+
+def padded(cell):
+    """Bytes as a table has them. Two points stand for zeros up to the eighth."""
+    known = bytes.fromhex(cell.replace("..", ""))
+    return known.ljust(8, b"\0") if ".." in cell else known
 
 
 if __name__ == "__main__":

@@ -1,5 +1,5 @@
-"""Tests of `ask` and `transcript`: run this file. A small program stands in for the real one, and where CLRHEAP names that, it is
-asked, too."""
+"""Tests of `ask` and `transcript`: run this file. A small program stands in for the real one, and where CLRHEAP names
+that, it is asked, too."""
 import importlib.util
 import io
 import os
@@ -124,10 +124,16 @@ class Told:
     """Stands in for a session: it answers from a table."""
 
     REPLIES = {
-        "dumpobj 0000000000000010": ["object 0000000000000010 Shop size 32 gen 2", "slot 0 ref 0000000000000020", "slot 1 num 5"],
-        "dumpobj 0000000000000020": ["object 0000000000000020 Bus[] size 32 gen 2 length 1", "slot 0 ref 0000000000000030"],
+        "dumpobj 0000000000000010": [
+            "object 0000000000000010 Shop size 32 gen 2", "slot 0 ref 0000000000000020", "slot 1 num 5",
+        ],
+        "dumpobj 0000000000000020": [
+            "object 0000000000000020 Bus[] size 32 gen 2 length 1", "slot 0 ref 0000000000000030",
+        ],
         "dumpobj 0000000000000040": ["refused no-object"],
-        "gcroot 0000000000000030": ["root t1 l0", "0000000000000010 Shop", "0000000000000020 Bus[]", "0000000000000030 Bus"],
+        "gcroot 0000000000000030": [
+            "root t1 l0", "0000000000000010 Shop", "0000000000000020 Bus[]", "0000000000000030 Bus",
+        ],
         "gcroot 0000000000000050": ["none"],
     }
 

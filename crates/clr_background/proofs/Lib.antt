@@ -1,0 +1,17 @@
+pub mod Members
+pub mod CarriedOver
+pub mod OlderObjects
+pub mod OldStays
+pub mod Changes
+pub mod CutOff
+pub mod LinesCutOff
+pub mod Pauses
+pub mod BackgroundFrees
+pub mod BackgroundKeeps
+pub mod Markings
+pub mod LineStores
+pub mod LogHolds
+pub mod Rescan
+pub mod PlaceNames
+pub mod LogNames
+pub mod MarkerNames

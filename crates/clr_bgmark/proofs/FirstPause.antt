@@ -1,0 +1,89 @@
+-- Runs of the first pause: what one more item, segment, root or handle adds.
+use Rattle.std.proofs.Common.{◌≡◌, ℕ, zero, suc, ◌+◌, List, [], ◌∷◌, ◌++◌, get_or, append-nil, append_assoc, ap, arith}
+use Rattle.std.proofs.Common.{refl, sym}
+use Rattle.std.proofs.Common.{◌∙◌, ◌<◌, ◌≤◌, Bool, true, false, if◌then◌else◌, map, drop}
+use Rattle.std.specs.List.{AllByRecursion}
+use Rattle.std.specs.FinMap as finmap
+use Rattle.std.specs.Ordering.{nat_cmp}
+use Rattle.clr_types.specs.LawfulLayout.{AreDisjoint}
+use Rattle.clr_types.specs.Types.{TypeRow}
+use Rattle.clr_types.specs.declared.handle.Handle.{Handle}
+use Rattle.clr_types.specs.declared.item.Item.{Item}
+use Rattle.clr_types.specs.declared.segment.SegInfo.{SegInfo}
+use Rattle.clr_heap.specs.View.{HeapView, extents, listing, listings}
+use Rattle.clr_bgmark.specs.Pauses.{all_taken, root_grayed, roots_grayed, taken_item, target_grayed, targets_grayed}
+use Rattle.clr_bgmark.specs.Shades.{AreApart, BackgroundView, covers, is_covered, ShadeView}
+use Rattle.clr_bgmark.proofs.Kept.{covers_inside}
+
+pub taken_more : (h : HeapView) (ss : List ShadeView) (xs ys : List Item)
+    → all_taken h ss (xs ++ ys) ≡ all_taken h (all_taken h ss xs) ys
+taken_more h ss [] ys = refl
+taken_more h ss (x ∷ xs) ys = taken_more h (taken_item h ss x) xs ys
+
+-- n + 1 segments are n segments and the one after them
+pub listings_more : (rows : List TypeRow) (h : HeapView) (k n : ℕ)
+    → listings rows h k (n + 1) ≡ listings rows h k n ++ listing rows h (k + n)
+listings_more rows h k zero =
+    let e : k ≡ k + 0 = omega arith in
+    append-nil (listing rows h k) ∙ ap (listing rows h) e
+listings_more rows h k (suc n) =
+    let e : k + 1 + n ≡ k + suc n = omega arith in
+    let one : suc n + 1 ≡ suc (n + 1) = omega arith in
+    ap (listings rows h k) one ∙ ap (λ (rest : List Item). listing rows h k ++ rest) (listings_more rows h (k + 1) n)
+    ∙ ap (λ (m : ℕ). listing rows h k ++ (listings rows h (k + 1) n ++ listing rows h m)) e
+    ∙ sym (append_assoc (listing rows h k) (listings rows h (k + 1) n) (listing rows h (k + suc n)))
+
+pub no_roots : (roots : List ℕ) (v : BackgroundView) → roots_grayed roots 0 v ≡ v
+unfolding roots_grayed
+no_roots roots v = refl
+
+pub roots_more : (roots : List ℕ) (n : ℕ) (v : BackgroundView)
+    → roots_grayed roots (n + 1) v ≡ root_grayed (roots_grayed roots n v) (get_or roots n 0)
+unfolding roots_grayed
+roots_more roots n v =
+    let e : n + 1 ≡ suc n = omega arith in
+    ap (λ (m : ℕ). roots_grayed roots m v) e
+
+pub no_targets : (handles : finmap.FinMap nat_cmp Handle) (v : BackgroundView) → targets_grayed handles 0 v ≡ v
+unfolding targets_grayed
+no_targets handles v = refl
+
+pub targets_more : (handles : finmap.FinMap nat_cmp Handle) (n : ℕ) (v : BackgroundView)
+    → targets_grayed handles (n + 1) v ≡ target_grayed (finmap.get handles n) (targets_grayed handles n v)
+unfolding targets_grayed
+targets_more handles n v =
+    let e : n + 1 ≡ suc n = omega arith in
+    ap (λ (m : ℕ). targets_grayed handles m v) e
+
+-- no segment has an address below all of them
+uncovered : (ss : List ShadeView) (segs : List SegInfo) (top a : ℕ)
+    → map (λ (s : ShadeView). (s.base, s.size)) ss ≡ extents segs
+    → AllByRecursion (λ (r : SegInfo). top ≤ r.base) segs → a < top → is_covered ss a ≡ false
+uncovered [] segs top a e above low = refl
+uncovered (s ∷ ss) [] top a e above low = absurd cc
+uncovered (s ∷ ss) (g ∷ segs) top a e above low =
+    let base : s.base ≡ g.base = ap (λ (l : List (ℕ × ℕ)). (get_or l 0 (0, 0)).0) e in
+    let over = above.0 in
+    let out : a < s.base = omega (arith, base, over, low) in
+    go out (uncovered ss segs top a (ap (drop 1) e) above.1 low) (covers s a) refl
+  where
+    go : a < s.base → is_covered ss a ≡ false → (c : Bool) → covers s a ≡ c
+        → (if c then true else is_covered ss a) ≡ false
+    go out rest true f =
+        let in_it = (covers_inside s a f).low in
+        absurd (omega (arith, out, in_it))
+    go out rest false f = rest
+
+-- segments that lie beside each other share no address
+pub apart_shapes : (ss : List ShadeView) (segs : List SegInfo)
+    → map (λ (s : ShadeView). (s.base, s.size)) ss ≡ extents segs → AreDisjoint segs → AreApart ss
+apart_shapes [] segs e disjoint = tt
+apart_shapes (s ∷ ss) [] e disjoint = absurd cc
+apart_shapes (s ∷ ss) (g ∷ segs) e disjoint =
+    let base : s.base ≡ g.base = ap (λ (l : List (ℕ × ℕ)). (get_or l 0 (0, 0)).0) e in
+    let size : s.size ≡ g.reserved = ap (λ (l : List (ℕ × ℕ)). (get_or l 0 (0, 0)).1) e in (
+      (λ a f.
+          let low = (covers_inside s a f).high in
+          uncovered ss segs (g.base + g.reserved) a (ap (drop 1) e) disjoint.0 (omega (arith, base, size, low))),
+      apart_shapes ss segs (ap (drop 1) e) disjoint.1,
+    )

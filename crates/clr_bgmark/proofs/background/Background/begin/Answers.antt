@@ -1,0 +1,181 @@
+use Rattle.std.proofs.Common.{◌≡◌, ℕ, List, ◌⊎◌, inl, inr, arith, true, false, length, ap, sym, subst, ◌∙◌}
+use Rattle.clr_heap.specs.View.{heap_items}
+use Rattle.clr_view.specs.View.{objects_in}
+use Rattle.clr_bgmark.specs.Scanning.{IsCounted}
+use Rattle.clr_bgmark.specs.Shades.{BackgroundView, is_marked, is_taken, ShadeView}
+use Rattle.clr_bgmark.proofs.FirstBegun.{first_begun, items_covered, taking_found, taking_marks}
+use Rattle.clr_bgmark.proofs.FirstColours.{bare_marks, first_bare, first_objects, first_whole, IsInFirstPause}
+use Rattle.clr_bgmark.proofs.FirstColours.{roots_first, roots_running, take_all_first, targets_first, targets_running}
+use Rattle.clr_bgmark.proofs.FirstCounted.{none_counted, roots_counted, targets_counted}
+use Rattle.clr_bgmark.proofs.FirstRoots.{IsMemberBelow, IsNamed, IsTargetBelow, named_root, root_named, roots_met}
+use Rattle.clr_bgmark.proofs.FirstRoots.{targets_met}
+use Rattle.clr_bgmark.proofs.Meeting.{HasMet, met_after}
+use Rattle.clr_bgmark.proofs.background.Background.begin.Goals.{After-gray_targets}
+use Rattle.clr_bgmark.proofs.background.Background.begin.Goals as goal
+
+-- ---- the bits after each part of the pause
+
+abbrev IsBegunTo : After-gray_targets → List ShadeView → Type 0
+IsBegunTo c ss =
+    IsInFirstPause c.args.heap.now (heap_items c.args.types.now c.args.heap.now) c.in_ok-shades.shades.items ss
+
+-- the collection when the objects are taken
+abbrev taken : After-gray_targets → BackgroundView
+taken c = record { running = true; shades = c.take_oldest.new.shades.items; gray = 0 }
+
+bare_first : (c : After-gray_targets) → IsBegunTo c c.in_ok-shades.shades.items
+bare_first c =
+    let made = c.in_ok-shades.ensures in
+    first_bare c.args.heap.now (heap_items c.args.types.now c.args.heap.now) c.in_ok-shades.shades.items made.lawful
+    made.apart made.none
+
+taken_first : (c : After-gray_targets) → IsBegunTo c c.take_oldest.new.shades.items
+taken_first c =
+    let items = heap_items c.args.types.now c.args.heap.now in
+    let bare = c.in_ok-shades.shades.items in
+    subst (IsBegunTo c) (sym c.take_oldest.ensures)
+    (take_all_first c.args.heap.now items bare bare items (bare_first c) (λ i k. k))
+
+locals_first : (c : After-gray_targets) → IsBegunTo c c.gray_roots.new.self.shades
+locals_first c =
+    subst (λ (v : BackgroundView). IsBegunTo c v.shades) (sym c.gray_roots.ensures)
+    (roots_first c.args.heap.now (heap_items c.args.types.now c.args.heap.now) c.in_ok-shades.shades.items
+    c.args.locals.now (length c.args.locals.now) (taken c) (taken_first c))
+
+ready_first : (c : After-gray_targets) → IsBegunTo c c.gray_roots-2.new.self.shades
+ready_first c =
+    subst (λ (v : BackgroundView). IsBegunTo c v.shades) (sym c.gray_roots-2.ensures)
+    (roots_first c.args.heap.now (heap_items c.args.types.now c.args.heap.now) c.in_ok-shades.shades.items
+    c.args.ready.now (length c.args.ready.now) c.gray_roots.new.self (locals_first c))
+
+begun : (c : After-gray_targets) → IsBegunTo c c.gray_targets.new.self.shades
+begun c =
+    subst (λ (v : BackgroundView). IsBegunTo c v.shades) (sym c.gray_targets.ensures)
+    (targets_first c.args.heap.now (heap_items c.args.types.now c.args.heap.now) c.in_ok-shades.shades.items
+    c.args.handles.now 65536 c.gray_roots-2.new.self (ready_first c))
+
+-- nothing is marked before the roots
+unmarked : (c : After-gray_targets) (b : ℕ) → is_marked c.take_oldest.new.shades.items b ≡ false
+unmarked c b =
+    let items = heap_items c.args.types.now c.args.heap.now in
+    let bare = c.in_ok-shades.shades.items in
+    ap (λ (now : List ShadeView). is_marked now b) c.take_oldest.ensures
+    ∙ taking_marks c.args.heap.now items bare bare items b ∙ bare_marks bare c.in_ok-shades.ensures.none b
+
+-- ---- the answers
+
+pub invariant_of-self : goal.invariant_of-self
+invariant_of-self c =
+    let h = c.args.heap.now in
+    let items = heap_items c.args.types.now h in
+    let bare = c.in_ok-shades.shades.items in
+    let f : IsInFirstPause h items bare c.take_oldest.new.shades.items =
+    subst (IsInFirstPause h items bare) (sym c.take_oldest.ensures)
+    (take_all_first h items bare bare items
+    (first_bare h items bare c.in_ok-shades.ensures.lawful c.in_ok-shades.ensures.apart c.in_ok-shades.ensures.none)
+    (λ i k. k)) in
+    record { shades = f.shades; apart = f.apart }
+
+pub returns-clause-running : goal.returns-clause-running
+returns-clause-running c =
+    ap (λ (v : BackgroundView). v.running) c.gray_targets.ensures
+    ∙ targets_running c.args.handles.now 65536 c.gray_roots-2.new.self
+    ∙ ap (λ (v : BackgroundView). v.running) c.gray_roots-2.ensures
+    ∙ roots_running c.args.ready.now (length c.args.ready.now) c.gray_roots.new.self
+    ∙ ap (λ (v : BackgroundView). v.running) c.gray_roots.ensures
+    ∙ roots_running c.args.locals.now (length c.args.locals.now)
+    (record { running = true; shades = c.take_oldest.new.shades.items; gray = 0 })
+
+-- what was named is gray
+named_met : (c : After-gray_targets)
+    → HasMet c.take_oldest.new.shades.items c.gray_targets.new.self.shades
+    (IsNamed c.args.handles.now c.args.locals.now c.args.ready.now)
+named_met c =
+    let rows = c.args.types.now in
+    let h = c.args.heap.now in
+    let heap = c.requires.closed.heap in
+    let held = c.requires.closed.held in
+    let bare = c.in_ok-shades.shades.items in
+    let ss = c.take_oldest.new.shades.items in
+    let hs = c.args.handles.now in
+    let ls = c.args.locals.now in
+    let rs = c.args.ready.now in
+    let one = c.gray_roots.new.self in
+    let two = c.gray_roots-2.new.self in
+    let three = c.gray_targets.new.self in
+    let either : ℕ → Type 0 = (λ b. IsMemberBelow ls (length ls) b ⊎ IsMemberBelow rs (length rs) b) in
+    let of_locals : HasMet ss one.shades (IsMemberBelow ls (length ls)) =
+    subst (λ (v : BackgroundView). HasMet ss v.shades (IsMemberBelow ls (length ls))) (sym c.gray_roots.ensures)
+    (roots_met rows h heap held bare ls c.requires.locals (length ls) (omega arith) (taken c) (taken_first c)) in
+    let of_ready : HasMet one.shades two.shades (IsMemberBelow rs (length rs)) =
+    subst (λ (v : BackgroundView). HasMet one.shades v.shades (IsMemberBelow rs (length rs)))
+    (sym c.gray_roots-2.ensures)
+    (roots_met rows h heap held bare rs c.requires.ready (length rs) (omega arith) one (locals_first c)) in
+    let of_handles : HasMet two.shades three.shades (IsTargetBelow hs 65536) =
+    subst (λ (v : BackgroundView). HasMet two.shades v.shades (IsTargetBelow hs 65536)) (sym c.gray_targets.ensures)
+    (targets_met rows h heap held bare hs c.requires.handles 65536 two (ready_first c)) in
+    met_after ss two.shades three.shades either (IsTargetBelow hs 65536) (IsNamed hs ls rs)
+    (met_after ss one.shades two.shades (IsMemberBelow ls (length ls)) (IsMemberBelow rs (length rs)) either of_locals
+    of_ready (λ b n. n) (λ b n. inl n) (λ b n. inr n))
+    of_handles (λ b n. n) (λ b n. inl n) (λ b n. inr n)
+
+pub returns-clause-begun : goal.returns-clause-begun
+returns-clause-begun c m objects layout handles locals ready =
+    let rows = c.args.types.now in
+    let h = c.args.heap.now in
+    let heap = c.requires.closed.heap in
+    let held = c.requires.closed.held in
+    let items = heap_items rows h in
+    let bare = c.in_ok-shades.shades.items in
+    let shapes = c.in_ok-shades.ensures.shades in
+    let hs = c.args.handles.now in
+    let ls = c.args.locals.now in
+    let rs = c.args.ready.now in
+    first_begun rows h heap held bare shapes c.take_oldest.new.shades.items c.gray_targets.new.self.shades
+    (taken_first c) (unmarked c)
+    (λ i k old.
+    subst (λ (now : List ShadeView). is_taken now i.place ≡ true) (sym c.take_oldest.ensures)
+    (taking_found h items bare bare items (bare_first c) (λ j l. l) (items_covered rows h heap held bare shapes) i k
+    old))
+    (IsNamed hs ls rs) (named_met c) m objects layout (named_root m hs ls rs handles locals ready)
+    (root_named m hs ls rs handles locals ready c.lawful.ensures)
+
+pub returns-clause-log : goal.returns-clause-log
+returns-clause-log c = (begun c).logged
+
+pub returns-clause-objects : goal.returns-clause-objects
+returns-clause-objects c =
+    first_objects c.args.types.now c.args.heap.now c.requires.closed.heap c.requires.closed.held
+    c.in_ok-shades.shades.items
+    c.gray_targets.new.self.shades (begun c)
+
+pub returns-clause-whole : goal.returns-clause-whole
+returns-clause-whole c =
+    first_whole c.args.types.now c.args.heap.now c.requires.closed.heap c.requires.closed.held
+    c.in_ok-shades.shades.items
+    c.gray_targets.new.self.shades (begun c) c.requires.closed c.in_ok-shades.ensures.shades
+
+pub returns-clause-counted : goal.returns-clause-counted
+returns-clause-counted c =
+    let rows = c.args.types.now in
+    let h = c.args.heap.now in
+    let heap = c.requires.closed.heap in
+    let held = c.requires.closed.held in
+    let bare = c.in_ok-shades.shades.items in
+    let ls = c.args.locals.now in
+    let rs = c.args.ready.now in
+    let one = c.gray_roots.new.self in
+    let two = c.gray_roots-2.new.self in
+    let counted : BackgroundView → Type 0 = IsCounted (objects_in rows h) in
+    let none : counted (taken c) =
+    none_counted rows h heap held bare c.take_oldest.new.shades.items (unmarked c) in
+    let of_locals : counted one =
+    subst counted (sym c.gray_roots.ensures)
+    (roots_counted rows h heap held bare ls c.requires.locals (length ls) (omega arith) (taken c) (taken_first c) none)
+    in
+    let of_ready : counted two =
+    subst counted (sym c.gray_roots-2.ensures)
+    (roots_counted rows h heap held bare rs c.requires.ready (length rs) (omega arith) one (locals_first c) of_locals)
+    in
+    subst counted (sym c.gray_targets.ensures)
+    (targets_counted rows h heap held bare c.args.handles.now c.requires.handles 65536 two (ready_first c) of_ready)

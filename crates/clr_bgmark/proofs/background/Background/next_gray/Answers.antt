@@ -1,0 +1,8 @@
+use Rattle.std.proofs.Common.{subst}
+use Rattle.std.specs.List.{AllByRecursion}
+use Rattle.clr_bgmark.specs.Shades.{BackgroundView, IsShade}
+use Rattle.clr_bgmark.proofs.background.Background.next_gray.Goals as goal
+
+pub returns-clause-shades : goal.returns-clause-shades
+returns-clause-shades c = subst (λ (v : BackgroundView). AllByRecursion IsShade v.shades) c.self.view_is
+    c.self.invariant.shades

@@ -1,0 +1,18 @@
+use Rattle.std.proofs.Common.{◌≡◌, ◌-◌, ◌≤◌}
+use Rattle.clr_view.specs.View.{objects_in}
+use Rattle.clr_bgmark.specs.Scanning.{AreObjects, HasLogged, HasScanned, HaveWholeObjects, IsCounted}
+use Rattle.clr_bgmark.proofs.background.Background.step.Given as goal
+
+abbrev pub invariant-loop-scanned : goal.invariant-loop-scanned
+invariant-loop-scanned l = record {
+  low : l.scanned ≤ l.n;
+  running : l.self.running ≡ l.initial.self.running;
+  objects : AreObjects l.types l.heap l.self.shades;
+  counted : IsCounted (objects_in l.types l.heap) l.self;
+  whole : HaveWholeObjects l.types l.heap l.self.shades;
+  log : HasLogged l.types (objects_in l.types l.heap) l.initial.self.shades l.self.shades;
+  scans : HasScanned (objects_in l.types l.heap) l.scanned l.initial.self.shades l.scanned l.self.shades;
+}
+
+abbrev pub decreases-loop-scanned : goal.decreases-loop-scanned
+decreases-loop-scanned l = l.n - l.scanned

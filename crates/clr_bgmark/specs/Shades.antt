@@ -1,0 +1,205 @@
+-- The colours of objects and the logged cards, as bits beside the segments that there were at the first pause.
+use Rattle.std.specs.Prelude.{◌≡◌, ℕ, ◌+◌, ◌-◌, ◌*◌, ◌/◌, ◌%◌, ◌^◌, ◌<◌, ◌≤◌, Bool, true, false, ◌&&◌, not, nat_le}
+use Rattle.std.specs.Prelude.{nat_lt, refl}
+use Rattle.std.specs.Prelude.{if◌then◌else◌, List, [], ◌∷◌, length, zero, suc, min, ◌==◌}
+use Rattle.std.specs.List.{AllByRecursion}
+use Rattle.std.specs.Coded.{Coded, code_by, coded×, coded_ℕ, coded_list}
+use Rattle.clr_bgmark.specs.Bits.{has_bit, with_bit}
+use Rattle.clr_bgmark.specs.declared.shade.Bit.{Bit}
+use Rattle.clr_bgmark.specs.declared.shade.Bit.TheVariants.{Taken, Marked, Scanned, Logged}
+use Rattle.clr_bgmark.specs.declared.background.Colour.{Colour}
+use Rattle.clr_bgmark.specs.declared.background.Colour.TheVariants.{Outside, White, Gray, Black}
+
+-- The bits of a segment: for each eight bytes whether an object stands there that was taken, was marked, was scanned,
+-- and for each card whether it is logged.
+pub record ShadeView : Type 0 where
+  pub base : ℕ
+  pub size : ℕ
+  pub taken : List ℕ
+  pub marked : List ℕ
+  pub scanned : List ℕ
+  pub logged : List ℕ
+
+abbrev pub ShadeParts : Type 0
+ShadeParts = ℕ × (ℕ × (List ℕ × (List ℕ × (List ℕ × List ℕ))))
+
+abbrev pub shade_code : Coded ShadeView
+shade_code =
+    code_by ShadeParts
+    (coded× coded_ℕ (coded× coded_ℕ (coded× (coded_list coded_ℕ) (coded× (coded_list coded_ℕ)
+    (coded× (coded_list coded_ℕ) (coded_list coded_ℕ))))))
+    (λ s. (s.base, (s.size, (s.taken, (s.marked, (s.scanned, s.logged))))))
+    (λ p. record {
+      base = p.0;
+      size = p.1.0;
+      taken = p.1.1.0;
+      marked = p.1.1.1.0;
+      scanned = p.1.1.1.1.0;
+      logged = p.1.1.1.1.1;
+    }) (λ _. refl)
+
+-- whether the address lies in the segment
+abbrev pub covers : ShadeView → ℕ → Bool
+covers s a = nat_le s.base a && nat_lt a (s.base + s.size)
+
+-- the number of an address's eight bytes in its segment, and that of its card
+abbrev pub cell_of : ShadeView → ℕ → ℕ
+cell_of s a = (a - s.base) / 8
+
+abbrev pub card_of : ShadeView → ℕ → ℕ
+card_of s a = (a - s.base) / 2048
+
+-- there are bits for all of a segment, which begins and ends with a page
+pub record IsShade (s : ShadeView) : Type 0 where
+  pub base : s.base % 4096 ≡ 0
+  pub size : s.size % 4096 ≡ 0
+  pub fits : s.base + s.size < 2 ^ 63
+  pub taken : s.size ≤ 512 * length s.taken
+  pub marked : s.size ≤ 512 * length s.marked
+  pub scanned : s.size ≤ 512 * length s.scanned
+  pub logged : s.size ≤ 131072 * length s.logged
+
+-- whether the place of this number is gray
+abbrev pub is_gray_cell : ShadeView → ℕ → Bool
+is_gray_cell s n = has_bit s.marked n && not (has_bit s.scanned n)
+
+-- no gray place of a segment has a number below this one
+abbrev pub HasNoGrayBelow : ShadeView → ℕ → Type 0
+HasNoGrayBelow s lowest = (n : ℕ) → n < lowest → is_gray_cell s n ≡ false
+
+-- bits of which gray ones are looked for from this number on
+pub record IsSearched (s : ShadeView) (lowest : ℕ) : Type 0 where
+  pub shade : IsShade s
+  pub none_below : HasNoGrayBelow s lowest
+
+-- ---- all segments
+
+-- whether some segment has the address
+abbrev pub is_covered : List ShadeView → ℕ → Bool
+is_covered [] a = false
+is_covered (s ∷ ss) a = if covers s a then true else is_covered ss a
+
+-- what a test says of an address in its segment, and no where none has it
+abbrev pub told : (ShadeView → ℕ → Bool) → List ShadeView → ℕ → Bool
+told test [] a = false
+told test (s ∷ ss) a = if covers s a then test s a else told test ss a
+
+abbrev pub is_taken : List ShadeView → ℕ → Bool
+is_taken = told (λ s a. has_bit s.taken (cell_of s a))
+
+abbrev pub is_marked : List ShadeView → ℕ → Bool
+is_marked = told (λ s a. has_bit s.marked (cell_of s a))
+
+abbrev pub is_scanned : List ShadeView → ℕ → Bool
+is_scanned = told (λ s a. has_bit s.scanned (cell_of s a))
+
+-- whether the card of the address is logged
+abbrev pub is_logged : List ShadeView → ℕ → Bool
+is_logged = told (λ s a. has_bit s.logged (card_of s a))
+
+-- the segments with what is told of the one that has the address changed
+abbrev pub changed_at : ℕ → (ShadeView → ShadeView) → List ShadeView → List ShadeView
+changed_at a change [] = []
+changed_at a change (s ∷ ss) = if covers s a then change s ∷ ss else s ∷ changed_at a change ss
+
+abbrev pub with_taken : ℕ → ShadeView → ShadeView
+with_taken a s = record s { taken = with_bit s.taken (cell_of s a) }
+
+abbrev pub with_marked : ℕ → ShadeView → ShadeView
+with_marked a s = record s { marked = with_bit s.marked (cell_of s a) }
+
+abbrev pub with_scanned : ℕ → ShadeView → ShadeView
+with_scanned a s = record s { scanned = with_bit s.scanned (cell_of s a) }
+
+abbrev pub with_logged : ℕ → ShadeView → ShadeView
+with_logged a s = record s { logged = with_bit s.logged (card_of s a) }
+
+-- with one of them
+abbrev pub with_set : Bit → ℕ → ShadeView → ShadeView
+with_set Taken = with_taken
+with_set Marked = with_marked
+with_set Scanned = with_scanned
+with_set Logged = with_logged
+
+-- ---- colours
+
+abbrev pub colour_by : Bool → Bool → Bool → Colour
+colour_by scanned marked taken =
+    if scanned then Black else (if marked then Gray else (if taken then White else Outside))
+
+abbrev pub colour_at : List ShadeView → ℕ → Colour
+colour_at ss a = colour_by (is_scanned ss a) (is_marked ss a) (is_taken ss a)
+
+-- a gray place: marked, and not scanned
+abbrev pub is_gray : List ShadeView → ℕ → Bool
+is_gray ss a = is_marked ss a && not (is_scanned ss a)
+
+-- no address lies in two of the segments
+abbrev pub AreApart : List ShadeView → Type 0
+AreApart [] = Unit {0}
+AreApart (s ∷ ss) = ((a : ℕ) → covers s a ≡ true → is_covered ss a ≡ false) × AreApart ss
+
+-- a background collection as its callers see it: whether it runs, the bits, and how many objects are gray
+pub record BackgroundView : Type 0 where
+  pub running : Bool
+  pub shades : List ShadeView
+  pub gray : ℕ
+
+-- what holds of every one
+pub record IsBackground (ss : List ShadeView) : Type 0 where
+  pub shades : AllByRecursion IsShade ss
+  pub apart : AreApart ss
+
+-- none of the first k segments has the address
+abbrev pub IsPast : List ShadeView → ℕ → ℕ → Type 0
+IsPast ss zero a = Unit {0}
+IsPast [] (suc k) a = Unit {0}
+IsPast (s ∷ ss) (suc k) a = (covers s a ≡ false) × IsPast ss k a
+
+-- segment k is the first that has the address
+abbrev pub IsAt : List ShadeView → ℕ → ℕ → Type 0
+IsAt [] k a = ⊥
+IsAt (s ∷ ss) zero a = covers s a ≡ true
+IsAt (s ∷ ss) (suc k) a = (covers s a ≡ false) × IsAt ss k a
+
+-- ---- following a reference
+
+abbrev pub is_white : Colour → Bool
+is_white Outside = false
+is_white White = true
+is_white Gray = false
+is_white Black = false
+
+abbrev pub is_outside : Colour → Bool
+is_outside Outside = true
+is_outside White = false
+is_outside Gray = false
+is_outside Black = false
+
+-- one more, or the most that there is
+abbrev pub one_more : ℕ → ℕ
+one_more n = min (n + 1) 18446744073709551615
+
+-- an object becomes gray
+abbrev pub grayed : BackgroundView → ℕ → BackgroundView
+grayed v y = record v { shades = changed_at y (with_marked y) v.shades; gray = one_more v.gray }
+
+-- a slot is logged
+abbrev pub slot_logged : BackgroundView → ℕ → BackgroundView
+slot_logged v a = record v { shades = changed_at a (with_logged a) v.shades }
+
+-- The slot at an address names y: where that is white it becomes gray, and where it wasn't taken the slot is logged.
+abbrev pub met : BackgroundView → ℕ → ℕ → BackgroundView
+met v y a =
+    if y == 0 then v else
+    (if is_white (colour_at v.shades y) then grayed v y else
+    (if is_outside (colour_at v.shades y) then slot_logged v a else v))
+
+-- the same for the slots at these offsets of an object, one after the other
+abbrev pub met_all : (ℕ → ℕ) → BackgroundView → ℕ → List ℕ → BackgroundView
+met_all word v obj [] = v
+met_all word v obj (offset ∷ offsets) = met_all word (met v (word (obj + offset)) (obj + offset)) obj offsets
+
+-- a gray object becomes black
+abbrev pub blackened : BackgroundView → ℕ → BackgroundView
+blackened v obj = record v { shades = changed_at obj (with_scanned obj) v.shades; gray = v.gray - 1 }

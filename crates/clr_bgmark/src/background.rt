@@ -1,0 +1,363 @@
+// The colours and the log of a background collection.
+ghost use Rattle.std.specs.Prelude.{◌≡◌, ℕ, ◌^◌, ◌/◌, ◌%◌, ◌<◌, ◌&&◌, ◌||◌, nat_eq, true, false, [], length, None};
+ghost use Rattle.std.specs.Prelude.{IfSome, IfNone, OnOk, OnErr, ◌↔◌, ◌⊎◌};
+ghost use Rattle.clr_view.specs.SlotValues.{StandsAt};
+ghost use Rattle.clr_view.specs.View.{IsHeld, objects_in};
+ghost use Rattle.std.specs.List.{AllByRecursion};
+ghost use Rattle.clr_model.specs.Reach.{Reach};
+ghost use Rattle.clr_view.specs.Marks.{Marked};
+ghost use Rattle.clr_view.specs.World.{HandlesStand};
+ghost use Rattle.clr_mark.specs.Marks.{IsClosed, IsRemarked};
+ghost use Rattle.clr_mark.specs.Ties.{IsStart, Joins};
+ghost use Rattle.clr_mark.specs.Waiting.{IsGray};
+ghost use Rattle.clr_bgmark.specs.Pauses.{roots_grayed, HasBegun, IsFound, root_grayed, target_grayed, targets_grayed};
+ghost use Rattle.clr_bgmark.specs.Scanning.{AreObjects, followed, HasScanned, HasScannedOne, HaveWholeObjects};
+ghost use Rattle.clr_bgmark.specs.Scanning.{IsCounted, HasLogged, marking_in};
+ghost use Rattle.clr_bgmark.specs.Shades.{blackened, changed_at, IsShade, colour_at, grayed, is_covered, is_gray};
+ghost use Rattle.clr_bgmark.specs.Shades.{is_logged, met, with_logged};
+ghost use Rattle.clr_mark.specs.Roots as roots;
+
+use crate::NoMemory;
+use crate::first_pause::{shades_of, take_oldest};
+use crate::last_pause::mark_found;
+use crate::shade::{Bit, Shade};
+use crate::shades::{colour_in, find, first_gray, logged_in, set_bit_at};
+use clr_handles::Handles;
+use clr_heap::Heap;
+use clr_mark::Marker;
+use clr_types::{Handle, Types};
+use std::alloc::Global;
+use std::marker::Model;
+
+/// What a background collection knows of a place.
+#[derive(Clone, Copy, Debug, PartialEq, Eq)]
+pub enum Colour {
+    /// No object that was taken at the first pause stands there.
+    Outside,
+    /// An object that wasn't found yet.
+    White,
+    /// An object that was found, and whose slots are still to be looked at.
+    Gray,
+    /// An object that was found, and whose slots were looked at.
+    Black,
+}
+
+/// What a step of the marker did.
+#[derive(Clone, Copy, Debug, PartialEq, Eq)]
+pub struct Progress {
+    /// How many objects it scanned.
+    pub scanned: u64,
+    /// How many are gray now.
+    pub gray: u64,
+}
+
+/// A background collection: the colours of the objects that it took at its first pause, and the log of the cards on
+/// which a slot of a black object may name what isn't marked.
+#[derive(Drop)]
+pub struct Background {
+    alloc: Global,
+    running: bool,
+    shades: Vec<Shade>,
+    gray: u64,
+}
+
+impl Model for Background {
+    ghost use Rattle.clr_bgmark.specs.Shades.{BackgroundView, IsBackground};
+
+    ghost Value = { BackgroundView };
+
+    ghost view = { λ b. record { running = b.running; shades = b.shades.items; gray = b.gray } };
+
+    ghost invariant = { λ b. IsBackground b.shades.items };
+}
+
+impl Background {
+    /// None runs. Takes no memory.
+    pub fn new(alloc: Global) -> Background
+        ensures { result ≡ record { running = false; shades = []; gray = 0 } }
+    {
+        Background {
+            alloc,
+            running: false,
+            shades: Vec::new(alloc),
+            gray: 0,
+        }
+    }
+
+    /// Whether one runs.
+    #[inline]
+    pub fn running(&self) -> bool
+        ensures { result ≡ self.now.running }
+    {
+        self.running
+    }
+
+    /// The colour of a place.
+    pub fn colour(&self, obj: u64) -> Colour
+        ensures { result ≡ colour_at self.now.shades obj }
+    {
+        match find(&self.shades, obj) {
+            Some(k) => colour_in(&self.shades, k, obj),
+            None => Colour::Outside,
+        }
+    }
+
+    /// Whether the card of a slot is logged.
+    pub fn logged(&self, slot: u64) -> bool
+        ensures { result ≡ is_logged self.now.shades slot }
+    {
+        match find(&self.shades, slot) {
+            Some(k) => logged_in(&self.shades, k, slot),
+            None => false,
+        }
+    }
+
+    /// A reference was stored into the slot: where its segment was there at the first pause of a collection that runs,
+    /// its card is logged. Else nothing changes.
+    #[inline]
+    pub fn wrote(&mut self, slot: u64)
+        ensures value { self.new ≡ record self.old { shades = changed_at slot (with_logged slot) self.old.shades } }
+        ensures log { (a : ℕ) → is_logged self.new.shades a
+            ≡ ((is_covered self.old.shades slot && nat_eq (a / 2048) (slot / 2048)) || is_logged self.old.shades a) }
+        ensures colours { (a : ℕ) → colour_at self.new.shades a ≡ colour_at self.old.shades a }
+    {
+        set_bit_at(&mut self.shades, Bit::Logged, slot);
+    }
+
+    /// The first pause: takes all objects of generation 2. Those that locals, the f-reachable queue or strong and
+    /// pinned handles name are gray, and the others white. Nothing is logged.
+    ///
+    /// This is the only call that takes memory: bits for all segments. `NoMemory` comes where there is none for them;
+    /// nothing has changed then.
+    pub fn begin(
+        &mut self,
+        heap: &Heap,
+        types: &Types,
+        handles: &Handles,
+        locals: &[u64],
+        ready: &[u64],
+    ) -> Result<(), NoMemory>
+        requires idle { self.old.running ≡ false }
+        requires closed { IsClosed types.now heap.now }
+        requires handles { HandlesStand types.now heap.now handles.now }
+        requires locals { roots.AreObjects types.now heap.now locals.now }
+        requires ready { roots.AreObjects types.now heap.now ready.now }
+        ensures running { OnOk result (self.new.running ≡ true) }
+        ensures begun { OnOk result (HasBegun types.now heap.now handles.now locals.now ready.now self.new.shades) }
+        ensures log { OnOk result ((a : ℕ) → is_logged self.new.shades a ≡ false) }
+        ensures objects { OnOk result (AreObjects types.now heap.now self.new.shades) }
+        ensures whole { OnOk result (HaveWholeObjects types.now heap.now self.new.shades) }
+        ensures counted { OnOk result (IsCounted (objects_in types.now heap.now) self.new) }
+        ensures err { OnErr result (self.new ≡ self.old) }
+    {
+        handles.lawful();
+        let mut shades = shades_of(self.alloc, heap)?;
+        take_oldest(&mut shades, heap, types);
+        self.shades = shades;
+        self.running = true;
+        self.gray = 0;
+        self.gray_roots(locals);
+        self.gray_roots(ready);
+        self.gray_targets(handles);
+        Ok(())
+    }
+
+    // White roots become gray.
+    fn gray_roots(&mut self, roots: &[u64])
+        ensures { self.new ≡ roots_grayed roots.now (length roots.now) self.old }
+    {
+        for &root in roots {
+            self.gray_root(root);
+        }
+    }
+
+    // White targets of strong and pinned handles become gray.
+    fn gray_targets(&mut self, handles: &Handles)
+        ensures { self.new ≡ targets_grayed handles.now 65536 self.old }
+    {
+        for h in 0..65536 {
+            self.gray_target(handles.get(h));
+        }
+    }
+
+    // The target of a handle becomes gray, where the handle is strong or pinned and the target white.
+    fn gray_target(&mut self, handle: Option<Handle>)
+        ensures { self.new ≡ target_grayed handle self.old }
+    {
+        if let Some(handle) = handle {
+            if handle.kind.is_root() {
+                self.gray_root(handle.target);
+            }
+        }
+    }
+
+    // A root becomes gray, where it is white.
+    fn gray_root(&mut self, root: u64)
+        ensures { self.new ≡ root_grayed self.old root }
+    {
+        if self.colour(root) == Colour::White {
+            self.gray_white(root);
+        }
+    }
+
+    /// The last pause: marks in the heap what the roots and what is gray or black reach, by slots and by dependent
+    /// handles, where nothing is marked before. None runs then.
+    pub fn finish(
+        &mut self,
+        heap: &mut Heap,
+        types: &Types,
+        marker: &mut Marker,
+        handles: &Handles,
+        locals: &[u64],
+        ready: &[u64],
+    )
+        requires closed { IsClosed types.now heap.old }
+        requires clear { (x : ℕ) → Marked types.now heap.old x → ⊥ }
+        requires objects { AreObjects types.now heap.old self.old.shades }
+        requires handles { HandlesStand types.now heap.old handles.now }
+        requires locals { roots.AreObjects types.now heap.old locals.now }
+        requires ready { roots.AreObjects types.now heap.old ready.now }
+        ensures background { self.new ≡ record { running = false; shades = []; gray = 0 } }
+        ensures marker { marker.new ≡ record marker.old { stack = []; range = None; oldest = 2 } }
+        ensures gray { IsGray types.now heap.new marker.new }
+        ensures words { IsRemarked types.now heap.old heap.new }
+        ensures marked { (x : ℕ) → Marked types.now heap.new x ↔ Reach (Joins types.now heap.old handles.now)
+            (λ y. IsStart handles.now locals.now ready.now y ⊎ IsFound self.old.shades y) x }
+    {
+        marker.begin(2);
+        mark_found(&self.shades, heap, types, marker);
+        marker.roots(heap, types, locals);
+        marker.handle_roots(heap, types, handles);
+        marker.mark_more(heap, types, handles, ready);
+        self.stop();
+    }
+
+    /// Scans gray objects, one after another: so many at most, and all of them unless so many were.
+    ///
+    /// The objects that were taken stand where they stood.
+    pub fn step(&mut self, heap: &Heap, types: &Types, n: u64) -> Progress
+        requires closed { IsClosed types.now heap.now }
+        requires objects { AreObjects types.now heap.now self.old.shades }
+        requires whole { HaveWholeObjects types.now heap.now self.old.shades }
+        requires counted { IsCounted (objects_in types.now heap.now) self.old }
+        ensures running { self.new.running ≡ self.old.running }
+        ensures objects { AreObjects types.now heap.now self.new.shades }
+        ensures whole { HaveWholeObjects types.now heap.now self.new.shades }
+        ensures counted { IsCounted (objects_in types.now heap.now) self.new }
+        ensures log { HasLogged types.now (objects_in types.now heap.now) self.old.shades self.new.shades }
+        ensures scans { HasScanned (objects_in types.now heap.now) n self.old.shades result.scanned self.new.shades }
+        ensures gray { result.gray ≡ length (marking_in (objects_in types.now heap.now) self.new.shades).gray }
+    {
+        let mut scanned = 0;
+        while scanned < n {
+            if !self.scan_next(heap, types) {
+                return self.progress(scanned);
+            }
+            scanned += 1;
+        }
+        self.progress(scanned)
+    }
+
+    // What a step answers.
+    fn progress(&self, scanned: u64) -> Progress
+        ensures { result ≡ record { scanned = scanned; gray = self.now.gray } }
+    {
+        Progress {
+            scanned,
+            gray: self.gray,
+        }
+    }
+
+    // Scans a gray object. It answers no where none is gray.
+    fn scan_next(&mut self, heap: &Heap, types: &Types) -> bool
+        requires closed { IsClosed types.now heap.now }
+        requires objects { AreObjects types.now heap.now self.old.shades }
+        requires whole { HaveWholeObjects types.now heap.now self.old.shades }
+        requires counted { IsCounted (objects_in types.now heap.now) self.old }
+        ensures running { self.new.running ≡ self.old.running }
+        ensures objects { AreObjects types.now heap.now self.new.shades }
+        ensures whole { HaveWholeObjects types.now heap.now self.new.shades }
+        ensures counted { IsCounted (objects_in types.now heap.now) self.new }
+        ensures log { HasLogged types.now (objects_in types.now heap.now) self.old.shades self.new.shades }
+        ensures scans { result ≡ true
+            → HasScannedOne (objects_in types.now heap.now) self.old.shades self.new.shades }
+        ensures none { result ≡ false → self.new ≡ self.old }
+        ensures empty { result ≡ false
+            → (marking_in (objects_in types.now heap.now) self.old.shades).gray ≡ [] }
+    {
+        match self.next_gray() {
+            Some(obj) => {
+                self.scan(heap, types, obj);
+                true
+            }
+            None => false,
+        }
+    }
+
+    // A gray place.
+    fn next_gray(&mut self) -> Option<u64>
+        ensures same { self.new ≡ self.old }
+        ensures shades { AllByRecursion IsShade self.old.shades }
+        ensures gray { IfSome result (λ a. is_gray self.old.shades a ≡ true) }
+        ensures aligned { IfSome result (λ a. a % 8 ≡ 0) }
+        ensures none { IfNone result ((a : ℕ) → is_gray self.old.shades a ≡ false) }
+    {
+        first_gray(&mut self.shades)
+    }
+
+    // Follows what the slots of an object name, and makes it black.
+    fn scan(&mut self, heap: &Heap, types: &Types, obj: u64)
+        requires held { IsHeld types.now heap.now }
+        requires stands { StandsAt types.now heap.now obj }
+        ensures { self.new ≡ followed types.now heap.now self.old obj }
+    {
+        heap.lawful();
+        let item = heap.item(types, obj);
+        let k = heap.segment_of(obj);
+        for offset in types.slots(item.type_id, item.len) {
+            let slot = obj + offset;
+            self.meet(heap.word_at(k, slot), slot);
+        }
+        self.blacken(obj);
+    }
+
+    // The slot at an address names `target`: where that is white it becomes gray, and where it wasn't taken the slot's
+    // card is logged.
+    fn meet(&mut self, target: u64, slot: u64)
+        ensures { self.new ≡ met self.old target slot }
+    {
+        if target == 0 {
+            return;
+        }
+        match self.colour(target) {
+            Colour::White => self.gray_white(target),
+            Colour::Outside => self.wrote(slot),
+            Colour::Gray | Colour::Black => {}
+        }
+    }
+
+    // A white object becomes gray.
+    fn gray_white(&mut self, obj: u64)
+        ensures { self.new ≡ grayed self.old obj }
+    {
+        set_bit_at(&mut self.shades, Bit::Marked, obj);
+        self.gray = self.gray.saturating_add(1);
+    }
+
+    // A gray object becomes black.
+    fn blacken(&mut self, obj: u64)
+        ensures { self.new ≡ blackened self.old obj }
+    {
+        set_bit_at(&mut self.shades, Bit::Scanned, obj);
+        self.gray = self.gray.saturating_sub(1);
+    }
+
+    /// None runs any more.
+    pub fn stop(&mut self)
+        ensures { self.new ≡ record { running = false; shades = []; gray = 0 } }
+    {
+        self.shades.clear();
+        self.running = false;
+        self.gray = 0;
+    }
+}

@@ -1,0 +1,13 @@
+//! Background marking: the colours of the objects that a background collection took, and the log of what black ones
+//! may name besides.
+#![tactic(auto)]
+
+mod background;
+mod bits;
+mod first_pause;
+mod last_pause;
+mod shade;
+mod shades;
+
+pub use crate::background::{Background, Colour, Progress};
+pub use clr_mem::NoMemory;

@@ -1,0 +1,192 @@
+// The bits of one segment.
+ghost use Rattle.std.specs.Prelude.{◌≡◌, ℕ, ◌+◌, ◌/◌, ◌%◌, ◌<◌, ◌≤◌, ◌^◌, ◌&&◌, not, true, false, IfOk, IfSome};
+ghost use Rattle.std.specs.Prelude.{IfNone};
+ghost use Rattle.clr_bgmark.specs.Bits.{has_bit};
+ghost use Rattle.clr_bgmark.specs.Shades.{card_of, cell_of, covers, is_gray_cell, with_set};
+
+use crate::bits::Bits;
+use std::alloc::{AllocError, Global};
+use std::marker::Model;
+
+/// What a bit says: of a place that its object was taken, is marked or was scanned, or of a card that it is logged.
+#[derive(Clone, Copy, Debug, PartialEq, Eq)]
+pub(crate) enum Bit {
+    Taken,
+    Marked,
+    Scanned,
+    Logged,
+}
+
+/// The bits of one segment: of each eight bytes whether an object stands there that was taken, that is marked, that was
+/// scanned, and of each card whether it is logged.
+#[derive(Drop)]
+pub(crate) struct Shade {
+    base: u64,
+    size: u64,
+    taken: Bits,
+    marked: Bits,
+    scanned: Bits,
+    logged: Bits,
+    // No gray place has a lower number.
+    lowest: u64,
+}
+
+impl Model for Shade {
+    ghost use Rattle.clr_bgmark.specs.Shades.{IsSearched, shade_code, ShadeView};
+
+    ghost Value = { ShadeView };
+
+    ghost coded = { shade_code };
+
+    ghost view = { λ s. record {
+      base = s.base;
+      size = s.size;
+      taken = s.taken;
+      marked = s.marked;
+      scanned = s.scanned;
+      logged = s.logged;
+    } };
+
+    ghost invariant = { λ s. IsSearched (record {
+      base = s.base;
+      size = s.size;
+      taken = s.taken;
+      marked = s.marked;
+      scanned = s.scanned;
+      logged = s.logged;
+    }) s.lowest };
+}
+
+impl Shade {
+    ghost use Rattle.clr_bgmark.specs.Shades.{IsShade};
+
+    /// The bits of a segment, of which none is set.
+    pub(crate) fn new(alloc: Global, base: u64, size: u64) -> Result<Shade, AllocError>
+        requires base { base % 4096 ≡ 0 }
+        requires size { size % 4096 ≡ 0 }
+        requires fits { base + size < 2 ^ 63 }
+        ensures lawful { IfOk result IsShade }
+        ensures base { IfOk result (λ s. s.base ≡ base) }
+        ensures size { IfOk result (λ s. s.size ≡ size) }
+        ensures taken { IfOk result (λ s. (n : ℕ) → has_bit s.taken n ≡ false) }
+        ensures marked { IfOk result (λ s. (n : ℕ) → has_bit s.marked n ≡ false) }
+        ensures scanned { IfOk result (λ s. (n : ℕ) → has_bit s.scanned n ≡ false) }
+        ensures logged { IfOk result (λ s. (n : ℕ) → has_bit s.logged n ≡ false) }
+    {
+        let taken = Bits::new(alloc, size / 8)?;
+        let marked = Bits::new(alloc, size / 8)?;
+        let scanned = Bits::new(alloc, size / 8)?;
+        let logged = Bits::new(alloc, size / 2048)?;
+        Ok(Shade {
+            base,
+            size,
+            taken,
+            marked,
+            scanned,
+            logged,
+            lowest: 0,
+        })
+    }
+
+    /// Whether the address lies in the segment.
+    #[inline]
+    pub(crate) fn covers(&self, a: u64) -> bool
+        ensures { result ≡ covers self.now a }
+    {
+        self.base <= a && a < self.base + self.size
+    }
+
+    /// Whether the place was taken.
+    #[inline]
+    pub(crate) fn is_taken(&self, a: u64) -> bool
+        requires { covers self.now a ≡ true }
+        ensures { result ≡ has_bit self.now.taken (cell_of self.now a) }
+    {
+        self.taken.has((a - self.base) / 8)
+    }
+
+    /// Whether it is marked.
+    #[inline]
+    pub(crate) fn is_marked(&self, a: u64) -> bool
+        requires { covers self.now a ≡ true }
+        ensures { result ≡ has_bit self.now.marked (cell_of self.now a) }
+    {
+        self.marked.has((a - self.base) / 8)
+    }
+
+    /// Whether it was scanned.
+    #[inline]
+    pub(crate) fn is_scanned(&self, a: u64) -> bool
+        requires { covers self.now a ≡ true }
+        ensures { result ≡ has_bit self.now.scanned (cell_of self.now a) }
+    {
+        self.scanned.has((a - self.base) / 8)
+    }
+
+    /// Whether its card is logged.
+    #[inline]
+    pub(crate) fn is_logged(&self, a: u64) -> bool
+        requires { covers self.now a ≡ true }
+        ensures { result ≡ has_bit self.now.logged (card_of self.now a) }
+    {
+        self.logged.has((a - self.base) / 2048)
+    }
+
+    /// The first gray place, one that is marked and wasn't scanned. It is looked for from the last one on, or from a
+    /// lower one that was marked since.
+    pub(crate) fn first_gray(&mut self) -> Option<u64>
+        ensures same { self.new ≡ self.old }
+        ensures covered { IfSome result (λ a. covers self.old a ≡ true) }
+        ensures aligned { IfSome result (λ a. a % 8 ≡ 0) }
+        ensures gray { IfSome result (λ a. is_gray_cell self.old (cell_of self.old a) ≡ true) }
+        ensures none { IfNone result ((a : ℕ) → covers self.old a ≡ true
+            → is_gray_cell self.old (cell_of self.old a) ≡ false) }
+    {
+        match self
+            .marked
+            .first_beside(&self.scanned, self.lowest, self.size / 8)
+        {
+            Some(n) => {
+                self.lowest = n;
+                Some(self.base + 8 * n)
+            }
+            None => {
+                self.lowest = self.size / 8;
+                None
+            }
+        }
+    }
+
+    /// A place from `from` on that is marked, the first one.
+    pub(crate) fn first_marked(&self, from: u64) -> Option<u64>
+        ensures covered { IfSome result (λ a. covers self.now a ≡ true) }
+        ensures aligned { IfSome result (λ a. a % 8 ≡ 0) }
+        ensures low { IfSome result (λ a. from / 8 ≤ a / 8) }
+        ensures high { IfSome result (λ a. a < 2 ^ 63) }
+        ensures marked { IfSome result (λ a. has_bit self.now.marked (cell_of self.now a) ≡ true) }
+        ensures first { IfSome result (λ a. (b : ℕ) → covers self.now b ≡ true → from / 8 ≤ b / 8 → b / 8 < a / 8
+            → has_bit self.now.marked (cell_of self.now b) ≡ false) }
+        ensures none { IfNone result ((b : ℕ) → covers self.now b ≡ true → from / 8 ≤ b / 8
+            → has_bit self.now.marked (cell_of self.now b) ≡ false) }
+    {
+        let start = from.saturating_sub(self.base) / 8;
+        let n = self.marked.first(start, self.size / 8)?;
+        Some(self.base + 8 * n)
+    }
+
+    /// Sets a bit of an address.
+    pub(crate) fn set_bit(&mut self, bit: Bit, a: u64)
+        requires { covers self.old a ≡ true }
+        ensures { self.new ≡ with_set bit a self.old }
+    {
+        match bit {
+            Bit::Taken => self.taken.add((a - self.base) / 8),
+            Bit::Marked => {
+                self.marked.add((a - self.base) / 8);
+                self.lowest = self.lowest.min((a - self.base) / 8);
+            }
+            Bit::Scanned => self.scanned.add((a - self.base) / 8),
+            Bit::Logged => self.logged.add((a - self.base) / 2048),
+        }
+    }
+}

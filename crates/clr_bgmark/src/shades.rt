@@ -1,0 +1,96 @@
+// The bits of all segments that there were at the first pause.
+ghost use Rattle.std.specs.Prelude.{◌≡◌, ℕ, ◌%◌, ◌<◌, true, false, length, IfSome, IfNone};
+ghost use Rattle.clr_bgmark.specs.Shades.{AreApart, changed_at, colour_at, is_covered, is_gray, is_logged, IsAt};
+ghost use Rattle.clr_bgmark.specs.Shades.{with_set};
+ghost use Rattle.clr_bgmark.specs.Shades as shades;
+
+use crate::background::Colour;
+use crate::shade::{Bit, Shade};
+
+/// The number of the segment that has the address.
+pub(crate) fn find(shades: &Vec<Shade>, a: u64) -> Option<usize>
+    ensures within { IfSome result (λ k. k < length shades.now.items) }
+    ensures at { IfSome result (λ k. IsAt shades.now.items k a) }
+    ensures none { IfNone result (is_covered shades.now.items a ≡ false) }
+{
+    for k in 0..shades.len() {
+        if shades[k].covers(a) {
+            return Some(k);
+        }
+    }
+    None
+}
+
+/// The colour of a place in segment `k`.
+pub(crate) fn colour_in(shades: &Vec<Shade>, k: usize, a: u64) -> Colour
+    requires within { k < length shades.now.items }
+    requires at { IsAt shades.now.items k a }
+    ensures { result ≡ colour_at shades.now.items a }
+{
+    let shade = &shades[k];
+    let scanned = shade.is_scanned(a);
+    let marked = shade.is_marked(a);
+    let taken = shade.is_taken(a);
+    colour_by(scanned, marked, taken)
+}
+
+// The colour that three bits tell.
+#[inline]
+fn colour_by(scanned: bool, marked: bool, taken: bool) -> Colour
+    ensures { result ≡ shades.colour_by scanned marked taken }
+{
+    if scanned {
+        Colour::Black
+    } else if marked {
+        Colour::Gray
+    } else if taken {
+        Colour::White
+    } else {
+        Colour::Outside
+    }
+}
+
+/// Whether the card of a slot in segment `k` is logged.
+pub(crate) fn logged_in(shades: &Vec<Shade>, k: usize, a: u64) -> bool
+    requires within { k < length shades.now.items }
+    requires at { IsAt shades.now.items k a }
+    ensures { result ≡ is_logged shades.now.items a }
+{
+    shades[k].is_logged(a)
+}
+
+/// A gray place, the first one of its segment.
+pub(crate) fn first_gray(shades: &mut Vec<Shade>) -> Option<u64>
+    requires { AreApart shades.old.items }
+    ensures same { shades.new.items ≡ shades.old.items }
+    ensures gray { IfSome result (λ a. is_gray shades.old.items a ≡ true) }
+    ensures aligned { IfSome result (λ a. a % 8 ≡ 0) }
+    ensures none { IfNone result ((a : ℕ) → is_gray shades.old.items a ≡ false) }
+{
+    for k in 0..shades.len() {
+        let shade = &mut shades[k];
+        if let Some(a) = shade.first_gray() {
+            return Some(a);
+        }
+    }
+    None
+}
+
+/// Sets a bit of an address, where its segment is there.
+pub(crate) fn set_bit_at(shades: &mut Vec<Shade>, bit: Bit, a: u64)
+    ensures { shades.new.items ≡ changed_at a (with_set bit a) shades.old.items }
+{
+    if let Some(k) = find(shades, a) {
+        set_bit_in(shades, k, bit, a);
+    }
+}
+
+// Sets a bit of an address in segment `k`.
+fn set_bit_in(shades: &mut Vec<Shade>, k: usize, bit: Bit, a: u64)
+    requires within { k < length shades.old.items }
+    requires at { IsAt shades.old.items k a }
+    ensures { shades.new.items ≡ changed_at a (with_set bit a) shades.old.items }
+{
+    let shade = &mut shades[k];
+    shade.set_bit(bit, a);
+}

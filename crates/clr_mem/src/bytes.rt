@@ -14,6 +14,9 @@ use std::mem::replace;
 // The stored bytes grow up to a multiple of this, in bytes, so that they seldom do.
 const STEP: usize = 1 << 16;
 
+// The first of them up to a multiple of this, so that small stretches take little.
+const FIRST_STEP: usize = 1 << 12;
+
 // Sees to it that the byte at `at` is stored. The room of all `size` bytes is reserved.
 #[inline(always)]
 pub fn reach(bytes: &mut Vec<u8>, size: usize, at: usize)
@@ -26,7 +29,8 @@ pub fn reach(bytes: &mut Vec<u8>, size: usize, at: usize)
     ensures stored { at < length bytes.new.items }
 {
     if bytes.len() <= at {
-        let len = ((at / STEP + 1) * STEP).min(size);
+        let step = if at < STEP { FIRST_STEP } else { STEP };
+        let len = ((at / step + 1) * step).min(size);
         let stored = replace(bytes, Vec::new(*bytes.allocator()));
         *bytes = store_zeros(stored, len);
     }

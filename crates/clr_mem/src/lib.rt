@@ -5,8 +5,8 @@
 //! the memory, so none of them can fail; only [`Mem::new`] can, where no memory is left.
 //!
 //! Memory is taken as it is used. [`Mem::new`] reserves the room for all bytes and touches none of
-//! it. Bytes are stored from the first on, up to the last that was written, in steps of 64 KiB, and
-//! what was never written reads as 0.
+//! it. Bytes are stored from the first on, up to the last that was written, in steps of 4 KiB up to
+//! 64 KiB and of 64 KiB from there on, and what was never written reads as 0.
 #![tactic(auto)]
 
 ghost use Rattle.std.specs.Prelude.{◌≡◌, ℕ, ◌+◌, ◌*◌, ◌%◌, ◌<◌, ◌≤◌, ◌^◌, ◌↔◌, false, true, length, IfOk, IsTrue};

@@ -12,6 +12,7 @@ use Rattle.clr_heap.specs.Parts.{made_item}
 use Rattle.clr_sos.specs.CheckedCells.{checked_item, checked_size, contents_fault, first_byte, first_in_words}
 use Rattle.clr_sos.specs.CheckedCells.{is_header, is_inside, is_length, is_whole, may_hold, number_in, or_else}
 use Rattle.clr_sos.specs.CheckedCells.{padding_from, Rules, sized_item, type_of_word, typed_item, Words}
+use Rattle.clr_sos.proofs.SoundCells.{sized_ok, type_known}
 use Rattle.clr_load.proofs.MemoryWords.{next_word, no_word}
 
 -- a type, a length and the words that say so
@@ -27,42 +28,6 @@ pub record IsFound (rules : Rules) (words : Words) (p : ℕ) (i : Item) : Type 0
   pub whole : is_whole rules p t (size_of (form_at rules.rows t) len) ≡ true
   pub is : i ≡ made_item rules.rows p t len
   pub contents : contents_fault rules words p t len ≡ None
-
-record IsSized (rules : Rules) (words : Words) (p t len : ℕ) (i : Item) : Type 0 where
-  length : is_length rules.rows t len ≡ true
-  whole : is_whole rules p t (size_of (form_at rules.rows t) len) ≡ true
-  is : i ≡ made_item rules.rows p t len
-  contents : contents_fault rules words p t len ≡ None
-
-sized_ok : (rules : Rules) (words : Words) (p t len : ℕ) (i : Item)
-    → sized_item rules words p t len (checked_size rules p t len) ≡ Ok i → IsSized rules words p t len i
-sized_ok rules words p t len i e =
-    go (is_length rules.rows t len) (is_whole rules p t (size_of (form_at rules.rows t) len))
-    (contents_fault rules words p t len) refl refl refl
-  where
-    go : (a b : Bool) (f : Option ℕ) → is_length rules.rows t len ≡ a
-        → is_whole rules p t (size_of (form_at rules.rows t) len) ≡ b → contents_fault rules words p t len ≡ f
-        → IsSized rules words p t len i
-    go false b f on fits none =
-        let clash : Err (p + 8) ≡ Ok i = sym (rw on refl) ∙ e in absurd cc
-    go true false f on fits none = let clash : Err (p - 8) ≡ Ok i = sym (rw (on, fits) refl) ∙ e in absurd cc
-    go true true (Some a) on fits none = let clash : Err a ≡ Ok i = sym (rw (on, fits, none) refl) ∙ e in absurd cc
-    go true true None on fits none =
-        let same : Ok (made_item rules.rows p t len) ≡ Ok i = sym (rw (on, fits, none) refl) ∙ e in
-        let is : i ≡ made_item rules.rows p t len = cc in
-        record { length = on; whole = fits; is = is; contents = none }
-
--- a type's number is that of a row or of free space
-type_known : (rows : List TypeRow) (mt t : ℕ) → type_of_word rows mt ≡ Some t → (t ≤ length rows) × (mt ≡ mt_of t)
-type_known rows mt t e = elim (cases_Bool (nat_le (number_in mt) (length rows) && (mt_of (number_in mt) == mt))) [
-  | inl on ↦
-      let same : Some (number_in mt) ≡ Some t = sym (rw on refl) ∙ e in
-      let is : number_in mt ≡ t = cc in
-      let l : number_in mt ≤ length rows = grind (arith, on) in
-      let word : mt_of (number_in mt) ≡ mt = grind (arith, on) in
-      (omega arith, sym word ∙ ap mt_of is)
-  | inr off ↦ let clash : None ≡ Some t = sym (rw off refl) ∙ e in absurd cc
-]
 
 module _ (rules : Rules) (words : Words) (p : ℕ) (i : Item) where
   typed_ok : (header mt : ℕ) → words p ≡ Some mt → (o : Option ℕ) → type_of_word rules.rows mt ≡ o

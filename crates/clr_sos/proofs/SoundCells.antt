@@ -39,7 +39,7 @@ pub record IsSized (rules : Rules) (words : Words) (p t len : ℕ) (i : Item) : 
   pub is : i ≡ made_item rules.rows p t len
   pub contents : contents_fault rules words p t len ≡ None
 
-sized_ok : (rules : Rules) (words : Words) (p t len : ℕ) (i : Item)
+pub sized_ok : (rules : Rules) (words : Words) (p t len : ℕ) (i : Item)
     → sized_item rules words p t len (checked_size rules p t len) ≡ Ok i → IsSized rules words p t len i
 sized_ok rules words p t len i e =
     go (is_length rules.rows t len) (is_whole rules p t (size_of (form_at rules.rows t) len))
@@ -58,7 +58,7 @@ sized_ok rules words p t len i e =
         record { length = on; whole = fits; is = is; contents = none }
 
 -- a type's number is that of a row or of free space
-type_known : (rows : List TypeRow) (mt t : ℕ) → type_of_word rows mt ≡ Some t → (t ≤ length rows) × (mt ≡ mt_of t)
+pub type_known : (rows : List TypeRow) (mt t : ℕ) → type_of_word rows mt ≡ Some t → (t ≤ length rows) × (mt ≡ mt_of t)
 type_known rows mt t e = elim (cases_Bool (nat_le (number_in mt) (length rows) && (mt_of (number_in mt) == mt))) [
   | inl on ↦
       let same : Some (number_in mt) ≡ Some t = sym (rw on refl) ∙ e in

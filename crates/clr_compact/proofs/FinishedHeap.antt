@@ -18,10 +18,11 @@ use Rattle.clr_compact.specs.Compacted.{HasCompacted, part_items}
 use Rattle.clr_compact.specs.PartBricks.{CanEnterParts, CanEnterYoung, HasMovedBounds, IsYoungPart}
 use Rattle.clr_compact.specs.Rewrites.{cleared, Rewrites}
 use Rattle.clr_compact.specs.Slides.{HasSlid}
-use Rattle.clr_compact.proofs.CompactedBricks.{can-enter, can-enter-young, law-now}
+use Rattle.clr_compact.proofs.CompactedBricks.{can-enter, law-now}
 use Rattle.clr_compact.proofs.PartWalks.{heap-bounds, whole-part}
 use Rattle.clr_compact.proofs.SlidBricks.{is-young-part, mid-part, mid-same, mid-young}
 use Rattle.clr_compact.proofs.WholeCompacted.{has_compacted}
+use Rattle.clr_compact.proofs.YoungBricks.{can-enter-young}
 use Rattle.clr_moves.specs.declared.parts.Parts.TheVariants.{Generations}
 
 module _ (rows : List TypeRow) (old planned_heap : HeapView) (covers : BricksView) (entries : List PinEntry) (g : ℕ)
@@ -38,7 +39,8 @@ module _ (rows : List TypeRow) (old planned_heap : HeapView) (covers : BricksVie
   -- the young part is that of the heap whose words the plan has written over
   starts-old : (e : ℕ) → segment_at old e ≡ ephemeral (frame old) → from ≡ part_of old (Generations g) e
   starts-old =
-      let S : HeapView → Type 0 = λ h. (e : ℕ) → segment_at h e ≡ ephemeral (frame h) → from ≡ part_of h (Generations g) e in
+      let S : HeapView → Type 0 = λ h. (e : ℕ) → segment_at h e ≡ ephemeral (frame h)
+      → from ≡ part_of h (Generations g) e in
       subst S plan.overlaid.shape.others starts
 
   ends-old : (e : ℕ) → segment_at old e ≡ ephemeral (frame old) → end ≡ last_of old e
@@ -99,8 +101,8 @@ module _ (rows : List TypeRow) (old planned_heap : HeapView) (covers : BricksVie
 
     done : HasCompacted rows old (record clean { start1 = start1; start0 = start0 }) (Generations g) moves
     done =
-        has_compacted rows old g moves plan.machine plan.kept plan.after plan.compaction plan.overlaid.heap
-        plan.held plan.no_contexts least mid slid mid_heap clean clean_shape words
+        has_compacted rows old (Generations g) moves plan.machine plan.kept plan.after plan.compaction
+        plan.overlaid.heap plan.held plan.no_contexts least mid slid mid_heap clean clean_shape words
         clean_heap start1 start0 plan.start1_is plan.start0_is
 
     -- THE COMPACTION is done
@@ -128,8 +130,8 @@ module _ (rows : List TypeRow) (old planned_heap : HeapView) (covers : BricksVie
               let at : first_of mid t ≡ part_of old (Generations g) t = first ∙ sym (whole-part old t)
               ∙ ap (λ (n : ℕ). part_of old (Generations n) t) (sym all) in
               let seg = ap (λ (h : HeapView). first_of h t) clean_shape.others in
-              can-enter rows old g moves plan.machine plan.kept plan.after plan.compaction plan.overlaid.heap
-              plan.held plan.no_contexts least mid slid mid_heap clean clean_shape words
+              can-enter rows old (Generations g) moves plan.machine plan.kept plan.after plan.compaction
+              plan.overlaid.heap plan.held plan.no_contexts least mid slid mid_heap clean clean_shape words
               start1 start0 done plan.start1_is plan.start0_is done_heap t inside on_old (first_of mid t) at
               (omega arith));
           young = λ less e l eph.
@@ -155,13 +157,14 @@ module _ (rows : List TypeRow) (old planned_heap : HeapView) (covers : BricksVie
         → other b ≡ entry_at bricks b)
         → BrickLaw rows (frame fin) (objects_in rows fin) other
     finished_law bricks entry below own r other =
-        let P : HeapView → Type 0 = λ h. ((t : ℕ) → t < length mid.segments → takes (Generations g) (segment_at mid t) ≡ true
+        let P : HeapView → Type 0 = λ h. ((t : ℕ) → t < length mid.segments
+        → takes (Generations g) (segment_at mid t) ≡ true
         → AreEntered rows (frame h) (objects_in rows h) other (segment_at h t))
         → ((t b : ℕ) → t < length mid.segments → takes (Generations g) (segment_at mid t) ≡ false
         → IsBrickOf (segment_at mid t) b
         → other b ≡ entry_at bricks b)
         → BrickLaw rows (frame h) (objects_in rows h) other in
         subst P is-fin
-        (law-now rows old g moves plan.machine plan.kept plan.after plan.compaction plan.overlaid.heap
+        (law-now rows old (Generations g) moves plan.machine plan.kept plan.after plan.compaction plan.overlaid.heap
         plan.held plan.no_contexts least mid slid mid_heap clean clean_shape words start1
-        start0 done plan.start1_is plan.start0_is done_heap bricks entry below own r other)
+        start0 done plan.start1_is plan.start0_is done_heap bricks entry r.law r.others other)

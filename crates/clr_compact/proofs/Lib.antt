@@ -33,4 +33,6 @@ pub mod EnteringParts
 pub mod PartWalks
 pub mod SlidBricks
 pub mod CompactedBricks
+pub mod YoungBricks
 pub mod FinishedHeap
+pub mod SlidLarge

@@ -3,10 +3,9 @@ use Rattle.std.proofs.Common.{◌≡◌, ℕ, ◌+◌, ◌<◌, ◌≤◌, ◌�
 use Rattle.std.proofs.Common.{arith, Bool, true, false, not}
 use Rattle.clr_types.specs.Rising.{IsIn}
 use Rattle.clr_types.specs.Ranges.{Piece}
-use Rattle.clr_types.specs.Segments.{empty_segment, rest_pieces, stands_in}
+use Rattle.clr_types.specs.Segments.{Layout, rest_pieces}
 use Rattle.clr_types.specs.Types.{TypeRow}
 use Rattle.clr_types.specs.declared.item.Item.{Item}
-use Rattle.clr_types.specs.LawfulLayout.{DoesNotCross}
 use Rattle.clr_types.proofs.ChangedLists.{append_left, into_filter, IsIn-map, out_of_filter}
 use Rattle.clr_types.proofs.ListMembers.{append_right, from-map}
 use Rattle.clr_types.proofs.RisingLists.{all_at}
@@ -15,18 +14,20 @@ use Rattle.clr_types.proofs.SortedLists.{into_sorted_by}
 use Rattle.clr_heap.specs.Parts.{item_piece}
 use Rattle.clr_heap.specs.View.{first_of, heap_items, HeapView, IsHeap, last_of, listing, segment_at, word_of}
 use Rattle.clr_heap.proofs.Framing.{lawful_at}
+use Rattle.clr_model.specs.Compaction.{Move}
 use Rattle.clr_model.specs.Lawful.{IsLaid}
 use Rattle.clr_model.specs.Lookups.{object_piece, object_size, pieces}
 use Rattle.clr_model.specs.Machine.{Machine, Object}
-use Rattle.clr_model.specs.Sweep.{part_start}
 use Rattle.clr_model.proofs.LawfulPieces.{object-in-pieces}
-use Rattle.clr_model.proofs.SweptLawful.{start-cuts}
 use Rattle.clr_view.specs.View.{IsHeld, layout_in, object_in, objects_in}
 use Rattle.clr_view.specs.Items.{is_free, is_object}
 use Rattle.clr_view.proofs.Items.{IsItem}
 use Rattle.clr_view.proofs.Listed.{listed-in, listed-sized}
 use Rattle.clr_view.proofs.Listings.{listing-are}
-use Rattle.clr_sweep.proofs.SurvivorsSwept.{at-in, listed-from, seen}
+use Rattle.clr_sweep.proofs.SurvivorsSwept.{listed-from, seen}
+use Rattle.clr_moves.specs.Moves.{part_of, takes}
+use Rattle.clr_moves.specs.declared.parts.Parts.{Parts}
+use Rattle.clr_moves.proofs.FilledParts.{FillsParts}
 
 module _ (rows : List TypeRow) (old : HeapView) (base : Machine) (heap : IsHeap old) (held : IsHeld rows old)
     (laid : IsLaid (seen rows old base)) where
@@ -99,18 +100,16 @@ module _ (rows : List TypeRow) (old : HeapView) (base : Machine) (heap : IsHeap 
       }
 
   -- no item crosses the place where a part starts
-  pub part_whole : (g : ℕ) (least : g ≤ 2) (keeps : ℕ → Bool) (t : ℕ) → t < length old.segments → (i : Item)
-      → IsIn i (listing rows old t) → (part_start (layout_in rows old) g (segment_at old t) ≤ i.place)
-      ⊎ (i.place + i.size ≤ part_start (layout_in rows old) g (segment_at old t))
-  part_whole g least keeps t inside i l =
+  pub part_whole : (g : Parts) (keeps : ℕ → Bool) (moves : List Move) (after : Layout)
+      (c : FillsParts rows old base g keeps moves after) (t : ℕ) → t < length old.segments
+      → takes g (segment_at old t) ≡ true → (i : Item) → IsIn i (listing rows old t)
+      → (part_of old g t ≤ i.place) ⊎ (i.place + i.size ≤ part_of old g t)
+  part_whole g keeps moves after c t inside on i l =
       let s = segment_at old t in
       let is = all_at (IsItem rows (first_of old t) (last_of old t)) l (listing-are rows old held.walkable t inside) in
       let low = is.above in
       let high = is.below in
       let least_size = is.least in
       let room = (lawful_at old t heap inside).high in
-      let stands : stands_in s i.place ≡ true = between-stands s i.place low (omega arith) in
-      all_at (DoesNotCross (part_start m.layout g s))
-      (into_filter (λ (p : Piece). stands_in s p.place) (pieces m) stands
-      (item_in_pieces i (listed-from rows old t i inside l)))
-      (start-cuts m laid g least keeps s (at-in old.segments t empty_segment inside)).whole
+      c.uncrossed s (c.among t inside on) (item_piece i) (item_in_pieces i (listed-from rows old t i inside l))
+      (between-stands s i.place low (omega arith))

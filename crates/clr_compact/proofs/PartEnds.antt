@@ -1,36 +1,29 @@
--- Where the parts end after sliding, and what is free there: as in the layout of the machine's compaction.
-use Rattle.std.proofs.Common.{◌≡◌, ◌≢◌, ℕ, ◌-◌, ◌<◌, ◌≤◌, ◌⊎◌, inl, inr, List, [], ◌∷◌, ◌++◌, map, length, refl, sym}
-use Rattle.std.proofs.Common.{ap, subst, ◌∙◌, arith, Bool, true}
+-- Where the parts end after sliding, and what is free there: as the layout says that the compaction leaves.
+use Rattle.std.proofs.Common.{◌≡◌, ◌≢◌, ℕ, ◌-◌, ◌<◌, ◌≤◌, ◌⊎◌, inl, inr, Bool, true, List, [], ◌∷◌, ◌++◌, map, length}
+use Rattle.std.proofs.Common.{refl, sym, ap, subst, ◌∙◌, arith}
 use Rattle.std.proofs.lemmas.Bool.{cases_order}
 use Rattle.clr_types.specs.Rising.{IsIn, first, later}
-use Rattle.clr_types.specs.Ranges.{end_of_last, Piece, piece_end, Tiles}
+use Rattle.clr_types.specs.Ranges.{by_place, end_of_last, Piece, piece_end, Tiles}
 use Rattle.clr_types.specs.Segments.{Layout, pieces_in, reserved_end, stands_in}
 use Rattle.clr_types.specs.Types.{TypeRow}
 use Rattle.clr_types.specs.declared.segment.SegInfo.{SegInfo}
-use Rattle.clr_types.proofs.ChangedLists.{append_left, out_of_filter, rising-distinct}
+use Rattle.clr_types.proofs.ChangedLists.{append_left, into_filter, IsIn-map, out_of_filter, rising-distinct}
 use Rattle.clr_types.proofs.ListMembers.{append_right, distinct_cross, distinct_of_sorted, from-map, in_append}
-use Rattle.clr_types.proofs.SegmentFacts.{stands-between}
+use Rattle.clr_types.proofs.SegmentFacts.{between-stands, stands-between}
 use Rattle.clr_types.proofs.SortedLists.{into_sorted_by, out_of_sorted_by}
 use Rattle.clr_types.proofs.TilePieces.{IsTile, tile, tiles-apart}
 use Rattle.clr_types.proofs.Tilings.{tiles-rise}
 use Rattle.clr_heap.specs.View.{HeapView, IsHeap, segment_at, word_of}
 use Rattle.clr_heap.proofs.Staying.{segment_order}
-use Rattle.clr_model.specs.Compaction.{compacted_end, compacted_free, IsCompacted, Move, moved_pieces}
-use Rattle.clr_model.specs.Lawful.{IsLaid}
+use Rattle.clr_model.specs.Compaction.{Move, moved_pieces}
 use Rattle.clr_model.specs.Machine.{Machine}
-use Rattle.clr_model.specs.Sweep.{Survivor, survivors}
-use Rattle.clr_model.proofs.CondemnedPlugs.{line-complete}
-use Rattle.clr_model.proofs.CompactedSmall.{end_is, ends_in, free_before_pin, source, walked_whole, whole_line}
-use Rattle.clr_model.proofs.PlugLanding.{IsBeforePin}
 use Rattle.clr_model.proofs.PlugsApart.{piece_of_move}
-use Rattle.clr_model.proofs.PlugWalk.{IsLanded, move_of_plug}
-use Rattle.clr_view.specs.View.{layout_in}
-use Rattle.clr_sweep.proofs.SurvivorsSwept.{at-in, seen}
+use Rattle.clr_sweep.proofs.SurvivorsSwept.{at-in}
 use Rattle.clr_moves.specs.Moves.{AreMoves, IsInPart, landing_end, move_at, no_move, part_of, takes}
+use Rattle.clr_moves.specs.declared.parts.Parts.{Parts}
+use Rattle.clr_moves.proofs.FilledParts.{FillsParts}
+use Rattle.clr_moves.proofs.FromMachine.{number_of}
 use Rattle.clr_compact.specs.Slides.{EndsAt, HasSlid, IsBare, IsEdge, IsFreeRange}
-use Rattle.clr_moves.proofs.FromMachine.{are_moves, in_tiling, is_ready, kept, landed_in, m, number_of, part_segment}
-use Rattle.clr_moves.proofs.FromMachine.{stands_in_part, tiles, tiling}
-use Rattle.clr_moves.specs.declared.parts.Parts.TheVariants.{Generations}
 
 -- a piece of a tiling begins where the tiling does, or where another piece ends
 tiles_before : (low high : ℕ) (ps : List Piece) → Tiles low high ps → (p : Piece) → IsIn p ps
@@ -50,53 +43,46 @@ end_of_last-in low (p ∷ ps) = elim (end_of_last-in (piece_end p) ps) [
   | inr (q, j, e) ↦ inr (q, later j, e)
 ]
 
-module _ (rows : List TypeRow) (old : HeapView) (base : Machine) (laid : IsLaid (seen rows old base)) (g : ℕ)
-    (least : g ≤ 2) (keeps : ℕ → Bool) (moves : List Move) (after : Layout)
-    (c : IsCompacted (layout_in rows old) g (survivors (seen rows old base) g keeps) moves after) (heap : IsHeap old)
-    (t : ℕ) (inside : t < length old.segments) (part : takes (Generations g) (segment_at old t) ≡ true) where
+module _ (rows : List TypeRow) (old : HeapView) (base : Machine) (g : Parts) (keeps : ℕ → Bool) (moves : List Move)
+    (after : Layout) (c : FillsParts rows old base g keeps moves after) (heap : IsHeap old) (t : ℕ)
+    (inside : t < length old.segments) (part : takes g (segment_at old t) ≡ true) where
   abbrev s : SegInfo
   s = segment_at old t
 
-  abbrev machine : Machine
-  machine = m rows old base laid g least keeps moves after c
-
-  abbrev stay : List Survivor
-  stay = kept rows old base laid g least keeps moves after c
-
   known : IsIn s c.segments
-  known = part_segment rows old base laid g least keeps moves after c t inside part
+  known = c.among t inside part
 
   abbrev start : ℕ
-  start = part_of old (Generations g) t
+  start = part_of old g t
 
   abbrev pub end : ℕ
-  end = compacted_end after.start0 c.plugs moves (segment_at old t)
+  end = c.end (segment_at old t)
 
   abbrev blocks : List Piece
   blocks = pieces_in s (moved_pieces moves)
 
   abbrev fresh : List Piece
-  fresh = compacted_free machine.layout g after.start0 c.plugs moves s
+  fresh = c.free s
 
   abbrev all : List Piece
-  all = tiling rows old base laid g least keeps moves after c s
+  all = by_place (blocks ++ fresh)
 
   tiled : Tiles start end all
-  tiled = tiles rows old base laid g least keeps moves after c s known
+  tiled = c.tiles s known
 
-  am : AreMoves old (Generations g) moves
-  am = are_moves rows old base laid g least keeps moves after c
+  am : AreMoves old g moves
+  am = c.are
 
   is_tile : (p : Piece) → IsIn p all → IsTile start end p
   is_tile p i = tile start end all p tiled i
 
   ends : (start ≤ end) × (end ≤ reserved_end s)
-  ends = ends_in machine.layout g stay moves after c (is_ready rows old base laid g least keeps moves after c) s known
+  ends = c.bounds s known
 
   -- a piece that isn't free is one of a plug that lands in this part
   pub block_is : (b : Piece) → IsIn b blocks
       → (k : ℕ) × (k < length moves) × (b ≡ piece_of_move (move_at moves k))
-      × IsInPart old (Generations g) t (move_at moves k).to
+      × IsInPart old g t (move_at moves k).to
   block_is b i =
       let (e, j) = out_of_filter (λ (p : Piece). stands_in s p.place) b (moved_pieces moves) i in
       let (v, f, n) = from-map piece_of_move b moves
@@ -110,31 +96,42 @@ module _ (rows : List TypeRow) (old : HeapView) (base : Machine) (laid : IsLaid 
       let (a, high) = stands-between s b.place e in
       (k, l, is, record { in_range = inside; takes = part; low = omega arith; high = omega arith })
 
-  lands : (k : ℕ) → k < length moves → IsInPart old (Generations g) t (move_at moves k).to
-      → IsIn (piece_of_move (move_at moves k)) all
-  lands k l into = in_tiling rows old base laid g least keeps moves after c s (move_at moves k)
-      (at-in moves k no_move l)
-      (stands_in_part rows old base laid g least keeps moves after c t (move_at moves k).to into)
+  -- a plug that lands in the part is such a piece
+  landed : (k : ℕ) → k < length moves → IsInPart old g t (move_at moves k).to
+      → IsIn (piece_of_move (move_at moves k)) blocks
+  landed k l into =
+      let v = move_at moves k in
+      let (first_low, room, z) = am.starts t inside part in
+      let low = into.low in
+      into_filter (λ (p : Piece). stands_in s p.place) (moved_pieces moves)
+      (between-stands s v.to (omega arith) into.high)
+      (into_sorted_by (λ (p : Piece). p.place) (piece_of_move v) (map piece_of_move moves)
+      (IsIn-map piece_of_move (at-in moves k no_move l)))
 
-  -- THE END is the machine's
-  pub end_same : (e : ℕ) → EndsAt old (Generations g) moves t e → e ≡ end
+  lands : (k : ℕ) → k < length moves → IsInPart old g t (move_at moves k).to
+      → IsIn (piece_of_move (move_at moves k)) all
+  lands k l into =
+      into_sorted_by (λ (p : Piece). p.place) (piece_of_move (move_at moves k)) (blocks ++ fresh)
+      (append_left fresh (landed k l into))
+
+  -- THE END is that of the layout
+  pub end_same : (e : ℕ) → EndsAt old g moves t e → e ≡ end
   end_same e at = both (below at.edge) (above (end_of_last-in start blocks))
     where
       both : e ≤ end → end ≤ e → e ≡ end
       both a b = omega arith
 
-      below : IsEdge old (Generations g) moves t e → e ≤ end
+      below : IsEdge old g moves t e → e ≤ end
       below (inl is) = let a = ends.0 in omega arith
       below (inr (k, l, into, is)) = let high = (is_tile (piece_of_move (move_at moves k)) (lands k l into)).high_end in
           omega arith
 
-      from_start : IsEdge old (Generations g) moves t e → start ≤ e
+      from_start : IsEdge old g moves t e → start ≤ e
       from_start (inl is) = omega arith
       from_start (inr (k, l, into, is)) = let low = into.low in omega arith
 
       last : end ≡ end_of_last start blocks
-      last = end_is machine.layout g stay moves after c (is_ready rows old base laid g least keeps moves after c)
-          s known
+      last = c.end_is s known
 
       above : (end_of_last start blocks ≡ start)
           ⊎ ((p : Piece) × IsIn p blocks × (end_of_last start blocks ≡ piece_end p)) → end ≤ e
@@ -163,22 +160,13 @@ module _ (rows : List TypeRow) (old : HeapView) (base : Machine) (laid : IsLaid 
   pub record EndsBefore (f : Piece) : Type 0 where
     pub k : ℕ
     pub within : k < length moves
-    pub into : IsInPart old (Generations g) t (move_at moves k).to
+    pub into : IsInPart old g t (move_at moves k).to
     pub at : piece_end f ≡ (move_at moves k).to
 
   pub ends_before : (f : Piece) → IsIn f fresh → EndsBefore f
   ends_before f i =
-      let ready = is_ready rows old base laid g least keeps moves after c in
-      let b : IsBeforePin c.plugs f = free_before_pin machine.layout g stay moves after c ready s known f i in
-      let (v, n, l) =
-      move_of_plug (IsLanded c.segments c.plugs (source machine.layout g stay moves after c ready))
-      (whole_line machine.layout g stay moves after c ready) moves b.plug
-      (walked_whole machine.layout g stay moves after c ready).landed
-      (line-complete machine.layout g c.segments c.plugs ready b.plug b.known)
-      in
+      let (v, n, meets) = c.before s known f i in
       let (k, inside_k, at) = number_of moves v n in
-      let to : v.to ≡ b.plug.start = l.pinned b.pinned in
-      let here : piece_end f ≡ b.plug.start = b.ends in
       let same : v.to ≡ (move_at moves k).to = ap (λ (w : Move). w.to) at in
       let is = is_tile f (into_fresh f i) in
       let low = is.low_gap in
@@ -201,19 +189,18 @@ module _ (rows : List TypeRow) (old : HeapView) (base : Machine) (laid : IsLaid 
       record {
         k = k;
         within = inside_k;
-        into = subst (λ n. IsInPart old (Generations g) n (move_at moves k).to) same_part into_u;
+        into = subst (λ n. IsInPart old g n (move_at moves k).to) same_part into_u;
         at = omega arith;
       }
 
   -- it begins at an edge
-  edge_of : (f : Piece) → IsIn f fresh → IsEdge old (Generations g) moves t f.place
+  edge_of : (f : Piece) → IsIn f fresh → IsEdge old g moves t f.place
   edge_of f i = elim (tiles_before start end all tiled f (into_fresh f i)) [
     | inl e ↦ inl e
     | inr (q, j, e) ↦ behind q e (in_append blocks (out_of_sorted_by (λ (p : Piece). p.place) q (blocks ++ fresh) j))
   ]
     where
-      behind : (q : Piece) → piece_end q ≡ f.place → IsIn q blocks ⊎ IsIn q fresh
-          → IsEdge old (Generations g) moves t f.place
+      behind : (q : Piece) → piece_end q ≡ f.place → IsIn q blocks ⊎ IsIn q fresh → IsEdge old g moves t f.place
       behind q e (inl n) =
           let (k, l, same, into) = block_is q n in
           let at : piece_end q ≡ landing_end (move_at moves k) = ap piece_end same in
@@ -221,11 +208,7 @@ module _ (rows : List TypeRow) (old : HeapView) (base : Machine) (laid : IsLaid 
       behind q e (inr n) =
           let b = ends_before q n in
           let at = b.at in
-          absurd (cross (piece_of_move (move_at moves b.k)) f
-          (landed_in rows old base laid g least keeps moves after c s (move_at moves b.k)
-          (at-in moves b.k no_move b.within)
-          (stands_in_part rows old base laid g least keeps moves after c t (move_at moves b.k).to b.into)) i
-          (omega arith))
+          absurd (cross (piece_of_move (move_at moves b.k)) f (landed b.k b.within b.into) i (omega arith))
 
   -- no plug stands in it
   bare_of : (f : Piece) → IsIn f fresh → IsBare moves f.place (piece_end f)
@@ -242,7 +225,7 @@ module _ (rows : List TypeRow) (old : HeapView) (base : Machine) (laid : IsLaid 
       let high = is.high_end in
       let (a, z) = ends in
       elim (cases_order move.into t) [
-        | inl e ↦ here (subst (λ n. IsInPart old (Generations g) n (move_at moves j).to) e into_u)
+        | inl e ↦ here (subst (λ n. IsInPart old g n (move_at moves j).to) e into_u)
         | inr (inl less) ↦ let o = segment_order old move.into t heap less inside in inl (omega arith)
         | inr (inr more) ↦ let o = segment_order old t move.into heap more ur in inr (omega arith)
       ]
@@ -250,10 +233,9 @@ module _ (rows : List TypeRow) (old : HeapView) (base : Machine) (laid : IsLaid 
       v : Move
       v = move_at moves j
 
-      here : IsInPart old (Generations g) t v.to → (landing_end v ≤ f.place) ⊎ (piece_end f ≤ v.to)
+      here : IsInPart old g t v.to → (landing_end v ≤ f.place) ⊎ (piece_end f ≤ v.to)
       here into =
-          let block = landed_in rows old base laid g least keeps moves after c s v (at-in moves j no_move lj)
-          (stands_in_part rows old base laid g least keeps moves after c t v.to into) in
+          let block = landed j lj into in
           elim (cases_order v.to f.place) [
             | inl e ↦ absurd (cross (piece_of_move v) f block i e)
             | inr (inl l) ↦ let gap =
@@ -264,9 +246,8 @@ module _ (rows : List TypeRow) (old : HeapView) (base : Machine) (laid : IsLaid 
                 (into_blocks (piece_of_move v) block) l in inr (omega arith)
           ]
 
-  -- EACH FREE RANGE of the machine's compaction is free
-  pub free_range : (new : HeapView) → HasSlid old new (Generations g) moves → (f : Piece)
-      → IsIn f (compacted_free (layout_in rows old) g after.start0 c.plugs moves (segment_at old t))
+  -- EACH FREE RANGE of the layout is free
+  pub free_range : (new : HeapView) → HasSlid old new g moves → (f : Piece) → IsIn f (c.free (segment_at old t))
       → IsFreeRange (word_of new) f.place f.size
   free_range new slid f i =
       let b = ends_before f i in

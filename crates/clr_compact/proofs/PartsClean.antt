@@ -21,7 +21,7 @@ use Rattle.clr_sweep.proofs.SurvivorsSwept.{listed-from}
 use Rattle.clr_moves.specs.Moves.{part_of, takes}
 use Rattle.clr_compact.specs.Compacted.{ArePartsWalkable, items_of_part, part_items}
 use Rattle.clr_compact.proofs.AllParts.{part_items-from, part_items-in, place-on, place-out}
-use Rattle.clr_moves.specs.declared.parts.Parts.TheVariants.{Generations}
+use Rattle.clr_moves.specs.declared.parts.Parts.{Parts}
 
 -- heads that stay on all items
 pub agrees_all : (s : Sight) (w : ℕ → ℕ) (ps : List Part)
@@ -34,17 +34,17 @@ same_head : (b : Bool) (w : ℕ) → unmarked (if b then unmarked w else w) ≡ 
 same_head true w = omega arith
 same_head false w = refl
 
-module _ (rows : List TypeRow) (mid clean : HeapView) (g : ℕ) (heap : IsHeap mid) (walkable : AreWalkable rows mid)
-    (parts_walk : ArePartsWalkable rows mid (Generations g))
-    (part_in : (t : ℕ) → t < length mid.segments → (i : Item) → IsIn i (items_of_part rows mid (Generations g) t)
+module _ (rows : List TypeRow) (mid clean : HeapView) (g : Parts) (heap : IsHeap mid) (walkable : AreWalkable rows mid)
+    (parts_walk : ArePartsWalkable rows mid g)
+    (part_in : (t : ℕ) → t < length mid.segments → (i : Item) → IsIn i (items_of_part rows mid g t)
     → IsIn i (listing rows mid t)) (shape : SameShape mid clean)
-    (words : Rewrites (cleared (part_items rows mid (Generations g) (length mid.segments))) (word_of mid)
+    (words : Rewrites (cleared (part_items rows mid g (length mid.segments))) (word_of mid)
     (word_of clean)) where
   abbrev all : List Item
-  all = part_items rows mid (Generations g) (length mid.segments)
+  all = part_items rows mid g (length mid.segments)
 
   in_heap : (i : Item) → IsIn i all → IsIn i (heap_items rows mid)
-  in_heap i n = let (t, l, here) = part_items-in rows mid (Generations g) heap parts_walk (length mid.segments) i n in
+  in_heap i n = let (t, l, here) = part_items-in rows mid g heap parts_walk (length mid.segments) i n in
       listed-from rows mid t i l (part_in t l i here)
 
   standing_at : (i : Item) → IsIn i (heap_items rows mid)
@@ -97,14 +97,14 @@ module _ (rows : List TypeRow) (mid clean : HeapView) (g : ℕ) (heap : IsHeap m
       (λ i n. agrees i (listed-from rows mid t i l n))) (walkable t l).spelled)
 
   -- and so do their items from where a part starts
-  pub clean_items : (t : ℕ) → t < length mid.segments → takes (Generations g) (segment_at mid t) ≡ true
-      → items_between (sight rows clean t) (part_of mid (Generations g) t) (last_of mid t)
-      ≡ items_between (sight rows mid t) (part_of mid (Generations g) t) (last_of mid t)
+  pub clean_items : (t : ℕ) → t < length mid.segments → takes g (segment_at mid t) ≡ true
+      → items_between (sight rows clean t) (part_of mid g t) (last_of mid t)
+      ≡ items_between (sight rows mid t) (part_of mid g t) (last_of mid t)
   clean_items t l on =
-      let from = part_of mid (Generations g) t in
+      let from = part_of mid g t in
       let end = last_of mid t in
       let ps = parts end (sight rows mid t) from end in
-      let same : items_of_part rows mid (Generations g) t ≡ items_in ps = ap (λ b. if b then items_in ps else []) on in
+      let same : items_of_part rows mid g t ≡ items_in ps = ap (λ b. if b then items_in ps else []) on in
       let seen : sight rows clean t ≡ with_words (sight rows mid t) (word_of clean) =
       ap (λ (hs : List (Option Piece)). record { rows = rows; word = word_of clean; holes = hs })
       (holes_same mid clean t shape) in
@@ -116,11 +116,11 @@ module _ (rows : List TypeRow) (mid clean : HeapView) (g : ℕ) (heap : IsHeap m
       (spelled_parts (sight rows clean t) ps from end (subst (λ (s : Sight). Spells s from ps end) (sym seen) spelled))
 
   -- an item of a part carries no mark
-  pub part_unmarked : (t : ℕ) → t < length mid.segments → (i : Item) → IsIn i (items_of_part rows mid (Generations g) t)
+  pub part_unmarked : (t : ℕ) → t < length mid.segments → (i : Item) → IsIn i (items_of_part rows mid g t)
       → i.place % 8 ≡ 0 → word_of clean i.place ≡ unmarked (word_of mid i.place)
   part_unmarked t l i n z =
       words i.place z ∙ ap (λ b. if b then unmarked (word_of mid i.place) else word_of mid i.place)
-      (place-on all i (part_items-from rows mid (Generations g) heap parts_walk (length mid.segments) t i l n))
+      (place-on all i (part_items-from rows mid g heap parts_walk (length mid.segments) t i l n))
 
   -- a word that is no method table word of a part's item stays
   pub word_stays : (b : ℕ) → b % 8 ≡ 0 → ((i : Item) → IsIn i all → i.place ≢ b) → word_of clean b ≡ word_of mid b

@@ -11,7 +11,7 @@ use Rattle.clr_types.specs.Types.{TypeRow}
 use Rattle.clr_types.specs.declared.item.Item.{Item}
 use Rattle.clr_types.specs.declared.segment.SegInfo.{SegInfo}
 use Rattle.clr_types.specs.declared.segment.SegKind.TheVariants.{Ephemeral}
-use Rattle.clr_types.proofs.SegmentFacts.{between-stands, one_home, stands-between}
+use Rattle.clr_types.proofs.SegmentFacts.{between-stands}
 use Rattle.clr_types.proofs.TilePieces.{IsTile, tile}
 use Rattle.clr_heap.specs.Memories.{memory_index}
 use Rattle.clr_heap.specs.Parts.{free_item, hole_from, item_at, item_part, item_parts, items_in, NamesItem, Part}
@@ -26,48 +26,45 @@ use Rattle.clr_heap.proofs.Spelling.{Spells-append}
 use Rattle.clr_heap.proofs.Staying.{parts_from, parts_stay, segment_order}
 use Rattle.clr_heap.proofs.Storing.{length-shapes, memory_index-shapes}
 use Rattle.clr_heap.proofs.Swaps.{free_spelled}
-use Rattle.clr_model.specs.Compaction.{compacted_end, compacted_free, IsCompacted, Move, moved_by}
+use Rattle.clr_model.specs.Compaction.{Move, moved_by}
 use Rattle.clr_model.specs.Lawful.{IsLaid}
-use Rattle.clr_model.specs.Lookups.{object_piece, object_size}
+use Rattle.clr_model.specs.Lookups.{object_size}
 use Rattle.clr_model.specs.Machine.{Machine, Object}
-use Rattle.clr_model.specs.Sweep.{part_start, survivors}
-use Rattle.clr_model.proofs.CompactedPieces.{filled_by, IsFilledBy, moved_piece, moved_with}
-use Rattle.clr_model.proofs.CompactedSmall.{ends_in}
-use Rattle.clr_model.proofs.CondemnedParts.{taking-is}
-use Rattle.clr_model.proofs.LawfulPieces.{HasHome, object-in-pieces, piece-home}
-use Rattle.clr_model.proofs.LawfulSurvivors.{aged}
-use Rattle.clr_model.proofs.MovedPlaces.{is_small-survivor, moved-is, survivor-covered}
-use Rattle.clr_model.proofs.SweptLawful.{start-cuts}
-use Rattle.clr_model.proofs.Refill.{compacted_refill, IsRefill, range_after}
-use Rattle.clr_view.specs.View.{IsHeld, layout_in, objects_in}
+use Rattle.clr_model.proofs.LandedParts.{landed_refill}
+use Rattle.clr_model.proofs.Landings.{fills, goes_with, going_piece, is_covered, IsFilledBy}
+use Rattle.clr_model.proofs.MovedPlaces.{moved-is}
+use Rattle.clr_model.proofs.Refill.{IsRefill, range_after}
+use Rattle.clr_view.specs.View.{IsHeld, objects_in}
 use Rattle.clr_view.proofs.Listed.{listed-spelled}
 use Rattle.clr_view.proofs.Listings.{items-append}
 use Rattle.clr_heap.proofs.Walking.{CanWalk-from, spelled_parts}
 use Rattle.clr_sweep.proofs.FreeHeads.{items_of_parts}
 use Rattle.clr_compact.specs.Compacted.{ArePartsWalkable, items_of_part}
 use Rattle.clr_sweep.proofs.PassEnds.{none_starts}
-use Rattle.clr_sweep.proofs.SurvivorsSwept.{at-in, seen}
-use Rattle.clr_moves.specs.Moves.{AreMoves, IsInPart, move_at, part_of, room_end, takes}
+use Rattle.clr_sweep.proofs.SurvivorsSwept.{seen}
+use Rattle.clr_moves.specs.Moves.{AreMoves, IsInPart, move_at, part_of, room_end, start_of, takes}
+use Rattle.clr_moves.specs.declared.parts.Parts.{Parts}
+use Rattle.clr_moves.proofs.FilledParts.{FillsParts}
+use Rattle.clr_moves.proofs.FromMachine.{number_of}
 use Rattle.clr_compact.specs.Slides.{HasSlid}
 use Rattle.clr_moves.specs.Overlaid.{IsOutside}
-use Rattle.clr_moves.proofs.FromMachine.{are_moves, is_ready, kept, number_of, part_segment}
 use Rattle.clr_compact.proofs.MemoryItems.{IsItemOf, item_of, part_whole, standing}
+use Rattle.clr_compact.proofs.Overlaying.{ended_takes}
 use Rattle.clr_compact.proofs.PartEnds.{end_same, free_range}
 use Rattle.clr_compact.proofs.Respelled.{boundary_at, item_moved, items_over, names_moved, SpellsPiece, tiles_spelled}
-use Rattle.clr_moves.specs.declared.parts.Parts.TheVariants.{Generations}
+use Rattle.clr_compact.proofs.SlidBricks.{mid-part, mid-same}
 
 module _ (rows : List TypeRow) (old : HeapView) (base : Machine) (heap : IsHeap old) (held : IsHeld rows old)
-    (none : old.rests ≡ no_rests) (laid : IsLaid (seen rows old base)) (g : ℕ) (least : g ≤ 2) (keeps : ℕ → Bool)
-    (moves : List Move) (after : Layout)
-    (c : IsCompacted (layout_in rows old) g (survivors (seen rows old base) g keeps) moves after) where
+    (none : old.rests ≡ no_rests) (laid : IsLaid (seen rows old base)) (g : Parts) (keeps : ℕ → Bool)
+    (moves : List Move) (after : Layout) (c : FillsParts rows old base g keeps moves after) where
   abbrev m : Machine
   m = seen rows old base
 
   abbrev Covers : Move → ℕ → Type 0
   Covers v x = (v.start ≤ x) × (x < v.start + v.size)
 
-  am : AreMoves old (Generations g) moves
-  am = are_moves rows old base laid g least keeps moves after c
+  am : AreMoves old g moves
+  am = c.are
 
   -- ---- what moves with a plug
 
@@ -81,12 +78,14 @@ module _ (rows : List TypeRow) (old : HeapView) (base : Machine) (heap : IsHeap 
   pub carried : (o : Object) → IsIn o (objects_in rows old) → (v : Move) → IsIn v moves → Covers v o.place
       → (k : ℕ) × IsCarried o.place (object_size rows o) k
   carried o present v i (low, up) =
-      let filled : IsFilledBy m laid g least keeps moves after c v = filled_by m laid g least keeps moves after c v i in
-      let is : IsTile v.to (v.to + v.size) (moved_piece m laid g least keeps moves after c o) =
-      tile v.to (v.to + v.size) filled.pieces (moved_piece m laid g least keeps moves after c o) filled.tiled
+      let going = c.landings.going in
+      let filled : IsFilledBy m laid keeps c.survive c.plugs moves going v =
+      fills m laid keeps c.survive c.plugs moves going v i in
+      let is : IsTile v.to (v.to + v.size) (going_piece m laid keeps c.survive c.plugs moves going o) =
+      tile v.to (v.to + v.size) filled.pieces (going_piece m laid keeps c.survive c.plugs moves going o) filled.tiled
       (filled.all o present (low, up)) in
       let high = is.high_end in
-      let at = moved_with m laid g least keeps moves after c v i o.place (low, up) in
+      let at = goes_with m laid keeps c.survive c.plugs moves going v i o.place (low, up) in
       let (k, l, same) = number_of moves v i in
       let start : v.start ≡ (move_at moves k).start = ap (λ (w : Move). w.start) same in
       let size : v.size ≡ (move_at moves k).size = ap (λ (w : Move). w.size) same in
@@ -95,28 +94,20 @@ module _ (rows : List TypeRow) (old : HeapView) (base : Machine) (heap : IsHeap 
 
   -- a kept object that is in a part afterwards moved with a plug
   pub covered_by : (o : Object) → IsIn o (objects_in rows old) → keeps o.name ≡ true → (t : ℕ)
-      → IsInPart old (Generations g) t (moved_by moves o.place)
+      → IsInPart old g t (moved_by moves o.place)
       → stands_in (segment_at old t) (moved_by moves o.place) ≡ true
       → (k : ℕ) × IsCarried o.place (object_size rows o) k
   covered_by o present stays t into stands = elim (moved-is moves o.place) [
     | inl (v, i, cover, e) ↦ carried o present v i cover
     | inr (uncovered, still) ↦
         let s = segment_at old t in
-        let known = part_segment rows old base laid g least keeps moves after c t into.in_range into.takes in
-        let (kind, part, listed) = taking-is m.layout laid.layout g least s (subst (IsIn s) c.segments_are known) in
         let low = into.low in
-        let at : stands_in s o.place ≡ true = subst (λ n. stands_in s n ≡ true) still stands in
-        let (a, b) = stands-between s o.place at in
-        let n : HasHome m.layout o.place =
-        piece-home m laid (object_piece rows o) (object-in-pieces m laid o present) in
-        let same : n.home ≡ s = one_home m.layout laid.layout n.home s o.place n.among listed n.stands at in
-        let young = aged m laid g least keeps s listed part o.place (omega arith) a b in
-        absurd (survivor-covered m laid g least keeps moves after c o
-        (is_small-survivor m laid g least keeps moves after c o present stays young s listed kind
-        (n.base ∙ ap (λ (u : SegInfo). u.base) same)) uncovered)
+        absurd (is_covered m laid keeps c.segments (start_of (frame old) g) c.survive c.plugs moves c.landings o
+        (c.landings.survives o present stays s (c.among t into.in_range into.takes)
+        (subst (λ n. stands_in s n ≡ true) still stands) (omega arith)) uncovered)
   ]
 
-  module _ (new : HeapView) (slid : HasSlid old new (Generations g) moves) where
+  module _ (new : HeapView) (slid : HasSlid old new g moves) where
     -- the words of its cell are those that they were
     pub carried_words : (place size k : ℕ) → IsCarried place size k → (b : ℕ) → b % 8 ≡ 0 → moved_by moves place ≤ b + 8
         → b + 8 < moved_by moves place + size → word_of new b ≡ word_of old (b + (place - moved_by moves place))
@@ -164,13 +155,13 @@ module _ (rows : List TypeRow) (old : HeapView) (base : Machine) (heap : IsHeap 
 
     -- an address of segment t that isn't in its part is in none
     pub outside_at : (t b : ℕ) → t < length old.segments → first_of old t ≤ b + 8 → b + 8 < room_end old t
-        → (takes (Generations g) (segment_at old t) ≡ true → b + 8 < part_of old (Generations g) t)
-        → IsOutside old (Generations g) b
+        → (takes g (segment_at old t) ≡ true → b + 8 < part_of old g t)
+        → IsOutside old g b
     outside_at t b inside low high below u lu takes_u =
         let (a, e, z) = am.starts u lu takes_u in
         elim (cases_order u t) [
-          | inl same ↦ let l = below (subst (λ n. takes (Generations g) (segment_at old n) ≡ true) same takes_u) in
-              inr (inl (subst (λ n. (first_of old n ≤ b + 8) × (b + 8 < part_of old (Generations g) n)) (sym same)
+          | inl same ↦ let l = below (subst (λ n. takes g (segment_at old n) ≡ true) same takes_u) in
+              inr (inl (subst (λ n. (first_of old n ≤ b + 8) × (b + 8 < part_of old g n)) (sym same)
               (low, l)))
           | inr (inl less) ↦ let o = segment_order old u t heap less inside in inr (inr (omega arith))
           | inr (inr more) ↦ let o = segment_order old t u heap more lu in inl (omega arith)
@@ -195,7 +186,7 @@ module _ (rows : List TypeRow) (old : HeapView) (base : Machine) (heap : IsHeap 
 
     -- ---- a segment without a part stays as it is
 
-    pub other_parts : (t : ℕ) → t < length old.segments → takes (Generations g) (segment_at old t) ≡ false
+    pub other_parts : (t : ℕ) → t < length old.segments → takes g (segment_at old t) ≡ false
         → PartsAre rows new t (parts_of rows old t)
     other_parts t inside other =
         let same = slid.rest t inside other in
@@ -219,39 +210,39 @@ module _ (rows : List TypeRow) (old : HeapView) (base : Machine) (heap : IsHeap 
 
     -- ---- a segment with a part
 
-    module _ (t : ℕ) (inside : t < length old.segments) (part : takes (Generations g) (segment_at old t) ≡ true) where
+    module _ (t : ℕ) (inside : t < length old.segments) (part : takes g (segment_at old t) ≡ true) where
       abbrev s : SegInfo
       s = segment_at old t
 
       abbrev start : ℕ
-      start = part_of old (Generations g) t
+      start = part_of old g t
 
       abbrev end : ℕ
-      end = compacted_end after.start0 c.plugs moves (segment_at old t)
+      end = c.end s
 
       known : IsIn s c.segments
-      known = part_segment rows old base laid g least keeps moves after c t inside part
+      known = c.among t inside part
 
-      pub refill : IsRefill m keeps moves (segment_at old t) (part_of old (Generations g) t)
-          (compacted_end after.start0 c.plugs moves (segment_at old t))
-          (compacted_free (layout_in rows old) g after.start0 c.plugs moves (segment_at old t))
-      refill = compacted_refill m laid g least keeps moves after c s known
+      pub refill : IsRefill m keeps moves (segment_at old t) (part_of old g t)
+          (c.end (segment_at old t))
+          (c.free (segment_at old t))
+      refill = landed_refill m laid keeps c.segments (start_of (frame old) g) c.survive c.plugs moves c.landings s known
+          (c.end s) (c.free s) (c.tiles s known) (c.bounds s known).1
 
       -- its new end
-      pub now_ends : segment_at new t ≡ ended_at (compacted_end after.start0 c.plugs moves (segment_at old t))
+      pub now_ends : segment_at new t ≡ ended_at (c.end (segment_at old t))
           (segment_at old t)
       now_ends = let (e, at, is) = slid.parts t inside part in
           is ∙ ap (λ n. ended_at n (segment_at old t))
-          (end_same rows old base laid g least keeps moves after c heap t inside part e at)
+          (end_same rows old base g keeps moves after c heap t inside part e at)
 
       bounds : (start ≤ end) × (end ≤ reserved_end s)
-      bounds = ends_in m.layout g (kept rows old base laid g least keeps moves after c) moves after c
-          (is_ready rows old base laid g least keeps moves after c) s known
+      bounds = c.bounds s known
 
       is_tile : (p : Piece) → IsIn p refill.more → IsTile start end p
       is_tile p i = tile start end refill.more p refill.tiled i
 
-      in_part : (p : Piece) → IsIn p refill.more → IsInPart old (Generations g) t p.place
+      in_part : (p : Piece) → IsIn p refill.more → IsInPart old g t p.place
       in_part p i =
           let is = is_tile p i in
           let low = is.low_gap in
@@ -281,11 +272,11 @@ module _ (rows : List TypeRow) (old : HeapView) (base : Machine) (heap : IsHeap 
 
       -- a new free range is a free item
       pub free_made : (p : Piece)
-          → IsIn p (compacted_free (layout_in rows old) g after.start0 c.plugs moves (segment_at old t))
+          → IsIn p (c.free (segment_at old t))
           → Spells (sight rows new t) p.place (item_part (free_item p.place p.size) ∷ []) (p.place + p.size)
       free_made p fresh =
           let i = refill.fresh_more p fresh in
-          let f = free_range rows old base laid g least keeps moves after c heap t inside part new slid p fresh in
+          let f = free_range rows old base g keeps moves after c heap t inside part new slid p fresh in
           let (a, z) = (is_tile p i).size in
           let high = (is_tile p i).high_end in
           let (x, y) = bounds in
@@ -295,7 +286,7 @@ module _ (rows : List TypeRow) (old : HeapView) (base : Machine) (heap : IsHeap 
           free_spelled rows new t p.place p.size f.mt f.len (no_hole t p.place) a z (omega arith)
 
       pub free_is : (p : Piece)
-          → IsIn p (compacted_free (layout_in rows old) g after.start0 c.plugs moves (segment_at old t))
+          → IsIn p (c.free (segment_at old t))
           → free_item p.place p.size ≡ item_at rows (word_of new) p.place
       free_is p fresh = (free_made p fresh).1
 
@@ -328,11 +319,10 @@ module _ (rows : List TypeRow) (old : HeapView) (base : Machine) (heap : IsHeap 
 
       -- what stands below
       abbrev pub below : List Part
-      below = until_place (parts_of rows old t) (part_of old (Generations g) t)
+      below = until_place (parts_of rows old t) (part_of old g t)
 
       start_in : (first_of old t ≤ start) × (start ≤ last_of old t)
-      start_in = let cuts = start-cuts m laid g least keeps s (at-in old.segments t empty_segment inside) in
-          (cuts.low_end, cuts.high_end)
+      start_in = ((am.starts t inside part).0, c.start_end s known)
 
       below_was : Spells (sight rows old t) (first_of old t) below start
       below_was =
@@ -340,7 +330,7 @@ module _ (rows : List TypeRow) (old : HeapView) (base : Machine) (heap : IsHeap 
           let (a, b) = start_in in
           until_boundary (sight rows old t) (parts_of rows old t) (first_of old t) (last_of old t) start w.spelled
           (boundary_at (sight rows old t) (parts_of rows old t) (first_of old t) (last_of old t) start w.spelled
-          (old_no_hole t) a b (part_whole rows old base heap held laid g least keeps t inside))
+          (old_no_hole t) a b (part_whole rows old base heap held laid g keeps moves after c t inside part))
 
       below_words : (b : ℕ) → b % 8 ≡ 0 → first_of old t ≤ b + 8 → b + 8 < start → word_of new b ≡ word_of old b
       below_words b z low high =
@@ -358,7 +348,7 @@ module _ (rows : List TypeRow) (old : HeapView) (base : Machine) (heap : IsHeap 
 
       -- THE PARTS of the segment
       pub part_parts : PartsAre rows new t
-          (until_place (parts_of rows old t) (part_of old (Generations g) t)
+          (until_place (parts_of rows old t) (part_of old g t)
           ++ item_parts (items_over rows (word_of new) refill.more))
       part_parts =
           let (lo, hi) = bounds in
@@ -374,43 +364,35 @@ module _ (rows : List TypeRow) (old : HeapView) (base : Machine) (heap : IsHeap 
     slid_walkable t l =
         let n = slid.count in
         let inside : t < length old.segments = omega arith in
-        elim (cases_Bool (takes (Generations g) (segment_at old t))) [
+        elim (cases_Bool (takes g (segment_at old t))) [
           | inl on ↦ (part_parts t inside on).walkable
           | inr off ↦ (other_parts t inside off).walkable
         ]
 
     -- ---- the parts can be walked
 
-    kind_kept : (t : ℕ) → t < length old.segments → (e : ℕ) × (segment_at new t ≡ ended_at e (segment_at old t))
-    kind_kept t inside = elim (cases_Bool (takes (Generations g) (segment_at old t))) [
-      | inl on ↦ let (e, at, is) = slid.parts t inside on in (e, is)
-      | inr off ↦ (last_of old t, slid.rest t inside off)
-    ]
+    pub takes_same : (t : ℕ) → t < length old.segments → takes g (segment_at new t) ≡ takes g (segment_at old t)
+    takes_same = mid-same old g moves new slid (takes g) (ended_takes g)
 
-    pub takes_same : (t : ℕ) → t < length old.segments
-        → takes (Generations g) (segment_at new t) ≡ takes (Generations g) (segment_at old t)
-    takes_same t inside = let (e, is) = kind_kept t inside in ap (takes (Generations g)) is
-
-    pub part_same : (t : ℕ) → t < length old.segments → part_of new (Generations g) t ≡ part_of old (Generations g) t
-    part_same t inside = let (e, is) = kind_kept t inside in
-        ap (λ (h : HeapView). part_start (frame h) g (segment_at new t)) slid.others ∙ ap (part_start (frame old) g) is
+    pub part_same : (t : ℕ) → t < length old.segments → part_of new g t ≡ part_of old g t
+    part_same = mid-part old g moves new slid
 
     pub base_same : (t : ℕ) → t < length old.segments → (segment_at new t).base ≡ (segment_at old t).base
-    base_same t inside = let (e, is) = kind_kept t inside in ap (λ (s : SegInfo). s.base) is
+    base_same = mid-same old g moves new slid (λ (s : SegInfo). s.base) (λ e s. refl)
 
-    part_walk : (t : ℕ) (inside : t < length old.segments) (on : takes (Generations g) (segment_at old t) ≡ true)
-        → CanWalk (sight rows new t) new.memories (part_of new (Generations g) t) (last_of new t)
+    part_walk : (t : ℕ) (inside : t < length old.segments) (on : takes g (segment_at old t) ≡ true)
+        → CanWalk (sight rows new t) new.memories (part_of new g t) (last_of new t)
     part_walk t inside on =
         let P : ℕ → ℕ → Type 0 = λ p e. CanWalk (sight rows new t) new.memories p e in
         let (lo, hi) = bounds t inside on in
         let (a, b, z) = am.starts t inside on in
         subst₂ P (sym (part_same t inside)) (sym (ap (λ (s : SegInfo). s.end) (now_ends t inside on)))
         (CanWalk-from (sight rows new t) new.memories
-        (item_parts (items_over rows (word_of new) (refill t inside on).more)) (part_of old (Generations g) t)
-        (compacted_end after.start0 c.plugs moves (segment_at old t)) z (part_spelled t inside on)
+        (item_parts (items_over rows (word_of new) (refill t inside on).more)) (part_of old g t)
+        (c.end (segment_at old t)) z (part_spelled t inside on)
         (λ b z low high. in_memory t b inside (omega arith) (omega arith)))
 
-    pub slid_parts : ArePartsWalkable rows new (Generations g)
+    pub slid_parts : ArePartsWalkable rows new g
     slid_parts = record {
       walk = λ t l on. let n = slid.count in let inside : t < length old.segments = omega arith in
           part_walk t inside (sym (takes_same t inside) ∙ on);
@@ -424,29 +406,29 @@ module _ (rows : List TypeRow) (old : HeapView) (base : Machine) (heap : IsHeap 
     }
 
     -- the items of a part
-    pub part_listed : (t : ℕ) (inside : t < length old.segments) (on : takes (Generations g) (segment_at old t) ≡ true)
-        → items_of_part rows new (Generations g) t ≡ items_over rows (word_of new) (refill t inside on).more
+    pub part_listed : (t : ℕ) (inside : t < length old.segments) (on : takes g (segment_at old t) ≡ true)
+        → items_of_part rows new g t ≡ items_over rows (word_of new) (refill t inside on).more
     part_listed t inside on =
         let F : ℕ → ℕ → List Item = λ p e. items_between (sight rows new t) p e in
         let over = items_over rows (word_of new) (refill t inside on).more in
-        ap (λ b. if b then items_between (sight rows new t) (part_of new (Generations g) t) (last_of new t) else [])
+        ap (λ b. if b then items_between (sight rows new t) (part_of new g t) (last_of new t) else [])
         (takes_same t inside ∙ on)
         ∙ ap₂ F (part_same t inside) (ap (λ (s : SegInfo). s.end) (now_ends t inside on))
-        ∙ ap items_in (spelled_parts (sight rows new t) (item_parts over) (part_of old (Generations g) t)
-        (compacted_end after.start0 c.plugs moves (segment_at old t)) (part_spelled t inside on))
+        ∙ ap items_in (spelled_parts (sight rows new t) (item_parts over) (part_of old g t)
+        (c.end (segment_at old t)) (part_spelled t inside on))
         ∙ items_of_parts over
 
     -- all its items
-    pub now_listed : (t : ℕ) (inside : t < length old.segments) (on : takes (Generations g) (segment_at old t) ≡ true)
-        → listing rows new t ≡ items_in (until_place (parts_of rows old t) (part_of old (Generations g) t))
+    pub now_listed : (t : ℕ) (inside : t < length old.segments) (on : takes g (segment_at old t) ≡ true)
+        → listing rows new t ≡ items_in (until_place (parts_of rows old t) (part_of old g t))
         ++ items_over rows (word_of new) (refill t inside on).more
     now_listed t inside on =
         let over = items_over rows (word_of new) (refill t inside on).more in
         ap items_in (part_parts t inside on).parts
-        ∙ items-append (until_place (parts_of rows old t) (part_of old (Generations g) t)) (item_parts over)
-        ∙ ap (λ is. items_in (until_place (parts_of rows old t) (part_of old (Generations g) t)) ++ is)
+        ∙ items-append (until_place (parts_of rows old t) (part_of old g t)) (item_parts over)
+        ∙ ap (λ is. items_in (until_place (parts_of rows old t) (part_of old g t)) ++ is)
         (items_of_parts over)
 
-    pub now_listed_other : (t : ℕ) → t < length old.segments → takes (Generations g) (segment_at old t) ≡ false
+    pub now_listed_other : (t : ℕ) → t < length old.segments → takes g (segment_at old t) ≡ false
         → listing rows new t ≡ listing rows old t
     now_listed_other t inside off = ap items_in (other_parts t inside off).parts

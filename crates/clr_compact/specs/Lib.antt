@@ -9,3 +9,4 @@ pub mod Slides
 pub mod Entered
 pub mod Entering
 pub mod PartBricks
+pub mod Large

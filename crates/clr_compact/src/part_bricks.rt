@@ -155,7 +155,7 @@ fn restore(bricks: &mut Bricks, brick: u64, entry: i16)
 }
 
 // Clears the marks of the items of all parts, which are whole segments, and enters their bricks anew.
-fn enter_whole_parts(heap: &mut Heap, types: &Types, bricks: &mut Bricks, g: Parts)
+pub(crate) fn enter_whole_parts(heap: &mut Heap, types: &Types, bricks: &mut Bricks, g: Parts)
     requires whole { AreWhole g }
     requires parts { ArePartsWalkable types.now heap.old g }
     requires no_contexts { heap.old.rests ≡ no_rests }

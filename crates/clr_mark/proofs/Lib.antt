@@ -21,3 +21,4 @@ pub mod WholeMarkings
 pub mod LeftObjects
 pub mod Young
 pub mod FoundObjects
+pub mod LargeMarks

@@ -4,3 +4,4 @@ pub mod Markings
 pub mod Roots
 pub mod Ties
 pub mod HandlePasses
+pub mod LargeMarks

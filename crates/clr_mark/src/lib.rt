@@ -1,9 +1,11 @@
-//! Marks the objects that are reached, with a stack of a fixed capacity.
+//! Marks the objects that are reached, with a stack of a fixed capacity, or all objects of large segments.
 #![tactic(auto)]
 
+pub use crate::large::mark_large;
 pub use crate::marker::Marker;
 pub use clr_mem::NoMemory;
 
+mod large;
 mod marker;
 mod roots;
 #[cfg(test)]

@@ -1,27 +1,26 @@
 -- The moves that slide a machine's large heap can be made by sliding.
-use Rattle.std.proofs.Common.{◌≡◌, ℕ, ◌+◌, ◌<◌, ◌≤◌, inl, inr, List, ◌++◌, map, length, sym, subst, arith, Bool, true}
+use Rattle.std.proofs.Common.{◌≡◌, ℕ, ◌+◌, ◌<◌, ◌≤◌, List, ◌++◌, map, length, subst, arith, Bool, true}
 use Rattle.clr_types.specs.Rising.{IsIn}
-use Rattle.clr_types.specs.Ranges.{Piece, by_place, Tiles}
-use Rattle.clr_types.specs.Segments.{empty_segment, first_place, Layout, pieces_in, reserved_end, same_kind, stands_in}
+use Rattle.clr_types.specs.Ranges.{Piece, by_place}
+use Rattle.clr_types.specs.Segments.{empty_segment, first_place, Layout, pieces_in, reserved_end, stands_in}
 use Rattle.clr_types.specs.Types.{TypeRow}
 use Rattle.clr_types.specs.declared.segment.SegInfo.{SegInfo}
-use Rattle.clr_types.specs.declared.segment.SegKind.TheVariants.{Large}
 use Rattle.clr_types.proofs.ChangedLists.{append_left, into_filter, IsIn-map}
 use Rattle.clr_types.proofs.PieceGaps.{IsGapped}
 use Rattle.clr_types.proofs.SegmentFacts.{between-stands}
 use Rattle.clr_types.proofs.SortedLists.{into_sorted_by}
 use Rattle.clr_types.proofs.TilePieces.{IsTile, tile, tiles-apart}
 use Rattle.clr_heap.specs.View.{HeapView, segment_at}
-use Rattle.clr_model.specs.Compaction.{Move, moved_pieces, Plug, plug_end}
+use Rattle.clr_model.specs.Compaction.{Move, moved_pieces, plug_end}
 use Rattle.clr_model.specs.Lawful.{IsLaid}
 use Rattle.clr_model.specs.Machine.{Machine}
 use Rattle.clr_model.specs.Slide.{IsLargeSlid, large_plugs, large_segments, slid_end, slid_free}
 use Rattle.clr_model.specs.Sweep.{survivors}
-use Rattle.clr_model.proofs.Landings.{IsMoveOf, LandsAmong}
+use Rattle.clr_model.proofs.Landings.{LandsAmong}
 use Rattle.clr_model.proofs.LargeSurvivors.{is-large, large-is}
-use Rattle.clr_model.proofs.PlugsApart.{landed-scattered, piece_of_move}
+use Rattle.clr_model.proofs.PlugsApart.{piece_of_move}
 use Rattle.clr_model.proofs.PlugRoom.{IsPlug}
-use Rattle.clr_model.proofs.SlidPlugs.{are, line, slid_landings, slid_tiles, source, starts, walked_plugs}
+use Rattle.clr_model.proofs.SlidPlugs.{are, slid_landings, slid_tiles, source, starts, walked_plugs}
 use Rattle.clr_view.specs.View.{layout_in}
 use Rattle.clr_sweep.proofs.SurvivorsSwept.{at-in, seen}
 use Rattle.clr_moves.specs.Moves.{AreMoves, IsInPart, IsMove, move_at, no_move, takes}
@@ -38,14 +37,14 @@ module _ (rows : List TypeRow) (old : HeapView) (base : Machine) (laid : IsLaid 
   parts = large_segments m.layout
 
   -- large segments are those that have a part
-  large_number : (s : SegInfo) → IsIn s parts
+  pub large_number : (s : SegInfo) → IsIn s parts
       → (t : ℕ) × (t < length old.segments) × (s ≡ segment_at old t) × (takes LargeSegments (segment_at old t) ≡ true)
   large_number s i =
       let (test, known) = large-is m laid s i in
       let (t, l, e) = index_of old.segments s known in
       (t, l, e, subst (λ u. takes LargeSegments u ≡ true) e test)
 
-  large_segment : (t : ℕ) → t < length old.segments → takes LargeSegments (segment_at old t) ≡ true
+  pub large_segment : (t : ℕ) → t < length old.segments → takes LargeSegments (segment_at old t) ≡ true
       → IsIn (segment_at old t) parts
   large_segment t l e = is-large m laid (segment_at old t) (at-in old.segments t empty_segment l) e
 

@@ -18,10 +18,9 @@ use Rattle.clr_heap.specs.Parts.{item_part, items_in, Part, parts, rest_part, Si
 use Rattle.clr_heap.specs.View.{CanWalk, frame, HeapView, holes_of, IsHeap, items_between, last_of, SameShape}
 use Rattle.clr_heap.specs.View.{segment_at, sight, word_of}
 use Rattle.clr_heap.proofs.Framing.{lawful_at}
-use Rattle.clr_heap.proofs.Spelling.{item_size}
+use Rattle.clr_heap.proofs.Spelling.{item_size, Spells-le}
 use Rattle.clr_heap.proofs.Staying.{segment_order}
 use Rattle.clr_model.specs.Compaction.{Move}
-use Rattle.clr_model.specs.Sweep.{part_start}
 use Rattle.clr_bricks.specs.Bricks.{entry_at}
 use Rattle.clr_plugs.specs.BrickEntries.{BricksView}
 use Rattle.clr_plugs.specs.Cursors.{TellLeft}
@@ -31,9 +30,9 @@ use Rattle.clr_plugs.proofs.Keeping.{planned-words, tells-words, told-words}
 use Rattle.clr_plugs.proofs.Starts.{into_filter, spaced-above}
 use Rattle.clr_moves.proofs.Giving.{hand_place, hand_positive, hand_within, plug_at}
 use Rattle.clr_moves.proofs.KeptRuns.{HeadStays, run_kept}
-use Rattle.clr_moves.proofs.PlugMoves.{IsMoveOf, number_plug, plug_number}
+use Rattle.clr_moves.proofs.PlugMoves.{IsMoveOf, last_number, number_plug, plug_number}
 use Rattle.clr_moves.specs.Lines.{CanRead, Gives, HasReadAhead, IsAtHand, LineView}
-use Rattle.clr_moves.specs.Moves.{move_at, part_of, start_of, takes}
+use Rattle.clr_moves.specs.Moves.{move_at, part_of, plug_stop, start_of, takes}
 use Rattle.clr_moves.specs.Told.{IsMarkedRun, IsPartPlanned, moves_at, moves_from, moves_of, TellMoves}
 use Rattle.clr_moves.specs.declared.parts.Parts.{Parts}
 
@@ -365,12 +364,14 @@ agrees-shape old now segment low shape words =
 
 -- ---- what plans tell
 
--- from `from`, where a plug starts above which none starts in segment t, the marked items of the segment end at `last`
+-- From `from`, where a plug starts above which none starts in segment t, the marked items of the segment end at `last`,
+-- and so does the plug.
 pub record IsLastRun (rows : List TypeRow) (h : HeapView) (vs : List Move) (t from last : ℕ) : Type 0 where
   pub run : IsMarkedRun rows h t from last
   pub number : ℕ
   pub within : number < length vs
   pub start : (move_at vs number).start ≡ from
+  pub stop : plug_stop (move_at vs number) ≡ last
   pub others : (j : ℕ) → j < length vs → from < (move_at vs j).start → last_of h t ≤ (move_at vs j).start
 
 -- the last plug of a part starts highest
@@ -453,15 +454,19 @@ module _ (rows : List TypeRow) (old now : HeapView) (bricks : BricksView) (g : P
     last_run ps q e =
         let P : List PlannedPlug → Type 0 = λ rs. IsIn q rs in
         let among = subst P (sym e) (append_right ps first) in
-        let (k, l, is) = plug_number old g tell.parts tell.lasts (length old.segments)
-        vs tell.moves t within on q among in
+        let (k, l, begins, size) = last_number old g tell.parts tell.lasts (length old.segments)
+        vs tell.moves t within on ps q e in
+        let run = told.run ps q e in
+        let order = Spells-le (sight rows old t) (parts (tell.lasts t) (sight rows old t) q.start (tell.lasts t))
+        q.start (tell.lasts t) run.run.spelled in
         let S : List PlannedPlug → Type 0 = λ rs. AreSpaced (tell.parts t).low (plug_starts rs) in
         let spaced = subst S e told.planned.lies.spaced in
         record {
-          run = told.run ps q e;
+          run = run;
           number = k;
           within = l;
-          start = is.start;
+          start = begins;
+          stop = omega (arith, begins, size, order);
           others = λ j l_j less.
               (let other = number_plug old g tell.parts tell.lasts (length old.segments) vs tell.moves j l_j in
               elim (cases_lt t other.segment) [

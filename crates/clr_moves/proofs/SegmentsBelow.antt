@@ -83,7 +83,7 @@ only_below h place k t heap b l low high = elim (cases_lt t k) [
 
 -- ---- parts
 
-part_of_two : (layout : Layout) (s : SegInfo) → part_start layout 2 s ≡ first_place s
+pub part_of_two : (layout : Layout) (s : SegInfo) → part_start layout 2 s ≡ first_place s
 part_of_two layout s = elim (cases_Bool (same_kind Ephemeral s.kind)) [
   | inl here ↦ rw here refl
   | inr other ↦ rw other refl

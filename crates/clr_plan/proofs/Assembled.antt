@@ -2,7 +2,7 @@
 use Rattle.std.proofs.Common.{◌≡◌, ◌⊎◌, inl, inr, ℕ, zero, suc, ◌+◌, ◌-◌, ◌%◌, ◌<◌, ◌≤◌, List, [], ◌∷◌, ◌++◌}
 use Rattle.std.proofs.Common.{length, map, refl, sym, ap, subst, ◌∙◌, arith, Bool, true, if◌then◌else◌}
 use Rattle.std.specs.Prelude.{IsSome}
-use Rattle.std.proofs.lemmas.Bool.{cases_lt, cases_order}
+use Rattle.std.proofs.lemmas.Bool.{both_ways, cases_lt, cases_order}
 use Rattle.clr_types.specs.Rising.{first, IsIn, IsRisingBy}
 use Rattle.clr_types.specs.Types.{TypeRow}
 use Rattle.clr_types.proofs.ChangedLists.{IsIn-map}
@@ -21,35 +21,33 @@ use Rattle.clr_plugs.specs.BrickEntries.{BricksView}
 use Rattle.clr_plugs.specs.Info.{IsInfoWord}
 use Rattle.clr_moves.specs.Moves.{AreInLine, AreMoves, move_at, part_of, plug_stop, takes}
 use Rattle.clr_moves.specs.Overlaid.{IsOutside, IsOverlaid, IsPlugWord}
+use Rattle.clr_moves.specs.declared.parts.Parts.{Parts}
 use Rattle.clr_moves.specs.Told.{IsMarkedRun, IsPartPlanned, moves_from, TellMoves}
-use Rattle.clr_plan.specs.Heaps.{AreFor, IsLaidBelow, moves_below, opened_below, part_plan, part_plugs}
-use Rattle.clr_plan.specs.Heaps.{plugs_below}
 use Rattle.clr_plan.specs.LaidParts.{end_behind}
-use Rattle.clr_plan.specs.Plans.{CanPlanHeap}
+use Rattle.clr_plan.specs.PartLists.{AreFor, AreLaid, moves_in, opened_in, plan_in, plugs_in}
 use Rattle.clr_plan.specs.Scans.{survivors_between}
 use Rattle.clr_plan.specs.Writes.{IsOutsideInfo, IsSavedBefore}
 use Rattle.clr_plan.proofs.Ages.{survivor-place}
 use Rattle.clr_plan.proofs.Fitting.{move-of, plug-at}
-use Rattle.clr_plan.proofs.Homes.{all-for, all-lie, free-in-part, free-of-plugs, home-of, in-all, inside-of, lies-in}
-use Rattle.clr_plan.proofs.Homes.{part-first, part-gapped, part-rises, sized}
+use Rattle.clr_plan.proofs.Homes.{all-for, free-in-part, free-of-plugs, HaveHomes, home-of, in-plugs, inside-of}
+use Rattle.clr_plan.proofs.Homes.{part-gapped, part-rises, sized}
 use Rattle.clr_plan.proofs.MarkedRuns.{last-run}
 use Rattle.clr_plan.proofs.PartFacts.{HasFacts}
 use Rattle.clr_plan.proofs.Pins.{before}
-use Rattle.clr_plan.proofs.Takes.{taken-small, takes-above}
 use Rattle.clr_plan.proofs.Telling.{AreDown, last-of-plans, moves-told, plans-down, told-above, told-below}
-use Rattle.clr_moves.specs.declared.parts.Parts.TheVariants.{Generations}
 
-module _ (rows : List TypeRow) (old now : HeapView) (bricks0 bricks : BricksView) (queue0 queue : QueueView) (g e : ℕ)
-    (can : CanPlanHeap rows old g e) (moves : List Move) (laid : IsLaidBelow rows old now bricks0 bricks queue0 queue g
-    e (suc e) moves) where
+module _ (rows : List TypeRow) (old now : HeapView) (bricks0 bricks : BricksView) (queue0 queue : QueueView)
+    (g : Parts) (plugs : ℕ → List Plug) (count : ℕ) (homes : HaveHomes old g plugs count) (moves : List Move)
+    (laid : AreLaid old now bricks0 bricks queue0 queue g plugs count moves) where
   abbrev all : List Plug
-  all = plugs_below rows old g e (suc e)
+  all = plugs_in old g plugs count
 
   abbrev free : List ℕ
-  free = opened_below rows old g e (suc e)
+  free = opened_in old g plugs count
 
   pub fits : AreFor all moves
-  fits = subst (AreFor all) (sym laid.moves_are) (all-for rows old g e can laid.each laid.fit (suc e) (omega arith))
+  fits = subst (AreFor all) (sym laid.moves_are)
+      (all-for old g plugs count homes laid.each laid.fit count (omega arith))
 
   -- ---- words
 
@@ -61,11 +59,11 @@ module _ (rows : List TypeRow) (old now : HeapView) (bricks0 bricks : BricksView
       let high = is.high in
       let start = r.start in
       let size = r.size in
-      free-of-plugs rows old g e can x b i info r.plug r.known (omega (arith, low, start))
+      free-of-plugs old g plugs count homes x b i info r.plug r.known (omega (arith, low, start))
       (omega (arith, high, start, size))
 
-  outside-out : (b : ℕ) → IsOutside old (Generations g) b → IsOutsideInfo free b
-  outside-out b out x i info = free-in-part rows old g e can x b i info out
+  outside-out : (b : ℕ) → IsOutside old g b → IsOutsideInfo free b
+  outside-out b out x i info = free-in-part old g plugs count homes x b i info out
 
   -- one of three words
   one-saved : (a b : ℕ) → 32 ≤ a → a % 8 ≡ 0 → b % 8 ≡ 0 → IsInfoWord a b → IsSavedBefore queue.entries a
@@ -85,11 +83,11 @@ module _ (rows : List TypeRow) (old now : HeapView) (bricks0 bricks : BricksView
   -- where a plug stands
   pub record Stands (q : Plug) : Type 0 where
     pub number : ℕ
-    pub below : number < suc e
-    pub taken : takes (Generations g) (segment_at old number) ≡ true
-    pub known : IsIn q (part_plugs rows old g e number)
-    pub first_low : first_of old number ≤ part_of old (Generations g) number
-    pub low : part_of old (Generations g) number ≤ q.start
+    pub below : number < count
+    pub taken : takes g (segment_at old number) ≡ true
+    pub known : IsIn q (plugs number)
+    pub first_low : first_of old number ≤ part_of old g number
+    pub low : part_of old g number ≤ q.start
     pub high : plug_end q ≤ last_of old number
     pub aligned : q.start % 8 ≡ 0
     pub ends : plug_end q % 8 ≡ 0
@@ -97,27 +95,27 @@ module _ (rows : List TypeRow) (old now : HeapView) (bricks0 bricks : BricksView
 
   pub stands : (q : Plug) → IsIn q all → Stands q
   stands q i =
-      let home = home-of rows old g e can (suc e) q i in
-      let lies = lies-in rows old g e can home.number home.below home.taken q home.known in
+      let home = home-of old g plugs count homes count q i in
+      let lies = homes.lies home.number home.below home.taken q home.known in
       record {
         number = home.number;
         below = home.below;
         taken = home.taken;
         known = home.known;
         first_low =
-            part-first rows old g e can home.number home.below home.taken;
+            homes.from_first home.number home.below home.taken;
         low = lies.low;
         high = lies.high;
         aligned =
             lies.aligned;
         ends = lies.ends;
-        size = sized rows old g e can q i;
+        size = sized old g plugs count homes q i;
       }
 
-  pub overlaid : AreMoves old (Generations g) moves → AreInLine moves
-      → IsOverlaid old now queue.entries (Generations g) moves
+  pub overlaid : AreMoves old g moves → AreInLine moves
+      → IsOverlaid old now queue.entries g moves
   overlaid are line = record {
-    heap = can.heap;
+    heap = homes.heap;
     moves = are;
     line = line;
     starts = λ k l. (
@@ -127,10 +125,10 @@ module _ (rows : List TypeRow) (old now : HeapView) (bricks0 bricks : BricksView
         let low = s.low in
         let high = s.high in
         let size = s.size in
-        let top = (lawful_at old s.number can.heap (inside-of rows old g e can s.number s.below)).high in (
+        let top = (lawful_at old s.number homes.heap (inside-of old g plugs count homes s.number s.below)).high in (
           s.number,
           record {
-            in_range = inside-of rows old g e can s.number s.below;
+            in_range = inside-of old g plugs count homes s.number s.below;
             takes = s.taken;
             low = omega (arith, start, low);
             high = omega (arith, start, high, size, top);
@@ -170,20 +168,20 @@ module _ (rows : List TypeRow) (old now : HeapView) (bricks0 bricks : BricksView
 
   -- ---- parts
 
-  same-takes : (t : ℕ) → takes (Generations g) (segment_at now t) ≡ takes (Generations g) (segment_at old t)
-  same-takes t = ap (λ (h : HeapView). takes (Generations g) (segment_at h t)) laid.words.shape.others
+  same-takes : (t : ℕ) → takes g (segment_at now t) ≡ takes g (segment_at old t)
+  same-takes t = ap (λ (h : HeapView). takes g (segment_at h t)) laid.words.shape.others
 
-  down-below : (each : ℕ → List Move) (k : ℕ) → AreDown (moves_below old g each k) → (t : ℕ) → t < k
-      → takes (Generations g) (segment_at old t) ≡ true → AreDown (each t)
+  down-below : (each : ℕ → List Move) (k : ℕ) → AreDown (moves_in old g each k) → (t : ℕ) → t < k
+      → takes g (segment_at old t) ≡ true → AreDown (each t)
   down-below each zero d t l on = absurd (omega arith)
   down-below each (suc k) d t l on = elim (cases_lt t k) [
     | inl u ↦ down-below each k
-        (front (moves_below old g each k) (if takes (Generations g) (segment_at old k) then each k else []) d)
+        (front (moves_in old g each k) (if takes g (segment_at old k) then each k else []) d)
         t u on
     | inr u ↦ let same : k ≡ t = omega arith in
         subst (λ j. AreDown (each j)) same (subst (λ (b : Bool). AreDown (if b then each k else []))
-        (subst (λ j. takes (Generations g) (segment_at old j) ≡ true) (sym same) on)
-        (back (moves_below old g each k) (if takes (Generations g) (segment_at old k) then each k else []) d))
+        (subst (λ j. takes g (segment_at old j) ≡ true) (sym same) on)
+        (back (moves_in old g each k) (if takes g (segment_at old k) then each k else []) d))
   ]
     where
       front : (xs ys : List Move) → AreDown (xs ++ ys) → AreDown xs
@@ -194,27 +192,27 @@ module _ (rows : List TypeRow) (old now : HeapView) (bricks0 bricks : BricksView
       back [] ys d = d
       back (x ∷ xs) ys d = back xs ys d.1
 
-  module _ (down : AreDown moves) (facts : (t : ℕ) → t < suc e → takes (Generations g) (segment_at old t) ≡ true
-      → HasFacts rows old g e t) (heads : AreFreeHeads rows old) where
-    part-down : (t : ℕ) → t < suc e → takes (Generations g) (segment_at old t) ≡ true → AreDown (laid.each t)
-    part-down t l on = down-below laid.each (suc e) (subst AreDown laid.moves_are down) t l on
+  module _ (down : AreDown moves) (facts : (t : ℕ) → t < count → takes g (segment_at old t) ≡ true
+      → HasFacts rows old g plugs t) (heads : AreFreeHeads rows old) where
+    part-down : (t : ℕ) → t < count → takes g (segment_at old t) ≡ true → AreDown (laid.each t)
+    part-down t l on = down-below laid.each count (subst AreDown laid.moves_are down) t l on
 
     -- ---- the last plug
 
-    module _ (t : ℕ) (l : t < suc e) (on : takes (Generations g) (segment_at old t) ≡ true) (others : List Plug)
+    module _ (t : ℕ) (l : t < count) (on : takes g (segment_at old t) ≡ true) (others : List Plug)
         (q : Plug)
-        (split : part_plugs rows old g e t ≡ others ++ q ∷ []) where
-      q-in : IsIn q (part_plugs rows old g e t)
+        (split : plugs t ≡ others ++ q ∷ []) where
+      q-in : IsIn q (plugs t)
       q-in = subst (IsIn q) (sym split) (append_right others first)
 
       q-known : IsIn q all
-      q-known = in-all rows old g e can (suc e) t q l on q-in
+      q-known = in-plugs old g plugs count t q l on q-in
 
       -- every other plug of the part starts below it
-      others-lower : (w : Plug) → IsIn w (part_plugs rows old g e t) → (w.start < q.start) ⊎ (w ≡ q)
+      others-lower : (w : Plug) → IsIn w (plugs t) → (w.start < q.start) ⊎ (w ≡ q)
       others-lower w i = elim (in_append others (subst (IsIn w) split i)) [
         | inl j ↦ inl (before others (q ∷ []) (subst (IsRisingBy (λ (p : Plug). p.start)) split
-            (part-rises rows old g e can t l on)) w q j first)
+            (part-rises old g plugs count homes t l on)) w q j first)
         | inr j ↦ elim (in_cons j) [ inl same ↦ inr same | inr none ↦ elim none [ ] ]
       ]
 
@@ -227,22 +225,24 @@ module _ (rows : List TypeRow) (old now : HeapView) (bricks0 bricks : BricksView
 
           far : (w : Plug) → Stands w → IsInfoWord w.start b → ⊥
           far w s info = elim (cases_order s.number t) [
-            | inl same ↦ elim (others-lower w (subst (λ n. IsIn w (part_plugs rows old g e n)) same s.known)) [
+            | inl same ↦ elim (others-lower w (subst (λ n. IsIn w (plugs n)) same s.known)) [
               | inl u ↦ let c = info.1 in omega (arith, u, c, low)
               | inr is ↦ let at = ap (λ (p : Plug). p.start) is in let c = info.1 in omega (arith, at, c, low)
             ]
             | inr other ↦ elim other [
               | inl u ↦
-                  let o = segment_order old s.number t can.heap u (inside-of rows old g e can t l) in
-                  let top = (lawful_at old s.number can.heap (inside-of rows old g e can s.number s.below)).high in
-                  let f = part-first rows old g e can t l on in
-                  let mine = (lies-in rows old g e can t l on q q-in).low in
+                  let o = segment_order old s.number t homes.heap u (inside-of old g plugs count homes t l) in
+                  let inside = inside-of old g plugs count homes s.number s.below in
+                  let top = (lawful_at old s.number homes.heap inside).high in
+                  let f = homes.from_first t l on in
+                  let mine = (homes.lies t l on q q-in).low in
                   let h = s.high in
                   let c = info.1 in
                   omega (arith, o, top, f, mine, h, c, low)
               | inr u ↦
-                  let o = segment_order old t s.number can.heap u (inside-of rows old g e can s.number s.below) in
-                  let top = (lawful_at old t can.heap (inside-of rows old g e can t l)).high in
+                  let inside = inside-of old g plugs count homes s.number s.below in
+                  let o = segment_order old t s.number homes.heap u inside in
+                  let top = (lawful_at old t homes.heap (inside-of old g plugs count homes t l)).high in
                   let f = s.first_low in
                   let d = s.low in
                   let c = info.0 in
@@ -258,25 +258,25 @@ module _ (rows : List TypeRow) (old now : HeapView) (bricks0 bricks : BricksView
       run-here : IsMarkedRun rows now t q.start (plug_end q)
       run-here =
           let f = facts t l on in
-          let lies = lies-in rows old g e can t l on q q-in in
-          last-run rows old now t (part_of old (Generations g) t)
+          let lies = homes.lies t l on q q-in in
+          last-run rows old now t (part_of old g t)
           (last_of old t) f.scan refl q lies.low lies.high lies.aligned
-          lies.ends (sized rows old g e can q q-known) (f.covered q q-in) none laid.words.shape ahead
+          lies.ends (sized old g plugs count homes q q-known) (f.covered q q-in) none laid.words.shape ahead
           (λ i n free. ap has_mark (heads i (f.listed i n) free).1)
         where
-          none : (k : Survivor) → IsIn k (survivors_between rows old t (part_of old (Generations g) t) (last_of old t))
+          none : (k : Survivor) → IsIn k (survivors_between rows old t (part_of old g t) (last_of old t))
               → plug_end q ≤ k.place → ⊥
           none k i u =
               let r = (facts t l on).plugged k i in
-              let (a, b, c, d, s) = survivor-place rows old t (part_of old (Generations g) t) (last_of old t) (facts t l on).scan k i
+              let (a, b, c, d, s) = survivor-place rows old t (part_of old g t) (last_of old t) (facts t l on).scan k i
               in
               let low = r.low in
               let high = r.high in
               elim (others-lower r.plug r.known) [
                 | inl v ↦
-                    let gap = (all-lie rows old g e can).apart r.plug q (in-all rows old g e can (suc e) t r.plug l on
+                    let gap = homes.lie.apart r.plug q (in-plugs old g plugs count t r.plug l on
                     r.known) q-known v in
-                    let sz = sized rows old g e can q q-known in
+                    let sz = sized old g plugs count homes q q-known in
                     elim gap [ inl e2 ↦ omega (arith, e2, high, u, sz, s) | inr e2 ↦ omega (arith, e2, high, u, sz, s) ]
                 | inr is ↦ let end = ap plug_end is in omega (arith, end, high, u, s)
               ]
@@ -284,31 +284,33 @@ module _ (rows : List TypeRow) (old now : HeapView) (bricks0 bricks : BricksView
     -- ---- all parts
 
     abbrev lasts : ℕ → ℕ
-    lasts t = end_behind (part_of old (Generations g) t) (part_plugs rows old g e t)
+    lasts t = end_behind (part_of old g t) (plugs t)
 
-    inside-below : (t : ℕ) → t < length now.segments → takes (Generations g) (segment_at now t) ≡ true → t < suc e
+    inside-below : (t : ℕ) → t < length now.segments → takes g (segment_at now t) ≡ true → t < count
     inside-below t l on =
-        let on_old : takes (Generations g) (segment_at old t) ≡ true = sym (same-takes t) ∙ on in
+        let on_old : takes g (segment_at old t) ≡ true = sym (same-takes t) ∙ on in
         let l_old : t < length old.segments = subst (λ (h : HeapView). t < length h.segments) laid.words.shape.others l
         in
-        let m = can.last t l_old (taken-small g (segment_at old t) on_old) in
-        omega (arith, m)
+        elim (cases_lt t count) [
+          | inl u ↦ u
+          | inr u ↦ absurd (both_ways (takes g (segment_at old t)) (homes.above t u l_old) on_old)
+        ]
 
-    part-planned : (t : ℕ) → t < length now.segments → takes (Generations g) (segment_at now t) ≡ true
+    part-planned : (t : ℕ) → t < length now.segments → takes g (segment_at now t) ≡ true
         → IsPartPlanned rows now bricks
-        (Generations g) t (part_plan rows old g e t (laid.each t)) (lasts t)
+        g t (plan_in old g plugs t (laid.each t)) (lasts t)
     part-planned t inside on_now =
         let l = inside-below t inside on_now in
-        let on : takes (Generations g) (segment_at old t) ≡ true = sym (same-takes t) ∙ on_now in
+        let on : takes g (segment_at old t) ≡ true = sym (same-takes t) ∙ on_now in
         record {
           planned = laid.plans t l on;
           segment = refl;
-          low = sym (ap (λ (h : HeapView). part_of h (Generations g) t) laid.words.shape.others);
+          low = sym (ap (λ (h : HeapView). part_of h g t) laid.words.shape.others);
           high = sym (ap (λ (h : HeapView). last_of h t) laid.words.shape.others);
-          down = plans-down (part_of old (Generations g) t) (part_plugs rows old g e t) (laid.each t) (laid.fit t l on)
+          down = plans-down (part_of old g t) (plugs t) (laid.each t) (laid.fit t l on)
               (part-down t l on);
           run = λ xs x same. (
-              let r = last-of-plans (part_of old (Generations g) t) (part_plugs rows old g e t) (laid.each t) xs x (laid.fit t l on)
+              let r = last-of-plans (part_of old g t) (plugs t) (laid.each t) xs x (laid.fit t l on)
               same in
               subst (λ n. IsMarkedRun rows now t n (lasts t)) (sym r.start_is)
               (subst (λ n. IsMarkedRun rows now t r.plug.start n) (sym r.ends)
@@ -316,27 +318,27 @@ module _ (rows : List TypeRow) (old now : HeapView) (bricks0 bricks : BricksView
               );
         }
 
-    pub tells : TellMoves rows now bricks (Generations g) moves
+    pub tells : TellMoves rows now bricks g moves
     tells = record {
-      parts = λ t. part_plan rows old g e t (laid.each t);
+      parts = λ t. plan_in old g plugs t (laid.each t);
       lasts = lasts;
       each = part-planned;
       moves = told;
     }
       where
-        told : moves ≡ moves_from now (Generations g) (λ t. part_plan rows old g e t (laid.each t)) lasts 0
+        told : moves ≡ moves_from now g (λ t. plan_in old g plugs t (laid.each t)) lasts 0
             (length now.segments)
         told =
-            let count : length now.segments ≡ length old.segments = ap (λ (h : HeapView). length h.segments)
+            let same : length now.segments ≡ length old.segments = ap (λ (h : HeapView). length h.segments)
             laid.words.shape.others in
-            let inside = can.inside in
-            let d = length old.segments - suc e in
-            let whole : suc e + d ≡ length now.segments = omega (arith, count, inside) in
+            let inside = homes.inside in
+            let d = length old.segments - count in
+            let whole : count + d ≡ length now.segments = omega (arith, same, inside) in
             laid.moves_are
-            ∙ sym (told-below old now g (λ t. part_plan rows old g e t (laid.each t)) lasts laid.each same-takes (suc e)
-            (λ t l on. moves-told (part_of old (Generations g) t) (part_plugs rows old g e t) (laid.each t)
+            ∙ sym (told-below old now g (λ t. plan_in old g plugs t (laid.each t)) lasts laid.each same-takes count
+            (λ t l on. moves-told (part_of old g t) (plugs t) (laid.each t)
             (laid.fit t l on)
-            (part-down t l on) (part-gapped rows old g e can t l on)))
-            ∙ sym (told-above old now g (λ t. part_plan rows old g e t (laid.each t)) lasts laid.each same-takes (suc e)
-            d (λ t l u. takes-above rows old g e can t l (omega (arith, u, inside))))
-            ∙ ap (moves_from now (Generations g) (λ t. part_plan rows old g e t (laid.each t)) lasts 0) whole
+            (part-down t l on) (part-gapped old g plugs count homes t l on)))
+            ∙ sym (told-above old now g (λ t. plan_in old g plugs t (laid.each t)) lasts laid.each same-takes count
+            d (λ t l u. homes.above t l (omega (arith, u, inside))))
+            ∙ ap (moves_from now g (λ t. plan_in old g plugs t (laid.each t)) lasts 0) whole

@@ -21,10 +21,12 @@ use Rattle.clr_model.proofs.PlugPointer.{IsNear}
 use Rattle.clr_model.proofs.PlugRoom.{IsPlug, ArePlugs, IsOutside}
 use Rattle.clr_sweep.proofs.SurvivorsSwept.{at-in}
 use Rattle.clr_plan.specs.Pointing.{IsAt}
-use Rattle.clr_plan.specs.Stages.{IsAmong, IsListed}
-use Rattle.clr_plan.specs.Firsts.{IsFirstSmall}
+use Rattle.clr_plan.specs.Stages.{are_alike, IsAmong, IsListed}
+use Rattle.clr_plan.specs.Firsts.{IsLowest}
 use Rattle.clr_plan.specs.Plans.{CanPlanHeap, condemned_plugs, parts_in, start_of_part}
+use Rattle.clr_moves.specs.declared.parts.Parts.TheVariants.{Generations}
 use Rattle.clr_plan.specs.declared.pointer.Pointer.{Pointer}
+use Rattle.clr_plan.proofs.Alike.{alike-small}
 
 -- ---- where the pointer begins
 
@@ -66,7 +68,7 @@ module _ (segments : List SegInfo) (all : List Plug) (h : ArePlugs segments all)
 
 -- ---- segments by index
 
-in-at : (ss : List SegInfo) (s : SegInfo) → IsIn s ss → (k : ℕ) × (k < length ss) × (s ≡ get_or ss k empty_segment)
+pub in-at : (ss : List SegInfo) (s : SegInfo) → IsIn s ss → (k : ℕ) × (k < length ss) × (s ≡ get_or ss k empty_segment)
 in-at [] s i = elim i [ ]
 in-at (t ∷ ss) s first = (0, omega arith, refl)
 in-at (t ∷ ss) s (later i) = let (k, l, e) = in-at ss s i in (suc k, omega arith, e)
@@ -78,9 +80,9 @@ kind-small Large e = absurd cc
 kind-small Pinned e = absurd cc
 
 -- the first that passes a test is the head of those that do
-head-at : (test : SegInfo → Bool) (ss : List SegInfo) (n : ℕ) → n < length ss → test (get_or ss n empty_segment) ≡ true
-    → ((j : ℕ) → j < n → test (get_or ss j empty_segment) ≡ false) → segment_or_empty (filter test ss)
-    ≡ get_or ss n empty_segment
+pub head-at : (test : SegInfo → Bool) (ss : List SegInfo) (n : ℕ) → n < length ss
+    → test (get_or ss n empty_segment) ≡ true → ((j : ℕ) → j < n → test (get_or ss j empty_segment) ≡ false)
+    → segment_or_empty (filter test ss) ≡ get_or ss n empty_segment
 head-at test [] n l e below = absurd (omega arith)
 head-at test (s ∷ ss) zero l e below = ap (λ b. segment_or_empty (if b then s ∷ filter test ss else filter test ss)) e
 head-at test (s ∷ ss) (suc n) l e below =
@@ -120,14 +122,16 @@ module _ (rows : List TypeRow) (h : HeapView) (g e : ℕ) (can : CanPlanHeap row
   among-at at k most small order high either = record {
     heap = can.heap;
     in_range = let i = can.inside in omega arith;
-    small = small;
     order = order;
     high = high;
     listed = λ s i. listed s i;
-    between = λ j l m on. between j l m on either;
+    between = λ j l m on. between j l m (sym (alike j) ∙ on) either;
   }
     where
-      listed : (s : SegInfo) → IsIn s (parts_in rows h g) → IsListed h s
+      alike : (j : ℕ) → are_alike h k j ≡ is_small_or_ephemeral (segment_at h j).kind
+      alike j = alike-small (segment_at h k).kind (segment_at h j).kind small
+
+      listed : (s : SegInfo) → IsIn s (parts_in rows h g) → IsListed h k s
       listed s i =
           let (t, n) = out_of_filter (λ (s : SegInfo). is_small_or_ephemeral s.kind && has_condemned_part g s) s
           h.segments i in
@@ -136,7 +140,8 @@ module _ (rows : List TypeRow) (h : HeapView) (g e : ℕ) (can : CanPlanHeap row
             index = j;
             in_range = l;
             is = same;
-            small = (and_parts (is_small_or_ephemeral s.kind) (has_condemned_part g s) t).0;
+            alike = alike j ∙ subst (λ (u : SegInfo). is_small_or_ephemeral u.kind ≡ true) same
+                (and_parts (is_small_or_ephemeral s.kind) (has_condemned_part g s) t).0;
           }
 
       between : (j : ℕ) → at.segment ≤ j → j ≤ k → is_small_or_ephemeral (segment_at h j).kind ≡ true → (g ≡ 2)
@@ -162,14 +167,8 @@ module _ (rows : List TypeRow) (h : HeapView) (g e : ℕ) (can : CanPlanHeap row
   opens-young l = begins-at (parts_in rows h g) (condemned_plugs rows h g e) plugs-lie (part_start layout g)
       (first_pointer layout g (parts_in rows h g)) can.condemned.starts (segment_at h e) young-in (start-young l)
 
-  -- in a collection of generation 2 the pointer begins at the first place of the first segment that isn't large
-  module _ (two : g ≡ 2) (n : ℕ) (is : IsFirstSmall h e n) where
-    inside : n < length h.segments
-    inside = let m = is.most in let i = can.inside in omega arith
-
-    pub first-small : is_small_or_ephemeral (segment_at h n).kind ≡ true
-    first-small = is.small young-small
-
+  -- in a collection of generation 2 the pointer begins at the first place of the lowest segment that isn't large
+  module _ (two : g ≡ 2) (n : ℕ) (is : IsLowest h (Generations g) n) where
     start-first : part_start layout g (segment_at h n) ≡ first_of h n
     start-first = go (same_kind Ephemeral (segment_at h n).kind)
       where
@@ -179,11 +178,8 @@ module _ (rows : List TypeRow) (h : HeapView) (g e : ℕ) (can : CanPlanHeap row
         go false = refl
 
     head-first : segment_or_empty (parts_in rows h g) ≡ segment_at h n
-    head-first =
-        head-at (λ (s : SegInfo). is_small_or_ephemeral s.kind && has_condemned_part g s) h.segments n inside
-        (and_from (is_small_or_ephemeral (segment_at h n).kind) (has_condemned_part g (segment_at h n)) first-small
-        (all-parts two (segment_at h n)))
-        (λ j l. ap (λ b. b && has_condemned_part g (segment_at h j)) (is.below j l))
+    head-first = head-at (λ (s : SegInfo). is_small_or_ephemeral s.kind && has_condemned_part g s) h.segments n
+        is.in_range is.taken is.below
 
     pub pointer-first : first_pointer layout g (parts_in rows h g) ≡ first_of h n
     pointer-first = ap (part_start layout g) head-first ∙ start-first
@@ -193,4 +189,5 @@ module _ (rows : List TypeRow) (h : HeapView) (g e : ℕ) (can : CanPlanHeap row
     opens-first =
         begins-at (parts_in rows h g) (condemned_plugs rows h g e) plugs-lie (part_start layout g)
         (first_pointer layout g (parts_in rows h g)) can.condemned.starts (segment_at h n)
-        (part-in n inside first-small (all-parts two (segment_at h n))) (start-first ∙ sym pointer-first)
+        (into_filter (λ (s : SegInfo). is_small_or_ephemeral s.kind && has_condemned_part g s) h.segments is.taken
+        (at-in h.segments n empty_segment is.in_range)) (start-first ∙ sym pointer-first)

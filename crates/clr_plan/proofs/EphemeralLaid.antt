@@ -25,10 +25,11 @@ use Rattle.clr_plugs.specs.Plans.{IsBrickOf, IsPart, IsPlanned, PlannedPart, Pla
 use Rattle.clr_plugs.proofs.Entries.{entry_kept}
 use Rattle.clr_plugs.proofs.Starts.{all_from, in_brick}
 use Rattle.clr_moves.specs.Moves.{part_of}
-use Rattle.clr_plan.specs.Heaps.{AreFor, CanLayEphemeral, HasLaidHeap, IsBetweenIn, IsLaidBelow, opened_below}
+use Rattle.clr_plan.specs.Heaps.{CanLayEphemeral, HasLaidHeap, IsBetweenIn, IsLaidBelow, opened_below}
 use Rattle.clr_plan.specs.Heaps.{part_plan, part_plugs, plugs_below}
 use Rattle.clr_plan.specs.LaidParts.{CanLay, end_behind, HasLaid, opened_by, planned_plugs, pushes_for}
 use Rattle.clr_plan.specs.LaidParts.{written, Written}
+use Rattle.clr_plan.specs.PartLists.{AreFor}
 use Rattle.clr_plan.specs.Parts.{Around, CanPlan, HasPlacedPart, plugs_around}
 use Rattle.clr_plan.specs.Planned.{pinned_count}
 use Rattle.clr_plan.specs.Plans.{CanPlanHeap, condemned_plugs, HasReached, IsRaisedTo}
@@ -551,7 +552,8 @@ module _ (setting : Setting) where
                   let w = within2 in
                   let count1 = laid.count in
                   let count2 = laid2.count in
-                  laid-more rows old now bricks0 bricks queue0 queue g e e s.moves s.laid can.heap can.inside
+                  laid-more old now bricks0 bricks queue0 queue (Generations g) (part_plugs rows old g e) e s.moves
+                  s.laid can.heap can.inside
                   (takes-young rows old g e can) now5 bricks5 next.queue (m1 ++ m2) ending2
                   (subst (λ ps. AreFor ps (m1 ++ m2)) (sym here) (for-append older young m1 m2 fit1 fit2))
                   plan-here words-here (omega (arith, w, end-is)) (omega (arith, a, l))

@@ -5,7 +5,7 @@ use Rattle.clr_types.specs.Rising.{first, IsIn, later}
 use Rattle.clr_types.specs.declared.segment.SegInfo.{SegInfo}
 use Rattle.clr_model.specs.Compaction.{IsDestination, Move, Placed, Plug, plug_end}
 use Rattle.clr_moves.specs.Moves.{move_at}
-use Rattle.clr_plan.specs.Heaps.{AreFor}
+use Rattle.clr_plan.specs.PartLists.{AreFor}
 use Rattle.clr_plan.specs.LaidParts.{end_behind, planned_plugs}
 use Rattle.clr_plan.specs.Writes.{distance_of}
 

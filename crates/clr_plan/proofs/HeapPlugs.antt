@@ -3,7 +3,7 @@ use Rattle.std.proofs.lemmas.List.{append-nil}
 use Rattle.std.proofs.Common.{◌≡◌, ◌≢◌, ℕ, zero, suc, ◌+◌, ◌-◌, ◌<◌, ◌≤◌, ◌⊎◌, inl, inr, List, [], ◌++◌, map, filter}
 use Rattle.std.proofs.Common.{length, refl, sym, ap, ap₂, subst, ◌∙◌, arith, Bool, true, false, ◌&&◌, ◌==◌, nat_le}
 use Rattle.std.proofs.Common.{nat_lt, if◌then◌else◌, append_assoc}
-use Rattle.std.proofs.lemmas.Bool.{and_left, and_right, cases_lt, cases_order, cases_Bool, eqb-true, eq-eqb, le-leb}
+use Rattle.std.proofs.lemmas.Bool.{and_right, cases_lt, cases_order, cases_Bool, eqb-true, eq-eqb, le-leb}
 use Rattle.std.proofs.lemmas.Bool.{leb-true, ne_eqb}
 use Rattle.std.proofs.lemmas.List.{map-append}
 use Rattle.std.proofs.lemmas.List.Elements.{filter-append}
@@ -13,13 +13,13 @@ use Rattle.clr_types.specs.Segments.{empty_segment, ephemeral, generation, is_sm
 use Rattle.clr_types.specs.Segments.{stands_in}
 use Rattle.clr_types.specs.declared.item.Item.{Item}
 use Rattle.clr_types.specs.declared.segment.SegInfo.{SegInfo}
-use Rattle.clr_types.proofs.ChangedLists.{all_members, out_of_filter}
+use Rattle.clr_types.proofs.ChangedLists.{all_members}
 use Rattle.clr_types.proofs.HighestSegment.{ephemeral-highest}
-use Rattle.clr_types.proofs.ListMembers.{filter-on, from-map, in_append}
+use Rattle.clr_types.proofs.ListMembers.{filter-on, in_append}
 use Rattle.clr_types.proofs.RisingLists.{all_at}
 use Rattle.clr_types.proofs.SegmentFacts.{between-stands, elsewhere, ephemeral-in}
 use Rattle.clr_heap.specs.Parts.{parts}
-use Rattle.clr_heap.specs.View.{first_of, HeapView, IsHeap, items_between, last_of, listing, listings, no_rests}
+use Rattle.clr_heap.specs.View.{first_of, HeapView, IsHeap, last_of, listing, listings, no_rests}
 use Rattle.clr_heap.specs.View.{segment_at, sight, word_of}
 use Rattle.clr_heap.proofs.Framing.{lawful_at}
 use Rattle.clr_heap.proofs.Staying.{segment_order}
@@ -35,10 +35,12 @@ use Rattle.clr_view.specs.Memory.{TestsMarks}
 use Rattle.clr_sweep.specs.SweptItems.{stays}
 use Rattle.clr_sweep.proofs.SurvivorsSwept.{at-in, seen}
 use Rattle.clr_plan.specs.Pinned.{TellsPins}
-use Rattle.clr_plan.specs.Plans.{condemned_plugs, old_part, older_plugs, segment_plugs, small_plugs, young_plugs}
-use Rattle.clr_plan.specs.Scans.{plugs_between, survivor_in, survivors_between}
+use Rattle.clr_plan.specs.Plans.{condemned_plugs, old_part, older_plugs, small_plugs, young_plugs}
+use Rattle.clr_plan.specs.Scans.{survivor_in, survivors_between}
 use Rattle.clr_plan.proofs.AppendedPlugs.{plugs-append, shares}
 use Rattle.clr_plan.proofs.Beginning.{kind-small}
+use Rattle.clr_plan.proofs.ChosenPlugs.{apart-segments, bases-differ, between-of, between-segment, chosen-plugs}
+use Rattle.clr_plan.proofs.ChosenPlugs.{survivor-home, survivors_at, survivors_from}
 use Rattle.clr_plan.proofs.Scanning.{survivors-done}
 use Rattle.clr_plan.proofs.HeapSurvivors.{of_item, survives, survivors-are, segment-survivors}
 use Rattle.clr_plan.proofs.Pins.{agree}
@@ -47,76 +49,10 @@ use Rattle.clr_plan.proofs.YoungParts.{start-facts, young-age, young-survivors}
 
 -- the survivors of segment k, where it isn't large, and those of n segments from segment k on
 abbrev segment_survivors : List TypeRow → HeapView → ℕ → List Survivor
-segment_survivors rows h k = if is_small_or_ephemeral (segment_at h k).kind then survivors_between rows h k
-    (first_of h k) (last_of h k) else []
+segment_survivors rows h k = survivors_at is_small_or_ephemeral rows h k
 
 abbrev small_survivors : List TypeRow → HeapView → ℕ → ℕ → List Survivor
-small_survivors rows h k zero = []
-small_survivors rows h k (suc n) = segment_survivors rows h k ++ small_survivors rows h (k + 1) n
-
--- a survivor of a stretch is of its segment
-between-of : (rows : List TypeRow) (h : HeapView) (k p e : ℕ) (v : Survivor) → IsIn v (survivors_between rows h k p e)
-    → (i : Item) × IsIn i (items_between (sight rows h k) p e) × (v ≡ survivor_in h k i)
-between-of rows h k p e v n =
-    let (i, same, j) = from-map (survivor_in h k) v (filter (stays (word_of h)) (items_between (sight rows h k) p e)) n
-    in
-    (i, (out_of_filter (stays (word_of h)) i (items_between (sight rows h k) p e) j).1, same)
-
-between-segment : (rows : List TypeRow) (h : HeapView) (k p e : ℕ) (v : Survivor)
-    → IsIn v (survivors_between rows h k p e) → v.segment ≡ (segment_at h k).base
-between-segment rows h k p e v n = let (i, l, same) = between-of rows h k p e v n in
-    ap (λ (w : Survivor). w.segment) same
-
-segment-of : (rows : List TypeRow) (h : HeapView) (k : ℕ) (v : Survivor) → IsIn v (segment_survivors rows h k)
-    → v.segment ≡ (segment_at h k).base
-segment-of rows h k v n = go (is_small_or_ephemeral (segment_at h k).kind) n
-  where
-    go : (b : Bool) → IsIn v (if b then survivors_between rows h k (first_of h k) (last_of h k) else []) → v.segment
-        ≡ (segment_at h k).base
-    go true n = between-segment rows h k (first_of h k) (last_of h k) v n
-    go false n = elim n [ ]
-
-small-of : (rows : List TypeRow) (h : HeapView) (k n : ℕ) (v : Survivor) → IsIn v (small_survivors rows h k n) → (j : ℕ)
-    × (k ≤ j) × (j < k + n) × (v.segment ≡ (segment_at h j).base)
-small-of rows h k zero v i = elim i [ ]
-small-of rows h k (suc n) v i = go (in_append (segment_survivors rows h k) i) (small-of rows h (k + 1) n v)
-  where
-    go : IsIn v (segment_survivors rows h k) ⊎ IsIn v (small_survivors rows h (k + 1) n)
-        → (IsIn v (small_survivors rows h (k + 1) n) → (j : ℕ) × (k + 1 ≤ j) × (j < k + 1 + n)
-        × (v.segment ≡ (segment_at h j).base))
-        → (j : ℕ) × (k ≤ j) × (j < k + suc n) × (v.segment ≡ (segment_at h j).base)
-    go (inl here) more = (k, omega arith, omega arith, segment-of rows h k v here)
-    go (inr there) more = let (j, l, u, e) = more there in (j, omega arith, omega arith, e)
-
-module _ (h : HeapView) (heap : IsHeap h) where
-  -- segments of different indexes have different bases
-  bases-differ : (j k : ℕ) → j < k → k < length h.segments → (segment_at h j).base ≢ (segment_at h k).base
-  bases-differ j k l inside e =
-      let o : reserved_end (segment_at h j) ≤ (segment_at h k).base = segment_order h j k heap l inside in
-      let r : 262144 ≤ (segment_at h j).reserved = (lawful_at h j heap (omega arith)).least in
-      absurd (omega arith)
-
-  apart-segments : (k l : Survivor) (i j : ℕ) → i < j → j < length h.segments → k.segment ≡ (segment_at h i).base
-      → l.segment ≡ (segment_at h j).base → shares k l ≡ false
-  apart-segments k l i j below inside a b = and_left (k.segment == l.segment) (k.generation == l.generation)
-      (ne_eqb k.segment l.segment (λ e. bases-differ i j below inside (sym a ∙ e ∙ b)))
-
-  module _ (rows : List TypeRow) where
-    segment-plugs : (k : ℕ) → plugs_of (segment_survivors rows h k) ≡ segment_plugs rows h k
-    segment-plugs k = go (is_small_or_ephemeral (segment_at h k).kind)
-      where
-        go : (b : Bool) → plugs_of (if b then survivors_between rows h k (first_of h k) (last_of h k) else [])
-            ≡ (if b then plugs_between rows h k (first_of h k) (last_of h k) else [])
-        go true = refl
-        go false = refl
-
-    small-plugs : (k n : ℕ) → k + n ≤ length h.segments → plugs_of (small_survivors rows h k n) ≡ small_plugs rows h k n
-    small-plugs k zero l = refl
-    small-plugs k (suc n) l =
-        plugs-append (segment_survivors rows h k) (small_survivors rows h (k + 1) n)
-        (λ v w i j. let (u, a, b, e) = small-of rows h (k + 1) n w j in
-        apart-segments v w k u (omega arith) (omega arith) (segment-of rows h k v i) e)
-        ∙ ap₂ (λ (ps qs : List Plug). ps ++ qs) (segment-plugs k) (small-plugs (k + 1) n (omega arith))
+small_survivors rows h k n = survivors_from is_small_or_ephemeral rows h k n
 
 module _ (rows : List TypeRow) (h : HeapView) (base : Machine) (heap : IsHeap h) (held : IsHeld rows h) (none : h.rests
     ≡ no_rests) (laid : IsLaid (seen rows h base)) (g : ℕ) (least : g ≤ 2) (keep : ℕ → Bool)
@@ -133,16 +69,16 @@ module _ (rows : List TypeRow) (h : HeapView) (base : Machine) (heap : IsHeap h)
     start = part_start layout g (segment_at h e)
 
     abbrev found : List Item → List Survivor
-    found is = map (of_item rows h base heap held laid g keep tests pins)
-        (filter (survives rows h base heap held laid g keep tests pins) is)
+    found is = map (of_item rows h base heap held laid g keep tests pins is_small_or_ephemeral)
+        (filter (survives rows h base heap held laid g keep tests pins is_small_or_ephemeral) is)
 
     found-append : (xs ys : List Item) → found (xs ++ ys) ≡ found xs ++ found ys
     found-append xs ys =
-        ap (map (of_item rows h base heap held laid g keep tests pins))
-        (filter-append (survives rows h base heap held laid g keep tests pins) xs ys)
-        ∙ map-append (of_item rows h base heap held laid g keep tests pins)
-        (filter (survives rows h base heap held laid g keep tests pins) xs)
-        (filter (survives rows h base heap held laid g keep tests pins) ys)
+        ap (map (of_item rows h base heap held laid g keep tests pins is_small_or_ephemeral))
+        (filter-append (survives rows h base heap held laid g keep tests pins is_small_or_ephemeral) xs ys)
+        ∙ map-append (of_item rows h base heap held laid g keep tests pins is_small_or_ephemeral)
+        (filter (survives rows h base heap held laid g keep tests pins is_small_or_ephemeral) xs)
+        (filter (survives rows h base heap held laid g keep tests pins is_small_or_ephemeral) ys)
 
     -- ---- segments below and above the ephemeral one
 
@@ -182,7 +118,7 @@ module _ (rows : List TypeRow) (h : HeapView) (base : Machine) (heap : IsHeap h)
     one-segment : (k : ℕ) → k < length h.segments → k ≢ e → found (listing rows h k)
         ≡ (if g == 2 then segment_survivors rows h k else [])
     one-segment k l ne =
-        segment-survivors rows h base heap held laid g keep tests pins k l
+        segment-survivors rows h base heap held laid g keep tests pins is_small_or_ephemeral k l
         ∙ ap (map (survivor_in h k)) (filter-on (stays_in k) (λ i. stays (word_of h) i
         && ((g == 2) && is_small_or_ephemeral (segment_at h k).kind)) (listing rows h k)
         (λ i n. ap (λ b. stays (word_of h) i && (b && is_small_or_ephemeral (segment_at h k).kind))
@@ -272,14 +208,15 @@ module _ (rows : List TypeRow) (h : HeapView) (base : Machine) (heap : IsHeap h)
     all-survivors : survivors_in is_small_or_ephemeral layout (survivors m g keep) ≡ (low_ones ++ old_ones)
         ++ young_ones
     all-survivors =
-        survivors-are rows h base heap held laid g keep tests pins
+        survivors-are rows h base heap held laid g keep tests pins is_small_or_ephemeral
         ∙ ap found (heap-cut rows h e (length h.segments) inside)
         ∙ found-append (listings rows h 0 e) (listing rows h e ++ listings rows h (e + 1) (length h.segments - (e + 1)))
         ∙ ap (λ xs. found (listings rows h 0 e) ++ xs)
         (found-append (listing rows h e) (listings rows h (e + 1) (length h.segments - (e + 1))))
         ∙ ap₂ (λ (xs ys : List Survivor). xs ++ (ys ++ found (listings rows h (e + 1) (length h.segments - (e + 1)))))
         (low-segments 0 e (omega arith))
-        (segment-survivors rows h base heap held laid g keep tests pins e inside ∙ young-survivors rows h base heap held
+        (segment-survivors rows h base heap held laid g keep tests pins is_small_or_ephemeral e inside
+        ∙ young-survivors rows h base heap held
         none laid g least e inside young small-e)
         ∙ ap (λ zs. low_ones ++ ((old_ones ++ young_ones) ++ zs)) (high-segments (e + 1) (length h.segments - (e + 1))
         (omega arith) (omega arith))
@@ -293,7 +230,7 @@ module _ (rows : List TypeRow) (h : HeapView) (base : Machine) (heap : IsHeap h)
       where
         go : (b : Bool) → IsIn v (if b then small_survivors rows h 0 e else []) → (j : ℕ) × (j < e)
             × (v.segment ≡ (segment_at h j).base)
-        go true n = let (j, a, b, s) = small-of rows h 0 e v n in (j, omega arith, s)
+        go true n = let (j, a, b, s) = survivor-home is_small_or_ephemeral rows h 0 e v n in (j, omega arith, s)
         go false n = elim n [ ]
 
     low-plugs : plugs_of low_ones ≡ (if g == 2 then small_plugs rows h 0 e else [])
@@ -301,7 +238,7 @@ module _ (rows : List TypeRow) (h : HeapView) (base : Machine) (heap : IsHeap h)
       where
         go : (b : Bool) → plugs_of (if b then small_survivors rows h 0 e else [])
             ≡ (if b then small_plugs rows h 0 e else [])
-        go true = small-plugs h heap rows 0 e (omega arith)
+        go true = chosen-plugs h heap is_small_or_ephemeral rows 0 e (omega arith)
         go false = refl
 
     -- the survivors of the two parts of the ephemeral segment differ in age

@@ -1,13 +1,14 @@
--- The survivors of a machine whose memory a heap is, read off the heap's items.
+-- The survivors of a machine whose memory a heap is, in segments of chosen kinds, read off the heap's items.
 use Rattle.std.proofs.Common.{◌≡◌, ℕ, ◌<◌, List, [], ◌∷◌, map, filter, length, refl, sym, ap, subst, ◌∙◌, arith}
 use Rattle.std.proofs.Common.{Bool, true, false, ◌&&◌, ◌==◌, nat_le}
 use Rattle.std.proofs.lemmas.Bool.{and_from, and_parts, eq-eqb, eqb-true, leb-true}
 use Rattle.std.specs.List.{AllByRecursion, list_any}
 use Rattle.clr_types.specs.Rising.{IsIn, IsRisingBy, sorted_by}
 use Rattle.clr_types.specs.Types.{TypeRow}
-use Rattle.clr_types.specs.Segments.{empty_segment, generation, is_small_or_ephemeral, Layout, stands_in}
+use Rattle.clr_types.specs.Segments.{empty_segment, generation, Layout, stands_in}
 use Rattle.clr_types.specs.declared.item.Item.{Item}
 use Rattle.clr_types.specs.declared.segment.SegInfo.{SegInfo}
+use Rattle.clr_types.specs.declared.segment.SegKind.{SegKind}
 use Rattle.clr_types.proofs.ChangedLists.{into_filter, IsIn-map, out_of_filter, rising-sorted, sorted_by-done}
 use Rattle.clr_types.proofs.ListMembers.{any-from, any-in, filter-map, filter-on, filter-rises, map-map, map-on}
 use Rattle.clr_types.proofs.RisingLists.{all_at}
@@ -44,7 +45,7 @@ map-rises f key other same (x ∷ xs) r = (go xs r.0, map-rises f key other same
 
 module _ (rows : List TypeRow) (h : HeapView) (base : Machine) (heap : IsHeap h) (held : IsHeld rows h)
     (laid : IsLaid (seen rows h base)) (g : ℕ) (keep : ℕ → Bool) (tests : TestsMarks rows h g keep)
-    (pins : TellsPins rows h base) where
+    (pins : TellsPins rows h base) (chosen : SegKind → Bool) where
   abbrev m : Machine
   m = seen rows h base
 
@@ -57,24 +58,24 @@ module _ (rows : List TypeRow) (h : HeapView) (base : Machine) (heap : IsHeap h)
   abbrev pub of_item : Item → Survivor
   of_item i = survivor m (obj i)
 
-  -- a survivor of the small heap
-  abbrev pub is_small_one : Survivor → Bool
-  is_small_one k = list_any (λ s. is_small_or_ephemeral s.kind && (s.base == k.segment)) layout.segments
+  -- a survivor of the chosen segments
+  abbrev pub is_chosen : Survivor → Bool
+  is_chosen k = list_any (λ s. chosen s.kind && (s.base == k.segment)) layout.segments
 
   -- an item that is one
   abbrev pub survives : Item → Bool
-  survives i = (is_object i && (is_condemned m g (obj i) && keep i.place)) && is_small_one (of_item i)
+  survives i = (is_object i && (is_condemned m g (obj i) && keep i.place)) && is_chosen (of_item i)
 
   -- ---- as a list of items
 
-  pub survivors-are : survivors_in is_small_or_ephemeral layout (survivors m g keep)
+  pub survivors-are : survivors_in chosen layout (survivors m g keep)
       ≡ map of_item (filter survives (heap_items rows h))
   survivors-are =
-      ap (λ ks. filter is_small_one (sorted_by (λ (k : Survivor). k.place) ks)) listed
-      ∙ ap (filter is_small_one) (sorted_by-done (λ (k : Survivor). k.place) (map of_item (filter stay items))
+      ap (λ ks. filter is_chosen (sorted_by (λ (k : Survivor). k.place) ks)) listed
+      ∙ ap (filter is_chosen) (sorted_by-done (λ (k : Survivor). k.place) (map of_item (filter stay items))
       (rising-sorted (λ (k : Survivor). k.place) (map of_item (filter stay items)) rises))
-      ∙ filter-map of_item is_small_one (filter stay items)
-      ∙ ap (map of_item) (filter-twice stay (λ i. is_small_one (of_item i)) survives items (λ i. refl))
+      ∙ filter-map of_item is_chosen (filter stay items)
+      ∙ ap (map of_item) (filter-twice stay (λ i. is_chosen (of_item i)) survives items (λ i. refl))
     where
       items : List Item
       items = heap_items rows h
@@ -104,21 +105,21 @@ module _ (rows : List TypeRow) (h : HeapView) (base : Machine) (heap : IsHeap h)
     known : IsIn s h.segments
     known = at-in h.segments k empty_segment inside
 
-    -- the small segments are those that aren't large
-    small-is : (v : Survivor) → v.segment ≡ s.base → is_small_one v ≡ is_small_or_ephemeral s.kind
-    small-is v of = agree (is_small_one v) (is_small_or_ephemeral s.kind) forth back
+    -- a survivor of a chosen segment is one
+    chosen-is : (v : Survivor) → v.segment ≡ s.base → is_chosen v ≡ chosen s.kind
+    chosen-is v of = agree (is_chosen v) (chosen s.kind) forth back
       where
-        forth : is_small_one v ≡ true → is_small_or_ephemeral s.kind ≡ true
+        forth : is_chosen v ≡ true → chosen s.kind ≡ true
         forth t =
-            let (u, i, e) = any-in (λ (u : SegInfo). is_small_or_ephemeral u.kind && (u.base == v.segment)) h.segments t
+            let (u, i, e) = any-in (λ (u : SegInfo). chosen u.kind && (u.base == v.segment)) h.segments t
             in
-            let (kind, same) = and_parts (is_small_or_ephemeral u.kind) (u.base == v.segment) e in
+            let (kind, same) = and_parts (chosen u.kind) (u.base == v.segment) e in
             let one : u ≡ s = one_base layout laid.layout u s i known (eqb-true u.base v.segment same ∙ of) in
-            subst (λ (w : SegInfo). is_small_or_ephemeral w.kind ≡ true) one kind
+            subst (λ (w : SegInfo). chosen w.kind ≡ true) one kind
 
-        back : is_small_or_ephemeral s.kind ≡ true → is_small_one v ≡ true
-        back t = any-from (λ (u : SegInfo). is_small_or_ephemeral u.kind && (u.base == v.segment)) h.segments s known
-            (and_from (is_small_or_ephemeral s.kind) (s.base == v.segment) t (eq-eqb s.base v.segment (sym of)))
+        back : chosen s.kind ≡ true → is_chosen v ≡ true
+        back t = any-from (λ (u : SegInfo). chosen u.kind && (u.base == v.segment)) h.segments s known
+            (and_from (chosen s.kind) (s.base == v.segment) t (eq-eqb s.base v.segment (sym of)))
 
     module _ (i : Item) (here : IsIn i (listing rows h k)) (object : is_object i ≡ true) where
       item-listed : IsIn i (heap_items rows h)
@@ -160,7 +161,7 @@ module _ (rows : List TypeRow) (h : HeapView) (base : Machine) (heap : IsHeap h)
 
     -- what survives of the segment's items
     abbrev stays_here : Item → Bool
-    stays_here i = stays (word_of h) i && (nat_le (generation layout i.place) g && is_small_or_ephemeral s.kind)
+    stays_here i = stays (word_of h) i && (nat_le (generation layout i.place) g && chosen s.kind)
 
     survives-is : (i : Item) → IsIn i (listing rows h k) → survives i ≡ stays_here i
     survives-is i here = go (is_object i) refl
@@ -172,14 +173,14 @@ module _ (rows : List TypeRow) (h : HeapView) (base : Machine) (heap : IsHeap h)
         swap false d false b e = refl
 
         go : (b : Bool) → is_object i ≡ b → ((b && (is_condemned m g (obj i) && keep i.place))
-            && is_small_one (of_item i)) ≡ ((b && has_mark (word_of h i.place)) && (nat_le (generation layout i.place) g
-            && is_small_or_ephemeral s.kind))
+            && is_chosen (of_item i)) ≡ ((b && has_mark (word_of h i.place)) && (nat_le (generation layout i.place) g
+            && chosen s.kind))
         go false e = refl
         go true e =
             ap (λ b. (true && (is_condemned m g (obj i) && keep i.place)) && b)
-            (small-is (of_item i) (segment-is i here e))
+            (chosen-is (of_item i) (segment-is i here e))
             ∙ swap (is_condemned m g (obj i)) (keep i.place) (has_mark (word_of h i.place))
-            (is_small_or_ephemeral s.kind) (mark-is i here e)
+            (chosen s.kind) (mark-is i here e)
 
     pub segment-survivors : map of_item (filter survives (listing rows h k)) ≡ map (survivor_in h k)
         (filter stays_here (listing rows h k))
@@ -188,5 +189,5 @@ module _ (rows : List TypeRow) (h : HeapView) (base : Machine) (heap : IsHeap h)
         ∙ map-on of_item (survivor_in h k) (filter stays_here (listing rows h k)) (λ i n. let (t, here) =
         out_of_filter stays_here i (listing rows h k) n in
         item-is i here (and_parts (is_object i) (has_mark (word_of h i.place))
-        (and_parts (stays (word_of h) i) (nat_le (generation layout i.place) g && is_small_or_ephemeral s.kind)
+        (and_parts (stays (word_of h) i) (nat_le (generation layout i.place) g && chosen s.kind)
         t).0).0)

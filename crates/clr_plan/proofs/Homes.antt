@@ -4,11 +4,12 @@ use Rattle.std.proofs.Common.{refl, sym, subst, arith, Bool, true, false, if◌t
 use Rattle.std.proofs.lemmas.Bool.{both_ways, cases_lt, cases_order, eq-eqb, eqb-true}
 use Rattle.clr_types.specs.Rising.{first, IsIn, IsRisingBy, later}
 use Rattle.clr_types.specs.Types.{TypeRow}
+use Rattle.clr_types.specs.declared.segment.SegInfo.{SegInfo}
 use Rattle.clr_types.proofs.ListMembers.{append_right, in_append}
 use Rattle.clr_types.proofs.ChangedLists.{append_left}
 use Rattle.clr_types.proofs.PieceGaps.{IsGapped}
 use Rattle.clr_types.proofs.RisingLists.{all_at}
-use Rattle.clr_heap.specs.View.{first_of, HeapView, last_of, segment_at}
+use Rattle.clr_heap.specs.View.{first_of, HeapView, IsHeap, last_of, segment_at}
 use Rattle.clr_heap.proofs.Framing.{lawful_at}
 use Rattle.clr_heap.proofs.Staying.{segment_order}
 use Rattle.clr_model.specs.Compaction.{Move, Plug, plug_end}
@@ -17,19 +18,16 @@ use Rattle.clr_plugs.specs.Info.{IsInfoWord}
 use Rattle.clr_plugs.proofs.Keeping.{in_pushed}
 use Rattle.clr_moves.specs.Moves.{part_of, takes}
 use Rattle.clr_moves.specs.Overlaid.{IsOutside}
-use Rattle.clr_plan.specs.Heaps.{AreFor, moves_below, opened_below, part_plugs, plugs_below}
+use Rattle.clr_moves.specs.declared.parts.Parts.{Parts}
 use Rattle.clr_plan.specs.LaidParts.{opened_by}
-use Rattle.clr_plan.specs.Plans.{CanPlanHeap, old_part, parts_in, young_plugs}
+use Rattle.clr_plan.specs.PartLists.{AreFor, moves_in, opened_in, plugs_in}
 use Rattle.clr_plan.specs.Scans.{CanScan, plugs_between}
 use Rattle.clr_plan.specs.Writes.{is_open, opened}
-use Rattle.clr_plan.proofs.Ages.{plugs-of, rise-behind, start-order}
-use Rattle.clr_plan.proofs.Beginning.{plugs-lie, start-is}
+use Rattle.clr_plan.proofs.Ages.{plugs-of, rise-behind}
 use Rattle.clr_plan.proofs.Fitting.{for-append}
 use Rattle.clr_plan.proofs.Pins.{front_rises}
 use Rattle.clr_plan.proofs.Scanning.{plugs-above}
 use Rattle.clr_plan.proofs.Seen as seen
-use Rattle.clr_plan.proofs.Takes.{all-below, part-lower, plugs-lower, plugs-young, taken-in}
-use Rattle.clr_moves.specs.declared.parts.Parts.TheVariants.{Generations}
 
 -- ---- plugs with nothing or room for a free item between them
 
@@ -118,157 +116,128 @@ open-place free begin low (p ∷ ps) g x i = step (open-place (opened free begin
     step (inl i) = split (is_open begin low p.start) refl i
     step (inr o) = inr (wider o)
 
-module _ (rows : List TypeRow) (h : HeapView) (g e : ℕ) (can : CanPlanHeap rows h g e) where
+-- ---- where they stand
+
+-- where a plug of the part of segment t lies
+pub record LiesInPart (h : HeapView) (g : Parts) (t : ℕ) (q : Plug) : Type 0 where
+  pub low : part_of h g t ≤ q.start
+  pub high : plug_end q ≤ last_of h t
+  pub aligned : q.start % 8 ≡ 0
+  pub ends : plug_end q % 8 ≡ 0
+  pub segment : q.segment ≡ (segment_at h t).base
+
+pub in-stretch : (rows : List TypeRow) (h : HeapView) (g : Parts) (t p c : ℕ) → CanScan rows h t p c → (q : Plug)
+    → IsIn q (plugs_between rows h t p c) → part_of h g t ≤ p → c ≤ last_of h t → LiesInPart h g t q
+in-stretch rows h g t p c s q i low high =
+    let lies = all_at (λ (w : Plug). seen.LiesUpTo c w.start (plug_end w)) i (seen.plugs-lie rows h t p c s) in
+    let above = all_at (λ (w : Plug). p ≤ w.start) i (plugs-above rows h t p c s) in
+    let ends = lies.high in
+    record {
+      low = omega (arith, above, low);
+      high = omega (arith, ends, high);
+      aligned = lies.starts;
+      ends = lies.ends;
+      segment = (plugs-of rows h t p c s (λ n. Unit {0}) (λ x l u. tt) q i).1;
+    }
+
+-- the plugs of a part among those of all
+pub in-plugs : (h : HeapView) (g : Parts) (plugs : ℕ → List Plug) (k t : ℕ) (q : Plug) → t < k
+    → takes g (segment_at h t) ≡ true → IsIn q (plugs t) → IsIn q (plugs_in h g plugs k)
+in-plugs h g plugs zero t q l on i = absurd (omega arith)
+in-plugs h g plugs (suc k) t q l on i = elim (cases_lt t k) [
+  | inl u ↦ append_left (if takes g (segment_at h k) then plugs k else []) (in-plugs h g plugs k t q u on i)
+  | inr u ↦
+      let same : t ≡ k = omega arith in
+      append_right (plugs_in h g plugs k)
+      (subst (λ (b : Bool). IsIn q (if b then plugs k else []))
+      (sym (subst (λ j. takes g (segment_at h j) ≡ true) same on)) (subst (λ j. IsIn q (plugs j)) same i))
+]
+
+-- the parts are among those of the `count` lowest segments, and these are their plugs
+pub record HaveHomes (h : HeapView) (g : Parts) (plugs : ℕ → List Plug) (count : ℕ) : Type 0 where
+  pub heap : IsHeap h
+  pub inside : count ≤ length h.segments
+  pub above : (t : ℕ) → count ≤ t → t < length h.segments → takes g (segment_at h t) ≡ false
+  pub segments : List SegInfo
+  pub lie : ArePlugs segments (plugs_in h g plugs count)
+  pub from_first : (t : ℕ) → t < count → takes g (segment_at h t) ≡ true → first_of h t ≤ part_of h g t
+  pub lies : (t : ℕ) → t < count → takes g (segment_at h t) ≡ true → (q : Plug) → IsIn q (plugs t)
+      → LiesInPart h g t q
+  pub gapped : (t : ℕ) → t < count → takes g (segment_at h t) ≡ true → (q : Plug) → IsIn q (plugs t)
+      → IsGapped (part_of h g t) q.start
+
+module _ (h : HeapView) (g : Parts) (plugs : ℕ → List Plug) (count : ℕ) (homes : HaveHomes h g plugs count) where
   abbrev pub all : List Plug
-  all = plugs_below rows h g e (suc e)
+  all = plugs_in h g plugs count
 
-  pub all-lie : ArePlugs (parts_in rows h g) all
-  all-lie = subst (ArePlugs (parts_in rows h g)) (all-below rows h g e can) (plugs-lie rows h g e can)
-
-  pub inside-of : (t : ℕ) → t < suc e → t < length h.segments
-  inside-of t l = let i = can.inside in omega (arith, l, i)
+  pub inside-of : (t : ℕ) → t < count → t < length h.segments
+  inside-of t l = let i = homes.inside in omega (arith, l, i)
 
   -- ---- the part of a plug
 
   pub record HasHome (k : ℕ) (q : Plug) : Type 0 where
     pub number : ℕ
     pub below : number < k
-    pub taken : takes (Generations g) (segment_at h number) ≡ true
-    pub known : IsIn q (part_plugs rows h g e number)
+    pub taken : takes g (segment_at h number) ≡ true
+    pub known : IsIn q (plugs number)
 
-  pub home-of : (k : ℕ) (q : Plug) → IsIn q (plugs_below rows h g e k) → HasHome k q
+  pub home-of : (k : ℕ) (q : Plug) → IsIn q (plugs_in h g plugs k) → HasHome k q
   home-of zero q i = elim i [ ]
-  home-of (suc k) q i = elim (in_append (plugs_below rows h g e k) i) [
+  home-of (suc k) q i = elim (in_append (plugs_in h g plugs k) i) [
     | inl j ↦ let r = home-of k q j in record {
       number = r.number;
       below = (let b = r.below in omega (arith, b));
       taken = r.taken;
       known = r.known;
     }
-    | inr j ↦ go (takes (Generations g) (segment_at h k)) refl j
+    | inr j ↦ go (takes g (segment_at h k)) refl j
   ]
     where
-      go : (b : Bool) → takes (Generations g) (segment_at h k) ≡ b → IsIn q (if b then part_plugs rows h g e k else [])
+      go : (b : Bool) → takes g (segment_at h k) ≡ b → IsIn q (if b then plugs k else [])
           → HasHome (suc k) q
       go true on j = record { number = k; below = omega arith; taken = on; known = j }
       go false off j = elim j [ ]
 
-  pub in-all : (k t : ℕ) (q : Plug) → t < k → takes (Generations g) (segment_at h t) ≡ true
-      → IsIn q (part_plugs rows h g e t)
-      → IsIn q (plugs_below rows h g e k)
-  in-all zero t q l on i = absurd (omega arith)
-  in-all (suc k) t q l on i = elim (cases_lt t k) [
-    | inl u ↦ append_left (if takes (Generations g) (segment_at h k) then part_plugs rows h g e k else [])
-        (in-all k t q u on i)
-    | inr u ↦
-        let same : t ≡ k = omega arith in
-        append_right (plugs_below rows h g e k)
-        (subst (λ (b : Bool). IsIn q (if b then part_plugs rows h g e k else []))
-        (sym (subst (λ j. takes (Generations g) (segment_at h j) ≡ true) same on))
-        (subst (λ j. IsIn q (part_plugs rows h g e j))
-        same i))
-  ]
-
-  block-rises : (k : ℕ) → IsRisingBy (λ (p : Plug). p.start) (plugs_below rows h g e k) → (t : ℕ) → t < k
-      → takes (Generations g) (segment_at h t) ≡ true → IsRisingBy (λ (p : Plug). p.start) (part_plugs rows h g e t)
+  block-rises : (k : ℕ) → IsRisingBy (λ (p : Plug). p.start) (plugs_in h g plugs k) → (t : ℕ) → t < k
+      → takes g (segment_at h t) ≡ true → IsRisingBy (λ (p : Plug). p.start) (plugs t)
   block-rises zero r t l on = absurd (omega arith)
   block-rises (suc k) r t l on = elim (cases_lt t k) [
     | inl u ↦ block-rises k
-        (front_rises (plugs_below rows h g e k) (if takes (Generations g) (segment_at h k) then part_plugs rows h
-        g e k else []) r) t u on
+        (front_rises (plugs_in h g plugs k) (if takes g (segment_at h k) then plugs k else []) r) t u on
     | inr u ↦
         let same : k ≡ t = omega arith in
-        subst (λ j. IsRisingBy (λ (p : Plug). p.start) (part_plugs rows h g e j)) same
-        (subst (λ (b : Bool). IsRisingBy (λ (p : Plug). p.start) (if b then part_plugs rows h g e k else []))
-        (subst (λ j. takes (Generations g) (segment_at h j) ≡ true) (sym same) on)
-        (rise-behind (plugs_below rows h g e k)
-        (if takes (Generations g) (segment_at h k) then part_plugs rows h g e k else []) r))
+        subst (λ j. IsRisingBy (λ (p : Plug). p.start) (plugs j)) same
+        (subst (λ (b : Bool). IsRisingBy (λ (p : Plug). p.start) (if b then plugs k else []))
+        (subst (λ j. takes g (segment_at h j) ≡ true) (sym same) on)
+        (rise-behind (plugs_in h g plugs k)
+        (if takes g (segment_at h k) then plugs k else []) r))
   ]
 
-  pub part-rises : (t : ℕ) → t < suc e → takes (Generations g) (segment_at h t) ≡ true
+  pub part-rises : (t : ℕ) → t < count → takes g (segment_at h t) ≡ true
       → IsRisingBy (λ (p : Plug). p.start)
-      (part_plugs rows h g e t)
-  part-rises t l on = block-rises (suc e) all-lie.rise t l on
-
-  pub young-order : (first_of h e ≤ part_of h (Generations g) e) × (part_of h (Generations g) e ≤ h.start0)
-  young-order = let (a, b, c) = start-order rows h g e can in go (g == 0) (g == 1) (start-is rows h g e can) a b
-    where
-      go : (x y : Bool) → part_of h (Generations g) e ≡ (if x then h.start0 else (if y then h.start1 else first_of h e))
-          → first_of h e ≤ h.start1 → h.start1 ≤ h.start0 → (first_of h e ≤ part_of h (Generations g) e)
-          × (part_of h (Generations g) e ≤ h.start0)
-      go true y q a b = (omega (arith, q, a, b), omega (arith, q))
-      go false true q a b = (omega (arith, q, a), omega (arith, q, b))
-      go false false q a b = (omega (arith, q), omega (arith, q, a, b))
-
-  pub part-first : (t : ℕ) → t < suc e → takes (Generations g) (segment_at h t) ≡ true
-      → first_of h t ≤ part_of h (Generations g) t
-  part-first t l on = elim (cases_lt t e) [
-    | inl u ↦ let p = part-lower rows h g e can t u on in omega (arith, p)
-    | inr u ↦ let same : e ≡ t = omega arith in
-        subst (λ j. first_of h j ≤ part_of h (Generations g) j) same young-order.0
-  ]
-
-  -- where a plug of a part lies
-  pub record LiesInPart (t : ℕ) (q : Plug) : Type 0 where
-    pub low : part_of h (Generations g) t ≤ q.start
-    pub high : plug_end q ≤ last_of h t
-    pub aligned : q.start % 8 ≡ 0
-    pub ends : plug_end q % 8 ≡ 0
-    pub segment : q.segment ≡ (segment_at h t).base
-
-  in-stretch : (t p c : ℕ) (s : CanScan rows h t p c) (q : Plug) → IsIn q (plugs_between rows h t p c)
-      → part_of h (Generations g) t ≤ p → c ≤ last_of h t → LiesInPart t q
-  in-stretch t p c s q i low high =
-      let lies = all_at (λ (w : Plug). seen.LiesUpTo c w.start (plug_end w)) i (seen.plugs-lie rows h t p c s) in
-      let above = all_at (λ (w : Plug). p ≤ w.start) i (plugs-above rows h t p c s) in
-      let ends = lies.high in
-      record {
-        low = omega (arith, above, low);
-        high = omega (arith, ends, high);
-        aligned = lies.starts;
-        ends = lies.ends;
-        segment = (plugs-of rows h t p c s (λ n. Unit {0}) (λ x l u. tt) q i).1;
-      }
-
-  pub lies-in : (t : ℕ) → t < suc e → takes (Generations g) (segment_at h t) ≡ true → (q : Plug)
-      → IsIn q (part_plugs rows h g e t)
-      → LiesInPart t q
-  lies-in t l on q i = elim (cases_lt t e) [
-    | inl u ↦ in-stretch t (first_of h t) (last_of h t) (can.scans t u) q
-        (subst (IsIn q) (plugs-lower rows h g e can t u) i) (let p = part-lower rows h g e can t u on in
-        omega (arith, p)) (omega arith)
-    | inr u ↦ let same : t ≡ e = omega arith in subst (λ j. LiesInPart j q) (sym same)
-        (young (in_append (old_part rows h g e) (subst (IsIn q) (plugs-young rows h g e can)
-        (subst (λ j. IsIn q (part_plugs rows h g e j)) same i))))
-  ]
-    where
-      young : IsIn q (old_part rows h g e) ⊎ IsIn q (young_plugs rows h e) → LiesInPart e q
-      young (inl j) = in-stretch e (part_of h (Generations g) e) h.start0 can.older_scan q j (omega arith)
-          (let (a, b, c) = start-order rows h g e can in c)
-      young (inr j) = in-stretch e h.start0 (last_of h e) can.young_scan q j young-order.1 (omega arith)
+      (plugs t)
+  part-rises t l on = block-rises count homes.lie.rise t l on
 
   pub sized : (q : Plug) → IsIn q all → 24 ≤ q.size
-  sized q i = (all-lie.each q i).size
+  sized q i = (homes.lie.each q i).size
 
   -- ---- the plugs of a part, one after the other
 
-  pub part-gapped : (t : ℕ) → t < suc e → takes (Generations g) (segment_at h t) ≡ true
-      → AreGapped (part_of h (Generations g) t) (part_plugs rows h g e t)
-  part-gapped t l on =
-      gapped-from (part_of h (Generations g) t) (part_plugs rows h g e t) (part-rises t l on)
-      (λ p q i j u. all-lie.apart p q (in-all (suc e) t p l on i) (in-all (suc e) t q l on j) u)
-      (λ p i. can.condemned.starts.plugs (segment_at h t) p (taken-in rows h g e can t (inside-of t l) on)
-      (subst (IsIn p) (sym (all-below rows h g e can)) (in-all (suc e) t p l on i)) (lies-in t l on p i).segment)
+  pub part-gapped : (t : ℕ) → t < count → takes g (segment_at h t) ≡ true
+      → AreGapped (part_of h g t) (plugs t)
+  part-gapped t l on = gapped-from (part_of h g t) (plugs t) (part-rises t l on)
+      (λ p q i j u. homes.lie.apart p q (in-plugs h g plugs count t p l on i) (in-plugs h g plugs count t q l on j) u)
+      (homes.gapped t l on)
 
   pub record HasOpen (k x : ℕ) : Type 0 where
     pub number : ℕ
     pub below : number < k
-    pub taken : takes (Generations g) (segment_at h number) ≡ true
-    pub open_in : IsOpenIn (first_of h number) (part_of h (Generations g) number) (part_plugs rows h g e number) x
+    pub taken : takes g (segment_at h number) ≡ true
+    pub open_in : IsOpenIn (first_of h number) (part_of h g number) (plugs number) x
 
-  open-below : (k x : ℕ) → k ≤ suc e → IsIn x (opened_below rows h g e k) → HasOpen k x
+  open-below : (k x : ℕ) → k ≤ count → IsIn x (opened_in h g plugs k) → HasOpen k x
   open-below zero x l i = elim i [ ]
-  open-below (suc k) x l i = go (λ j. open-below k x (omega arith) j) (takes (Generations g) (segment_at h k)) refl i
+  open-below (suc k) x l i = go (λ j. open-below k x (omega arith) j) (takes g (segment_at h k)) refl i
     where
       wider : HasOpen k x → HasOpen (suc k) x
       wider r = record {
@@ -279,26 +248,26 @@ module _ (rows : List TypeRow) (h : HeapView) (g e : ℕ) (can : CanPlanHeap row
             r.open_in;
       }
 
-      go : (IsIn x (opened_below rows h g e k) → HasOpen k x) → (b : Bool) → takes (Generations g) (segment_at h k) ≡ b
-          → IsIn x (if b then opened_by (opened_below rows h g e k) (first_of h k) (part_of h (Generations g) k)
-          (part_plugs rows h g e k) else opened_below rows h g e k) → HasOpen (suc k) x
+      go : (IsIn x (opened_in h g plugs k) → HasOpen k x) → (b : Bool) → takes g (segment_at h k) ≡ b
+          → IsIn x (if b then opened_by (opened_in h g plugs k) (first_of h k) (part_of h g k)
+          (plugs k) else opened_in h g plugs k) → HasOpen (suc k) x
       go below false off j = wider (below j)
-      go below true on j = elim (open-place (opened_below rows h g e k) (first_of h k) (part_of h (Generations g) k)
-          (part_plugs rows h g e k) (part-gapped k (omega arith) on) x j) [
+      go below true on j = elim (open-place (opened_in h g plugs k) (first_of h k) (part_of h g k)
+          (plugs k) (part-gapped k (omega arith) on) x j) [
             | inl f ↦ wider (below f)
             | inr o ↦ record { number = k; below = omega arith; taken = on; open_in = o }
           ]
 
   -- THE INFORMATION OF A FREE PLACE stands in no plug, and outside of no part
-  module _ (x b : ℕ) (i : IsIn x (opened_below rows h g e (suc e))) (info : IsInfoWord x b) where
-    is : HasOpen (suc e) x
-    is = open-below (suc e) x (omega arith) i
+  module _ (x b : ℕ) (i : IsIn x (opened_in h g plugs count)) (info : IsInfoWord x b) where
+    is : HasOpen count x
+    is = open-below count x (omega arith) i
 
     abbrev t : ℕ
     t = is.number
 
-    mine : LiesInPart t is.open_in.plug
-    mine = lies-in t is.below is.taken is.open_in.plug is.open_in.known
+    mine : LiesInPart h g t is.open_in.plug
+    mine = homes.lies t is.below is.taken is.open_in.plug is.open_in.known
 
     inside : t < length h.segments
     inside = inside-of t is.below
@@ -306,15 +275,16 @@ module _ (rows : List TypeRow) (h : HeapView) (g e : ℕ) (can : CanPlanHeap row
     pub free-of-plugs : (q : Plug) → IsIn q all → q.start ≤ b + 8 → b + 8 < plug_end q → ⊥
     free-of-plugs q j low high = go (cases_order home.number t)
       where
-        home : HasHome (suc e) q
-        home = home-of (suc e) q j
+        home : HasHome count q
+        home = home-of count q j
 
-        its : LiesInPart home.number q
-        its = lies-in home.number home.below home.taken q home.known
+        its : LiesInPart h g home.number q
+        its = homes.lies home.number home.below home.taken q home.known
 
-        same : IsIn q (part_plugs rows h g e t) → part_of h (Generations g) t ≤ q.start → ⊥
+        same : IsIn q (plugs t) → part_of h g t ≤ q.start → ⊥
         same k above = elim is.open_in.room [
-          | inl at ↦ let f = part-first t is.below is.taken in let c = info.1 in omega (arith, at, f, above, low, c)
+          | inl at ↦
+              let f = homes.from_first t is.below is.taken in let c = info.1 in omega (arith, at, f, above, low, c)
           | inr (l, others) ↦ elim (others q k) [
             | inl far ↦ let c = info.0 in omega (arith, far, high, c)
             | inr up ↦
@@ -323,31 +293,31 @@ module _ (rows : List TypeRow) (h : HeapView) (g e : ℕ) (can : CanPlanHeap row
         ]
 
         go : (home.number ≡ t) ⊎ ((home.number < t) ⊎ (t < home.number)) → ⊥
-        go (inl e2) = same (subst (λ n. IsIn q (part_plugs rows h g e n)) e2 home.known)
-            (subst (λ n. part_of h (Generations g) n ≤ q.start) e2 its.low)
+        go (inl e2) = same (subst (λ n. IsIn q (plugs n)) e2 home.known)
+            (subst (λ n. part_of h g n ≤ q.start) e2 its.low)
         go (inr (inl l)) =
-            let o = segment_order h home.number t can.heap l inside in
-            let top = (lawful_at h home.number can.heap (inside-of home.number home.below)).high in
-            let f = part-first t is.below is.taken in
+            let o = segment_order h home.number t homes.heap l inside in
+            let top = (lawful_at h home.number homes.heap (inside-of home.number home.below)).high in
+            let f = homes.from_first t is.below is.taken in
             let m = mine.low in
             let s = is.open_in.start in
             let d = its.high in
             let c = info.0 in
             omega (arith, o, top, f, m, s, d, c, high)
         go (inr (inr l)) =
-            let o = segment_order h t home.number can.heap l (inside-of home.number home.below) in
-            let top = (lawful_at h t can.heap inside).high in
-            let f = part-first home.number home.below home.taken in
+            let o = segment_order h t home.number homes.heap l (inside-of home.number home.below) in
+            let top = (lawful_at h t homes.heap inside).high in
+            let f = homes.from_first home.number home.below home.taken in
             let m = mine.high in
             let s = is.open_in.start in
             let d = its.low in
             let c = info.1 in
             omega (arith, o, top, f, m, s, d, c, low)
 
-    pub free-in-part : IsOutside h (Generations g) b → ⊥
+    pub free-in-part : IsOutside h g b → ⊥
     free-in-part outside =
-        let top = (lawful_at h t can.heap inside).high in
-        let f = part-first t is.below is.taken in
+        let top = (lawful_at h t homes.heap inside).high in
+        let f = homes.from_first t is.below is.taken in
         let m = mine.low in
         let d = mine.high in
         let s = is.open_in.start in
@@ -366,16 +336,16 @@ module _ (rows : List TypeRow) (h : HeapView) (g e : ℕ) (can : CanPlanHeap row
 
   -- ---- moves
 
-  pub all-for : (each : ℕ → List Move) → ((t : ℕ) → t < suc e → takes (Generations g) (segment_at h t) ≡ true
-      → AreFor (part_plugs rows h g e t) (each t)) → (k : ℕ) → k ≤ suc e → AreFor (plugs_below rows h g e k)
-      (moves_below h g each k)
+  pub all-for : (each : ℕ → List Move) → ((t : ℕ) → t < count → takes g (segment_at h t) ≡ true
+      → AreFor (plugs t) (each t)) → (k : ℕ) → k ≤ count → AreFor (plugs_in h g plugs k)
+      (moves_in h g each k)
   all-for each fit zero l = tt
   all-for each fit (suc k) l =
-      for-append (plugs_below rows h g e k) (if takes (Generations g) (segment_at h k) then part_plugs rows h
-      g e k else []) (moves_below h g each k) (if takes (Generations g) (segment_at h k) then each k else [])
-      (all-for each fit k (omega arith)) (go (takes (Generations g) (segment_at h k)) refl)
+      for-append (plugs_in h g plugs k) (if takes g (segment_at h k) then plugs k else []) (moves_in h g each k)
+      (if takes g (segment_at h k) then each k else [])
+      (all-for each fit k (omega arith)) (go (takes g (segment_at h k)) refl)
     where
-      go : (b : Bool) → takes (Generations g) (segment_at h k) ≡ b → AreFor (if b then part_plugs rows h g e k else [])
+      go : (b : Bool) → takes g (segment_at h k) ≡ b → AreFor (if b then plugs k else [])
           (if b then each k else [])
       go true on = fit k (omega arith) on
       go false off = tt

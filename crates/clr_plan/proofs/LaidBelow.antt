@@ -6,7 +6,6 @@ use Rattle.std.proofs.Common.{if◌then◌else◌, ◌==◌, None}
 use Rattle.std.specs.Prelude.{IsSome}
 use Rattle.std.proofs.lemmas.Bool.{both_ways, cases_lt, eq-eqb, ne_eqb}
 use Rattle.std.proofs.lemmas.List.{map-append}
-use Rattle.clr_types.specs.Types.{TypeRow}
 use Rattle.clr_covers.specs.Covers.{spans}
 use Rattle.clr_bricks.specs.Bricks.{entry_at}
 use Rattle.clr_heap.specs.View.{first_of, HeapView, IsHeap, last_of, SameShape, segment_at, word_of}
@@ -19,12 +18,12 @@ use Rattle.clr_pinq.specs.declared.entry.PinEntry.{PinEntry}
 use Rattle.clr_plugs.specs.BrickEntries.{BricksView}
 use Rattle.clr_plugs.specs.Plans.{IsPlanned}
 use Rattle.clr_moves.specs.Moves.{part_of, takes}
-use Rattle.clr_plan.specs.Heaps.{AreFor, IsLaidBelow, moves_below, opened_below, part_plan, part_plugs, plugs_below}
+use Rattle.clr_moves.specs.declared.parts.Parts.{Parts}
+use Rattle.clr_plan.specs.PartLists.{AreFor, AreLaid, moves_in, opened_in, plan_in, plugs_in}
 use Rattle.clr_plan.specs.LaidParts.{opened_by}
 use Rattle.clr_plan.specs.Writes.{AreSavedAt, HasWritten}
 use Rattle.clr_plan.proofs.Covering.{covers-same}
 use Rattle.clr_plan.proofs.KeptPlans.{plan-stays}
-use Rattle.clr_moves.specs.declared.parts.Parts.TheVariants.{Generations}
 
 -- ---- nothing yet
 
@@ -45,17 +44,17 @@ nothing-saved entries none b h = absurd (never (subst (λ es. IsSome (queue_word
     never : IsSome {T = ℕ} None → ⊥
     never s = cc
 
-module _ (rows : List TypeRow) (old : HeapView) (bricks : BricksView) (queue : QueueView) (g e k : ℕ)
-    (empty : queue.entries ≡ []) (off : (t : ℕ) → t < k → takes (Generations g) (segment_at old t) ≡ false) where
-  no-plugs : (j : ℕ) → j ≤ k → plugs_below rows old g e j ≡ []
+module _ (old : HeapView) (bricks : BricksView) (queue : QueueView) (g : Parts) (plugs : ℕ → List Plug) (k : ℕ)
+    (empty : queue.entries ≡ []) (off : (t : ℕ) → t < k → takes g (segment_at old t) ≡ false) where
+  pub no-plugs : (j : ℕ) → j ≤ k → plugs_in old g plugs j ≡ []
   no-plugs zero l = refl
   no-plugs (suc j) l = ap₂ (λ xs ys. xs ++ ys) (no-plugs j (omega arith))
-      (ap (λ (b : Bool). if b then part_plugs rows old g e j else []) (off j (omega arith)))
+      (ap (λ (b : Bool). if b then plugs j else []) (off j (omega arith)))
 
-  no-moves : (j : ℕ) → j ≤ k → moves_below old g (λ t. []) j ≡ []
+  no-moves : (j : ℕ) → j ≤ k → moves_in old g (λ t. []) j ≡ []
   no-moves zero l = refl
   no-moves (suc j) l = ap₂ (λ (xs ys : List Move). xs ++ ys) (no-moves j (omega arith))
-      (go (takes (Generations g) (segment_at old j)))
+      (go (takes g (segment_at old j)))
     where
       none : List Move
       none = []
@@ -64,22 +63,22 @@ module _ (rows : List TypeRow) (old : HeapView) (bricks : BricksView) (queue : Q
       go true = refl
       go false = refl
 
-  no-opened : (j : ℕ) → j ≤ k → opened_below rows old g e j ≡ []
+  no-opened : (j : ℕ) → j ≤ k → opened_in old g plugs j ≡ []
   no-opened zero l = refl
-  no-opened (suc j) l = ap (λ (b : Bool). if b then opened_by (opened_below rows old g e j) (first_of old j)
-      (part_of old (Generations g) j) (part_plugs rows old g e j) else opened_below rows old g e j)
+  no-opened (suc j) l = ap (λ (b : Bool). if b then opened_by (opened_in old g plugs j) (first_of old j)
+      (part_of old g j) (plugs j) else opened_in old g plugs j)
       (off j (omega arith))
       ∙ no-opened j (omega arith)
 
-  pub nothing-laid : IsLaidBelow rows old old bricks bricks queue queue g e k []
+  pub nothing-laid : AreLaid old old bricks bricks queue queue g plugs k []
   nothing-laid = record {
     each = λ t. [];
     moves_are = sym (no-moves k (omega arith));
-    fit = λ t l on. absurd (both_ways (takes (Generations g) (segment_at old t)) (off t l) on);
-    plans = λ t l on. absurd (both_ways (takes (Generations g) (segment_at old t)) (off t l) on);
+    fit = λ t l on. absurd (both_ways (takes g (segment_at old t)) (off t l) on);
+    plans = λ t l on. absurd (both_ways (takes g (segment_at old t)) (off t l) on);
     low = 0;
     words = subst (λ (ps : List Plug). HasWritten old old queue.entries (map (λ q. q.start) ps)
-        (opened_below rows old g e k) 0) (sym (no-plugs k (omega arith)))
+        (opened_in old g plugs k) 0) (sym (no-plugs k (omega arith)))
         (subst (λ xs. HasWritten old old queue.entries [] xs 0) (sym (no-opened k (omega arith)))
         (nothing-written old queue.entries empty));
     behind = λ t l i. omega arith;
@@ -91,67 +90,66 @@ module _ (rows : List TypeRow) (old : HeapView) (bricks : BricksView) (queue : Q
 
 -- ---- one segment more
 
-moves-same : (old : HeapView) (g : ℕ) (each other : ℕ → List Move) (k : ℕ) → ((t : ℕ) → t < k → other t ≡ each t)
-    → moves_below old g other k ≡ moves_below old g each k
+moves-same : (old : HeapView) (g : Parts) (each other : ℕ → List Move) (k : ℕ) → ((t : ℕ) → t < k → other t ≡ each t)
+    → moves_in old g other k ≡ moves_in old g each k
 moves-same old g each other zero same = refl
 moves-same old g each other (suc k) same =
-    ap₂ (λ xs ys. xs ++ (if takes (Generations g) (segment_at old k) then ys else []))
+    ap₂ (λ xs ys. xs ++ (if takes g (segment_at old k) then ys else []))
     (moves-same old g each other k (λ t l. same t (omega arith))) (same k (omega arith))
 
-module _ (rows : List TypeRow) (old now : HeapView) (bricks0 bricks : BricksView) (queue0 queue : QueueView) (g e k : ℕ)
-    (vs : List Move) (s : IsLaidBelow rows old now bricks0 bricks queue0 queue g e k vs) where
+module _ (old now : HeapView) (bricks0 bricks : BricksView) (queue0 queue : QueueView) (g : Parts)
+    (plugs : ℕ → List Plug) (k : ℕ) (vs : List Move)
+    (s : AreLaid old now bricks0 bricks queue0 queue g plugs k vs) where
   -- a segment without a part
-  pub laid-over : takes (Generations g) (segment_at old k) ≡ false
-      → IsLaidBelow rows old now bricks0 bricks queue0 queue g e (suc k)
-      vs
+  pub laid-over : takes g (segment_at old k) ≡ false → AreLaid old now bricks0 bricks queue0 queue g plugs (suc k) vs
   laid-over off =
-      let plugs : plugs_below rows old g e (suc k) ≡ plugs_below rows old g e k =
-      ap (λ (b : Bool). plugs_below rows old g e k ++ (if b then part_plugs rows old g e k else [])) off
-      ∙ append-nil (plugs_below rows old g e k) in
-      let opened : opened_below rows old g e (suc k) ≡ opened_below rows old g e k =
-      ap (λ (b : Bool). if b then opened_by (opened_below rows old g e k) (first_of old k)
-      (part_of old (Generations g) k)
-      (part_plugs rows old g e k) else opened_below rows old g e k) off in
+      let all : plugs_in old g plugs (suc k) ≡ plugs_in old g plugs k =
+      ap (λ (b : Bool). plugs_in old g plugs k ++ (if b then plugs k else [])) off
+      ∙ append-nil (plugs_in old g plugs k) in
+      let opened : opened_in old g plugs (suc k) ≡ opened_in old g plugs k =
+      ap (λ (b : Bool). if b then opened_by (opened_in old g plugs k) (first_of old k)
+      (part_of old g k)
+      (plugs k) else opened_in old g plugs k) off in
       record {
         each = s.each;
-        moves_are = s.moves_are ∙ sym (ap (λ (b : Bool). moves_below old g s.each k ++ (if b then s.each k else [])) off
-            ∙ append-nil (moves_below old g s.each k));
+        moves_are = s.moves_are ∙ sym (ap (λ (b : Bool). moves_in old g s.each k ++ (if b then s.each k else [])) off
+            ∙ append-nil (moves_in old g s.each k));
         fit = λ t l on. elim (cases_lt t k) [ inl u ↦ s.fit t u on | inr u ↦ absurd (not-here t l u on) ];
         plans = λ t l on. elim (cases_lt t k) [ inl u ↦ s.plans t u on | inr u ↦ absurd (not-here t l u on) ];
         low = s.low;
         words = subst (λ (ps : List Plug). HasWritten old now queue.entries (map (λ q. q.start) ps)
-            (opened_below rows old g e (suc k)) s.low) (sym plugs)
-            (subst (λ xs. HasWritten old now queue.entries (map (λ q. q.start) (plugs_below rows old g e k)) xs s.low)
+            (opened_in old g plugs (suc k)) s.low) (sym all)
+            (subst (λ xs. HasWritten old now queue.entries (map (λ q. q.start) (plugs_in old g plugs k)) xs s.low)
             (sym opened) s.words);
         behind = λ t l i. s.behind t (omega arith) i;
-        saved = subst (AreSavedAt queue.entries) (sym plugs) s.saved;
+        saved = subst (AreSavedAt queue.entries) (sym all) s.saved;
         count = s.count;
         entries = λ i out. s.entries i (λ t l on. out t (omega arith) on);
         spans_are = s.spans_are;
       }
     where
-      not-here : (t : ℕ) → t < suc k → k ≤ t → takes (Generations g) (segment_at old t) ≡ true → ⊥
+      not-here : (t : ℕ) → t < suc k → k ≤ t → takes g (segment_at old t) ≡ true → ⊥
       not-here t l u on =
-          both_ways (takes (Generations g) (segment_at old t))
-          (subst (λ j. takes (Generations g) (segment_at old j) ≡ false)
+          both_ways (takes g (segment_at old t))
+          (subst (λ j. takes g (segment_at old j) ≡ false)
           (let same : k ≡ t = omega arith in same) off) on
 
   -- a segment whose part was laid
-  module _ (heap : IsHeap old) (inside : k < length old.segments) (on : takes (Generations g) (segment_at old k) ≡ true)
+  module _ (heap : IsHeap old) (inside : k < length old.segments) (on : takes g (segment_at old k) ≡ true)
       (now2 : HeapView) (bricks2 : BricksView) (queue2 : QueueView) (m : List Move) (ending : ℕ)
-      (fit : AreFor (part_plugs rows old g e k) m)
-      (plan : IsPlanned now2 bricks2 (part_plan rows old g e k m))
-      (words : HasWritten old now2 queue2.entries (map (λ q. q.start) (plugs_below rows old g e k)
-      ++ map (λ q. q.start) (part_plugs rows old g e k)) (opened_by (opened_below rows old g e k) (first_of old k)
-      (part_of old (Generations g) k) (part_plugs rows old g e k)) ending)
+      (fit : AreFor (plugs k) m)
+      (plan : IsPlanned now2 bricks2 (plan_in old g plugs k m))
+      (words : HasWritten old now2 queue2.entries (map (λ q. q.start) (plugs_in old g plugs k)
+      ++ map (λ q. q.start) (plugs k)) (opened_by (opened_in old g plugs k) (first_of old k)
+      (part_of old g k) (plugs k)) ending)
       (within : ending ≤ last_of old k)
-      (low : first_of old k ≤ part_of old (Generations g) k)
-      (lows : (t : ℕ) → t < k → takes (Generations g) (segment_at old t) ≡ true
-      → part_of old (Generations g) t ≤ last_of old t)
-      (saved : AreSavedAt queue2.entries (plugs_below rows old g e k ++ part_plugs rows old g e k))
+      (low : first_of old k ≤ part_of old g k)
+      (lows : (t : ℕ) → t < k → takes g (segment_at old t) ≡ true
+      → part_of old g t ≤ last_of old t)
+      (saved : AreSavedAt queue2.entries (plugs_in old g plugs k ++ plugs k))
       (count : queue.spare + length queue.entries ≡ queue2.spare + length queue2.entries)
       (outside : (b : ℕ) → b % 8 ≡ 0 → b + 32 < first_of old k → word_of now2 b ≡ word_of now b)
-      (entries : (i : ℕ) → (i + 1 < part_of old (Generations g) k / 4096) ⊎ (last_of old k ≤ i * 4096)
+      (entries : (i : ℕ) → (i + 1 < part_of old g k / 4096) ⊎ (last_of old k ≤ i * 4096)
       → entry_at bricks2 i
       ≡ entry_at bricks i)
       (shape : SameShape now now2) (spans_are : spans bricks2 ≡ spans bricks)
@@ -165,55 +163,55 @@ module _ (rows : List TypeRow) (old now : HeapView) (bricks0 bricks : BricksView
       each-here : each2 k ≡ m
       each-here = ap (λ (b : Bool). if b then m else s.each k) (eq-eqb k k refl)
 
-      stays : (t : ℕ) → t < k → takes (Generations g) (segment_at old t) ≡ true
-          → IsPlanned now2 bricks2 (part_plan rows old g e t (s.each t))
+      stays : (t : ℕ) → t < k → takes g (segment_at old t) ≡ true
+          → IsPlanned now2 bricks2 (plan_in old g plugs t (s.each t))
       stays t l taken =
           let o = segment_order old t k heap l inside in
           let high = (lawful_at old t heap (omega (arith, l, inside))).high in
           let round = (lawful_at old k heap inside).base in
           let p = lows t l taken in
-          plan-stays now now2 bricks bricks2 (part_plan rows old g e t (s.each t)) (first_of old k)
+          plan-stays now now2 bricks bricks2 (plan_in old g plugs t (s.each t)) (first_of old k)
           (omega (arith, round)) (omega (arith, o, high)) shape outside
           (λ i u. entries i (inl (omega (arith, u, low)))) (covers-same bricks bricks2 spans_are) (s.plans t l taken)
 
-      pub laid-more : IsLaidBelow rows old now2 bricks0 bricks2 queue0 queue2 g e (suc k) (vs ++ m)
+      pub laid-more : AreLaid old now2 bricks0 bricks2 queue0 queue2 g plugs (suc k) (vs ++ m)
       laid-more =
-          let plugs : plugs_below rows old g e (suc k) ≡ plugs_below rows old g e k ++ part_plugs rows old g e k =
-          ap (λ (b : Bool). plugs_below rows old g e k ++ (if b then part_plugs rows old g e k else [])) on in
-          let opened : opened_below rows old g e (suc k) ≡ opened_by (opened_below rows old g e k) (first_of old k)
-          (part_of old (Generations g) k) (part_plugs rows old g e k) =
-          ap (λ (b : Bool). if b then opened_by (opened_below rows old g e k) (first_of old k)
-          (part_of old (Generations g) k)
-          (part_plugs rows old g e k) else opened_below rows old g e k) on in
-          let starts : map (λ (q : Plug). q.start) (plugs_below rows old g e (suc k))
-          ≡ map (λ q. q.start) (plugs_below rows old g e k) ++ map (λ q. q.start) (part_plugs rows old g e k) =
-          ap (map (λ (q : Plug). q.start)) plugs ∙ map-append (λ (q : Plug). q.start) (plugs_below rows old g e k)
-          (part_plugs rows old g e k) in
+          let all : plugs_in old g plugs (suc k) ≡ plugs_in old g plugs k ++ plugs k =
+          ap (λ (b : Bool). plugs_in old g plugs k ++ (if b then plugs k else [])) on in
+          let opened : opened_in old g plugs (suc k) ≡ opened_by (opened_in old g plugs k) (first_of old k)
+          (part_of old g k) (plugs k) =
+          ap (λ (b : Bool). if b then opened_by (opened_in old g plugs k) (first_of old k)
+          (part_of old g k)
+          (plugs k) else opened_in old g plugs k) on in
+          let starts : map (λ (q : Plug). q.start) (plugs_in old g plugs (suc k))
+          ≡ map (λ q. q.start) (plugs_in old g plugs k) ++ map (λ q. q.start) (plugs k) =
+          ap (map (λ (q : Plug). q.start)) all ∙ map-append (λ (q : Plug). q.start) (plugs_in old g plugs k)
+          (plugs k) in
           let more = s.count in
           record {
             each = each2;
             moves_are = ap₂ (λ xs ys. xs ++ ys) (s.moves_are ∙ sym (moves-same old g s.each each2 k each-lower))
                 (sym (ap (λ (b : Bool). if b then each2 k else []) on ∙ each-here));
             fit = λ t l taken. elim (cases_lt t k) [
-              | inl u ↦ subst (AreFor (part_plugs rows old g e t)) (sym (each-lower t u)) (s.fit t u taken)
-              | inr u ↦ let same : k ≡ t = omega arith in subst (λ j. AreFor (part_plugs rows old g e j) (each2 j)) same
-                  (subst (AreFor (part_plugs rows old g e k)) (sym each-here) fit)
+              | inl u ↦ subst (AreFor (plugs t)) (sym (each-lower t u)) (s.fit t u taken)
+              | inr u ↦ let same : k ≡ t = omega arith in subst (λ j. AreFor (plugs j) (each2 j)) same
+                  (subst (AreFor (plugs k)) (sym each-here) fit)
             ];
             plans = λ t l taken. elim (cases_lt t k) [
-              | inl u ↦ subst (λ ws. IsPlanned now2 bricks2 (part_plan rows old g e t ws)) (sym (each-lower t u))
+              | inl u ↦ subst (λ ws. IsPlanned now2 bricks2 (plan_in old g plugs t ws)) (sym (each-lower t u))
                   (stays t u taken)
               | inr u ↦ let same : k ≡ t = omega arith in
-                  subst (λ j. IsPlanned now2 bricks2 (part_plan rows old g e j (each2 j))) same
-                  (subst (λ ws. IsPlanned now2 bricks2 (part_plan rows old g e k ws)) (sym each-here) plan)
+                  subst (λ j. IsPlanned now2 bricks2 (plan_in old g plugs j (each2 j))) same
+                  (subst (λ ws. IsPlanned now2 bricks2 (plan_in old g plugs k ws)) (sym each-here) plan)
             ];
             low = ending;
-            words = subst (λ xs. HasWritten old now2 queue2.entries xs (opened_below rows old g e (suc k)) ending)
+            words = subst (λ xs. HasWritten old now2 queue2.entries xs (opened_in old g plugs (suc k)) ending)
                 (sym starts)
-                (subst (λ xs. HasWritten old now2 queue2.entries (map (λ q. q.start) (plugs_below rows old g e k)
-                ++ map (λ q. q.start) (part_plugs rows old g e k)) xs ending) (sym opened) words);
+                (subst (λ xs. HasWritten old now2 queue2.entries (map (λ q. q.start) (plugs_in old g plugs k)
+                ++ map (λ q. q.start) (plugs k)) xs ending) (sym opened) words);
             behind = λ t l i. (let o = segment_order old k t heap (omega arith) i in
                 let high = (lawful_at old k heap inside).high in omega (arith, o, high, within));
-            saved = subst (AreSavedAt queue2.entries) (sym plugs) saved;
+            saved = subst (AreSavedAt queue2.entries) (sym all) saved;
             count = omega (arith, more, count);
             entries = λ i out. entries i (out k (omega arith) on)
                 ∙ s.entries i (λ t l taken. out t (omega arith) taken);

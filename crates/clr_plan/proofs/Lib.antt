@@ -9,7 +9,8 @@ pub mod PartPlan
 pub mod Raising
 pub mod Reaching
 pub mod Beginning
-pub mod SmallPlan
+pub mod Alike
+pub mod WholePlan
 pub mod OlderPlan
 mod Takes
 pub mod RaisingTo
@@ -17,6 +18,9 @@ pub mod YoungPlan
 pub mod SplitScans
 pub mod AppendedPlugs
 pub mod HeapSurvivors
+pub mod ChosenPlugs
+pub mod MarkedPins
+pub mod LargePlugs
 pub mod YoungParts
 pub mod HeapPlugs
 pub mod Compacting
@@ -35,14 +39,17 @@ mod PushCount
 mod Covering
 mod Ages
 mod LaidBelow
-mod SmallLaid
+mod WholeLaid
+mod SmallWholes
 mod Lower
 mod EphemeralLaid
 mod Homes
+mod GenerationHomes
 mod MarkedRuns
 mod Telling
 mod PartFacts
 mod Assembled
 mod ToldGaps
 mod Whole
+mod LargeWholes
 mod Fitting

@@ -15,6 +15,7 @@ use Rattle.clr_model.specs.Sweep.{Survivor}
 use Rattle.clr_sweep.proofs.SurvivorsSwept.{listed-from}
 use Rattle.clr_sweep.specs.SweptItems.{stays}
 use Rattle.clr_moves.specs.Moves.{part_of, takes}
+use Rattle.clr_moves.specs.declared.parts.Parts.{Parts}
 use Rattle.clr_plan.specs.Heaps.{part_plugs}
 use Rattle.clr_plan.specs.Plans.{CanPlanHeap, old_part, young_plugs}
 use Rattle.clr_plan.specs.Scans.{CanScan, plugs_between, survivor_in, survivors_between}
@@ -25,39 +26,43 @@ use Rattle.clr_moves.specs.declared.parts.Parts.TheVariants.{Generations}
 
 -- The part of segment t can be scanned, its items are the heap's, each of its plugs is covered by survivors, and each
 -- survivor lies in a plug.
-pub record HasFacts (rows : List TypeRow) (h : HeapView) (g e t : ℕ) : Type 0 where
-  pub scan : CanScan rows h t (part_of h (Generations g) t) (last_of h t)
-  pub listed : (i : Item) → IsIn i (items_between (sight rows h t) (part_of h (Generations g) t) (last_of h t))
+pub record HasFacts (rows : List TypeRow) (h : HeapView) (g : Parts) (plugs : ℕ → List Plug) (t : ℕ) : Type 0 where
+  pub scan : CanScan rows h t (part_of h g t) (last_of h t)
+  pub listed : (i : Item) → IsIn i (items_between (sight rows h t) (part_of h g t) (last_of h t))
       → IsIn i (heap_items rows h)
-  pub covered : (q : Plug) → IsIn q (part_plugs rows h g e t)
-      → IsCovered (survivors_between rows h t (part_of h (Generations g) t) (last_of h t)) q
-  pub plugged : (k : Survivor) → IsIn k (survivors_between rows h t (part_of h (Generations g) t) (last_of h t))
-      → HasPlugOf (part_plugs rows h g e t) k
+  pub covered : (q : Plug) → IsIn q (plugs t) → IsCovered (survivors_between rows h t (part_of h g t) (last_of h t)) q
+  pub plugged : (k : Survivor) → IsIn k (survivors_between rows h t (part_of h g t) (last_of h t))
+      → HasPlugOf (plugs t) k
+
+-- a part that is a whole segment
+pub whole-facts : (rows : List TypeRow) (h : HeapView) (g : Parts) (plugs : ℕ → List Plug) (t : ℕ)
+    → t < length h.segments → part_of h g t ≡ first_of h t
+    → plugs t ≡ plugs_between rows h t (first_of h t) (last_of h t)
+    → CanScan rows h t (first_of h t) (last_of h t) → HasFacts rows h g plugs t
+whole-facts rows h g plugs t inside start same scan =
+    let base : HasFactsAt (first_of h t) (plugs_between rows h t (first_of h t) (last_of h t)) = (
+      scan,
+      λ i n. listed-from rows h t i inside n,
+      λ q n. plugs-covered (survivors_between rows h t (first_of h t) (last_of h t)) q n,
+      λ k n. plug-of-survivor (survivors_between rows h t (first_of h t) (last_of h t)) k n,
+    ) in
+    let (a, b, c, d) = subst (λ ps. HasFactsAt (part_of h g t) ps) (sym same)
+    (subst (λ n. HasFactsAt n (plugs_between rows h t (first_of h t) (last_of h t))) (sym start) base) in
+    record { scan = a; listed = b; covered = c; plugged = d }
+  where
+    HasFactsAt : ℕ → List Plug → Type 0
+    HasFactsAt low ps =
+        CanScan rows h t low (last_of h t) × ((i : Item) → IsIn i (items_between (sight rows h t) low (last_of h t))
+        → IsIn i (heap_items rows h))
+        × ((q : Plug) → IsIn q ps → IsCovered (survivors_between rows h t low (last_of h t)) q)
+        × ((k : Survivor) → IsIn k (survivors_between rows h t low (last_of h t)) → HasPlugOf ps k)
 
 module _ (rows : List TypeRow) (h : HeapView) (g e : ℕ) (can : CanPlanHeap rows h g e) where
-  inside-of : (t : ℕ) → t < suc e → t < length h.segments
-  inside-of t l = let i = can.inside in omega (arith, l, i)
-
-  lower-facts : (t : ℕ) → t < e → takes (Generations g) (segment_at h t) ≡ true → HasFacts rows h g e t
+  lower-facts : (t : ℕ) → t < e → takes (Generations g) (segment_at h t) ≡ true
+      → HasFacts rows h (Generations g) (part_plugs rows h g e) t
   lower-facts t l on =
-      let start = part-lower rows h g e can t l on in
-      let same = plugs-lower rows h g e can t l in
-      let base : HasFactsAt (first_of h t) (plugs_between rows h t (first_of h t) (last_of h t)) = (
-        can.scans t l,
-        λ i n. listed-from rows h t i (inside-of t (omega arith)) n,
-        λ q n. plugs-covered (survivors_between rows h t (first_of h t) (last_of h t)) q n,
-        λ k n. plug-of-survivor (survivors_between rows h t (first_of h t) (last_of h t)) k n,
-      ) in
-      let (a, b, c, d) = subst (λ ps. HasFactsAt (part_of h (Generations g) t) ps) (sym same)
-      (subst (λ n. HasFactsAt n (plugs_between rows h t (first_of h t) (last_of h t))) (sym start) base) in
-      record { scan = a; listed = b; covered = c; plugged = d }
-    where
-      HasFactsAt : ℕ → List Plug → Type 0
-      HasFactsAt low ps =
-          CanScan rows h t low (last_of h t) × ((i : Item) → IsIn i (items_between (sight rows h t) low (last_of h t))
-          → IsIn i (heap_items rows h))
-          × ((q : Plug) → IsIn q ps → IsCovered (survivors_between rows h t low (last_of h t)) q)
-          × ((k : Survivor) → IsIn k (survivors_between rows h t low (last_of h t)) → HasPlugOf ps k)
+      whole-facts rows h (Generations g) (part_plugs rows h g e) t (let i = can.inside in omega (arith, l, i))
+      (part-lower rows h g e can t l on) (plugs-lower rows h g e can t l) (can.scans t l)
 
   module _ (start : IsSplit rows h e (first_of h e) (part_of h (Generations g) e) (last_of h e))
       (young : IsSplit rows h e (part_of h (Generations g) e) h.start0 (last_of h e)) where
@@ -82,7 +87,7 @@ module _ (rows : List TypeRow) (h : HeapView) (g e : ℕ) (can : CanPlanHeap row
         → IsCovered ks q → IsCovered (survivors_between rows h e (part_of h (Generations g) e) (last_of h e)) q
     wider ks q more c x low high = let (k, i, a, b, d, f) = c x low high in (k, more k i, a, b, d, f)
 
-    young-facts : HasFacts rows h g e e
+    young-facts : HasFacts rows h (Generations g) (part_plugs rows h g e) e
     young-facts = record {
       scan = start.above;
       listed = λ i n. listed-from rows h e i can.inside
@@ -117,8 +122,10 @@ module _ (rows : List TypeRow) (h : HeapView) (g e : ℕ) (can : CanPlanHeap row
               high = r.high;
             }
 
-    pub facts : (t : ℕ) → t < suc e → takes (Generations g) (segment_at h t) ≡ true → HasFacts rows h g e t
+    pub facts : (t : ℕ) → t < suc e → takes (Generations g) (segment_at h t) ≡ true
+        → HasFacts rows h (Generations g) (part_plugs rows h g e) t
     facts t l on = elim (cases_lt t e) [
       | inl u ↦ lower-facts t u on
-      | inr u ↦ let same : e ≡ t = omega arith in subst (HasFacts rows h g e) same young-facts
+      | inr u ↦ let same : e ≡ t = omega arith in
+          subst (HasFacts rows h (Generations g) (part_plugs rows h g e)) same young-facts
     ]

@@ -6,7 +6,7 @@ use Rattle.clr_types.specs.Rising.{IsIn, first}
 use Rattle.clr_types.specs.Ranges.{Piece, piece_end}
 use Rattle.clr_pinq.specs.declared.entry.PinEntry.{PinEntry}
 use Rattle.clr_plan.specs.Waiting.{ranges_from}
-use Rattle.clr_types.specs.Segments.{first_place, reserved_end, is_small_or_ephemeral}
+use Rattle.clr_types.specs.Segments.{first_place, reserved_end}
 use Rattle.clr_types.specs.declared.segment.SegInfo.{SegInfo}
 use Rattle.clr_types.proofs.ListMembers.{append_right}
 use Rattle.clr_types.proofs.PieceGaps.{IsGapped}
@@ -15,8 +15,10 @@ use Rattle.clr_heap.proofs.Staying.{segment_order}
 use Rattle.clr_heap.proofs.Framing.{lawful_at, below_top_at}
 use Rattle.clr_model.specs.Compaction.{FitsAt}
 use Rattle.clr_model.proofs.PlugRoom.{in_segment}
-use Rattle.clr_plan.specs.Stages.{Stage, all_plugs, is_gapped, PinsBehind, IsListed, IsNextSmall, CanPlace, HasFound}
+use Rattle.clr_plan.specs.Stages.{all_plugs, are_alike, CanPlace, HasFound, is_gapped, IsListed, IsNextAlike}
+use Rattle.clr_plan.specs.Stages.{PinsBehind, Stage}
 use Rattle.clr_plan.specs.declared.pointer.Pointer.{Pointer}
+use Rattle.clr_plan.proofs.Alike.{alike-self}
 use Rattle.clr_plan.proofs.Trying.{AreBehind, IsTrying, starts, fits-before, passes-pin, home_above, fits-at-home}
 use Rattle.clr_plan.proofs.Trying.{fits-in-tail, passes-segment, lands}
 
@@ -58,7 +60,7 @@ module _ (w : Stage) (h : HeapView) (entries : List PinEntry) (from : Pointer) (
   }
 
   home-in : IsIn (segment_at h home) w.segments
-  home-in = can.among.between home can.among.order (omega arith) can.among.small
+  home-in = can.among.between home can.among.order (omega arith) (alike-self (segment_at h home).kind)
 
   module _ (at : Pointer) (s : IsSearching at) where
     abbrev here : SegInfo
@@ -157,9 +159,8 @@ module _ (w : Stage) (h : HeapView) (entries : List PinEntry) (from : Pointer) (
           found (fits-in-tail w.segments w.done w.plug w.ahead can.plugs can.unpinned from.place here at.place
           (ranges_from at.passed entries) s.trying behind (away ne) (omega arith))
 
-      pub search-next-segment : at.segment ≢ home → at.high < at.place + size → (n : ℕ) → IsNextSmall h at.segment home
-          n
-          → IsSearching (record {
+      pub search-next-segment : at.segment ≢ home → at.high < at.place + size → (n : ℕ)
+          → IsNextAlike h at.segment home n → IsSearching (record {
             place = first_place (segment_at h n);
             segment = n;
             high = reserved_end (segment_at h n);
@@ -184,7 +185,7 @@ module _ (w : Stage) (h : HeapView) (entries : List PinEntry) (from : Pointer) (
           inside = let m = next.most in let l = can.among.in_range in omega arith
 
           among : IsIn (segment_at h n) w.segments
-          among = let o = s.order in let a = next.above in can.among.between n (omega arith) next.most next.small
+          among = let o = s.order in let a = next.above in can.among.between n (omega arith) next.most next.alike
 
           higher : reserved_end here ≤ (segment_at h n).base
           higher = segment_order h at.segment n can.among.heap next.above inside
@@ -192,7 +193,7 @@ module _ (w : Stage) (h : HeapView) (entries : List PinEntry) (from : Pointer) (
           nearest : (u : SegInfo) → IsIn u w.segments → (u.base ≤ here.base) ⊎ ((segment_at h n).base ≤ u.base)
           nearest u i = go (can.among.listed u i)
             where
-              go : IsListed h u → (u.base ≤ here.base) ⊎ ((segment_at h n).base ≤ u.base)
+              go : IsListed h home u → (u.base ≤ here.base) ⊎ ((segment_at h n).base ≤ u.base)
               go is = by_order (cases_order is.index at.segment) (cases_order is.index n)
                 where
                   base : u.base ≡ (segment_at h is.index).base
@@ -210,8 +211,7 @@ module _ (w : Stage) (h : HeapView) (entries : List PinEntry) (from : Pointer) (
                   by_order (inr (inr l)) (inl e) = let same : (segment_at h is.index).base ≡ (segment_at h n).base =
                       ap (λ j. (segment_at h j).base) e in let b = base in inr (omega arith)
                   by_order (inr (inr l)) (inr (inl m)) =
-                      absurd (both_ways (is_small_or_ephemeral (segment_at h is.index).kind) (next.between is.index l m)
-                      (subst (λ (t : SegInfo). is_small_or_ephemeral t.kind ≡ true) is.is is.small))
+                      absurd (both_ways (are_alike h home is.index) (next.between is.index l m) is.alike)
                   by_order (inr (inr l)) (inr (inr m)) =
                       let o : reserved_end (segment_at h n) ≤ (segment_at h is.index).base = segment_order h n is.index
                       can.among.heap m is.in_range in

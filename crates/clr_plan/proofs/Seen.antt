@@ -72,14 +72,13 @@ module _ (w : Stage) (old now : HeapView) (heap : IsHeap now) (shape : SameShape
         among = record {
           heap = heap-mid;
           in_range = can.among.in_range;
-          small = can.among.small;
           order = can.among.order;
           high = can.among.high;
           listed = λ s i. let l = can.among.listed s i in record {
             index = l.index;
             in_range = l.in_range;
             is = l.is;
-            small = l.small;
+            alike = l.alike;
           };
           between = can.among.between;
         };
@@ -101,14 +100,13 @@ module _ (w : Stage) (old now : HeapView) (heap : IsHeap now) (shape : SameShape
         among = record {
           heap = heap_old;
           in_range = same.among.in_range;
-          small = same.among.small;
           order = same.among.order;
           high = same.among.high;
           listed = λ s i. let l = same.among.listed s i in record {
             index = l.index;
             in_range = l.in_range;
             is = l.is;
-            small = l.small;
+            alike = l.alike;
           };
           between = same.among.between;
         };

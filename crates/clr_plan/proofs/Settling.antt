@@ -77,7 +77,6 @@ module _ (w : Stage) (h : HeapView) (entries : List PinEntry) (at : Pointer) (ho
         among = record {
           heap = can.among.heap;
           in_range = can.among.in_range;
-          small = can.among.small;
           order = is.most;
           high = is.high;
           listed = can.among.listed;

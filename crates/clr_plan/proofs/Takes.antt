@@ -1,6 +1,7 @@
 -- Which segments take part, and the plugs of their parts.
 use Rattle.std.proofs.Common.{◌≡◌, ◌≢◌, ℕ, zero, suc, ◌+◌, ◌<◌, ◌≤◌, List, [], ◌++◌, length, refl, sym, ap}
 use Rattle.std.proofs.Common.{ap₂, ◌∙◌, arith, Bool, true, false, ◌&&◌, ◌||◌, ◌==◌, if◌then◌else◌, append_assoc}
+use Rattle.std.proofs.lemmas.List.{append-nil}
 use Rattle.std.proofs.lemmas.Bool.{and_from, and_parts, both_ways, eq-eqb, eqb-true, ne_eqb}
 use Rattle.clr_types.specs.Rising.{IsIn}
 use Rattle.clr_types.specs.Types.{TypeRow}
@@ -17,13 +18,26 @@ use Rattle.clr_sweep.proofs.SurvivorsSwept.{at-in}
 use Rattle.clr_moves.specs.Moves.{part_of, takes}
 use Rattle.clr_plan.specs.Heaps.{part_plugs, plugs_below}
 use Rattle.clr_plan.specs.Plans.{CanPlanHeap, condemned_plugs, old_part, older_plugs, parts_in}
-use Rattle.clr_plan.specs.Plans.{small_plugs, start_of_part, young_plugs}
+use Rattle.clr_plan.specs.Plans.{segment_plugs, small_plugs, start_of_part, young_plugs}
 use Rattle.clr_plan.specs.Scans.{plugs_between}
 use Rattle.clr_plan.proofs.Beginning.{start-is, young-small}
 use Rattle.clr_plan.proofs.Scanning.{survivors-done}
-use Rattle.clr_plan.proofs.SmallPlan.{small-more}
 use Rattle.clr_model.specs.Compaction.{plugs_of}
 use Rattle.clr_moves.specs.declared.parts.Parts.TheVariants.{Generations}
+
+-- the segment behind those that were planned
+small-next : (rows : List TypeRow) (h : HeapView) (i k : ℕ) → small_plugs rows h i (suc k) ≡ small_plugs rows h i k
+    ++ segment_plugs rows h (i + k)
+small-next rows h i zero = append-nil (segment_plugs rows h i) ∙ ap (segment_plugs rows h) (omega arith)
+small-next rows h i (suc k) =
+    ap (λ ps. segment_plugs rows h i ++ ps) (small-next rows h (i + 1) k)
+    ∙ ap (λ n. segment_plugs rows h i ++ (small_plugs rows h (i + 1) k ++ segment_plugs rows h n)) (omega arith)
+    ∙ sym (append_assoc (segment_plugs rows h i) (small_plugs rows h (i + 1) k) (segment_plugs rows h (i + suc k)))
+
+small-more : (rows : List TypeRow) (h : HeapView) (k : ℕ) → small_plugs rows h 0 (k + 1) ≡ small_plugs rows h 0 k
+    ++ segment_plugs rows h k
+small-more rows h k = let n : k + 1 ≡ suc k = omega arith in let m : 0 + k ≡ k = omega arith in
+    ap (small_plugs rows h 0) n ∙ small-next rows h 0 k ∙ ap (λ j. small_plugs rows h 0 k ++ segment_plugs rows h j) m
 
 pub takes-two : (g : ℕ) (s : SegInfo) → g ≡ 2 → takes (Generations g) s ≡ is_small_or_ephemeral s.kind
 takes-two g s two = ap (λ b. is_small_or_ephemeral s.kind && (same_kind Ephemeral s.kind || b)) (eq-eqb g 2 two)

@@ -10,12 +10,12 @@ use Rattle.clr_heap.specs.View.{HeapView, segment_at}
 use Rattle.clr_model.specs.Compaction.{Move, Plug, plug_end}
 use Rattle.clr_plugs.specs.Plans.{back_number, PlannedPart, PlannedPlug}
 use Rattle.clr_moves.specs.Moves.{takes}
+use Rattle.clr_moves.specs.declared.parts.Parts.{Parts}
 use Rattle.clr_moves.specs.Told.{end_before, GoesDown, moves_at, moves_from, moves_of}
-use Rattle.clr_plan.specs.Heaps.{AreFor, moves_below}
+use Rattle.clr_plan.specs.PartLists.{AreFor, moves_in}
 use Rattle.clr_plan.specs.LaidParts.{end_behind, planned_plugs}
 use Rattle.clr_plan.specs.Writes.{distance_of}
 use Rattle.clr_plan.proofs.Homes.{AreGapped}
-use Rattle.clr_moves.specs.declared.parts.Parts.TheVariants.{Generations}
 
 -- ---- how far a plug goes
 
@@ -128,52 +128,52 @@ last-of-plans below (p ∷ (q ∷ ps)) (v ∷ (u ∷ vs)) (y ∷ xs) x f e =
 
 -- ---- of all parts
 
-module _ (old now : HeapView) (g : ℕ) (parts : ℕ → PlannedPart) (lasts : ℕ → ℕ) (each : ℕ → List Move) (same : (t : ℕ)
-    → takes (Generations g) (segment_at now t) ≡ takes (Generations g) (segment_at old t)) where
+module _ (old now : HeapView) (g : Parts) (parts : ℕ → PlannedPart) (lasts : ℕ → ℕ) (each : ℕ → List Move)
+    (same : (t : ℕ) → takes g (segment_at now t) ≡ takes g (segment_at old t)) where
   from-more : (t n : ℕ)
-      → moves_from now (Generations g) parts lasts t (suc n) ≡ moves_from now (Generations g) parts lasts t n
-      ++ moves_at now (Generations g) parts lasts (t + n)
+      → moves_from now g parts lasts t (suc n) ≡ moves_from now g parts lasts t n
+      ++ moves_at now g parts lasts (t + n)
   from-more t zero =
-      append-nil (moves_at now (Generations g) parts lasts t)
-      ∙ ap (moves_at now (Generations g) parts lasts) (omega arith)
+      append-nil (moves_at now g parts lasts t)
+      ∙ ap (moves_at now g parts lasts) (omega arith)
   from-more t (suc n) =
-      ap (λ ws. moves_at now (Generations g) parts lasts t ++ ws) (from-more (suc t) n)
-      ∙ sym (append_assoc (moves_at now (Generations g) parts lasts t)
-      (moves_from now (Generations g) parts lasts (suc t) n)
-      (moves_at now (Generations g) parts lasts (suc t + n)))
-      ∙ ap (λ k. moves_from now (Generations g) parts lasts t (suc n) ++ moves_at now (Generations g) parts lasts k)
+      ap (λ ws. moves_at now g parts lasts t ++ ws) (from-more (suc t) n)
+      ∙ sym (append_assoc (moves_at now g parts lasts t)
+      (moves_from now g parts lasts (suc t) n)
+      (moves_at now g parts lasts (suc t + n)))
+      ∙ ap (λ k. moves_from now g parts lasts t (suc n) ++ moves_at now g parts lasts k)
       (omega arith)
 
-  here : (t : ℕ) → (takes (Generations g) (segment_at old t) ≡ true → moves_of (parts t).plugs (lasts t) ≡ each t)
-      → moves_at now (Generations g) parts lasts t ≡ (if takes (Generations g) (segment_at old t) then each t else [])
+  here : (t : ℕ) → (takes g (segment_at old t) ≡ true → moves_of (parts t).plugs (lasts t) ≡ each t)
+      → moves_at now g parts lasts t ≡ (if takes g (segment_at old t) then each t else [])
   here t told = ap (λ (b : Bool). if b then moves_of (parts t).plugs (lasts t) else []) (same t)
-      ∙ go (takes (Generations g) (segment_at old t)) refl
+      ∙ go (takes g (segment_at old t)) refl
     where
-      go : (b : Bool) → takes (Generations g) (segment_at old t) ≡ b
+      go : (b : Bool) → takes g (segment_at old t) ≡ b
           → (if b then moves_of (parts t).plugs (lasts t) else [])
           ≡ (if b then each t else [])
       go true on = told on
       go false off = refl
 
   pub told-below : (k : ℕ)
-      → ((t : ℕ) → t < k → takes (Generations g) (segment_at old t) ≡ true → moves_of (parts t).plugs (lasts t)
-      ≡ each t) → moves_from now (Generations g) parts lasts 0 k ≡ moves_below old g each k
+      → ((t : ℕ) → t < k → takes g (segment_at old t) ≡ true → moves_of (parts t).plugs (lasts t)
+      ≡ each t) → moves_from now g parts lasts 0 k ≡ moves_in old g each k
   told-below zero told = refl
   told-below (suc k) told =
       let n : 0 + k ≡ k = omega arith in
       from-more 0 k ∙ ap₂ (λ xs ys. xs ++ ys) (told-below k (λ t l. told t (omega arith)))
-      (ap (moves_at now (Generations g) parts lasts) n ∙ here k (told k (omega arith)))
+      (ap (moves_at now g parts lasts) n ∙ here k (told k (omega arith)))
 
   -- segments above have no part
-  pub told-above : (k d : ℕ) → ((t : ℕ) → k ≤ t → t < k + d → takes (Generations g) (segment_at old t) ≡ false)
-      → moves_from now (Generations g) parts lasts 0 (k + d) ≡ moves_from now (Generations g) parts lasts 0 k
-  told-above k zero off = ap (moves_from now (Generations g) parts lasts 0) (omega arith)
+  pub told-above : (k d : ℕ) → ((t : ℕ) → k ≤ t → t < k + d → takes g (segment_at old t) ≡ false)
+      → moves_from now g parts lasts 0 (k + d) ≡ moves_from now g parts lasts 0 k
+  told-above k zero off = ap (moves_from now g parts lasts 0) (omega arith)
   told-above k (suc d) off =
       let n : k + suc d ≡ suc (k + d) = omega arith in
       let m : 0 + (k + d) ≡ k + d = omega arith in
-      ap (moves_from now (Generations g) parts lasts 0) n ∙ from-more 0 (k + d)
+      ap (moves_from now g parts lasts 0) n ∙ from-more 0 (k + d)
       ∙ ap₂ (λ xs ys. xs ++ ys) (told-above k d (λ t l u. off t l (omega arith)))
-      (ap (moves_at now (Generations g) parts lasts) m
+      (ap (moves_at now g parts lasts) m
       ∙ ap (λ (b : Bool). if b then moves_of (parts (k + d)).plugs (lasts (k + d))
       else []) (same (k + d) ∙ off (k + d) (omega arith) (omega arith)))
-      ∙ append-nil (moves_from now (Generations g) parts lasts 0 k)
+      ∙ append-nil (moves_from now g parts lasts 0 k)

@@ -1,27 +1,25 @@
 -- The word before each plug tells how many bytes below it are unused.
-use Rattle.std.proofs.Common.{◌≡◌, ◌⊎◌, inl, inr, ℕ, suc, ◌+◌, ◌-◌, ◌<◌, ◌≤◌, true, List, [], ◌∷◌, length}
-use Rattle.std.proofs.Common.{sym, ap, subst, ◌∙◌, arith}
+use Rattle.std.proofs.Common.{◌≡◌, ◌⊎◌, inl, inr, ℕ, ◌-◌, ◌<◌, ◌≤◌, true, List, [], ◌∷◌}
+use Rattle.std.proofs.Common.{sym, ap, subst, arith}
 use Rattle.std.specs.List.{AllByRecursion}
 use Rattle.std.proofs.lemmas.Bool.{cases_order}
 use Rattle.clr_types.specs.Rising.{first, IsIn, later}
 use Rattle.clr_types.specs.Types.{TypeRow}
-use Rattle.clr_heap.specs.View.{HeapView, last_of, segment_at, word_of}
+use Rattle.clr_heap.specs.View.{HeapView, segment_at, word_of}
 use Rattle.clr_heap.proofs.Framing.{lawful_at}
 use Rattle.clr_heap.proofs.Staying.{segment_order}
 use Rattle.clr_model.specs.Compaction.{Move, Plug, plug_end}
 use Rattle.clr_pinq.specs.Queue.{QueueView}
 use Rattle.clr_plugs.specs.BrickEntries.{BricksView}
 use Rattle.clr_plugs.specs.Plans.{IsTold}
-use Rattle.clr_moves.specs.Moves.{IsInPart, move_at, part_of, plug_stop, takes}
-use Rattle.clr_plan.specs.Heaps.{AreFor, IsLaidBelow, part_plugs, plugs_below}
+use Rattle.clr_moves.specs.Moves.{IsInPart, move_at, part_of, takes}
+use Rattle.clr_moves.specs.declared.parts.Parts.{Parts}
 use Rattle.clr_plan.specs.LaidParts.{planned_plugs}
-use Rattle.clr_plan.specs.Planned.{AreUnusedBelow, TellGaps}
-use Rattle.clr_plan.specs.Plans.{CanPlanHeap}
+use Rattle.clr_plan.specs.PartLists.{AreFor, AreLaid, plugs_in}
+use Rattle.clr_plan.specs.Planned.{TellGaps}
 use Rattle.clr_plan.proofs.Assembled as assembled
 use Rattle.clr_plan.proofs.Fitting.{move-of, plug-at}
-use Rattle.clr_plan.proofs.Homes.{AreGapped, gapped-above, home-of, in-all, inside-of, lies-in, part-first, part-gapped}
-use Rattle.clr_plan.proofs.Homes.{sized}
-use Rattle.clr_moves.specs.declared.parts.Parts.TheVariants.{Generations}
+use Rattle.clr_plan.proofs.Homes.{AreGapped, gapped-above, HaveHomes, in-plugs, inside-of, part-gapped}
 
 -- the word before a plug of a part tells the bytes below it, down to where the others before it end
 record HasGap (word : ℕ → ℕ) (below : ℕ) (ps : List Plug) (q : Plug) : Type 0 where
@@ -67,75 +65,75 @@ gap-of word below (p ∷ ps) (v ∷ vs) f g told q (later i) =
     others r w first = inl r.low
     others r w (later j) = r.others w j
 
-module _ (rows : List TypeRow) (old now : HeapView) (bricks0 bricks : BricksView) (queue0 queue : QueueView) (g e : ℕ)
-    (can : CanPlanHeap rows old g e) (moves : List Move) (laid : IsLaidBelow rows old now bricks0 bricks queue0 queue g
-    e (suc e) moves) where
+module _ (rows : List TypeRow) (old now : HeapView) (bricks0 bricks : BricksView) (queue0 queue : QueueView)
+    (g : Parts) (plugs : ℕ → List Plug) (count : ℕ) (homes : HaveHomes old g plugs count) (moves : List Move)
+    (laid : AreLaid old now bricks0 bricks queue0 queue g plugs count moves) where
   abbrev all : List Plug
-  all = plugs_below rows old g e (suc e)
+  all = plugs_in old g plugs count
 
   fits : AreFor all moves
-  fits = assembled.fits rows old now bricks0 bricks queue0 queue g e can moves laid
+  fits = assembled.fits rows old now bricks0 bricks queue0 queue g plugs count homes moves laid
 
   abbrev Standing : Plug → Type 0
-  Standing = assembled.Stands rows old now bricks0 bricks queue0 queue g e can moves laid
+  Standing = assembled.Stands rows old now bricks0 bricks queue0 queue g plugs count homes moves laid
 
   standing : (q : Plug) → IsIn q all → Standing q
-  standing = assembled.stands rows old now bricks0 bricks queue0 queue g e can moves laid
+  standing = assembled.stands rows old now bricks0 bricks queue0 queue g plugs count homes moves laid
 
   in-part : (q : Plug) (place : ℕ) → (s : Standing q) → place ≡ q.start
-      → IsInPart now (Generations g) s.number place
+      → IsInPart now g s.number place
   in-part q place s is =
       let low = s.low in
       let high = s.high in
       let size = s.size in
-      let inside = inside-of rows old g e can s.number s.below in
-      let top = (lawful_at old s.number can.heap inside).high in
-      let there : IsInPart (record old { memories = now.memories }) (Generations g) s.number place = record {
+      let inside = inside-of old g plugs count homes s.number s.below in
+      let top = (lawful_at old s.number homes.heap inside).high in
+      let there : IsInPart (record old { memories = now.memories }) g s.number place = record {
         in_range = inside;
         takes = s.taken;
         low = omega (arith, is, low);
         high = omega (arith, is, high, size, top);
       } in
-      subst (λ (h : HeapView). IsInPart h (Generations g) s.number place) (sym laid.words.shape.others) there
+      subst (λ (h : HeapView). IsInPart h g s.number place) (sym laid.words.shape.others) there
 
-  module _ (t : ℕ) (l : t < suc e) (on : takes (Generations g) (segment_at old t) ≡ true) (q : Plug)
-      (i : IsIn q (part_plugs rows old g e t)) where
-    gap : HasGap (word_of now) (part_of old (Generations g) t) (part_plugs rows old g e t) q
-    gap = gap-of (word_of now) (part_of old (Generations g) t) (part_plugs rows old g e t) (laid.each t)
-        (laid.fit t l on) (part-gapped rows old g e can t l on) (laid.plans t l on).told q i
+  module _ (t : ℕ) (l : t < count) (on : takes g (segment_at old t) ≡ true) (q : Plug)
+      (i : IsIn q (plugs t)) where
+    gap : HasGap (word_of now) (part_of old g t) (plugs t) q
+    gap = gap-of (word_of now) (part_of old g t) (plugs t) (laid.each t)
+        (laid.fit t l on) (part-gapped old g plugs count homes t l on) (laid.plans t l on).told q i
 
     -- each plug of a part ends no higher, or starts no lower
     apart : (w : Plug) → IsIn w all → (plug_end w ≤ gap.low_end) ⊎ (q.start ≤ w.start)
     apart w j = let s = standing w j in elim (cases_order s.number t) [
-      | inl same ↦ gap.others w (subst (λ n. IsIn w (part_plugs rows old g e n)) same s.known)
+      | inl same ↦ gap.others w (subst (λ n. IsIn w (plugs n)) same s.known)
       | inr other ↦ elim other [
         | inl u ↦ inl (
-            let o = segment_order old s.number t can.heap u (inside-of rows old g e can t l) in
-            let top = (lawful_at old s.number can.heap (inside-of rows old g e can s.number s.below)).high in
-            let f = part-first rows old g e can t l on in
+            let o = segment_order old s.number t homes.heap u (inside-of old g plugs count homes t l) in
+            let top = (lawful_at old s.number homes.heap (inside-of old g plugs count homes s.number s.below)).high in
+            let f = homes.from_first t l on in
             let h = s.high in
             let m = gap.low in
             omega (arith, o, top, f, h, m))
         | inr u ↦ inr (
-            let o = segment_order old t s.number can.heap u (inside-of rows old g e can s.number s.below) in
-            let top = (lawful_at old t can.heap (inside-of rows old g e can t l)).high in
+            let o = segment_order old t s.number homes.heap u (inside-of old g plugs count homes s.number s.below) in
+            let top = (lawful_at old t homes.heap (inside-of old g plugs count homes t l)).high in
             let f = s.first_low in
             let m = s.low in
-            let h = (lies-in rows old g e can t l on q i).high in
+            let h = (homes.lies t l on q i).high in
             omega (arith, o, top, f, h, m))
       ]
     ]
 
   -- THE WORD before each plug tells the unused bytes below it
-  pub gaps : TellGaps now (Generations g) moves
+  pub gaps : TellGaps now g moves
   gaps k within =
       let r = plug-at all moves fits k within in
       let s = standing r.plug r.known in
       let told = gap s.number s.below s.taken r.plug s.known in
-      let same : part_of now (Generations g) s.number ≡ part_of old (Generations g) s.number = ap (λ (h : HeapView). part_of
-      h (Generations g) s.number) laid.words.shape.others in
-      let word : word_of now ((move_at moves k).start - 32) ≡ r.plug.start - told.low_end = subst (λ n. word_of now (n - 32)
-      ≡ r.plug.start - told.low_end) (sym r.start) told.told in
+      let same : part_of now g s.number ≡ part_of old g s.number = ap (λ (h : HeapView). part_of
+      h g s.number) laid.words.shape.others in
+      let word : word_of now ((move_at moves k).start - 32) ≡ r.plug.start - told.low_end =
+      subst (λ n. word_of now (n - 32) ≡ r.plug.start - told.low_end) (sym r.start) told.told in
       let start = r.start in
       let order = told.order in
       let low = told.low in
@@ -157,7 +155,7 @@ module _ (rows : List TypeRow) (old now : HeapView) (bricks0 bricks : BricksView
         ends = elim told.ends [
           | inl u ↦ inl (omega (arith, u, same, word, start, order))
           | inr (w, i, u) ↦
-              let m = move-of all moves fits w (in-all rows old g e can (suc e) s.number w s.below s.taken i) in
+              let m = move-of all moves fits w (in-plugs old g plugs count s.number w s.below s.taken i) in
               let m_start = m.start in
               let m_size = m.size in
               inr (m.index, m.within, omega (arith, u, word, start, order, m_start, m_size))

@@ -13,4 +13,6 @@ pub mod Compactions
 pub mod Writes
 pub mod LaidParts
 pub mod Planned
+pub mod PartLists
+pub mod WholeParts
 pub mod Heaps

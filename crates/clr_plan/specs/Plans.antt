@@ -1,5 +1,5 @@
 -- The plugs of a collection in a heap, in the order in which they are planned, and how far a plan has come.
-use Rattle.std.specs.Prelude.{◌≡◌, ℕ, zero, suc, ◌+◌, ◌-◌, ◌<◌, ◌≤◌, max, true, List, [], ◌++◌, length}
+use Rattle.std.specs.Prelude.{◌≡◌, ℕ, ◌<◌, ◌≤◌, max, true, List, [], ◌++◌, length}
 use Rattle.std.specs.Prelude.{if◌then◌else◌, ◌==◌}
 use Rattle.clr_types.specs.Types.{TypeRow}
 use Rattle.clr_types.specs.LawfulLayout.{IsLawfulLayout}
@@ -10,6 +10,7 @@ use Rattle.clr_view.specs.View.{layout_in}
 use Rattle.clr_model.specs.Sweep.{part_start, taking_part}
 use Rattle.clr_model.specs.Compaction.{first_pointer, Move, Placed, Plug, raised_past_pins}
 use Rattle.clr_model.proofs.CondemnedPlugs.{AreCondemned}
+use Rattle.clr_plan.specs.PartLists.{plugs_from, whole_plugs}
 use Rattle.clr_plan.specs.Pointing.{IsAt}
 use Rattle.clr_pinq.specs.declared.entry.PinEntry.{PinEntry}
 use Rattle.clr_plan.specs.Waiting.{ranges_from}
@@ -18,15 +19,13 @@ use Rattle.clr_plan.specs.declared.pointer.Pointer.{Pointer}
 
 -- ---- plugs
 
--- the plugs of segment k, where it isn't large
+-- the plugs of segment k, where it holds small objects
 abbrev pub segment_plugs : List TypeRow → HeapView → ℕ → List Plug
-segment_plugs rows h k = if is_small_or_ephemeral (segment_at h k).kind then plugs_between rows h k (first_of h k)
-    (last_of h k) else []
+segment_plugs rows h k = if is_small_or_ephemeral (segment_at h k).kind then whole_plugs rows h k else []
 
 -- those of n segments from segment k on
 abbrev pub small_plugs : List TypeRow → HeapView → ℕ → ℕ → List Plug
-small_plugs rows h k zero = []
-small_plugs rows h k (suc n) = segment_plugs rows h k ++ small_plugs rows h (k + 1) n
+small_plugs rows h k n = plugs_from h (λ s. is_small_or_ephemeral s.kind) (whole_plugs rows h) k n
 
 -- the start of the condemned part of segment k
 abbrev pub start_of_part : List TypeRow → HeapView → ℕ → ℕ → ℕ
@@ -93,14 +92,6 @@ pub record HasPlannedHeap (rows : List TypeRow) (h : HeapView) (g e : ℕ) (move
 -- the plugs of generations 1 and 2 in the ephemeral segment
 abbrev pub old_part : List TypeRow → HeapView → ℕ → ℕ → List Plug
 old_part rows h g e = plugs_between rows h e (start_of_part rows h g e) h.start0
-
--- in a collection of generation 2 the plugs of the k lowest segments are placed
-pub record HasReachedSmall (rows : List TypeRow) (h : HeapView) (k e : ℕ) (entries : List PinEntry) (moves : List Move)
-    (at : Pointer) : Type 0 where
-  pub reached : HasReached h (parts_in rows h 2) (condemned_plugs rows h 2 e) entries
-      (first_pointer (layout_in rows h) 2 (parts_in rows h 2)) [] (small_plugs rows h 0 k) (small_plugs rows h k (e - k)
-      ++ (old_part rows h 2 e ++ young_plugs rows h e)) moves at
-  pub nexts : (j : ℕ) → k ≤ j → j ≤ e → is_small_or_ephemeral (segment_at h j).kind ≡ true → at.segment ≤ j
 
 -- the pointer stands between the plugs of the older generations and the young ones
 pub record IsBetween (rows : List TypeRow) (h : HeapView) (g e : ℕ) (entries : List PinEntry) (at : Pointer) : Type

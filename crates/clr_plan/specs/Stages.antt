@@ -1,11 +1,12 @@
 -- How the pointer stands in the heap when a plug is placed, and what placing it has found.
 use Rattle.std.specs.Prelude.{◌≡◌, ℕ, ◌+◌, ◌<◌, ◌≤◌, Bool, true, false, List, [], ◌∷◌, ◌++◌, length, nat_eq}
-use Rattle.std.specs.Prelude.{nat_le, ◌||◌}
+use Rattle.std.specs.Prelude.{if◌then◌else◌, nat_le, ◌||◌}
 use Rattle.clr_types.specs.Rising.{IsIn}
 use Rattle.clr_types.specs.Ranges.{Piece}
 use Rattle.clr_pinq.specs.declared.entry.PinEntry.{PinEntry}
-use Rattle.clr_types.specs.Segments.{is_small_or_ephemeral, reserved_end}
+use Rattle.clr_types.specs.Segments.{is_small_or_ephemeral, reserved_end, same_kind}
 use Rattle.clr_types.specs.declared.segment.SegInfo.{SegInfo}
+use Rattle.clr_types.specs.declared.segment.SegKind.{SegKind}
 use Rattle.clr_heap.specs.View.{HeapView, IsHeap, segment_at}
 use Rattle.clr_model.specs.Compaction.{IsDestination, Placed, Plug}
 use Rattle.clr_model.proofs.PlugRoom.{ArePlugs}
@@ -32,31 +33,37 @@ abbrev pub PinsBehind : ℕ → List Piece → Type 0
 PinsBehind place [] = Unit {0}
 PinsBehind place (x ∷ rest) = place ≤ x.place
 
--- a segment of the heap that isn't large
-pub record IsListed (h : HeapView) (s : SegInfo) : Type 0 where
+-- whether segments of these kinds hold objects of one kind: small, large or pinned ones
+abbrev pub hold_alike : SegKind → SegKind → Bool
+hold_alike a b = if is_small_or_ephemeral a then is_small_or_ephemeral b else same_kind a b
+
+-- whether segments i and j do
+abbrev pub are_alike : HeapView → ℕ → ℕ → Bool
+are_alike h i j = hold_alike (segment_at h i).kind (segment_at h j).kind
+
+-- a segment of the heap that holds what segment `home` holds
+pub record IsListed (h : HeapView) (home : ℕ) (s : SegInfo) : Type 0 where
   pub index : ℕ
   pub in_range : index < length h.segments
   pub is : s ≡ segment_at h index
-  pub small : is_small_or_ephemeral s.kind ≡ true
+  pub alike : are_alike h home index ≡ true
 
--- n is the next segment after k, up to `home`, that isn't large
-pub record IsNextSmall (h : HeapView) (k home n : ℕ) : Type 0 where
+-- n is the next segment after k, up to `home`, that holds what this one holds
+pub record IsNextAlike (h : HeapView) (k home n : ℕ) : Type 0 where
   pub above : k < n
   pub most : n ≤ home
-  pub small : is_small_or_ephemeral (segment_at h n).kind ≡ true
-  pub between : (j : ℕ) → k < j → j < n → is_small_or_ephemeral (segment_at h j).kind ≡ false
+  pub alike : are_alike h home n ≡ true
+  pub between : (j : ℕ) → k < j → j < n → are_alike h home j ≡ false
 
--- the pointer among the segments: they are segments of the heap, and from the pointer's on all that aren't large, up to
--- `home`
+-- the pointer among the segments: they are segments of the heap that hold what `home` holds, and from the pointer's on
+-- all of these up to `home`
 pub record IsAmong (h : HeapView) (segments : List SegInfo) (at : Pointer) (home : ℕ) : Type 0 where
   pub heap : IsHeap h
   pub in_range : home < length h.segments
-  pub small : is_small_or_ephemeral (segment_at h home).kind ≡ true
   pub order : at.segment ≤ home
   pub high : at.high ≡ reserved_end (segment_at h at.segment)
-  pub listed : (s : SegInfo) → IsIn s segments → IsListed h s
-  pub between : (j : ℕ) → at.segment ≤ j → j ≤ home → is_small_or_ephemeral (segment_at h j).kind ≡ true
-      → IsIn (segment_at h j) segments
+  pub listed : (s : SegInfo) → IsIn s segments → IsListed h home s
+  pub between : (j : ℕ) → at.segment ≤ j → j ≤ home → are_alike h home j ≡ true → IsIn (segment_at h j) segments
 
 -- the next plug isn't pinned, has this size, and stands in segment `home`
 pub record CanPlace (w : Stage) (h : HeapView) (entries : List PinEntry) (at : Pointer) (home size : ℕ) : Type 0 where

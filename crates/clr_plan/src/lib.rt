@@ -1,12 +1,16 @@
-//! Plans a compaction: where each plug goes, and where the generations begin afterwards.
+//! Plans a compaction of generations, and a slide of the large segments: where each plug goes, and where the
+//! generations begin afterwards.
 //!
 //! The plan stands in the heap: before each plug how far it goes, and trees of the plugs of each brick. Words of live
 //! objects under it are saved in a queue. `clr_moves` reads it.
 #![tactic(auto)]
 
+pub use crate::large::plan_large;
 pub use crate::planning::plan;
 
 mod heaps;
+mod kinds;
+mod large;
 mod lay;
 mod pin;
 mod planning;
@@ -14,6 +18,6 @@ mod plug;
 mod pointer;
 mod raise;
 mod scan;
-mod small;
 mod way;
+mod whole_parts;
 mod write;

@@ -48,7 +48,8 @@ pub fn plan(
     requires spare { pinned_marked types.now heap.old + 4 ≤ pins.old.spare }
     ensures planned { (m : Machine) (kept : ℕ → Bool) → IsMemoryOf types.now heap.old m
         → TestsMarks types.now heap.old g kept → TellsPins types.now heap.old m
-        → HasPlanned types.now heap.old heap.new bricks.new pins.new.entries (Generations g) m kept result.start1 result.start0 }
+        → HasPlanned types.now heap.old heap.new bricks.new pins.new.entries (Generations g) m kept result.start1
+        result.start0 }
     ensures spare { pins.old.spare ≡ pins.new.spare + length pins.new.entries }
     ensures entries { (i : ℕ)
         → ((t : ℕ) → t < length heap.old.segments → takes (Generations g) (segment_at heap.old t) ≡ true

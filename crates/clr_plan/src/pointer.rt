@@ -1,13 +1,13 @@
 // The pointer of a plan, and how a plug finds its destination.
-ghost use Rattle.std.specs.Prelude.{◌≡◌, ℕ, ◌+◌, ◌<◌, ◌≤◌, ◌^◌, true, ◌∷◌, length, IfSome, MatchOption};
+ghost use Rattle.std.specs.Prelude.{◌≡◌, ℕ, ◌+◌, ◌<◌, ◌≤◌, ◌^◌, ◌∷◌, length, IfSome, MatchOption};
 ghost use Rattle.clr_heap.specs.View.{first_of, segment_at};
-ghost use Rattle.clr_types.specs.Segments.{is_small_or_ephemeral, reserved_end};
-ghost use Rattle.clr_plan.specs.Stages.{CanPlace, Stage, HasFound, is_gapped, IsNextSmall, PinsBehind};
+ghost use Rattle.clr_types.specs.Segments.{reserved_end};
+ghost use Rattle.clr_plan.specs.Stages.{CanPlace, Stage, HasFound, is_gapped, IsNextAlike, PinsBehind};
 ghost use Rattle.clr_plan.specs.Pins.{IsPinFrom};
 ghost use Rattle.clr_plan.specs.Waiting.{ranges_from};
 
+use crate::kinds::hold_alike;
 use crate::pin::{Pin, next_pin};
-use crate::small::is_small;
 use clr_heap::Heap;
 use clr_pinq::PinQueue;
 use clr_types::FIRST_OFFSET;
@@ -73,18 +73,18 @@ fn is_room(place: u64, size: u64, start: u64) -> bool
     end == start || end + 24 <= start
 }
 
-// The first place of the next segment of the small heap.
+// The first place of the next segment that holds what segment `home` holds.
 fn in_next_segment(heap: &Heap, at: Pointer, home: usize) -> Pointer
     requires below { at.segment < home }
     requires in_range { home < length heap.now.segments }
-    requires small { is_small_or_ephemeral (segment_at heap.now home).kind ≡ true }
-    ensures next { IsNextSmall heap.now at.segment home result.segment }
+    ensures next { IsNextAlike heap.now at.segment home result.segment }
     ensures place { result.place ≡ first_of heap.now result.segment }
     ensures high { result.high ≡ reserved_end (segment_at heap.now result.segment) }
     ensures passed { result.passed ≡ at.passed }
 {
+    let kind = heap.info(home).kind;
     let mut k = at.segment + 1;
-    while k < home && !is_small(heap.info(k).kind) {
+    while k < home && !hold_alike(kind, heap.info(k).kind) {
         k += 1;
     }
     let segment = heap.info(k);

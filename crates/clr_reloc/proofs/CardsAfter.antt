@@ -13,15 +13,16 @@ use Rattle.clr_types.proofs.ListMembers.{from-map}
 use Rattle.clr_heap.specs.View.{heap_items, HeapView, word_of}
 use Rattle.clr_model.specs.Compaction.{Move, moved_by}
 use Rattle.clr_model.specs.Machine.{num, Object, ref, Value}
-use Rattle.clr_view.specs.Memory.{is_left}
 use Rattle.clr_view.specs.View.{is_object, object_in, objects_in, slot_value}
 use Rattle.clr_view.proofs.SlotReads.{slot-told}
 use Rattle.clr_mark.proofs.References.{value_ref}
 use Rattle.clr_generations.specs.Laws.{CardLaw}
-use Rattle.clr_moves.specs.Objects.{moved_object, relocated_object, relocated_value}
+use Rattle.clr_moves.specs.Objects.{is_left_by, moved_object, relocated_object, relocated_value}
+use Rattle.clr_moves.specs.declared.parts.Parts.{Parts}
 use Rattle.clr_reloc.specs.References.{references_of}
 use Rattle.clr_reloc.specs.Relocated.{left_objects}
 use Rattle.clr_reloc.specs.Relocating.{IsCarded, IsLeftItem}
+use Rattle.clr_reloc.proofs.LeftPlaces.{left_by}
 
 -- what a changed list has at a number was made of what the list has there
 got_from : {X Y : Type 0} (f : X → Y) (xs : List X) (n : ℕ) (y : Y) → slice_get (map f xs) n ≡ Some y
@@ -41,7 +42,7 @@ was_reference : (vs : List Move) (v : Value) (x : ℕ) → relocated_value vs v 
 was_reference vs (ref y) x e = (y, refl, cc)
 was_reference vs (num n) x e = absurd cc
 
-module _ (rows : List TypeRow) (view : HeapView) (g : ℕ) (vs : List Move) (layout : Layout) (is_set : ℕ → Bool)
+module _ (rows : List TypeRow) (view : HeapView) (g : Parts) (vs : List Move) (layout : Layout) (is_set : ℕ → Bool)
     (carded : (i : Item) (offset : ℕ) → IsLeftItem rows view g i → IsIn offset (references_of rows i)
     → IsCarded view vs layout is_set i.place offset) where
   -- an object that is left, and the item that it is
@@ -53,8 +54,8 @@ module _ (rows : List TypeRow) (view : HeapView) (g : ℕ) (vs : List Move) (lay
   from_item : (o : Object) → IsIn o (left_objects rows view g vs) → FromItem o
   from_item o n =
       let (p, is, m) = from-map (λ o. moved_object vs (relocated_object vs o)) o
-      (filter (is_left view g) (objects_in rows view)) n in
-      let (left, listed) = out_of_filter (is_left view g) p (objects_in rows view) m in
+      (filter (is_left_by view g) (objects_in rows view)) n in
+      let (left, listed) = out_of_filter (is_left_by view g) p (objects_in rows view) m in
       let (i, at, k) = from-map (object_in rows (word_of view)) p (filter is_object (heap_items rows view)) listed in
       let (object, there) = out_of_filter is_object i (heap_items rows view) k in
       record {
@@ -62,7 +63,8 @@ module _ (rows : List TypeRow) (view : HeapView) (g : ℕ) (vs : List Move) (lay
         left = record {
           listed = there;
           object = object;
-          left = subst (λ (q : Object). is_left view g q ≡ true) at left;
+          left = sym (left_by view g (object_in rows (word_of view) i))
+              ∙ subst (λ (q : Object). is_left_by view g q ≡ true) at left;
         };
         is = is ∙ ap (λ q. moved_object vs (relocated_object vs q)) at;
       }

@@ -15,13 +15,13 @@ use Rattle.clr_view.proofs.ObjectItems.{stands-item}
 use Rattle.clr_view.proofs.Standing.{standing}
 use Rattle.clr_scan.specs.Entries.{IsEntryPlace}
 use Rattle.clr_scan.specs.SetCards.{AreClear}
+use Rattle.clr_moves.specs.declared.parts.Parts.{Parts}
 use Rattle.clr_reloc.specs.Relocating.{AreCarded, GoesDown, HasGone, IsAhead}
 use Rattle.clr_reloc.specs.Relocating.{Tracks}
 use Rattle.clr_reloc.specs.Scanning.{AreEntriesSound, AreQuietWhereClear}
 use Rattle.clr_reloc.proofs.Cells.{left_inside, one_item, reference_inside}
 use Rattle.clr_heap.specs.Parts.{item_at}
-use Rattle.clr_reloc.proofs.ManyItems.{carded_both, gone_both, track_first, track_order}
-use Rattle.clr_reloc.proofs.PlugItems.{on_track}
+use Rattle.clr_reloc.proofs.ManyItems.{carded_both, gone_both, on_track, track_first, track_order}
 
 -- the rest of a track from an item on
 pub track_from : (rows : List TypeRow) (view : HeapView) → IsHeap view → IsHeld rows view → (is : List Item) (p e q : ℕ)
@@ -63,7 +63,7 @@ was_clear old new kept c off = elim (cases_Bool (old c)) [
   | inl on ↦ absurd (both_ways (new c) off (kept c on))
 ]
 
-module _ (rows : List TypeRow) (view now : HeapView) (g : ℕ) (vs : List Move) (layout : Layout) (heap : IsHeap view)
+module _ (rows : List TypeRow) (view now : HeapView) (g : Parts) (vs : List Move) (layout : Layout) (heap : IsHeap view)
     (held : IsHeld rows view) (is_set : ℕ → Bool) (first end p q : ℕ)
     (quiet : AreQuietWhereClear rows view g vs layout is_set first end) (low : first ≤ p) (high : q ≤ end)
     (clear : AreClear is_set p q)
@@ -104,7 +104,7 @@ module _ (rows : List TypeRow) (view now : HeapView) (g : ℕ) (vs : List Move) 
       absurd (older (subst (λ x. generation layout x < generation layout i.place) still
       (subst (λ x. generation layout (moved_by vs (word_of view (i.place + offset))) < generation layout x) here less)))
 
-pub quiet_on : (rows : List TypeRow) (view : HeapView) (g : ℕ) (vs : List Move) (layout : Layout)
+pub quiet_on : (rows : List TypeRow) (view : HeapView) (g : Parts) (vs : List Move) (layout : Layout)
     (old new : ℕ → Bool) (first end : ℕ) → ((c : ℕ) → old c ≡ true → new c ≡ true)
     → AreQuietWhereClear rows view g vs layout old first end → AreQuietWhereClear rows view g vs layout new first end
 quiet_on rows view g vs layout old new first end kept quiet i offset left a b m off =
@@ -112,7 +112,7 @@ quiet_on rows view g vs layout old new first end kept quiet i offset left a b m 
 
 -- ---- a scan by set cards
 
-module _ (rows : List TypeRow) (view now next : HeapView) (g : ℕ) (vs : List Move) (layout : Layout)
+module _ (rows : List TypeRow) (view now next : HeapView) (g : Parts) (vs : List Move) (layout : Layout)
     (heap : IsHeap view) (held : IsHeld rows view) (old_set now_set : ℕ → Bool)
     (kept : (c : ℕ) → old_set c ≡ true → now_set c ≡ true) (first end cursor : ℕ) (low : first ≤ cursor)
     (quiet : AreQuietWhereClear rows view g vs layout old_set first end)
@@ -211,7 +211,7 @@ entry_stands rows view entry first end lo from cursor less sound found = elim fo
 ]
 
 -- a stretch that begins further up
-pub sub_ahead : (view now next : HeapView) (g : ℕ) (vs : List Move) (rows : List TypeRow) (first end from : ℕ)
+pub sub_ahead : (view now next : HeapView) (g : Parts) (vs : List Move) (rows : List TypeRow) (first end from : ℕ)
     → first ≤ from → IsAhead view now g vs first end → HasGone rows view now next g vs first from
     → IsAhead view next g vs from end
 sub_ahead view now next g vs rows first end from low ahead gone = record {

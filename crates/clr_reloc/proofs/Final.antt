@@ -16,7 +16,9 @@ use Rattle.clr_pinq.specs.declared.entry.PinEntry.{PinEntry}
 use Rattle.clr_generations.specs.Laws.{CardLaw}
 use Rattle.clr_moves.specs.Objects.{AreFollowed}
 use Rattle.clr_moves.specs.Overlaid.{HoldsPlan, IsPlugWord}
-use Rattle.clr_scan.specs.OldParts.{HaveOldParts}
+use Rattle.clr_moves.specs.declared.parts.Parts.{Parts}
+use Rattle.clr_moves.specs.Moves.{age_of}
+use Rattle.clr_reloc.specs.Partial.{HaveOldPartsOf}
 use Rattle.clr_reloc.specs.Outside.{AreAheadOutside, AreCardedOutside, AreCardedPlugs, HaveGoneOutside, HaveGonePlugs}
 use Rattle.clr_reloc.specs.Outside.{HaveNoneOver, IsOutsideWord}
 use Rattle.clr_reloc.specs.References.{references_of}
@@ -28,13 +30,12 @@ use Rattle.clr_reloc.proofs.LeftHomes.{home, InsidePlug, InsideSegment, keeps_to
 use Rattle.clr_reloc.proofs.NewObjects.{has_relocated}
 use Rattle.clr_reloc.proofs.Outer.{no_plug}
 use Rattle.clr_reloc.proofs.PlugItems.{in_plug}
-use Rattle.clr_moves.specs.declared.parts.Parts.TheVariants.{Generations}
 
-module _ (rows : List TypeRow) (view h : HeapView) (bricks : BricksView) (entries : List PinEntry) (g : ℕ)
-    (vs : List Move) (start1 start0 : ℕ) (least : g ≤ 2)
-    (plan : HoldsPlan rows view h bricks entries (Generations g) vs start1 start0)
-    (followed : AreFollowed rows view (Generations g) vs)
-    (old : g < 2 → HaveOldParts rows view g) (lawful : AllByRecursion IsLawfulRow rows) where
+module _ (rows : List TypeRow) (view h : HeapView) (bricks : BricksView) (entries : List PinEntry) (g : Parts)
+    (vs : List Move) (start1 start0 : ℕ) (least : age_of g ≤ 2)
+    (plan : HoldsPlan rows view h bricks entries g vs start1 start0)
+    (followed : AreFollowed rows view g vs)
+    (old : HaveOldPartsOf rows view g) (lawful : AllByRecursion IsLawfulRow rows) where
   pub begins : IsRelocating rows view view h bricks entries g vs start1 start0
   begins =
       let over = plan.overlaid in

@@ -1,3 +1,4 @@
+pub mod LeftPlaces
 pub mod Cells
 pub mod Heads
 pub mod Seen

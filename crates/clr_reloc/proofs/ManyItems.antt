@@ -1,7 +1,7 @@
 -- Items end to end are relocated, one after the other.
 use Rattle.std.proofs.Common.{◌≡◌, inl, inr, ℕ, ◌+◌, ◌-◌, ◌/◌, ◌<◌, ◌≤◌, Bool, true, List, [], ◌∷◌}
 use Rattle.std.proofs.Common.{refl}
-use Rattle.std.proofs.Common.{◌∙◌, subst, arith}
+use Rattle.std.proofs.Common.{◌∙◌, ap, subst, arith}
 use Rattle.std.proofs.lemmas.Bool.{cases_lt}
 use Rattle.clr_types.specs.Rising.{IsIn}
 use Rattle.clr_types.specs.Segments.{Layout}
@@ -15,8 +15,9 @@ use Rattle.clr_heap.proofs.Storing.{HasWord-shapes}
 use Rattle.clr_model.specs.Compaction.{Move, moved_by}
 use Rattle.clr_view.specs.View.{IsHeld}
 use Rattle.clr_view.proofs.Standing.{cell_has, mt_in, standing}
+use Rattle.clr_moves.specs.declared.parts.Parts.{Parts}
 use Rattle.clr_reloc.specs.Relocating.{AreCarded, GoesDown, HasGone, HaveCardsDown, IsAhead, IsItemAhead, Tracks}
-use Rattle.clr_reloc.proofs.Cells.{left_inside}
+use Rattle.clr_reloc.proofs.Cells.{left_inside, one_item}
 
 pub below_end : (place hi end : ℕ) → place < hi → hi ≤ end → place < end
 below_end place hi end less within = omega (arith, less, within)
@@ -49,19 +50,19 @@ track_has rows view h heap held same is p e t l =
     (subst (HasWord view.memories) f.at
     (cell_has rows view heap held f.item f.item.place f.listed (mt_in rows view heap held f.item f.listed)))
 
-pub gone_none : (rows : List TypeRow) (view now : HeapView) (g : ℕ) (vs : List Move) (p : ℕ)
+pub gone_none : (rows : List TypeRow) (view now : HeapView) (g : Parts) (vs : List Move) (p : ℕ)
     → HasGone rows view now now g vs p p
 gone_none rows view now g vs p = record {
   done = λ b r low high. absurd (omega (arith, low, high));
   others = λ b z out. refl;
 }
 
-pub carded_none : (rows : List TypeRow) (view : HeapView) (g : ℕ) (vs : List Move) (layout : Layout)
+pub carded_none : (rows : List TypeRow) (view : HeapView) (g : Parts) (vs : List Move) (layout : Layout)
     (is_set : ℕ → Bool) (p : ℕ) → AreCarded rows view g vs layout is_set p p
 carded_none rows view g vs layout is_set p i offset left low high m = absurd (omega (arith, low, high))
 
 -- two stretches side by side
-pub gone_both : (rows : List TypeRow) (view now mid next : HeapView) (g : ℕ) (vs : List Move) (heap : IsHeap view)
+pub gone_both : (rows : List TypeRow) (view now mid next : HeapView) (g : Parts) (vs : List Move) (heap : IsHeap view)
     (held : IsHeld rows view) (p q e : ℕ) → p ≤ q → q ≤ e → HasGone rows view now mid g vs p q
     → HasGone rows view mid next g vs q e → HasGone rows view now next g vs p e
 gone_both rows view now mid next g vs heap held p q e low high a b = record {
@@ -75,7 +76,7 @@ gone_both rows view now mid next g vs heap held p q e low high a b = record {
   ];
 }
 
-pub carded_both : (rows : List TypeRow) (view : HeapView) (g : ℕ) (vs : List Move) (layout : Layout)
+pub carded_both : (rows : List TypeRow) (view : HeapView) (g : Parts) (vs : List Move) (layout : Layout)
     (old new : ℕ → Bool) (p q e : ℕ) → ((c : ℕ) → old c ≡ true → new c ≡ true)
     → AreCarded rows view g vs layout old p q → AreCarded rows view g vs layout new q e
     → AreCarded rows view g vs layout new p e
@@ -85,7 +86,7 @@ carded_both rows view g vs layout old new p q e kept a b i offset left low high 
 ]
 
 -- the next item is still ahead
-module _ (rows : List TypeRow) (view now next : HeapView) (g : ℕ) (vs : List Move) (heap : IsHeap view)
+module _ (rows : List TypeRow) (view now next : HeapView) (g : Parts) (vs : List Move) (heap : IsHeap view)
     (held : IsHeld rows view) (from place e down : ℕ) (cards : List (CoverView ℕ)) (low : from ≤ place)
     (below : place < e)
     (ahead : IsAhead view now g vs from e) (goes : GoesDown vs from e down)
@@ -118,3 +119,22 @@ module _ (rows : List TypeRow) (view now next : HeapView) (g : ℕ) (vs : List M
         ∙ subst (λ n. is_covered covers (n / 2048) ≡ true) y
         (have (x + down) (omega (arith, d, lo, low)) (omega (arith, d, hi, w)));
   }
+
+-- an item of the heap that starts on a track ends on it
+pub on_track : (rows : List TypeRow) (view : HeapView) → IsHeap view → IsHeld rows view → (is : List Item) (p e : ℕ)
+    → Tracks rows view is p e → (i : Item) → IsIn i (heap_items rows view) → p ≤ i.place → i.place < e
+    → i.place + i.size ≤ e
+on_track rows view heap held [] p e t i l low high = absurd (omega (arith, t, low, high))
+on_track rows view heap held (j ∷ is) p e t i l low high = elim (cases_lt i.place (p + j.size)) [
+  | inl less ↦
+      let at = t.0 in
+      let s = standing rows view heap held i l in
+      let up = s.above in
+      let size = s.least in
+      let same : i ≡ j = one_item rows view heap held i j (i.place - 8) l t.1 (omega arith) (omega arith) (omega arith)
+      (omega arith) in
+      let end = track_order rows view is (p + j.size) e t.2 in
+      let place = ap (λ (x : Item). x.place + x.size) same in
+      omega arith
+  | inr past ↦ on_track rows view heap held is (p + j.size) e t.2 i l past high
+]

@@ -16,7 +16,6 @@ use Rattle.clr_types.proofs.ListMembers.{any-from, any-in, append_right, from-ma
 use Rattle.clr_heap.specs.View.{heap_items, HeapView, IsHeap, listing, no_rests, word_of}
 use Rattle.clr_model.specs.Compaction.{Move, moved_by}
 use Rattle.clr_model.specs.Machine.{ref}
-use Rattle.clr_view.specs.Memory.{is_left}
 use Rattle.clr_view.specs.View.{has_suppressed_bit, IsHeld, is_object, object_in, objects_among, objects_in}
 use Rattle.clr_view.specs.View.{slot_value, value_at}
 use Rattle.clr_view.proofs.Items.{IsItem, object-stays}
@@ -25,11 +24,13 @@ use Rattle.clr_view.proofs.SlotReads.{byte-is-number, slot-told}
 use Rattle.clr_view.proofs.Slots.{same-value, slot-inside, slot_word}
 use Rattle.clr_view.proofs.Standing.{listed_from, standing}
 use Rattle.clr_view.proofs.StoredSlots.{kind-there, offset-apart, slot-word-is, value-is}
-use Rattle.clr_moves.specs.Objects.{relocated_object, relocated_value}
+use Rattle.clr_moves.specs.Objects.{is_left_by, relocated_object, relocated_value}
+use Rattle.clr_moves.specs.declared.parts.Parts.{Parts}
 use Rattle.clr_reloc.specs.References.{is_reference_at, keeps, leads_to, limit_of, references_of, relocated}
 use Rattle.clr_reloc.specs.References.{staying_items}
 use Rattle.clr_reloc.specs.Relocated.{HasRelocated}
 use Rattle.clr_reloc.specs.Relocating.{is_left_at, IsLeftItem, IsLeftReference, IsUnderway}
+use Rattle.clr_reloc.proofs.LeftPlaces.{left_by}
 use Rattle.clr_reloc.proofs.Heads.{head_left, items_same, own_reference, word_left}
 use Rattle.clr_reloc.proofs.Seen.{held_now, layout_now}
 
@@ -105,7 +106,7 @@ slots_relocated form old new moves place (s ∷ slots) refs nums =
 
 -- ---- the items that are left
 
-module _ (rows : List TypeRow) (h : HeapView) (g : ℕ) where
+module _ (rows : List TypeRow) (h : HeapView) (g : Parts) where
   abbrev kept_of : ℕ → List Item
   kept_of t = filter (keeps (word_of h) (limit_of h g t)) (listing rows h t)
 
@@ -125,7 +126,7 @@ module _ (rows : List TypeRow) (h : HeapView) (g : ℕ) where
         append_right (staying_items rows h g n) (subst (λ k. IsIn i (kept_of k)) e m)
   ]
 
-module _ (rows : List TypeRow) (view now : HeapView) (g : ℕ) (vs : List Move) (heap : IsHeap view)
+module _ (rows : List TypeRow) (view now : HeapView) (g : Parts) (vs : List Move) (heap : IsHeap view)
     (held : IsHeld rows view) (none : view.rests ≡ no_rests) (u : IsUnderway rows view now g vs)
     (told : (i : Item) (t : ℕ) → t < length view.segments → IsIn i (listing rows view t)
     → keeps (word_of view) (limit_of view g t) i ≡ (is_object i && is_left_at view g i.place))
@@ -253,7 +254,7 @@ module _ (rows : List TypeRow) (view now : HeapView) (g : ℕ) (vs : List Move) 
       (listed-item rows view i heap held listed)
 
   object_told : (i : Item) → IsIn i (filter is_object (heap_items rows view)) → object_in rows (word_of now) i
-      ≡ (if is_left view g (object_in rows (word_of view) i)
+      ≡ (if is_left_by view g (object_in rows (word_of view) i)
       then relocated_object vs (object_in rows (word_of view) i) else object_in rows (word_of view) i)
   object_told i n =
       let (object, listed) = out_of_filter is_object i (heap_items rows view) n in
@@ -261,22 +262,22 @@ module _ (rows : List TypeRow) (view now : HeapView) (g : ℕ) (vs : List Move) 
         | inl on ↦
             left_object i (record { listed = listed; object = object; left = on })
             ∙ sym (ap (λ b. if b then relocated_object vs (object_in rows (word_of view) i)
-            else object_in rows (word_of view) i) on)
+            else object_in rows (word_of view) i) (left_by view g (object_in rows (word_of view) i) ∙ on))
         | inr off ↦
             other_object i listed object off
             ∙ sym (ap (λ b. if b then relocated_object vs (object_in rows (word_of view) i)
-            else object_in rows (word_of view) i) off)
+            else object_in rows (word_of view) i) (left_by view g (object_in rows (word_of view) i) ∙ off))
       ]
 
   objects_relocated : objects_in rows now
-      ≡ map (λ o. if is_left view g o then relocated_object vs o else o) (objects_in rows view)
+      ≡ map (λ o. if is_left_by view g o then relocated_object vs o else o) (objects_in rows view)
   objects_relocated =
       ap (objects_among rows (word_of now)) (items_same rows view now g vs heap held u)
       ∙ map-on (object_in rows (word_of now))
-      (λ i. if is_left view g (object_in rows (word_of view) i)
+      (λ i. if is_left_by view g (object_in rows (word_of view) i)
       then relocated_object vs (object_in rows (word_of view) i) else object_in rows (word_of view) i)
       (filter is_object (heap_items rows view)) object_told
-      ∙ sym (map-map (object_in rows (word_of view)) (λ o. if is_left view g o then relocated_object vs o else o)
+      ∙ sym (map-map (object_in rows (word_of view)) (λ o. if is_left_by view g o then relocated_object vs o else o)
       (filter is_object (heap_items rows view)))
 
   heads : (i : Item) → IsIn i (heap_items rows view) → (word_of now (i.place - 8) ≡ word_of view (i.place - 8))

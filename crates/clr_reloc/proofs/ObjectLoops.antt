@@ -16,6 +16,7 @@ use Rattle.clr_model.specs.Compaction.{Move, moved_by}
 use Rattle.clr_plugs.specs.BrickEntries.{BricksView}
 use Rattle.clr_pinq.specs.Queue.{QueueView}
 use Rattle.clr_moves.specs.declared.planned.Planned.{Planned}
+use Rattle.clr_moves.specs.declared.parts.Parts.{Parts}
 use Rattle.clr_reloc.specs.References.{references_of}
 use Rattle.clr_reloc.specs.Relocated.{rebounded}
 use Rattle.clr_reloc.specs.Relocating.{HasGone, IsAhead, IsCarded, IsLeftItem, IsRelocating, IsSlotAhead}
@@ -40,7 +41,7 @@ run_around offset (suc count) (suc i) l =
     ap₂ (λ (m n : ℕ). offset ∷ (offsets_from (offset + 8) i ++ m ∷ offsets_from (m + 8) n)) at left
     ∙ ap (λ (ns : List ℕ). offset ∷ ns) (run_around (offset + 8) count i (omega arith))
 
-module _ (rows : List TypeRow) (bricks : BricksView) (g : ℕ) (planned : Planned) (found : Item) (to : ℕ)
+module _ (rows : List TypeRow) (bricks : BricksView) (g : Parts) (planned : Planned) (found : Item) (to : ℕ)
     (h : HeapView) (pins : QueueView) (cards : List (CoverView ℕ)) where
   pub record HasPassed (after : HeapView) (queue : QueueView) (flags : List (CoverView ℕ)) (offsets : List ℕ)
       : Type 0 where

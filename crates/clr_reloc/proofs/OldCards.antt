@@ -31,9 +31,12 @@ use Rattle.clr_scan.proofs.CardScans.{ref_stands}
 use Rattle.clr_scan.proofs.TableLaws.{cards_have, cards_tell, entries_stand}
 use Rattle.clr_plugs.specs.BrickEntries.{BricksView}
 use Rattle.clr_pinq.specs.declared.entry.PinEntry.{PinEntry}
-use Rattle.clr_moves.specs.Moves.{IsInPart, IsInPlug, move_at, part_of, plug_stop, room_end, takes}
+use Rattle.clr_reloc.specs.Partial.{HaveEntriesOf, HaveOldPartsOf, IsPartial}
+use Rattle.clr_moves.specs.Moves.{age_of, IsInPart, IsInPlug, move_at, part_of, plug_stop, room_end, takes}
 use Rattle.clr_moves.specs.Objects.{AreRemembered}
 use Rattle.clr_moves.specs.Overlaid.{HoldsPlan}
+use Rattle.clr_moves.specs.declared.parts.Parts.{Parts}
+use Rattle.clr_moves.specs.declared.parts.Parts.TheVariants.{Generations, LargeSegments}
 use Rattle.clr_moves.specs.declared.planned.Planned.{Planned}
 use Rattle.clr_reloc.specs.Outside.{HaveNoneOver, outside_end}
 use Rattle.clr_reloc.specs.Relocated.{rebounded}
@@ -44,12 +47,14 @@ use Rattle.clr_reloc.proofs.ClearCards.{was_clear}
 use Rattle.clr_reloc.proofs.LeftHomes.{age_most, none_over, not_reached, reached}
 use Rattle.clr_reloc.proofs.Outer.{outside_high, outside_low}
 use Rattle.clr_reloc.proofs.Plugs.{moved_none}
-use Rattle.clr_moves.specs.declared.parts.Parts.TheVariants.{Generations}
 
-module _ (rows : List TypeRow) (view h : HeapView) (bricks : BricksView) (entries : List PinEntry) (g : ℕ)
-    (vs : List Move) (planned : Planned) (least : g ≤ 2) (young : g < 2)
-    (plan : HoldsPlan rows view h bricks entries (Generations g) vs planned.start1 planned.start0)
-    (old : g < 2 → HaveOldParts rows view g) where
+module _ (rows : List TypeRow) (view h : HeapView) (bricks : BricksView) (entries : List PinEntry) (oldest : ℕ)
+    (vs : List Move) (planned : Planned) (least : oldest ≤ 2) (young : oldest < 2)
+    (plan : HoldsPlan rows view h bricks entries (Generations oldest) vs planned.start1 planned.start0)
+    (old : oldest < 2 → HaveOldParts rows view oldest) where
+  abbrev g : Parts
+  g = Generations oldest
+
   heap : IsHeap view
   heap = plan.overlaid.heap
 
@@ -64,9 +69,9 @@ module _ (rows : List TypeRow) (view h : HeapView) (bricks : BricksView) (entrie
   high_of_part t l = outside_high rows view g vs plan.overlaid.heap plan.held plan.no_contexts plan.overlaid.moves
       plan.overlaid.starts over t l
 
-  part_end : (t : ℕ) → takes (Generations g) (segment_at view t) ≡ true
-      → outside_end view g t ≡ part_of view (Generations g) t
-  part_end t on = ap (λ b. if b then part_of view (Generations g) t else last_of view t) on
+  part_end : (t : ℕ) → takes g (segment_at view t) ≡ true
+      → outside_end view g t ≡ part_of view g t
+  part_end t on = ap (λ b. if b then part_of view g t else last_of view t) on
 
   -- ---- tables
 
@@ -93,17 +98,18 @@ module _ (rows : List TypeRow) (view h : HeapView) (bricks : BricksView) (entrie
   -- ---- entries
 
   module _ (entry : ℕ → ℤ)
-      (told : AreRemembered rows view bricks (Generations g) entry planned.below planned.first) where
+      (told : AreRemembered rows view bricks g entry planned.below planned.first) where
     same_part : (t u : ℕ) → t < length view.segments → u < length view.segments
-        → takes (Generations g) (segment_at view t) ≡ true → takes (Generations g) (segment_at view u) ≡ true
+        → takes g (segment_at view t) ≡ true → takes g (segment_at view u) ≡ true
         → segment_at view u ≡ segment_at view t
     same_part t u l m on_t on_u =
-        ephemeral_at rows view h bricks entries g vs planned.start1 planned.start0 plan least young u m on_u
-        ∙ sym (ephemeral_at rows view h bricks entries g vs planned.start1 planned.start0 plan least young t l on_t)
+        ephemeral_at rows view h bricks entries oldest vs planned.start1 planned.start0 plan least young u m on_u
+        ∙ sym (ephemeral_at rows view h bricks entries oldest vs planned.start1 planned.start0 plan least young t l
+        on_t)
 
     entry_is : (t i : ℕ) → t < length view.segments → first_of view t / 4096 ≤ i → i ≤ (outside_end view g t - 1) / 4096
         → entry_before bricks planned.below planned.first (border_of view g t) i ≡ entry i
-    entry_is t i l low high = go (takes (Generations g) (segment_at view t)) refl
+    entry_is t i l low high = go (takes g (segment_at view t)) refl
       where
         top : outside_end view g t ≤ reserved_end (segment_at view t)
         top = high_of_part t l
@@ -111,7 +117,7 @@ module _ (rows : List TypeRow) (view h : HeapView) (bricks : BricksView) (entrie
         from : first_of view t ≤ outside_end view g t
         from = low_of_part t l
 
-        go : (b : Bool) → takes (Generations g) (segment_at view t) ≡ b
+        go : (b : Bool) → takes g (segment_at view t) ≡ b
             → entry_before bricks planned.below planned.first (border_of view g t) i ≡ entry i
         go true on =
             let hi_end = top in
@@ -119,13 +125,13 @@ module _ (rows : List TypeRow) (view h : HeapView) (bricks : BricksView) (entrie
             let border : border_of view g t ≡ outside_end view g t / 4096 =
             ap (λ b. if b then outside_end view g t / 4096 else 18446744073709551615) on in
             let end = part_end t on in
-            let eph = ephemeral_at rows view h bricks entries g vs planned.start1 planned.start0 plan least young t l
-            on in
+            let eph = ephemeral_at rows view h bricks entries oldest vs planned.start1 planned.start0 plan least young t
+            l on in
             let first_is = told.first_is t eph l in
             let below_is = told.below_is t eph l in
             elim (cases_eq i (border_of view g t)) [
               | inl e ↦
-                  let at : part_of view (Generations g) t / 4096 ≡ i = omega arith in
+                  let at : part_of view g t / 4096 ≡ i = omega arith in
                   ap (λ b. if b then planned.first else (if i + 1 == border_of view g t then planned.below
                   else entry_at bricks i)) (eq-eqb i (border_of view g t) e) ∙ first_is ∙ ap entry at
               | inr n ↦
@@ -133,13 +139,13 @@ module _ (rows : List TypeRow) (view h : HeapView) (bricks : BricksView) (entrie
                   else entry_at bricks i)) (ne_eqb i (border_of view g t) n)
                   ∙ elim (cases_eq (i + 1) (border_of view g t)) [
                     | inl e ↦
-                        let at : part_of view (Generations g) t / 4096 - 1 ≡ i = omega arith in
+                        let at : part_of view g t / 4096 - 1 ≡ i = omega arith in
                         ap (λ b. if b then planned.below else entry_at bricks i) (eq-eqb (i + 1) (border_of view g t) e)
                         ∙ below_is ∙ ap entry at
                     | inr m ↦
                         ap (λ b. if b then planned.below else entry_at bricks i) (ne_eqb (i + 1) (border_of view g t) m)
                         ∙ told.others i (λ u lu on_u.
-                        let same = ap (λ s. part_start (frame view) g s) (same_part t u l lu on on_u) in
+                        let same = ap (λ s. part_start (frame view) oldest s) (same_part t u l lu on on_u) in
                         inl (omega arith))
                   ]
             ]
@@ -162,8 +168,8 @@ module _ (rows : List TypeRow) (view h : HeapView) (bricks : BricksView) (entrie
             let end_u = su.high in
             let start_u = (plan.overlaid.moves.starts u lu on_u).0 in
             elim (cases_order t u) [
-              | inl e ↦ absurd (both_ways (takes (Generations g) (segment_at view t)) off
-                  (subst (λ n. takes (Generations g) (segment_at view n) ≡ true) (sym e) on_u))
+              | inl e ↦ absurd (both_ways (takes g (segment_at view t)) off
+                  (subst (λ n. takes g (segment_at view n) ≡ true) (sym e) on_u))
               | inr (inl less) ↦ let o = segment_order view t u heap less lu in inl (omega arith)
               | inr (inr more) ↦ let o = segment_order view u t heap more l in inr (omega arith)
             ])
@@ -191,7 +197,7 @@ module _ (rows : List TypeRow) (view h : HeapView) (bricks : BricksView) (entrie
     closed : IsClosed rows view
     closed = record { heap = plan.overlaid.heap; held = plan.held; named = named }
 
-    plug_part : (k y : ℕ) → IsInPlug vs k y → (t : ℕ) × IsInPart view (Generations g) t y
+    plug_part : (k y : ℕ) → IsInPlug vs k y → (t : ℕ) × IsInPart view g t y
     plug_part k y p =
         let s = plan.overlaid.starts k p.within in
         let u = s.0 in
@@ -217,7 +223,7 @@ module _ (rows : List TypeRow) (view h : HeapView) (bricks : BricksView) (entrie
         (u, record { in_range = lu; takes = part.takes; low = omega arith; high = omega arith })
 
     -- an object in a plug is of a generation that is collected
-    young_there : (k y : ℕ) → IsInPlug vs k y → StandsAt rows view y → generation (frame view) y ≤ g
+    young_there : (k y : ℕ) → IsInPlug vs k y → StandsAt rows view y → generation (frame view) y ≤ oldest
     young_there k y p stands =
         let (t, part) = plug_part k y p in
         let o = stands-item rows view heap plan.held y stands in
@@ -238,16 +244,16 @@ module _ (rows : List TypeRow) (view h : HeapView) (bricks : BricksView) (entrie
           | inr (inr more) ↦ let o = segment_order view t s.segment heap more s.in_range in absurd (omega arith)
         ] in
         let last = ap (last_of view) same in
-        leb-true (generation (frame view) y) g
+        leb-true (generation (frame view) y) oldest
         (reached rows view g least plan.overlaid.heap plan.held old t y lt (omega arith) (omega arith))
 
     older : (t x : ℕ) → t < length view.segments → first_of view t ≤ x → x < outside_end view g t
-        → g < generation (frame view) x
-    older t x l low high = elim (cases_lt g (generation (frame view) x)) [
+        → oldest < generation (frame view) x
+    older t x l low high = elim (cases_lt oldest (generation (frame view) x)) [
       | inl less ↦ less
-      | inr more ↦ absurd (both_ways (nat_le (generation (frame view) x) g)
-          (not_reached rows view g least plan.overlaid.heap plan.held old t x l young low high)
-          (le-leb (generation (frame view) x) g more))
+      | inr more ↦ absurd (both_ways (nat_le (generation (frame view) x) oldest)
+          (not_reached rows view oldest least plan.overlaid.heap plan.held old t x l young low high)
+          (le-leb (generation (frame view) x) oldest more))
     ]
 
     not_null : (y : ℕ) → y ≡ 0 → generation (rebounded (frame view) planned) y ≡ 2
@@ -293,17 +299,18 @@ module _ (rows : List TypeRow) (view h : HeapView) (bricks : BricksView) (entrie
                     })))
               ] in
               let stands = ref_stands rows view closed i left.listed (i.place + offset) ref ne in
-              let b = boundaries_up rows view h bricks entries g vs planned.start1 planned.start0 plan least young in (
+              let b = boundaries_up rows view h bricks entries oldest vs planned.start1 planned.start0 plan least young
+              in (
                 moved_none vs (word_of view (i.place + offset)) (λ k p.
                     let c = young_there k (word_of view (i.place + offset)) p stands in
                     omega arith),
-                not_younger g (stands_in (ephemeral (frame view)) (word_of view (i.place + offset)))
+                not_younger oldest (stands_in (ephemeral (frame view)) (word_of view (i.place + offset)))
                     (stands_in (ephemeral (frame view)) i.place) (word_of view (i.place + offset)) i.place view.start1
                     view.start0 planned.start1 planned.start0 young b.0 b.1 up order,
               )
         ]
 
-    pub can_scan : (entry : ℕ → ℤ) → AreRemembered rows view bricks (Generations g) entry planned.below planned.first
+    pub can_scan : (entry : ℕ → ℤ) → AreRemembered rows view bricks g entry planned.below planned.first
         → (covers : List (CoverView ℕ)) → AreCardsOf (frame view) covers → AreBricksOf (frame view) bricks
         → CanScan rows view covers bricks g vs (rebounded (frame view) planned) is_set planned.below planned.first
     can_scan entry told covers cards_of bricks_of = record {
@@ -312,3 +319,20 @@ module _ (rows : List TypeRow) (view h : HeapView) (bricks : BricksView) (entrie
       entries = covered bricks_of;
       row = row covers cards_of;
     }
+
+-- in a compaction of less than all generations
+pub can_scan_part : (rows : List TypeRow) (view h : HeapView) (bricks : BricksView) (entries : List PinEntry)
+    (g : Parts) (vs : List Move) (planned : Planned) → age_of g ≤ 2 → IsPartial g
+    → HoldsPlan rows view h bricks entries g vs planned.start1 planned.start0 → HaveOldPartsOf rows view g
+    → ((x y : ℕ) → SlotNames (objects_in rows view) x y → StandsAt rows view y) → (cards : List (CoverView ℕ))
+    → CardLaw rows (frame view) (objects_in rows view) (is_card_set cards) → (is_set : ℕ → Bool)
+    → ((c : ℕ) → is_card_set cards c ≡ true → is_set c ≡ true) → (entry : ℕ → ℤ)
+    → HaveEntriesOf rows view bricks g entry planned.below planned.first → (covers : List (CoverView ℕ))
+    → AreCardsOf (frame view) covers → AreBricksOf (frame view) bricks
+    → CanScan rows view covers bricks g vs (rebounded (frame view) planned) is_set planned.below planned.first
+can_scan_part rows view h bricks entries (Generations oldest) vs planned least young plan old named cards law is_set
+    kept entry told covers cards_of bricks_of =
+    can_scan rows view h bricks entries oldest vs planned least young plan old named cards law is_set kept entry told
+    covers cards_of bricks_of
+can_scan_part rows view h bricks entries LargeSegments vs planned least young plan old named cards law is_set kept
+    entry told covers cards_of bricks_of = absurd young

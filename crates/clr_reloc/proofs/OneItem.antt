@@ -1,29 +1,32 @@
 -- One item is relocated, if it is left.
 use Rattle.std.proofs.Common.{◌≡◌, ℕ, ◌+◌, ◌/◌, ◌%◌, ◌<◌, ◌≤◌, ◌^◌, Bool, true, false, not, ◌&&◌, ◌||◌}
 use Rattle.std.proofs.Common.{List, refl}
-use Rattle.std.proofs.Common.{◌*◌, ◌-◌, ap, ap₂, sym, ◌∙◌, subst, arith, length, nat_le, if◌then◌else◌}
+use Rattle.std.proofs.Common.{◌*◌, ◌-◌, ap, ap₂, sym, ◌∙◌, subst, arith, length, if◌then◌else◌}
 use Rattle.std.proofs.lemmas.Bool.{and_parts, both_ways}
 use Rattle.clr_types.specs.Rising.{IsIn}
-use Rattle.clr_types.specs.Segments.{generation, Layout}
+use Rattle.clr_types.specs.Segments.{Layout}
 use Rattle.clr_types.specs.Types.{form_at, is_array, mt_of, size_of, TypeRow}
 use Rattle.clr_types.specs.declared.item.Item.{Item}
 use Rattle.clr_covers.specs.Covers.{CoverView}
 use Rattle.clr_heap.specs.Memories.{HasWord, memory_index}
 use Rattle.clr_heap.specs.Parts.{item_at, length_at, NamesItem, type_number}
-use Rattle.clr_heap.specs.View.{frame, HeapView, IsHeap, word_of}
-use Rattle.clr_heap.proofs.Storing.{HasWord-shapes}
+use Rattle.clr_heap.specs.View.{HeapView, IsHeap, word_of}
+use Rattle.clr_heap.proofs.Storing.{HasWord-shapes, memory_index-shapes}
 use Rattle.clr_model.specs.Compaction.{Move}
 use Rattle.clr_view.specs.Marks.{has_mark}
 use Rattle.clr_view.specs.View.{IsHeld, is_object}
 use Rattle.clr_view.proofs.Listed.{listed-low, listed-spelled}
-use Rattle.clr_view.proofs.Standing.{cell_has, len_in, mt_in, standing}
+use Rattle.clr_view.proofs.Standing.{cell_has, cell_index, len_in, mt_in, standing}
 use Rattle.clr_plugs.specs.BrickEntries.{BricksView}
 use Rattle.clr_pinq.specs.Queue.{logical}
 use Rattle.clr_pinq.specs.declared.entry.PinEntry.{PinEntry}
+use Rattle.clr_moves.specs.declared.parts.Parts.{Parts}
 use Rattle.clr_reloc.specs.References.{references_of}
-use Rattle.clr_reloc.specs.Relocating.{AreCarded, HasGone, IsCarded, IsItemAhead, is_left_at, IsLeftItem}
-use Rattle.clr_reloc.specs.Relocating.{IsRelocating}
+use Rattle.clr_reloc.specs.Relocating.{AreCarded, HasGone, is_gone_over, is_gone_over_in, is_left_at, IsCarded}
+use Rattle.clr_reloc.specs.Relocating.{IsItemAhead, IsLeftItem, IsRelocating}
 use Rattle.clr_reloc.proofs.Cells.{left_inside, one_item}
+use Rattle.clr_reloc.proofs.LeftHomes.{gone_over_told}
+use Rattle.clr_reloc.proofs.LeftPlaces.{over_same}
 use Rattle.clr_reloc.proofs.OneSegment.{cell_segment}
 
 -- an item is read from two words
@@ -50,7 +53,7 @@ names_same rows v w p a b n =
       free = λ e. subst (λ x. x % 8 ≡ 0) (sym b) (n.free (ap type_number (sym a) ∙ e));
     }
 
-module _ (rows : List TypeRow) (view now h : HeapView) (bricks : BricksView) (entries : List PinEntry) (g : ℕ)
+module _ (rows : List TypeRow) (view now h : HeapView) (bricks : BricksView) (entries : List PinEntry) (g : Parts)
     (vs : List Move) (start1 start0 : ℕ) (r : IsRelocating rows view now h bricks entries g vs start1 start0)
     (i : Item) (place to : ℕ) (cards : List (CoverView ℕ)) (q : IsItemAhead rows view now g vs i place to cards) where
   heap : IsHeap view
@@ -109,15 +112,40 @@ module _ (rows : List TypeRow) (view now h : HeapView) (bricks : BricksView) (en
       names_same rows (word_of view) (logical entries (word_of h)) place mt_same len_same
       (subst (NamesItem rows (word_of view)) q.at (listed-spelled rows view i heap held q.listed).1)
 
-  -- what the test says
-  pub left_told : (found : Item) (mt : ℕ) → found ≡ i → mt ≡ word_of view place
-      → (is_object found && (not (nat_le (generation (frame h) found.place) g) || has_mark mt))
+  -- ---- what the test says
+
+  -- the segment of the item
+  in_segment : (k : ℕ) → k ≡ memory_index h.memories place → k ≡ (standing rows view heap held i q.listed).segment
+  in_segment k is =
+      is ∙ memory_index-shapes h.memories view.memories place r.shape.memories
+      ∙ ap (memory_index view.memories) (sym q.at)
+      ∙ cell_index rows view heap held i i.place q.listed (mt_in rows view heap held i q.listed)
+
+  pub segment_inside : (k : ℕ) → k ≡ memory_index h.memories place → k < length h.segments
+  segment_inside k is =
+      let same = in_segment k is in
+      let inside = (standing rows view heap held i q.listed).in_range in
+      let count = ap (λ (x : HeapView). length x.segments) r.shape.others in
+      omega (arith, same, inside, count)
+
+  over_told : (k : ℕ) → k ≡ memory_index h.memories place → is_gone_over_in h g k i.place ≡ is_gone_over view g i.place
+  over_told k is =
+      let s = standing rows view heap held i q.listed in
+      let below = s.below in
+      let size = s.least in
+      let reserved = s.reserved in
+      over_same view h r.shape g k i.place
+      ∙ subst (λ n. is_gone_over_in view g n i.place ≡ is_gone_over view g i.place) (sym (in_segment k is))
+      (gone_over_told rows view g heap held s.segment i.place s.in_range s.above (omega (arith, below, size, reserved)))
+
+  pub left_told : (k : ℕ) → k ≡ memory_index h.memories place → (found : Item) (mt : ℕ) → found ≡ i
+      → mt ≡ word_of view place
+      → (is_object found && (not (is_gone_over_in h g k found.place) || has_mark mt))
       ≡ (is_object i && is_left_at view g i.place)
-  left_told found mt same word =
-      ap (λ (x : Item). is_object x && (not (nat_le (generation (frame h) x.place) g) || has_mark mt)) same
-      ∙ ap (λ (l : Layout). is_object i && (not (nat_le (generation l i.place) g) || has_mark mt))
-      (ap (λ (x : HeapView). frame x) r.shape.others)
-      ∙ ap (λ w. is_object i && (not (nat_le (generation (frame view) i.place) g) || has_mark w))
+  left_told k is found mt same word =
+      ap (λ (x : Item). is_object x && (not (is_gone_over_in h g k x.place) || has_mark mt)) same
+      ∙ ap (λ b. is_object i && (not b || has_mark mt)) (over_told k is)
+      ∙ ap (λ w. is_object i && (not (is_gone_over view g i.place) || has_mark w))
       (word ∙ ap (word_of view) (sym q.at))
 
   pub left_item : (is_object i && is_left_at view g i.place) ≡ true → IsLeftItem rows view g i

@@ -4,24 +4,21 @@ use Rattle.std.proofs.Common.{true, List}
 use Rattle.std.proofs.Common.{[], ◌∷◌, length, refl, ap, sym, ◌∙◌, subst, arith, IsSome, Option, None, Some}
 use Rattle.std.proofs.Common.{if◌then◌else◌}
 use Rattle.std.specs.Prelude.{is_some}
-use Rattle.std.proofs.lemmas.Bool.{and_parts, cases_Bool, cases_lt, cases_order, true≢false}
-use Rattle.clr_types.specs.LawfulLayout.{AreBounded}
-use Rattle.clr_types.specs.Segments.{is_small_or_ephemeral, Layout}
+use Rattle.std.proofs.lemmas.Bool.{cases_Bool, cases_lt, cases_order, true≢false}
 use Rattle.clr_types.specs.Types.{form_at, is_array, size_of, TypeRow}
 use Rattle.clr_types.specs.declared.item.Item.{Item}
-use Rattle.clr_types.specs.Rising.{IsIn}
+use Rattle.clr_types.specs.Rising.{first, IsIn, later}
 use Rattle.clr_types.proofs.RisingLists.{all_at, in_cons}
-use Rattle.clr_heap.specs.Parts.{item_at, item_part, items_in, length_at, Part, parts, rest_part}
-use Rattle.clr_heap.specs.Parts.{Spells, type_number}
-use Rattle.clr_heap.specs.View.{heap_items, HeapView, IsHeap, items_between, last_of, segment_at, sight}
+use Rattle.clr_heap.specs.Parts.{hole_from, item_at, item_part, items_in, length_at, Part, parts, rest_part}
+use Rattle.clr_heap.specs.Parts.{Sight, Spells, type_number}
+use Rattle.clr_heap.specs.View.{heap_items, HeapView, IsHeap, items_between, last_of, sight}
 use Rattle.clr_heap.specs.View.{word_of}
 use Rattle.clr_heap.proofs.Addresses.{index_is_segment}
-use Rattle.clr_heap.proofs.Framing.{bounded_at, lawful_at}
-use Rattle.clr_heap.proofs.Spelling.{place-item_at}
+use Rattle.clr_heap.proofs.Framing.{lawful_at}
+use Rattle.clr_heap.proofs.Spelling.{item_size, place-item_at}
 use Rattle.clr_heap.proofs.Staying.{segment_order}
 use Rattle.clr_heap.proofs.Storing.{memory_index-shapes}
 use Rattle.clr_model.specs.Compaction.{Move, moved_by}
-use Rattle.clr_model.specs.Sweep.{has_condemned_part}
 use Rattle.clr_model.proofs.MovedPlaces.{moved-is}
 use Rattle.clr_model.proofs.SmallLengths.{small_length}
 use Rattle.clr_view.specs.View.{IsHeld}
@@ -36,13 +33,15 @@ use Rattle.clr_moves.specs.Moves.{IsInPart, move_at, plug_stop, room_end}
 use Rattle.clr_moves.specs.Overlaid.{IsPlugWord}
 use Rattle.clr_moves.proofs.Kept.{IsLastRun}
 use Rattle.clr_moves.proofs.KeptRuns.{HeadStays}
+use Rattle.clr_moves.specs.declared.parts.Parts.{Parts}
+use Rattle.clr_moves.specs.Moves.{age_of}
+use Rattle.clr_reloc.specs.References.{references_of}
 use Rattle.clr_reloc.specs.Relocating.{IsKept, IsLeftReference, IsRelocating, KeepsTelling, Tracks}
 use Rattle.clr_reloc.proofs.Cells.{left_inside, one_item}
-use Rattle.clr_reloc.proofs.Heads.{agrees, head_left}
+use Rattle.clr_reloc.proofs.Heads.{agrees, array_reference, head_left}
 use Rattle.clr_reloc.proofs.ManyItems.{track_first, track_order}
 use Rattle.clr_reloc.proofs.PlugItems.{number_of, plug_track}
 use Rattle.clr_reloc.proofs.SavedTriples.{queue_three}
-use Rattle.clr_moves.specs.declared.parts.Parts.TheVariants.{Generations}
 
 not_saved : (es : List PinEntry) (word : ℕ → ℕ) (b : ℕ) → (IsSome (queue_word es b) → ⊥) → logical es word b ≡ word b
 not_saved es word b none = go (queue_word es b) none
@@ -75,21 +74,39 @@ type_told : (rows : List TypeRow) (word : ℕ → ℕ) (p : ℕ) → (item_at ro
 unfolding item_at
 type_told rows word p = refl
 
+-- what starts below the end of a walk without holes is one of its items, where a longer one goes on
+in_both : (s : Sight) → ((q : ℕ) → hole_from s.holes q ≡ None) → (ps qs : List Part) (p e l : ℕ) → p % 8 ≡ 0
+    → Spells s p ps e → Spells s p qs l → (i : Item) → IsIn i (items_in ps) → i.place < l → IsIn i (items_in qs)
+in_both s none [] qs p e l z whole run i m below = elim m [ ]
+in_both s none (rest_part lo hi ∷ ps) qs p e l z whole run i m below =
+    let a = none p in let c = whole.1 in absurd cc
+in_both s none (item_part x ∷ ps) [] p e l z whole run i m below =
+    let up = (all_at (IsItem s.rows p e) m (items-are s (item_part x ∷ ps) p e z whole)).above in
+    absurd (omega (arith, up, run, below))
+in_both s none (item_part x ∷ ps) (rest_part lo hi ∷ qs) p e l z whole run i m below =
+    let a = none p in let c = run.1 in absurd cc
+in_both s none (item_part x ∷ ps) (item_part y ∷ qs) p e l z whole run i m below =
+    let same : x ≡ y = whole.1 ∙ sym run.1 in
+    let size = ap (λ (j : Item). j.size) same in
+    let sized = item_size s x p whole.1 whole.2 in
+    elim (in_cons m) [
+      | inl here ↦ subst (λ j. IsIn j (y ∷ items_in qs)) (sym (here ∙ same)) first
+      | inr more ↦
+          let whole_size = sized.1 in
+          later (in_both s none ps qs (p + x.size) e l (omega (arith, z, whole_size)) whole.3
+          (subst (λ n. Spells s (p + n) qs l) (sym size) run.3) i more below)
+    ]
+
 module _ (rows : List TypeRow) (view now h new : HeapView) (bricks : BricksView) (entries : List PinEntry)
-    (g : ℕ) (vs : List Move) (start1 start0 : ℕ) (r : IsRelocating rows view now h bricks entries g vs start1 start0)
-    (least_g : g ≤ 2) (k : KeepsTelling rows view g vs entries h new) (t from last : ℕ)
+    (g : Parts) (vs : List Move) (start1 start0 : ℕ)
+    (r : IsRelocating rows view now h bricks entries g vs start1 start0) (least_g : age_of g ≤ 2)
+    (k : KeepsTelling rows view g vs entries h new) (t from last : ℕ)
     (run : IsLastRun rows h vs t from last) where
   heap : IsHeap view
   heap = r.begun.plan.overlaid.heap
 
   held : IsHeld rows view
   held = r.begun.plan.held
-
-  -- what a lawful machine says of its segments
-  bounded : AreBounded view.segments
-  bounded =
-      let is = r.begun.plan.compaction in
-      subst (λ (layout : Layout). AreBounded layout.segments) is.memory.layout is.laid.layout.bounded
 
   n : ℕ
   n = run.number
@@ -105,7 +122,7 @@ module _ (rows : List TypeRow) (view now h new : HeapView) (bricks : BricksView)
 
   -- where some item is, the run's segment is that of its plug
   module _ (some : from + 24 ≤ last_of h t) where
-    home : IsInPart view (Generations g) (r.begun.plan.overlaid.starts run.number run.within).0
+    home : IsInPart view g (r.begun.plan.overlaid.starts run.number run.within).0
         (move_at vs run.number).start
     home = (r.begun.plan.overlaid.starts run.number run.within).1
 
@@ -122,9 +139,9 @@ module _ (rows : List TypeRow) (view now h new : HeapView) (bricks : BricksView)
         ∙ sym (memory_index-shapes h.memories view.memories from r.shape.memories)
         ∙ run.run.index from (omega arith) (omega arith)
 
-    here : IsInPart view (Generations g) t from
-    here = subst (λ x. IsInPart view (Generations g) t x) run.start
-        (subst (λ u. IsInPart view (Generations g) u (move_at vs run.number).start)
+    here : IsInPart view g t from
+    here = subst (λ x. IsInPart view g t x) run.start
+        (subst (λ u. IsInPart view g u (move_at vs run.number).start)
         at_home home)
 
     last_same : last_of h t ≡ last_of view t
@@ -359,6 +376,77 @@ module _ (rows : List TypeRow) (view now h new : HeapView) (bricks : BricksView)
                 ]
           ]
 
+      -- the length of its item, where that is a long raw array
+      own_length : (y : Item) → IsIn y (heap_items rows view) → from ≤ y.place → b ≡ y.place + 8
+          → y.place + 64 ≤ stop → is_array (form_at rows (type_number (word_of h y.place))) ≡ true → ⊥
+      own_length y l low at long array =
+          let s = standing rows view heap held y l in
+          let zy = s.aligned in
+          let least = s.least in
+          let start = run.start in
+          let plug : IsPlugWord vs run.number y.place = record {
+            within = run.within;
+            low = omega (arith, start, low);
+            high = omega (arith, long);
+          } in
+          let no_mt : IsSome (queue_word entries y.place) → ⊥ =
+          λ some_b. (let e = saved_last y.place zy plug some_b in omega (arith, e, long)) in
+          let mt : word_of h y.place ≡ word_of view y.place =
+          sym (not_saved entries (word_of h) y.place no_mt) ∙ r.words y.place zy (inl (run.number, plug))
+          ∙ head_left rows view now g vs heap held r.underway y l y.place zy (omega arith) (omega arith) in
+          let type : y.type_id.0 ≡ type_number (word_of view y.place) =
+          ap (λ (x : Item). x.type_id.0) (listed-spelled rows view y heap held l).0
+          ∙ type_told rows (word_of view) y.place in
+          let array_y : is_array (form_at rows y.type_id.0) ≡ true =
+          subst (λ q. is_array (form_at rows q) ≡ true) (ap type_number mt ∙ sym type) array in
+          let same = own y l (omega (arith, at)) (omega (arith, at, least)) in
+          let reference = subst (λ (x : Item). IsIn ref.offset (references_of rows x)) same ref.reference in
+          let far = array_reference (form_at rows y.type_id.0) y.len ref.offset reference array_y in
+          let address : b ≡ y.place + ref.offset = ref.address ∙ ap (λ (x : Item). x.place + ref.offset) same in
+          omega (arith, at, far, address)
+
+      -- no long raw array starts right below there
+      none_below : (is : List Item) (p : ℕ) (ps : List Part) (e : ℕ) → from ≤ p → p % 8 ≡ 0
+          → Tracks rows view is p (plug_stop (move_at vs run.number)) → Spells (sight rows h t) p ps e
+          → (x : Item) → IsIn x (items_in ps) → x.place + 8 ≡ b → x.place + 64 ≤ stop
+          → is_array (form_at rows (type_number (word_of h x.place))) ≡ true → ⊥
+      none_below is p [] e low zp track spelled x m at long array = elim m [ ]
+      none_below is p (rest_part lo hi ∷ ps) e low zp track spelled x m at long array =
+          let a = run.run.none p in let c = spelled.1 in absurd cc
+      none_below [] p (item_part q ∷ ps) e low zp track spelled x m at long array =
+          let up = (all_at (IsItem rows p e) m (items-are (sight rows h t) (item_part q ∷ ps) p e zp spelled)).above in
+          omega (arith, track, up, long)
+      none_below (y ∷ is) p (item_part q ∷ ps) e low zp track spelled x m at long array =
+          let place = track.0 in
+          let listed = track.1 in
+          let q_is : q ≡ item_at rows (word_of h) y.place = spelled.1 ∙ ap (item_at rows (word_of h)) (sym place) in
+          let q_size = ap (λ (i : Item). i.size) q_is in
+          let q_least : 24 ≤ (item_at rows (word_of h) y.place).size =
+          subst (λ n. 24 ≤ (item_at rows (word_of h) n).size) (sym place) spelled.2.least in
+          let q_whole : (item_at rows (word_of h) y.place).size % 8 ≡ 0 =
+          subst (λ n. (item_at rows (word_of h) n).size % 8 ≡ 0) (sym place) spelled.2.whole in
+          let ends = track_order rows view is (p + y.size) stop track.2 in
+          let y_least = (standing rows view heap held y listed).least in
+          elim (in_cons m) [
+            | inl here ↦
+                let x_at : x.place ≡ p = ap (λ (i : Item). i.place) (here ∙ spelled.1)
+                ∙ place-item_at rows (word_of h) p in
+                own_length y listed (omega (arith, place, low)) (omega (arith, place, x_at, at))
+                (omega (arith, place, x_at, long))
+                (subst (λ n. is_array (form_at rows (type_number (word_of h n))) ≡ true) (x_at ∙ sym place) array)
+            | inr more ↦
+                let up = (all_at (IsItem rows (p + q.size) e) more
+                (items-are (sight rows h t) ps (p + q.size) e (omega arith) spelled.3)).above in
+                elim (cases_lt b (y.place + y.size)) [
+                  | inl inside ↦ inside_own y listed (omega arith) (omega arith) (omega arith) q_least inside
+                  | inr beyond ↦
+                      let same : q.size ≡ y.size = q_size
+                      ∙ ap (λ (i : Item). i.size) (lower_head y listed (omega arith) beyond) in
+                      none_below is (p + y.size) ps e (omega arith) (omega arith) track.2
+                      (subst (λ n. Spells (sight rows h t) (p + n) ps e) same spelled.3) x more at long array
+                ]
+          ]
+
     -- a word of the run that counts is one of its plug
     in_last : (b : ℕ) → from ≤ b → b + 8 < last_of h t → IsKept view g vs b → IsPlugWord vs run.number b
     in_last b low high kept = elim kept [
@@ -412,22 +500,11 @@ module _ (rows : List TypeRow) (view now h new : HeapView) (bricks : BricksView)
       | inr stays ↦ let e = stays.1 in elim either [ inl a ↦ e ∙ sym a | inr a ↦ sym a ]
     ]
 
-    -- the length of a raw array of the run is short
-    short_length : (i : Item) → IsIn i (items_between (sight rows h t) from (last_of h t))
+    -- the length of a short raw array of the run
+    short_length : (i : Item) → IsIn i (items_between (sight rows h t) from (last_of h t)) → i.size ≤ 67108864
         → is_array (form_at rows (type_number (word_of h i.place))) ≡ true → word_of h (i.place + 8) ≤ 67108864
-    short_length i m array =
+    short_length i m short array =
         let is = raw i m in
-        let low = is.above in
-        let high = is.below in
-        let p = here in
-        let part = p.low in
-        let first_low = (r.begun.plan.overlaid.moves.starts t p.in_range p.takes).0 in
-        let lawful = lawful_at view t heap p.in_range in
-        let kind = and_parts (is_small_or_ephemeral (segment_at view t).kind)
-        (has_condemned_part g (segment_at view t)) p.takes in
-        let most = bounded_at view t bounded p.in_range kind.0 in
-        let room = lawful.high in
-        let same = last_same in
         let spelled = (item-spelled (sight rows h t) (parts (last_of h t) (sight rows h t) from (last_of h t)) i from
         (last_of h t) run.run.walk.spelled m).0 in
         let type : i.type_id.0 ≡ type_number (word_of h i.place) =
@@ -437,7 +514,18 @@ module _ (rows : List TypeRow) (view now h new : HeapView) (bricks : BricksView)
         let size : i.size ≡ size_of (form_at rows (type_number (word_of h i.place))) (word_of h (i.place + 8)) =
         is.sized ∙ ap (λ y. size_of (form_at rows y) i.len) type
         ∙ ap (size_of (form_at rows (type_number (word_of h i.place)))) len in
-        small_length rows (type_number (word_of h i.place)) (word_of h (i.place + 8)) r.begun.lawful array (omega arith)
+        small_length rows (type_number (word_of h i.place)) (word_of h (i.place + 8)) r.begun.lawful array
+        (omega (arith, short, size))
+
+    -- a raw item that starts in the run ends in it
+    ends_in_run : (i : Item) → IsIn i (items_between (sight rows h t) from (last_of h t)) → i.place < last
+        → i.place + i.size ≤ last
+    ends_in_run i m below =
+        (all_at (IsItem rows from last) (in_both (sight rows h t) run.run.none
+        (parts (last_of h t) (sight rows h t) from (last_of h t)) (parts last (sight rows h t) from last) from
+        (last_of h t) last run.run.walk.start run.run.walk.spelled run.run.run.spelled i m below)
+        (items-are (sight rows h t) (parts last (sight rows h t) from last) from last run.run.run.start
+        run.run.run.spelled)).below
 
   pub head_stays : (i : Item) → IsIn i (items_between (sight rows h t) from (last_of h t))
       → HeadStays rows (word_of h) (word_of new) i.place
@@ -462,14 +550,27 @@ module _ (rows : List TypeRow) (view now h new : HeapView) (bricks : BricksView)
         len = λ array. elim (k.words (i.place + 8) (omega arith)) [
           | inl same ↦ same
           | inr (ref, kept, unsaved, goes) ↦
-              let raw_now : word_of h (i.place + 8) ≡ word_of now (i.place + 8) =
-              sym (not_saved entries (word_of h) (i.place + 8) unsaved)
-              ∙ r.words (i.place + 8) (omega arith) kept in
-              goes ∙ stays_short some (word_of h (i.place + 8)) (word_of view (i.place + 8))
-              (short_length some i m array)
-              (elim (r.underway.words (i.place + 8) (omega arith)) [
-                | inl e ↦ inl (raw_now ∙ e)
-                | inr e ↦ inr (raw_now ∙ e.1)
-              ])
+              let w = in_last some (i.place + 8) (omega (arith, low)) (omega (arith, high, size)) kept in
+              elim (cases_lt 67108864 i.size) [
+                | inl long ↦
+                    let stop = run.stop in
+                    let inside = w.high in
+                    let end = ends_in_run some i m (omega (arith, inside, stop)) in
+                    absurd (none_below some (i.place + 8) (omega (arith, z)) ref w unsaved track.0 from
+                    (parts (last_of h t) (sight rows h t) from (last_of h t)) (last_of h t) (omega arith)
+                    run.run.walk.start
+                    (subst (λ p. Tracks rows view track.0 p (plug_stop (move_at vs run.number))) run.start track.1)
+                    run.run.walk.spelled i m refl (omega (arith, long, end, stop)) array)
+                | inr short ↦
+                    let raw_now : word_of h (i.place + 8) ≡ word_of now (i.place + 8) =
+                    sym (not_saved entries (word_of h) (i.place + 8) unsaved)
+                    ∙ r.words (i.place + 8) (omega arith) kept in
+                    goes ∙ stays_short some (word_of h (i.place + 8)) (word_of view (i.place + 8))
+                    (short_length some i m short array)
+                    (elim (r.underway.words (i.place + 8) (omega arith)) [
+                      | inl e ↦ inl (raw_now ∙ e)
+                      | inr e ↦ inr (raw_now ∙ e.1)
+                    ])
+              ]
         ];
       }

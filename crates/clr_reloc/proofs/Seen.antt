@@ -14,7 +14,7 @@ use Rattle.clr_types.proofs.ListMembers.{filter-map, from-map, map-map}
 use Rattle.clr_mem.specs.Words.{Memory}
 use Rattle.clr_heap.specs.Memories.{shapes}
 use Rattle.clr_heap.specs.View.{frame, heap_items, HeapView, IsHeap, no_rests, SameShape, word_of}
-use Rattle.clr_model.specs.Compaction.{IsCompacted, Move}
+use Rattle.clr_model.specs.Compaction.{Move}
 use Rattle.clr_model.specs.Lawful.{IsLaid}
 use Rattle.clr_model.specs.Lookups.{object_piece, pieces}
 use Rattle.clr_model.specs.Machine.{Machine, Object}
@@ -25,11 +25,11 @@ use Rattle.clr_view.specs.View.{free_among, IsHeld, is_object, layout_in, object
 use Rattle.clr_view.proofs.Standing.{standing}
 use Rattle.clr_plugs.specs.BrickEntries.{BricksView}
 use Rattle.clr_pinq.specs.declared.entry.PinEntry.{PinEntry}
-use Rattle.clr_moves.specs.Moves.{AreMoves, IsInPart, move_at}
-use Rattle.clr_moves.specs.Overlaid.{HoldsPlan, IsOutside, MayGo}
+use Rattle.clr_moves.specs.Moves.{age_of, AreMoves, IsInPart, move_at}
+use Rattle.clr_moves.specs.Overlaid.{HoldsPlan, IsLaidBy, IsOutside, MayGo}
+use Rattle.clr_moves.specs.declared.parts.Parts.{Parts}
 use Rattle.clr_reloc.specs.Relocating.{IsRelocating, IsUnderway}
 use Rattle.clr_reloc.proofs.Heads.{count_same, head_left, items_same, parts_left}
-use Rattle.clr_moves.specs.declared.parts.Parts.TheVariants.{Generations}
 
 -- ---- the shape
 
@@ -37,13 +37,13 @@ module _ (view : HeapView) (ms : List Memory) where
   abbrev W : HeapView
   W = record view { memories = ms }
 
-  in_part : (g t x : ℕ) → IsInPart view (Generations g) t x → IsInPart W (Generations g) t x
+  in_part : (g : Parts) (t x : ℕ) → IsInPart view g t x → IsInPart W g t x
   in_part g t x p = record { in_range = p.in_range; takes = p.takes; low = p.low; high = p.high }
 
-  in_part_back : (g t x : ℕ) → IsInPart W (Generations g) t x → IsInPart view (Generations g) t x
+  in_part_back : (g : Parts) (t x : ℕ) → IsInPart W g t x → IsInPart view g t x
   in_part_back g t x p = record { in_range = p.in_range; takes = p.takes; low = p.low; high = p.high }
 
-  moves_of_shape : (g : ℕ) (vs : List Move) → AreMoves view (Generations g) vs → AreMoves W (Generations g) vs
+  moves_of_shape : (g : Parts) (vs : List Move) → AreMoves view g vs → AreMoves W g vs
   moves_of_shape g vs m = record {
     each = λ k l. let v = m.each k l in record {
       lower = v.lower;
@@ -81,31 +81,31 @@ module _ (view : HeapView) (ms : List Memory) where
   }
 
 module _ (view now : HeapView) (shape : SameShape view now) where
-  pub part_now : (g t x : ℕ) → IsInPart view (Generations g) t x → IsInPart now (Generations g) t x
-  part_now g t x p = subst (λ h. IsInPart h (Generations g) t x) (sym shape.others) (in_part view now.memories g t x p)
+  pub part_now : (g : Parts) (t x : ℕ) → IsInPart view g t x → IsInPart now g t x
+  part_now g t x p = subst (λ h. IsInPart h g t x) (sym shape.others) (in_part view now.memories g t x p)
 
-  pub part_before : (g t x : ℕ) → IsInPart now (Generations g) t x → IsInPart view (Generations g) t x
+  pub part_before : (g : Parts) (t x : ℕ) → IsInPart now g t x → IsInPart view g t x
   part_before g t x p =
-      in_part_back view now.memories g t x (subst (λ h. IsInPart h (Generations g) t x) shape.others p)
+      in_part_back view now.memories g t x (subst (λ h. IsInPart h g t x) shape.others p)
 
-  pub may_go_now : (g : ℕ) (vs : List Move) (x : ℕ) → MayGo view (Generations g) vs x → MayGo now (Generations g) vs x
+  pub may_go_now : (g : Parts) (vs : List Move) (x : ℕ) → MayGo view g vs x → MayGo now g vs x
   may_go_now g vs x may = elim may [
     | inl none ↦ inl (λ t p. none t (part_before g t x p))
     | inr plug ↦ inr plug
   ]
 
-  moves_now : (g : ℕ) (vs : List Move) → AreMoves view (Generations g) vs → AreMoves now (Generations g) vs
+  moves_now : (g : Parts) (vs : List Move) → AreMoves view g vs → AreMoves now g vs
   moves_now g vs m =
-      subst (λ h. AreMoves h (Generations g) vs) (sym shape.others) (moves_of_shape view now.memories g vs m)
+      subst (λ h. AreMoves h g vs) (sym shape.others) (moves_of_shape view now.memories g vs m)
 
   pub heap_now : IsHeap view → IsHeap now
   heap_now h = subst IsHeap (sym shape.others) (heap_of_shape view now.memories shape.memories h)
 
-  outside_now : (g b : ℕ) → IsOutside now (Generations g) b → IsOutside view (Generations g) b
-  outside_now g b o = subst (λ h. IsOutside h (Generations g) b) shape.others o
+  outside_now : (g : Parts) (b : ℕ) → IsOutside now g b → IsOutside view g b
+  outside_now g b o = subst (λ h. IsOutside h g b) shape.others o
 
-  outside_before : (g b : ℕ) → IsOutside view (Generations g) b → IsOutside now (Generations g) b
-  outside_before g b o = subst (λ h. IsOutside h (Generations g) b) (sym shape.others) o
+  outside_before : (g : Parts) (b : ℕ) → IsOutside view g b → IsOutside now g b
+  outside_before g b o = subst (λ h. IsOutside h g b) (sym shape.others) o
 
 -- ---- the machine
 
@@ -117,7 +117,7 @@ none_at (suc n) (suc i) r e = none_at n i r e
 pub no_rest : (h : HeapView) → h.rests ≡ no_rests → (i : ℕ) (r : Piece) → get_or h.rests i None ≡ Some r → ⊥
 no_rest h same i r e = none_at 16 i r (ap (λ rs. get_or rs i None) (sym same) ∙ e)
 
-module _ (rows : List TypeRow) (view now : HeapView) (g : ℕ) (vs : List Move) (heap : IsHeap view)
+module _ (rows : List TypeRow) (view now : HeapView) (g : Parts) (vs : List Move) (heap : IsHeap view)
     (held : IsHeld rows view) (none : view.rests ≡ no_rests) (u : IsUnderway rows view now g vs) where
   rests_now : now.rests ≡ no_rests
   rests_now = ap (λ (h : HeapView). h.rests) u.shape.others ∙ none
@@ -197,34 +197,37 @@ module _ (rows : List TypeRow) (view now : HeapView) (g : ℕ) (vs : List Move) 
       whole0 = subst (λ ps. AllByRecursion (DoesNotCross m.layout.start0) ps) (sym pieces_now) laid.whole0;
     }
 
-    pub survivors_now : (kept : ℕ → Bool) → survivors (record m { objects = objects_in rows now }) g kept
-        ≡ survivors m g kept
+    pub survivors_now : (kept : ℕ → Bool) → survivors (record m { objects = objects_in rows now }) (age_of g) kept
+        ≡ survivors m (age_of g) kept
     survivors_now kept =
         ap (sorted_by (λ (s : Survivor). s.place))
         (flat (word_of now) (heap_items rows now)
         ∙ ap (λ is. map (λ i. survivor m (object_in rows (word_of view) i))
-        (filter (λ i. is_condemned m g (object_in rows (word_of view) i) && kept i.place) (filter is_object is)))
+        (filter (λ i. is_condemned m (age_of g) (object_in rows (word_of view) i) && kept i.place)
+        (filter is_object is)))
         (items_same rows view now g vs heap held u)
         ∙ sym (flat (word_of view) (heap_items rows view))
-        ∙ ap (λ os. map (survivor m) (filter (λ o. is_condemned m g o && kept o.name) os)) (sym memory.objects))
+        ∙ ap (λ os. map (survivor m) (filter (λ o. is_condemned m (age_of g) o && kept o.name) os))
+        (sym memory.objects))
       where
         flat : (w : ℕ → ℕ) (is : List Item)
-            → map (survivor m) (filter (λ o. is_condemned m g o && kept o.name)
+            → map (survivor m) (filter (λ o. is_condemned m (age_of g) o && kept o.name)
             (map (object_in rows w) (filter is_object is)))
             ≡ map (λ i. survivor m (object_in rows w i))
-            (filter (λ i. is_condemned m g (object_in rows w i) && kept i.place) (filter is_object is))
+            (filter (λ i. is_condemned m (age_of g) (object_in rows w i) && kept i.place) (filter is_object is))
         flat w is =
-            ap (map (survivor m)) (filter-map (object_in rows w) (λ o. is_condemned m g o && kept o.name)
+            ap (map (survivor m)) (filter-map (object_in rows w) (λ o. is_condemned m (age_of g) o && kept o.name)
             (filter is_object is))
             ∙ map-map (object_in rows w) (survivor m)
-            (filter (λ i. is_condemned m g (object_in rows w i) && kept i.place) (filter is_object is))
+            (filter (λ i. is_condemned m (age_of g) (object_in rows w i) && kept i.place) (filter is_object is))
 
-    pub tests_now : (kept : ℕ → Bool) → TestsMarks rows view g kept → TestsMarks rows now g kept
+    pub tests_now : (kept : ℕ → Bool) → TestsMarks rows view (age_of g) kept → TestsMarks rows now (age_of g) kept
     tests_now kept tests o n young =
         let (q, there, place, name, word) = mark_now o n in
         let same : frame now ≡ frame view = ap (λ (h : HeapView). frame h) u.shape.others in
-        let low : generation (frame view) q.place ≤ g =
-        subst (λ x. generation (frame view) x ≤ g) (sym place) (subst (λ f. generation f o.place ≤ g) same young) in
+        let low : generation (frame view) q.place ≤ age_of g =
+        subst (λ x. generation (frame view) x ≤ age_of g) (sym place)
+        (subst (λ f. generation f o.place ≤ age_of g) same young) in
         ap kept (sym name) ∙ tests q there low ∙ ap (λ x. has_mark (word_of view x)) place ∙ ap has_mark (sym word)
 
 shape_between : (view now h : HeapView) → SameShape view now → SameShape view h → SameShape now h
@@ -234,9 +237,9 @@ shape_between view now h a b = record {
 }
 
 -- THE PLAN is still held, of what is seen now
-pub plan_now : (rows : List TypeRow) (view now h : HeapView) (bricks : BricksView) (entries : List PinEntry) (g : ℕ)
+pub plan_now : (rows : List TypeRow) (view now h : HeapView) (bricks : BricksView) (entries : List PinEntry) (g : Parts)
     (vs : List Move) (start1 start0 : ℕ) → IsRelocating rows view now h bricks entries g vs start1 start0
-    → HoldsPlan rows now h bricks entries (Generations g) vs start1 start0
+    → HoldsPlan rows now h bricks entries g vs start1 start0
 plan_now rows view now h bricks entries g vs start1 start0 r =
     let plan = r.begun.plan in
     let over = plan.overlaid in
@@ -274,7 +277,7 @@ plan_now rows view now h bricks entries g vs start1 start0 r =
         tests = tests_now rows view now g vs over.heap plan.held plan.no_contexts r.underway plan.machine c.memory
             plan.kept
             c.tests;
-        compacted = subst (λ ks. IsCompacted plan.machine.layout g ks vs plan.after)
+        compacted = subst (λ ks. IsLaidBy g plan.machine.layout ks vs plan.after)
             (sym (survivors_now rows view now g vs over.heap plan.held plan.no_contexts r.underway plan.machine c.memory
             plan.kept)) c.compacted;
       };

@@ -16,19 +16,20 @@ use Rattle.clr_moves.specs.Lines.{Gives, LineView}
 use Rattle.clr_moves.specs.Moves.{AreInLine, AreMoves, move_at, plug_stop}
 use Rattle.clr_moves.specs.Told.{TellMoves}
 use Rattle.clr_moves.proofs.Kept.{agrees-shape, gives-kept, low_enough, tells-kept}
+use Rattle.clr_moves.specs.declared.parts.Parts.{Parts}
+use Rattle.clr_moves.specs.Moves.{age_of}
 use Rattle.clr_reloc.specs.Relocating.{IsRelocating, KeepsTelling, SavesSame}
 use Rattle.clr_reloc.proofs.RunHeads.{head_stays}
 use Rattle.clr_reloc.proofs.Seen.{heap_now}
-use Rattle.clr_moves.specs.declared.parts.Parts.TheVariants.{Generations}
 
 -- ---- all moves
 
 pub tells_on : (rows : List TypeRow) (view now h new : HeapView) (bricks : BricksView) (entries : List PinEntry)
-    (g : ℕ) (vs : List Move) (start1 start0 : ℕ) → g ≤ 2
+    (g : Parts) (vs : List Move) (start1 start0 : ℕ) → age_of g ≤ 2
     → IsRelocating rows view now h bricks entries g vs start1 start0
-    → KeepsTelling rows view g vs entries h new → TellMoves rows new bricks (Generations g) vs
+    → KeepsTelling rows view g vs entries h new → TellMoves rows new bricks g vs
 tells_on rows view now h new bricks entries g vs start1 start0 least r k =
-    tells-kept rows h new bricks (Generations g) vs (heap_now view h r.shape r.begun.plan.overlaid.heap) k.shape info
+    tells-kept rows h new bricks g vs (heap_now view h r.shape r.begun.plan.overlaid.heap) k.shape info
     (λ t from last i run member. head_stays rows view now h new bricks entries g vs start1 start0 r least k t from last
     run i member) r.told
   where
@@ -51,18 +52,18 @@ not_saved es word b none = go (queue_word es b) none
     go (Some w) no_one = absurd (no_one refl)
 
 pub gives_on : (rows : List TypeRow) (view now after h new : HeapView) (bricks : BricksView)
-    (entries saved : List PinEntry) (g : ℕ) (vs : List Move) (start1 start0 : ℕ)
+    (entries saved : List PinEntry) (g : Parts) (vs : List Move) (start1 start0 : ℕ)
     → IsRelocating rows view now h bricks entries g vs start1 start0
     → IsRelocating rows view after new bricks saved g vs start1 start0
     → SavesSame entries saved → KeepsTelling rows view g vs entries h new
     → (line : LineView) (ws : List Move) (low : ℕ)
     → ((b : ℕ) → b % 8 ≡ 0 → low ≤ b + 8 → word_of after b ≡ word_of now b)
-    → Gives rows h bricks (Generations g) line ws → ((k : ℕ) → k < length ws → low ≤ (move_at ws k).start)
-    → low ≤ reserved_end (segment_at h line.segment) → Gives rows new bricks (Generations g) line ws
+    → Gives rows h bricks g line ws → ((k : ℕ) → k < length ws → low ≤ (move_at ws k).start)
+    → low ≤ reserved_end (segment_at h line.segment) → Gives rows new bricks g line ws
 gives_on rows view now after h new bricks entries saved g vs start1 start0 r q s k line ws low same gives above within =
-    gives-kept rows h new bricks (Generations g) line ws low (heap_now view h r.shape r.begun.plan.overlaid.heap) gives
+    gives-kept rows h new bricks g line ws low (heap_now view h r.shape r.begun.plan.overlaid.heap) gives
     (agrees-shape h new line.segment low k.shape words)
-    (low_enough rows h bricks (Generations g) line ws gives low above within)
+    (low_enough rows h bricks g line ws gives low above within)
   where
     words : (b : ℕ) → b % 8 ≡ 0 → low ≤ b + 8 → word_of new b ≡ word_of h b
     words b z up = elim (k.words b z) [
@@ -97,7 +98,7 @@ rest_above vs line done v rest e k l =
         (ap (move_at (d ∷ (ds ++ v ∷ rest))) z ∙ f.0, omega arith)
 
 -- a plug that starts below a segment's end stops there or below
-pub stop_within : (view : HeapView) (g : ℕ) (vs : List Move) → IsHeap view → AreMoves view (Generations g) vs
+pub stop_within : (view : HeapView) (g : Parts) (vs : List Move) → IsHeap view → AreMoves view g vs
     → (h : HeapView)
     → SameShape view h → (segment n : ℕ) → n < length vs → segment < length h.segments
     → (move_at vs n).start < reserved_end (segment_at h segment)

@@ -2,16 +2,17 @@
 use Rattle.std.specs.Prelude.{◌≡◌, ℕ, ◌/◌, ◌<◌, Bool, true, List, None}
 use Rattle.clr_types.specs.Segments.{ephemeral, generation, Layout, stands_in}
 use Rattle.clr_heap.specs.View.{frame, HeapView, word_of}
-use Rattle.clr_model.specs.Sweep.{part_start}
 use Rattle.clr_pinq.specs.Queue.{queue_word}
 use Rattle.clr_pinq.specs.declared.entry.PinEntry.{PinEntry}
+use Rattle.clr_moves.specs.Moves.{start_of}
+use Rattle.clr_moves.specs.declared.parts.Parts.{Parts}
 
 -- The reference at a, of an object of this age, goes to the address `to`, and names what stays: its word is no saved
 -- one, and names no place of the ephemeral segment's part. Where that is of a lower generation, the card of `to` is
 -- set.
-pub record MayRest (h : HeapView) (entries : List PinEntry) (g : ℕ) (layout : Layout) (is_set : ℕ → Bool)
+pub record MayRest (h : HeapView) (entries : List PinEntry) (g : Parts) (layout : Layout) (is_set : ℕ → Bool)
     (age a to : ℕ) : Type 0 where
   pub plain : queue_word entries a ≡ None
   pub stays : stands_in (ephemeral (frame h)) (word_of h a) ≡ true
-      → word_of h a < part_start (frame h) g (ephemeral (frame h))
+      → word_of h a < start_of (frame h) g (ephemeral (frame h))
   pub carded : generation layout (word_of h a) < age → is_set (to / 2048) ≡ true

@@ -5,6 +5,7 @@ ghost use Rattle.clr_cards.specs.Cards.{is_card_set};
 ghost use Rattle.clr_covers.specs.Covers.{share_cover, spans};
 ghost use Rattle.clr_heap.specs.View.{frame, HeapView};
 ghost use Rattle.clr_model.specs.Compaction.{Move};
+ghost use Rattle.clr_moves.specs.Moves.{age_of};
 ghost use Rattle.clr_scan.specs.SetCards.{AreClear};
 ghost use Rattle.clr_reloc.specs.Relocated.{rebounded};
 ghost use Rattle.clr_reloc.specs.Relocations.{IsRelocatingBy};
@@ -32,7 +33,7 @@ pub(crate) fn relocate_carded(
     first: u64,
     end: u64,
 )
-    requires least { work.now.g ≤ 2 }
+    requires least { age_of work.now.g ≤ 2 }
     requires small { end ≤ 2 ^ 62 }
     requires can { (view : HeapView) × (now : HeapView) × (vs : List Move) × (is : List Item)
         × IsRelocatingBy work.now view now heap.old pins.old.entries vs

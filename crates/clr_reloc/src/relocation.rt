@@ -1,14 +1,29 @@
 // What stays the same over a whole relocation.
+ghost use Rattle.std.specs.Prelude.{◌≡◌, true, false};
+ghost use Rattle.clr_reloc.specs.Partial.{IsPartial};
+
 use clr_bricks::Bricks;
-use clr_moves::Planned;
+use clr_moves::{Parts, Planned};
 use clr_types::Types;
 
 // What a relocation goes by: the types, the bricks, in which the trees of plugs begin, the answer of the plan, and the
-// generations up to `g`, which are collected.
+// parts that are compacted.
 #[derive(Clone, Copy)]
 pub struct Relocation<'a> {
     pub types: &'a Types,
     pub bricks: &'a Bricks,
     pub planned: Planned,
-    pub g: u8,
+    pub g: Parts,
+}
+
+// Whether the parts are those of less than all generations, so that set cards tell which references of what stands
+// outside of them count.
+pub(crate) fn is_partial(g: Parts) -> bool
+    ensures yes { result ≡ true → IsPartial g }
+    ensures no { result ≡ false → IsPartial g → ⊥ }
+{
+    match g {
+        Parts::Generations(oldest) => oldest < 2,
+        Parts::LargeSegments => false,
+    }
 }

@@ -5,14 +5,16 @@ ghost use Rattle.clr_cards.specs.Cards.{is_card_set};
 ghost use Rattle.clr_covers.specs.Covers.{is_covered};
 ghost use Rattle.clr_heap.specs.Memories.{HasWord, memory_index};
 ghost use Rattle.clr_heap.specs.View.{frame, IsHeap};
-ghost use Rattle.clr_model.specs.Sweep.{part_start};
+ghost use Rattle.clr_moves.specs.Moves.{start_of};
+ghost use Rattle.clr_moves.specs.declared.parts.Parts.TheVariants.{Generations};
+ghost use Rattle.clr_reloc.specs.Partial.{IsPartial};
 ghost use Rattle.clr_reloc.specs.Relocated.{rebounded};
 ghost use Rattle.clr_reloc.specs.Resting.{MayRest};
 
 use crate::relocation::Relocation;
 use clr_cards::Cards;
 use clr_heap::Heap;
-use clr_moves::Planned;
+use clr_moves::{Parts, Planned};
 use clr_pinq::PinQueue;
 
 // Of `count` references side by side in segment `k`, how many of the first ones may stay as they are: those before the
@@ -32,7 +34,7 @@ pub(crate) fn resting_words(
     count: u64,
     age: u8,
 ) -> u64
-    requires few { work.now.g < 2 }
+    requires few { IsPartial work.now.g }
     requires age { age ≤ 2 }
     requires fits { (j : ℕ) → j < count → a + 8 * j < 2 ^ 64 }
     requires words { (j : ℕ) → j < count → HasWord heap.now.memories (a + 8 * j) }
@@ -54,9 +56,9 @@ pub(crate) fn resting_words(
 // card is set, where what is of a lower generation than `age` begins once the plan is carried out.
 #[inline]
 fn lowest_met(heap: &Heap, work: &Relocation<'_>, age: u8, carded: bool) -> u64
-    requires few { work.now.g < 2 }
+    requires few { IsPartial work.now.g }
     requires age { age ≤ 2 }
-    ensures part { result ≤ part_start (frame heap.now) work.now.g (ephemeral (frame heap.now)) }
+    ensures part { result ≤ start_of (frame heap.now) work.now.g (ephemeral (frame heap.now)) }
     ensures young { carded ≡ false → (layout : Layout) (x : ℕ)
         → generation (rebounded layout work.now.planned) x < age → result ≤ x }
 {
@@ -67,11 +69,23 @@ fn lowest_met(heap: &Heap, work: &Relocation<'_>, age: u8, carded: bool) -> u64
     part.min(lowest_young(&work.planned, age))
 }
 
-// Where the part of the ephemeral segment begins in a collection of the generations up to `g`, which is 0 or 1.
+// Where the part of the ephemeral segment begins in a compaction of generation 0, or of generations 1 and 0.
 #[inline]
-fn young_part(heap: &Heap, g: u8) -> u64
+fn young_part(heap: &Heap, g: Parts) -> u64
+    requires { IsPartial g }
+    ensures { result ≡ start_of (frame heap.now) g (ephemeral (frame heap.now)) }
+{
+    match g {
+        Parts::Generations(oldest) => young_generations(heap, oldest),
+        Parts::LargeSegments => unreachable!(),
+    }
+}
+
+// The same in a compaction of the generations up to `g`, which is 0 or 1.
+#[inline]
+fn young_generations(heap: &Heap, g: u8) -> u64
     requires { g < 2 }
-    ensures { result ≡ part_start (frame heap.now) g (ephemeral (frame heap.now)) }
+    ensures { result ≡ start_of (frame heap.now) (Generations g) (ephemeral (frame heap.now)) }
 {
     let (start1, start0) = heap.boundaries();
     if g == 0 { start0 } else { start1 }

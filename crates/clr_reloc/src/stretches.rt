@@ -8,19 +8,21 @@ ghost use Rattle.clr_covers.specs.Covers.{spans};
 ghost use Rattle.clr_heap.specs.Memories.{memory_index};
 ghost use Rattle.clr_heap.specs.View.{frame, HeapView};
 ghost use Rattle.clr_model.specs.Compaction.{Move};
+ghost use Rattle.clr_moves.specs.Moves.{age_of};
 ghost use Rattle.clr_view.specs.View.{is_object};
 ghost use Rattle.clr_reloc.specs.Relocated.{rebounded};
 ghost use Rattle.clr_reloc.specs.Relocations.{IsRelocatingBy};
 ghost use Rattle.clr_reloc.specs.Relocating.{AreCarded, GoesDown, HasGone, HaveCardsDown, IsAhead, IsItemAhead};
-ghost use Rattle.clr_reloc.specs.Relocating.{KeepsTelling, SavesSame, Tracks};
+ghost use Rattle.clr_reloc.specs.Relocating.{is_gone_over_in, KeepsTelling, SavesSame, Tracks};
 
 use crate::items::logical_item;
 use crate::objects::relocate_object;
 use crate::relocation::Relocation;
 use clr_cards::Cards;
 use clr_heap::{Heap, Item};
+use clr_moves::Parts;
 use clr_pinq::PinQueue;
-use clr_types::mark;
+use clr_types::{SegKind, mark};
 
 // Relocates the references of what is left among the items from the place `from` up to `end`, which all go `down` bytes
 // down. The cards of the new addresses of those that name an object of a lower generation then are set. `segment` is a
@@ -36,7 +38,7 @@ pub(crate) fn relocate_stretch(
     end: u64,
     down: u64,
 )
-    requires least { work.now.g ≤ 2 }
+    requires least { age_of work.now.g ≤ 2 }
     requires can { (view : HeapView) × (now : HeapView) × (vs : List Move) × (is : List Item)
         × IsRelocatingBy work.now view now heap.old pins.old.entries vs
         × Tracks work.now.types.now view is from end × IsAhead view now work.now.g vs from end
@@ -75,7 +77,7 @@ pub(crate) fn relocate_items(
     end: u64,
     down: u64,
 ) -> u64
-    requires least { work.now.g ≤ 2 }
+    requires least { age_of work.now.g ≤ 2 }
     requires within { hi ≤ end }
     requires can { (view : HeapView) × (now : HeapView) × (vs : List Move) × (is : List Item)
         × IsRelocatingBy work.now view now heap.old pins.old.entries vs
@@ -124,7 +126,7 @@ fn relocate_item(
     place: u64,
     to: u64,
 ) -> u64
-    requires least { work.now.g ≤ 2 }
+    requires least { age_of work.now.g ≤ 2 }
     requires can { (view : HeapView) × (now : HeapView) × (vs : List Move) × (i : Item)
         × IsRelocatingBy work.now view now heap.old pins.old.entries vs
         × IsItemAhead work.now.types.now view now work.now.g vs i place to cards.old }
@@ -147,19 +149,32 @@ fn relocate_item(
 {
     let mt = pins.logical_word_at(heap, k, near, place);
     let found = logical_item(heap, work.types, pins, k, near, place, mt);
-    if is_left(heap, work.g, found, mt) {
+    if is_left(heap, work.g, k, found, mt) {
         relocate_object(heap, work, cards, pins, k, near, found, to);
         return found.size;
     }
     found.size
 }
 
-// Whether a collection of the generations up to `g` leaves an item with this method table word: it is an object, and
-// marked or of an older generation.
+// Whether a collection leaves an item of segment `k` with this method table word: it is an object, and marked or not
+// gone over.
 #[inline]
-fn is_left(heap: &Heap, g: u8, found: Item, mt: u64) -> bool
-    ensures { result ≡ (is_object found
-        && (not (nat_le (generation (frame heap.now) found.place) g) || has_mark mt)) }
+fn is_left(heap: &Heap, g: Parts, k: usize, found: Item, mt: u64) -> bool
+    requires { k < length heap.now.segments }
+    ensures { result ≡ (is_object found && (not (is_gone_over_in heap.now g k found.place) || has_mark mt)) }
 {
-    found.type_id.0 != 0 && (mark::is_marked(mt) || heap.gen_of(found.place) > g)
+    found.type_id.0 != 0 && (mark::is_marked(mt) || !is_gone_over(heap, g, k, found.place))
+}
+
+// Whether a collection goes over an object at a place of segment `k`: it is of its generations, or, before large
+// segments are compacted, in one of them.
+#[inline]
+fn is_gone_over(heap: &Heap, g: Parts, k: usize, place: u64) -> bool
+    requires { k < length heap.now.segments }
+    ensures { result ≡ is_gone_over_in heap.now g k place }
+{
+    match g {
+        Parts::Generations(oldest) => heap.gen_of(place) <= oldest,
+        Parts::LargeSegments => heap.info(k).kind == SegKind::Large,
+    }
 }

@@ -9,6 +9,7 @@ ghost use Rattle.clr_covers.specs.Covers.{is_covered, spans};
 ghost use Rattle.clr_heap.specs.Memories.{memory_index};
 ghost use Rattle.clr_heap.specs.View.{frame, HeapView};
 ghost use Rattle.clr_model.specs.Compaction.{Move, moved_by};
+ghost use Rattle.clr_reloc.specs.Partial.{IsPartial};
 ghost use Rattle.clr_reloc.specs.References.{references_of};
 ghost use Rattle.clr_reloc.specs.Relocated.{rebounded};
 ghost use Rattle.clr_reloc.specs.Relocations.{IsRelocatingBy};
@@ -41,7 +42,7 @@ pub(crate) fn relocate_words(
     age: u8,
     run: ReferenceRun,
 )
-    requires few { work.now.g < 2 }
+    requires few { IsPartial work.now.g }
     requires can { (view : HeapView) × (now : HeapView) × (vs : List Move)
         × IsRelocatingBy work.now view now heap.old pins.old.entries vs
         × IsLeftItem work.now.types.now view work.now.g found

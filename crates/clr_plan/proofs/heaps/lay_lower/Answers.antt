@@ -1,12 +1,24 @@
 use Rattle.clr_plan.proofs.Lower.{lower-none, lower-two}
+use Rattle.clr_plan.proofs.SmallWholes.{small-lays, small_wholes}
 use Rattle.clr_plan.proofs.heaps.lay_lower.Goals as goal
+
+pub lay_whole-requires : goal.lay_whole-requires
+lay_whole-requires c = record {
+  can = (
+    small_wholes c.args.types.now c.args.heap.now c.args.e,
+    small-lays c.args.types.now c.args.heap.now c.args.g c.args.e c.if-g-eq2.true c.requires.can c.args.bricks.now
+        c.args.queue.now c.requires.bricks c.requires.empty c.requires.spare,
+  );
+}
 
 pub returns-then-g-eq2 : goal.returns-then-g-eq2
 returns-then-g-eq2 c = record {
-  laid = lower-two c.args.types.now c.args.heap.now c.lay_small.new.heap c.args.bricks.now c.lay_small.new.bricks
-      c.args.queue.now c.lay_small.new.queue c.args.g c.args.e c.args.low c.lay_small.result c.requires.can
-      c.requires.low c.requires.bricks c.requires.spare
-      c.if-g-eq2.true c.lay_small.ensures.laid;
+  laid = lower-two c.args.types.now c.args.heap.now c.lay_whole.new.heap c.args.bricks.now c.lay_whole.new.bricks
+      c.args.queue.now c.lay_whole.new.queue c.args.g c.args.e c.args.low c.lay_whole.result c.requires.can
+      c.requires.low c.requires.bricks c.requires.spare c.if-g-eq2.true
+      (c.lay_whole.ensures.laid (small_wholes c.args.types.now c.args.heap.now c.args.e)
+      (small-lays c.args.types.now c.args.heap.now c.args.g c.args.e c.if-g-eq2.true c.requires.can c.args.bricks.now
+      c.args.queue.now c.requires.bricks c.requires.empty c.requires.spare));
 }
 
 pub returns-else-g-eq2 : goal.returns-else-g-eq2

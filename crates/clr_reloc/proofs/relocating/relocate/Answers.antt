@@ -3,7 +3,7 @@ use Rattle.clr_cards.specs.Cards.{is_card_set}
 use Rattle.clr_heap.specs.View.{frame}
 use Rattle.clr_reloc.specs.Relocated.{rebounded}
 use Rattle.clr_reloc.proofs.Final.{ahead_outside, begins, law_after, over_none, relocated_all}
-use Rattle.clr_reloc.proofs.OldCards.{can_scan}
+use Rattle.clr_reloc.proofs.OldCards.{can_scan_part}
 use Rattle.clr_reloc.proofs.Seen.{plan_now}
 use Rattle.clr_reloc.proofs.relocating.relocate.Goals as goal
 
@@ -37,7 +37,7 @@ relocate_outside-requires-clause-can c =
       over_none rows view c.args.heap.now c.args.bricks.now c.args.pins.now.entries c.args.g vs
           c.args.planned.now.start1 c.args.planned.now.start0 c.requires.least can.plan can.followed can.old_parts
           c.count.ensures.lawful,
-      λ young. can_scan rows view c.args.heap.now c.args.bricks.now c.args.pins.now.entries c.args.g vs
+      λ young. can_scan_part rows view c.args.heap.now c.args.bricks.now c.args.pins.now.entries c.args.g vs
           c.args.planned.now c.requires.least young can.plan can.old_parts can.named c.args.cards.now can.card_law
           (is_card_set c.relocate_plugs.new.cards) c.relocate_plugs.ensures.kept entry can.remembered
           c.relocate_plugs.new.cards (c.relocate_plugs.ensures.cards ∙ can.cards_of) can.bricks_of,
@@ -57,7 +57,7 @@ returns-clause-relocated c view vs entry can =
     c.requires.least can.plan can.followed can.old_parts c.count.ensures.lawful next gone)
     (over_none rows view h c.args.bricks.now es c.args.g vs c.args.planned.now.start1 c.args.planned.now.start0
     c.requires.least can.plan can.followed can.old_parts c.count.ensures.lawful)
-    (λ young. can_scan rows view c.args.heap.now c.args.bricks.now c.args.pins.now.entries c.args.g vs
+    (λ young. can_scan_part rows view c.args.heap.now c.args.bricks.now c.args.pins.now.entries c.args.g vs
     c.args.planned.now c.requires.least young can.plan can.old_parts can.named c.args.cards.now can.card_law
     (is_card_set c.relocate_plugs.new.cards) c.relocate_plugs.ensures.kept entry can.remembered
     c.relocate_plugs.new.cards (c.relocate_plugs.ensures.cards ∙ can.cards_of) can.bricks_of) in (
@@ -83,7 +83,7 @@ returns-clause-card_law c view vs entry can =
     c.requires.least can.plan can.followed can.old_parts c.count.ensures.lawful next gone)
     (over_none rows view h c.args.bricks.now es c.args.g vs c.args.planned.now.start1 c.args.planned.now.start0
     c.requires.least can.plan can.followed can.old_parts c.count.ensures.lawful)
-    (λ young. can_scan rows view c.args.heap.now c.args.bricks.now c.args.pins.now.entries c.args.g vs
+    (λ young. can_scan_part rows view c.args.heap.now c.args.bricks.now c.args.pins.now.entries c.args.g vs
     c.args.planned.now c.requires.least young can.plan can.old_parts can.named c.args.cards.now can.card_law
     (is_card_set c.relocate_plugs.new.cards) c.relocate_plugs.ensures.kept entry can.remembered
     c.relocate_plugs.new.cards (c.relocate_plugs.ensures.cards ∙ can.cards_of) can.bricks_of) in

@@ -1,9 +1,10 @@
-use Rattle.std.proofs.Common.{◌≡◌, ◌<◌, ℕ, true, length, List}
+use Rattle.std.proofs.Common.{◌≡◌, ℕ, true, length, List}
 use Rattle.clr_cards.specs.Cards.{is_card_set}
 use Rattle.clr_covers.specs.Covers.{spans}
 use Rattle.clr_heap.specs.View.{frame, HeapView}
 use Rattle.clr_model.specs.Compaction.{Move}
 use Rattle.clr_generations.specs.Tables.{AreCardsOf}
+use Rattle.clr_reloc.specs.Partial.{IsPartial}
 use Rattle.clr_reloc.specs.Outside.{AreAheadOutside, AreCardedOutside, HaveGoneOutside, HaveNoneOver}
 use Rattle.clr_reloc.specs.Relocated.{rebounded}
 use Rattle.clr_reloc.specs.Relocating.{IsRelocating}
@@ -18,8 +19,9 @@ invariant-loop-k l = record {
       l.work.planned.start0
       → AreCardsOf (frame view) l.initial.cards → AreAheadOutside view now l.work.g (length view.segments) 0
       → HaveNoneOver l.work.types.now view l.work.g
-      → (l.work.g < 2 → CanScan l.work.types.now view l.initial.cards l.work.bricks.now l.work.g vs (rebounded (frame
-      view) l.work.planned)
+      → (IsPartial l.work.g
+      → CanScan l.work.types.now view l.initial.cards l.work.bricks.now l.work.g vs (rebounded (frame view)
+      l.work.planned)
       (is_card_set l.initial.cards) l.work.planned.below l.work.planned.first)
       → (next : HeapView)
       × IsRelocating l.work.types.now view next l.heap l.work.bricks.now l.pins.entries l.work.g vs

@@ -10,7 +10,7 @@ use Rattle.clr_reloc.specs.References.{references_of}
 use Rattle.clr_reloc.specs.Relocated.{rebounded}
 use Rattle.clr_reloc.specs.Relocating.{HasGone, IsAhead, IsCarded, IsLeftItem}
 use Rattle.clr_reloc.proofs.OneItem.{all_carded, fits_len, item_is, item_named, left_item, left_told, len_has}
-use Rattle.clr_reloc.proofs.OneItem.{len_segment, mt_has, mt_same, not_carded, not_gone}
+use Rattle.clr_reloc.proofs.OneItem.{len_segment, mt_has, mt_same, not_carded, not_gone, segment_inside}
 use Rattle.clr_reloc.proofs.OneObject.{keeps_refl}
 use Rattle.clr_reloc.proofs.stretches.relocate_item.Goals as goal
 
@@ -67,7 +67,8 @@ relocate_object-requires-clause-can c =
     c.args.cards.now q in
     let on = sym (left_told rows view now h c.args.work.now.bricks.now es c.args.work.now.g vs
     c.args.work.now.planned.start1
-    c.args.work.now.planned.start0 r i c.args.place c.args.to c.args.cards.now q c.logical_item-found.result
+    c.args.work.now.planned.start0 r i c.args.place c.args.to c.args.cards.now q c.args.k c.requires.segment
+    c.logical_item-found.result
     c.logical_word_at-mt.result found word) ∙ sym c.is_left.ensures ∙ c.if-is_left.true in
     let left = left_item rows view now h c.args.work.now.bricks.now es c.args.work.now.g vs
     c.args.work.now.planned.start1
@@ -121,7 +122,8 @@ returns-then-is_left-clause-gone c view now vs i r q =
     c.args.cards.now q in
     let on = sym (left_told rows view now h c.args.work.now.bricks.now es c.args.work.now.g vs
     c.args.work.now.planned.start1
-    c.args.work.now.planned.start0 r i c.args.place c.args.to c.args.cards.now q c.logical_item-found.result
+    c.args.work.now.planned.start0 r i c.args.place c.args.to c.args.cards.now q c.args.k c.requires.segment
+    c.logical_item-found.result
     c.logical_word_at-mt.result found word) ∙ sym c.is_left.ensures ∙ c.if-is_left.true in
     let left = left_item rows view now h c.args.work.now.bricks.now es c.args.work.now.g vs
     c.args.work.now.planned.start1
@@ -165,7 +167,8 @@ returns-clause-gone c view now vs i r q =
     c.args.cards.now q in
     let off = sym (left_told rows view now h c.args.work.now.bricks.now es c.args.work.now.g vs
     c.args.work.now.planned.start1
-    c.args.work.now.planned.start0 r i c.args.place c.args.to c.args.cards.now q c.logical_item-found.result
+    c.args.work.now.planned.start0 r i c.args.place c.args.to c.args.cards.now q c.args.k c.requires.segment
+    c.logical_item-found.result
     c.logical_word_at-mt.result found word) ∙ sym c.is_left.ensures ∙ c.if-is_left.false in (
       ap (λ (x : Item). x.size) found,
       (
@@ -183,3 +186,10 @@ returns-clause-gone c view now vs i r q =
             (is_card_set c.args.cards.now),
       ),
     )
+
+pub is_left-requires : goal.is_left-requires
+is_left-requires c =
+    let (view, now, vs, i, r, q) = c.requires.can in
+    segment_inside c.args.work.now.types.now view now c.args.heap.now c.args.work.now.bricks.now
+    c.args.pins.now.entries c.args.work.now.g vs c.args.work.now.planned.start1 c.args.work.now.planned.start0 r i
+    c.args.place c.args.to c.args.cards.now q c.args.k c.requires.segment

@@ -3,7 +3,7 @@ use Rattle.clr_types.specs.Segments.{ephemeral}
 use Rattle.clr_heap.specs.View.{frame}
 use Rattle.clr_model.specs.Sweep.{part_start}
 use Rattle.clr_moves.proofs.SegmentsBelow.{first_young, young_start0, young_start1}
-use Rattle.clr_reloc.proofs.resting.young_part.Goals as goal
+use Rattle.clr_reloc.proofs.resting.young_generations.Goals as goal
 
 pub returns-then-g-eq0 : goal.returns-then-g-eq0
 returns-then-g-eq0 c =

@@ -1,0 +1,55 @@
+// Parts that are whole segments are laid, from the lowest on.
+ghost use Rattle.std.specs.Prelude.{◌≡◌, ℕ, ◌<◌, true, length};
+ghost use Rattle.clr_types.specs.Segments.{reserved_end};
+ghost use Rattle.clr_heap.specs.View.{first_of, segment_at};
+ghost use Rattle.clr_moves.specs.Moves.{takes};
+ghost use Rattle.clr_plan.specs.Firsts.{IsLowest};
+ghost use Rattle.clr_plan.specs.WholeParts.{AreLaidWhole, CanLayWhole, Wholes};
+
+use crate::lay::lay_segment;
+use crate::pointer::Pointer;
+use clr_bricks::Bricks;
+use clr_heap::Heap;
+use clr_moves::{Parts, next_part, takes_part};
+use clr_pinq::PinQueue;
+use clr_types::{FIRST_OFFSET, Types};
+
+/// Lays the parts of the `count` lowest segments, each of which is a whole segment. It answers the pointer behind them.
+pub fn lay_whole(
+    heap: &mut Heap,
+    types: &Types,
+    bricks: &mut Bricks,
+    queue: &mut PinQueue,
+    parts: Parts,
+    count: usize,
+) -> Pointer
+    requires can { (w : Wholes) × CanLayWhole w types.now heap.old bricks.old queue.old parts count }
+    ensures laid { (w : Wholes) → CanLayWhole w types.now heap.old bricks.old queue.old parts count → AreLaidWhole w
+        heap.old heap.new bricks.old bricks.new queue.old queue.new parts count count result }
+{
+    let mut at = lowest_place(heap, parts);
+    for k in 0..count {
+        if takes_part(parts, heap.info(k)) {
+            at = lay_segment(heap, types, bricks, queue, at, k);
+        }
+    }
+    at
+}
+
+// The first place of the lowest segment that has a part.
+fn lowest_place(heap: &Heap, parts: Parts) -> Pointer
+    requires some { (t : ℕ) × (t < length heap.now.segments) × (takes parts (segment_at heap.now t) ≡ true) }
+    ensures lowest { IsLowest heap.now parts result.segment }
+    ensures place { result.place ≡ first_of heap.now result.segment }
+    ensures high { result.high ≡ reserved_end (segment_at heap.now result.segment) }
+    ensures passed { result.passed ≡ 0 }
+{
+    let lowest = next_part(heap, parts, 0);
+    let segment = heap.info(lowest);
+    Pointer {
+        place: segment.base + FIRST_OFFSET,
+        segment: lowest,
+        high: segment.base + segment.reserved,
+        passed: 0,
+    }
+}

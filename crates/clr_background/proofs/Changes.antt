@@ -71,10 +71,26 @@ abbrev pub IsComeByIn : Machine → Value → Type 0
 IsComeByIn m (ref x) = IsComeBy m x
 IsComeByIn m (num n) = Unit {0}
 
+-- a line that collects does so as a collection may
+abbrev pub IsUsualLine : Instruction → Type 0
+IsUsualLine (collect_heap t g how) = IsUsual g how
+IsUsualLine _ = Unit {0}
+
+usual_form : (g : ℕ) (how : How) → IsHowForm g how → IsUsual g how
+usual_form g Decide formed = formed
+usual_form g Compact formed = formed
+usual_form g Sweep formed = formed
+usual_form g Fit formed = formed
+
+-- as a line of the grammar does
+pub usual_line : (i : Instruction) → IsWellFormed i → IsUsualLine i
+usual_line (collect_heap t g how) formed = usual_form g how formed.1
+usual_line _ formed = tt
+
 -- room is made, or a collection is
 pub record Rearranges (m : Machine) (i : Instruction) (new : Machine) : Type 0 where
   pub carries : CarriesOver m new
-  pub leaves : IsLawful m → IsWellFormed i → LeavesOldWhile m new
+  pub leaves : IsLawful m → IsUsualLine i → LeavesOldWhile m new
 
 -- what threads have begun is begun still, but for the store that the line completes
 abbrev pub StepsGoOn : Machine → Instruction → List ThreadStep → Type 0
@@ -164,12 +180,6 @@ idle_goes_on m t s idle name slot j = elim (store_goes_on m t s name slot j) [
   | inr e ↦ absurd (idle_stores m t name slot idle e)
 ]
 
-usual_form : (g : ℕ) (how : How) → IsHowForm g how → IsUsual g how
-usual_form g Decide formed = formed
-usual_form g Compact formed = formed
-usual_form g Sweep formed = formed
-usual_form g Fit formed = formed
-
 -- ---- what lines have in common
 
 module _ (m : Machine) (i : Instruction) where
@@ -182,7 +192,7 @@ module _ (m : Machine) (i : Instruction) where
   room : (t size : ℕ) (attempt : Attempt) (ready : Machine) → MakesRoom m t size attempt ready → Rearranges m i ready
   room t size attempt ready made = record {
     carries = room_carries t size attempt ready m made;
-    leaves = λ h formed. room_leaves t size attempt ready m h made;
+    leaves = λ h line. room_leaves t size attempt ready m h made;
   }
 
   still_begun : (ready : Machine) → CarriesOver m ready → StepsGoOn m i ready.steps
@@ -227,7 +237,7 @@ module _ (m : Machine) (i : Instruction) where
           → Rearranges m i ready
       large place attempt ready placed = record {
         carries = large_carries size place attempt ready m placed;
-        leaves = λ h formed. large_leaves size place attempt ready m h placed;
+        leaves = λ h line. large_leaves size place attempt ready m h placed;
       }
 
       makes_large : MakesLarge m t local type len outcome new → Change m i new
@@ -243,7 +253,7 @@ module _ (m : Machine) (i : Instruction) where
           → Rearranges m i ready
       pinned place attempt ready placed = record {
         carries = pinned_carries size place attempt ready m placed;
-        leaves = λ h formed. pinned_leaves size place attempt ready m h placed;
+        leaves = λ h line. pinned_leaves size place attempt ready m h placed;
       }
 
       makes_pinned : MakesPinned m t local type len outcome new → Change m i new
@@ -284,7 +294,7 @@ module _ (m : Machine) (i : Instruction) where
     suppresses name true same = sets_flag name true same
     suppresses name false same = still same
 
-    collects : (g : ℕ) (how : How) → (IsWellFormed i → IsUsual g how) → CollectsByLine m g how outcome new
+    collects : (g : ℕ) (how : How) → (IsUsualLine i → IsUsual g how) → CollectsByLine m g how outcome new
         → Change m i new
     collects g how usual h =
         let waiting = λ (k : ℕ). (outcome ≡ refused (refusal.Wait k)) × (new ≡ m) in
@@ -296,7 +306,7 @@ module _ (m : Machine) (i : Instruction) where
             → Change m i new
         done (answer, c, replied) = rearranged (record {
           carries = collects_carries m g how answer new c;
-          leaves = λ h formed. collection_leaves m g how answer new h (usual formed) c;
+          leaves = λ h line. collection_leaves m g how answer new h (usual line) c;
         })
 
     begins_background : m.background ≡ None → BeginsBackground m outcome new → Change m i new
@@ -326,7 +336,7 @@ module _ (m : Machine) (i : Instruction) where
             × EndsBackground m marking answer new × (outcome ≡ answered (reply.Collected answer)) → Change m i new
         done (marking, runs, answer, c, replied) = rearranged (record {
           carries = last_pause_carries m marking answer new c;
-          leaves = λ h formed. last_pause_leaves m marking answer new c;
+          leaves = λ h line. last_pause_leaves m marking answer new c;
         })
 
     steps_background : (n : ℕ) → StepsBackground m n outcome new → Change m i new
@@ -393,7 +403,7 @@ does m (suppress_object t local) outcome new e (replied, same) =
     suppresses m _ outcome new (local_of m t local) (object_has_finalizer m (local_of m t local)) same
 does m (reregister_object t local) outcome new e d = reregisters m _ outcome new t local d
 does m (collect_heap t g how) outcome new e d =
-    collects m (collect_heap t g how) outcome new g how (λ formed. usual_form g how formed.1) d
+    collects m (collect_heap t g how) outcome new g how (λ usual. usual) d
 does m (suspend_others t) outcome new e (replied, same) =
     goes_on m (nothing m _) m.steps (Some t) m.compacts_large (all_go_on m (suspend_others t)) same
 does m (resume_others t) outcome new e (replied, same) =

@@ -17,16 +17,16 @@ use Rattle.clr_model.specs.Updates.{born_at, newborn, with_entry, with_flag, wit
 use Rattle.clr_model.specs.Updates.{with_slot, with_slot_of, with_step, without_handle}
 use Rattle.clr_model.specs.Lawful.{IsBirthNamed}
 use Rattle.clr_model.specs.Instructions.{Instruction}
-use Rattle.clr_model.specs.LineGrammar.{IsWellFormed}
 use Rattle.clr_model.specs.Step.{head_or_null, tail_of}
 use Rattle.clr_model.proofs.MarkingKept.{in_changed}
 use Rattle.clr_background.specs.Laws.{OldStayPutLaw, StaysPut}
 use Rattle.clr_background.specs.Log.{CompletesStore}
 use Rattle.clr_background.proofs.CarriedOver.{CarriesOver, WasIn}
 use Rattle.clr_background.proofs.Changes.{adds_entry, adds_handle, adds_type, begins_marking, begins_store, Change}
-use Rattle.clr_background.proofs.Changes.{frees_handle, gives_birth, goes_on, idle_goes_on, line_changes, rearranged}
+use Rattle.clr_background.proofs.Changes.{frees_handle, gives_birth, goes_on, idle_goes_on, IsUsualLine, line_changes}
+use Rattle.clr_background.proofs.Changes.{rearranged}
 use Rattle.clr_background.proofs.Changes.{scans_on, sets_flag, StepsGoOn, stores_value, takes_name}
-use Rattle.clr_background.proofs.Changes.{takes_queued, with_birth}
+use Rattle.clr_background.proofs.Changes.{takes_queued, usual_line, with_birth}
 use Rattle.clr_background.proofs.Members.{out_of_changed, read_beside, read_member}
 use Rattle.clr_background.proofs.OldStays.{LeavesOld, LeavesOldWhile, leaves_after, put_itself, same_leave}
 
@@ -321,46 +321,46 @@ born_leaves m ready new h same steps place type len b l = record {
       ];
 }
 
-pub change_leaves : (m : Machine) (i : Instruction) (new : Machine) → IsBirthNamed m → IsWellFormed i → Change m i new
+pub change_leaves : (m : Machine) (i : Instruction) (new : Machine) → IsBirthNamed m → IsUsualLine i → Change m i new
     → LeavesOldWhile m new
-change_leaves m i new h formed (rearranged made) runs = made.leaves h.lawful formed runs
-change_leaves m i new h formed (takes_name t k x by same) runs =
+change_leaves m i new h line (rearranged made) runs = made.leaves h.lawful line runs
+change_leaves m i new h line (takes_name t k x by same) runs =
     same_leave m new h.lawful (ap (λ (w : Machine). w.objects) same)
-change_leaves m i new h formed (takes_queued t k same) runs =
+change_leaves m i new h line (takes_queued t k same) runs =
     same_leave m new h.lawful (ap (λ (w : Machine). w.objects) same)
-change_leaves m i new h formed (stores_value t into index v by logs same) runs =
+change_leaves m i new h line (stores_value t into index v by logs same) runs =
     changed_leaves m new h (local_of m t into) (with_slot_of index v) (slot_leaves index v)
     (ap (λ (w : Machine). w.objects) same)
-change_leaves m i new h formed (begins_store t into index from thread idle same) runs =
+change_leaves m i new h line (begins_store t into index from thread idle same) runs =
     changed_leaves m new h (local_of m t into) (with_slot_of index (ref (local_of m t from)))
     (slot_leaves index (ref (local_of m t from))) (ap (λ (w : Machine). w.objects) same)
-change_leaves m i new h formed (sets_flag name flag same) runs =
+change_leaves m i new h line (sets_flag name flag same) runs =
     changed_leaves m new h name (with_flag_of flag) (flag_leaves flag) (ap (λ (w : Machine). w.objects) same)
-change_leaves m i new h formed (adds_entry x by same) runs =
+change_leaves m i new h line (adds_entry x by same) runs =
     same_leave m new h.lawful (ap (λ (w : Machine). w.objects) same)
-change_leaves m i new h formed (adds_handle k row target second same) runs =
+change_leaves m i new h line (adds_handle k row target second same) runs =
     same_leave m new h.lawful (ap (λ (w : Machine). w.objects) same)
-change_leaves m i new h formed (frees_handle k same) runs =
+change_leaves m i new h line (frees_handle k same) runs =
     same_leave m new h.lawful (ap (λ (w : Machine). w.objects) same)
-change_leaves m i new h formed (adds_type row same) runs =
+change_leaves m i new h line (adds_type row same) runs =
     same_leave m new h.lawful (ap (λ (w : Machine). w.objects) same)
-change_leaves m i new h formed (goes_on ready made steps holder flag go_on same) runs =
+change_leaves m i new h line (goes_on ready made steps holder flag go_on same) runs =
     leaves_after m ready new
-    (made.leaves h.lawful formed (subst (λ (w : Machine). IsTrue (is_some w.background)) same runs))
+    (made.leaves h.lawful line (subst (λ (w : Machine). IsTrue (is_some w.background)) same runs))
     (ap (λ (w : Machine). w.objects) same)
-change_leaves m i new h formed (gives_birth ready made steps layout sums entered t local place type len go_on same)
+change_leaves m i new h line (gives_birth ready made steps layout sums entered t local place type len go_on same)
     runs =
     let b = birth_is ready steps layout sums entered t local place type len in
     let after = with_birth ready steps layout sums entered t local place type len in
     subst (LeavesOld m) (sym same)
     (born_leaves m ready after h made.carries.born steps place type len b
-    (made.leaves h.lawful formed (subst (λ r. IsTrue (is_some r)) b.background
+    (made.leaves h.lawful line (subst (λ r. IsTrue (is_some r)) b.background
     (subst (λ (w : Machine). IsTrue (is_some w.background)) same runs))))
-change_leaves m i new h formed (begins_marking marking none is same) runs =
+change_leaves m i new h line (begins_marking marking none is same) runs =
     same_leave m new h.lawful (ap (λ (w : Machine). w.objects) same)
-change_leaves m i new h formed (scans_on old n count marking begun scans same) runs =
+change_leaves m i new h line (scans_on old n count marking begun scans same) runs =
     same_leave m new h.lawful (ap (λ (w : Machine). w.objects) same)
 
 pub old_stay_put : OldStayPutLaw
 old_stay_put m i outcome new h formed obeys runs =
-    (change_leaves m i new h formed (line_changes m i outcome new obeys) runs).puts
+    (change_leaves m i new h (usual_line i formed) (line_changes m i outcome new obeys) runs).puts

@@ -15,7 +15,6 @@ use Rattle.clr_model.specs.Reach.{Old, SlotNames}
 use Rattle.clr_model.specs.Background.{IsLawfulMarking, taken}
 use Rattle.clr_model.specs.Lawful.{IsBirthNamed, IsShaped}
 use Rattle.clr_model.specs.Instructions.{Instruction}
-use Rattle.clr_model.specs.LineGrammar.{IsWellFormed}
 use Rattle.clr_model.specs.Outcomes.{Outcome}
 use Rattle.clr_model.specs.Step.{Obeys}
 use Rattle.clr_model.proofs.CollectedPresent.{all_idle}
@@ -23,8 +22,8 @@ use Rattle.clr_background.specs.Log.{IsNullOrMarked, IsNullOrTaken, LogLaw, Logs
 use Rattle.clr_background.specs.Runs.{LogsOn, at_once, by_line}
 use Rattle.clr_background.specs.Laws.{LogHoldsLaw, StrictLogHoldsLaw}
 use Rattle.clr_background.proofs.Changes.{adds_entry, adds_handle, adds_type, begins_marking, begins_store, Change}
-use Rattle.clr_background.proofs.Changes.{frees_handle, gives_birth, goes_on, line_changes, rearranged, scans_on}
-use Rattle.clr_background.proofs.Changes.{sets_flag, stores_value, takes_name, takes_queued}
+use Rattle.clr_background.proofs.Changes.{frees_handle, gives_birth, goes_on, IsUsualLine, line_changes, rearranged}
+use Rattle.clr_background.proofs.Changes.{scans_on, sets_flag, stores_value, takes_name, takes_queued, usual_line}
 use Rattle.clr_background.proofs.LineStores.{birth_is, change_leaves, change_stores, IsExcused, StoresOnly, WasStored}
 use Rattle.clr_background.proofs.Markings.{marked_taken, MarksOn, same_on, scans_on_marking}
 use Rattle.clr_background.proofs.Members.{read_member, stands_or_not}
@@ -37,7 +36,7 @@ same_marking : (k l : Marking) → Some k ≡ Some l → k ≡ l
 same_marking k l e = cc
 
 -- a line leaves the marking, or scans on
-change_marks : (m : Machine) (i : Instruction) (new : Machine) → Change m i new → (old final : Marking)
+pub change_marks : (m : Machine) (i : Instruction) (new : Machine) → Change m i new → (old final : Marking)
     → m.background ≡ Some old → new.background ≡ Some final → MarksOn m old final
 change_marks m i new change old final runs now = go change
   where
@@ -173,11 +172,11 @@ module _ (m : Machine) (i : Instruction) (new : Machine) (h : IsBirthNamed m) (s
 
 -- The law goes on over a line that logs what it stores and what it scans.
 pub line_logs_on : (m : Machine) (i : Instruction) (outcome : Outcome) (new : Machine) (old final : Marking)
-    → IsBirthNamed m → IsWellFormed i → Obeys m i outcome new → m.background ≡ Some old → new.background ≡ Some final
+    → IsBirthNamed m → IsUsualLine i → Obeys m i outcome new → m.background ≡ Some old → new.background ≡ Some final
     → (log more : ℕ → Bool) → LogsLine m i old final log more → LogLaw m old log → LogLaw new final more
-line_logs_on m i outcome new old final h formed obeys runs now =
+line_logs_on m i outcome new old final h line obeys runs now =
     let change = line_changes m i outcome new obeys in
-    log_goes_on m i new h (change_stores m i new h change) (change_leaves m i new h formed change (ap is_some now)) old
+    log_goes_on m i new h (change_stores m i new h change) (change_leaves m i new h line change (ap is_some now)) old
     final runs (change_marks m i new change old final runs now)
 
 -- ---- runs
@@ -189,7 +188,7 @@ run_logs_on m last log end at_once law = law
 run_logs_on m last log end (by_line {next = next} {mid = mid} i outcome old new h formed obeys runs now logs more) law =
     run_logs_on next last mid end more (λ marking e.
     subst (λ k. LogLaw next k mid) (same_marking new marking (sym now ∙ e))
-    (line_logs_on m i outcome next old new h formed obeys runs now log mid logs (law old runs)))
+    (line_logs_on m i outcome next old new h (usual_line i formed) obeys runs now log mid logs (law old runs)))
 
 -- no object is black at first
 pub log_holds : LogHoldsLaw

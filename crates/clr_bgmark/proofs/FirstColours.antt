@@ -1,7 +1,7 @@
 -- What the bits say all through a first pause: only cells of objects of generation 2 are taken or marked, and nothing
 -- is scanned or logged.
 use Rattle.std.proofs.Common.{◌≡◌, ℕ, zero, suc, ◌+◌, ◌/◌, List, [], ◌∷◌, length, get_or, ap, arith, refl, sym, subst}
-use Rattle.std.proofs.Common.{◌∙◌}
+use Rattle.std.proofs.Common.{◌∙◌, ◌⊎◌, inl, inr}
 use Rattle.std.proofs.Common.{Bool, true, false, ◌<◌, ◌%◌, ◌==◌, nat_le, nat_lt, drop, map, if◌then◌else◌, ◌||◌, ◌&&◌}
 use Rattle.std.proofs.Common.{not, nat_eq, Option, Some, None}
 use Rattle.std.proofs.lemmas.Bool.{both_ways, eqb-true}
@@ -264,7 +264,11 @@ module _ (rows : List TypeRow) (h : HeapView) (heap : IsHeap h) (held : IsHeld r
   }
 
   pub first_whole : IsClosed rows h → AreShadesOf h bare → HaveWholeObjects rows h now
-  first_whole closed shapes x offset stands inside listed =
+  first_whole closed shapes x offset (aligned, bit) listed =
       f.covered (x + offset)
       ∙ word_covered h.memories bare (x + offset) (heap.memories ∙ sym shapes)
-      (slot_has rows h heap held x stands offset listed).inside
+      (slot_has rows h heap held x (stands bit) offset listed).inside
+    where
+      stands : (is_taken now x ≡ true) ⊎ (is_marked now x ≡ true) → StandsAt rows h x
+      stands (inl t) = first_objects.taken x aligned t
+      stands (inr m) = first_objects.marked x aligned m

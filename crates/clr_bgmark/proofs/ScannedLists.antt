@@ -23,7 +23,8 @@ use Rattle.clr_view.proofs.Rises.{objects-rise}
 use Rattle.clr_mark.specs.Markings.{references_at}
 use Rattle.clr_mark.proofs.References.{refers_from, refers_to}
 use Rattle.clr_bgmark.specs.Bits.{has_bit}
-use Rattle.clr_bgmark.specs.Scanning.{AreObjects, followed, is_gray_place, is_white_place, marking_in, places_where}
+use Rattle.clr_bgmark.specs.Scanning.{AreObjects, followed, is_gray_place, is_white_place, IsTakenAt, marking_in}
+use Rattle.clr_bgmark.specs.Scanning.{places_where}
 use Rattle.clr_bgmark.specs.Shades.{ShadeView, IsShade, BackgroundView, cell_of, is_covered, is_marked}
 use Rattle.clr_bgmark.specs.Shades.{is_scanned, is_taken, met_all, with_scanned}
 use Rattle.clr_bgmark.proofs.FollowedSlots.{at}
@@ -202,6 +203,14 @@ module _ (rows : List TypeRow) (h : HeapView) (heap : IsHeap h) (held : IsHeld r
     taken_now b =
         told_kept (λ s a. has_bit s.taken (cell_of s a)) (with_scanned x) (λ s b. refl) (λ s b. refl) mid x b
         ∙ met_x.taken b
+
+    -- and no object was taken since
+    pub taken_was : (b : ℕ) → IsTakenAt now b → IsTakenAt ss b
+    taken_was b (there, inl t) = (there, inl (sym (taken_now b) ∙ t))
+    taken_was b (there, inr m) = elim (met_x.fresh b there (sym (marked_now b) ∙ m)) [
+      | inl was ↦ (there, inr was)
+      | inr white ↦ (there, inl (white_parts ss b white.1).taken)
+    ]
 
     pub now_shades : AllByRecursion IsShade now
     now_shades = scanned_shades mid x met_x.shades

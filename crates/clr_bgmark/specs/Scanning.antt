@@ -57,11 +57,14 @@ abbrev pub HasScannedOne : List Object → List ShadeView → List ShadeView →
 HasScannedOne objects old new =
     (m : Machine) → m.objects ≡ objects → Scans m (marking_in objects old) (marking_in objects new)
 
--- where a place lies in one of the segments, all references of its object do
+-- the object at a place was taken
+abbrev pub IsTakenAt : List ShadeView → ℕ → Type 0
+IsTakenAt ss x = (x % 8 ≡ 0) × ((is_taken ss x ≡ true) ⊎ (is_marked ss x ≡ true))
+
+-- all references of what was taken lie in the segments
 abbrev pub HaveWholeObjects : List TypeRow → HeapView → List ShadeView → Type 0
 HaveWholeObjects rows h ss =
-    (x offset : ℕ) → StandsAt rows h x → is_covered ss x ≡ true → IsIn offset (references_at rows h x)
-    → is_covered ss (x + offset) ≡ true
+    (x offset : ℕ) → IsTakenAt ss x → IsIn offset (references_at rows h x) → is_covered ss (x + offset) ≡ true
 
 -- ---- the log
 

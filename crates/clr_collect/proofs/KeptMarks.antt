@@ -26,7 +26,7 @@ use Rattle.clr_model.specs.Collection.{begun, object_after, row_after}
 use Rattle.clr_model.specs.Lawful.{IsPlaceNamed}
 use Rattle.clr_model.specs.Lookups.{object_named}
 use Rattle.clr_model.specs.Machine.{Machine, Object, ref}
-use Rattle.clr_model.specs.Reach.{Edge, follows, is_suppressed, Kept, Reach, SecondOf, SlotNames, starts, StartOf}
+use Rattle.clr_model.specs.Reach.{Edge, follows, is_suppressed, Kept, Reach, SecondOf, SlotNames, starts}
 use Rattle.clr_model.specs.Reach.{suppressed_or_none, woken}
 use Rattle.clr_model.proofs.NamedWell.{lawful-named, name-above}
 use Rattle.clr_model.proofs.SeenSound.{found-at}
@@ -99,8 +99,9 @@ module _ (left : ℕ → Bool) (entries : List ℕ) (objects : List Object) wher
 -- ---- the heap
 
 -- Before the collection, with what is alive marked, and with entries judged and flags cleared.
-module _ (rows : List TypeRow) (old : HeapView) (locals : List ℕ) (handles : FinMap nat_cmp Handle) (queues : Queues)
-    (g : ℕ) (alive : HeapView) (a : HasMarkedAlive (world_with rows old locals handles queues) alive g)
+module _ {origin : Machine → ℕ → Type 0} (rows : List TypeRow) (old : HeapView) (locals : List ℕ)
+    (handles : FinMap nat_cmp Handle) (queues : Queues) (g : ℕ) (alive : HeapView)
+    (a : HasMarkedAlive (world_with rows old locals handles queues) origin alive g)
     (judged : Queues) (j : HaveBeenJudged rows alive g queues judged)
     (flat : HeapView) (flat_heap : IsHeap flat) (f : HasUnflagged rows alive flat g queues.entries) where
   abbrev w : World
@@ -155,7 +156,7 @@ module _ (rows : List TypeRow) (old : HeapView) (locals : List ℕ) (handles : F
       edge = Edge (begun m)
 
       abbrev start : ℕ → Type 0
-      start y = StartOf (begun m) g y ⊎ IsIn y (woken (begun m) first)
+      start y = origin m y ⊎ IsIn y (woken (begun m) first)
 
       abbrev near : ℕ → ℕ → Type 0
       near = Draws rows flat short g
@@ -198,18 +199,18 @@ module _ (rows : List TypeRow) (old : HeapView) (locals : List ℕ) (handles : F
       -- what is left before is alive, and what is alive is left
       left-alive : (y : ℕ) → is_left_name rows flat g y ≡ true → Reach edge start y
       left-alive y e =
-          reach_bind edge edge start (StartOf (begun m) g) y (λ p q e. e) (λ p s. starts (inl s))
+          reach_bind edge edge start (origin m) y (λ p q e. e) (λ p s. starts (inl s))
           ((a.alive m is named y).0 (sym (left-flat y) ∙ e))
 
-      alive-left : (y : ℕ) → Reach edge (StartOf (begun m) g) y → is_left_name rows flat g y ≡ true
+      alive-left : (y : ℕ) → Reach edge (origin m) y → is_left_name rows flat g y ≡ true
       alive-left y r = left-flat y ∙ (a.alive m is named y).1 r
 
-      alive-marked : (y : ℕ) → Reach edge (StartOf (begun m) g) y → is_condemned_place flat g y ≡ true
+      alive-marked : (y : ℕ) → Reach edge (origin m) y → is_condemned_place flat g y ≡ true
           → Marked rows flat y
       alive-marked y r on = condemned-left rows flat g y on (alive-left y r)
 
       -- an older object is alive
-      older-alive : (y : ℕ) → IsOlder rows flat g y → Reach edge (StartOf (begun m) g) y
+      older-alive : (y : ℕ) → IsOlder rows flat g y → Reach edge (origin m) y
       older-alive y older = (a.alive m is named y).0 (sym (left-flat y) ∙ older-left rows flat g y older)
 
       young-there : (y : ℕ) → start y → is_condemned_place flat g y ≡ true → begin y
@@ -271,7 +272,7 @@ module _ (rows : List TypeRow) (old : HeapView) (locals : List ℕ) (handles : F
       same-old y = same_condemned rows flat new g y words
 
       -- THE KEPT SET: what is left at the end
-      kept-is : Tests (is_left_name rows new g) (Kept (begun m) (StartOf (begun m) g) first)
+      kept-is : Tests (is_left_name rows new g) (Kept (begun m) (origin m) first)
       kept-is x = (
         λ e. elim (left-cases rows new g x e) [
           | inl older ↦
@@ -297,7 +298,7 @@ module _ (rows : List TypeRow) (old : HeapView) (locals : List ℕ) (handles : F
           → after ≡ map_values (cleared Dependent (is_left_name rows new g))
           (map_values (cleared WeakLong (is_left_name rows new g)) short)
           → objects_in rows new ≡ objects_in rows flat
-          → LeavesKept (begun m) g first (is_left_name rows new g) (objects_in rows new) after judged
+          → LeavesKept (begun m) (origin m) first (is_left_name rows new g) (objects_in rows new) after judged
       leaves-kept after stand cleared_is same = record {
         tests = record { first_is = a.alive m is named; kept_is = kept-is };
         objects = same ∙ objects-flat;
@@ -324,7 +325,7 @@ module _ (rows : List TypeRow) (old : HeapView) (locals : List ℕ) (handles : F
       ⊎ (IsCondemnedRoot woken_now flat g y ⊎ IsTiedToOld rows flat short g y)) x)
       → (after : FinMap nat_cmp Handle) → after ≡ map_values (cleared Dependent (is_left_name rows new g))
       (map_values (cleared WeakLong (is_left_name rows new g)) short)
-      → HasMarkedKept (world_with rows old locals handles queues) new after judged g
+      → HasMarkedKept (world_with rows old locals handles queues) origin new after judged g
   kept_marked short short_is stand new words now now_held marked after after_is = record {
     heap = now;
     held = now_held;

@@ -41,7 +41,7 @@ null_or : (x : ℕ) → (x ≡ 0) ⊎ (0 < x)
 null_or x = elim (cases_eq x 0) [ inl zero ↦ inl zero | inr some ↦ inr (omega arith) ]
 
 module _ (m : Machine) (g : ℕ) (first : ℕ → Bool) (rows : List TypeRow) (marked : HeapView)
-    (tests : TestsKept m g first (is_left_name rows marked g)) where
+    (tests : TestsKept m (StartOf m g) first (is_left_name rows marked g)) where
   abbrev left : ℕ → Bool
   left = is_left_name rows marked g
 

@@ -9,7 +9,6 @@ use Rattle.clr_types.specs.Segments.{generation, Layout}
 use Rattle.clr_types.specs.declared.handle.Handle.{Handle}
 use Rattle.clr_types.specs.declared.handle.Kind.{Kind}
 use Rattle.clr_types.specs.declared.handle.Kind.TheVariants.{Dependent, Pinned, Strong, Weak, WeakLong}
-use Rattle.clr_types.specs.declared.segment.SegKind.TheVariants.{Large}
 use Rattle.clr_types.specs.Maps.{map_values}
 use Rattle.clr_types.proofs.ListMembers.{any-map, any-on, filter-map, map-map, map-on, sum-mapped}
 use Rattle.clr_types.proofs.MapValues.{values-map_values}
@@ -102,7 +101,7 @@ module _ (m : Machine) (g : ℕ) (first kept : ℕ → Bool) where
 
   -- ---- the collection
 
-  module _ (tests : TestsKept m g first kept) (how : How) (moves : List Move) (small : Layout)
+  module _ (tests : TestsKept m (StartOf m g) first kept) (how : How) (moves : List Move) (small : Layout)
       (decided : compacts how (decides_to_compact m g (survivors m g kept)) ≡ true)
       (compacted : IsCompacted m.layout g (survivors m g kept) moves small) where
     abbrev pub laid : Layout
@@ -175,3 +174,19 @@ module _ (m : Machine) (g : ℕ) (first kept : ℕ → Bool) where
         → (compaction_collects answer is).moves ≡ moves
     unfolding compaction_collects
     compaction_moves answer is = refl
+
+    -- in its layout segments aren't released yet
+    pub compaction_laid : (answer : Collected)
+        (is : answer ≡ record {
+          generation = g;
+          compacted = true;
+          fitted = false;
+          background = false;
+          kept = count_by (λ o. is_condemned m g o && kept o.name) m.objects;
+          freed = count_by (λ o. is_condemned m g o && not (kept o.name)) m.objects;
+          promoted1 = bytes_promoted m laid kept moves 0;
+          promoted2 = bytes_promoted m laid kept moves 1;
+        })
+        → (compaction_collects answer is).laid ≡ laid
+    unfolding compaction_collects
+    compaction_laid answer is = refl

@@ -1,5 +1,6 @@
--- The whole collection that compacts, of every machine whose world it is: what counts and moves tell makes its answer.
-use Rattle.std.proofs.Common.{◌≡◌, ℕ, ◌+◌, ◌-◌, ◌^◌, ◌≤◌, ◌==◌, ◌&&◌, Bool, true, not, List, false}
+-- What a collection that compacts comes to, of every machine whose world it began with: what counts and moves tell
+-- makes its answer.
+use Rattle.std.proofs.Common.{◌≡◌, ℕ, ◌+◌, ◌-◌, ◌^◌, ◌≤◌, ◌&&◌, Bool, true, not, List, false}
 use Rattle.std.proofs.Common.{count_by}
 use Rattle.std.proofs.Common.{min, refl, ap, sym, ◌∙◌, subst, None}
 use Rattle.std.specs.Prelude.{MatchBool}
@@ -7,48 +8,40 @@ use Rattle.std.specs.FinMap.{FinMap}
 use Rattle.std.specs.Ordering.{nat_cmp}
 use Rattle.clr_types.specs.declared.handle.Handle.{Handle}
 use Rattle.clr_final.specs.Queues.{Queues}
-use Rattle.clr_heap.specs.View.{HeapView, IsHeap}
+use Rattle.clr_heap.specs.View.{HeapView}
 use Rattle.clr_model.specs.declared.Collected.{Collected}
 use Rattle.clr_model.specs.declared.How.{How}
-use Rattle.clr_model.specs.Collection.{begun, Collects, compacts, decides_to_compact}
+use Rattle.clr_model.specs.declared.How.TheVariants.{Compact}
+use Rattle.clr_model.specs.Collection.{begun, compacts, decides_to_compact, IsCollected}
 use Rattle.clr_model.specs.Compaction.{Move}
 use Rattle.clr_moves.specs.Moves.{moved_bytes}
 use Rattle.clr_model.specs.Lawful.{IsLaid, IsPlaceNamed}
-use Rattle.clr_model.specs.Laws.{IsUnslid}
 use Rattle.clr_model.specs.Lookups.{lowest_in_step}
 use Rattle.clr_model.specs.Machine.{Machine}
 use Rattle.clr_model.specs.Picture.{picture}
+use Rattle.clr_model.specs.Reach.{StartOf}
 use Rattle.clr_model.specs.Sweep.{is_condemned, Survivor, survivors}
 use Rattle.clr_view.specs.Memory.{is_marked, is_reached_by, IsMemoryOf, TestsMarks}
-use Rattle.clr_view.specs.View.{IsHeld}
 use Rattle.clr_view.specs.World.{IsWorldOf, World}
 use Rattle.clr_sweep.specs.Swept.{is_kept, tally_of}
 use Rattle.clr_sweep.specs.declared.tally.Tally.{Tally}
 use Rattle.clr_survivors.specs.Survivors.{HaveMoved}
-use Rattle.clr_collect.specs.Collecting.{CountsSlides, HasMarkedKept, world_with}
-use Rattle.clr_collect.specs.Released.{HasObjects, HasReleased}
+use Rattle.clr_collect.specs.Collecting.{BlockingStart, HasMarkedKept, world_with}
+use Rattle.clr_collect.proofs.BeforeSlide.{comes_seen, ComesTo}
 use Rattle.clr_collect.proofs.SweepCollects.{counted, freed-is, kept-is, survive-plain}
-use Rattle.clr_collect.proofs.WholeCollection.{begun_laid, due, due_laid, due_memory}
-use Rattle.clr_collect.proofs.WholeMoved.{collects, collects_moves, left, next, ready_laid, ready_machine, ready_memory}
-use Rattle.clr_collect.proofs.WholeMoved.{world-is}
+use Rattle.clr_collect.proofs.WholeCollection.{begun_laid, due, due_laid, due_memory, older_kept}
+use Rattle.clr_collect.proofs.WholeMoved.{left, move_comes, ready_laid, ready_machine, ready_memory}
 use Rattle.clr_model.specs.Collection.{is_fit}
 
 module _ (w : World) (marked : HeapView) (handles : FinMap nat_cmp Handle) (queues : Queues)
-    (g : ℕ) (least : g ≤ 2) (k : HasMarkedKept w marked handles queues g) (gone : HeapView)
-    (gone_heap : IsHeap gone) (gone_held : IsHeld w.rows gone) (locals : List ℕ) (table : FinMap nat_cmp Handle)
-    (after_queues : Queues) (new : HeapView)
-    (ended : MatchBool (g == 2) (HasReleased w.rows gone new) (new ≡ gone))
+    (g : ℕ) (least : g ≤ 2) (k : HasMarkedKept w (BlockingStart g) marked handles queues g) (gone : HeapView)
+    (locals : List ℕ) (table : FinMap nat_cmp Handle) (after_queues : Queues)
     (promoted1 promoted2 before_count after_count : ℕ)
     (moves : (n : Machine) (kept : ℕ → Bool) → IsMemoryOf w.rows marked n → IsLaid n → n.handles ≡ handles
     → TestsMarks w.rows marked g kept
     → HaveMoved (world_with w.rows marked w.locals handles queues) (world_with w.rows gone locals table after_queues)
     g n
     kept promoted1 promoted2 before_count after_count)
-    (full : g ≡ 2 → HasObjects w.rows gone)
-    (how : How) (unfitted : is_fit how ≡ false) (threshold : ℕ)
-    (decides : (m : Machine) (kept : ℕ → Bool) → IsMemoryOf w.rows marked m → IsLaid m
-    → TestsMarks w.rows marked g kept → m.options.compact ≡ threshold
-    → true ≡ compacts how (decides_to_compact m g (survivors m g kept)))
     (tally : Tally) (counts : tally ≡ tally_of w.rows marked g) (answer : Collected)
     (told : answer ≡ record {
       generation = g;
@@ -60,8 +53,10 @@ module _ (w : World) (marked : HeapView) (handles : FinMap nat_cmp Handle) (queu
       promoted1 = promoted1;
       promoted2 = promoted2;
     }) where
-  module _ (m : Machine) (is : IsWorldOf w m) (named : IsPlaceNamed m) (idle : lowest_in_step m ≡ None)
-      (unslid : IsUnslid m g) where
+  abbrev pub world : World
+  world = world_with w.rows gone locals table after_queues
+
+  module _ (m : Machine) (is : IsWorldOf w m) (named : IsPlaceNamed m) where
     moved : HaveMoved (world_with w.rows marked w.locals handles queues)
         (world_with w.rows gone locals table after_queues) g (ready_machine w marked handles queues g least k m)
         (left w marked handles queues g least k) promoted1 promoted2 before_count after_count
@@ -100,62 +95,70 @@ module _ (w : World) (marked : HeapView) (handles : FinMap nat_cmp Handle) (queu
           background = false;
           kept =
               counted (begun m) (begun_laid w marked handles queues g least k m named) g least k.first
-              (left w marked handles queues g least k) (k.leaves m is named).tests w.rows marked
+              (left w marked handles queues g least k) (older_kept w marked handles queues g least k m is named)
+              w.rows marked
               (due_memory w marked handles queues g least k m is named) k.marks (is_kept marked g)
               (λ o. is_condemned (begun m) g o && left w marked handles queues g least k o.name)
               (kept-is (begun m) (begun_laid w marked handles queues g least k m named) g least k.first
-              (left w marked handles queues g least k) (k.leaves m is named).tests w.rows marked
+              (left w marked handles queues g least k) (older_kept w marked handles queues g least k m is named)
+              w.rows marked
               (due_memory w marked handles queues g least k m is named) k.marks) t;
           freed =
               counted (begun m) (begun_laid w marked handles queues g least k m named) g least k.first
-              (left w marked handles queues g least k) (k.leaves m is named).tests w.rows marked
+              (left w marked handles queues g least k) (older_kept w marked handles queues g least k m is named)
+              w.rows marked
               (due_memory w marked handles queues g least k m is named) k.marks
               (λ o. is_reached_by marked g o.place && not (is_marked marked o))
               (λ o. is_condemned (begun m) g o && not (left w marked handles queues g least k o.name))
               (freed-is (begun m) (begun_laid w marked handles queues g least k m named) g least k.first
-              (left w marked handles queues g least k) (k.leaves m is named).tests w.rows marked
+              (left w marked handles queues g least k) (older_kept w marked handles queues g least k m is named)
+              w.rows marked
               (due_memory w marked handles queues g least k m is named) k.marks) t;
           promoted1 = promoted1;
           promoted2 = promoted2;
         })
 
-    module _ (option : m.options.compact ≡ threshold) where
-      decided : compacts how (decides_to_compact (begun m) g
-          (survivors (begun m) g (left w marked handles queues g least k))) ≡ true
-      decided =
-          ap (λ (ss : List Survivor). compacts how (decides_to_compact (begun m) g ss))
-          (sym (survive-plain (begun m) (begun_laid w marked handles queues g least k m named) g least k.first
-          (left w marked handles queues g least k) (k.leaves m is named).tests))
-          ∙ sym (decides (due w marked handles queues g least k m) (left w marked handles queues g least k)
-          (due_memory w marked handles queues g least k m is named) (due_laid w marked handles queues g least k m named)
-          k.marks option)
+    -- of one machine
+    one_comes : (how : How) → is_fit how ≡ false
+        → compacts how (decides_to_compact (begun m) g (survivors (begun m) g (left w marked handles queues g least k)))
+        ≡ true
+        → lowest_in_step m ≡ None
+        → (mid : Machine) × (d : IsCollected (begun m) g how false (StartOf (begun m) g) answer mid)
+        × IsWorldOf world (picture mid) × (d.moves ≡ moved.moves)
+    one_comes how unfitted decided idle =
+        move_comes w marked handles queues g least k gone locals table after_queues m is named promoted1 promoted2
+        before_count after_count moved how unfitted decided answer answered idle
 
-      -- THE COLLECTION
-      pub moved_collected : (after : Machine) × (c : Collects m g how answer after)
-          × IsWorldOf (world_with w.rows new locals table after_queues) (picture after)
-          × CountsSlides c.collects.moves answer before_count after_count
-      moved_collected =
-          let c =
-          collects w marked handles queues g least k gone gone_heap gone_held locals table after_queues new ended m is
-          named
-          idle unslid promoted1 promoted2 before_count after_count moved how unfitted decided full answer answered in (
-            next w marked handles queues g least k gone gone_heap gone_held locals table after_queues new ended m is
-                named
-                idle unslid promoted1 promoted2 before_count after_count moved how unfitted decided full answer,
-            c,
-            world-is w marked handles queues g least k gone gone_heap gone_held locals table after_queues new ended m is
-                named
-                idle unslid promoted1 promoted2 before_count after_count moved how unfitted decided full answer c,
-            subst (λ (b : Bool). MatchBool b
-                (after_count ≡ min (2 ^ 64 - 1) (before_count + (1 + moved_bytes c.collects.moves)))
-                (after_count ≡ before_count))
-                (sym (ap (λ (a : Collected). a.compacted) told))
-                (moved.slid
-                ∙ ap (λ (vs : List Move). min (2 ^ 64 - 1) (before_count + (1 + moved_bytes vs)))
-                (sym (collects_moves w marked handles queues g least k gone gone_heap gone_held locals table
-                after_queues
-                new
-                ended m is named idle unslid promoted1 promoted2 before_count after_count moved how unfitted decided
-                full answer
-                answered))),
-          )
+  -- WHAT IT COMES TO
+  pub moved_comes : (how : How) → is_fit how ≡ false → (threshold : ℕ)
+      → ((m : Machine) (kept : ℕ → Bool) → IsMemoryOf w.rows marked m → IsLaid m
+      → TestsMarks w.rows marked g kept → m.options.compact ≡ threshold
+      → true ≡ compacts how (decides_to_compact m g (survivors m g kept)))
+      → ComesTo w g how threshold answer world before_count after_count
+  moved_comes how unfitted threshold decides m is named idle option =
+      let decided : compacts how (decides_to_compact (begun m) g
+      (survivors (begun m) g (left w marked handles queues g least k))) ≡ true =
+      ap (λ (ss : List Survivor). compacts how (decides_to_compact (begun m) g ss))
+      (sym (survive-plain (begun m) (begun_laid w marked handles queues g least k m named) g least k.first
+      (left w marked handles queues g least k) (older_kept w marked handles queues g least k m is named)))
+      ∙ sym (decides (due w marked handles queues g least k m) (left w marked handles queues g least k)
+      (due_memory w marked handles queues g least k m is named) (due_laid w marked handles queues g least k m named)
+      k.marks option) in
+      let (mid, d, seen, same) = one_comes m is named how unfitted decided idle in (
+        mid,
+        d,
+        seen,
+        subst (λ (b : Bool). MatchBool b
+            (after_count ≡ min (2 ^ 64 - 1) (before_count + (1 + moved_bytes d.moves)))
+            (after_count ≡ before_count))
+            (sym (ap (λ (a : Collected). a.compacted) told))
+            ((moved m is named).slid
+            ∙ ap (λ (vs : List Move). min (2 ^ 64 - 1) (before_count + (1 + moved_bytes vs))) (sym same)),
+      )
+
+  -- THE WORLD of what is left
+  pub known_moved : (m : Machine) × IsWorldOf w m × IsPlaceNamed m × (lowest_in_step m ≡ None)
+      → (n : Machine) × IsWorldOf world n × IsPlaceNamed n
+  known_moved (m, is, named, idle) =
+      let (mid, d, seen, same) = one_comes m is named Compact refl refl idle in
+      (picture mid, seen, comes_seen m named idle g least Compact refl answer mid d)

@@ -16,28 +16,42 @@ use Rattle.clr_model.specs.Collection.{begun, object_after}
 use Rattle.clr_model.specs.Lawful.{HasItsSecond, IsPlaceNamed, IsPresent, IsShaped}
 use Rattle.clr_model.specs.Lookups.{lowest_in_step}
 use Rattle.clr_model.specs.Machine.{Machine, Object, ref}
-use Rattle.clr_model.specs.Reach.{SlotNames}
+use Rattle.clr_model.specs.Reach.{SlotNames, StartOf}
 use Rattle.clr_model.proofs.HandleTables.{value_at}
 use Rattle.clr_model.proofs.Joined.{IsNullOrNamed}
 use Rattle.clr_model.proofs.NamedWell.{found_named, lawful-named}
+use Rattle.clr_view.specs.Memory.{is_left_name}
 use Rattle.clr_view.specs.SlotValues.{StandsAt}
 use Rattle.clr_view.specs.View.{objects_in}
 use Rattle.clr_view.specs.World.{IsWorldOf, World}
 use Rattle.clr_survivors.specs.Survivors.{AreClosed, IsNullOrLeft, NameLeft}
-use Rattle.clr_collect.specs.Collecting.{HasMarkedKept, LeavesKept, world_with}
+use Rattle.clr_collect.specs.Collecting.{BlockingStart, HasMarkedKept, LeavesKept, world_with}
 use Rattle.clr_collect.proofs.AfterRelease.{pinned-after}
 use Rattle.clr_collect.proofs.LeftNamed.{entries-left, locals-left, objects-closed, ready-left, rows-left}
 use Rattle.clr_collect.proofs.SweepCollects.{left-is}
-use Rattle.clr_collect.proofs.WholeCollection.{begun_laid, due_memory}
+use Rattle.clr_collect.proofs.WholeCollection.{begun_laid, due_memory, older_kept}
 use Rattle.clr_collect.proofs.WholeMoved.{left}
 
+-- ---- for every start
+
+module _ {start : Machine → ℕ → Type 0} (w : World) (marked : HeapView) (handles : FinMap nat_cmp Handle)
+    (queues : Queues) (g : ℕ) (least : g ≤ 2) (k : HasMarkedKept w start marked handles queues g)
+    (known : (m : Machine) × IsWorldOf w m × IsPlaceNamed m × (lowest_in_step m ≡ None)) where
+  pub pinned_kept : pinned_in handles ≡ pinned_in w.handles
+  pinned_kept =
+      ap pinned_in (k.leaves known.0 known.1 known.2).handles
+      ∙ pinned-after k.first (is_left_name w.rows marked g) (known.0).handles
+      ∙ ap pinned_in known.1.handles
+
+-- ---- in a blocking collection
+
 module _ (w : World) (marked : HeapView) (handles : FinMap nat_cmp Handle) (queues : Queues)
-    (g : ℕ) (least : g ≤ 2) (k : HasMarkedKept w marked handles queues g)
+    (g : ℕ) (least : g ≤ 2) (k : HasMarkedKept w (BlockingStart g) marked handles queues g)
     (known : (m : Machine) × IsWorldOf w m × IsPlaceNamed m × (lowest_in_step m ≡ None)) where
   abbrev m : Machine
   m = known.0
 
-  leaves : LeavesKept (begun known.0) g k.first (left w marked handles queues g least k)
+  leaves : LeavesKept (begun known.0) (StartOf (begun known.0) g) k.first (left w marked handles queues g least k)
       (objects_in w.rows marked) handles queues
   leaves = k.leaves known.0 known.1 known.2
 
@@ -45,7 +59,8 @@ module _ (w : World) (marked : HeapView) (handles : FinMap nat_cmp Handle) (queu
   closed_kept =
       objects-closed (begun known.0) g k.first w.rows marked leaves.tests leaves.objects
       (left-is (begun known.0) (begun_laid w marked handles queues g least k known.0 known.2) g least k.first
-      (left w marked handles queues g least k) leaves.tests w.rows marked
+      (left w marked handles queues g least k)
+      (older_kept w marked handles queues g least k known.0 known.1 known.2) w.rows marked
       (due_memory w marked handles queues g least k known.0 known.1 known.2) k.marks)
 
   owned : (number : ℕ) (row : Handle) → finmap.get (begun known.0).handles number ≡ Some row → HasItsSecond row
@@ -74,11 +89,6 @@ module _ (w : World) (marked : HeapView) (handles : FinMap nat_cmp Handle) (queu
     ready = λ x i. ready-left (begun known.0) g k.first w.rows marked leaves.tests ready_some x
         (subst (IsIn x) leaves.ready i);
   }
-
-  pub pinned_kept : pinned_in handles ≡ pinned_in w.handles
-  pinned_kept =
-      ap pinned_in leaves.handles ∙ pinned-after k.first (left w marked handles queues g least k) (known.0).handles
-      ∙ ap pinned_in known.1.handles
 
   -- whatever a slot names stands
   pub slots_kept : (x y : ℕ) → SlotNames (objects_in w.rows marked) x y → StandsAt w.rows marked y

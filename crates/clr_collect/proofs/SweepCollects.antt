@@ -1,6 +1,6 @@
 -- A collection that sweeps, for every generation and every machine: from tests of what it keeps, and the marks that
 -- agree with them.
-use Rattle.std.proofs.Common.{◌≡◌, inl, inr, ℕ, ◌+◌, ◌≤◌, ◌==◌, ◌&&◌, ◌||◌, Bool, true, false, not, if◌then◌else◌}
+use Rattle.std.proofs.Common.{◌≡◌, ℕ, ◌+◌, ◌≤◌, ◌==◌, ◌&&◌, ◌||◌, Bool, true, false, not, if◌then◌else◌}
 use Rattle.std.proofs.Common.{nat_le, nat_lt, List, [], ◌++◌, filter, map, count_by, sum_by, length, refl, ap}
 use Rattle.std.proofs.Common.{ap₂, sym, ◌∙◌, subst, arith}
 use Rattle.std.specs.Prelude.{MatchBool}
@@ -12,7 +12,6 @@ use Rattle.clr_types.specs.Rising.{IsIn, sorted_by}
 use Rattle.clr_types.specs.Segments.{generation, Layout, stands_in}
 use Rattle.clr_types.specs.Types.{TypeRow}
 use Rattle.clr_types.specs.declared.segment.SegInfo.{SegInfo}
-use Rattle.clr_types.specs.declared.segment.SegKind.TheVariants.{Large}
 use Rattle.clr_types.proofs.ChangedLists.{IsIn-map}
 use Rattle.clr_types.proofs.ListMembers.{any-map, filter-map, filter-on, map-map, sum-mapped}
 use Rattle.clr_heap.specs.View.{frame, HeapView, IsHeap}
@@ -26,7 +25,7 @@ use Rattle.clr_model.specs.Lawful.{IsLaid}
 use Rattle.clr_model.specs.Lookups.{object_size}
 use Rattle.clr_model.specs.Machine.{Machine, Object}
 use Rattle.clr_types.specs.Maps.{map_values}
-use Rattle.clr_model.specs.Reach.{starts, StartOf, woken}
+use Rattle.clr_model.specs.Reach.{woken}
 use Rattle.clr_model.specs.Sweep.{is_condemned, Survivor, survivor, survivors, swept_others, swept_small}
 use Rattle.clr_model.proofs.CollectedAges.{sweep_ages}
 use Rattle.clr_model.proofs.CollectedLayout.{large_ephemeral}
@@ -70,8 +69,12 @@ count-map f s xs =
 
 -- ---- the machine
 
+-- a test of names passes those of older objects
+abbrev pub KeepsOlder : Machine → ℕ → (ℕ → Bool) → Type 0
+KeepsOlder m g kept = (o : Object) → IsIn o m.objects → is_condemned m g o ≡ false → kept o.name ≡ true
+
 module _ (m : Machine) (h : IsLaid m) (g : ℕ) (least : g ≤ 2) (first kept : ℕ → Bool)
-    (tests : TestsKept m g first kept) where
+    (older : KeepsOlder m g kept) where
   abbrev pub survive : List Survivor
   survive = survivors m g kept
 
@@ -81,12 +84,6 @@ module _ (m : Machine) (h : IsLaid m) (g : ℕ) (least : g ≤ 2) (first kept : 
   abbrev pub laid : Layout
   laid = if g == 2 then swept_others (swept_small m.layout g (survivors m g kept)) 2 (survivors m g kept)
       else swept_small m.layout g (survivors m g kept)
-
-  -- older objects are kept
-  pub old-kept : (o : Object) → IsIn o m.objects → is_condemned m g o ≡ false → kept o.name ≡ true
-  old-kept o i off =
-      let above = leb-false (generation m.layout o.place) g off in
-      (tests.kept_is o.name).1 (starts (inl (inr (record { object = o; present = i; named = refl; above = above }))))
 
   -- ---- the layout
 
@@ -169,12 +166,12 @@ module _ (m : Machine) (h : IsLaid m) (g : ℕ) (least : g ≤ 2) (first kept : 
   }
 
   -- what a sweep that counted so answers
-  abbrev pub told : Tally → Collected
-  told tally = record {
+  abbrev pub told : Bool → Tally → Collected
+  told last_pause tally = record {
     generation = g;
     compacted = false;
     fitted = false;
-    background = false;
+    background = last_pause;
     kept = tally.kept;
     freed = tally.freed;
     promoted1 = tally.promoted1;
@@ -240,43 +237,12 @@ module _ (m : Machine) (h : IsLaid m) (g : ℕ) (least : g ≤ 2) (first kept : 
         ∙ ap (sum_by (object_size m.types)) (filter-on _ _ m.objects (kept-of e))
         ∙ sym (bytes e low)
 
-    -- THE COLLECTION: with these tests, and the counts of the sweep
-    pub sweep_collects : (answer : Collected) → answer ≡ told (tally_of rows marked g)
-        → IsPlainlyCollected m g Sweep false (StartOf m g) answer (swept_machine answer)
-    sweep_collects answer is = record {
-      first = first;
-      kept = kept;
-      first_is = tests.first_is;
-      kept_is = tests.kept_is;
-      survive = survive;
-      survive_are = refl;
-      small = small;
-      moves = [];
-      small_laid = (refl, refl);
-      laid = laid;
-      large_laid = refl;
-      answered =
-          is
-          ∙ (λ k. record {
-            generation = g;
-            compacted = false;
-            fitted = false;
-            background = false;
-            kept = counted (is_kept marked g) (λ o. is_condemned m g o && kept o.name) kept-is k;
-            freed =
-                counted (λ o. is_reached_by marked g o.place && not (is_marked marked o))
-                (λ o. is_condemned m g o && not (kept o.name)) freed-is k;
-            promoted1 = summed 0 (omega arith) k;
-            promoted2 = summed 1 (omega arith) k;
-          });
-      state = refl;
-    }
-
-    -- and of another kind, where that comes to a sweep
-    pub sweep_collects_as : (how : How) → compacts how (decides_to_compact m g (survivors m g kept)) ≡ false
-        → (answer : Collected) → answer ≡ told (tally_of rows marked g)
-        → IsPlainlyCollected m g how false (StartOf m g) answer (swept_machine answer)
-    sweep_collects_as how decided answer is = record {
+    -- THE COLLECTION: of a kind that comes to a sweep, from a start with these tests, and with the counts of the sweep
+    pub sweep_collects_as : (start : ℕ → Type 0) → TestsKept m start first kept → (last_pause : Bool) (how : How)
+        → compacts how (decides_to_compact m g (survivors m g kept)) ≡ false
+        → (answer : Collected) → answer ≡ told last_pause (tally_of rows marked g)
+        → IsPlainlyCollected m g how last_pause start answer (swept_machine answer)
+    sweep_collects_as start tests last_pause how decided answer is = record {
       first = first;
       kept = kept;
       first_is = tests.first_is;
@@ -294,7 +260,7 @@ module _ (m : Machine) (h : IsLaid m) (g : ℕ) (least : g ≤ 2) (first kept : 
             generation = g;
             compacted = sym decided k;
             fitted = false;
-            background = false;
+            background = last_pause;
             kept = counted (is_kept marked g) (λ o. is_condemned m g o && kept o.name) kept-is k;
             freed =
                 counted (λ o. is_reached_by marked g o.place && not (is_marked marked o))
@@ -305,12 +271,26 @@ module _ (m : Machine) (h : IsLaid m) (g : ℕ) (least : g ≤ 2) (first kept : 
       state = refl;
     }
 
+    -- in its layout segments aren't released yet
+    pub sweep_laid : (start : ℕ → Type 0) (tests : TestsKept m start first kept) (last_pause : Bool) (how : How)
+        (decided : compacts how (decides_to_compact m g (survivors m g kept)) ≡ false)
+        (answer : Collected) (is : answer ≡ told last_pause (tally_of rows marked g))
+        → (sweep_collects_as start tests last_pause how decided answer is).laid ≡ laid
+    unfolding sweep_collects_as
+    sweep_laid start tests last_pause how decided answer is = refl
+
+    -- and of a sweep
+    pub sweep_collects : (start : ℕ → Type 0) → TestsKept m start first kept → (last_pause : Bool)
+        → (answer : Collected) → answer ≡ told last_pause (tally_of rows marked g)
+        → IsPlainlyCollected m g Sweep last_pause start answer (swept_machine answer)
+    sweep_collects start tests last_pause = sweep_collects_as start tests last_pause Sweep refl
+
     -- ---- the heap afterwards
 
     pub left-is : (o : Object) → IsIn o m.objects → is_left marked g o ≡ kept o.name
     left-is o i =
         ap (λ (b : Bool). not b || is_marked marked o) (reached-is o)
-        ∙ or-on (is_condemned m g o) (is_marked marked o) (kept o.name) (mark-is o i) (old-kept o i)
+        ∙ or-on (is_condemned m g o) (is_marked marked o) (kept o.name) (mark-is o i) (older o i)
 
     module _ (swept : HeapView) (s : HasSwept rows marked swept g) where
       -- of the objects those stay that are kept, without the flags of entries that are dropped

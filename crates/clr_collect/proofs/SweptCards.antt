@@ -25,8 +25,8 @@ use Rattle.clr_view.specs.View.{layout_in, objects_in}
 use Rattle.clr_generations.specs.Laws.{BrickLaw, NamesYounger}
 use Rattle.clr_generations.specs.Tables.{AreTablesOf, units_of}
 use Rattle.clr_sweep.specs.Swept.{HasSwept}
-use Rattle.clr_collect.specs.Collecting.{TestsKept}
-use Rattle.clr_collect.proofs.SweepCollects.{laid, laid-generation, layout-swept, objects-after, plain, small, survive}
+use Rattle.clr_collect.proofs.SweepCollects.{KeepsOlder, laid, laid-generation, layout-swept, objects-after, plain}
+use Rattle.clr_collect.proofs.SweepCollects.{small, survive}
 use Rattle.clr_types.specs.Segments.{is_large_or_pinned}
 
 -- ---- generations
@@ -63,23 +63,23 @@ units-after unit kinds g end ss =
     go s true = refl
     go s false = refl
 
-module _ (m : Machine) (h : IsLaid m) (g : ℕ) (least : g ≤ 2) (first kept : ℕ → Bool) (tests : TestsKept m g first kept)
-    (rows : List TypeRow) (marked : HeapView) (memory : IsMemoryOf rows marked (plain m h g least first kept tests))
+module _ (m : Machine) (h : IsLaid m) (g : ℕ) (least : g ≤ 2) (first kept : ℕ → Bool) (older : KeepsOlder m g kept)
+    (rows : List TypeRow) (marked : HeapView) (memory : IsMemoryOf rows marked (plain m h g least first kept older))
     (marks : TestsMarks rows marked g kept) (swept : HeapView) (s : HasSwept rows marked swept g) where
   abbrev whole : Layout
-  whole = laid m h g least first kept tests
+  whole = laid m h g least first kept older
 
   layout-is : layout_in rows swept ≡ whole
-  layout-is = layout-swept m h g least first kept tests rows marked memory marks swept s
+  layout-is = layout-swept m h g least first kept older rows marked memory marks swept s
 
   -- ---- ages
 
   before-is : (p : ℕ) → generation m.layout p ≡ generation (frame marked) p
   before-is p = ap (λ (l : Layout). generation l p) memory.layout
 
-  after-is : (p : ℕ) → generation (frame swept) p ≡ generation (small m h g least first kept tests) p
+  after-is : (p : ℕ) → generation (frame swept) p ≡ generation (small m h g least first kept older) p
   after-is p =
-      ap (λ (l : Layout). generation l p) layout-is ∙ laid-generation m h g least first kept tests p
+      ap (λ (l : Layout). generation l p) layout-is ∙ laid-generation m h g least first kept older p
 
   -- an object that stays becomes older where it was condemned
   aged : (o : Object) → IsIn o (objects_in rows swept)
@@ -87,9 +87,9 @@ module _ (m : Machine) (h : IsLaid m) (g : ℕ) (least : g ≤ 2) (first kept : 
   aged o i =
       let (q, same, j) = from-map (object_after m first []) o (filter (λ (x : Object). kept x.name) m.objects)
       (subst (λ (os : List Object). IsIn o os)
-      (sym (objects-after m h g least first kept tests rows marked memory marks swept s)) i) in
+      (sym (objects-after m h g least first kept older rows marked memory marks swept s)) i) in
       let (on, present) = out_of_filter (λ (x : Object). kept x.name) q m.objects j in
-      let ages = sweep_ages m h g least kept [] (small m h g least first kept tests) (refl, refl) q present on in
+      let ages = sweep_ages m h g least kept [] (small m h g least first kept older) (refl, refl) q present on in
       let place : o.place ≡ q.place = ap (λ (x : Object). x.place) same in
       subst (λ (p : ℕ). IsAged g (generation (frame marked) p) (generation (frame swept) p)) (sym place)
       (subst (λ (e : ℕ). IsAged g e (generation (frame swept) q.place)) (before-is q.place)
@@ -126,18 +126,18 @@ module _ (m : Machine) (h : IsLaid m) (g : ℕ) (least : g ≤ 2) (first kept : 
   units-whole unit = go (g == 2) refl
     where
       go : (b : Bool) → (g == 2) ≡ b
-          → map (units_of unit) (if b then swept_others (small m h g least first kept tests) 2
-          (survive m h g least first kept tests) else small m h g least first kept tests).segments
+          → map (units_of unit) (if b then swept_others (small m h g least first kept older) 2
+          (survive m h g least first kept older) else small m h g least first kept older).segments
           ≡ map (units_of unit) m.layout.segments
       go true e =
           units-after unit (is_large_or_pinned) 2
-          (swept_end (small m h g least first kept tests) 2 (survive m h g least first kept tests))
-          (small m h g least first kept tests).segments
+          (swept_end (small m h g least first kept older) 2 (survive m h g least first kept older))
+          (small m h g least first kept older).segments
           ∙ units-after unit is_small_or_ephemeral g
-          (swept_end m.layout g (survive m h g least first kept tests)) m.layout.segments
+          (swept_end m.layout g (survive m h g least first kept older)) m.layout.segments
       go false e =
           units-after unit is_small_or_ephemeral g
-          (swept_end m.layout g (survive m h g least first kept tests)) m.layout.segments
+          (swept_end m.layout g (survive m h g least first kept older)) m.layout.segments
 
   units-swept : (unit : ℕ) → map (units_of unit) swept.segments ≡ map (units_of unit) marked.segments
   units-swept unit =

@@ -22,7 +22,7 @@ use Rattle.clr_model.specs.Sweep.{has_condemned_part, is_condemned, part_start, 
 use Rattle.clr_model.specs.Sweep.{survivor_pieces, survivors, swept_end, swept_free, swept_others, swept_small}
 use Rattle.clr_model.specs.Sweep.{taking_part}
 use Rattle.clr_model.proofs.AfterLayout.{ephemeral_after}
-use Rattle.clr_model.proofs.CollectedLayout.{whole_after, whole_ephemeral}
+use Rattle.clr_model.proofs.CollectedLayout.{large_ephemeral, whole_after, whole_ephemeral}
 use Rattle.clr_model.proofs.CondemnedParts.{taking-is}
 use Rattle.clr_model.proofs.LawfulPieces.{HasHome, object-in-pieces, piece-home}
 use Rattle.clr_model.proofs.LayoutLaws.{part_low}
@@ -198,7 +198,23 @@ module _ (m : Machine) (h : IsLaid m) (g : ℕ) (least : g ≤ 2) (keeps : ℕ �
   abbrev large : Layout
   large = swept_others swept 2 (survivors m g keeps)
 
-  -- GENERATION 0 IS EMPTY at the end: it begins where the ephemeral segment ends
+  -- GENERATION 0 IS EMPTY before segments are released: it begins where the ephemeral segment ends
+  pub unreleased_tail : (if g == 2 then large else swept).start0 ≡ (ephemeral (if g == 2 then large else swept)).end
+  unreleased_tail = go (g == 2) refl
+    where
+      of : ℕ → Layout
+      of n = swept_small m.layout n (survivors m n keeps)
+
+      go : (b : Bool) → (g == 2) ≡ b
+          → (if b then large else swept).start0 ≡ (ephemeral (if b then large else swept)).end
+      go false e = sym small-tail
+      go true e =
+          sym small-tail
+          ∙ subst (λ (n : ℕ). (ephemeral (of n)).end ≡ (ephemeral (swept_others (of n) 2 (survivors m n keeps))).end)
+          (sym (eqb-true g 2 e))
+          (sym (ap (λ (s : SegInfo). s.end) (large_ephemeral m h keeps [] (of 2) false (refl, refl))))
+
+  -- and at the end
   pub whole_tail : (whole : Layout)
       → whole ≡ (if g == 2 then released (if g == 2 then large else swept) objects
       else (if g == 2 then large else swept))

@@ -14,33 +14,27 @@ use Rattle.clr_types.specs.Segments.{generation, Layout, rest_pieces, segment_of
 use Rattle.clr_types.specs.Types.{TypeRow}
 use Rattle.clr_types.specs.declared.handle.Handle.{Handle}
 use Rattle.clr_types.specs.declared.item.Item.{Item}
-use Rattle.clr_types.proofs.ChangedLists.{out_of_filter}
+use Rattle.clr_types.proofs.ChangedLists.{IsIn-map, out_of_filter}
 use Rattle.clr_types.proofs.ListMembers.{map-map}
 use Rattle.clr_final.specs.Queues.{Queues}
 use Rattle.clr_heap.specs.Parts.{item_at}
 use Rattle.clr_heap.specs.View.{frame, HeapView, IsHeap, no_rests, word_of}
 use Rattle.clr_model.specs.declared.Collected.{Collected}
-use Rattle.clr_model.specs.declared.How.{How}
-use Rattle.clr_model.specs.declared.How.TheVariants.{Sweep}
-use Rattle.clr_model.specs.Sweep.{Survivor, survivors}
-use Rattle.std.proofs.Common.{◌+◌, ◌-◌, ◌^◌, min}
-use Rattle.clr_moves.specs.Moves.{moved_bytes}
-use Rattle.clr_model.specs.Collection.{begun, Collects, compacts, decides_to_compact, object_after}
+use Rattle.std.proofs.Common.{◌+◌, ◌-◌, not, ◌||◌, nat_le}
+use Rattle.clr_model.specs.Collection.{begun, object_after}
 use Rattle.clr_model.specs.Lawful.{IsLaid, IsPlaceNamed}
-use Rattle.clr_model.specs.Laws.{IsUnslid}
 use Rattle.clr_model.specs.Lookups.{lowest_in_step, object_piece, pieces}
 use Rattle.clr_model.specs.Machine.{Machine, Object}
-use Rattle.clr_model.specs.Picture.{picture}
-use Rattle.clr_model.proofs.CollectFollows.{after_sweep_is_sound}
 use Rattle.clr_model.proofs.GivenUp.{given_up_laid}
-use Rattle.clr_model.proofs.SeenStands.{picture_still}
 use Rattle.clr_view.specs.Clean.{AreClean}
 use Rattle.clr_view.specs.Marks.{has_mark, IsUnmarked, Marked}
-use Rattle.clr_view.specs.Memory.{is_left, is_left_name, is_reached_by, IsMemoryOf, TestsMarks, word_without_mark}
+use Rattle.clr_view.specs.Memory.{is_left, is_left_name, is_marked, is_reached_by, IsMemoryOf}
+use Rattle.clr_view.specs.Memory.{word_without_mark}
 use Rattle.clr_view.specs.SlotValues.{StandsAt}
 use Rattle.clr_view.specs.View.{AreFreeHeads, layout_in, objects_in, tail_of}
 use Rattle.clr_view.specs.World.{IsWorldOf, World}
 use Rattle.clr_view.proofs.CleanWords.{clean_but_marks}
+use Rattle.clr_view.proofs.LeftNames.{left-name}
 use Rattle.clr_view.proofs.ObjectItems.{stands-item}
 use Rattle.clr_view.proofs.Standing.{standing}
 use Rattle.clr_ctx.specs.Contexts.{IsIndex}
@@ -50,23 +44,20 @@ use Rattle.clr_generations.specs.Laws.{BrickLaw}
 use Rattle.clr_generations.specs.Tables.{AreTablesOf}
 use Rattle.std.specs.Prelude.{ℤ}
 use Rattle.clr_collect.proofs.SweptCards.{tables_swept}
-use Rattle.clr_sweep.specs.Swept.{HasSwept, tally_of}
-use Rattle.clr_sweep.specs.declared.tally.Tally.{Tally}
+use Rattle.clr_sweep.specs.Swept.{HasSwept}
 use Rattle.clr_sweep.proofs.ObjectsSwept.{mark-elsewhere}
-use Rattle.clr_collect.specs.Collecting.{CountsSlides, HasMarkedKept, LeavesKept, objects_unflagged, world_with}
+use Rattle.clr_collect.specs.Collecting.{HasMarkedKept, LeavesKept, objects_unflagged}
+use Rattle.clr_collect.specs.Collecting.{world_with}
 use Rattle.clr_collect.specs.Released.{HasLost, HasReleased}
 use Rattle.clr_survivors.proofs.LeftGoes.{condemned-is}
 use Rattle.clr_collect.proofs.SegmentsLost.{lost-refl, lost_heads, lost_objects}
-use Rattle.clr_collect.proofs.SweepCollects.{rests_swept, survive-plain, swept_machine, swept_memory, sweep_collects}
-use Rattle.clr_collect.proofs.SweepCollects.{sweep_collects_as, told}
+use Rattle.clr_collect.proofs.SweepCollects.{KeepsOlder, rests_swept, swept_machine, swept_memory}
 use Rattle.clr_collect.proofs.SweptLayouts.{whole_tail}
 use Rattle.clr_collect.proofs.YoungItems.{none_young}
-use Rattle.clr_model.specs.Collection.{is_fit}
-use Rattle.clr_model.proofs.PlainCollections.{from_plain}
 
 -- The heap of a world before its collection, and before its sweep, with what is kept marked.
-module _ (w : World) (marked : HeapView) (handles : FinMap nat_cmp Handle) (queues : Queues)
-    (g : ℕ) (least : g ≤ 2) (k : HasMarkedKept w marked handles queues g) where
+module _ {start : Machine → ℕ → Type 0} (w : World) (marked : HeapView) (handles : FinMap nat_cmp Handle)
+    (queues : Queues) (g : ℕ) (least : g ≤ 2) (k : HasMarkedKept w start marked handles queues g) where
   abbrev rows : List TypeRow
   rows = w.rows
 
@@ -89,6 +80,17 @@ module _ (w : World) (marked : HeapView) (handles : FinMap nat_cmp Handle) (queu
     objects = sym (k.leaves m is named).objects;
     layout = ap (λ (l : Layout). (begun (record m { layout = l })).layout) is.memory.layout ∙ sym k.layout;
   }
+
+  -- older objects are left
+  pub older_kept : (m : Machine) → IsWorldOf w m → IsPlaceNamed m → KeepsOlder (begun m) g left
+  older_kept m is named o i off =
+      let memory = due_memory m is named in
+      let there : IsIn (object_after (begun m) k.first [] o) (objects_in w.rows marked) =
+      subst (λ (os : List Object). IsIn (object_after (begun m) k.first [] o) os) memory.objects
+      (IsIn-map (object_after (begun m) k.first []) i) in
+      left-name w.rows marked g (object_after (begun m) k.first [] o) there
+      ∙ ap (λ (b : Bool). not b || is_marked marked o)
+      (ap (λ (l : Layout). nat_le (generation l o.place) g) (sym memory.layout) ∙ off)
 
   abbrev pub Known : Type 0
   Known = (m : Machine) × IsWorldOf w m × IsPlaceNamed m × (lowest_in_step m ≡ None)
@@ -117,7 +119,7 @@ module _ (w : World) (marked : HeapView) (handles : FinMap nat_cmp Handle) (queu
     -- a sweep gives no context
     pub none_given : Known → swept.rests ≡ no_rests
     none_given (m, is, named, idle) =
-        rests_swept (begun m) (begun_laid m named) g least k.first left (k.leaves m is named).tests w.rows marked
+        rests_swept (begun m) (begun_laid m named) g least k.first left (older_kept m is named) w.rows marked
         (due_memory m is named) k.marks swept s
         ∙ ap (λ (l : Layout). l.rests) (due_memory m is named).layout
         ∙ k.no_contexts
@@ -128,8 +130,59 @@ module _ (w : World) (marked : HeapView) (handles : FinMap nat_cmp Handle) (queu
         → BrickLaw w.rows (frame swept) (objects_in w.rows swept) (entry_at bricks)
         → AreTablesOf w.rows swept cards bricks
     whole_tables (m, is, named, idle) =
-        tables_swept (begun m) (begun_laid m named) g least k.first left (k.leaves m is named).tests w.rows marked
+        tables_swept (begun m) (begun_laid m named) g least k.first left (older_kept m is named) w.rows marked
         (due_memory m is named) k.marks swept s
+
+    -- ---- marks
+
+    -- an object of the swept heap that isn't condemned has the word that it had before
+    older-word : (x : ℕ) → StandsAt w.rows swept x → g < generation (frame marked) x
+        → word_of swept x ≡ word_of marked x
+    older-word x stands above =
+        let i = item_at w.rows (word_of swept) x in
+        let at = stands-item w.rows swept swept_heap s.held x stands in
+        let here = standing w.rows swept swept_heap s.held i at.listed in
+        let least = here.least in
+        let place = at.at in
+        let z : x % 8 ≡ 0 = subst (λ (p : ℕ). p % 8 ≡ 0) at.at here.aligned in
+        let old : is_reached_by marked g i.place ≡ false =
+        ap (is_reached_by marked g) at.at ∙ lt-leb (generation (frame marked) x) g above in
+        s.cells i x at.listed at.object z (omega arith) (omega arith)
+        ∙ ap (λ (b : Bool). if b then word_without_mark marked i x else word_of marked x) old
+
+    stands-marked : (x : ℕ) → StandsAt w.rows swept x → StandsAt w.rows marked x
+    stands-marked x (o, i, at) = (
+      o,
+      (out_of_filter (is_left marked g) o (objects_in w.rows marked)
+          (subst (λ (os : List Object). IsIn o os) s.objects i)).1,
+      at,
+    )
+
+    -- no mark is left in the swept heap, since no older object had one
+    pub swept-unmarked : IsUnmarked w.rows swept
+    swept-unmarked x u =
+        let above = s.unmarked x u in
+        let was : Marked w.rows marked x = record {
+          stands = stands-marked x u.stands;
+          mark = sym (ap has_mark (older-word x u.stands above)) ∙ u.mark;
+        } in
+        true≢false (sym (k.young x was) ∙ condemned-is marked g x ∙ lt-leb (generation (frame marked) x) g above)
+
+    -- ---- clean words
+
+    -- all that stays was there before, and the sweep clears only marks
+    pub clean-swept : AreClean w.rows marked → AreClean w.rows swept
+    clean-swept =
+        clean_but_marks w.rows marked swept k.heap k.held swept_heap s.held (λ o i.
+        let listed = subst (λ (os : List Object). IsIn o os) s.objects i in
+        (out_of_filter (is_left marked g) o (objects_in w.rows marked) listed).1)
+        (λ i b was l object aligned low high apart.
+        s.cells i b l object aligned low high ∙ unmarked-elsewhere (is_reached_by marked g i.place) i b apart)
+      where
+        unmarked-elsewhere : (t : Bool) (i : Item) (b : ℕ) → b ≢ i.place
+            → (if t then word_without_mark marked i b else word_of marked b) ≡ word_of marked b
+        unmarked-elsewhere true i b apart = mark-elsewhere marked i b apart
+        unmarked-elsewhere false i b apart = refl
 
     module _ (new : HeapView) (ended : MatchBool (g == 2) (HasReleased w.rows swept new) (new ≡ swept)) where
       -- whether or not segments were given back, all items stay
@@ -149,18 +202,18 @@ module _ (w : World) (marked : HeapView) (handles : FinMap nat_cmp Handle) (queu
       -- ---- one machine
 
       module _ (m : Machine) (is : IsWorldOf w m) (named : IsPlaceNamed m) where
-        abbrev leaves : LeavesKept (begun m) g k.first left (objects_in w.rows marked) handles queues
+        abbrev leaves : LeavesKept (begun m) (start m) k.first left (objects_in w.rows marked) handles queues
         leaves = k.leaves m is named
 
-        abbrev after : Collected → Machine
-        after = swept_machine (begun m) (begun_laid m named) g least k.first left leaves.tests
+        abbrev pub after : Collected → Machine
+        after = swept_machine (begun m) (begun_laid m named) g least k.first left (older_kept m is named)
 
         memory-after : (answer : Collected) → IsMemoryOf w.rows new (after answer)
         memory-after =
-            swept_memory (begun m) (begun_laid m named) g least k.first left leaves.tests w.rows marked
+            swept_memory (begun m) (begun_laid m named) g least k.first left (older_kept m is named) w.rows marked
             (due_memory m is named) k.marks swept s swept_heap new ended
 
-        world-after : (answer : Collected) → IsWorldOf world (after answer)
+        pub world-after : (answer : Collected) → IsWorldOf world (after answer)
         world-after answer = record {
           memory = memory-after answer;
           locals = is.locals;
@@ -168,83 +221,6 @@ module _ (w : World) (marked : HeapView) (handles : FinMap nat_cmp Handle) (queu
           entries = sym leaves.entries;
           ready = sym leaves.ready;
         }
-
-        collects : (tally : Tally) → tally ≡ tally_of w.rows marked g → (answer : Collected)
-            → answer ≡ told (begun m) (begun_laid m named) g least k.first left leaves.tests tally
-            → IsUnslid m g → Collects m g Sweep answer (after answer)
-        collects tally counted answer same unslid =
-            from_plain m g Sweep answer (after answer) unslid refl
-            (sweep_collects (begun m) (begun_laid m named) g least k.first left leaves.tests w.rows marked
-            (due_memory m is named) k.marks answer
-            (same ∙ ap (told (begun m) (begun_laid m named) g least k.first left leaves.tests) counted))
-
-      -- THE COLLECTION of every machine whose world it is
-      pub whole_collected : (tally : Tally) → tally ≡ tally_of w.rows marked g → (answer : Collected)
-          → answer ≡ record {
-            generation = g;
-            compacted = false;
-            fitted = false;
-            background = false;
-            kept = tally.kept;
-            freed = tally.freed;
-            promoted1 = tally.promoted1;
-            promoted2 = tally.promoted2;
-          }
-          → (m : Machine) → IsWorldOf w m → IsPlaceNamed m → lowest_in_step m ≡ None → IsUnslid m g
-          → (after : Machine) × Collects m g Sweep answer after × IsWorldOf world (picture after)
-      whole_collected tally counted answer same m is named idle unslid =
-          let c = collects m is named tally counted answer same unslid in
-          let still =
-          picture_still (after m is named answer)
-          (after_sweep_is_sound m named idle g least unslid answer (after m is named answer) c) in (
-            after m is named answer,
-            c,
-            subst (IsWorldOf world) (sym still)
-                (world-after m is named answer),
-          )
-
-      -- and of another kind, where that comes to a sweep
-      pub whole_collected_as : (how : How) → is_fit how ≡ false → (threshold : ℕ)
-          → ((m : Machine) (kept : ℕ → Bool) → IsMemoryOf w.rows marked m → IsLaid m → TestsMarks w.rows marked g kept
-          → m.options.compact ≡ threshold → false ≡ compacts how (decides_to_compact m g (survivors m g kept)))
-          → (tally : Tally) → tally ≡ tally_of w.rows marked g → (answer : Collected)
-          → answer ≡ record {
-            generation = g;
-            compacted = false;
-            fitted = false;
-            background = false;
-            kept = tally.kept;
-            freed = tally.freed;
-            promoted1 = tally.promoted1;
-            promoted2 = tally.promoted2;
-          }
-          → (slides : ℕ) (m : Machine) → IsWorldOf w m → IsPlaceNamed m → lowest_in_step m ≡ None
-          → IsUnslid m g → m.options.compact ≡ threshold
-          → (after : Machine) × (c : Collects m g how answer after) × IsWorldOf world (picture after)
-          × CountsSlides c.collects.moves answer slides slides
-      whole_collected_as how unfitted threshold decides tally counts answer same slides m is named idle unslid option =
-          let c = collects m is named tally counts answer same unslid in
-          let still =
-          picture_still (after m is named answer)
-          (after_sweep_is_sound m named idle g least unslid answer (after m is named answer) c) in
-          let decided : compacts how (decides_to_compact (begun m) g (survivors (begun m) g left)) ≡ false =
-          ap (λ (ss : List Survivor). compacts how (decides_to_compact (begun m) g ss))
-          (sym (survive-plain (begun m) (begun_laid m named) g least k.first left (k.leaves m is named).tests))
-          ∙ sym (decides (due m) left (due_memory m is named) (due_laid m named) k.marks option) in
-          let as_told =
-          from_plain m g how answer (after m is named answer) unslid unfitted
-          (sweep_collects_as (begun m) (begun_laid m named) g least k.first left
-          (k.leaves m is named).tests w.rows marked
-          (due_memory m is named) k.marks how decided answer
-          (same ∙ ap (told (begun m) (begun_laid m named) g least k.first left (k.leaves m is named).tests) counts)) in (
-            after m is named answer,
-            as_told,
-            subst (IsWorldOf world) (sym still)
-                (world-after m is named answer),
-            subst (λ (b : Bool). MatchBool b
-                (slides ≡ min (2 ^ 64 - 1) (slides + (1 + moved_bytes as_told.collects.moves)))
-                (slides ≡ slides)) (sym (ap (λ (a : Collected). a.compacted) same)) refl,
-          )
 
       -- THE INDEX: no free item is of generation 0
       pub new_index : Known → (index : Option (List Piece)) → index ≡ Some [] → IsIndex w.rows new index
@@ -269,39 +245,6 @@ module _ (w : World) (marked : HeapView) (handles : FinMap nat_cmp Handle) (queu
 
       -- ---- marks
 
-      -- an object of the swept heap that isn't condemned has the word that it had before
-      older-word : (x : ℕ) → StandsAt w.rows swept x → g < generation (frame marked) x
-          → word_of swept x ≡ word_of marked x
-      older-word x stands above =
-          let i = item_at w.rows (word_of swept) x in
-          let at = stands-item w.rows swept swept_heap s.held x stands in
-          let here = standing w.rows swept swept_heap s.held i at.listed in
-          let least = here.least in
-          let place = at.at in
-          let z : x % 8 ≡ 0 = subst (λ (p : ℕ). p % 8 ≡ 0) at.at here.aligned in
-          let old : is_reached_by marked g i.place ≡ false =
-          ap (is_reached_by marked g) at.at ∙ lt-leb (generation (frame marked) x) g above in
-          s.cells i x at.listed at.object z (omega arith) (omega arith)
-          ∙ ap (λ (b : Bool). if b then word_without_mark marked i x else word_of marked x) old
-
-      stands-marked : (x : ℕ) → StandsAt w.rows swept x → StandsAt w.rows marked x
-      stands-marked x (o, i, at) = (
-        o,
-        (out_of_filter (is_left marked g) o (objects_in w.rows marked)
-            (subst (λ (os : List Object). IsIn o os) s.objects i)).1,
-        at,
-      )
-
-      -- no mark is left in the swept heap, since no older object had one
-      swept-unmarked : IsUnmarked w.rows swept
-      swept-unmarked x u =
-          let above = s.unmarked x u in
-          let was : Marked w.rows marked x = record {
-            stands = stands-marked x u.stands;
-            mark = sym (ap has_mark (older-word x u.stands above)) ∙ u.mark;
-          } in
-          true≢false (sym (k.young x was) ∙ condemned-is marked g x ∙ lt-leb (generation (frame marked) x) g above)
-
       -- nor in what is left of it
       pub none_marked : IsUnmarked w.rows new
       none_marked x u =
@@ -323,20 +266,6 @@ module _ (w : World) (marked : HeapView) (handles : FinMap nat_cmp Handle) (queu
           lost_heads w.rows swept new swept_heap s.held lost (s.free_heads (inr (k.free_heads heads)))
 
       -- ---- clean words
-
-      -- all that stays was there before, and the sweep clears only marks
-      clean-swept : AreClean w.rows marked → AreClean w.rows swept
-      clean-swept =
-          clean_but_marks w.rows marked swept k.heap k.held swept_heap s.held (λ o i.
-          let listed = subst (λ (os : List Object). IsIn o os) s.objects i in
-          (out_of_filter (is_left marked g) o (objects_in w.rows marked) listed).1)
-          (λ i b was l object aligned low high apart.
-          s.cells i b l object aligned low high ∙ unmarked-elsewhere (is_reached_by marked g i.place) i b apart)
-        where
-          unmarked-elsewhere : (t : Bool) (i : Item) (b : ℕ) → b ≢ i.place
-              → (if t then word_without_mark marked i b else word_of marked b) ≡ word_of marked b
-          unmarked-elsewhere true i b apart = mark-elsewhere marked i b apart
-          unmarked-elsewhere false i b apart = refl
 
       clean-lost : AreClean w.rows swept → AreClean w.rows new
       clean-lost =

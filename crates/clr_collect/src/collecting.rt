@@ -1,8 +1,7 @@
 // A collection of a generation and of all younger ones.
-ghost use Rattle.std.specs.Prelude.{◌≡◌, ℕ, ◌+◌, ◌≤◌, ◌==◌, [], length, None, Some, MatchBool, true, false};
+ghost use Rattle.std.specs.Prelude.{◌≡◌, ℕ, ◌+◌, ◌≤◌, ◌==◌, ◌&&◌, not, [], length, None, Some, MatchBool, true, false};
 ghost use Rattle.clr_model.specs.Collection.{Collects, is_fit};
 ghost use Rattle.clr_model.specs.Lawful.{IsPlaceNamed};
-ghost use Rattle.clr_model.specs.Laws.{IsUnslid};
 ghost use Rattle.clr_model.specs.Lookups.{lowest_in_step};
 ghost use Rattle.clr_model.specs.Machine.{Machine};
 ghost use Rattle.clr_model.specs.Picture.{picture};
@@ -16,12 +15,13 @@ ghost use Rattle.clr_ctx.specs.Contexts.{IsIndex};
 ghost use Rattle.clr_generations.specs.Tables.{AreTablesOf};
 ghost use Rattle.clr_mark.specs.Waiting.{IsGray};
 ghost use Rattle.clr_handles.specs.Tops.{pinned_in};
-ghost use Rattle.clr_collect.specs.Collecting.{CountsSlides, HasMarkedAlive, HasMarkedKept, world_with};
+ghost use Rattle.clr_collect.specs.Collecting.{BlockingStart, CountsSlides, HasMarkedAlive, HasMarkedKept, world_with};
 ghost use Rattle.clr_collect.specs.Released.{HasReleased};
 
 use crate::deciding::counted_to_compact;
-use crate::judging::{clear_long_and_dependent, clear_short, judge_entries};
+use crate::judging::leave_kept;
 use crate::releasing::release_empty;
+use crate::sliding::slide_and_release;
 use clr_bricks::Bricks;
 use clr_cards::Cards;
 use clr_compact::Slides;
@@ -54,17 +54,17 @@ use clr_types::Types;
 /// parts where its primary doesn't stay. Older objects all stay.
 ///
 /// It is the collection of every lawful machine, its objects named by their places, that has this memory, these locals
-/// and handles, this finalisation queue, this threshold, and no thread between the halves of a step. Sums and the
-/// other options are that machine's own. Locals, handles and queues name the new places afterwards.
+/// and handles, this finalisation queue, this threshold and this flag, and no thread between the halves of a step. Sums
+/// and the other options are that machine's own. Locals, handles and queues name the new places afterwards.
 ///
 /// The answer counts the objects that stay and those that go, and the bytes that went from generation 0 to 1 and from
 /// 1 to 2. Nothing is marked before and after, and no free item's head is. Headers and padding are clean before and
 /// after, and the finalisation queue has room for as many entries as before. `pins` is empty before and after, with
 /// room for four entries more than there are pinned handles, and `slides` counts one for a compaction, and each byte
-/// of a plug that went. Cards and bricks obey their laws before and after. It takes no memory: the finalisation queue
-/// and `pins` have room for no more than they had room for, nor has the marker's stack. The index of the contexts is
-/// that of a heap without free items of generation 0 after a sweep, which leaves none, and after a compaction it is
-/// dropped: it is made anew where room is next wanted.
+/// of a plug that went; a slide of the large heap counts neither way. Cards and bricks obey their laws before and
+/// after. It takes no memory: the finalisation queue and `pins` have room for no more than they had room for, nor has
+/// the marker's stack. The index of the contexts is that of a heap without free items of generation 0 after a sweep,
+/// which leaves none, and after a compaction it is dropped: it is made anew where room is next wanted.
 pub fn collect(
     types: &Types,
     heap: &mut Heap,
@@ -80,6 +80,7 @@ pub fn collect(
     threshold: u64,
     g: u8,
     how: How,
+    compacts_large: &mut bool,
 ) -> Collected
     requires generation { g ≤ 2 }
     requires threshold { threshold ≤ 100 }
@@ -94,10 +95,12 @@ pub fn collect(
     requires empty { pins.old.entries ≡ [] }
     requires room { pinned_in handles.old + 4 ≤ pins.old.spare }
     ensures collected { (m : Machine) → IsWorldOf (world_with types.now heap.old locals.old handles.old finals.old) m
-        → IsPlaceNamed m → lowest_in_step m ≡ None → IsUnslid m g → m.options.compact ≡ threshold
+        → IsPlaceNamed m → lowest_in_step m ≡ None → m.compacts_large ≡ compacts_large.old
+        → m.options.compact ≡ threshold
         → (after : Machine) × (c : Collects m g how result after)
         × IsWorldOf (world_with types.now heap.new locals.new handles.new finals.new) (picture after)
         × CountsSlides c.collects.moves result slides.old slides.new }
+    ensures flag { compacts_large.new ≡ compacts_large.old && not (g == 2) }
     ensures held { IsHeld types.now heap.new }
     ensures unmarked { IsUnmarked types.now heap.new }
     ensures free_heads { AreFreeHeads types.now heap.new }
@@ -120,7 +123,18 @@ pub fn collect(
     let Some(tally) = counted_to_compact(heap, types, g, how, threshold) else {
         let swept = sweep(heap, types, bricks, g);
         heap.lawful();
-        release_after(heap, types, cards, bricks, g);
+        slide_and_release(
+            types,
+            heap,
+            cards,
+            bricks,
+            handles,
+            finals,
+            locals,
+            pins,
+            g,
+            compacts_large,
+        );
         contexts.forget();
         return answer(g, false, swept);
     };
@@ -128,7 +142,18 @@ pub fn collect(
         types, heap, cards, bricks, handles, finals, locals, pins, slides, g,
     );
     heap.lawful();
-    release_after(heap, types, cards, bricks, g);
+    slide_and_release(
+        types,
+        heap,
+        cards,
+        bricks,
+        handles,
+        finals,
+        locals,
+        pins,
+        g,
+        compacts_large,
+    );
     contexts.lose();
     answer(
         g,
@@ -142,7 +167,7 @@ pub fn collect(
 }
 
 // What a collection of generation `g` answers that counted so.
-fn answer(g: u8, compacted: bool, tally: Tally) -> Collected
+pub(crate) fn answer(g: u8, compacted: bool, tally: Tally) -> Collected
     ensures { result ≡ record {
       generation = g;
       compacted = compacted;
@@ -167,7 +192,13 @@ fn answer(g: u8, compacted: bool, tally: Tally) -> Collected
 }
 
 // Gives back the segments in which nothing stands, after a collection of all generations.
-fn release_after(heap: &mut Heap, types: &Types, cards: &mut Cards, bricks: &mut Bricks, g: u8)
+pub(crate) fn release_after(
+    heap: &mut Heap,
+    types: &Types,
+    cards: &mut Cards,
+    bricks: &mut Bricks,
+    g: u8,
+)
     requires held { IsHeld types.now heap.old }
     requires no_contexts { heap.old.rests ≡ no_rests }
     requires tables { AreTablesOf types.now heap.old cards.old bricks.old }
@@ -200,24 +231,18 @@ fn mark_kept(
     requires world { (m : Machine) × IsWorldOf (world_with types.now heap.old locals.now handles.old finals.old) m
         × IsPlaceNamed m }
     requires tables { AreTablesOf types.now heap.old cards.old bricks.now }
-    ensures kept { HasMarkedKept (world_with types.now heap.old locals.now handles.old finals.old) heap.new handles.new
-        finals.new g }
+    ensures kept { HasMarkedKept (world_with types.now heap.old locals.now handles.old finals.old) (BlockingStart g)
+        heap.new handles.new finals.new g }
     ensures marker { marker.new ≡ record marker.old { stack = []; range = None; oldest = g } }
     ensures spare { finals.old.spare ≤ finals.new.spare }
     ensures none_added { finals.new.spare + length finals.new.entries ≤ finals.old.spare + length finals.old.entries }
     ensures tables { AreTablesOf types.now heap.new cards.new bricks.now }
     ensures cards { (i : ℕ) → is_card_set cards.new i ≡ true → is_card_set cards.old i ≡ true }
 {
-    let waiting = finals.ready().len();
     mark_alive(
         types, heap, cards, bricks, marker, contexts, handles, finals, locals, g,
     );
-    judge_entries(types, heap, marker, finals);
-    heap.lawful();
-    clear_short(types, heap, marker, handles);
-    marker.mark_more(heap, types, handles, &finals.ready()[waiting..]);
-    heap.lawful();
-    clear_long_and_dependent(types, heap, marker, handles);
+    leave_kept(types, heap, marker, handles, finals);
 }
 
 // Gives up the contexts, and marks exactly what is alive before finalisation.
@@ -239,7 +264,8 @@ fn mark_alive(
     requires world { (m : Machine) × IsWorldOf (world_with types.now heap.old locals.now handles.now finals.now) m
         × IsPlaceNamed m }
     requires tables { AreTablesOf types.now heap.old cards.old bricks.now }
-    ensures alive { HasMarkedAlive (world_with types.now heap.old locals.now handles.now finals.now) heap.new g }
+    ensures alive { HasMarkedAlive (world_with types.now heap.old locals.now handles.now finals.now) (BlockingStart g)
+        heap.new g }
     ensures gray { IsGray types.now heap.new marker.new }
     ensures marker { marker.new ≡ record marker.old { stack = []; range = None; oldest = g } }
     ensures tables { AreTablesOf types.now heap.new cards.new bricks.now }

@@ -1,13 +1,18 @@
 // What becomes of finalisation entries and of handles whose objects aren't reached.
-ghost use Rattle.std.specs.Prelude.{◌≡◌, ◌+◌, ◌≤◌, length};
+ghost use Rattle.std.specs.Prelude.{◌≡◌, ℕ, ℤ, ◌+◌, ◌≤◌, length, [], None, List};
 ghost use Rattle.clr_types.specs.Maps.{map_values};
 ghost use Rattle.clr_types.specs.declared.handle.Kind.TheVariants.{Dependent, Weak, WeakLong};
 ghost use Rattle.clr_handles.specs.Laws.{cleared};
+ghost use Rattle.clr_covers.specs.Covers.{CoverView};
+ghost use Rattle.clr_heap.specs.View.{HeapView};
 ghost use Rattle.clr_view.specs.Memory.{is_left_name};
 ghost use Rattle.clr_view.specs.SlotValues.{StandsAt};
 ghost use Rattle.clr_view.specs.View.{IsHeld};
 ghost use Rattle.clr_view.specs.World.{HandlesStand};
-ghost use Rattle.clr_collect.specs.Collecting.{AllStand, drops_at, HasUnflagged, HaveBeenJudged, wakes_at};
+ghost use Rattle.clr_generations.specs.Tables.{AreTablesOf};
+ghost use Rattle.clr_mark.specs.Waiting.{IsGray};
+ghost use Rattle.clr_collect.specs.Collecting.{AllStand, drops_at, HasMarkedAlive, HasMarkedKept, HasUnflagged};
+ghost use Rattle.clr_collect.specs.Collecting.{HaveBeenJudged, LeftStart, wakes_at, world_with};
 
 use clr_final::{Finals, Verdict};
 use clr_handles::Handles;
@@ -16,12 +21,45 @@ use clr_mark::Marker;
 use clr_types::Types;
 use clr_view::{is_suppressed, set_suppressed};
 
+// Goes on where what is alive before finalisation is marked, and no more: judges the entries, marks what the woken ones
+// reach, and clears the handles of what isn't reached. Then what a collection keeps is marked, and handles and entries
+// are as it leaves them.
+pub(crate) fn leave_kept(
+    types: &Types,
+    heap: &mut Heap,
+    marker: &mut Marker,
+    handles: &mut Handles,
+    finals: &mut Finals,
+)
+    requires gray { IsGray types.now heap.old marker.old }
+    requires handles { HandlesStand types.now heap.old handles.old }
+    requires entries { AllStand types.now heap.old finals.old.entries }
+    ensures kept { (old : HeapView) (locals : List ℕ)
+        → HasMarkedAlive (world_with types.now old locals handles.old finals.old)
+        (LeftStart types.now heap.old marker.old.oldest) heap.old marker.old.oldest
+        → HasMarkedKept (world_with types.now old locals handles.old finals.old)
+        (LeftStart types.now heap.old marker.old.oldest) heap.new handles.new finals.new marker.old.oldest }
+    ensures marker { marker.new ≡ record marker.old { stack = []; range = None } }
+    ensures spare { finals.old.spare ≤ finals.new.spare }
+    ensures none_added { finals.new.spare + length finals.new.entries ≤ finals.old.spare + length finals.old.entries }
+    ensures tables { (cards : List (CoverView ℕ)) (bricks : List (CoverView ℤ))
+        → AreTablesOf types.now heap.old cards bricks → AreTablesOf types.now heap.new cards bricks }
+{
+    let waiting = finals.ready().len();
+    judge_entries(types, heap, marker, finals);
+    heap.lawful();
+    clear_short(types, heap, marker, handles);
+    marker.mark_more(heap, types, handles, &finals.ready()[waiting..]);
+    heap.lawful();
+    clear_long_and_dependent(types, heap, marker, handles);
+}
+
 // Judges the entries, where what is alive before finalisation is marked: those of objects that are alive stay, others
 // are woken, or dropped where the object's finaliser is suppressed. The headers of the dropped ones' objects then say
 // so no more.
 //
 // An object may have several entries, so all are judged before a flag is cleared.
-pub(crate) fn judge_entries(types: &Types, heap: &mut Heap, marker: &Marker, finals: &mut Finals)
+fn judge_entries(types: &Types, heap: &mut Heap, marker: &Marker, finals: &mut Finals)
     requires held { IsHeld types.now heap.old }
     requires entries { AllStand types.now heap.old finals.old.entries }
     ensures judged { HaveBeenJudged types.now heap.old marker.now.oldest finals.old finals.new }
@@ -77,7 +115,7 @@ fn clear_flags(types: &Types, heap: &mut Heap, marker: &Marker, places: &[u64])
 }
 
 // Clears the short weak handles whose targets aren't left.
-pub(crate) fn clear_short(types: &Types, heap: &Heap, marker: &Marker, handles: &mut Handles)
+fn clear_short(types: &Types, heap: &Heap, marker: &Marker, handles: &mut Handles)
     requires held { IsHeld types.now heap.now }
     requires handles { HandlesStand types.now heap.now handles.old }
     ensures { handles.new ≡ map_values (cleared Weak (is_left_name types.now heap.now marker.now.oldest)) handles.old }
@@ -87,12 +125,7 @@ pub(crate) fn clear_short(types: &Types, heap: &Heap, marker: &Marker, handles: 
 }
 
 // Clears the long weak handles whose targets aren't left, and the dependent ones whose primaries aren't.
-pub(crate) fn clear_long_and_dependent(
-    types: &Types,
-    heap: &Heap,
-    marker: &Marker,
-    handles: &mut Handles,
-)
+fn clear_long_and_dependent(types: &Types, heap: &Heap, marker: &Marker, handles: &mut Handles)
     requires held { IsHeld types.now heap.now }
     requires handles { HandlesStand types.now heap.now handles.old }
     ensures { handles.new ≡ map_values (cleared Dependent (is_left_name types.now heap.now marker.now.oldest))

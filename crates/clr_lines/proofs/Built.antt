@@ -1,5 +1,5 @@
 -- Which commands are obeyed.
-use Rattle.std.proofs.Common.{◌≡◌, false, refl, true}
+use Rattle.std.proofs.Common.{◌≡◌, refl, true}
 use Rattle.clr_model.specs.declared.command.Command.{Command}
 use Rattle.clr_model.specs.declared.command.Command.TheVariants.{Define, New, Get, Set, Put, Read, Copy, Clear}
 use Rattle.clr_model.specs.declared.command.Command.TheVariants.{Suppress, Reregister, Collect, Suspend, Resume}
@@ -9,7 +9,8 @@ use Rattle.clr_model.specs.declared.command.Command.TheVariants.{VerifyHeap, GcH
 use Rattle.clr_model.specs.declared.command.Command.TheVariants.{BackgroundBegin, BackgroundEnd, BackgroundStep}
 use Rattle.clr_model.specs.declared.command.Command.TheVariants.{CompactLarge, NewPinned, ObjSize}
 use Rattle.clr_model.specs.Instructions.{instruction_of}
-use Rattle.clr_lines.specs.CommandKinds.{is_look, is_on_handles, is_on_slots, is_on_threads, is_unbuilt}
+use Rattle.clr_lines.specs.CommandKinds.{is_in_background, is_look, is_on_handles, is_on_heaps, is_on_slots}
+use Rattle.clr_lines.specs.CommandKinds.{is_on_threads}
 use Rattle.clr_lines.specs.Lines.{is_built}
 
 pub slots_built : (command : Command) → is_on_slots command ≡ true → is_built (instruction_of command) ≡ true
@@ -39,6 +40,18 @@ threads_built (BeginNew t local name len) e = refl
 threads_built (Step t) e = refl
 threads_built command e = absurd cc
 
+pub heaps_built : (command : Command) → is_on_heaps command ≡ true → is_built (instruction_of command) ≡ true
+heaps_built (CompactLarge t) e = refl
+heaps_built (NewPinned t local name len) e = refl
+heaps_built command e = absurd cc
+
+pub background_built : (command : Command) → is_in_background command ≡ true
+    → is_built (instruction_of command) ≡ true
+background_built (BackgroundBegin t) e = refl
+background_built (BackgroundStep n) e = refl
+background_built (BackgroundEnd t) e = refl
+background_built command e = absurd cc
+
 pub looks_built : (command : Command) → is_look command ≡ true → is_built (instruction_of command) ≡ true
 looks_built (DumpHeap filter) e = refl
 looks_built (DumpObj a) e = refl
@@ -48,13 +61,5 @@ looks_built VerifyHeap e = refl
 looks_built GcHandles e = refl
 looks_built FinalizeQueue e = refl
 looks_built (GcWhere a) e = refl
+looks_built (ObjSize a) e = refl
 looks_built command e = absurd cc
-
-pub unbuilt : (command : Command) → is_unbuilt command ≡ true → is_built (instruction_of command) ≡ false
-unbuilt (CompactLarge t) e = refl
-unbuilt (NewPinned t local name len) e = refl
-unbuilt (BackgroundBegin t) e = refl
-unbuilt (BackgroundStep n) e = refl
-unbuilt (BackgroundEnd t) e = refl
-unbuilt (ObjSize a) e = refl
-unbuilt command e = absurd cc

@@ -39,15 +39,18 @@ is_on_threads (BeginNew t local name len) = true
 is_on_threads (Step t) = true
 is_on_threads _ = false
 
--- its lines are read and not obeyed
-abbrev pub is_unbuilt : Command → Bool
-is_unbuilt (CompactLarge t) = true
-is_unbuilt (NewPinned t local name len) = true
-is_unbuilt (BackgroundBegin t) = true
-is_unbuilt (BackgroundStep n) = true
-is_unbuilt (BackgroundEnd t) = true
-is_unbuilt (ObjSize a) = true
-is_unbuilt _ = false
+-- the large heap, and the pinned one
+abbrev pub is_on_heaps : Command → Bool
+is_on_heaps (CompactLarge t) = true
+is_on_heaps (NewPinned t local name len) = true
+is_on_heaps _ = false
+
+-- background collections
+abbrev pub is_in_background : Command → Bool
+is_in_background (BackgroundBegin t) = true
+is_in_background (BackgroundStep n) = true
+is_in_background (BackgroundEnd t) = true
+is_in_background _ = false
 
 -- it shows the heap, and changes nothing
 abbrev pub is_look : Command → Bool
@@ -59,4 +62,5 @@ is_look VerifyHeap = true
 is_look GcHandles = true
 is_look FinalizeQueue = true
 is_look (GcWhere a) = true
+is_look (ObjSize a) = true
 is_look _ = false

@@ -1,10 +1,9 @@
 -- Lines of bytes: which instruction one says, and what it does.
-use Rattle.std.specs.Prelude.{◌≡◌, ℕ, ◌<◌, ◌≤◌, List, length, Bool, true, false, not}
+use Rattle.std.specs.Prelude.{◌≡◌, ℕ, ◌<◌, ◌≤◌, List, length, Bool, true, not}
 use Rattle.clr_model.specs.declared.Refusal.TheVariants as refusal
 use Rattle.clr_model.specs.Machine.{Machine}
 use Rattle.clr_model.specs.Collection.{is_fit}
-use Rattle.clr_model.specs.Instructions.{Instruction, begin_background, collect_heap, compact_large_once}
-use Rattle.clr_model.specs.Instructions.{end_background, new_pinned, show_size, step_background}
+use Rattle.clr_model.specs.Instructions.{Instruction, collect_heap}
 use Rattle.clr_model.specs.LineGrammar.{IsLine}
 use Rattle.clr_model.specs.Outcomes.{Outcome, refused}
 use Rattle.clr_model.specs.Run.{StandsFor}
@@ -13,12 +12,6 @@ use Rattle.clr_model.specs.Step.{Obeys}
 -- Whether a line of this instruction is obeyed. The others are lines of the grammar that are refused for their syntax.
 abbrev pub is_built : Instruction → Bool
 is_built (collect_heap t g how) = not (is_fit how)
-is_built (compact_large_once t) = false
-is_built (new_pinned t local name len) = false
-is_built (begin_background t) = false
-is_built (step_background n) = false
-is_built (end_background t) = false
-is_built (show_size a) = false
 is_built _ = true
 
 -- the bytes are the line of this instruction, which is obeyed

@@ -6,6 +6,7 @@ use Rattle.clr_model.specs.declared.Refusal.{Refusal}
 use Rattle.clr_model.specs.declared.Refusal.TheVariants as refusal
 use Rattle.clr_model.specs.declared.Reply.TheVariants as reply
 use Rattle.clr_model.specs.declared.Where.{Where}
+use Rattle.clr_objsize.specs.declared.sizes.Total.{Total}
 use Rattle.clr_script.specs.ReplyLines.{IsShowable}
 use Rattle.clr_sos.specs.declared.fault.SosFault.{SosFault}
 use Rattle.clr_sos.specs.declared.fault.SosFault.TheVariants as fault
@@ -44,3 +45,8 @@ text_outcome (Err none) = model.refused refusal.NoMemory
 abbrev pub where_outcome : Option Where → model.Outcome
 where_outcome None = model.refused refusal.NoObject
 where_outcome (Some place) = model.answered (reply.Where place)
+
+-- what a command tells that counts what the object at the place holds
+abbrev pub size_outcome : ℕ → Result Total SosFault → model.Outcome
+size_outcome a (Ok total) = model.answered (reply.Size a total.objects total.bytes)
+size_outcome a (Err fault) = model.refused (refusal_of fault)

@@ -1,12 +1,13 @@
 //! What a line of bytes does: it is read, and its command is obeyed.
-ghost use Rattle.std.specs.Prelude.{◌≡◌, ◌+◌, ◌^◌, ◌≤◌, length, true};
+ghost use Rattle.std.specs.Prelude.{◌≡◌, ◌+◌, ◌^◌, ◌≤◌, length};
 ghost use Rattle.clr_model.specs.Collection as collection;
-ghost use Rattle.clr_lines.specs.CommandKinds.{is_unbuilt};
 ghost use Rattle.clr_lines.specs.Lines.{FollowsLine};
 ghost use Rattle.clr_script.specs.Readings.{IsReadAs};
 ghost use Rattle.clr_lines.specs.Outcomes.{outcome_of, CanShow};
 
+use crate::background::obey_background;
 use crate::handles::obey_handle;
+use crate::heaps::obey_heap;
 use crate::looks::obey_look;
 use crate::outcome::{Outcome, told_collected, told_mt, told_place};
 use crate::slots::obey_slot;
@@ -93,18 +94,17 @@ fn obey(runtime: &mut Runtime, alloc: Global, line: &[u8], command: Command<'_>)
         | Command::VerifyHeap
         | Command::GcHandles
         | Command::FinalizeQueue
-        | Command::GcWhere { .. } => obey_look(runtime, alloc, command),
+        | Command::GcWhere { .. }
+        | Command::ObjSize { .. } => obey_look(runtime, alloc, command),
         Command::Suspend { .. }
         | Command::Resume { .. }
         | Command::BeginSet { .. }
         | Command::BeginNew { .. }
         | Command::Step { .. } => obey_thread(runtime, command),
-        Command::CompactLarge { .. }
-        | Command::NewPinned { .. }
-        | Command::BackgroundBegin { .. }
+        Command::CompactLarge { .. } | Command::NewPinned { .. } => obey_heap(runtime, command),
+        Command::BackgroundBegin { .. }
         | Command::BackgroundStep { .. }
-        | Command::BackgroundEnd { .. }
-        | Command::ObjSize { .. } => refuse_unbuilt(runtime, line, command),
+        | Command::BackgroundEnd { .. } => obey_background(runtime, command),
     }
 }
 
@@ -116,16 +116,4 @@ fn is_fit(how: How) -> bool
         How::Fit => true,
         How::Decide | How::Compact | How::Sweep => false,
     }
-}
-
-// Refuses a line that is read and not obeyed.
-#[inline(never)]
-fn refuse_unbuilt(_runtime: &Runtime, _line: &[u8], _command: Command<'_>) -> Outcome
-    requires short { length _line.now ≤ 4096 }
-    requires read { IsReadAs _line.now _command }
-    requires unbuilt { is_unbuilt _command ≡ true }
-    ensures follows { FollowsLine _runtime.now.machine _line.now (outcome_of result) _runtime.now.machine }
-    ensures shows { CanShow result }
-{
-    Outcome::Refused(Refusal::Syntax)
 }

@@ -2,9 +2,11 @@
 //! shows, and its outcome is told.
 #![tactic(auto)]
 
+mod background;
 pub mod execute;
 mod front;
 mod handles;
+mod heaps;
 mod looks;
 mod outcome;
 mod slots;

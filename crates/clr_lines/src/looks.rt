@@ -7,8 +7,9 @@ ghost use Rattle.clr_sos.specs.Views.{IsLawfulView, IsViewOf};
 ghost use Rattle.clr_lines.specs.CommandKinds.{is_look};
 ghost use Rattle.clr_lines.specs.Outcomes.{outcome_of, CanShow};
 
-use crate::outcome::{Outcome, told_found, told_text, told_where};
+use crate::outcome::{Outcome, told_found, told_size, told_text, told_where};
 use clr_model::{Command, Reply};
+use clr_objsize::objsize;
 use clr_runtime::Runtime;
 use clr_sos::{
     View, clean_states_are_lawful, dumpheap, dumpobj, eeheap, finalizequeue, gchandles, gcroot,
@@ -35,6 +36,7 @@ pub fn obey_look(runtime: &Runtime, alloc: Global, command: Command<'_>) -> Outc
         Command::GcHandles => told_text(gchandles(alloc, &view)),
         Command::FinalizeQueue => told_text(finalizequeue(alloc, &view)),
         Command::GcWhere { a } => told_where(gcwhere(&view, a)),
+        Command::ObjSize { a } => told_size(a, objsize(alloc, &view, a)),
         _ => unreachable!(),
     }
 }

@@ -1,12 +1,14 @@
 //! What a line is answered.
 ghost use Rattle.std.specs.Prelude.{◌≡◌, ◌≤◌, IfSome};
 ghost use Rattle.clr_runtime.specs.Outcomes.{collected_outcome, done_outcome, handle_outcome, mt_outcome};
-ghost use Rattle.clr_runtime.specs.Outcomes.{number_outcome, place_outcome};
+ghost use Rattle.clr_runtime.specs.Outcomes.{number_outcome, place_outcome, scanned_outcome};
 ghost use Rattle.clr_runtime.specs.Steps.{step_outcome};
-ghost use Rattle.clr_lines.specs.Outcomes.{found_outcome, outcome_of, refusal_of, text_outcome, where_outcome, CanShow};
+ghost use Rattle.clr_lines.specs.Outcomes.{found_outcome, outcome_of, refusal_of, size_outcome, text_outcome};
+ghost use Rattle.clr_lines.specs.Outcomes.{where_outcome, CanShow};
 
 use clr_model::{Collected, Refusal, Reply, Where};
-use clr_runtime::NoMemory;
+use clr_objsize::Total;
+use clr_runtime::{NoMemory, Progress};
 use clr_sos::SosFault;
 
 /// What a line is answered.
@@ -72,6 +74,17 @@ pub fn told_collected(told: Result<Collected, Refusal>) -> Outcome
     }
 }
 
+/// The outcome of a call that scans gray objects.
+pub fn told_scanned(told: Result<Progress, Refusal>) -> Outcome
+    ensures is { outcome_of result ≡ scanned_outcome told }
+    ensures shows { CanShow result }
+{
+    match told {
+        Ok(Progress { scanned, gray }) => Outcome::Reply(Reply::Scanned { scanned, gray }),
+        Err(refusal) => Outcome::Refused(refusal),
+    }
+}
+
 /// The outcome of a call that gives nothing.
 pub fn told_done(told: Result<(), Refusal>) -> Outcome
     ensures is { outcome_of result ≡ done_outcome told }
@@ -114,6 +127,21 @@ pub fn told_where(told: Option<Where>) -> Outcome
     match told {
         Some(place) => Outcome::Reply(Reply::Where(place)),
         None => Outcome::Refused(Refusal::NoObject),
+    }
+}
+
+/// The outcome of a command that counts what the object at the place `a` holds.
+pub fn told_size(a: u64, told: Result<Total, SosFault>) -> Outcome
+    ensures is { outcome_of result ≡ size_outcome a told }
+    ensures shows { CanShow result }
+{
+    match told {
+        Ok(total) => Outcome::Reply(Reply::Size {
+            place: a,
+            objects: total.objects,
+            bytes: total.bytes,
+        }),
+        Err(fault) => Outcome::Refused(refusal_of(fault)),
     }
 }
 

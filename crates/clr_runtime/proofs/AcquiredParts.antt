@@ -1,11 +1,12 @@
--- A new large segment: what still holds of the parts of a runtime.
+-- A new segment beside the small heap: what still holds of the parts of a runtime.
 use Rattle.std.proofs.Common.{◌≡◌, ◌∙◌, ℕ, ◌+◌, ◌/◌, ◌<◌, ◌↔◌, inl, inr, Bool, true, false, nat_le, List, refl, ap, sym}
 use Rattle.std.proofs.Common.{subst}
 use Rattle.std.proofs.Common.{Result, Ok, Err, ℤ}
 use Rattle.std.specs.Prelude.{OnErr, OnOk}
 use Rattle.std.proofs.lemmas.Bool.{leb-false}
 use Rattle.clr_types.specs.Segments.{reserved_sum}
-use Rattle.clr_types.specs.declared.segment.SegKind.TheVariants.{Large}
+use Rattle.clr_types.specs.declared.segment.SegKind.{SegKind}
+use Rattle.clr_types.specs.declared.segment.SegKind.TheVariants.{Ephemeral, Large, Pinned, Small}
 use Rattle.clr_covers.specs.Covers.{CoverView}
 use Rattle.clr_heap.specs.View.{acquired, frame, HeapView}
 use Rattle.clr_heap.specs.declared.heap.segments.AcquireFault.{AcquireFault}
@@ -19,17 +20,25 @@ use Rattle.clr_generations.specs.Laws.{BrickLaw, NamesNoMore}
 use Rattle.clr_generations.specs.Tables.{AreBricksOf, AreCardsOf, AreTablesBy}
 use Rattle.clr_large.proofs.AcquiredKind.{tables_with}
 use Rattle.clr_ctx.specs.Contexts.{young_items}
-use Rattle.clr_large.specs.Places.{kind_items}
+use Rattle.clr_large.specs.Places.{IsOldKind, kind_items}
 use Rattle.clr_large.proofs.KindKept.{young_with_segment}
 use Rattle.clr_model.specs.Allocation.{allows, segment_for, with_segment}
 use Rattle.clr_model.specs.Lawful.{IsPlaceNamed}
 use Rattle.clr_model.specs.Machine.{Object}
-use Rattle.clr_model.proofs.SegmentAdded.{acquired_lawful}
+use Rattle.clr_model.proofs.KindAdded.{acquired_lawful}
 use Rattle.clr_safe.specs.Threads.{steps_of}
-use Rattle.clr_runtime.specs.LargeRooms.{with_large_segment}
+use Rattle.clr_runtime.specs.Segments.{with_segment_for}
 use Rattle.clr_runtime.specs.RuntimeView.{IsBegunStore, IsRuntime, IsToldBy, seen}
 use Rattle.clr_runtime.specs.declared.parts.Parts.{Parts}
 use Rattle.clr_runtime.proofs.IndexKept.{index_kept}
+use Rattle.clr_runtime.proofs.MarkedKept.{same_marked}
+
+-- a new segment leaves the limit
+limit-acquired : (h : HeapView) (kind : SegKind) (size : ℕ) → (acquired h kind size).limit ≡ h.limit
+limit-acquired h Small size = refl
+limit-acquired h Ephemeral size = refl
+limit-acquired h Large size = refl
+limit-acquired h Pinned size = refl
 
 -- a segment was acquired
 abbrev acquired_one : Result (Unit {0}) AcquireFault
@@ -46,21 +55,21 @@ may-reserve total limit told = go (nat_le total limit) refl
     go true e = e
     go false e = absurd (other (told.1 (leb-false total limit e)))
 
-module _ (p : Parts) (is : IsRuntime p) (size : ℕ) (new : HeapView)
+module _ (group : SegKind) (old : IsOldKind group) (p : Parts) (is : IsRuntime p) (size : ℕ) (new : HeapView)
     (objects : objects_in p.types new ≡ objects_in p.types p.heap) where
   -- the bytes that the new segment reserves
   abbrev reserved : ℕ
   reserved = segment_for (seen p) size
 
   -- what is seen is lawful with it
-  acquired-sound : layout_in p.types new ≡ with_segment (layout_in p.types p.heap) Large (segment_for (seen p) size)
+  acquired-sound : layout_in p.types new ≡ with_segment (layout_in p.types p.heap) group (segment_for (seen p) size)
       → allows (seen p) (segment_for (seen p) size) ≡ true → IsPlaceNamed (seen (record p { heap = new }))
   acquired-sound layout may =
-      let shown : seen (record p { heap = new }) ≡ with_large_segment (seen p) size =
+      let shown : seen (record p { heap = new }) ≡ with_segment_for group (seen p) size =
       λ k. record (seen p) { objects = objects k; layout = layout k } in
       subst IsPlaceNamed (sym shown)
       (record {
-        lawful = acquired_lawful (seen p) is.shown.sound.lawful size may;
+        lawful = acquired_lawful group old (seen p) is.shown.sound.lawful size may;
         places = is.shown.sound.places;
         uncounted = is.shown.sound.uncounted;
       })
@@ -92,12 +101,13 @@ module _ (p : Parts) (is : IsRuntime p) (size : ℕ) (new : HeapView)
   -- what holds of the parts of a runtime still holds, whether there is a new segment or not
   pub acquired_kept : (cards : List (CoverView ℕ)) (bricks : List (CoverView ℤ))
       (result : Result (Unit {0}) AcquireFault)
-      → OnOk result (new ≡ acquired p.heap Large (segment_for (seen p) size))
+      → OnOk result (new ≡ acquired p.heap group (segment_for (seen p) size))
       → OnOk result (layout_in p.types new
-      ≡ with_segment (layout_in p.types p.heap) Large (segment_for (seen p) size))
+      ≡ with_segment (layout_in p.types p.heap) group (segment_for (seen p) size))
       → OnErr result (new ≡ p.heap)
       → ((result ≡ Err OverLimit) ↔ (p.heap.limit < reserved_sum (frame p.heap) + segment_for (seen p) size))
-      → kind_items Large (layout_in p.types new) ≡ kind_items Large (layout_in p.types p.heap) → IsHeld p.types new
+      → ((other : SegKind) → kind_items other (layout_in p.types new) ≡ kind_items other (layout_in p.types p.heap))
+      → IsHeld p.types new
       → (IsUnmarked p.types p.heap → IsUnmarked p.types new)
       → (AreFreeHeads p.types p.heap → AreFreeHeads p.types new) → (AreClean p.types p.heap → AreClean p.types new)
       → AreTablesBy p.types new cards bricks (IsToldBy p.types new cards p.safe)
@@ -112,14 +122,16 @@ module _ (p : Parts) (is : IsRuntime p) (size : ℕ) (new : HeapView)
       sound = acquired-sound layout
           (may-reserve (reserved_sum (frame p.heap) + reserved) p.options.limit
           (subst (λ n. (acquired_one ≡ Err OverLimit) ↔ (n < reserved_sum (frame p.heap) + reserved)) is.limit told));
+      marked = same_marked (seen p) (seen (record p { heap = new })) objects refl refl p.background is.shown.marked;
     };
     tables = tables;
     owed = is.owed;
     finalizers = is.finalizers;
     index = index_kept young_items p.types p.types p.heap new p.contexts
-        (ap young_items layout ∙ young_with_segment Large refl (layout_in p.types p.heap) reserved) is.index;
-    large = index_kept (kind_items Large) p.types p.types p.heap new p.large items is.large;
-    limit = ap (λ (h : HeapView). h.limit) words ∙ is.limit;
+        (ap young_items layout ∙ young_with_segment group old (layout_in p.types p.heap) reserved) is.index;
+    large = index_kept (kind_items Large) p.types p.types p.heap new p.large (items Large) is.large;
+    pinned = index_kept (kind_items Pinned) p.types p.types p.heap new p.pinned (items Pinned) is.pinned;
+    limit = ap (λ (h : HeapView). h.limit) words ∙ limit-acquired p.heap group reserved ∙ is.limit;
     pins = is.pins;
     room = is.room;
   }
@@ -133,6 +145,7 @@ module _ (p : Parts) (is : IsRuntime p) (size : ℕ) (new : HeapView)
         finalizers = before.finalizers;
         index = before.index;
         large = before.large;
+        pinned = before.pinned;
         limit = before.limit;
         pins = before.pins;
         room = before.room;

@@ -27,8 +27,8 @@ use Rattle.clr_runtime.specs.Checks.{thread_refusal}
 use Rattle.clr_runtime.specs.Options.{options_of}
 use Rattle.clr_runtime.specs.Outcomes.{refusal_of_room}
 use Rattle.clr_runtime.specs.Rooms.{attempt_of}
-use Rattle.clr_runtime.specs.RuntimeView.{IsRuntime, IsShown, IsToldBy, seen, sums_of, world_of}
-use Rattle.clr_runtime.specs.Shown.{shown}
+use Rattle.clr_runtime.specs.RuntimeView.{ahead_of, IsRuntime, IsShown, IsToldBy, seen, sums_of, world_of}
+use Rattle.clr_runtime.specs.Shown.{Ahead, shown}
 use Rattle.clr_runtime.specs.declared.births.Request.{Request}
 use Rattle.clr_runtime.specs.declared.parts.Parts.{Parts}
 use Rattle.clr_runtime.specs.declared.rooms.NoRoom.{NoRoom}
@@ -39,16 +39,18 @@ use Rattle.clr_runtime.proofs.BirthDone.{HasItsRoom}
 use Rattle.clr_runtime.proofs.BirthLines.{fails-so, may_bear}
 use Rattle.clr_runtime.proofs.NamesChecked.{may_run}
 use Rattle.clr_runtime.proofs.RuntimeKept.{room_follows}
-use Rattle.clr_runtime.proofs.StepsBegun.{begun-shown, begun-within, finalizers-begun, idle-no_store, threads_kept}
+use Rattle.clr_runtime.proofs.StepsBegun.{begun-shown, begun-within, finalizers-begun, idle-no_store, stores-begun}
+use Rattle.clr_runtime.proofs.StepsBegun.{threads_kept}
 use Rattle.clr_runtime.proofs.StepsBegun.{told-begun, with_begun}
 use Rattle.clr_runtime.proofs.StepsKept.{tables-by}
 
 -- ---- the checks
 
-module _ {w : World} {sums : Sums} {options : Options} {threads : Threads} (is : IsShown w sums options threads)
+module _ {w : World} {sums : Sums} {options : Options} {threads : Threads} {ahead : Ahead}
+    (is : IsShown w sums options threads ahead)
     (t local : ℕ) (name : List ℕ) (len : Option ℕ) where
   abbrev s : Machine
-  s = shown w sums options threads
+  s = shown w sums options threads ahead
 
   module _ (passed : thread_refusal s t ≡ None) where
     run : MayRun s t
@@ -80,7 +82,7 @@ module _ {w : World} {sums : Sums} {options : Options} {threads : Threads} (is :
         -- there is no memory for the finalisation entry that the type wants
         pub begin_lacks : (entries ready : List ℕ) → entries ≡ w.entries → ready ≡ w.ready → request.finalizer ≡ true
             → Follows s (begin_new t local name len) (refused NoMemory)
-            (shown (record w { entries = entries; ready = ready }) sums options threads)
+            (shown (record w { entries = entries; ready = ready }) sums options threads ahead)
         begin_lacks entries ready kept waiting final =
             room_follows is entries ready kept waiting (begin_new t local name len) (refused NoMemory)
             (begin_follows_memory s t local name len request.type_id.0
@@ -117,7 +119,7 @@ module _ (p : Parts) (t local : ℕ) (type : TypeId) (len : ℕ) (finalizer : Bo
         (seen (record p { safe = with_begun p.safe t (Birth type len local finalizer) }))
     birth-begun =
         subst (Follows old (begin_new t local name given) (answered Done))
-        (begun-shown (world_of p) (sums_of p.sums) (options_of p.options) p.safe t what)
+        (begun-shown (world_of p) (sums_of p.sums) (options_of p.options) p.safe (ahead_of p) t what)
         (subst (λ n. Follows old (begin_new t local name given) (answered Done)
         (with_step (seen p) t (begun_new type.0 n local))) (sym len_is)
         (begin_follows_room old t local name given type.0 has.may (seen p)
@@ -138,6 +140,7 @@ module _ (p : Parts) (t local : ℕ) (type : TypeId) (len : ℕ) (finalizer : Bo
         subst (λ (threads : Threads). IsRuntime (record p { safe = threads })) (sym same)
         (record {
           shown = threads_kept is.shown (with_begun p.safe t what)
+              (stores-begun p.safe t what (idle-no_store p.safe t idle))
               (follows_sound old (begin_new t local name given) (answered Done) _ has.sound birth-begun);
           tables = tables-by p.types p.heap p.cards p.bricks (IsToldBy p.types p.heap p.cards p.safe)
               (IsToldBy p.types p.heap p.cards (with_begun p.safe t what))
@@ -147,6 +150,7 @@ module _ (p : Parts) (t local : ℕ) (type : TypeId) (len : ℕ) (finalizer : Bo
           finalizers = finalizers-begun p.types p.safe t what is.finalizers final;
           index = is.index;
           large = is.large;
+          pinned = is.pinned;
           limit = is.limit;
           pins = is.pins;
           room = is.room;

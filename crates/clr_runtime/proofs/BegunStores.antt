@@ -37,7 +37,7 @@ use Rattle.clr_generations.proofs.BarrierLaw.{slot_card-covered, younger-stored}
 use Rattle.clr_generations.proofs.KeptTables.{tables-referred}
 use Rattle.clr_runtime.specs.Checks.{names_refusal}
 use Rattle.clr_runtime.specs.RuntimeView.{IsBegunStore, IsShown, IsToldBy}
-use Rattle.clr_runtime.specs.Shown.{shown}
+use Rattle.clr_runtime.specs.Shown.{Ahead, shown}
 use Rattle.clr_runtime.specs.Slots.{HasItsSlot}
 use Rattle.clr_runtime.proofs.BeginSetLines.{begin_set_done, begin_set_of}
 use Rattle.clr_runtime.proofs.SlotLines.{kind-held, on, stored-shown}
@@ -50,28 +50,30 @@ use Rattle.clr_runtime.proofs.StepsSeen.{step-seen}
 -- ---- the store
 
 -- the slot takes the value, and the thread is in mid-step
-pub store_begun : (w : World) (sums : Sums) (options : Options) (threads : Threads) (t place index : ℕ) (i : Item)
+pub store_begun : (w : World) (sums : Sums) (options : Options) (threads : Threads) (ahead : Ahead) (t place index : ℕ)
+    (i : Item)
     (slot : Slot) (has : HasItsSlot w.rows w.heap place index i slot) (new : HeapView) (into from v : ℕ)
-    → names_refusal (shown w sums options threads) t (into ∷ from ∷ []) ≡ None
-    → place ≡ local_of (shown w sums options threads) t into → v ≡ local_of (shown w sums options threads) t from
+    → names_refusal (shown w sums options threads ahead) t (into ∷ from ∷ []) ≡ None
+    → place ≡ local_of (shown w sums options threads ahead) t into → v
+    ≡ local_of (shown w sums options threads ahead) t from
     → slot.reference ≡ true → HasStored w.rows w.heap new i.place index (word_value slot.reference v)
-    → Follows (shown w sums options threads) (begin_set t into index from) (answered Done)
-    (shown (record w { heap = new }) sums options (with_begun threads t (Store place index)))
-store_begun w sums options threads t place index i slot has new into from v passed at is kind stored =
-    let s = shown w sums options threads in
-    let (name, held) = kind-held w sums options threads t place index i slot has true kind in
+    → Follows (shown w sums options threads ahead) (begin_set t into index from) (answered Done)
+    (shown (record w { heap = new }) sums options (with_begun threads t (Store place index)) ahead)
+store_begun w sums options threads ahead t place index i slot has new into from v passed at is kind stored =
+    let s = shown w sums options threads ahead in
+    let (name, held) = kind-held w sums options threads ahead t place index i slot has true kind in
     let after : with_step (with_slot s (local_of s t into) index (ref (local_of s t from))) t
     (begun_store (local_of s t into) index)
-    ≡ shown (record w { heap = new }) sums options (with_begun threads t (Store place index)) =
+    ≡ shown (record w { heap = new }) sums options (with_begun threads t (Store place index)) ahead =
     (λ k. with_step (with_slot s (local_of s t into) index (ref (sym is k))) t (begun_store (sym at k) index))
     ∙ ap (λ (m : Machine). with_step m t (begun_store place index))
-    (stored-shown w sums options threads t place index i slot has new (local_of s t into) v true
+    (stored-shown w sums options threads ahead t place index i slot has new (local_of s t into) v true
     (has.object.at ∙ at) kind
     stored)
-    ∙ begun-shown (record w { heap = new }) sums options threads t (Store place index) in
+    ∙ begun-shown (record w { heap = new }) sums options threads ahead t (Store place index) in
     subst (Follows s (begin_set t into index from) (answered Done)) after
     (begin_set_done s t into index from (object_in w.rows (word_of w.heap) i)
-    (on w sums options threads t place index i slot has (begin_set_of t into index from) passed at) name held)
+    (on w sums options threads ahead t place index i slot has (begin_set_of t into index from) passed at) name held)
 
 -- A reference to a younger object that is new is told by the begun store, and all others by what told them before.
 module _ (cards : List (CoverView ℕ)) (threads : Threads) (bricks : List (CoverView ℤ)) (rows : List TypeRow)
@@ -120,14 +122,15 @@ module _ (cards : List (CoverView ℕ)) (threads : Threads) (bricks : List (Cove
 
 -- ---- its card
 
-module _ {w : World} {sums : Sums} {options : Options} {threads : Threads} (is : IsShown w sums options threads)
+module _ {w : World} {sums : Sums} {options : Options} {threads : Threads} {ahead : Ahead}
+    (is : IsShown w sums options threads ahead)
     (t object index : ℕ) (begun : begun_by threads t ≡ Store object index) where
   abbrev s : Machine
-  s = shown w sums options threads
+  s = shown w sums options threads ahead
 
   -- what is begun is seen
   pub store-step : step_of s t ≡ begun_store object index
-  store-step = step-seen w sums options threads t ∙ ap step_by begun
+  store-step = step-seen w sums options threads ahead t ∙ ap step_by begun
 
   there : StepIsPresent s (begun_store object index)
   there = subst (StepIsPresent s) store-step (step-present s is.sound.lawful t)

@@ -1,12 +1,12 @@
 -- What a line that makes an object leaves, on what a runtime shows once room was made.
-use Rattle.std.proofs.Common.{◌≡◌, ◌∙◌, ℕ, ◌+◌, true, List, sym, ap, subst, Option, unwrap_or, slice_set}
+use Rattle.std.proofs.Common.{◌≡◌, ◌∙◌, ℕ, ◌+◌, true, List, sym, ap, subst, Option, unwrap_or, slice_set, refl}
 use Rattle.clr_types.specs.Types.{TypeRow}
-use Rattle.clr_types.proofs.ChangedLists.{length-slice_set}
+use Rattle.clr_types.proofs.ChangedLists.{append_left, length-slice_set}
 use Rattle.clr_heap.specs.View.{frame, HeapView}
 use Rattle.clr_view.specs.Clean.{AreClean}
 use Rattle.clr_view.specs.Marks.{IsUnmarked}
 use Rattle.clr_safe.specs.Threads.{Threads}
-use Rattle.clr_runtime.specs.Shown.{shown}
+use Rattle.clr_runtime.specs.Shown.{Ahead, shown}
 use Rattle.clr_view.specs.View.{AreFreeHeads, HasNewborn}
 use Rattle.clr_view.specs.World.{World}
 use Rattle.clr_model.specs.declared.Reply.TheVariants.{Place}
@@ -14,7 +14,7 @@ use Rattle.clr_model.specs.Allocation.{context_front, own_fits, roomed}
 use Rattle.clr_model.specs.Instructions.{new_object}
 use Rattle.clr_model.specs.Lawful.{IsPlaceNamed}
 use Rattle.clr_model.specs.Lookups.{local_index}
-use Rattle.clr_model.specs.Machine.{Machine, Options, Sums}
+use Rattle.clr_model.specs.Machine.{Machine, Object, Options, Sums}
 use Rattle.clr_model.specs.Outcomes.{answered}
 use Rattle.clr_model.specs.RoomFollows.{FollowsRoom}
 use Rattle.clr_model.specs.Run.{Follows}
@@ -24,6 +24,10 @@ use Rattle.clr_model.proofs.RoomFollows.{new_follows_room}
 use Rattle.clr_model.proofs.SeenStands.{follows_sound}
 use Rattle.clr_runtime.specs.Births.{measure_of}
 use Rattle.clr_runtime.specs.RuntimeView.{IsShown}
+use Rattle.clr_types.specs.Rising.{IsIn}
+use Rattle.clr_types.proofs.SortedLists.{into_sorted_by}
+use Rattle.clr_runtime.specs.Marked.{marking_by}
+use Rattle.clr_runtime.proofs.MarkedKept.{running_marking, stays_marked, still_taken}
 
 -- the sums with so many bytes more
 abbrev pub spent_more : Sums → ℕ → Sums
@@ -38,12 +42,12 @@ pub record HasItsRoom (old new : Machine) (t local : ℕ) (name : List ℕ) (len
   pub room : FollowsRoom old t size roomed new
   pub fits : own_fits new.layout t size ≡ true
 
-module _ (old : Machine) {w : World} {sums : Sums} {options : Options} {threads : Threads}
-    (is : IsShown w sums options threads) (t local : ℕ)
+module _ (old : Machine) {w : World} {sums : Sums} {options : Options} {threads : Threads} {ahead : Ahead}
+    (is : IsShown w sums options threads ahead) (t local : ℕ)
     (name : List ℕ) (len : Option ℕ) (type size : ℕ)
-    (has : HasItsRoom old (shown w sums options threads) t local name len type size) where
+    (has : HasItsRoom old (shown w sums options threads ahead) t local name len type size) where
   abbrev s : Machine
-  s = shown w sums options threads
+  s = shown w sums options threads ahead
 
   abbrev rows : List TypeRow
   rows = w.rows
@@ -65,13 +69,14 @@ module _ (old : Machine) {w : World} {sums : Sums} {options : Options} {threads 
   module _ (new : HeapView) (place j : ℕ) (entries ready : List ℕ)
       (newborn : HasNewborn rows h new t type (unwrap_or len 0)) (at : place ≡ context_front (frame h) t)
       (index : j ≡ local_index t local)
-      (registered : entries ≡ born_entries (shown w sums options threads) type place) (waiting : ready ≡ w.ready) where
+      (registered : entries ≡ born_entries (shown w sums options threads ahead) type place)
+      (waiting : ready ≡ w.ready) where
     -- the world with the object
     abbrev born_world : World
     born_world = record w { heap = new; locals = slice_set w.locals j place; entries = entries; ready = ready }
 
     abbrev after : Machine
-    after = shown born_world (spent_more sums size) options threads
+    after = shown born_world (spent_more sums size) options threads ahead
 
     -- what is seen with the object
     born-shown : seen_at_front s t local type n ≡ after
@@ -90,7 +95,7 @@ module _ (old : Machine) {w : World} {sums : Sums} {options : Options} {threads 
     -- the object is born
     pub made_follows : Follows old (new_object t local name len) (answered (Place place))
         (shown (record w { heap = new; locals = slice_set w.locals j place; entries = entries; ready = ready })
-        (spent_more sums size) options threads)
+        (spent_more sums size) options threads ahead)
     made_follows =
         subst (λ p. Follows old (new_object t local name len) (answered (Place p)) after) (sym at)
         (subst (Follows old (new_object t local name len) (answered (Place (context_front (frame h) t)))) born-shown
@@ -102,7 +107,7 @@ module _ (old : Machine) {w : World} {sums : Sums} {options : Options} {threads 
     pub birth_kept : (IsUnmarked rows h → IsUnmarked rows new) → (AreFreeHeads rows h → AreFreeHeads rows new)
         → (AreClean rows h → AreClean rows new)
         → IsShown (record w { heap = new; locals = slice_set w.locals j place; entries = entries; ready = ready })
-        (spent_more sums size) options threads
+        (spent_more sums size) options threads ahead
     birth_kept unmarked heads clean = record {
       locals = length-slice_set w.locals j place ∙ is.locals;
       held = newborn.held;
@@ -110,4 +115,16 @@ module _ (old : Machine) {w : World} {sums : Sums} {options : Options} {threads 
       free_heads = heads is.free_heads;
       clean = clean is.clean;
       sound = follows_sound old (new_object t local name len) (answered (Place place)) after has.sound made_follows;
+      marked = λ running.
+          stays_marked s after ahead.background
+          (record {
+            objects = still_taken s after (marking_by ahead.background.shades) is.sound.lawful.marking
+                (running_marking ahead.background running)
+                (follows_sound old (new_object t local name len)
+                (answered (Place place)) after has.sound made_follows).lawful
+                (λ o here. subst (IsIn o) (sym newborn.objects)
+                (into_sorted_by (λ (o : Object). o.name) o _ (append_left _ here)));
+            forms = λ o here. refl;
+            stores = λ name slot j. j;
+          }) (is.marked running);
     }

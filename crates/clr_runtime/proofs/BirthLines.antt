@@ -8,7 +8,7 @@ use Rattle.clr_types.specs.Types.{TypeRow, form_at, has_finalizer, is_array, typ
 use Rattle.clr_types.proofs.TailTaken.{size-lawful}
 use Rattle.clr_heap.specs.Parts.{IsMakeable}
 use Rattle.clr_safe.specs.Threads.{Threads}
-use Rattle.clr_runtime.specs.Shown.{shown}
+use Rattle.clr_runtime.specs.Shown.{Ahead, shown}
 use Rattle.clr_view.specs.World.{World}
 use Rattle.clr_heap.specs.declared.heap.segments.AcquireFault.TheVariants.{NoMemory, OverLimit}
 use Rattle.clr_model.specs.declared.Refusal.{Refusal}
@@ -89,10 +89,11 @@ module _ (rows : List TypeRow) (local : ℕ) (name : List ℕ) (len : Option ℕ
 
 -- ---- the checks
 
-module _ {w : World} {sums : Sums} {options : Options} {threads : Threads} (is : IsShown w sums options threads)
+module _ {w : World} {sums : Sums} {options : Options} {threads : Threads} {ahead : Ahead}
+    (is : IsShown w sums options threads ahead)
     (t local : ℕ) (name : List ℕ) (len : Option ℕ) where
   abbrev s : Machine
-  s = shown w sums options threads
+  s = shown w sums options threads ahead
 
   abbrev rows : List TypeRow
   rows = w.rows
@@ -151,7 +152,7 @@ module _ {w : World} {sums : Sums} {options : Options} {threads : Threads} (is :
       pub lacks_follows : (entries ready : List ℕ) → entries ≡ w.entries → ready ≡ w.ready
           → request.finalizer ≡ true
           → Follows s (new_object t local name len) (refused refusal.NoMemory)
-          (shown (record w { entries = entries; ready = ready }) sums options threads)
+          (shown (record w { entries = entries; ready = ready }) sums options threads ahead)
       lacks_follows entries ready kept waiting final =
           room_follows is entries ready kept waiting (new_object t local name len) (refused refusal.NoMemory)
           (lacks-entry (sym measured.entry ∙ final))
@@ -159,8 +160,8 @@ module _ {w : World} {sums : Sums} {options : Options} {threads : Threads} (is :
       -- no room was made, and what was done for it stays
       pub fails_follows : request.size < options.large → (new : Machine) (why : NoRoom) (r : Refusal)
           → r ≡ refusal_of_room why
-          → FollowsRoom (shown w sums options threads) t request.size (attempt_of (Err why)) new
-          → Follows (shown w sums options threads) (new_object t local name len) (refused r) new
+          → FollowsRoom (shown w sums options threads ahead) t request.size (attempt_of (Err why)) new
+          → Follows (shown w sums options threads ahead) (new_object t local name len) (refused r) new
       fails_follows small new why r told room =
           new_follows_fails s t local name len request.type_id.0 (may_bear small) new (attempt_of (Err why))
           (refused r) (subst (λ b. FollowsRoom s t b (attempt_of (Err why)) new) measured.size_is room)
@@ -169,8 +170,8 @@ module _ {w : World} {sums : Sums} {options : Options} {threads : Threads} (is :
       -- the same for a large object
       pub large_fails_follows : options.large ≤ request.size → (new : Machine) (why : NoRoom) (r : Refusal)
           → r ≡ refusal_of_room why
-          → FollowsLargeFails (shown w sums options threads) request.size (attempt_of (Err why)) new
-          → Follows (shown w sums options threads) (new_object t local name len) (refused r) new
+          → FollowsLargeFails (shown w sums options threads ahead) request.size (attempt_of (Err why)) new
+          → Follows (shown w sums options threads ahead) (new_object t local name len) (refused r) new
       large_fails_follows least new why r told failed =
           new_follows_large_fails s t local name len request.type_id.0 (may_bear_large least) new
           (attempt_of (Err why)) (refused r)

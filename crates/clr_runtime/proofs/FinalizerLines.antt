@@ -3,7 +3,7 @@ use Rattle.std.proofs.Common.{◌≡◌, ◌≢◌, ℕ, List, [], ◌∷◌, �
 use Rattle.clr_heap.specs.View.{HeapView}
 use Rattle.clr_view.specs.Flags.{HasFlagged, is_final_at, is_suppressed_at}
 use Rattle.clr_safe.specs.Threads.{Threads}
-use Rattle.clr_runtime.specs.Shown.{shown}
+use Rattle.clr_runtime.specs.Shown.{Ahead, shown}
 use Rattle.clr_view.specs.World.{World}
 use Rattle.clr_model.specs.declared.Refusal.TheVariants.{Empty, NoMemory, Null}
 use Rattle.clr_model.specs.declared.Reply.TheVariants.{Done, Place}
@@ -21,9 +21,9 @@ use Rattle.clr_model.proofs.LineChecks.{AreLocals, MayRun}
 use Rattle.clr_runtime.specs.Checks.{names_refusal}
 use Rattle.clr_runtime.proofs.NamesChecked.{names_passed, once}
 
-module _ (w : World) (sums : Sums) (options : Options) (threads : Threads) (t k : ℕ) where
+module _ (w : World) (sums : Sums) (options : Options) (threads : Threads) (ahead : Ahead) (t k : ℕ) where
   abbrev s : Machine
-  s = shown w sums options threads
+  s = shown w sums options threads ahead
 
   module _ (passed : names_refusal s t (k ∷ k ∷ []) ≡ None) where
     ran : MayRun s t × AreLocals (k ∷ [])
@@ -52,12 +52,12 @@ module _ (w : World) (sums : Sums) (options : Options) (threads : Threads) (t k 
 
         -- the machine with the flag is that of the heap in which the object has it
         flag-shown : (new : HeapView) (flag : _) → HasFlagged w.rows w.heap new place flag
-            → with_flag s (local_of s t k) flag ≡ shown (record w { heap = new }) sums options threads
+            → with_flag s (local_of s t k) flag ≡ shown (record w { heap = new }) sums options threads ahead
         flag-shown new flag flagged =
             let objects = flagged.objects in
             let layout = flagged.layout in
             ap (λ p. with_flag s p flag) (sym at)
-            ∙ (λ n. record (shown (record w { heap = new }) sums options threads) {
+            ∙ (λ n. record (shown (record w { heap = new }) sums options threads ahead) {
               objects = sym objects n;
               layout = sym layout n;
             })
@@ -69,7 +69,8 @@ module _ (w : World) (sums : Sums) (options : Options) (threads : Threads) (t k 
 
         pub suppressed : is_final_at w.rows w.heap place ≡ true → (new : HeapView)
             → HasFlagged w.rows w.heap new place true
-            → Follows s (suppress_object t k) (answered Done) (shown (record w { heap = new }) sums options threads)
+            → Follows s (suppress_object t k) (answered Done)
+            (shown (record w { heap = new }) sums options threads ahead)
         suppressed final new flagged =
             subst (Follows s (suppress_object t k) (answered Done)) (flag-shown new true flagged)
             (suppress_done s t ran.0 k ran.1.0 is_some true (final-seen true final))
@@ -82,7 +83,8 @@ module _ (w : World) (sums : Sums) (options : Options) (threads : Threads) (t k 
         module _ (final : is_final_at w.rows w.heap place ≡ true) where
           pub allowed : is_suppressed_at w.rows w.heap place ≡ true → (new : HeapView)
               → HasFlagged w.rows w.heap new place false
-              → Follows s (reregister_object t k) (answered Done) (shown (record w { heap = new }) sums options threads)
+              → Follows s (reregister_object t k) (answered Done)
+              (shown (record w { heap = new }) sums options threads ahead)
           allowed suppressed new flagged =
               subst (Follows s (reregister_object t k) (answered Done)) (flag-shown new false flagged)
               (reregister_done_flag s t ran.0 k ran.1.0 is_some (final-seen true final)
@@ -96,11 +98,11 @@ module _ (w : World) (sums : Sums) (options : Options) (threads : Threads) (t k 
 
             pub reregistered : (entries ready : List ℕ) → entries ≡ w.entries ++ place ∷ [] → ready ≡ w.ready
                 → Follows s (reregister_object t k) (answered Done)
-                (shown (record w { entries = entries; ready = ready }) sums options threads)
+                (shown (record w { entries = entries; ready = ready }) sums options threads ahead)
             reregistered entries ready listed waiting =
                 subst (Follows s (reregister_object t k) (answered Done))
                 (ap (with_entry s) (sym at)
-                ∙ (λ n. shown (record w { entries = sym listed n; ready = sym waiting n }) sums options threads))
+                ∙ (λ n. shown (record w { entries = sym listed n; ready = sym waiting n }) sums options threads ahead))
                 (reregister_done_entry s t ran.0 k ran.1.0 is_some (final-seen true final)
                 (suppressed-seen false free))
 
@@ -115,12 +117,12 @@ module _ (w : World) (sums : Sums) (options : Options) (threads : Threads) (t k 
         → j ≡ local_index t k
         → Follows s (take_ready t k) (answered (Place place))
         (shown (record w { locals = slice_set w.locals j place; entries = entries; ready = ready }) sums
-        options threads)
+        options threads ahead)
     taken place j entries ready waits kept written =
         subst (Follows s (take_ready t k) (answered (Place place)))
         (λ n. shown (record w {
           locals = slice_set w.locals (sym written n) place;
           entries = sym kept n;
           ready = ready;
-        }) sums options threads)
+        }) sums options threads ahead)
         (take_done s t ran.0 k ran.1.0 place ready waits)

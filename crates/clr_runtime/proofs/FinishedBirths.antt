@@ -4,7 +4,7 @@ use Rattle.std.proofs.Common.{ap, subst, arith, false, if◌then◌else◌, is_s
 use Rattle.std.specs.Prelude.{slice_get}
 use Rattle.clr_types.specs.Types.{form_at, size_of, type_row, TypeRow}
 use Rattle.clr_types.specs.declared.TypeId.{TypeId}
-use Rattle.clr_types.proofs.ChangedLists.{length-slice_set}
+use Rattle.clr_types.proofs.ChangedLists.{append_left, length-slice_set}
 use Rattle.clr_types.proofs.TailTaken.{size-lawful}
 use Rattle.clr_heap.specs.Parts.{IsMakeable}
 use Rattle.clr_heap.specs.View.{frame, HeapView}
@@ -12,7 +12,7 @@ use Rattle.clr_model.specs.declared.Reply.TheVariants.{Place}
 use Rattle.clr_model.specs.Allocation.{context_front, own_fits}
 use Rattle.clr_model.specs.Instructions.{finish_step}
 use Rattle.clr_model.specs.Lookups.{is_thread, local_index, step_of}
-use Rattle.clr_model.specs.Machine.{begun_new, begun_store, Machine, no_step}
+use Rattle.clr_model.specs.Machine.{begun_new, begun_store, Machine, no_step, Object}
 use Rattle.clr_model.specs.Outcomes.{answered}
 use Rattle.clr_model.specs.Run.{Follows}
 use Rattle.clr_model.specs.Updates.{with_step}
@@ -26,14 +26,18 @@ use Rattle.clr_view.specs.Marks.{IsUnmarked}
 use Rattle.clr_view.specs.View.{AreFreeHeads, HasNewborn}
 use Rattle.clr_view.specs.World.{World}
 use Rattle.clr_runtime.specs.Options.{options_of}
-use Rattle.clr_runtime.specs.RuntimeView.{IsRuntime, IsShown, seen, sums_of, world_of}
+use Rattle.clr_runtime.specs.RuntimeView.{ahead_of, IsRuntime, IsShown, seen, sums_of, world_of}
 use Rattle.clr_runtime.specs.Shown.{shown}
 use Rattle.clr_runtime.specs.declared.parts.Parts.{Parts}
 use Rattle.clr_runtime.proofs.BirthDone.{spent_more}
 use Rattle.clr_runtime.proofs.FinishLines.{begun_birth, finish_birth_done}
 use Rattle.clr_runtime.proofs.RuntimeKept.{small_enough}
-use Rattle.clr_runtime.proofs.StepsBegun.{begun-within, with_begun}
+use Rattle.clr_runtime.proofs.StepsBegun.{begun-within, stores-begun, with_begun}
 use Rattle.clr_runtime.proofs.StepsSeen.{step-seen}
+use Rattle.clr_types.specs.Rising.{IsIn}
+use Rattle.clr_types.proofs.SortedLists.{into_sorted_by}
+use Rattle.clr_runtime.specs.Marked.{marking_by}
+use Rattle.clr_runtime.proofs.MarkedKept.{running_marking, stays_marked, still_taken}
 
 -- a type that is there is one of the table's, and not that of unused space
 type-there : (rows : List TypeRow) (type : ℕ) → is_some (type_row rows type) ≡ true → (0 < type) × (type ≤ length rows)
@@ -50,7 +54,7 @@ module _ (p : Parts) (is : IsRuntime p) (t : ℕ) (thread : is_thread t ≡ true
   -- what is begun is seen
   birth-step : step_of (seen p) t ≡ begun_new type.0 len local
   birth-step =
-      step-seen (world_of p) (sums_of p.sums) (options_of p.options) p.safe t ∙ ap step_by begun
+      step-seen (world_of p) (sums_of p.sums) (options_of p.options) p.safe (ahead_of p) t ∙ ap step_by begun
 
   -- so the object may be born
   pub birth_may : IsFrontBirth (seen p) t local type.0 len
@@ -121,6 +125,7 @@ module _ (p : Parts) (is : IsRuntime p) (t : ℕ) (thread : is_thread t ≡ true
 
     abbrev after : Machine
     after = shown born_world (spent_more (sums_of p.sums) size) (options_of p.options) (with_begun p.safe t Nothing)
+        (ahead_of p)
 
     born-shown : seen_at_front (with_step (seen p) t no_step) t local type.0 len ≡ after
     born-shown =
@@ -143,7 +148,7 @@ module _ (p : Parts) (is : IsRuntime p) (t : ℕ) (thread : is_thread t ≡ true
           locals = slice_set p.locals.items j place;
           entries = entries;
           ready = ready;
-        }) (spent_more (sums_of p.sums) size) (options_of p.options) (with_begun p.safe t Nothing))
+        }) (spent_more (sums_of p.sums) size) (options_of p.options) (with_begun p.safe t Nothing) (ahead_of p))
     birth_finished =
         subst (λ n. Follows (seen p) (finish_step t) (answered (Place n)) after) (sym at)
         (subst (Follows (seen p) (finish_step t) (answered (Place (context_front (frame p.heap) t)))) born-shown
@@ -157,7 +162,7 @@ module _ (p : Parts) (is : IsRuntime p) (t : ℕ) (thread : is_thread t ≡ true
           locals = slice_set p.locals.items j place;
           entries = entries;
           ready = ready;
-        }) (spent_more (sums_of p.sums) size) (options_of p.options) (with_begun p.safe t Nothing)
+        }) (spent_more (sums_of p.sums) size) (options_of p.options) (with_begun p.safe t Nothing) (ahead_of p)
     birth_finished_shown unmarked heads clean = record {
       locals = length-slice_set p.locals.items j place ∙ is.shown.locals;
       held = newborn.held;
@@ -165,4 +170,16 @@ module _ (p : Parts) (is : IsRuntime p) (t : ℕ) (thread : is_thread t ≡ true
       free_heads = heads is.shown.free_heads;
       clean = clean is.shown.clean;
       sound = follows_sound (seen p) (finish_step t) (answered (Place place)) after is.shown.sound birth_finished;
+      marked = λ running.
+          stays_marked (seen p) after p.background
+          (record {
+            objects = still_taken (seen p) after (marking_by p.background.shades) is.shown.sound.lawful.marking
+                (running_marking p.background running)
+                (follows_sound (seen p) (finish_step t) (answered (Place place)) after is.shown.sound
+                birth_finished).lawful
+                (λ o here. subst (IsIn o) (sym newborn.objects)
+                (into_sorted_by (λ (o : Object). o.name) o _ (append_left _ here)));
+            forms = λ o here. refl;
+            stores = stores-begun p.safe t Nothing birth_no_store;
+          }) (is.shown.marked running);
     }

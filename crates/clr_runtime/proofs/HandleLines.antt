@@ -13,7 +13,7 @@ use Rattle.clr_handles.specs.declared.fault.CreateFault.{CreateFault}
 use Rattle.clr_handles.specs.declared.fault.CreateFault.TheVariants as fault
 use Rattle.clr_handles.proofs.Lookups.{get-remove_other, get-removed}
 use Rattle.clr_safe.specs.Threads.{Threads}
-use Rattle.clr_runtime.specs.Shown.{shown}
+use Rattle.clr_runtime.specs.Shown.{Ahead, shown}
 use Rattle.clr_view.specs.World.{World}
 use Rattle.clr_model.specs.declared.Refusal.{Refusal}
 use Rattle.clr_model.specs.declared.Refusal.TheVariants.{HandleKind, NoHandle, Null}
@@ -58,9 +58,9 @@ pub named_once : (s : Machine) (t local : ℕ) (second : Option ℕ) (r : Option
 named_once s t local None r e = once s t local r e
 named_once s t local (Some k) r e = e
 
-module _ (w : World) (sums : Sums) (options : Options) (threads : Threads) (t : ℕ) where
+module _ (w : World) (sums : Sums) (options : Options) (threads : Threads) (ahead : Ahead) (t : ℕ) where
   abbrev s : Machine
-  s = shown w sums options threads
+  s = shown w sums options threads ahead
 
   -- ---- lines that follow a handle
 
@@ -79,7 +79,7 @@ module _ (w : World) (sums : Sums) (options : Options) (threads : Threads) (t : 
       -- `fetch`
       pub fetched : (j : ℕ) → j ≡ local_index t to
           → Follows s (fetch_target t to h) (answered (Place row.target))
-          (shown (record w { locals = slice_set w.locals j row.target }) sums options threads)
+          (shown (record w { locals = slice_set w.locals j row.target }) sums options threads ahead)
       fetched j at =
           local_written s (fetch_target t to h) (answered (Place row.target)) t to row.target j at
           (fetch_done s t ran.0 to ran.1.0 h row found)
@@ -90,7 +90,7 @@ module _ (w : World) (sums : Sums) (options : Options) (threads : Threads) (t : 
 
       pub second_fetched : is_dependent row.kind ≡ true → (j : ℕ) → j ≡ local_index t to
           → Follows s (fetch_second t to h) (answered (Place row.second))
-          (shown (record w { locals = slice_set w.locals j row.second }) sums options threads)
+          (shown (record w { locals = slice_set w.locals j row.second }) sums options threads ahead)
       second_fetched dependent j at =
           local_written s (fetch_second t to h) (answered (Place row.second)) t to row.second j at
           (second_done s t ran.0 to ran.1.0 h row found dependent)
@@ -104,18 +104,18 @@ module _ (w : World) (sums : Sums) (options : Options) (threads : Threads) (t : 
 
     -- a number that isn't in use
     pub free_missing : finmap.get w.handles h ≡ None
-        → Follows s (free_handle t h) (refused NoHandle) (shown (record w { handles = new }) sums options threads)
+        → Follows s (free_handle t h) (refused NoHandle) (shown (record w { handles = new }) sums options threads ahead)
     free_missing none =
         subst (λ (m : FinMap nat_cmp Handle). Follows s (free_handle t h) (refused NoHandle)
-        (shown (record w { handles = m }) sums options threads)) (sym (table ∙ removed-none w.handles h none))
+        (shown (record w { handles = m }) sums options threads ahead)) (sym (table ∙ removed-none w.handles h none))
         (handle_follows_missing s (free_of t h) h false refl run tt none)
 
     -- the handle is taken out of use
     pub freed : (row : Handle) → finmap.get w.handles h ≡ Some row
-        → Follows s (free_handle t h) (answered Done) (shown (record w { handles = new }) sums options threads)
+        → Follows s (free_handle t h) (answered Done) (shown (record w { handles = new }) sums options threads ahead)
     freed row found =
         subst (λ (m : FinMap nat_cmp Handle). Follows s (free_handle t h) (answered Done)
-        (shown (record w { handles = m }) sums options threads)) (sym table) (free_done s t run h row found)
+        (shown (record w { handles = m }) sums options threads ahead)) (sym table) (free_done s t run h row found)
 
   -- ---- `handle`
 
@@ -152,7 +152,7 @@ module _ (w : World) (sums : Sums) (options : Options) (threads : Threads) (t : 
 
       -- the handle is made
       pub created : (h : ℕ) → result ≡ Ok h → Follows s (create_handle t kind local second) (answered (HandleNumber h))
-          (shown (record w { handles = new }) sums options threads)
+          (shown (record w { handles = new }) sums options threads ahead)
       created h is =
           let low : h < 65536 = subst (λ r. IfOk r (λ h. h < 65536)) is told.below in
           let free : finmap.get w.handles h ≡ None =
@@ -163,18 +163,19 @@ module _ (w : World) (sums : Sums) (options : Options) (threads : Threads) (t : 
           let table : new ≡ finmap.insert w.handles h made =
           subst (λ r. IfOk r (λ h. new ≡ finmap.insert w.handles h made)) is told.created in
           subst (λ (m : FinMap nat_cmp Handle). Follows s (create_handle t kind local second)
-          (answered (HandleNumber h)) (shown (record w { handles = m }) sums options threads))
+          (answered (HandleNumber h)) (shown (record w { handles = m }) sums options threads ahead))
           (ap (finmap.insert w.handles h) row ∙ sym table)
           (create_done s t kind local second form all.0 all.1 primary (few (Ok h) is (λ e. cc)) h low free)
 
       -- or there is no room for it
       pub create_refused : (f : CreateFault) → result ≡ Err f
           → Follows s (create_handle t kind local second) (refused (refusal_of_create f))
-          (shown (record w { handles = new }) sums options threads)
+          (shown (record w { handles = new }) sums options threads ahead)
       create_refused f is =
           let same = subst (λ r. OnErr r (new ≡ w.handles)) is told.err in
           subst (λ (m : FinMap nat_cmp Handle). Follows s (create_handle t kind local second)
-          (refused (refusal_of_create f)) (shown (record w { handles = m }) sums options threads)) (sym same) (go f is)
+          (refused (refusal_of_create f)) (shown (record w { handles = m }) sums options threads ahead)) (sym same)
+          (go f is)
         where
           go : (f : CreateFault) → result ≡ Err f
               → Follows s (create_handle t kind local second) (refused (refusal_of_create f)) s

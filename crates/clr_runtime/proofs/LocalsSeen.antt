@@ -8,7 +8,7 @@ use Rattle.clr_types.specs.Types.{TypeRow}
 use Rattle.clr_types.specs.declared.item.Item.{Item}
 use Rattle.clr_heap.specs.View.{heap_items, HeapView, word_of}
 use Rattle.clr_safe.specs.Threads.{Threads}
-use Rattle.clr_runtime.specs.Shown.{shown}
+use Rattle.clr_runtime.specs.Shown.{Ahead, shown}
 use Rattle.clr_view.specs.View.{is_object, object_in, objects_in}
 use Rattle.clr_view.specs.SlotValues.{StandsAt}
 use Rattle.clr_view.specs.World.{World}
@@ -33,9 +33,10 @@ present-stands rows h place there =
     let (o, i, n) = found_named (objects_in rows h) place there in
     (o, i, sym (named-by-place rows (word_of h) (filter is_object (heap_items rows h)) o i) ∙ n)
 
-module _ {w : World} {sums : Sums} {options : Options} {threads : Threads} (is : IsShown w sums options threads) where
+module _ {w : World} {sums : Sums} {options : Options} {threads : Threads} {ahead : Ahead}
+    (is : IsShown w sums options threads ahead) where
   abbrev s : Machine
-  s = shown w sums options threads
+  s = shown w sums options threads ahead
 
   -- what is read of the locals
   pub local-read : (t k j v : ℕ) → j < 1024 → j ≡ local_index t k → v ≡ get_or w.locals j v → v ≡ local_of s t k

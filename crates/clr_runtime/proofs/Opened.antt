@@ -8,7 +8,7 @@ use Rattle.clr_heap.specs.View as heap
 use Rattle.clr_heap.specs.View.{HeapView}
 use Rattle.clr_view.specs.Clean.{AreClean}
 use Rattle.clr_view.specs.Marks.{IsUnmarked}
-use Rattle.clr_runtime.specs.Shown.{shown}
+use Rattle.clr_runtime.specs.Shown.{Ahead, nothing_ahead, shown}
 use Rattle.clr_view.specs.View.{AreFreeHeads, IsHeld}
 use Rattle.clr_view.specs.World.{bare_world, World}
 use Rattle.clr_view.proofs.CleanWords.{clean_at_start}
@@ -23,13 +23,16 @@ use Rattle.clr_model.proofs.SeenSound.{seen_sound}
 use Rattle.clr_safe.specs.Threads.{births_owed, no_threads, Threads}
 use Rattle.clr_safe.specs.declared.begun.Begun.TheVariants.{Nothing}
 use Rattle.clr_runtime.specs.RuntimeView.{IsShown, TellsFinalizer}
+use Rattle.std.proofs.lemmas.Bool.{false≢true}
 
 abbrev pub no_sums : Sums
 no_sums = record { spent0 = 0; spent_large = 0; promoted1 = 0; promoted2 = 0 }
 
 -- with null locals and an empty heap the opening state is shown
 opening-shown : (options : Options) (limit : ℕ) → options.segment % 4096 ≡ 0
-    → shown (bare_world [] (heap.opening_heap options.segment limit) (replicate 1024 0)) no_sums options no_threads
+    → shown
+    (bare_world [] (heap.opening_heap options.segment limit) (replicate 1024 0)) no_sums options no_threads
+    nothing_ahead
     ≡ opening options
 unfolding opening
 opening-shown options limit aligned =
@@ -59,8 +62,8 @@ module _ (threads : Threads) (none : threads ≡ no_threads) where
   none_told rows =
       subst (λ (t : Threads). AllByRecursion (TellsFinalizer rows) t.begun) (sym none) (nothing-told rows 16)
 
-module _ (w : World) (threads : Threads) (none : threads ≡ no_threads) (options : Options) (limit : ℕ)
-    (lawful : AreLawfulOptions options) (is : IsFirst w options.segment limit) where
+module _ (w : World) (threads : Threads) (none : threads ≡ no_threads) (ahead : Ahead) (nothing : ahead ≡ nothing_ahead)
+    (options : Options) (limit : ℕ) (lawful : AreLawfulOptions options) (is : IsFirst w options.segment limit) where
   first-world : w ≡ bare_world [] (heap.opening_heap options.segment limit) (replicate 1024 0)
   first-world = λ i. record {
     rows = is.rows i;
@@ -72,10 +75,12 @@ module _ (w : World) (threads : Threads) (none : threads ≡ no_threads) (option
   }
 
   -- it shows the opening state
-  pub new_stands : StandsFor (shown w no_sums options threads) (opening options)
+  pub new_stands : StandsFor (shown w no_sums options threads ahead) (opening options)
   new_stands =
       subst (λ (s : Machine). StandsFor s (opening options))
-      (sym ((λ i. shown (first-world i) no_sums options (none i)) ∙ opening-shown options limit lawful.segment_aligned))
+      (sym
+      ((λ i. shown (first-world i) no_sums options (none i) (nothing i))
+      ∙ opening-shown options limit lawful.segment_aligned))
       (opening_stands options lawful)
 
   -- what holds of no types and the first heap
@@ -84,12 +89,13 @@ module _ (w : World) (threads : Threads) (none : threads ≡ no_threads) (option
   at-first P first = subst (λ (v : World). P v.rows v.heap) (sym first-world) first
 
   -- and what holds of every runtime holds of it
-  pub new_shown : IsShown w no_sums options threads
+  pub new_shown : IsShown w no_sums options threads ahead
   new_shown = record {
     locals = ap length is.locals ∙ length-replicate {A = ℕ} 1024 0;
     held = at-first IsHeld (held_at_start [] options.segment limit lawful.segment_aligned);
     unmarked = at-first IsUnmarked (unmarked_at_start [] options.segment limit lawful.segment_aligned);
     free_heads = at-first AreFreeHeads (heads_at_start [] options.segment limit lawful.segment_aligned);
     clean = at-first AreClean (clean_at_start [] options.segment limit lawful.segment_aligned);
-    sound = seen_sound (shown w no_sums options threads) (opening options) new_stands;
+    sound = seen_sound (shown w no_sums options threads ahead) (opening options) new_stands;
+    marked = λ running. absurd (false≢true (sym (ap (λ (a : Ahead). a.background.running) nothing) ∙ running));
   }

@@ -4,12 +4,12 @@ use Rattle.std.proofs.Common.{refl, sym, ap, subst, arith, Option, Some, None, i
 use Rattle.std.specs.Prelude.{slice_get}
 use Rattle.std.specs.List.{AllByRecursion}
 use Rattle.std.proofs.lemmas.Bool.{le-leb, lt-leb}
-use Rattle.clr_types.specs.declared.segment.SegKind.TheVariants.{Large}
+use Rattle.clr_types.specs.declared.segment.SegKind.TheVariants.{Large, Pinned}
 use Rattle.clr_types.specs.Ranges.{IsLawfulSize, Piece}
 use Rattle.clr_heap.specs.View.{HeapView, IsHeap}
 use Rattle.clr_ctx.specs.Contexts.{IsIndex}
 use Rattle.clr_safe.specs.Threads.{Threads}
-use Rattle.clr_runtime.specs.Shown.{shown}
+use Rattle.clr_runtime.specs.Shown.{Ahead, shown}
 use Rattle.clr_view.specs.View.{HasRefilled, layout_in, objects_in}
 use Rattle.clr_view.specs.World.{World}
 use Rattle.clr_view.proofs.Unmarked.{unmarked_kept}
@@ -27,6 +27,7 @@ use Rattle.clr_runtime.specs.RuntimeView.{IsRuntime, IsShown, seen}
 use Rattle.clr_runtime.specs.declared.parts.Parts.{Parts}
 use Rattle.clr_runtime.proofs.IndexKept.{index_kept}
 use Rattle.clr_runtime.proofs.StepsKept.{stayed-same, tables-told}
+use Rattle.clr_runtime.proofs.MarkedKept.{same_marked}
 
 -- the numbers from 1 to 16 are threads
 pub thread-known : (t : ℕ) → 0 < t → t ≤ 16 → is_thread t ≡ true
@@ -44,18 +45,21 @@ thread-idle s t none = go s.steps (t - 1) (all_idle 1 s.steps none)
 
 -- ---- what is seen with a new context
 
-module _ {w : World} {sums : Sums} {options : Options} {threads : Threads} (is : IsShown w sums options threads)
+module _ {w : World} {sums : Sums} {options : Options} {threads : Threads} {ahead : Ahead}
+    (is : IsShown w sums options threads ahead)
     (t size : ℕ) (low : 0 < t)
-    (high : t ≤ 16) (idle : is_step (step_of (shown w sums options threads) t) ≡ false) (sized : IsLawfulSize size)
+    (high : t ≤ 16) (idle : is_step (step_of (shown w sums options threads ahead) t) ≡ false)
+    (sized : IsLawfulSize size)
     (mid : HeapView) (refilled : HasRefilled w.rows w.heap mid t size) where
   abbrev s : Machine
-  s = shown w sums options threads
+  s = shown w sums options threads ahead
 
   abbrev relaid : Machine
   relaid = with_layout s (layout_in w.rows mid)
 
-  relaid-shown : shown (record w { heap = mid }) sums options threads ≡ relaid
-  relaid-shown = λ k. record (shown (record w { heap = mid }) sums options threads) { objects = refilled.objects k }
+  relaid-shown : shown (record w { heap = mid }) sums options threads ahead ≡ relaid
+  relaid-shown = λ k. record
+      (shown (record w { heap = mid }) sums options threads ahead) { objects = refilled.objects k }
 
   relaid-lawful : IsLawful relaid × (own_fits (layout_in w.rows mid) t size ≡ true)
   relaid-lawful =
@@ -63,12 +67,13 @@ module _ {w : World} {sums : Sums} {options : Options} {threads : Threads} (is :
       (layout_in w.rows mid) refilled.layout
 
   -- it is the machine of before with that context
-  pub has_context : HasNewContext (shown w sums options threads) (shown (record w { heap = mid }) sums options threads)
+  pub has_context : HasNewContext (shown w sums options threads ahead)
+      (shown (record w { heap = mid }) sums options threads ahead)
       t size
   has_context = record { refilled = refilled.layout; same = relaid-shown; fits = relaid-lawful.1 }
 
   -- and what holds of the parts still holds
-  pub refill_kept : IsHeap w.heap → IsShown (record w { heap = mid }) sums options threads
+  pub refill_kept : IsHeap w.heap → IsShown (record w { heap = mid }) sums options threads ahead
   refill_kept heap = record {
     locals = is.locals;
     held = refilled.held;
@@ -77,6 +82,8 @@ module _ {w : World} {sums : Sums} {options : Options} {threads : Threads} (is :
     clean = refilled.clean is.clean;
     sound = subst IsPlaceNamed (sym relaid-shown)
         (record { lawful = relaid-lawful.0; places = is.sound.places; uncounted = is.sound.uncounted });
+    marked = same_marked s (shown (record w { heap = mid }) sums options threads ahead) refilled.objects refl refl
+        ahead.background is.marked;
   }
 
 -- ---- what a refill answers
@@ -111,6 +118,9 @@ module _ (p : Parts) (is : IsRuntime p) (heap : IsHeap p.heap) (t size : ℕ) (l
       large = index_kept (kind_items Large) p.types p.types p.heap mid p.large
           (kind_refilled (seen p) is.shown.sound.lawful Large refl t size (layout_in p.types mid) refilled.layout)
           is.large;
+      pinned = index_kept (kind_items Pinned) p.types p.types p.heap mid p.pinned
+          (kind_refilled (seen p) is.shown.sound.lawful Pinned refl t size (layout_in p.types mid) refilled.layout)
+          is.pinned;
       limit = refilled.limit ∙ is.limit;
       pins = is.pins;
       room = is.room;

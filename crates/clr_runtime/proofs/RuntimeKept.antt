@@ -10,7 +10,7 @@ use Rattle.clr_heap.specs.View.{HeapView}
 use Rattle.clr_view.specs.Clean.{AreClean}
 use Rattle.clr_view.specs.Marks.{IsUnmarked}
 use Rattle.clr_safe.specs.Threads.{Threads}
-use Rattle.clr_runtime.specs.Shown.{shown}
+use Rattle.clr_runtime.specs.Shown.{Ahead, shown}
 use Rattle.clr_view.specs.View.{AreFreeHeads, IsHeld}
 use Rattle.clr_view.specs.World.{World}
 use Rattle.clr_model.specs.Instructions.{Instruction}
@@ -21,10 +21,16 @@ use Rattle.clr_model.proofs.PieceBytes.{sums_bounded}
 use Rattle.clr_model.proofs.SeenStands.{follows_sound}
 use Rattle.clr_runtime.specs.RuntimeView.{IsRuntime, IsShown}
 use Rattle.clr_runtime.specs.declared.parts.Parts.{Parts}
+use Rattle.clr_background.proofs.Changes.{IsUsualLine}
+use Rattle.clr_model.specs.Lawful.{IsPlaceNamed}
+use Rattle.clr_runtime.proofs.MarkedKept.{is_quiet, quiet_marked, same_marked}
+use Rattle.clr_runtime.proofs.MarkedStores.{IsCardLogged, IsStoredAt, logged-shown, logged_ahead, stored_marked}
+use Rattle.clr_runtime.proofs.MarkedStores.{with_slot_logged}
 
-module _ {w : World} {sums : Sums} {options : Options} {threads : Threads} (is : IsShown w sums options threads) where
+module _ {w : World} {sums : Sums} {options : Options} {threads : Threads} {ahead : Ahead}
+    (is : IsShown w sums options threads ahead) where
   abbrev s : Machine
-  s = shown w sums options threads
+  s = shown w sums options threads ahead
 
   -- the bytes that were born stay a word: they are within the limit
   pub spent_fits : (size : ℕ) → size ≤ 1073741824 → sums.spent0 + size < 2 ^ 64
@@ -51,8 +57,10 @@ module _ {w : World} {sums : Sums} {options : Options} {threads : Threads} (is :
   pub names_kept : (i : Instruction) (outcome : Outcome) (locals : List ℕ) (handles : FinMap nat_cmp Handle)
       (entries ready : List ℕ) → length locals ≡ 1024
       → Follows s i outcome
-      (shown (record w { locals = locals; handles = handles; entries = entries; ready = ready }) sums options threads)
-      → IsShown (record w { locals = locals; handles = handles; entries = entries; ready = ready }) sums options threads
+      (shown
+      (record w { locals = locals; handles = handles; entries = entries; ready = ready }) sums options threads ahead)
+      → IsShown
+      (record w { locals = locals; handles = handles; entries = entries; ready = ready }) sums options threads ahead
   names_kept i outcome locals handles entries ready count follows = record {
     locals = count;
     held = is.held;
@@ -60,12 +68,15 @@ module _ {w : World} {sums : Sums} {options : Options} {threads : Threads} (is :
     free_heads = is.free_heads;
     clean = is.clean;
     sound = follows_sound s i outcome _ is.sound follows;
+    marked = same_marked s
+        (shown (record w { locals = locals; handles = handles; entries = entries; ready = ready }) sums options threads
+        ahead) refl refl refl ahead.background is.marked;
   }
 
   -- a local was written
   pub local_kept : (i : Instruction) (outcome : Outcome) (j v : ℕ)
-      → Follows s i outcome (shown (record w { locals = slice_set w.locals j v }) sums options threads)
-      → IsShown (record w { locals = slice_set w.locals j v }) sums options threads
+      → Follows s i outcome (shown (record w { locals = slice_set w.locals j v }) sums options threads ahead)
+      → IsShown (record w { locals = slice_set w.locals j v }) sums options threads ahead
   local_kept i outcome j v =
       names_kept i outcome (slice_set w.locals j v) w.handles w.entries w.ready
       (length-slice_set w.locals j v ∙ is.locals)
@@ -75,34 +86,60 @@ module _ {w : World} {sums : Sums} {options : Options} {threads : Threads} (is :
     same-world : w ≡ record w { entries = entries; ready = ready }
     same-world = λ k. record w { entries = sym same k; ready = sym waiting k }
 
-    pub room_follows : (i : Instruction) (outcome : Outcome) → Follows s i outcome (shown w sums options threads)
-        → Follows s i outcome (shown (record w { entries = entries; ready = ready }) sums options threads)
-    room_follows i outcome = subst (λ (v : World). Follows s i outcome (shown v sums options threads)) same-world
+    pub room_follows : (i : Instruction) (outcome : Outcome) → Follows s i outcome (shown w sums options threads ahead)
+        → Follows s i outcome (shown (record w { entries = entries; ready = ready }) sums options threads ahead)
+    room_follows i outcome = subst (λ (v : World). Follows s i outcome (shown v sums options threads ahead)) same-world
 
     -- a line that goes on from there goes on from before
     pub follows_reserved : (i : Instruction) (outcome : Outcome) (new : Machine)
-        → Follows (shown (record w { entries = entries; ready = ready }) sums options threads) i outcome new
-        → Follows (shown w sums options threads) i outcome new
+        → Follows (shown (record w { entries = entries; ready = ready }) sums options threads ahead) i outcome new
+        → Follows (shown w sums options threads ahead) i outcome new
     follows_reserved i outcome new =
-        subst (λ (v : World). Follows (shown v sums options threads) i outcome new) (sym same-world)
+        subst (λ (v : World). Follows (shown v sums options threads ahead) i outcome new) (sym same-world)
 
-    pub room_kept : IsShown (record w { entries = entries; ready = ready }) sums options threads
-    room_kept = subst (λ (v : World). IsShown v sums options threads) same-world is
+    pub room_kept : IsShown (record w { entries = entries; ready = ready }) sums options threads ahead
+    room_kept = subst (λ (v : World). IsShown v sums options threads ahead) same-world is
 
-  -- words of objects were written
-  pub heap_kept : (i : Instruction) (outcome : Outcome) (new : HeapView) → IsHeld w.rows new
+  -- words of objects were written, and no store was completed
+  pub heap_kept : (i : Instruction) (outcome : Outcome) → is_quiet i ≡ true → (new : HeapView) → IsHeld w.rows new
       → (IsUnmarked w.rows w.heap → IsUnmarked w.rows new) → (AreFreeHeads w.rows w.heap → AreFreeHeads w.rows new)
       → (AreClean w.rows w.heap → AreClean w.rows new)
-      → Follows s i outcome (shown (record w { heap = new }) sums options threads)
-      → IsShown (record w { heap = new }) sums options threads
-  heap_kept i outcome new held unmarked heads clean follows = record {
+      → Follows s i outcome (shown (record w { heap = new }) sums options threads ahead)
+      → IsShown (record w { heap = new }) sums options threads ahead
+  heap_kept i outcome quiet new held unmarked heads clean follows = record {
     locals = is.locals;
     held = held;
     unmarked = unmarked is.unmarked;
     free_heads = heads is.free_heads;
     clean = clean is.clean;
-    sound = follows_sound s i outcome (shown (record w { heap = new }) sums options threads) is.sound follows;
+    sound = follows_sound s i outcome (shown (record w { heap = new }) sums options threads ahead) is.sound follows;
+    marked = quiet_marked s i outcome (shown (record w { heap = new }) sums options threads ahead) is.sound quiet
+        follows ahead.background refl refl is.marked;
   }
+
+  -- a reference was written into a slot, and a background collection was told of it
+  pub stored_kept : (i : Instruction) (outcome : Outcome) (new : HeapView) (slot : ℕ) → IsUsualLine i
+      → IsHeld w.rows new
+      → (IsUnmarked w.rows w.heap → IsUnmarked w.rows new) → (AreFreeHeads w.rows w.heap → AreFreeHeads w.rows new)
+      → (AreClean w.rows w.heap → AreClean w.rows new) → IsStoredAt s i slot → IsCardLogged ahead.background slot
+      → Follows s i outcome (shown (record w { heap = new }) sums options threads ahead)
+      → IsShown (record w { heap = new }) sums options threads (logged_ahead ahead slot)
+  stored_kept i outcome new slot line held unmarked heads clean stored logged follows =
+      let after = shown (record w { heap = new }) sums options threads ahead in
+      record {
+        locals = is.locals;
+        held = held;
+        unmarked = unmarked is.unmarked;
+        free_heads = heads is.free_heads;
+        clean = clean is.clean;
+        sound = subst IsPlaceNamed (sym (logged-shown (record w { heap = new }) sums options threads ahead slot))
+            (follows_sound s i outcome after is.sound follows);
+        marked = λ running.
+            same_marked after (shown (record w { heap = new }) sums options threads (logged_ahead ahead slot)) refl refl
+            refl (with_slot_logged ahead.background slot)
+            (stored_marked s i outcome after is.sound line follows ahead.background slot stored logged refl refl
+            is.marked) running;
+      }
 
 -- There is still room for the entries that are owed, where there was one more for the one that was taken.
 pub owed_left : (wanted : Bool) (owed spare left : ℕ) → (wanted ≡ true → owed + 1 ≤ spare) → owed ≤ spare
@@ -120,6 +157,7 @@ reserved_kept p finals same waiting more is = record {
   finalizers = is.finalizers;
   index = is.index;
   large = is.large;
+  pinned = is.pinned;
   limit = is.limit;
   pins = is.pins;
   room = is.room;

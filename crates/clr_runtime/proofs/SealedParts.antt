@@ -4,7 +4,7 @@ use Rattle.std.proofs.Common.{arith, ℤ}
 use Rattle.std.proofs.Common.{◌↔◌, inl, inr, Err, Ok, Result, Some}
 use Rattle.std.specs.List.{list_any}
 use Rattle.std.proofs.lemmas.Bool.{both_ways, cases_lt, le-leb, or_right}
-use Rattle.clr_types.specs.declared.segment.SegKind.TheVariants.{Large}
+use Rattle.clr_types.specs.declared.segment.SegKind.TheVariants.{Large, Pinned}
 use Rattle.clr_types.specs.Ranges.{fits}
 use Rattle.clr_types.specs.Segments.{ephemeral, fits_in_tail, Layout, opening_segment, reserved_sum, rest_pieces}
 use Rattle.clr_types.specs.Segments.{segment_or_empty}
@@ -31,6 +31,7 @@ use Rattle.clr_runtime.specs.RuntimeView.{IsRuntime, seen}
 use Rattle.clr_runtime.specs.declared.parts.Parts.{Parts}
 use Rattle.clr_runtime.proofs.IndexKept.{index_kept}
 use Rattle.clr_runtime.proofs.StepsKept.{tables-carded}
+use Rattle.clr_runtime.proofs.MarkedKept.{same_marked}
 
 -- the new segment is the ephemeral one
 ephemeral-sealed : (layout : Layout) (size : ℕ)
@@ -91,6 +92,7 @@ module _ (p : Parts) (is : IsRuntime p) (bare : p.heap.rests ≡ no_rests)
       free_heads = heads is.shown.free_heads;
       clean = clean is.shown.clean;
       sound = sealed-sound;
+      marked = same_marked (seen p) (seen (record p { heap = new })) objects refl refl p.background is.shown.marked;
     };
     tables = tables-carded cards p.safe bricks p.types new tables;
     owed = is.owed;
@@ -98,6 +100,9 @@ module _ (p : Parts) (is : IsRuntime p) (bare : p.heap.rests ≡ no_rests)
     index = sym (none_young p.types new heap held young-at_end);
     large = index_kept (kind_items Large) p.types p.types p.heap new p.large
         (ap (kind_items Large) layout ∙ kind_sealed Large refl (layout_in p.types p.heap) p.options.segment) is.large;
+    pinned = index_kept (kind_items Pinned) p.types p.types p.heap new p.pinned
+        (ap (kind_items Pinned) layout ∙ kind_sealed Pinned refl (layout_in p.types p.heap) p.options.segment)
+        is.pinned;
     limit = ap (λ (h : HeapView). h.limit) words ∙ is.limit;
     pins = is.pins;
     room = is.room;

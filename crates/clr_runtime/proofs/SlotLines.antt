@@ -7,7 +7,7 @@ use Rattle.clr_types.specs.declared.item.Item.{Item}
 use Rattle.clr_types.specs.declared.shape.Slot.{Slot}
 use Rattle.clr_heap.specs.View.{HeapView, word_of}
 use Rattle.clr_safe.specs.Threads.{Threads}
-use Rattle.clr_runtime.specs.Shown.{shown}
+use Rattle.clr_runtime.specs.Shown.{Ahead, shown}
 use Rattle.clr_view.specs.View.{HasStored, object_in, word_value}
 use Rattle.clr_view.specs.World.{World}
 use Rattle.clr_view.proofs.SlotReads.{slot-kind}
@@ -32,9 +32,9 @@ use Rattle.clr_runtime.proofs.SlotsChecked.{slot_refused, works}
 value-of : (b : Bool) (v : ℕ) (kind : Bool) → b ≡ kind → word_value b v ≡ word_value kind v
 value-of b v kind e = ap (λ k. word_value k v) e
 
-module _ (w : World) (sums : Sums) (options : Options) (threads : Threads) where
+module _ (w : World) (sums : Sums) (options : Options) (threads : Threads) (ahead : Ahead) where
   abbrev s : Machine
-  s = shown w sums options threads
+  s = shown w sums options threads ahead
 
   -- the line is refused for the first check on the object and the slot that fails
   pub refused_slot : (l : SlotLine) (place : ℕ) → names_refusal s l.thread l.locals ≡ None
@@ -58,7 +58,7 @@ module _ (w : World) (sums : Sums) (options : Options) (threads : Threads) where
         → slice_get (object_in w.rows (word_of w.heap) i).slots index ≡ Some (word_value slot.reference v)
         → j ≡ local_index t to
         → Follows s (get_slot t to from index) (answered (Place v))
-        (shown (record w { locals = slice_set w.locals j v }) sums options threads)
+        (shown (record w { locals = slice_set w.locals j v }) sums options threads ahead)
     got to from j v passed at kind e written =
         local_written s (get_slot t to from index) (answered (Place v)) t to v j written
         (get_done s t to from index (object_in w.rows (word_of w.heap) i) (on (get_of t to from index) passed at) v
@@ -87,12 +87,12 @@ module _ (w : World) (sums : Sums) (options : Options) (threads : Threads) where
       -- the machine that the heap shows, with another value in the slot
       pub stored-shown : (name v : ℕ) (kind : Bool) → i.place ≡ name → slot.reference ≡ kind
           → HasStored w.rows w.heap new i.place index (word_value slot.reference v)
-          → with_slot s name index (word_value kind v) ≡ shown (record w { heap = new }) sums options threads
+          → with_slot s name index (word_value kind v) ≡ shown (record w { heap = new }) sums options threads ahead
       stored-shown name v kind there is stored =
           let objects = stored.objects in
           let layout = stored.layout in
           (λ k. with_slot s (sym there k) index (sym (value-of slot.reference v kind is) k))
-          ∙ (λ k. record (shown (record w { heap = new }) sums options threads) {
+          ∙ (λ k. record (shown (record w { heap = new }) sums options threads ahead) {
             objects = sym objects k;
             layout = sym layout k;
           })
@@ -102,11 +102,11 @@ module _ (w : World) (sums : Sums) (options : Options) (threads : Threads) where
           → v ≡ local_of s t from → slot.reference ≡ true
           → HasStored w.rows w.heap new i.place index (word_value slot.reference v)
           → Follows s (set_slot t into index from) (answered Done)
-          (shown (record w { heap = new }) sums options threads)
+          (shown (record w { heap = new }) sums options threads ahead)
       was_set into from v passed at is kind stored =
           let (name, held) = kind-held true kind in
           let after : with_slot s (local_of s t into) index (ref (local_of s t from))
-          ≡ shown (record w { heap = new }) sums options threads =
+          ≡ shown (record w { heap = new }) sums options threads ahead =
           ap (λ n. with_slot s (local_of s t into) index (ref n)) (sym is)
           ∙ stored-shown (local_of s t into) v true (has.object.at ∙ at) kind stored in
           subst (Follows s (set_slot t into index from) (answered Done)) after
@@ -118,11 +118,11 @@ module _ (w : World) (sums : Sums) (options : Options) (threads : Threads) where
           → place ≡ local_of s t into → number ≡ stored_number (form_at w.rows i.type_id.0) value
           → slot.reference ≡ false → HasStored w.rows w.heap new i.place index (word_value slot.reference number)
           → Follows s (put_number t into index value) (answered Done)
-          (shown (record w { heap = new }) sums options threads)
+          (shown (record w { heap = new }) sums options threads ahead)
       was_put into value number word passed at is kind stored =
           let (old, held) = kind-held false kind in
           let after : with_slot s (local_of s t into) index (num (stored_number (form_at w.rows i.type_id.0) value))
-          ≡ shown (record w { heap = new }) sums options threads =
+          ≡ shown (record w { heap = new }) sums options threads ahead =
           ap (λ n. with_slot s (local_of s t into) index (num n)) (sym is)
           ∙ stored-shown (local_of s t into) number false (has.object.at ∙ at) kind stored in
           subst (Follows s (put_number t into index value) (answered Done)) after

@@ -18,7 +18,7 @@ use Rattle.clr_safe.specs.declared.begun.Begun.TheVariants.{Birth, Nothing}
 use Rattle.clr_safe.proofs.Entries.{among-still, entry-within, step_of-begun, steps_of-set}
 use Rattle.clr_view.specs.View.{objects_in}
 use Rattle.clr_view.specs.World.{World}
-use Rattle.clr_runtime.specs.Shown.{shown}
+use Rattle.clr_runtime.specs.Shown.{Ahead, shown}
 use Rattle.clr_model.specs.declared.Reply.TheVariants.{Done}
 use Rattle.clr_model.specs.Instructions.{resume_others, suspend_others}
 use Rattle.clr_model.specs.Outcomes.{answered}
@@ -26,25 +26,29 @@ use Rattle.clr_model.specs.Run.{Follows}
 use Rattle.clr_model.proofs.LineChecks.{MayRun}
 use Rattle.clr_model.proofs.SeenStands.{follows_sound}
 use Rattle.clr_runtime.specs.Options.{options_of}
-use Rattle.clr_runtime.specs.RuntimeView.{IsBegunStore, IsRuntime, IsShown, IsToldBy, seen, sums_of, TellsFinalizer}
+use Rattle.clr_runtime.specs.RuntimeView.{ahead_of, IsBegunStore, IsRuntime, IsShown, IsToldBy, seen, sums_of}
+use Rattle.clr_runtime.specs.RuntimeView.{TellsFinalizer}
 use Rattle.clr_runtime.specs.RuntimeView.{world_of}
 use Rattle.clr_runtime.specs.declared.parts.Parts.{Parts}
 use Rattle.clr_runtime.proofs.StepsKept.{tables-by}
 use Rattle.clr_runtime.proofs.SuspendLines.{resume_done, suspend_done}
+use Rattle.clr_runtime.proofs.MarkedKept.{stays_marked}
 
 -- the thread has begun this
 abbrev pub with_begun : Threads → ℕ → Begun → Threads
 with_begun threads t what = record threads { begun = set threads.begun (t - 1) what }
 
 -- and so it is seen
-pub begun-shown : (w : World) (sums : Sums) (options : Options) (threads : Threads) (t : ℕ) (what : Begun)
-    → with_step (shown w sums options threads) t (step_by what)
-    ≡ shown w sums options (record threads { begun = set threads.begun (t - 1) what })
-begun-shown w sums options threads t what =
-    ap (λ steps. record (shown w sums options threads) { steps = steps })
+pub begun-shown : (w : World) (sums : Sums) (options : Options) (threads : Threads) (ahead : Ahead) (t : ℕ)
+    (what : Begun)
+    → with_step (shown w sums options threads ahead) t (step_by what)
+    ≡ shown w sums options (record threads { begun = set threads.begun (t - 1) what }) ahead
+begun-shown w sums options threads ahead t what =
+    ap (λ steps. record (shown w sums options threads ahead) { steps = steps })
     (sym (steps_of-set threads.begun (t - 1) what))
 
-module _ {w : World} {sums : Sums} {options : Options} {threads : Threads} (is : IsShown w sums options threads) where
+module _ {w : World} {sums : Sums} {options : Options} {threads : Threads} {ahead : Ahead}
+    (is : IsShown w sums options threads ahead) where
   -- each thread has its entry
   pub begun-within : (t : ℕ) → is_thread t ≡ true → t - 1 < length threads.begun
   begun-within t thread = entry-within t (length threads.begun) thread (counted threads.begun ∙ is.sound.lawful.steps)
@@ -54,15 +58,31 @@ module _ {w : World} {sums : Sums} {options : Options} {threads : Threads} (is :
       counted (x ∷ xs) = ap suc (counted xs)
 
   -- where what is shown of other threads is sound, all that holds of the parts still holds
-  pub threads_kept : (next : Threads) → IsPlaceNamed (shown w sums options next) → IsShown w sums options next
-  threads_kept next sound = record {
+  pub threads_kept : (next : Threads)
+      → ((name slot : ℕ) → IsIn (begun_store name slot) (steps_of threads)
+      → IsIn (begun_store name slot) (steps_of next))
+      → IsPlaceNamed (shown w sums options next ahead) → IsShown w sums options next ahead
+  threads_kept next stores sound = record {
     locals = is.locals;
     held = is.held;
     unmarked = is.unmarked;
     free_heads = is.free_heads;
     clean = is.clean;
     sound = sound;
+    marked = λ running.
+        stays_marked (shown w sums options threads ahead) (shown w sums options next ahead) ahead.background
+        (record { objects = λ o here took. here; forms = λ o here. refl; stores = stores }) (is.marked running);
   }
+
+-- stores that are begun go on where the thread had begun none
+pub stores-begun : (threads : Threads) (t : ℕ) (what : Begun)
+    → ((object slot : ℕ) → step_by (begun_by threads t) ≡ begun_store object slot → ⊥) → (name slot : ℕ)
+    → IsIn (begun_store name slot) (steps_of threads)
+    → IsIn (begun_store name slot) (steps_of (with_begun threads t what))
+stores-begun threads t what none name slot j =
+    subst (IsIn (begun_store name slot)) (sym (steps_of-set threads.begun (t - 1) what))
+    (among-still (begun_store name slot) (steps_of threads) (t - 1) (step_by what) j
+    (λ e. none name slot (sym (step_of-begun threads t) ∙ e)))
 
 -- what tells whether a type has a finaliser is told of what was begun, too
 pub finalizers-begun : (rows : List TypeRow) (threads : Threads) (t : ℕ) (what : Begun)
@@ -122,10 +142,11 @@ idle-no_store threads t idle object slot e = clash (sym (ap is_step e) ∙ idle)
 
 -- with another holder, of which what is shown is sound, a runtime is one still
 held_kept : (p : Parts) (holder : Option ℕ)
-    → IsPlaceNamed (shown (world_of p) (sums_of p.sums) (options_of p.options) (record p.safe { holder = holder }))
+    → IsPlaceNamed (shown (world_of p) (sums_of p.sums) (options_of p.options) (record p.safe { holder = holder })
+    (ahead_of p))
     → IsRuntime p → IsRuntime (record p { safe = record p.safe { holder = holder } })
 held_kept p holder sound is = record {
-  shown = threads_kept is.shown (record p.safe { holder = holder }) sound;
+  shown = threads_kept is.shown (record p.safe { holder = holder }) (λ name slot j. j) sound;
   tables =
       tables-by p.types p.heap p.cards p.bricks (IsToldBy p.types p.heap p.cards p.safe)
       (IsToldBy p.types p.heap p.cards (record p.safe { holder = holder })) (λ a told. told) is.tables;
@@ -133,6 +154,7 @@ held_kept p holder sound is = record {
   finalizers = is.finalizers;
   index = is.index;
   large = is.large;
+  pinned = is.pinned;
   limit = is.limit;
   pins = is.pins;
   room = is.room;

@@ -7,7 +7,7 @@ use Rattle.clr_safe.specs.Threads.{begun_by, step_by, steps_of, Threads}
 use Rattle.clr_safe.specs.declared.begun.Begun.{Begun}
 use Rattle.clr_safe.specs.declared.begun.Begun.TheVariants.{Nothing}
 use Rattle.clr_view.specs.World.{World}
-use Rattle.clr_runtime.specs.Shown.{shown}
+use Rattle.clr_runtime.specs.Shown.{Ahead, shown}
 
 -- what is begun at a place of a list, as a step of the list of steps
 step-at : (begun : List Begun) (i : ℕ)
@@ -17,9 +17,9 @@ step-at (what ∷ more) zero = refl
 step-at (what ∷ more) (suc i) = step-at more i
 
 -- what a thread has begun is seen as its step
-pub step-seen : (w : World) (sums : Sums) (options : Options) (threads : Threads) (t : ℕ)
-    → step_of (shown w sums options threads) t ≡ step_by (begun_by threads t)
-step-seen w sums options threads t = step-at threads.begun (t - 1)
+pub step-seen : (w : World) (sums : Sums) (options : Options) (threads : Threads) (ahead : Ahead) (t : ℕ)
+    → step_of (shown w sums options threads ahead) t ≡ step_by (begun_by threads t)
+step-seen w sums options threads ahead t = step-at threads.begun (t - 1)
 
 -- where no thread is in mid-step, none is while what is begun stays
 pub still_calm : (first last : Threads) → last ≡ first → lowest_step_from 1 (steps_of first) ≡ None

@@ -23,7 +23,7 @@ use Rattle.clr_safe.specs.Threads.{step_by, Threads}
 use Rattle.clr_safe.specs.declared.begun.Begun.{Begun}
 use Rattle.clr_safe.specs.declared.begun.Begun.TheVariants.{Birth, Nothing, Store}
 use Rattle.clr_runtime.specs.RuntimeView.{IsShown, IsToldBy, TellsFinalizer}
-use Rattle.clr_runtime.specs.Shown.{shown}
+use Rattle.clr_runtime.specs.Shown.{Ahead, shown}
 use Rattle.clr_runtime.proofs.CollectLines.{world-seen}
 use Rattle.clr_runtime.proofs.StepsKept.{stayed-born, stayed-typed, tables-told}
 
@@ -40,7 +40,8 @@ finalizers-grown m row (Birth type len local finalizer ∷ more) present tells =
   finalizers-grown m row more present.1 tells.1,
 )
 
-module _ {w : World} {sums : Sums} {options : Options} {threads : Threads} (is : IsShown w sums options threads) where
+module _ {w : World} {sums : Sums} {options : Options} {threads : Threads} {ahead : Ahead}
+    (is : IsShown w sums options threads ahead) where
   -- ---- a type was defined, or none
 
   module _ (after : List TypeRow) (row : TypeRow) where
@@ -51,7 +52,7 @@ module _ {w : World} {sums : Sums} {options : Options} {threads : Threads} (is :
     defined_tables cards bricks (Ok t) grown kept tables =
         subst (λ (rs : List TypeRow). AreTablesBy rs w.heap cards bricks (IsToldBy rs w.heap cards threads)) (sym grown)
         (tables-told cards threads bricks w.rows (w.rows ++ row ∷ []) w.heap w.heap
-        (stayed-typed (shown w sums options threads) row (objects_in (w.rows ++ row ∷ []) w.heap)
+        (stayed-typed (shown w sums options threads ahead) row (objects_in (w.rows ++ row ∷ []) w.heap)
         is.sound.lawful.shapes (objects_with_type w.rows row w.heap is.held.walkable))
         (tables-typed cards bricks w.rows row w.heap is.held tables))
     defined_tables cards bricks (Err f) grown kept tables =
@@ -63,7 +64,7 @@ module _ {w : World} {sums : Sums} {options : Options} {threads : Threads} (is :
         → AllByRecursion (TellsFinalizer after) threads.begun
     defined_finalizers (Ok t) grown kept tells =
         subst (λ (rs : List TypeRow). AllByRecursion (TellsFinalizer rs) threads.begun) (sym grown)
-        (finalizers-grown (shown w sums options threads) row threads.begun is.sound.lawful.names.steps tells)
+        (finalizers-grown (shown w sums options threads ahead) row threads.begun is.sound.lawful.names.steps tells)
     defined_finalizers (Err f) grown kept tells =
         subst (λ (rs : List TypeRow). AllByRecursion (TellsFinalizer rs) threads.begun) (sym kept) tells
 
@@ -71,7 +72,7 @@ module _ {w : World} {sums : Sums} {options : Options} {threads : Threads} (is :
 
   -- all that a slot names stands
   pub closed : AreClosedAmong w.rows (word_of w.heap) (heap_items w.rows w.heap)
-  closed x y e = slots_stand w (shown w sums options threads) (world-seen threads) is.sound x y e
+  closed x y e = slots_stand w (shown w sums options threads ahead) (world-seen threads ahead) is.sound x y e
 
   -- THE BIRTH: its cards and bricks are those of the new heap
   pub birth_tables : (thread : ℕ) (new : HeapView) (t n : ℕ) (cards : List (CoverView ℕ))

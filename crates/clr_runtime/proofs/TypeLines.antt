@@ -1,13 +1,13 @@
 -- What is seen after a type was defined, and why one is refused.
-use Rattle.std.proofs.Common.{◌≡◌, ◌≢◌, ◌∙◌, ◌↔◌, ℕ, ◌+◌, ◌≤◌, Bool, true, false, List, [], ◌∷◌, ◌++◌, length, refl}
+use Rattle.std.proofs.Common.{[], ap, Bool, false, length, List, refl, true, ℕ, ◌++◌, ◌+◌, ◌↔◌, ◌∙◌, ◌∷◌, ◌≡◌, ◌≢◌, ◌≤◌}
 use Rattle.std.proofs.Common.{sym, subst, arith, Option, Some, None, is_some}
 use Rattle.std.specs.Prelude.{Result, Ok, Err, OnOk, OnErr}
-use Rattle.clr_types.specs.Types.{TypeRow, Form, is_lawful_form, mt_of, number_with_free}
+use Rattle.clr_types.specs.Types.{Form, form_of_row, is_lawful_form, mt_of, number_with_free, TypeRow}
 use Rattle.clr_types.specs.declared.TypeId.{TypeId}
 use Rattle.clr_types.specs.declared.fault.DefineFault.{DefineFault}
 use Rattle.clr_types.specs.declared.fault.DefineFault.TheVariants as fault
 use Rattle.clr_safe.specs.Threads.{Threads}
-use Rattle.clr_runtime.specs.Shown.{shown}
+use Rattle.clr_runtime.specs.Shown.{Ahead, shown}
 use Rattle.clr_view.specs.View.{IsHeld}
 use Rattle.clr_view.specs.World.{World}
 use Rattle.clr_view.proofs.CleanWords.{clean_with_type}
@@ -28,17 +28,23 @@ use Rattle.clr_model.proofs.TypeDefined.{define_carried, define_carried_count, d
 use Rattle.clr_model.proofs.TypeDefined.{define_carried_lack, define_carried_name}
 use Rattle.clr_runtime.specs.Outcomes.{refusal_of_fault}
 use Rattle.clr_runtime.specs.RuntimeView.{IsShown}
+use Rattle.clr_types.specs.Rising.{IsIn}
+use Rattle.clr_types.proofs.GrownTables.{type_row-grown}
+use Rattle.clr_types.proofs.RisingLists.{all_at}
+use Rattle.clr_model.specs.Lawful.{IsShaped}
+use Rattle.clr_runtime.proofs.MarkedKept.{stays_marked}
 
 -- ---- a type more
 
 -- the machine that is shown has the type, too
-shown-defined : (w : World) (row : TypeRow) (sums : Sums) (options : Options) (threads : Threads) → IsHeld w.rows w.heap
-    → shown (record w { rows = w.rows ++ row ∷ [] }) sums options threads
-    ≡ with_type (shown w sums options threads) row.name row.form row.finalizer
-shown-defined w row sums options threads held =
+shown-defined : (w : World) (row : TypeRow) (sums : Sums) (options : Options) (threads : Threads) (ahead : Ahead)
+    → IsHeld w.rows w.heap
+    → shown (record w { rows = w.rows ++ row ∷ [] }) sums options threads ahead
+    ≡ with_type (shown w sums options threads ahead) row.name row.form row.finalizer
+shown-defined w row sums options threads ahead held =
     let objects = objects_with_type w.rows row w.heap held.walkable in
     let layout = layout_with_type w.rows row w.heap held.walkable in
-    λ i. record (shown w sums options threads) {
+    λ i. record (shown w sums options threads ahead) {
       types = w.rows ++ row ∷ [];
       objects = objects i;
       layout = layout i;
@@ -62,13 +68,13 @@ true_is : (b : Bool) → (b ≡ false → ⊥) → b ≡ true
 true_is true h = refl
 true_is false h = absurd (h refl)
 
-module _ (w : World) (sums : Sums) (options : Options) (threads : Threads) (name : List ℕ) (form : Form)
+module _ (w : World) (sums : Sums) (options : Options) (threads : Threads) (ahead : Ahead) (name : List ℕ) (form : Form)
     (finalizer : Bool) where
   abbrev rows : List TypeRow
   rows = w.rows
 
   abbrev before : Machine
-  before = shown w sums options threads
+  before = shown w sums options threads ahead
 
   room_in : (m : Machine) → StandsFor before m → length rows ≤ 1000
   room_in m stands =
@@ -78,11 +84,11 @@ module _ (w : World) (sums : Sums) (options : Options) (threads : Threads) (name
   -- the type is defined
   pub defined_follows : IsHeld rows w.heap → is_name name ≡ true → IsOpenTo rows name form finalizer
       → Follows before (define_type name form finalizer) (answered (Mt (mt_of (length rows + 1))))
-      (shown (record w { rows = rows ++ new_row name form finalizer ∷ [] }) sums options threads)
+      (shown (record w { rows = rows ++ new_row name form finalizer ∷ [] }) sums options threads ahead)
   defined_follows held spelled open_to =
       let unknown = none_is (number_with_free rows name) open_to.name_free in
       let lawful = true_is (is_lawful_form form finalizer) (open_to.form_lawful unknown) in
-      let new_is = shown-defined w (new_row name form finalizer) sums options threads held in
+      let new_is = shown-defined w (new_row name form finalizer) sums options threads ahead held in
       subst (Follows before (define_type name form finalizer) (answered (Mt (mt_of (length rows + 1))))) (sym new_is)
       (follows before (define_type name form finalizer) _ _ (λ m stands.
       let few = room_in m stands in
@@ -161,43 +167,57 @@ module _ (rows : List TypeRow) (name : List ℕ) (form : Form) (finalizer : Bool
 -- ---- what is seen
 
 module _ (w : World) (name : List ℕ) (form : Form) (finalizer : Bool) (result : Result TypeId DefineFault)
-    (told : IsTold w.rows name form finalizer result) (sums : Sums) (options : Options) (threads : Threads) where
+    (told : IsTold w.rows name form finalizer result) (sums : Sums) (options : Options) (threads : Threads)
+    (ahead : Ahead) where
   abbrev shown_before : Machine
-  shown_before = shown w sums options threads
+  shown_before = shown w sums options threads ahead
 
   -- a type that was defined
   pub told-ok : is_name name ≡ true → (t : TypeId) → result ≡ Ok t → IsHeld w.rows w.heap
       → Follows shown_before (define_type name form finalizer) (answered (Mt (mt_of (length w.rows + 1))))
-      (shown (record w { rows = w.rows ++ new_row name form finalizer ∷ [] }) sums options threads)
+      (shown (record w { rows = w.rows ++ new_row name form finalizer ∷ [] }) sums options threads ahead)
   told-ok spelled t ok held =
-      defined_follows w sums options threads name form finalizer held spelled
+      defined_follows w sums options threads ahead name form finalizer held spelled
       (open-ok w.rows name form finalizer result told t ok)
 
   -- and one that was refused
   pub told-err : (f : DefineFault) → result ≡ Err f
       → Follows shown_before (define_type name form finalizer) (refused (refusal_of_fault f)) shown_before
-  told-err fault.Duplicate err = name_follows w sums options threads name form finalizer (told.duplicate.0 err)
-  told-err fault.BadShape err = form_follows w sums options threads name form finalizer (told.bad_shape.0 err)
-  told-err fault.TooManyTypes err = count_follows w sums options threads name form finalizer (told.too_many.0 err)
+  told-err fault.Duplicate err = name_follows w sums options threads ahead name form finalizer (told.duplicate.0 err)
+  told-err fault.BadShape err = form_follows w sums options threads ahead name form finalizer (told.bad_shape.0 err)
+  told-err fault.TooManyTypes err = count_follows w sums options threads ahead name form finalizer (told.too_many.0 err)
   told-err fault.NoMemory err =
-      lacks_follows w sums options threads name form finalizer (open-lack w.rows name form finalizer result told err)
+      lacks_follows w sums options threads ahead name form finalizer
+      (open-lack w.rows name form finalizer result told err)
 
 -- what holds of the parts of a runtime holds of them after a definition, whether it was refused or not
 pub defined_kept : (w : World) (after : List TypeRow) (sums : Sums) (options : Options) (threads : Threads)
+    (ahead : Ahead)
     (name : List ℕ) (form : Form)
-    (finalizer : Bool) (result : Result TypeId DefineFault) → IsShown w sums options threads → is_name name ≡ true
+    (finalizer : Bool) (result : Result TypeId DefineFault) → IsShown w sums options threads ahead → is_name name ≡ true
     → OnOk result (after ≡ w.rows ++ new_row name form finalizer ∷ []) → OnErr result (after ≡ w.rows)
-    → IsTold w.rows name form finalizer result → IsShown (record w { rows = after }) sums options threads
-defined_kept w after sums options threads name form finalizer (Ok t) is spelled grown kept told =
+    → IsTold w.rows name form finalizer result → IsShown (record w { rows = after }) sums options threads ahead
+defined_kept w after sums options threads ahead name form finalizer (Ok t) is spelled grown kept told =
     let row = new_row name form finalizer in
-    subst (λ (rs : List TypeRow). IsShown (record w { rows = rs }) sums options threads) (sym grown) (record {
+    subst (λ (rs : List TypeRow). IsShown (record w { rows = rs }) sums options threads ahead) (sym grown) (record {
       locals = is.locals;
       held = held_with_type w.rows row w.heap is.held;
       unmarked = unmarked_with_type w.rows row w.heap is.held is.unmarked;
       free_heads = heads_with_type w.rows row w.heap is.held is.free_heads;
       clean = clean_with_type w.rows row w.heap is.held is.clean;
       sound = follows_sound _ _ _ _ is.sound
-          (told-ok w name form finalizer (Ok t) told sums options threads spelled t refl is.held);
+          (told-ok w name form finalizer (Ok t) told sums options threads ahead spelled t refl is.held);
+      marked = λ running.
+          stays_marked (shown w sums options threads ahead)
+          (shown (record w { rows = w.rows ++ row ∷ [] }) sums options threads ahead) ahead.background
+          (record {
+            objects = λ o here took. subst (IsIn o) (objects_with_type w.rows row w.heap is.held.walkable) here;
+            forms = λ o here.
+                ap form_of_row
+                (type_row-grown w.rows row o.type
+                (all_at (IsShaped (shown w sums options threads ahead)) here is.sound.lawful.shapes).typed);
+            stores = λ name slot j. j;
+          }) (is.marked running);
     })
-defined_kept w after sums options threads name form finalizer (Err f) is spelled grown kept told =
-    subst (λ (rs : List TypeRow). IsShown (record w { rows = rs }) sums options threads) (sym kept) is
+defined_kept w after sums options threads ahead name form finalizer (Err f) is spelled grown kept told =
+    subst (λ (rs : List TypeRow). IsShown (record w { rows = rs }) sums options threads ahead) (sym kept) is

@@ -1,4 +1,5 @@
 pub mod Options
+pub mod Marked
 pub mod Shown
 pub mod RuntimeView
 pub mod Slides
@@ -6,7 +7,10 @@ pub mod Outcomes
 pub mod Checks
 pub mod Births
 pub mod Rooms
+pub mod Segments
 pub mod LargeRooms
+pub mod PinnedBirths
+pub mod PinnedRooms
 pub mod Slots
 pub mod Handles
 pub mod Steps

@@ -1,7 +1,7 @@
 -- What the results of a runtime's calls say.
 use Rattle.std.specs.Prelude.{ℕ, Result, Ok, Err}
 use Rattle.clr_model.specs.declared.Collected as code
-use Rattle.clr_model.specs.declared.Reply.TheVariants.{Collected, Done, HandleNumber, Mt, Number, Place}
+use Rattle.clr_model.specs.declared.Reply.TheVariants.{Collected, Done, HandleNumber, Mt, Number, Place, Scanned}
 use Rattle.clr_model.specs.declared.Refusal.{Refusal}
 use Rattle.clr_model.specs.declared.Refusal.TheVariants as refusal
 use Rattle.clr_types.specs.declared.fault.DefineFault.{DefineFault}
@@ -9,6 +9,7 @@ use Rattle.clr_types.specs.declared.fault.DefineFault.TheVariants as fault
 use Rattle.clr_handles.specs.declared.fault.CreateFault.{CreateFault}
 use Rattle.clr_handles.specs.declared.fault.CreateFault.TheVariants as creation
 use Rattle.clr_heap.specs.declared.heap.segments.AcquireFault.TheVariants as acquisition
+use Rattle.clr_bgmark.specs.declared.background.Progress.{Progress}
 use Rattle.clr_model.specs.Outcomes as model
 use Rattle.clr_runtime.specs.declared.rooms.NoRoom.{NoRoom}
 use Rattle.clr_runtime.specs.declared.rooms.NoRoom.TheVariants as room
@@ -37,6 +38,11 @@ handle_outcome (Err refusal) = model.refused refusal
 abbrev pub collected_outcome : Result code.Collected Refusal → model.Outcome
 collected_outcome (Ok collected) = model.answered (Collected collected)
 collected_outcome (Err refusal) = model.refused refusal
+
+-- what a call tells that scans gray objects
+abbrev pub scanned_outcome : Result Progress Refusal → model.Outcome
+scanned_outcome (Ok progress) = model.answered (Scanned progress.scanned progress.gray)
+scanned_outcome (Err refusal) = model.refused refusal
 
 -- what a call tells that gives nothing
 abbrev pub done_outcome : Result (Unit {0}) Refusal → model.Outcome

@@ -1,7 +1,7 @@
 -- What holds of the parts of a runtime, and the machine that they show.
-use Rattle.std.specs.Prelude.{◌≡◌, ℕ, ◌+◌, ◌/◌, ◌≤◌, ◌==◌, if◌then◌else◌, length, List, [], true, ◌⊎◌}
+use Rattle.std.specs.Prelude.{◌≡◌, ℕ, ◌+◌, ◌/◌, ◌≤◌, ◌==◌, ◌&&◌, if◌then◌else◌, length, List, [], true, not, ◌⊎◌}
 use Rattle.std.specs.List.{AllByRecursion}
-use Rattle.clr_types.specs.declared.segment.SegKind.TheVariants.{Large}
+use Rattle.clr_types.specs.declared.segment.SegKind.TheVariants.{Large, Pinned}
 use Rattle.clr_types.specs.Rising.{IsIn}
 use Rattle.clr_types.specs.Types.{form_at, has_finalizer, slot_offset, type_row, TypeRow}
 use Rattle.clr_covers.specs.Covers.{CoverView}
@@ -10,7 +10,8 @@ use Rattle.clr_heap.specs.View.{HeapView}
 use Rattle.clr_handles.specs.Tops.{pinned_in}
 use Rattle.clr_view.specs.Clean.{AreClean}
 use Rattle.clr_view.specs.Marks.{IsUnmarked}
-use Rattle.clr_runtime.specs.Shown.{shown}
+use Rattle.clr_runtime.specs.Marked.{IsMarkedSoFar}
+use Rattle.clr_runtime.specs.Shown.{Ahead, none_running, shown}
 use Rattle.clr_view.specs.View.{AreFreeHeads, IsHeld, objects_in}
 use Rattle.clr_view.specs.World.{World}
 use Rattle.clr_model.specs.Machine.{begun_store, Machine, Object, Options, Sums, ThreadStep}
@@ -54,8 +55,19 @@ world_of r = record {
   ready = r.finals.ready;
 }
 
+-- what the next full collection is to do
+abbrev pub ahead_of : Parts → Ahead
+ahead_of r = record { compacts_large = r.compact_large; background = r.background }
+
+-- what a later one is to do, after a collection of generation g
+abbrev pub ahead_after : Ahead → ℕ → Ahead
+ahead_after ahead g = record {
+  compacts_large = ahead.compacts_large && not (g == 2);
+  background = if g == 2 then none_running else ahead.background;
+}
+
 abbrev pub seen : Parts → Machine
-seen r = shown (world_of r) (sums_of r.sums) (options_of r.options) r.safe
+seen r = shown (world_of r) (sums_of r.sums) (options_of r.options) r.safe (ahead_of r)
 
 -- a runtime: the machine that it shows, and how much its compactions have moved, counted with the compactions
 pub record RuntimeView : Type 0 where
@@ -70,14 +82,17 @@ abbrev pub StandsFor : RuntimeView → Machine → Type 0
 StandsFor runtime m = run.StandsFor runtime.machine m
 
 -- What holds of the parts of a runtime. What is seen is lawful, and its objects are named by their places. Between
--- lines no object is marked, and no free item's head is. The headers and the padding of objects say nothing else.
-pub record IsShown (w : World) (sums : Sums) (options : Options) (threads : Threads) : Type 0 where
+-- lines no object is marked, and no free item's head is. The headers and the padding of objects say nothing else. While
+-- a background collection runs, its bits and its log tell what they are to tell.
+pub record IsShown (w : World) (sums : Sums) (options : Options) (threads : Threads) (ahead : Ahead) : Type 0 where
   pub locals : length w.locals ≡ 1024
   pub held : IsHeld w.rows w.heap
   pub unmarked : IsUnmarked w.rows w.heap
   pub free_heads : AreFreeHeads w.rows w.heap
   pub clean : AreClean w.rows w.heap
-  pub sound : IsPlaceNamed (shown w sums options threads)
+  pub sound : IsPlaceNamed (shown w sums options threads ahead)
+  pub marked : ahead.background.running ≡ true
+      → IsMarkedSoFar (shown w sums options threads ahead) ahead.background
 
 -- a thread has begun a store into the slot at this address of one of the objects
 pub record IsBegunStore (rows : List TypeRow) (objects : List Object) (steps : List ThreadStep) (a : ℕ) : Type 0 where
@@ -98,17 +113,18 @@ TellsFinalizer rows Nothing = Unit {0}
 TellsFinalizer rows (Store object slot) = Unit {0}
 TellsFinalizer rows (Birth type len local finalizer) = finalizer ≡ has_finalizer (type_row rows type.0)
 
--- What holds of each runtime: that, its cards and bricks are those of its heap, its contexts and its large items keep
--- the indexes of this heap, and segments are limited as the options say. Cards tell all references to younger objects
--- but those of begun stores. There is room for the finalisation entries of the objects that are begun. No words are
--- saved, and there is room for what a collection saves.
+-- What holds of each runtime: that, its cards and bricks are those of its heap, its contexts and its large and pinned
+-- items keep the indexes of this heap, and segments are limited as the options say. Cards tell all references to
+-- younger objects but those of begun stores. There is room for the finalisation entries of the objects that are begun.
+-- No words are saved, and there is room for what a collection saves.
 pub record IsRuntime (r : Parts) : Type 0 where
-  pub shown : IsShown (world_of r) (sums_of r.sums) (options_of r.options) r.safe
+  pub shown : IsShown (world_of r) (sums_of r.sums) (options_of r.options) r.safe (ahead_of r)
   pub tables : AreTablesBy r.types r.heap r.cards r.bricks (IsToldBy r.types r.heap r.cards r.safe)
   pub owed : births_owed r.safe ≤ r.finals.spare
   pub finalizers : AllByRecursion (TellsFinalizer r.types) r.safe.begun
   pub index : IsIndex r.types r.heap r.contexts
   pub large : IsKindIndex Large r.types r.heap r.large
+  pub pinned : IsKindIndex Pinned r.types r.heap r.pinned
   pub limit : r.heap.limit ≡ r.options.limit
   pub pins : r.pins.entries ≡ []
   pub room : pinned_in r.handles + 4 ≤ r.pins.spare

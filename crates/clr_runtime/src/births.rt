@@ -162,7 +162,7 @@ fn make_large(parts: &mut Parts, t: u64, local: u64, request: Request) -> Result
 
 // The type that a script defined under this name.
 #[inline(always)]
-fn defined(types: &Types, name: &[u8]) -> Option<TypeId>
+pub(crate) fn defined(types: &Types, name: &[u8]) -> Option<TypeId>
     ensures { IsDefined types.now name.now result }
 {
     let _ = types.count();

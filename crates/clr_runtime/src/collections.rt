@@ -1,15 +1,17 @@
 //! The line that collects, and the collections that it and allocations make.
-ghost use Rattle.std.specs.Prelude.{◌≡◌, ◌+◌, ◌≤◌, IfOk, length, MatchBool, None, Some, [], false};
+ghost use Rattle.std.specs.Prelude.{◌≡◌, ◌+◌, ◌≤◌, ◌==◌, IfOk, if◌then◌else◌, length, MatchBool, None, Some, [], false};
 ghost use Rattle.clr_heap.specs.View.{no_rests};
 ghost use Rattle.clr_model.specs.Collection.{Collects, is_fit};
 ghost use Rattle.clr_model.specs.Lookups.{lowest_in_step};
 ghost use Rattle.clr_model.specs.Machine.{Machine};
 ghost use Rattle.clr_model.specs.Picture.{picture};
 ghost use Rattle.clr_runtime.specs.RuntimeView.{IsRuntime, seen};
+ghost use Rattle.clr_runtime.specs.Shown.{none_running};
 ghost use Rattle.clr_runtime.specs.Slides.{CountsCollection};
 
 use crate::parts::Parts;
 use crate::runtime::Runtime;
+use clr_bgmark::Background;
 use clr_collect::collect;
 use clr_model::{Collected, How, Refusal};
 
@@ -57,8 +59,9 @@ impl Runtime {
 
 // Collects generation `g` and all younger ones, as `how` says. No thread is in mid-step, and none has a context
 // afterwards. The finalisation queue still has room for as many entries. It takes no memory: no queue has room for more
-// than it had room for, nor has the marker's stack. The index of free items of large segments is dropped, and after a
-// compaction that of the contexts; each is made anew where room is next wanted there.
+// than it had room for, nor has the marker's stack. One of all generations ends a background collection that runs. The
+// indexes of free items of large and of pinned segments are dropped, and after a compaction that of the contexts; each is
+// made anew where room is next wanted there.
 pub(crate) fn collect_parts(parts: &mut Parts, g: u8, how: How) -> Collected
     requires generation { g ≤ 2 }
     requires unfitted { is_fit how ≡ false }
@@ -77,6 +80,7 @@ pub(crate) fn collect_parts(parts: &mut Parts, g: u8, how: How) -> Collected
     ensures stack { parts.new.marker.capacity ≡ parts.old.marker.capacity }
     ensures index_after { MatchBool result.compacted (parts.new.contexts ≡ None) (parts.new.contexts ≡ Some []) }
     ensures large_index { parts.new.large ≡ None }
+    ensures pinned_index { parts.new.pinned ≡ None }
     ensures types { parts.new.types ≡ parts.old.types }
     ensures safe { parts.new.safe ≡ parts.old.safe }
 {
@@ -95,10 +99,22 @@ pub(crate) fn collect_parts(parts: &mut Parts, g: u8, how: How) -> Collected
         parts.options.compact,
         g,
         how,
+        &mut parts.compact_large,
     );
+    stop_after(&mut parts.background, g);
     parts.sums = parts
         .sums
         .collected(g, collected.promoted1, collected.promoted2);
     parts.large.lose();
+    parts.pinned.lose();
     collected
+}
+
+// A collection of all generations ends a background collection that runs.
+fn stop_after(background: &mut Background, g: u8)
+    ensures { background.new ≡ (if g == 2 then none_running else background.old) }
+{
+    if g == 2 {
+        background.stop();
+    }
 }

@@ -4,7 +4,7 @@ ghost use Rattle.clr_types.specs.declared.segment.SegKind.TheVariants.{Large};
 ghost use Rattle.clr_model.specs.Allocation.{has_room_in};
 ghost use Rattle.clr_model.specs.LargeFollows.{FollowsLargeFails, FollowsToPlace};
 ghost use Rattle.clr_model.specs.Lookups.{lowest_in_step};
-ghost use Rattle.clr_runtime.specs.LargeRooms.{has_place_in_budget, IsAcquired};
+ghost use Rattle.clr_runtime.specs.LargeRooms.{has_place_in_budget};
 ghost use Rattle.clr_runtime.specs.Rooms.{attempt_of};
 ghost use Rattle.clr_runtime.specs.RuntimeView.{IsRuntime, seen};
 ghost use Rattle.clr_runtime.specs.Slides.{Grew};
@@ -12,12 +12,9 @@ ghost use Rattle.clr_runtime.specs.Slides.{Grew};
 use crate::collections::collect_parts;
 use crate::parts::Parts;
 use crate::rooms::NoRoom;
+use crate::segments::acquire_for;
 use clr_heap::{AcquireFault, SegKind};
-use clr_large::acquire_of_kind;
 use clr_model::How;
-
-/// Segments are reserved in whole pages of so many bytes, and objects start so far behind a segment's base.
-const PAGE: u64 = 4096;
 
 // Makes room of this size in a large segment. It is the first of these steps that serves: a place within the budget,
 // one after a full collection, one after a full compacting one, one in a new segment.
@@ -54,7 +51,7 @@ pub(crate) fn make_large_room(parts: &mut Parts, size: u64) -> Result<(), NoRoom
     if has_large_room(parts, size) {
         return Ok(());
     }
-    match acquire_for(parts, size) {
+    match acquire_for(parts, SegKind::Large, size) {
         Ok(()) => Ok(()),
         Err(fault) => Err(NoRoom::Acquire(fault)),
     }
@@ -93,32 +90,4 @@ fn has_large_room(parts: &mut Parts, size: u64) -> bool
     parts
         .large
         .room(&parts.heap, &parts.types, SegKind::Large, size)
-}
-
-// Acquires a large segment in which the size fits, where the limit allows one and there is memory for it. It reserves
-// as many bytes as the options say, or as many whole pages as the object takes behind the first, where these are more.
-// Threads may be in mid-step.
-//
-// `OverLimit` comes exactly where the limit allows no such segment, and `NoMemory` where there is no memory for it, its
-// cards or its bricks. Nothing that is seen changes then.
-fn acquire_for(parts: &mut Parts, size: u64) -> Result<(), AcquireFault>
-    requires runtime { IsRuntime parts.old }
-    requires most { size ≤ 1073741824 }
-    ensures acquired { IsAcquired (seen parts.old) (seen parts.new) size result }
-    ensures runtime { IsRuntime parts.new }
-    ensures slides { parts.new.slides ≡ parts.old.slides }
-    ensures finals { parts.new.finals ≡ parts.old.finals }
-    ensures types { parts.new.types ≡ parts.old.types }
-    ensures safe { parts.new.safe ≡ parts.old.safe }
-{
-    let pages = (size + PAGE - 1) / PAGE;
-    let reserved = parts.options.segment.max(PAGE + pages * PAGE);
-    acquire_of_kind(
-        &mut parts.heap,
-        &parts.types,
-        &mut parts.cards,
-        &mut parts.bricks,
-        SegKind::Large,
-        reserved,
-    )
 }

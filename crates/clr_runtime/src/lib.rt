@@ -3,8 +3,10 @@
 
 pub use crate::options::Options;
 pub use crate::runtime::Runtime;
+pub use clr_bgmark::Progress;
 pub use clr_mark::NoMemory;
 
+mod background;
 mod births;
 mod checks;
 mod collections;
@@ -13,9 +15,13 @@ mod handles;
 mod large;
 mod options;
 mod parts;
+mod pinned;
+mod pinned_births;
 mod rooms;
 mod runtime;
 mod sealing;
+mod segments;
+mod sliding;
 mod slots;
 mod steps;
 mod sums;

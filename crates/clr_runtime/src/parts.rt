@@ -1,6 +1,7 @@
 //! Everything that a runtime works on, as one plain struct.
 use crate::options::Options;
 use crate::sums::Sums;
+use clr_bgmark::Background;
 use clr_bricks::Bricks;
 use clr_cards::Cards;
 use clr_compact::Slides;
@@ -27,6 +28,8 @@ pub(crate) struct Parts {
     pub(crate) contexts: Contexts,
     /// The index of free items of large segments.
     pub(crate) large: KindItems,
+    /// The index of free items of pinned segments.
+    pub(crate) pinned: KindItems,
     pub(crate) marker: Marker,
     pub(crate) locals: Vec<u64>,
     pub(crate) handles: Handles,
@@ -35,6 +38,10 @@ pub(crate) struct Parts {
     pub(crate) slides: Slides,
     /// What threads have begun, and who holds them.
     pub(crate) safe: Safe,
+    /// What a background collection knows that runs.
+    pub(crate) background: Background,
+    /// Whether the next full collection slides the large heap.
+    pub(crate) compact_large: bool,
     pub(crate) sums: Sums,
     pub(crate) options: Options,
 }

@@ -8,6 +8,7 @@ use crate::NoMemory;
 use crate::options::Options;
 use crate::parts::Parts;
 use crate::sums::Sums;
+use clr_bgmark::Background;
 use clr_bricks::Bricks;
 use clr_cards::Cards;
 use clr_compact::Slides;
@@ -40,8 +41,8 @@ pub(crate) const LOCALS_OF_A_THREAD: u64 = 64;
 ///
 /// Contracts see the machine whose objects are named by their places, and the count of what compactions have moved.
 /// After each call the machine stands for the next state of each graph machine that it stood for before, and the answer
-/// is that step's reply. A refused call leaves the state as it was, but for one of `new_object` or `begin_new` that
-/// finds no room after it has collected.
+/// is that step's reply. A refused call leaves the state as it was, but for one of `new_object`, `new_pinned` or
+/// `begin_new` that finds no room after it has collected.
 ///
 /// A thread may not go on where its number isn't one from 1 to 16, where another thread holds all others (`Blocked`),
 /// and where it is in mid-step itself (`MidStep`). Each line of a thread is refused for that first, in this order.
@@ -122,6 +123,7 @@ impl Runtime {
             bricks,
             contexts: Contexts::new(alloc),
             large: KindItems::new(alloc),
+            pinned: KindItems::new(alloc),
             marker,
             locals,
             handles: Handles::new(alloc),
@@ -129,6 +131,8 @@ impl Runtime {
             pins,
             slides: Slides::new(),
             safe: Safe::new(),
+            background: Background::new(alloc),
+            compact_large: false,
             sums: Sums::NONE,
             options,
         };
@@ -159,9 +163,9 @@ impl Runtime {
     }
 
     /// The heap, of which the options limit the segments. Objects of `large` bytes and more stand in its large
-    /// segments. No object is marked, each free item has the head of free space without a mark, and the headers and
-    /// the padding of objects say nothing else. What is seen is a lawful state whose objects are named by their
-    /// places.
+    /// segments, and those that `new_pinned` made in its pinned ones. No object is marked, each free item has the head
+    /// of free space without a mark, and the headers and the padding of objects say nothing else. What is seen is a
+    /// lawful state whose objects are named by their places.
     #[inline]
     pub fn heap(&self) -> &Heap
         ensures objects { self.now.machine.objects ≡ objects_in self.now.machine.types result.now }
@@ -237,13 +241,12 @@ impl Runtime {
         &self.parts.safe
     }
 
-    /// Whether the next collection of all generations compacts large segments. No line asks for that yet.
+    /// Whether the next collection of all generations slides the objects of large segments together.
     #[inline]
     pub fn compact_large(&self) -> bool
         ensures { result ≡ self.now.machine.compacts_large }
     {
-        let _ = &self.parts.options;
-        false
+        self.parts.compact_large
     }
 
     /// How many bytes all segments may reserve together.

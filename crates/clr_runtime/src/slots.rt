@@ -65,6 +65,7 @@ impl Runtime {
             Err(refusal) => return Err(refusal),
         };
         let name = self.parts.locals[index_of(t, from)];
+        self.parts.heap.lawful();
         set_reference(
             &mut self.parts.heap,
             &self.parts.types,
@@ -73,6 +74,9 @@ impl Runtime {
             found.slot,
             name,
         );
+        self.parts
+            .background
+            .wrote(found.item.place + found.slot.offset);
         Ok(())
     }
 

@@ -170,7 +170,8 @@ fn begin_small(parts: &mut Parts, t: u64, local: u64, request: Request) -> Resul
     Ok(())
 }
 
-// Sets the card of the slot into which thread `t` has stored, whatever the slot holds by now.
+// Sets the card of the slot into which thread `t` has stored, whatever the slot holds by now, and tells a background
+// collection of the store.
 fn finish_store(parts: &mut Parts, t: u64, object: u64, index: u64)
     requires runtime { IsRuntime parts.old }
     requires thread { is_thread t ≡ true }
@@ -181,7 +182,9 @@ fn finish_store(parts: &mut Parts, t: u64, object: u64, index: u64)
     parts.heap.lawful();
     let item = object_item(&parts.heap, &parts.types, object);
     let slot = parts.types.slot(item.type_id, item.len, index);
-    parts.cards.set(item.place + slot.offset);
+    let address = item.place + slot.offset;
+    parts.cards.set(address);
+    parts.background.wrote(address);
     parts.safe.end(t);
 }
 

@@ -59,6 +59,13 @@ any-of test (other ∷ rows) row first passes = rw passes refl
 any-of test (other ∷ rows) row (later i) passes =
     or_right (test other) (list_any test rows) (any-of test rows row i passes)
 
+-- what a pinned handle names is pinned
+pub pinned-told : (m : Machine) (k : ℕ) (row : Handle) → finmap.get m.handles k ≡ Some row
+    → is_pinned_kind row.kind ≡ true → (name : ℕ) → row.target ≡ name → is_pinned m name ≡ true
+pinned-told m k row found pinned name same =
+    any-of (λ (r : Handle). is_pinned_kind r.kind && (r.target == name)) (handle_rows m) row
+    (value-among m.handles k row found) (rw (pinned, eq-eqb row.target name same) refl)
+
 -- What is given before survivors move.
 pub record IsGiven (rows : List TypeRow) (h : HeapView) (cards : List (CoverView ℕ)) (bricks : BricksView)
     (locals : List ℕ) (table : FinMap nat_cmp Handle) (queues : Queues) (g : ℕ) : Type 0 where
@@ -143,9 +150,8 @@ module _ (rows : List TypeRow) (old new : HeapView) (cards : List (CoverView ℕ
         let place : o.place ≡ row.target = sym (name-is-place rows old o left.present) ∙ left.named in
         let listed = subst (λ (os : List Object). IsIn o os) (sym c.memory.objects)
         (subst (λ (os : List Object). IsIn o os) (sym p.pins.objects) left.present) in
-        let among = value-among m.handles k row (ap (λ (t : FinMap nat_cmp Handle). finmap.get t k) same ∙ found) in
-        let pins : is_pinned m o.name ≡ true = any-of (λ (r : Handle). is_pinned_kind r.kind && (r.target == o.name))
-        (handle_rows m) row among (rw (pinned, eq-eqb row.target o.name (sym left.named)) refl) in
+        let pins = pinned-told m k row (ap (λ (t : FinMap nat_cmp Handle). finmap.get t k) same ∙ found) pinned o.name
+        (sym left.named) in
         ap (moved_by p.plan.moves) (sym place)
         ∙ pinned_stays m c.laid g given.generation kept p.plan.moves p.plan.after c.compacted o listed pins ∙ place
   ]

@@ -40,7 +40,8 @@ use Rattle.clr_moves.specs.Moves.{part_of, takes}
 use Rattle.clr_moves.specs.Objects.{is_in_parts, moved_object, relocated_object}
 use Rattle.clr_moves.specs.Overlaid.{IsOutside}
 use Rattle.clr_moves.proofs.PlacesInPlugs.{in_part-same, outside_stays}
-use Rattle.clr_compact.proofs.Gone.{into_parts}
+use Rattle.clr_moves.proofs.CompactionFills.{fills-parts}
+use Rattle.clr_moves.proofs.PartPlaces.{into_parts}
 use Rattle.clr_compact.proofs.MemoryItems.{part_whole}
 use Rattle.clr_moves.proofs.PlannedMoves.{seen-laid}
 use Rattle.clr_survivors.specs.Condemned.{condemned_from}
@@ -84,7 +85,7 @@ pin-none w off =
     ap (λ (b : Bool). if false && not b then w + pinned_bit else if not false && b then w - pinned_bit else w) off
 
 -- a pinned handle's target has gone with it
-pinned-moved : (to : ℕ → ℕ) (table : FinMap nat_cmp Handle) (low place : ℕ) → 0 < to place → low ≤ to place
+pub pinned-moved : (to : ℕ → ℕ) (table : FinMap nat_cmp Handle) (low place : ℕ) → 0 < to place → low ≤ to place
     → IsPinnedBelow table low 65536 place → IsPinnedBelow (map_values (relocated to) table) low 65536 (to place)
 pinned-moved to table low place some above q = record {
   number = q.number;
@@ -185,11 +186,13 @@ module _ (s : Stages) (m : Machine) (kept : ℕ → Bool) (c : IsCourse s m kept
             let start = ap (λ (n : ℕ). first_of view n) same in
             elim (part_whole s.rows view m view_heap c.begun.pins.held
             (seen-laid s.rows view
-            (Generations s.g) c.begun.plan.moves m kept c.begun.plan.after c.begun.plan.compaction) s.g
-            c.run.given.generation kept h.segment h.in_range j h.listed) [
+            (Generations s.g) c.begun.plan.moves m kept c.begun.plan.after c.begun.plan.compaction) (Generations s.g)
+            kept c.begun.plan.moves c.begun.plan.after
+            (fills-parts s.rows view (Generations s.g) c.begun.plan.moves m kept c.begun.plan.after
+            c.begun.plan.compaction c.run.given.generation) h.segment h.in_range takes_part j h.listed) [
               | inl from ↦
                   absurd (both_ways (is_in_parts view (Generations s.g) j.place) away
-                  (into_parts view s.g h.segment j.place
+                  (into_parts view (Generations s.g) h.segment j.place
                   (record {
                     in_range = h.in_range;
                     takes = takes_part;
@@ -445,8 +448,8 @@ module _ (s : Stages) (m : Machine) (kept : ℕ → Bool) (c : IsCourse s m kept
           let from : j.place - 8 + t ≡ d = omega (arith, above, low, z, zo, down) in
           let low_p : j.place + slots_end (form_at s.rows j.type_id.0) j.len ≤ p = omega (arith, down, ends) in
           let high_p : p < j.place + j.size - 8 = omega (arith, over, size, above) in
-          let none = no-reference s.rows c.begun.view c.begun.plan.overlaid.heap c.begun.pins.held s.g j p in-view-items
-          low_p high_p in
+          let none = no-reference s.rows c.begun.view c.begun.plan.overlaid.heap c.begun.pins.held (Generations s.g) j p
+          in-view-items low_p high_p in
           let word : word_of new b ≡ word_of s.old d =
           new-word object b at.aligned (omega (arith, above)) (omega (arith, below, sized))
           (λ same. omega (arith, same, above))

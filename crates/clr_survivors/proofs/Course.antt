@@ -19,6 +19,7 @@ use Rattle.clr_model.specs.Machine.{Machine}
 use Rattle.clr_model.specs.Sweep.{has_condemned_part, segments_after, survivors}
 use Rattle.clr_view.specs.Memory.{is_left_name, IsMemoryOf, TestsMarks}
 use Rattle.clr_view.specs.View.{AreFreeHeads, layout_in}
+use Rattle.clr_moves.specs.declared.parts.Parts.TheVariants.{Generations}
 use Rattle.clr_moves.specs.declared.planned.Planned.{Planned}
 use Rattle.clr_pinq.specs.declared.entry.PinEntry.{PinEntry}
 use Rattle.clr_plugs.specs.BrickEntries.{BricksView}
@@ -142,9 +143,9 @@ module _ (s : Stages) (m : Machine) (kept : ℕ → Bool) (c : IsCourse s m kept
   pub layout-moved : layout_in s.rows s.moved ≡ c.begun.plan.after
   layout-moved =
       c.went.compacted.layout
-      (relocated_machine s.rows c.begun.view c.went.mid s.g c.begun.plan.moves c.went.relocated m
+      (relocated_machine s.rows c.begun.view c.went.mid (Generations s.g) c.begun.plan.moves c.went.relocated m
       c.begun.plan.compaction.memory) kept c.begun.plan.after
-      (compaction-stays s.rows c.begun.view c.went.mid s.g c.begun.plan.moves c.went.relocated m
+      (compaction-stays s.rows c.begun.view c.went.mid (Generations s.g) c.begun.plan.moves c.went.relocated m
       c.begun.plan.compaction.memory kept c.begun.plan.after c.begun.plan.compaction)
       (c.begun.plan.start1_is ∙ sym c.run.start1_is) (c.begun.plan.start0_is ∙ sym c.run.start0_is)
 

@@ -2,11 +2,10 @@
 use Rattle.std.proofs.Common.{◌≡◌, ℕ, Bool, true, false, ◌&&◌, List, map, filter, refl, ap, sym, ◌∙◌, subst}
 use Rattle.std.proofs.Common.{if◌then◌else◌, ◌==◌}
 use Rattle.clr_types.specs.Rising.{IsIn, sorted_by}
-use Rattle.clr_types.specs.Segments.{ended_at, is_small_or_ephemeral, Layout, same_kind}
+use Rattle.clr_types.specs.Segments.{ended_at, is_small_or_ephemeral, Layout}
 use Rattle.clr_types.specs.Types.{TypeRow}
 use Rattle.clr_types.specs.declared.segment.SegInfo.{SegInfo}
 use Rattle.clr_types.specs.declared.segment.SegKind.{SegKind}
-use Rattle.clr_types.specs.declared.segment.SegKind.TheVariants.{Large}
 use Rattle.clr_types.proofs.ListMembers.{map-map}
 use Rattle.clr_types.proofs.SortedLists.{into_sorted_by, out_of_sorted_by}
 use Rattle.clr_bricks.specs.Bricks.{entry_at}
@@ -24,6 +23,7 @@ use Rattle.clr_view.specs.Memory.{is_left}
 use Rattle.clr_view.specs.View.{layout_in, objects_in}
 use Rattle.clr_moves.specs.Objects.{moved_object, relocated_object}
 use Rattle.clr_plugs.specs.BrickEntries.{BricksView}
+use Rattle.clr_moves.specs.declared.parts.Parts.TheVariants.{Generations}
 use Rattle.clr_reloc.specs.Relocated as relocated
 use Rattle.clr_reloc.specs.Relocated.{rebounded}
 use Rattle.clr_survivors.specs.Phases.{HasSettled}
@@ -52,7 +52,7 @@ same-but-ends f same kinds g ends ss =
 -- ---- objects
 
 -- a list and its members by rising name
-same-members : (rows : List TypeRow) (xs ys : List Object) → ys ≡ sorted_by (λ o. o.name) xs
+pub same-members : (rows : List TypeRow) (xs ys : List Object) → ys ≡ sorted_by (λ o. o.name) xs
     → HasSameObjects rows rows xs ys
 same-members rows xs ys is = record {
   were = λ o i. record {
@@ -123,7 +123,7 @@ module _ (s : Stages) (m : Machine) (kept : ℕ → Bool) (c : IsCourse s m kept
   }
 
   -- what the view's plan takes along is what is left
-  left-lists : relocated.left_objects s.rows c.begun.view s.g c.begun.plan.moves
+  left-lists : relocated.left_objects s.rows c.begun.view (Generations s.g) c.begun.plan.moves
       ≡ left_objects s.rows s.old s.g c.begun.plan.moves
   left-lists =
       ap (map (λ o. moved_object c.begun.plan.moves (relocated_object c.begun.plan.moves o)))
@@ -135,15 +135,15 @@ module _ (s : Stages) (m : Machine) (kept : ℕ → Bool) (c : IsCourse s m kept
   pub tables-ended : (cards : List (CoverView ℕ)) (bricks : BricksView) → spans cards ≡ spans s.cards
       → spans bricks ≡ spans s.before
       → CardLaw s.rows (rebounded (frame c.begun.view) s.planned)
-      (relocated.left_objects s.rows c.begun.view s.g c.begun.plan.moves) (is_card_set cards)
+      (relocated.left_objects s.rows c.begun.view (Generations s.g) c.begun.plan.moves) (is_card_set cards)
       → BrickLaw s.rows (frame new) (objects_in s.rows new) (entry_at bricks) → AreTablesOf s.rows new cards bricks
   tables-ended cards bricks same_cards same_bricks card_law brick_law = record {
     cards = same_cards ∙ c.run.given.tables.cards ∙ sym (segments-ended (units_of 2048) (λ end u. refl));
     bricks = same_bricks ∙ c.run.given.tables.bricks ∙ sym (segments-ended (units_of 4096) (λ end u. refl));
     card_law = λ a y. card_law a
         (were-younger s.rows s.rows (rebounded (frame c.begun.view) s.planned) (frame new)
-        (relocated.left_objects s.rows c.begun.view s.g c.begun.plan.moves) (objects_in s.rows new) same-bounds
-        (same-members s.rows (relocated.left_objects s.rows c.begun.view s.g c.begun.plan.moves)
+        (relocated.left_objects s.rows c.begun.view (Generations s.g) c.begun.plan.moves) (objects_in s.rows new)
+        same-bounds (same-members s.rows (relocated.left_objects s.rows c.begun.view (Generations s.g) c.begun.plan.moves)
         (objects_in s.rows new)
         (objects-ended s m kept c new e ∙ ap (sorted_by (λ (o : Object). o.name)) (sym left-lists))) a y);
     brick_law = brick_law;

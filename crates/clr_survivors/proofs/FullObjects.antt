@@ -1,10 +1,10 @@
 -- The objects after a full collection: large segments are swept, too.
-use Rattle.std.proofs.Common.{◌≡◌, inl, inr, ℕ, ◌-◌, ◌≤◌, Bool, true, false, not, ◌||◌, ◌&&◌, List}
+use Rattle.std.proofs.Common.{◌≡◌, inl, inr, ℕ, ◌≤◌, Bool, true, false, not, ◌||◌, ◌&&◌, List}
 use Rattle.std.proofs.Common.{refl, ap, sym}
 use Rattle.std.proofs.Common.{◌∙◌, subst, arith, filter, map, if◌then◌else◌, [], ◌∷◌, nat_le}
 use Rattle.std.specs.List.{AllByRecursion}
 use Rattle.std.proofs.lemmas.Bool.{both_ways, cases_Bool, cases_order, le-leb, leb-true}
-use Rattle.clr_types.specs.Rising.{first, insert_by, IsIn, sorted_by}
+use Rattle.clr_types.specs.Rising.{insert_by, IsIn, sorted_by}
 use Rattle.clr_types.specs.Segments.{generation, same_kind}
 use Rattle.clr_types.specs.declared.segment.SegKind.TheVariants.{Ephemeral}
 use Rattle.clr_types.proofs.ChangedLists.{IsSortedBy, sorted_by-sorted}
@@ -22,7 +22,7 @@ use Rattle.clr_moves.specs.Moves.{part_of, takes}
 use Rattle.clr_moves.specs.Objects.{is_in_parts, is_spared}
 use Rattle.clr_moves.specs.Overlaid.{IsOutside}
 use Rattle.clr_moves.proofs.PlacesInPlugs.{in_part-same, moved_in_plug, outside_stays}
-use Rattle.clr_compact.proofs.Gone.{into_parts}
+use Rattle.clr_moves.proofs.PartPlaces.{into_parts}
 use Rattle.clr_survivors.specs.Condemned.{condemned_from}
 use Rattle.clr_survivors.specs.Pins.{HasPins}
 use Rattle.clr_survivors.specs.Survivors.{left_objects}
@@ -49,8 +49,8 @@ filter-both p q (x ∷ xs) = go (q x) (filter-both p q xs)
     go true more = ap (λ (ys : List Object). if p x then x ∷ ys else ys) more
     go false more = more
 
-module _ (key : Object → ℕ) (t : Object → Bool) where
-  low-first : (x : Object) (ys : List Object) → AllByRecursion (λ y. key x ≤ key y) ys
+module _ {X : Type 0} (key : X → ℕ) (t : X → Bool) where
+  low-first : (x : X) (ys : List X) → AllByRecursion (λ y. key x ≤ key y) ys
       → insert_by key x (filter t ys) ≡ x ∷ filter t ys
   low-first x [] all = refl
   low-first x (y ∷ ys) all = go (t y) (low-first x ys all.1)
@@ -63,7 +63,7 @@ module _ (key : Object → ℕ) (t : Object → Bool) where
           (le-leb (key x) (key y) all.0)
       go false more = more
 
-  filter-insert : (x : Object) (ys : List Object) → IsSortedBy key ys
+  filter-insert : (x : X) (ys : List X) → IsSortedBy key ys
       → filter t (insert_by key x ys) ≡ (if t x then insert_by key x (filter t ys) else filter t ys)
   filter-insert x [] sorted = go (t x)
     where
@@ -79,7 +79,7 @@ module _ (key : Object → ℕ) (t : Object → Bool) where
         ∙ back (t y) (t x) high (filter-insert x ys sorted.1)
   ]
     where
-      above : (zs : List Object) → AllByRecursion (λ z. key y ≤ key z) zs → key x ≤ key y
+      above : (zs : List X) → AllByRecursion (λ z. key y ≤ key z) zs → key x ≤ key y
           → AllByRecursion (λ z. key x ≤ key z) zs
       above [] all l = tt
       above (z ∷ zs) all l = let a = all.0 in (omega (arith, a, l), above zs all.1 l)
@@ -96,14 +96,14 @@ module _ (key : Object → ℕ) (t : Object → Bool) where
           ≡ (if d then insert_by key x (if b then y ∷ filter t ys else filter t ys)
           else (if b then y ∷ filter t ys else filter t ys))
       back true true high more =
-          ap (λ (zs : List Object). y ∷ zs) more
+          ap (λ (zs : List X). y ∷ zs) more
           ∙ sym (ap (λ (b : Bool). if b then x ∷ y ∷ filter t ys else y ∷ insert_by key x (filter t ys)) high)
-      back true false high more = ap (λ (zs : List Object). y ∷ zs) more
+      back true false high more = ap (λ (zs : List X). y ∷ zs) more
       back false true high more = more
       back false false high more = more
 
   -- sorting and choosing
-  pub filter-sorted : (xs : List Object) → filter t (sorted_by key xs) ≡ sorted_by key (filter t xs)
+  pub filter-sorted : (xs : List X) → filter t (sorted_by key xs) ≡ sorted_by key (filter t xs)
   filter-sorted [] = refl
   filter-sorted (x ∷ xs) =
       filter-insert x (sorted_by key xs) (sorted_by-sorted key xs) ∙ go (t x) (filter-sorted xs)
@@ -140,7 +140,7 @@ module _ (s : Stages) (m : Machine) (kept : ℕ → Bool) (c : IsCourse s m kept
         | inl same ↦
             let into : is_in_parts c.begun.view (Generations s.g) o.place ≡ true =
             let start = whole-start h.segment in
-            into_parts c.begun.view s.g h.segment o.place
+            into_parts c.begun.view (Generations s.g) h.segment o.place
             (record {
               in_range = h.in_range;
               takes = ap (λ (n : ℕ). takes (Generations s.g) (segment_at c.begun.view n)) same ∙ takes_part;
@@ -223,9 +223,10 @@ module _ (s : Stages) (m : Machine) (kept : ℕ → Bool) (c : IsCourse s m kept
     mark-kept o i away spared =
         let vs = c.begun.plan.moves in
         let r = c.went.relocated in
-        let q = turned s.rows c.begun.view c.went.mid s.g vs r o in
+        let q = turned s.rows c.begun.view c.went.mid (Generations s.g) vs r o in
         let at : (placed s m kept c o).place ≡ o.place =
-        ap (moved_by vs) (turned-place s.rows c.begun.view c.went.mid s.g vs r o) ∙ unmoved-place o.place away in
+        ap (moved_by vs) (turned-place s.rows c.begun.view c.went.mid (Generations s.g) vs r o)
+        ∙ unmoved-place o.place away in
         let there = now-in-view s m kept c o i in
         let aligned = (place-high s.rows s.old c.run.given.heap c.run.given.held o i).1 in
         let outside : IsOutside c.went.mid (Generations s.g) o.place =
@@ -234,8 +235,9 @@ module _ (s : Stages) (m : Machine) (kept : ℕ → Bool) (c : IsCourse s m kept
         (placed s m kept c o) (in-moved s m kept c o i spared)
         ∙ ap (λ x. has_mark (word_of s.moved x)) at
         ∙ ap has_mark (c.went.compacted.outside o.place aligned outside)
-        ∙ ap (λ x. has_mark (word_of c.went.mid x)) (sym (turned-place s.rows c.begun.view c.went.mid s.g vs r o))
-        ∙ turned-mark s.rows c.begun.view c.went.mid s.g vs r o there
+        ∙ ap (λ x. has_mark (word_of c.went.mid x))
+        (sym (turned-place s.rows c.begun.view c.went.mid (Generations s.g) vs r o))
+        ∙ turned-mark s.rows c.begun.view c.went.mid (Generations s.g) vs r o there
         ∙ mark-view o i
 
     pub out-of-large : (o : Object) → is_large_place s.old o.place ≡ true
@@ -266,7 +268,7 @@ module _ (s : Stages) (m : Machine) (kept : ℕ → Bool) (c : IsCourse s m kept
           let at : is_large_place bare (placed s m kept c o).place ≡ true =
           ap (is_large_place bare)
           (ap (moved_by c.begun.plan.moves)
-          (turned-place s.rows c.begun.view c.went.mid s.g c.begun.plan.moves c.went.relocated o)
+          (turned-place s.rows c.begun.view c.went.mid (Generations s.g) c.begun.plan.moves c.went.relocated o)
           ∙ unmoved-place o.place away) ∙ large-bare o.place ∙ large in
           ap (λ (b : Bool). b && stays (placed s m kept c o)) spared
           ∙ ap (λ (b : Bool). not b || is_marked bare (placed s m kept c o)) at
@@ -281,7 +283,7 @@ module _ (s : Stages) (m : Machine) (kept : ℕ → Bool) (c : IsCourse s m kept
           (λ mark. ap (λ (b : Bool). not b || is_marked bare (placed s m kept c o))
           (ap (is_large_place bare)
           (ap (moved_by c.begun.plan.moves)
-          (turned-place s.rows c.begun.view c.went.mid s.g c.begun.plan.moves c.went.relocated o))
+          (turned-place s.rows c.begun.view c.went.mid (Generations s.g) c.begun.plan.moves c.went.relocated o))
           ∙ large-bare (moved_by c.begun.plan.moves o.place)
           ∙ sym (large-view (moved_by c.begun.plan.moves o.place))
           ∙ large-outside s.rows c.begun.view m c.begun.plan.compaction.memory c.begun.plan.compaction.laid s.g

@@ -155,7 +155,7 @@ module _ (s : Stages) (m : Machine) (kept : ℕ → Bool) (c : IsCourse s m kept
       put-place : (o : Object) → (put o).place ≡ moved_by c.begun.plan.moves o.place
       put-place o =
           ap (moved_by c.begun.plan.moves)
-          (turned-place s.rows c.begun.view c.went.mid s.g c.begun.plan.moves c.went.relocated o)
+          (turned-place s.rows c.begun.view c.went.mid (Generations s.g) c.begun.plan.moves c.went.relocated o)
 
       in-large : (x : ℕ) → stands_in t x ≡ true → is_large_place s.old x ≡ true
       in-large x stands =

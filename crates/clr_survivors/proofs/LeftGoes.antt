@@ -26,7 +26,7 @@ use Rattle.clr_moves.specs.Moves.{AreMoves, IsInPart, IsInPlug}
 use Rattle.clr_moves.specs.Objects.{is_in_parts}
 use Rattle.clr_moves.specs.Overlaid.{IsCompactionOf, MayGo}
 use Rattle.clr_moves.proofs.FromMachine.{number_of, part_segment}
-use Rattle.clr_compact.proofs.Gone.{into_parts, out_of_parts}
+use Rattle.clr_moves.proofs.PartPlaces.{into_parts, out_of_parts}
 use Rattle.clr_moves.proofs.PlannedMoves.{are-moves, seen-compacted, seen-laid}
 use Rattle.clr_moves.specs.declared.parts.Parts.TheVariants.{Generations}
 
@@ -52,7 +52,7 @@ module _ (rows : List TypeRow) (h : HeapView) (g : ℕ) (vs : List Move) (base :
   -- a collection goes over what is in a part
   pub part-young : (x : ℕ) → is_in_parts h (Generations g) x ≡ true → generation (frame h) x ≤ g
   part-young x inside =
-      let (t, into, up) = out_of_parts h g x inside in
+      let (t, into, up) = out_of_parts h (Generations g) x inside in
       let s = segment_at h t in
       let known = part_segment rows h base laid g least kept vs after c t into.in_range into.takes in
       let (kind, part, among) = taking-is (seen rows h base).layout laid.layout g least s
@@ -63,7 +63,7 @@ module _ (rows : List TypeRow) (h : HeapView) (g : ℕ) (vs : List Move) (base :
   part-test t place is =
       let start = (the-moves.starts t is.in_range is.takes).0 in
       let low = is.low in
-      into_parts h g t place is (omega (arith, start, low))
+      into_parts h (Generations g) t place is (omega (arith, start, low))
 
   pub none-null : (t : ℕ) → IsInPart h (Generations g) t 0 → ⊥
   none-null t is =
@@ -76,7 +76,7 @@ module _ (rows : List TypeRow) (h : HeapView) (g : ℕ) (vs : List Move) (base :
       → is_in_parts h (Generations g) o.place ≡ true
       → (k : ℕ) × IsInPlug vs k o.place
   marked-goes o present mark inside =
-      let (t, into, up) = out_of_parts h g o.place inside in
+      let (t, into, up) = out_of_parts h (Generations g) o.place inside in
       let s = segment_at h t in
       let known = part_segment rows h base laid g least kept vs after c t into.in_range into.takes in
       let (kind, part, among) = taking-is (seen rows h base).layout laid.layout g least s

@@ -25,4 +25,13 @@ pub mod Promoting
 pub mod PromotedBytes
 pub mod RelocatedPlan
 pub mod Settled
+pub mod RemarkedHeads
+pub mod SlideByPlan
+pub mod SlideClean
+pub mod SlideCourse
+pub mod SlideEnded
+pub mod SlideGiven
+pub mod SlideMarks
+pub mod SlideOccupied
+pub mod SlideTables
 pub mod Standings

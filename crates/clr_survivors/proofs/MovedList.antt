@@ -65,7 +65,7 @@ module _ (s : Stages) (m : Machine) (kept : ℕ → Bool) (c : IsCourse s m kept
   -- an object where it goes, with its new references where it is left
   abbrev pub placed : Object → Object
   placed o = moved_object c.begun.plan.moves
-      (turned s.rows c.begun.view c.went.mid s.g c.begun.plan.moves c.went.relocated o)
+      (turned s.rows c.begun.view c.went.mid (Generations s.g) c.begun.plan.moves c.went.relocated o)
 
   pub now-in-view : (o : Object) → IsIn o (objects_in s.rows s.old) → IsIn o (objects_in s.rows c.begun.view)
   now-in-view o i = subst (λ (os : List Object). IsIn o os) (sym c.begun.pins.objects) i
@@ -77,7 +77,7 @@ module _ (s : Stages) (m : Machine) (kept : ℕ → Bool) (c : IsCourse s m kept
   moved-list =
       let vs = c.begun.plan.moves in
       let mid = c.went.mid in
-      let turn = turned s.rows c.begun.view mid s.g vs c.went.relocated in
+      let turn = turned s.rows c.begun.view mid (Generations s.g) vs c.went.relocated in
       let before = objects_in s.rows c.begun.view in
       c.went.compacted.objects
       ∙ ap (λ (os : List Object). sorted_by (λ o. o.name)
@@ -89,7 +89,7 @@ module _ (s : Stages) (m : Machine) (kept : ℕ → Bool) (c : IsCourse s m kept
       (map-map turn (moved_object vs) (filter (λ o. is_spared mid (Generations s.g) (turn o)) before))
       ∙ ap (λ (os : List Object). sorted_by (λ o. o.name) (map placed os))
       (filter-alike (λ o. is_spared mid (Generations s.g) (turn o)) (is_spared c.begun.view (Generations s.g)) before
-      (turned-spared s.rows c.begun.view mid s.g vs c.went.relocated))
+      (turned-spared s.rows c.begun.view mid (Generations s.g) vs c.went.relocated))
       ∙ ap (λ (os : List Object). sorted_by (λ o. o.name)
       (map placed (filter (is_spared c.begun.view (Generations s.g)) os)))
       c.begun.pins.objects
@@ -168,14 +168,15 @@ module _ (s : Stages) (m : Machine) (kept : ℕ → Bool) (c : IsCourse s m kept
   was-marked x marked =
       let (had, away) = c.went.compacted.marks x marked in
       let (q, there, at) = had.stands in
-      let turn = turned s.rows c.begun.view c.went.mid s.g c.begun.plan.moves c.went.relocated in
+      let turn = turned s.rows c.begun.view c.went.mid (Generations s.g) c.begun.plan.moves c.went.relocated in
       let (o, is, i) = from-map turn q (objects_in s.rows c.begun.view)
       (subst (λ (os : List Object). IsIn q os) c.went.relocated.objects there) in
       let place : (turn o).place ≡ x = sym (ap (λ (y : Object). y.place) is) ∙ at in
       let was : o.place ≡ x =
-      sym (turned-place s.rows c.begun.view c.went.mid s.g c.begun.plan.moves c.went.relocated o) ∙ place in
+      sym (turned-place s.rows c.begun.view c.went.mid (Generations s.g) c.begun.plan.moves c.went.relocated o)
+      ∙ place in
       let mark : is_marked c.begun.view o ≡ true =
-      sym (turned-mark s.rows c.begun.view c.went.mid s.g c.begun.plan.moves c.went.relocated o i)
+      sym (turned-mark s.rows c.begun.view c.went.mid (Generations s.g) c.begun.plan.moves c.went.relocated o i)
       ∙ ap (λ y. has_mark (word_of c.went.mid y)) place ∙ had.mark in (
         (c.begun.pins.marks x).0 (record {
           stands = (o, i, was);

@@ -24,7 +24,7 @@ use Rattle.clr_types.specs.Types.{TypeRow}
 use Rattle.clr_plugs.specs.BrickEntries.{BricksView}
 use Rattle.clr_final.specs.Queues.{Queues}
 use Rattle.clr_survivors.specs.Roots.{Guides, HasMoved, NamesGo, Plan}
-use Rattle.clr_moves.specs.declared.parts.Parts.TheVariants.{Generations}
+use Rattle.clr_moves.specs.declared.parts.Parts.{Parts}
 
 -- ---- handles
 
@@ -109,14 +109,14 @@ le-refl n = omega arith
 
 -- ---- what is told of one place
 
-pub told : (p : Plan) (h : HeapView) (bricks : BricksView) (g place moved : ℕ) → Guides p h bricks g
-    → MayGo p.view (Generations g) p.moves place → HasMoved h bricks g place moved → moved ≡ moved_by p.moves place
+pub told : (p : Plan) (h : HeapView) (bricks : BricksView) (g : Parts) (place moved : ℕ) → Guides p h bricks g
+    → MayGo p.view g p.moves place → HasMoved h bricks g place moved → moved ≡ moved_by p.moves place
 told p h bricks g place moved guides may has = has.by p guides may
 
 -- what a destination says of all that holds a plan
-pub gone-by : (h : HeapView) (bricks : BricksView) (g place moved : ℕ)
+pub gone-by : (h : HeapView) (bricks : BricksView) (g : Parts) (place moved : ℕ)
     → ((rows : List TypeRow) (view : HeapView) (entries : List PinEntry) (vs : List Move) (start1 start0 : ℕ)
-    → HoldsPlan rows view h bricks entries (Generations g) vs start1 start0 → MayGo view (Generations g) vs place
+    → HoldsPlan rows view h bricks entries g vs start1 start0 → MayGo view g vs place
     → moved ≡ moved_by vs place)
     → HasMoved h bricks g place moved
 gone-by h bricks g place moved goes = record {
@@ -124,8 +124,8 @@ gone-by h bricks g place moved goes = record {
 }
 
 -- what a plan takes along, another of the same moves takes along
-pub names-on : (p q : Plan) (g : ℕ) → q.moves ≡ p.moves
-    → ((x : ℕ) → MayGo p.view (Generations g) p.moves x → MayGo q.view (Generations g) q.moves x)
+pub names-on : (p q : Plan) (g : Parts) → q.moves ≡ p.moves
+    → ((x : ℕ) → MayGo p.view g p.moves x → MayGo q.view g q.moves x)
     → (locals : List ℕ) (table : Table) (queues : Queues)
     → NamesGo p g locals table queues → NamesGo q g locals table queues
 names-on p q g same on locals table queues names = record {

@@ -50,7 +50,7 @@ plug-first ks p i =
     (λ k q j s is. (k, j, refl)) ks (all_members (λ k. IsIn k ks) ks (λ k j. j)))
 
 -- what ends above where it starts has a piece
-some-piece : (low : ℕ) (ps : List Piece) → low < end_of_last low ps → (p : Piece) × IsIn p ps
+pub some-piece : (low : ℕ) (ps : List Piece) → low < end_of_last low ps → (p : Piece) × IsIn p ps
 some-piece low [] l = absurd (omega (arith, l))
 some-piece low (p ∷ ps) l = (p, first)
 

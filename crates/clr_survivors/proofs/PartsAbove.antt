@@ -6,7 +6,7 @@ use Rattle.clr_types.specs.Segments.{ephemeral, first_place, generation, is_smal
 use Rattle.clr_types.specs.Types.{TypeRow}
 use Rattle.clr_types.specs.declared.segment.SegInfo.{SegInfo}
 use Rattle.clr_types.specs.declared.segment.SegKind.TheVariants.{Ephemeral}
-use Rattle.clr_heap.specs.View.{frame, HeapView, IsHeap, segment_at}
+use Rattle.clr_heap.specs.View.{first_of, frame, HeapView, IsHeap, segment_at}
 use Rattle.clr_model.specs.Compaction.{Move, moved_by}
 use Rattle.clr_model.specs.Sweep.{has_condemned_part, part_start}
 use Rattle.clr_model.proofs.MovedPlaces.{moved-is}
@@ -15,8 +15,9 @@ use Rattle.clr_moves.specs.Moves.{AreMoves, IsInPart, move_at, takes}
 use Rattle.clr_moves.specs.Told.{TellMoves}
 use Rattle.clr_moves.proofs.PlacesInPlugs.{outside_stays}
 use Rattle.clr_moves.proofs.PlugMoves.{number_of}
-use Rattle.clr_survivors.specs.Condemned.{condemned_from}
-use Rattle.clr_moves.specs.declared.parts.Parts.TheVariants.{Generations}
+use Rattle.clr_survivors.specs.Condemned.{condemned_from, parts_from}
+use Rattle.clr_moves.specs.declared.parts.Parts.{Parts}
+use Rattle.clr_moves.specs.declared.parts.Parts.TheVariants.{Generations, LargeSegments}
 
 -- the part of a segment that has one starts there or above it
 start-above : (h : HeapView) (g : ℕ) (s : SegInfo) → takes (Generations g) s ≡ true
@@ -46,11 +47,14 @@ part-above h g t place i =
     omega (arith, start, low)
 
 -- what stands below it stays
-pub below-stays : (rows : List TypeRow) (h : HeapView) (bricks : BricksView) (g : ℕ) (vs : List Move) → IsHeap h
-    → TellMoves rows h bricks (Generations g) vs → (place : ℕ) → place < condemned_from h g → place ≡ moved_by vs place
-below-stays rows h bricks g vs heap tell place under =
+pub below-stays : (rows : List TypeRow) (h : HeapView) (bricks : BricksView) (g : Parts) (vs : List Move) → IsHeap h
+    → TellMoves rows h bricks g vs → (place : ℕ) → place < parts_from h g → place ≡ moved_by vs place
+below-stays rows h bricks (Generations g) vs heap tell place under =
     outside_stays rows h bricks (Generations g) vs heap tell place
     (λ t i. let above = part-above h g t place i in omega (arith, above, under))
+below-stays rows h bricks LargeSegments vs heap tell place under =
+    outside_stays rows h bricks LargeSegments vs heap tell place
+    (λ t i. let low : first_of h t ≤ place = i.low in omega (arith, low, under))
 
 -- from there on nothing goes below it
 pub moves-above : (h : HeapView) (g : ℕ) (vs : List Move) → AreMoves h (Generations g) vs → (x : ℕ)

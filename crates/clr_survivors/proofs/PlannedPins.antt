@@ -13,15 +13,16 @@ use Rattle.clr_types.proofs.ListMembers.{map-on}
 use Rattle.clr_bricks.specs.Bricks.{entry_at}
 use Rattle.clr_generations.specs.Laws.{BrickLaw}
 use Rattle.clr_heap.specs.View.{frame, HeapView, IsHeap, segment_at}
-use Rattle.clr_model.specs.Compaction.{IsCompacted}
 use Rattle.clr_model.specs.Lawful.{IsLaid}
 use Rattle.clr_model.specs.Machine.{Machine, Object}
 use Rattle.clr_model.specs.Sweep.{is_condemned, Survivor, survivor, survivors}
 use Rattle.clr_view.specs.Memory.{IsMemoryOf}
 use Rattle.clr_view.specs.View.{IsHeld, objects_in}
 use Rattle.clr_view.proofs.LeftNames.{name-is-place}
-use Rattle.clr_moves.specs.Moves.{part_of}
+use Rattle.clr_moves.specs.Moves.{age_of, part_of}
 use Rattle.clr_moves.specs.Objects.{AreRemembered, IsUntouched}
+use Rattle.clr_moves.specs.Overlaid.{IsLaidBy}
+use Rattle.clr_moves.specs.declared.parts.Parts.{Parts}
 use Rattle.clr_pinq.specs.declared.entry.PinEntry.{PinEntry}
 use Rattle.clr_plan.specs.Planned.{HasPlanned}
 use Rattle.clr_plugs.specs.BrickEntries.{BricksView}
@@ -79,11 +80,11 @@ survivors-from rows h g heap held m kept memory =
         (pins-above (condemned_from h g) o.name (omega (arith, up, name)) (omega (arith, high, name)) m.handles)
 
 -- so what is planned for the one machine is planned for the other
-pub planned-from : (rows : List TypeRow) (h new : HeapView) (bricks : BricksView) (entries : List PinEntry) (g : ℕ)
+pub planned-from : (rows : List TypeRow) (h new : HeapView) (bricks : BricksView) (entries : List PinEntry) (g : Parts)
     (m : Machine) (table : FinMap nat_cmp Handle) (kept : ℕ → Bool) (start1 start0 : ℕ)
-    → survivors (with_handles m table) g kept ≡ survivors m g kept
-    → HasPlanned rows h new bricks entries (Generations g) (with_handles m table) kept start1 start0
-    → HasPlanned rows h new bricks entries (Generations g) m kept start1 start0
+    → survivors (with_handles m table) (age_of g) kept ≡ survivors m (age_of g) kept
+    → HasPlanned rows h new bricks entries g (with_handles m table) kept start1 start0
+    → HasPlanned rows h new bricks entries g m kept start1 start0
 planned-from rows h new bricks entries g m table kept start1 start0 same p =
     let c = p.compaction in
     record {
@@ -99,7 +100,7 @@ planned-from rows h new bricks entries g m table kept start1 start0 same p =
           whole0 = c.laid.whole0;
         };
         tests = c.tests;
-        compacted = subst (λ (ss : List Survivor). IsCompacted m.layout g ss p.moves p.after) same c.compacted;
+        compacted = subst (λ (ss : List Survivor). IsLaidBy g m.layout ss p.moves p.after) same c.compacted;
       };
       start1_is = p.start1_is;
       start0_is = p.start0_is;

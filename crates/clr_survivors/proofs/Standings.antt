@@ -1,5 +1,5 @@
 -- Where objects stand: in a large segment, in a part, or in what a collection doesn't go over.
-use Rattle.std.proofs.Common.{◌≡◌, inl, inr, ℕ, zero, suc, ◌+◌, ◌<◌, ◌≤◌, ◌==◌, ◌&&◌, ◌||◌, Bool, true, false, not}
+use Rattle.std.proofs.Common.{◌≡◌, inl, inr, ℕ, zero, suc, ◌+◌, ◌<◌, ◌≤◌, ◌==◌, ◌&&◌, ◌||◌, Bool, true, false}
 use Rattle.std.proofs.Common.{List, length}
 use Rattle.std.proofs.Common.{refl, ap, sym, ◌∙◌, subst, arith, if◌then◌else◌}
 use Rattle.std.proofs.lemmas.Bool.{and_from, and_parts, both_ways, cases_Bool, cases_lt}
@@ -23,9 +23,8 @@ use Rattle.clr_view.proofs.Standing.{standing}
 use Rattle.clr_sweep.specs.SweptLarge.{is_large_place}
 use Rattle.clr_sweep.proofs.SurvivorsSwept.{at-in}
 use Rattle.clr_mark.specs.Marks.{is_condemned_place}
-use Rattle.clr_moves.specs.Moves.{takes}
 use Rattle.clr_moves.specs.Objects.{is_in_parts}
-use Rattle.clr_compact.proofs.Gone.{into_parts, out_of_parts}
+use Rattle.clr_moves.proofs.PartPlaces.{into_parts, out_of_parts}
 use Rattle.clr_scan.specs.OldParts.{HaveOldParts, old_end}
 use Rattle.clr_survivors.proofs.ItemsOf.{item-of}
 use Rattle.clr_survivors.proofs.LeftGoes.{condemned-is}
@@ -108,7 +107,7 @@ module _ (rows : List TypeRow) (h : HeapView) (heap : IsHeap h) (held : IsHeld r
       ] in
       let start : part_start (frame h) 2 s ≡ first_place s = whole (same_kind Ephemeral s.kind) in
       let low = t.low in
-      into_parts h 2 t.segment o.place
+      into_parts h (Generations 2) t.segment o.place
       (record {
         in_range = t.in_range;
         takes = and_from (is_small_or_ephemeral s.kind) (has_condemned_part 2 s) kind
@@ -151,7 +150,7 @@ module _ (rows : List TypeRow) (h : HeapView) (heap : IsHeap h) (held : IsHeld r
             ap (λ (b : Bool). if b then (if g == 0 then h.start0 else h.start1) else last_of h t.segment)
             (turned-kind s.kind ∙ eph) in
             let start = ephemeral-start s g young eph in
-            into_parts h g t.segment o.place
+            into_parts h (Generations g) t.segment o.place
             (record {
               in_range = t.in_range;
               takes = and_from (is_small_or_ephemeral s.kind) (has_condemned_part g s) (young-small s.kind eph)
@@ -174,7 +173,7 @@ large-outside rows h m memory laid g x inside = elim (cases_Bool (is_large_place
       let (s, i, passes) =
       any-in (λ (u : SegInfo). is_large_or_pinned u.kind && stands_in u x) h.segments large in
       let (kind, stands) = and_parts (is_large_or_pinned s.kind) (stands_in s x) passes in
-      let (t, into, up) = out_of_parts h g x inside in
+      let (t, into, up) = out_of_parts h (Generations g) x inside in
       let u = segment_at h t in
       let (small, part) = and_parts (is_small_or_ephemeral u.kind) (has_condemned_part g u) into.takes in
       let among : (v : SegInfo) → IsIn v h.segments → IsIn v m.layout.segments =

@@ -1,4 +1,5 @@
 pub mod Condemned
+pub mod Large
 pub mod Pins
 pub mod Phases
 pub mod Roots

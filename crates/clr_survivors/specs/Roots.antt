@@ -15,7 +15,7 @@ use Rattle.clr_model.specs.Compaction.{Move, moved_by}
 use Rattle.clr_pinq.specs.declared.entry.PinEntry.{PinEntry}
 use Rattle.clr_plugs.specs.BrickEntries.{BricksView}
 use Rattle.clr_moves.specs.Overlaid.{HoldsPlan, MayGo}
-use Rattle.clr_moves.specs.declared.parts.Parts.TheVariants.{Generations}
+use Rattle.clr_moves.specs.declared.parts.Parts.{Parts}
 
 -- a plan: types, the heap with all its words, what is saved, the moves, and where generations 1 and 0 begin afterwards
 pub record Plan : Type 0 where
@@ -27,31 +27,32 @@ pub record Plan : Type 0 where
   pub start0 : ℕ
 
 -- a heap and bricks hold it
-abbrev pub Guides : Plan → HeapView → BricksView → ℕ → Type 0
-Guides p h bricks g = HoldsPlan p.rows p.view h bricks p.entries (Generations g) p.moves p.start1 p.start0
+abbrev pub Guides : Plan → HeapView → BricksView → Parts → Type 0
+Guides p h bricks g = HoldsPlan p.rows p.view h bricks p.entries g p.moves p.start1 p.start0
 
 -- one that they hold takes the place along, or leaves it
-abbrev pub CanGo : HeapView → BricksView → ℕ → ℕ → Type 0
-CanGo h bricks g place = (p : Plan) × Guides p h bricks g × MayGo p.view (Generations g) p.moves place
+abbrev pub CanGo : HeapView → BricksView → Parts → ℕ → Type 0
+CanGo h bricks g place = (p : Plan) × Guides p h bricks g × MayGo p.view g p.moves place
 
 -- the place becomes `moved` by every plan that they hold and that takes it along, or leaves it
-pub record HasMoved (h : HeapView) (bricks : BricksView) (g place moved : ℕ) : Type 0 where
-  pub by : (p : Plan) → Guides p h bricks g → MayGo p.view (Generations g) p.moves place
+pub record HasMoved (h : HeapView) (bricks : BricksView) (g : Parts) (place moved : ℕ) : Type 0 where
+  pub by : (p : Plan) → Guides p h bricks g → MayGo p.view g p.moves place
       → moved ≡ moved_by p.moves place
 
 -- it takes each of these places along, or leaves it
-abbrev pub AllGo : Plan → ℕ → List ℕ → Type 0
-AllGo p g places = (x : ℕ) → IsIn x places → MayGo p.view (Generations g) p.moves x
+abbrev pub AllGo : Plan → Parts → List ℕ → Type 0
+AllGo p g places = (x : ℕ) → IsIn x places → MayGo p.view g p.moves x
 
 -- and all that handles name, of which the targets of pinned ones stay
-pub record HandlesGo (p : Plan) (g : ℕ) (table : FinMap nat_cmp Handle) : Type 0 where
-  pub targets : (k : ℕ) (row : Handle) → finmap.get table k ≡ Some row → MayGo p.view (Generations g) p.moves row.target
-  pub seconds : (k : ℕ) (row : Handle) → finmap.get table k ≡ Some row → MayGo p.view (Generations g) p.moves row.second
+pub record HandlesGo (p : Plan) (g : Parts) (table : FinMap nat_cmp Handle) : Type 0 where
+  pub targets : (k : ℕ) (row : Handle) → finmap.get table k ≡ Some row → MayGo p.view g p.moves row.target
+  pub seconds : (k : ℕ) (row : Handle) → finmap.get table k ≡ Some row → MayGo p.view g p.moves row.second
   pub pinned : (k : ℕ) (row : Handle) → finmap.get table k ≡ Some row → is_pinned_kind row.kind ≡ true
       → moved_by p.moves row.target ≡ row.target
 
 -- so it is with locals, handles, entries and the f-reachable queue
-pub record NamesGo (p : Plan) (g : ℕ) (locals : List ℕ) (table : FinMap nat_cmp Handle) (queues : Queues) : Type 0 where
+pub record NamesGo (p : Plan) (g : Parts) (locals : List ℕ) (table : FinMap nat_cmp Handle) (queues : Queues)
+    : Type 0 where
   pub locals_go : AllGo p g locals
   pub handles_go : HandlesGo p g table
   pub entries_go : AllGo p g queues.entries

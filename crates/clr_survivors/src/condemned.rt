@@ -1,8 +1,9 @@
 // Where the parts begin that a compaction goes over.
 ghost use Rattle.std.specs.Prelude.{◌≡◌, ◌≤◌};
-ghost use Rattle.clr_survivors.specs.Condemned.{condemned_from};
+ghost use Rattle.clr_survivors.specs.Condemned.{condemned_from, parts_from};
 
 use clr_heap::Heap;
+use clr_moves::Parts;
 
 // No part that a compaction of the generations up to `g` goes over has a place below the answer, and null is in none.
 pub(crate) fn first_condemned(heap: &Heap, g: u8) -> u64
@@ -13,5 +14,15 @@ pub(crate) fn first_condemned(heap: &Heap, g: u8) -> u64
         0 => start0,
         1 => start1,
         _ => 1,
+    }
+}
+
+// No part of these has a place below the answer, and null is in none.
+pub(crate) fn first_in_parts(heap: &Heap, g: Parts) -> u64
+    ensures { result ≡ parts_from heap.now g }
+{
+    match g {
+        Parts::Generations(oldest) => first_condemned(heap, oldest),
+        Parts::LargeSegments => 1,
     }
 }

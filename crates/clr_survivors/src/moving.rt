@@ -22,6 +22,7 @@ ghost use Rattle.clr_model.specs.Compaction.{Move};
 ghost use Rattle.clr_view.specs.View.{objects_in};
 ghost use Rattle.clr_generations.specs.Laws.{BrickLaw, CardLaw};
 ghost use Rattle.clr_generations.specs.Tables.{AreBricksOf};
+ghost use Rattle.clr_moves.specs.declared.parts.Parts.TheVariants.{Generations};
 ghost use Rattle.clr_reloc.specs.Relocated as relocated;
 ghost use Rattle.clr_reloc.specs.Relocated.{CanRelocate, rebounded};
 ghost use Rattle.clr_survivors.specs.Condemned.{condemned_from};
@@ -170,9 +171,9 @@ fn move_by_plan(
         → HasMovedBy types.now view heap.new g vs planned.now locals.old locals.new handles.old handles.new finals.old
         finals.new result.to1 result.to2 slides.old slides.new }
     ensures card_law { (view : HeapView) (vs : List Move) (entry : ℕ → ℤ) → CanRelocate types.now view heap.old
-        cards.old bricks.old pins.old.entries g vs entry planned.now
-        → CardLaw types.now (rebounded (frame view) planned.now) (relocated.left_objects types.now view g vs)
-        (is_card_set cards.new) }
+        cards.old bricks.old pins.old.entries (Generations g) vs entry planned.now
+        → CardLaw types.now (rebounded (frame view) planned.now)
+        (relocated.left_objects types.now view (Generations g) vs) (is_card_set cards.new) }
     ensures brick_law { BrickLaw types.now (frame heap.new) (objects_in types.now heap.new) (entry_at bricks.new) }
     ensures start1 { heap.new.start1 ≡ planned.now.start1 }
     ensures start0 { heap.new.start0 ≡ planned.now.start0 }
@@ -182,8 +183,16 @@ fn move_by_plan(
     ensures bricks { spans bricks.new ≡ spans bricks.old }
 {
     let promoted = promoted_bytes(heap, types, bricks, Parts::Generations(g), planned);
-    relocate(heap, types, cards, bricks, pins, g, planned);
-    move_roots(heap, bricks, g, handles, finals, locals);
+    relocate(
+        heap,
+        types,
+        cards,
+        bricks,
+        pins,
+        Parts::Generations(g),
+        planned,
+    );
+    move_roots(heap, bricks, Parts::Generations(g), handles, finals, locals);
     compact(heap, types, bricks, pins, g, planned, slides);
     promoted
 }

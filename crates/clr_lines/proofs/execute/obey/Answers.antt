@@ -2,7 +2,8 @@
 use Rattle.clr_model.specs.declared.command.Command.TheVariants.{Define, New, Collect}
 use Rattle.std.proofs.Common.{◌∙◌, ap, not, refl, sym}
 use Rattle.clr_model.proofs.ArgumentReaders.{how_least}
-use Rattle.clr_lines.proofs.Built.{handles_built, looks_built, slots_built, threads_built}
+use Rattle.clr_lines.proofs.Built.{background_built, handles_built, heaps_built, looks_built, slots_built}
+use Rattle.clr_lines.proofs.Built.{threads_built}
 use Rattle.clr_lines.proofs.LineSteps.{command_follows, command_formed, unbuilt_follows}
 use Rattle.clr_lines.proofs.execute.obey.Goals as goal
 
@@ -59,6 +60,18 @@ returns-in-Suspend-clause-follows c =
     command_follows c.args.line.now c.args.command c.requires.short c.requires.read
     (threads_built c.args.command c.obey_thread.ensures.threads) c.args.runtime.now.machine
     c.obey_thread.new.runtime.machine _ c.obey_thread.ensures.follows
+
+pub returns-in-CompactLarge-clause-follows : goal.returns-in-CompactLarge-clause-follows
+returns-in-CompactLarge-clause-follows c =
+    command_follows c.args.line.now c.args.command c.requires.short c.requires.read
+    (heaps_built c.args.command c.obey_heap.ensures.heaps) c.args.runtime.now.machine
+    c.obey_heap.new.runtime.machine _ c.obey_heap.ensures.follows
+
+pub returns-in-BackgroundBegin-clause-follows : goal.returns-in-BackgroundBegin-clause-follows
+returns-in-BackgroundBegin-clause-follows c =
+    command_follows c.args.line.now c.args.command c.requires.short c.requires.read
+    (background_built c.args.command c.obey_background.ensures.background) c.args.runtime.now.machine
+    c.obey_background.new.runtime.machine _ c.obey_background.ensures.follows
 
 pub returns-then-is_fit-clause-follows : goal.returns-then-is_fit-clause-follows
 returns-then-is_fit-clause-follows c =

@@ -3,6 +3,7 @@ use Rattle.clr_sos.specs.Views.{IsViewOf}
 use Rattle.clr_sos.proofs.ViewNames.{shown_view}
 use Rattle.clr_lines.proofs.LookLines.{found_kind, handles_follow, listing_follows, object_follows, queues_follow}
 use Rattle.clr_lines.proofs.LookLines.{root_follows, segments_follow, where_follows}
+use Rattle.clr_lines.proofs.SizeLines.{size_follows}
 use Rattle.clr_lines.proofs.looks.obey_look.Goals as goal
 
 pub dumpheap-requires-clause-shown : goal.dumpheap-requires-clause-shown
@@ -82,3 +83,10 @@ returns-in-GcWhere-clause-follows c =
     (where_follows
     (IsViewOf c.view_of-view.result) c.args.runtime.now.machine c.view_of-view.ensures.seen c.in-GcWhere.a
     c.gcwhere.result c.gcwhere.ensures.place c.gcwhere.ensures.none)
+
+pub returns-in-ObjSize-clause-follows : goal.returns-in-ObjSize-clause-follows
+returns-in-ObjSize-clause-follows c =
+    let told = c.objsize.ensures in
+    rw (c.in-ObjSize.is, c.told_size.ensures.is)
+    (size_follows (IsViewOf c.view_of-view.result) c.args.runtime.now.machine c.view_of-view.ensures.seen c.in-ObjSize.a
+    c.objsize.result told.no_object told.no_type told.size)

@@ -2,17 +2,19 @@
 use Rattle.std.proofs.Common.{Err}
 use Rattle.std.proofs.Common.{◌≡◌, ◌+◌, ◌∙◌, ◌<◌, ◌^◌, [], ◌∷◌, ◌++◌, if◌then◌else◌, arith, refl, sym, List, Option}
 use Rattle.std.proofs.Common.{ap, subst, ℕ, unwrap_or}
-use Rattle.clr_types.specs.declared.segment.SegKind.TheVariants.{Large}
+use Rattle.clr_types.specs.declared.segment.SegKind.TheVariants.{Large, Pinned}
 use Rattle.clr_types.specs.Types.{TypeRow, has_finalizer, type_row}
 use Rattle.clr_ctx.specs.Contexts.{young_items}
 use Rattle.clr_large.specs.Births.{HasNewbornIn}
-use Rattle.clr_large.proofs.KindKept.{young_placed}
+use Rattle.clr_large.specs.Places.{kind_items}
+use Rattle.clr_large.proofs.KindKept.{kind_placed, young_placed}
 use Rattle.clr_model.proofs.Birth.{born_entries}
 use Rattle.clr_runtime.specs.Births.{IsMeasured}
 use Rattle.clr_runtime.specs.RuntimeView.{seen}
 use Rattle.clr_runtime.proofs.BirthLines.{known, large_fails_follows, makeable, may_bear_large}
 use Rattle.clr_runtime.proofs.IndexKept.{index_kept}
-use Rattle.clr_runtime.proofs.LargeBirthDone.{HasItsPlace, large_tables, placed_follows, placed_kept}
+use Rattle.clr_runtime.proofs.KindTables.{kind_tables}
+use Rattle.clr_runtime.proofs.LargeBirthDone.{HasItsPlace, placed_follows, placed_kept}
 use Rattle.clr_safe.specs.Threads.{births_owed}
 use Rattle.clr_runtime.proofs.RuntimeKept.{owed_left, spent_large_fits}
 use Rattle.clr_runtime.proofs.TablesKept.{closed}
@@ -123,7 +125,7 @@ returns-clause-runtime c =
           (placed at.In_default name len measured) new.heap c.in-Some.place c.index_of.result finals.entries
           finals.ready (born at.After-register_entry name len measured) c.index_of.ensures.index
           (registered at.After-register_entry name len measured) c.register_entry.ensures.ready;
-      tables = large_tables p.types p.heap new.heap c.in-Some.place type c.args.request.len p.cards p.safe p.bricks
+      tables = kind_tables Large p.types p.heap new.heap c.in-Some.place type c.args.request.len p.cards p.safe p.bricks
           new.bricks done.born done.own_bricks done.bricks done.cards (closed is.shown) is.tables;
       owed = owed_left c.args.request.finalizer (births_owed p.safe) p.finals.spare finals.spare
           (λ wanted.
@@ -135,6 +137,8 @@ returns-clause-runtime c =
       index = index_kept young_items p.types p.types p.heap new.heap p.contexts
           (young_placed (seen p) is.shown.sound.lawful Large refl _ c.in-Some.place _ done.born.layout) is.index;
       large = done.index;
+      pinned = index_kept (kind_items Pinned) p.types p.types p.heap new.heap p.pinned
+          (kind_placed Pinned Large refl (seen p) is.shown.sound.lawful _ c.in-Some.place _ done.born.layout) is.pinned;
       limit = done.born.limit ∙ is.limit;
       pins = is.pins;
       room = is.room;

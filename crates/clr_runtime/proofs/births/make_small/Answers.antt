@@ -1,7 +1,7 @@
 -- The object is born at the front of its thread's context, or no room was made.
 use Rattle.std.proofs.Common.{◌≡◌, ◌+◌, ◌∙◌, ◌<◌, ◌^◌, [], ◌∷◌, ◌++◌, if◌then◌else◌, arith, Err, sym, List, Option}
 use Rattle.std.proofs.Common.{ap, subst, ℕ, true, unwrap_or}
-use Rattle.clr_types.specs.declared.segment.SegKind.TheVariants.{Large}
+use Rattle.clr_types.specs.declared.segment.SegKind.TheVariants.{Large, Pinned}
 use Rattle.clr_types.specs.Types.{TypeRow, form_at, has_finalizer, size_of, type_row}
 use Rattle.clr_ctx.specs.Contexts.{young_items}
 use Rattle.clr_heap.specs.View.{frame}
@@ -163,6 +163,8 @@ returns-clause-runtime c =
           (ap young_items done.ensures.born.layout) is.index;
       large = index_kept (kind_items Large) p.types p.types p.heap done.new.heap p.large
           (ap (kind_items Large) done.ensures.born.layout) is.large;
+      pinned = index_kept (kind_items Pinned) p.types p.types p.heap done.new.heap p.pinned
+          (ap (kind_items Pinned) done.ensures.born.layout) is.pinned;
       limit = born_limit p.types p.heap done.new.heap c.args.t type c.args.request.len done.ensures.words ∙ is.limit;
       pins = is.pins;
       room = is.room;

@@ -6,7 +6,7 @@ use Rattle.clr_view.specs.World.{World}
 use Rattle.clr_collect.specs.Collecting.{world_with}
 use Rattle.clr_mark.specs.Waiting.{MarkerView}
 use Rattle.clr_runtime.specs.Options.{options_of}
-use Rattle.clr_runtime.specs.RuntimeView.{sums_of, world_of}
+use Rattle.clr_runtime.specs.RuntimeView.{ahead_of, sums_of, world_of}
 use Rattle.clr_runtime.proofs.CollectLines.{collect_kept, counts_of, first_fits, has_collected, locals-after}
 use Rattle.clr_runtime.proofs.CollectLines.{no_contexts-after}
 use Rattle.clr_runtime.proofs.StepsKept.{tables-carded, tables-idle}
@@ -29,12 +29,14 @@ new_world c =
 
 -- the collection of the machine that is seen
 left : (c : After-collect-collected) → Told (world_of c.args.parts.now) (sums_of c.args.parts.now.sums)
-    (options_of c.args.parts.now.options) c.args.parts.now.safe c.args.g c.args.how (left_world c)
+    (options_of c.args.parts.now.options) c.args.parts.now.safe (ahead_of c.args.parts.now) c.args.g c.args.how
+    (left_world c)
     c.collect-collected.result
 left c =
     let p = c.args.parts.now in
     let done = c.collect-collected in
-    told_of (world_of p) (sums_of p.sums) (options_of p.options) p.safe c.requires.runtime.shown c.requires.idle
+    told_of (world_of p) (sums_of p.sums) (options_of p.options) p.safe
+    (ahead_of p) c.requires.runtime.shown c.requires.idle
     c.args.g c.args.how c.deref_mut.result.now c.deref_mut.ensures.value (left_world c) done.result p.slides
     done.new.slides done.ensures.collected
 
@@ -48,12 +50,14 @@ same_locals c =
     c.collect-collected.result (left c) ∙ sym c.requires.runtime.shown.locals ∙ sym p.locals.ok.0)
 
 told : (c : After-collect-collected) → Told (world_of c.args.parts.now) (sums_of c.args.parts.now.sums)
-    (options_of c.args.parts.now.options) c.args.parts.now.safe c.args.g c.args.how (new_world c)
+    (options_of c.args.parts.now.options) c.args.parts.now.safe (ahead_of c.args.parts.now) c.args.g c.args.how
+    (new_world c)
     c.collect-collected.result
 told c =
     let p = c.args.parts.now in
     let new = c.collect-collected.new in
-    subst (λ (ls : List ℕ). Told (world_of p) (sums_of p.sums) (options_of p.options) p.safe c.args.g c.args.how
+    subst
+    (λ (ls : List ℕ). Told (world_of p) (sums_of p.sums) (options_of p.options) p.safe (ahead_of p) c.args.g c.args.how
     (world_with p.types new.heap ls new.handles new.finals) c.collect-collected.result) (sym (same_locals c)) (left c)
 
 pub collect-collected-requires-clause-world : goal.collect-collected-requires-clause-world
@@ -86,9 +90,11 @@ pub returns-clause-collected : goal.returns-clause-collected
 returns-clause-collected c =
     let before = (goal.at.returns-clause-collected c).After-collect-collected in
     rw c.collected-parts.ensures
+    (rw c.stop_after.ensures
+    (rw c.collect-collected.ensures.flag
     (has_collected c.requires.runtime.shown c.requires.idle c.args.g c.requires.generation c.args.how
     c.requires.unfitted (new_world before)
-    c.collect-collected.result (told before))
+    c.collect-collected.result (told before))))
 
 pub returns-clause-no_contexts : goal.returns-clause-no_contexts
 returns-clause-no_contexts c =
@@ -105,10 +111,13 @@ returns-clause-runtime c =
     let before = (goal.at.returns-clause-runtime c).After-collect-collected in
     record {
       shown = rw c.collected-parts.ensures
+          (rw c.stop_after.ensures
+          (rw done.ensures.flag
           (collect_kept c.requires.runtime.shown c.requires.idle c.args.g c.requires.generation c.args.how
           c.requires.unfitted
           (new_world before)
-          done.result (told before) done.ensures.held done.ensures.unmarked done.ensures.free_heads done.ensures.clean);
+          done.result
+          (told before) done.ensures.held done.ensures.unmarked done.ensures.free_heads done.ensures.clean)));
       tables = tables-carded done.new.cards p.safe done.new.bricks p.types done.new.heap done.ensures.tables;
       owed =
           let owed = c.requires.runtime.owed in
@@ -117,6 +126,7 @@ returns-clause-runtime c =
       finalizers = c.requires.runtime.finalizers;
       index = done.ensures.index;
       large = rw c.lose.ensures tt;
+      pinned = rw c.lose-2.ensures tt;
       limit = done.ensures.limit ∙ c.requires.runtime.limit;
       pins = done.ensures.empty;
       room = done.ensures.room;
@@ -127,7 +137,8 @@ returns-clause-slides c =
     let before = (goal.at.returns-clause-slides c).After-collect-collected in
     let p = c.args.parts.now in
     let done = c.collect-collected in
-    counts_of (world_of p) (sums_of p.sums) (options_of p.options) p.safe c.requires.runtime.shown c.requires.idle
+    counts_of (world_of p) (sums_of p.sums) (options_of p.options) p.safe
+    (ahead_of p) c.requires.runtime.shown c.requires.idle
     c.args.g c.args.how c.deref_mut.result.now c.deref_mut.ensures.value (left_world before) done.result p.slides
     done.new.slides done.ensures.collected
 

@@ -1,10 +1,12 @@
 -- Each exit of the ladder.
-use Rattle.std.proofs.Common.{◌≡◌, sym, ◌∙◌, Ok, Err, subst}
+use Rattle.std.proofs.Common.{◌≡◌, refl, sym, ◌∙◌, Ok, Err, subst}
+use Rattle.clr_types.specs.declared.segment.SegKind.TheVariants.{Large}
 use Rattle.clr_runtime.specs.RuntimeView.{seen}
 use Rattle.clr_runtime.specs.Slides.{CountsCollection, Grew}
 use Rattle.clr_runtime.proofs.Counted.{compacting, grown, surely}
-use Rattle.clr_runtime.proofs.LargeRoomMade.{acquired_fits, placed_after_first, placed_after_full, placed_in_new}
+use Rattle.clr_runtime.proofs.LargeRoomMade.{placed_after_first, placed_after_full, placed_in_new}
 use Rattle.clr_runtime.proofs.LargeRoomMade.{placed_after_wait, placed_nowhere, placed_within}
+use Rattle.clr_runtime.proofs.SegmentFits.{acquired_fits}
 use Rattle.clr_runtime.proofs.StepsSeen.{still_calm}
 use Rattle.clr_runtime.proofs.large.make_large_room.Goals as goal
 
@@ -62,7 +64,7 @@ returns-in-Ok-clause-place c =
 
 pub returns-in-Ok-clause-fits : goal.returns-in-Ok-clause-fits
 returns-in-Ok-clause-fits c =
-    acquired_fits (seen c.has_large_room-2.new.parts) (seen c.acquire_for.new.parts) c.args.size (Ok tt)
+    acquired_fits Large refl (seen c.has_large_room-2.new.parts) (seen c.acquire_for.new.parts) c.args.size (Ok tt)
     c.in-Ok.ensures.acquired
 
 pub returns-in-Err-acquire_for-clause-err : goal.returns-in-Err-acquire_for-clause-err

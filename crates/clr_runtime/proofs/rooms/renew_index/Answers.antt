@@ -20,6 +20,7 @@ returns-clause-runtime c =
       finalizers = is.finalizers;
       index = c.renew_lost.ensures.index;
       large = is.large;
+      pinned = is.pinned;
       limit = is.limit;
       pins = is.pins;
       room = is.room;

@@ -5,7 +5,7 @@ use Rattle.clr_model.specs.Lookups.{is_step}
 use Rattle.clr_safe.specs.Threads.{begun_by, births_owed, step_by}
 use Rattle.clr_runtime.specs.Births.{IsMeasured}
 use Rattle.clr_runtime.specs.Options.{options_of}
-use Rattle.clr_runtime.specs.RuntimeView.{seen, sums_of, world_of}
+use Rattle.clr_runtime.specs.RuntimeView.{ahead_of, seen, sums_of, world_of}
 use Rattle.clr_runtime.proofs.BegunBirths.{begin_fails, birth_begun, birth_begun_kept}
 use Rattle.clr_runtime.proofs.BirthDone.{HasItsRoom}
 use Rattle.clr_runtime.proofs.BirthLines.{may_bear}
@@ -60,7 +60,8 @@ returns-clause-runtime c =
     let run = may_run (seen old) c.args.t c.requires.passed in
     let idle : is_step (step_by (begun_by p.safe c.args.t)) ≡ false =
     ap (λ threads. is_step (step_by (begun_by threads c.args.t))) c.in_default.ensures.safe
-    ∙ sym (ap is_step (step-seen (world_of old) (sums_of old.sums) (options_of old.options) old.safe c.args.t))
+    ∙ sym
+    (ap is_step (step-seen (world_of old) (sums_of old.sums) (options_of old.options) old.safe (ahead_of old) c.args.t))
     ∙ run.idle in
     birth_begun_kept p c.args.t c.args.local request.type_id request.len request.finalizer c.begin.new.self
     c.begin.ensures (seen old) name len request.size (roomy at.In_default name len measured) measured.len_is

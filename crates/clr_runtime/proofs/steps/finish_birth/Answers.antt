@@ -2,7 +2,7 @@
 use Rattle.std.proofs.Common.{◌≡◌, ◌∙◌, ◌+◌, ◌<◌, ◌^◌, ◌++◌, [], ◌∷◌, ap, arith, if◌then◌else◌, slice_set, subst}
 use Rattle.std.proofs.Common.{sym}
 use Rattle.std.specs.Vec.{with_item}
-use Rattle.clr_types.specs.declared.segment.SegKind.TheVariants.{Large}
+use Rattle.clr_types.specs.declared.segment.SegKind.TheVariants.{Large, Pinned}
 use Rattle.clr_ctx.specs.Contexts.{young_items}
 use Rattle.clr_large.specs.Places.{kind_items}
 use Rattle.clr_model.specs.declared.Reply.TheVariants.{Place}
@@ -13,7 +13,7 @@ use Rattle.clr_model.proofs.FrontBirth.{born_entries}
 use Rattle.clr_safe.specs.Threads.{Threads}
 use Rattle.clr_safe.specs.declared.begun.Begun.TheVariants.{Nothing}
 use Rattle.clr_runtime.specs.Options.{options_of}
-use Rattle.clr_runtime.specs.RuntimeView.{IsRuntime, IsToldBy, seen, sums_of, world_of}
+use Rattle.clr_runtime.specs.RuntimeView.{ahead_of, IsRuntime, IsToldBy, seen, sums_of, world_of}
 use Rattle.clr_runtime.specs.Shown.{shown}
 use Rattle.clr_runtime.proofs.BirthDone.{spent_more}
 use Rattle.clr_runtime.proofs.FinishedBirths.{birth_entry, birth_finished, birth_finished_shown, birth_known, birth_may}
@@ -97,7 +97,8 @@ returns-clause-finished c =
       locals = slice_set p.locals.items c.index_of.result done.result;
       entries = finals.entries;
       ready = finals.ready;
-    }) (spent_more (sums_of p.sums) c.item_size-size.result) (options_of p.options) threads)) (sym c.end.ensures)
+    }) (spent_more (sums_of p.sums) c.item_size-size.result) (options_of p.options) threads (ahead_of p)))
+    (sym c.end.ensures)
     (birth_finished p c.requires.runtime c.args.t c.requires.thread c.args.type_id c.args.len c.args.local
     c.args.finalizer c.requires.begun done.new.heap done.result c.index_of.result c.item_size-size.result finals.entries
     finals.ready done.ensures.born done.ensures.place c.index_of.ensures.index c.item_size-size.ensures
@@ -141,6 +142,8 @@ returns-clause-runtime c =
           (ap young_items done.ensures.born.layout) is.index;
       large = index_kept (kind_items Large) p.types p.types p.heap done.new.heap p.large
           (ap (kind_items Large) done.ensures.born.layout) is.large;
+      pinned = index_kept (kind_items Pinned) p.types p.types p.heap done.new.heap p.pinned
+          (ap (kind_items Pinned) done.ensures.born.layout) is.pinned;
       limit = born_limit p.types p.heap done.new.heap c.args.t type c.args.len done.ensures.words ∙ is.limit;
       pins = is.pins;
       room = is.room;

@@ -3,6 +3,7 @@ use Rattle.std.proofs.Common.{refl, ap, sym, ◌∙◌, subst}
 use Rattle.clr_heap.specs.View.{frame}
 use Rattle.clr_generations.specs.Tables.{AreBricksOf}
 use Rattle.clr_moves.specs.Promoted.{bytes_between}
+use Rattle.clr_moves.specs.declared.parts.Parts.TheVariants.{Generations}
 use Rattle.clr_survivors.specs.Phases.{plan_of}
 use Rattle.clr_survivors.proofs.NamesGone.{names-on}
 use Rattle.clr_survivors.proofs.RelocatedPlan.{frame-between, may-go-on, remembered-on}
@@ -16,8 +17,9 @@ move_roots-requires-clause-go c =
       plan_of rows mid c.relocate.new.pins.entries vs c.args.planned.now,
       holds,
       names-on (plan_of rows view c.args.pins.now.entries vs c.args.planned.now)
-          (plan_of rows mid c.relocate.new.pins.entries vs c.args.planned.now) c.args.g refl
-          (may-go-on rows view mid c.args.g vs relocated) c.args.locals.now c.args.handles.now c.args.finals.now
+          (plan_of rows mid c.relocate.new.pins.entries vs c.args.planned.now) (Generations c.args.g) refl
+          (may-go-on rows view mid (Generations c.args.g) vs relocated) c.args.locals.now
+          c.args.handles.now c.args.finals.now
           can.names,
     )
 
@@ -31,10 +33,10 @@ compact-requires-clause-plan c =
       moves = vs;
       entry = entry;
       plan = holds;
-      remembered = remembered-on rows view mid c.args.g vs relocated c.args.bricks.now entry c.args.planned.now.below
-          c.args.planned.now.first can.relocates.remembered;
+      remembered = remembered-on rows view mid (Generations c.args.g) vs relocated c.args.bricks.now entry
+          c.args.planned.now.below c.args.planned.now.first can.relocates.remembered;
       bricks_of = subst (λ l. AreBricksOf l c.args.bricks.now)
-          (sym (ap frame holds.overlaid.shape.others ∙ frame-between rows view mid c.args.g vs relocated))
+          (sym (ap frame holds.overlaid.shape.others ∙ frame-between rows view mid (Generations c.args.g) vs relocated))
           can.relocates.bricks_of;
     }
 
@@ -50,8 +52,9 @@ returns-clause-moved c = λ view vs entry can.
       compacted = c.compact.ensures.compacted mid vs holds;
       gone = c.move_roots.ensures.gone (plan_of rows mid c.relocate.new.pins.entries vs planned) holds
           (names-on (plan_of rows view c.args.pins.now.entries vs planned)
-          (plan_of rows mid c.relocate.new.pins.entries vs planned) c.args.g refl
-          (may-go-on rows view mid c.args.g vs relocated) c.args.locals.now c.args.handles.now c.args.finals.now
+          (plan_of rows mid c.relocate.new.pins.entries vs planned) (Generations c.args.g) refl
+          (may-go-on rows view mid (Generations c.args.g) vs relocated) c.args.locals.now
+          c.args.handles.now c.args.finals.now
           can.names);
       to1_is = c.promoted_bytes-promoted.ensures.to1 view c.args.pins.now.entries vs can.relocates.plan
           ∙ ap (λ l. bytes_between l planned vs 0) same;

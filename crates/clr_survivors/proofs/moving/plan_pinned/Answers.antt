@@ -1,5 +1,6 @@
 -- What pinned handles name is marked in the headers, and a plan is made.
 use Rattle.std.proofs.Common.{ℕ, ap, arith, refl, subst, true}
+use Rattle.clr_moves.specs.declared.parts.Parts.TheVariants.{Generations}
 use Rattle.clr_survivors.specs.Condemned.{condemned_from}
 use Rattle.clr_survivors.specs.Pins.{HasPins}
 use Rattle.clr_survivors.proofs.PinnedFrom.{table_from}
@@ -48,7 +49,7 @@ returns-clause-planned c = λ m kept memory same tests.
     record {
       view = new;
       pins = pins;
-      plan = planned-from rows new c.plan.new.heap c.plan.new.bricks c.plan.new.pins.entries g m seen kept
+      plan = planned-from rows new c.plan.new.heap c.plan.new.bricks c.plan.new.pins.entries (Generations g) m seen kept
           c.plan.result.start1 c.plan.result.start0
           (survivors-from rows old g heap held m kept memory)
           (c.plan.ensures.planned (with_handles m seen) kept

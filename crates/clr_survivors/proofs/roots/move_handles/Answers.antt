@@ -17,10 +17,10 @@ relocate_unpinned_from-requires c =
 pub returns : goal.returns
 returns c = record {
   gone = λ p guides go null.
-      handles-gone _ (moved_by p.moves) c.first_condemned-low.result
+      handles-gone _ (moved_by p.moves) c.first_in_parts-low.result
       c.args.handles.now c.relocate_unpinned_from.new.self c.relocate_unpinned_from.ensures null
       (λ place under. below-stays p.rows c.args.heap.now c.args.bricks.now c.args.g p.moves c.lawful.ensures guides.told
-      place (subst (λ low. place < low) c.first_condemned-low.ensures under))
+      place (subst (λ low. place < low) c.first_in_parts-low.ensures under))
       (λ k row moved here answer.
       let say =
       told p c.args.heap.now c.args.bricks.now c.args.g row.target moved guides (go.targets k row here) in

@@ -1,4 +1,4 @@
-use Rattle.std.proofs.Common.{◌≡◌, ℕ, ◌&&◌, not, Bool, true, false, List, refl, sym, ap, subst, ◌∙◌, ◌+◌, ◌%◌}
+use Rattle.std.proofs.Common.{◌≡◌, ℕ, ◌&&◌, inr, not, Bool, true, false, List, refl, sym, ap, subst, ◌∙◌, ◌+◌, ◌%◌}
 use Rattle.clr_types.specs.Rising.{IsIn}
 use Rattle.clr_types.specs.Types.{TypeRow}
 use Rattle.clr_heap.specs.View.{HeapView}
@@ -6,15 +6,15 @@ use Rattle.clr_heap.specs.View.{word_of}
 use Rattle.clr_view.specs.View.{objects_in}
 use Rattle.clr_mark.specs.Markings.{references_at}
 use Rattle.clr_bgmark.specs.Scanning.{AreObjects, followed, HasLogged, HasScannedOne, HaveWholeObjects, is_gray_place}
+use Rattle.clr_bgmark.specs.Scanning.{IsTakenAt}
 use Rattle.clr_bgmark.specs.Scanning.{IsCounted}
-use Rattle.clr_bgmark.specs.Shades.{BackgroundView, cell_of, is_covered, is_marked, is_scanned}
-use Rattle.clr_bgmark.specs.Bits.{has_bit}
+use Rattle.clr_bgmark.specs.Shades.{BackgroundView, is_covered, is_marked, is_scanned}
 use Rattle.clr_bgmark.proofs.LoggedRuns.{logged_none}
 use Rattle.clr_bgmark.proofs.LoggedScan.{covered_now, log_scanned}
-use Rattle.clr_bgmark.proofs.Meeting.{all_running, told_covered}
+use Rattle.clr_bgmark.proofs.Meeting.{all_running}
 use Rattle.clr_bgmark.proofs.Counted.{followed_counted}
 use Rattle.clr_bgmark.proofs.ScanRuns.{none_gray}
-use Rattle.clr_bgmark.proofs.ScannedLists.{gray_parts, objects_now, scans_one}
+use Rattle.clr_bgmark.proofs.ScannedLists.{gray_parts, objects_now, scans_one, taken_was}
 use Rattle.clr_bgmark.proofs.background.Background.scan_next.Goals.{After-scan}
 use Rattle.clr_bgmark.proofs.background.Background.scan_next.Goals as goal
 
@@ -54,13 +54,11 @@ returns-in-Some-clause-scans c e =
     found.aligned found.gray (closed.named c.in-Some.obj))
 
 -- the references of a gray object lie in the segments
-slots : (rows : List TypeRow) (h : HeapView) (v : BackgroundView) (x : ℕ) → AreObjects rows h v.shades
-    → HaveWholeObjects rows h v.shades → x % 8 ≡ 0 → is_gray_place v.shades x ≡ true → (offset : ℕ)
-    → IsIn offset (references_at rows h x) → is_covered v.shades (x + offset) ≡ true
-slots rows h v x known parts at gray offset l =
-    let marked = (gray_parts v.shades x gray).0 in
-    parts x offset (known.marked x at marked)
-    (told_covered (λ s a. has_bit s.marked (cell_of s a)) v.shades x marked) l
+slots : (rows : List TypeRow) (h : HeapView) (v : BackgroundView) (x : ℕ) → HaveWholeObjects rows h v.shades
+    → x % 8 ≡ 0 → is_gray_place v.shades x ≡ true → (offset : ℕ) → IsIn offset (references_at rows h x)
+    → is_covered v.shades (x + offset) ≡ true
+slots rows h v x parts at gray offset l =
+    parts x offset (at, inr (gray_parts v.shades x gray).0) l
 
 pub returns-in-Some-clause-log : goal.returns-in-Some-clause-log
 returns-in-Some-clause-log c =
@@ -72,10 +70,10 @@ returns-in-Some-clause-log c =
     let x = c.in-Some.obj in
     subst (λ (w : BackgroundView). HasLogged rows (objects_in rows h) v.shades w.shades) (sym (scan_is c))
     (log_scanned rows h closed.heap closed.held v found.shades c.requires.objects x found.aligned found.gray
-    (closed.named x) (slots rows h v x c.requires.objects c.requires.whole found.aligned found.gray))
+    (closed.named x) (slots rows h v x c.requires.whole found.aligned found.gray))
 
 pub returns-in-Some-clause-whole : goal.returns-in-Some-clause-whole
-returns-in-Some-clause-whole c y offset stands there l =
+returns-in-Some-clause-whole c y offset took l =
     let closed = c.requires.closed in
     let found = c.in-Some.ensures in
     let rows = c.args.types.now in
@@ -83,10 +81,12 @@ returns-in-Some-clause-whole c y offset stands there l =
     let v = c.args.self.now in
     let x = c.in-Some.obj in
     let same = covered_now rows h closed.heap closed.held v found.shades c.requires.objects x found.aligned found.gray
-    (closed.named x) (slots rows h v x c.requires.objects c.requires.whole found.aligned found.gray) in
+    (closed.named x) (slots rows h v x c.requires.whole found.aligned found.gray) in
     let is = ap (λ (w : BackgroundView). is_covered w.shades) (scan_is c) in
     ap (λ f. f (y + offset)) is ∙ same (y + offset)
-    ∙ c.requires.whole y offset stands (sym (same y) ∙ sym (ap (λ f. f y) is) ∙ there) l
+    ∙ c.requires.whole y offset
+    (taken_was rows h closed.heap closed.held v found.shades c.requires.objects x found.aligned found.gray
+    (closed.named x) y (subst (λ (w : BackgroundView). IsTakenAt w.shades y) (scan_is c) took)) l
 
 pub returns-in-None-clause-log : goal.returns-in-None-clause-log
 returns-in-None-clause-log c =

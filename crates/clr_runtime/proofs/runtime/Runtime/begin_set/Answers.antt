@@ -1,6 +1,6 @@
 -- The slot takes what the local holds, and the thread is in mid-step.
 use Rattle.std.proofs.Common.{◌≡◌, ◌∙◌, ◌-◌, [], ◌∷◌, ap, false, refl, subst, sym, arith, true≢false}
-use Rattle.clr_types.specs.declared.segment.SegKind.TheVariants.{Large}
+use Rattle.clr_types.specs.declared.segment.SegKind.TheVariants.{Large, Pinned}
 use Rattle.clr_ctx.specs.Contexts.{young_items}
 use Rattle.clr_large.specs.Places.{kind_items}
 use Rattle.clr_model.specs.declared.Reply.TheVariants.{Done}
@@ -14,7 +14,7 @@ use Rattle.clr_safe.specs.declared.begun.Begun.TheVariants.{Store}
 use Rattle.clr_safe.proofs.Entries.{owed-no_more}
 use Rattle.clr_view.proofs.SlotReads.{reference-word}
 use Rattle.clr_runtime.specs.Options.{options_of}
-use Rattle.clr_runtime.specs.RuntimeView.{IsRuntime, seen, sums_of, world_of}
+use Rattle.clr_runtime.specs.RuntimeView.{ahead_of, IsRuntime, seen, sums_of, world_of}
 use Rattle.clr_runtime.proofs.BeginSetLines.{begin_set_of}
 use Rattle.clr_runtime.proofs.BegunStores.{begun_tables, store_begun}
 use Rattle.clr_runtime.proofs.IndexKept.{same_index}
@@ -22,9 +22,12 @@ use Rattle.clr_runtime.proofs.LimitKept.{stored_limit}
 use Rattle.clr_runtime.proofs.LocalsSeen.{local-read, local-stands}
 use Rattle.clr_runtime.proofs.NamesChecked.{names_passed, names_refused}
 use Rattle.clr_runtime.proofs.SlotLines.{refused_slot}
-use Rattle.clr_runtime.proofs.StepsBegun.{begun-within, finalizers-begun}
+use Rattle.clr_runtime.proofs.StepsBegun.{begun-within, finalizers-begun, with_begun}
 use Rattle.clr_runtime.proofs.StepsSeen.{step-seen}
 use Rattle.clr_runtime.proofs.runtime.Runtime.begin_set.Goals as goal
+use Rattle.clr_runtime.specs.Shown.{shown}
+use Rattle.clr_runtime.proofs.MarkedKept.{quiet_marked}
+use Rattle.clr_runtime.proofs.runtime.Runtime.begin_set.Goals.{After-set_slot_value}
 
 pub returns-in-Some : goal.returns-in-Some
 returns-in-Some c =
@@ -43,7 +46,7 @@ returns-in-Err c =
     let r = c.self.inside.parts in
     let passed = rw (← c.self.view_is) at (sym c.refused_names.ensures.value ∙ c.in_default.is) in
     rw (← c.self.view_is)
-    (refused_slot (world_of r) _ _ _ (begin_set_of c.args.t c.args.into c.args.index c.args.from)
+    (refused_slot (world_of r) _ _ _ (ahead_of r) (begin_set_of c.args.t c.args.into c.args.index c.args.from)
     c.index-place.result.now passed
     (local-read c.self.invariant.shown c.args.t c.args.into c.index_of.result c.index-place.result.now
     c.index_of.ensures.within c.index_of.ensures.index c.index-place.ensures) c.in-Err.refusal c.in-Err.ensures)
@@ -54,8 +57,29 @@ set_slot_value-requires-clause-byte c = λ bytes.
     absurd (true≢false (sym bytes ∙ reference-word c.self.inside.parts.types c.in-Ok.found.item c.in-Ok.found.slot
     (record { number = c.args.index; is = has.slot }) kind))
 
+-- the slot takes the value, and the thread is in mid-step
+begun-store : (c : After-set_slot_value) → Follows (seen c.self.inside.parts)
+    (begin_set c.args.t c.args.into c.args.index c.args.from) (answered Done)
+    (shown (record (world_of c.self.inside.parts) { heap = c.set_slot_value.new.heap })
+    (sums_of c.self.inside.parts.sums) (options_of c.self.inside.parts.options)
+    (with_begun c.self.inside.parts.safe c.args.t (Store c.index-place.result.now c.args.index))
+    (ahead_of c.self.inside.parts))
+begun-store c =
+    let r = c.self.inside.parts in
+    let is = c.self.invariant.shown in
+    let passed = rw (← c.self.view_is) at (sym c.refused_names.ensures.value ∙ c.in_default.is) in
+    let (has, kind) = c.in-Ok.ensures in
+    store_begun
+    (world_of r) _ _ _ (ahead_of r) c.args.t c.index-place.result.now c.args.index c.in-Ok.found.item c.in-Ok.found.slot
+    has c.set_slot_value.new.heap c.args.into c.args.from c.index-name.result.now passed
+    (local-read is c.args.t c.args.into c.index_of.result c.index-place.result.now c.index_of.ensures.within
+    c.index_of.ensures.index c.index-place.ensures)
+    (local-read is c.args.t c.args.from c.index_of-2.result c.index-name.result.now c.index_of-2.ensures.within
+    c.index_of-2.ensures.index c.index-name.ensures) kind (c.set_slot_value.ensures.stored c.args.index has.slot)
+
 pub invariant_of-self : goal.invariant_of-self
 invariant_of-self c =
+    let at = goal.at.invariant_of-self c in
     let r = c.self.inside.parts in
     let passed = rw (← c.self.view_is) at (sym c.refused_names.ensures.value ∙ c.in_default.is) in
     let is = c.self.invariant.shown in
@@ -67,7 +91,8 @@ invariant_of-self c =
     let run = (names_passed (seen r) c.args.t (c.args.into ∷ c.args.from ∷ []) passed).0 in
     let within = begun-within is c.args.t run.thread in
     let idle : is_step (step_by (begun_by r.safe c.args.t)) ≡ false =
-    sym (ap is_step (step-seen (world_of r) (sums_of r.sums) (options_of r.options) r.safe c.args.t)) ∙ run.idle in
+    sym (ap is_step (step-seen (world_of r) (sums_of r.sums) (options_of r.options) r.safe (ahead_of r) c.args.t))
+    ∙ run.idle in
     let less = owed-no_more r.safe.begun (c.args.t - 1) (Store place c.args.index) within refl in
     subst (λ (threads : Threads). IsRuntime (record r { heap = done.new.heap; safe = threads })) (sym c.begin.ensures)
     (record {
@@ -78,13 +103,9 @@ invariant_of-self c =
         free_heads = done.ensures.free_heads is.free_heads;
         clean = done.ensures.clean is.clean;
         sound = follows_sound (seen r) (begin_set c.args.t c.args.into c.args.index c.args.from) (answered Done) _
-            is.sound
-            (store_begun (world_of r) _ _ _ c.args.t place c.args.index c.in-Ok.found.item c.in-Ok.found.slot has
-            done.new.heap c.args.into c.args.from name passed
-            (local-read is c.args.t c.args.into c.index_of.result place c.index_of.ensures.within
-            c.index_of.ensures.index c.index-place.ensures)
-            (local-read is c.args.t c.args.from c.index_of-2.result name c.index_of-2.ensures.within
-            c.index_of-2.ensures.index c.index-name.ensures) kind stored);
+            is.sound (begun-store at.After-set_slot_value);
+        marked = quiet_marked (seen r) (begin_set c.args.t c.args.into c.args.index c.args.from) (answered Done) _
+            is.sound refl (begun-store at.After-set_slot_value) r.background refl refl is.marked;
       };
       tables = begun_tables r.cards r.safe r.bricks r.types r.heap done.new.heap c.lawful.ensures is.held c.args.t
           place c.args.index name c.in-Ok.found.item c.in-Ok.found.slot has kind done.ensures.stored within idle
@@ -95,6 +116,8 @@ invariant_of-self c =
           c.self.invariant.index;
       large = same_index
           (kind_items Large) r.types r.types r.heap done.new.heap r.large stored.layout c.self.invariant.large;
+      pinned = same_index
+          (kind_items Pinned) r.types r.types r.heap done.new.heap r.pinned stored.layout c.self.invariant.pinned;
       limit = stored_limit r.types r.heap done.new.heap c.in-Ok.found.item c.in-Ok.found.slot name
           done.ensures.words ∙ c.self.invariant.limit;
       pins = c.self.invariant.pins;
@@ -103,19 +126,9 @@ invariant_of-self c =
 
 pub returns : goal.returns
 returns c =
+    let at = goal.at.returns c in
     let r = c.self.inside.parts in
-    let passed = rw (← c.self.view_is) at (sym c.refused_names.ensures.value ∙ c.in_default.is) in
-    let is = c.self.invariant.shown in
-    let (has, kind) = c.in-Ok.ensures in
-    let done = c.set_slot_value in
-    let place = c.index-place.result.now in
-    let name = c.index-name.result.now in
     rw (← c.self.view_is)
     (subst (λ (threads : Threads). Follows (seen r) (begin_set c.args.t c.args.into c.args.index c.args.from)
-    (answered Done) (seen (record r { heap = done.new.heap; safe = threads }))) (sym c.begin.ensures)
-    (store_begun (world_of r) _ _ _ c.args.t place c.args.index c.in-Ok.found.item c.in-Ok.found.slot has
-    done.new.heap c.args.into c.args.from name passed
-    (local-read is c.args.t c.args.into c.index_of.result place c.index_of.ensures.within c.index_of.ensures.index
-    c.index-place.ensures)
-    (local-read is c.args.t c.args.from c.index_of-2.result name c.index_of-2.ensures.within
-    c.index_of-2.ensures.index c.index-name.ensures) kind (done.ensures.stored c.args.index has.slot)))
+    (answered Done) (seen (record r { heap = c.set_slot_value.new.heap; safe = threads }))) (sym c.begin.ensures)
+    (begun-store at.After-set_slot_value))

@@ -3,7 +3,7 @@ use Rattle.std.proofs.Common.{sym, ◌∙◌}
 use Rattle.clr_model.specs.Outcomes.{answered}
 use Rattle.clr_model.specs.declared.Reply.TheVariants.{Done}
 use Rattle.clr_model.proofs.LineFollows.{clear_of}
-use Rattle.clr_runtime.specs.RuntimeView.{world_of}
+use Rattle.clr_runtime.specs.RuntimeView.{ahead_of, world_of}
 use Rattle.clr_runtime.proofs.LocalLines.{cleared}
 use Rattle.clr_runtime.proofs.NamesChecked.{names_refused, once}
 use Rattle.clr_runtime.proofs.RuntimeKept.{local_kept}
@@ -21,13 +21,14 @@ invariant_of-self c =
     let passed = rw (← c.self.view_is) at (sym c.refused_names.ensures.value ∙ c.in_default.is) in
     record {
       shown = local_kept c.self.invariant.shown _ (answered Done) c.index_of.result 0
-          (cleared (world_of r) _ _ _ c.args.t c.args.local c.index_of.result
+          (cleared (world_of r) _ _ _ (ahead_of r) c.args.t c.args.local c.index_of.result
           passed c.index_of.ensures.index);
       tables = c.self.invariant.tables;
       owed = c.self.invariant.owed;
       finalizers = c.self.invariant.finalizers;
       index = c.self.invariant.index;
       large = c.self.invariant.large;
+      pinned = c.self.invariant.pinned;
       limit = c.self.invariant.limit;
       pins = c.self.invariant.pins;
       room = c.self.invariant.room;
@@ -38,5 +39,5 @@ returns c =
     let r = c.self.inside.parts in
     let passed = rw (← c.self.view_is) at (sym c.refused_names.ensures.value ∙ c.in_default.is) in
     rw (← c.self.view_is)
-    (cleared (world_of r) _ _ _ c.args.t c.args.local c.index_of.result
+    (cleared (world_of r) _ _ _ (ahead_of r) c.args.t c.args.local c.index_of.result
     passed c.index_of.ensures.index)

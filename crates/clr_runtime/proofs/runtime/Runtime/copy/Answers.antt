@@ -3,7 +3,7 @@ use Rattle.std.proofs.Common.{sym, ◌∙◌}
 use Rattle.clr_model.specs.Outcomes.{answered}
 use Rattle.clr_model.specs.declared.Reply.TheVariants.{Place}
 use Rattle.clr_model.proofs.LineFollows.{copy_of}
-use Rattle.clr_runtime.specs.RuntimeView.{world_of}
+use Rattle.clr_runtime.specs.RuntimeView.{ahead_of, world_of}
 use Rattle.clr_runtime.proofs.LocalLines.{copied}
 use Rattle.clr_runtime.proofs.LocalsSeen.{local-read}
 use Rattle.clr_runtime.proofs.NamesChecked.{names_refused}
@@ -23,7 +23,7 @@ invariant_of-self c =
     let is = c.self.invariant.shown in
     record {
       shown = local_kept is _ (answered (Place c.index-held.result.now)) c.index_of-2.result c.index-held.result.now
-          (copied (world_of r) _ _ _ c.args.t c.args.to c.args.from c.index_of-2.result
+          (copied (world_of r) _ _ _ (ahead_of r) c.args.t c.args.to c.args.from c.index_of-2.result
           c.index-held.result.now passed c.index_of-2.ensures.index
           (local-read is c.args.t c.args.from c.index_of.result c.index-held.result.now c.index_of.ensures.within
           c.index_of.ensures.index c.index-held.ensures));
@@ -32,6 +32,7 @@ invariant_of-self c =
       finalizers = c.self.invariant.finalizers;
       index = c.self.invariant.index;
       large = c.self.invariant.large;
+      pinned = c.self.invariant.pinned;
       limit = c.self.invariant.limit;
       pins = c.self.invariant.pins;
       room = c.self.invariant.room;
@@ -42,7 +43,7 @@ returns c =
     let r = c.self.inside.parts in
     let passed = rw (← c.self.view_is) at (sym c.refused_names.ensures.value ∙ c.in_default.is) in
     rw (← c.self.view_is)
-    (copied (world_of r) _ _ _ c.args.t c.args.to c.args.from c.index_of-2.result
+    (copied (world_of r) _ _ _ (ahead_of r) c.args.t c.args.to c.args.from c.index_of-2.result
     c.index-held.result.now passed c.index_of-2.ensures.index
     (local-read c.self.invariant.shown c.args.t c.args.from c.index_of.result c.index-held.result.now
     c.index_of.ensures.within c.index_of.ensures.index c.index-held.ensures))

@@ -1,10 +1,10 @@
 -- The table has the type, or it is refused for the first reason that fits.
-use Rattle.clr_types.specs.declared.segment.SegKind.TheVariants.{Large}
+use Rattle.clr_types.specs.declared.segment.SegKind.TheVariants.{Large, Pinned}
 use Rattle.clr_types.specs.Types.{form_of}
 use Rattle.clr_ctx.specs.Contexts.{young_items}
 use Rattle.clr_large.specs.Places.{kind_items}
 use Rattle.clr_runtime.specs.Options.{options_of}
-use Rattle.clr_runtime.specs.RuntimeView.{sums_of, world_of}
+use Rattle.clr_runtime.specs.RuntimeView.{ahead_of, sums_of, world_of}
 use Rattle.clr_model.specs.Step.{new_row}
 use Rattle.clr_runtime.proofs.IndexKept.{defined_index}
 use Rattle.clr_runtime.proofs.TablesKept.{defined_finalizers, defined_tables}
@@ -25,10 +25,10 @@ returns c =
     elim c.match-define.branch [
       | in-Ok w ↦ rw (w.result-is, w.mt.ensures, w.in-Ok.ensures.number, w.in-Ok.ensures.defined)
           (told-ok (world_of r) c.args.name.now form c.args.finalizer c.define.result told (sums_of r.sums)
-          (options_of r.options) r.safe c.requires w.in-Ok.t w.in-Ok.is c.self.invariant.shown.held)
+          (options_of r.options) r.safe (ahead_of r) c.requires w.in-Ok.t w.in-Ok.is c.self.invariant.shown.held)
       | in-Err w ↦ rw (w.result-is, w.refusal_of.ensures, w.in-Err.ensures.err)
           (told-err (world_of r) c.args.name.now form c.args.finalizer c.define.result told (sums_of r.sums)
-          (options_of r.options) r.safe w.in-Err.fault w.in-Err.is)
+          (options_of r.options) r.safe (ahead_of r) w.in-Err.fault w.in-Err.is)
     ]
 
 pub invariant_of-self : goal.invariant_of-self
@@ -37,7 +37,8 @@ invariant_of-self c =
     let form = form_of c.args.shape in
     record {
       shown =
-          defined_kept (world_of r) c.define.new.self (sums_of r.sums) (options_of r.options) r.safe c.args.name.now
+          defined_kept (world_of r) c.define.new.self (sums_of r.sums) (options_of r.options) r.safe
+          (ahead_of r) c.args.name.now
           form c.args.finalizer c.define.result c.self.invariant.shown c.requires c.define.ensures.defined
           c.define.ensures.err
           (record {
@@ -57,6 +58,9 @@ invariant_of-self c =
       large = defined_index (kind_items Large) r.types c.define.new.self r.heap
           (new_row c.args.name.now form c.args.finalizer) c.define.result r.large c.self.invariant.shown.held
           c.define.ensures.defined c.define.ensures.err c.self.invariant.large;
+      pinned = defined_index (kind_items Pinned) r.types c.define.new.self r.heap
+          (new_row c.args.name.now form c.args.finalizer) c.define.result r.pinned c.self.invariant.shown.held
+          c.define.ensures.defined c.define.ensures.err c.self.invariant.pinned;
       limit = c.self.invariant.limit;
       pins = c.self.invariant.pins;
       room = c.self.invariant.room;

@@ -3,7 +3,7 @@ use Rattle.std.proofs.Common.{sym, ◌∙◌}
 use Rattle.clr_model.specs.Outcomes.{answered}
 use Rattle.clr_model.specs.declared.Reply.TheVariants.{Place}
 use Rattle.clr_model.proofs.HandleFollows.{fetch_of}
-use Rattle.clr_runtime.specs.RuntimeView.{world_of}
+use Rattle.clr_runtime.specs.RuntimeView.{ahead_of, world_of}
 use Rattle.clr_runtime.proofs.HandleLines.{fetch_missing, fetched}
 use Rattle.clr_runtime.proofs.NamesChecked.{names_refused, once}
 use Rattle.clr_runtime.proofs.RuntimeKept.{local_kept}
@@ -19,7 +19,8 @@ pub returns-in_default-get : goal.returns-in_default-get
 returns-in_default-get c =
     let passed = rw (← c.self.view_is) at (sym c.refused_names.ensures.value ∙ c.in_default.is) in
     rw (← c.self.view_is)
-    (fetch_missing (world_of c.self.inside.parts) _ _ _ c.args.t c.args.to c.args.h passed
+    (fetch_missing (world_of c.self.inside.parts) _ _ _
+    (ahead_of c.self.inside.parts) c.args.t c.args.to c.args.h passed
     (sym c.get.ensures.value ∙ c.in_default-get.is))
 
 pub invariant_of-self : goal.invariant_of-self
@@ -28,13 +29,15 @@ invariant_of-self c =
     let row = c.in-Some-get.handle in
     record {
       shown = local_kept c.self.invariant.shown _ (answered (Place row.target)) c.index_of.result row.target
-          (fetched (world_of c.self.inside.parts) _ _ _ c.args.t c.args.to c.args.h passed row
+          (fetched (world_of c.self.inside.parts) _ _ _
+          (ahead_of c.self.inside.parts) c.args.t c.args.to c.args.h passed row
           (sym c.get.ensures.value ∙ c.in-Some-get.is) c.index_of.result c.index_of.ensures.index);
       tables = c.self.invariant.tables;
       owed = c.self.invariant.owed;
       finalizers = c.self.invariant.finalizers;
       index = c.self.invariant.index;
       large = c.self.invariant.large;
+      pinned = c.self.invariant.pinned;
       limit = c.self.invariant.limit;
       pins = c.self.invariant.pins;
       room = c.self.invariant.room;
@@ -44,5 +47,6 @@ pub returns : goal.returns
 returns c =
     let passed = rw (← c.self.view_is) at (sym c.refused_names.ensures.value ∙ c.in_default.is) in
     rw (← c.self.view_is)
-    (fetched (world_of c.self.inside.parts) _ _ _ c.args.t c.args.to c.args.h passed c.in-Some-get.handle
+    (fetched (world_of c.self.inside.parts) _ _ _
+    (ahead_of c.self.inside.parts) c.args.t c.args.to c.args.h passed c.in-Some-get.handle
     (sym c.get.ensures.value ∙ c.in-Some-get.is) c.index_of.result c.index_of.ensures.index)

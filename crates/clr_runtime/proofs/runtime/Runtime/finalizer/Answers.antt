@@ -8,7 +8,7 @@ use Rattle.clr_model.specs.Outcomes.{answered}
 use Rattle.clr_model.specs.Run.{Follows}
 use Rattle.clr_model.proofs.FinalFollows.{take_of}
 use Rattle.clr_runtime.specs.Options.{options_of}
-use Rattle.clr_runtime.specs.RuntimeView.{seen, sums_of, world_of}
+use Rattle.clr_runtime.specs.RuntimeView.{ahead_of, seen, sums_of, world_of}
 use Rattle.clr_runtime.proofs.FinalizerLines.{take_empty, taken}
 use Rattle.clr_runtime.proofs.NamesChecked.{names_refused, once}
 use Rattle.clr_runtime.proofs.RuntimeKept.{names_kept, room_follows}
@@ -29,7 +29,8 @@ returns-in_default-next c =
     rw (← c.self.view_is)
     (room_follows c.self.invariant.shown finals.entries finals.ready c.next.ensures.entries
     (sym c.in_default-next.ensures.taken) (take_ready c.args.t c.args.to) _
-    (take_empty (world_of c.self.inside.parts) _ _ _ c.args.t c.args.to passed c.in_default-next.ensures.none))
+    (take_empty (world_of c.self.inside.parts) _ _ _
+    (ahead_of c.self.inside.parts) c.args.t c.args.to passed c.in_default-next.ensures.none))
 
 -- the local takes the first that waits
 done : (c : After-index_of) → Follows (seen c.self.inside.parts) (take_ready c.args.t c.args.to)
@@ -38,11 +39,13 @@ done : (c : After-index_of) → Follows (seen c.self.inside.parts) (take_ready c
       locals = slice_set c.self.inside.parts.locals.items c.index_of.result c.in-Some-next.place;
       entries = c.next.new.self.entries;
       ready = c.next.new.self.ready;
-    }) (sums_of c.self.inside.parts.sums) (options_of c.self.inside.parts.options) c.self.inside.parts.safe)
+    }) (sums_of c.self.inside.parts.sums) (options_of c.self.inside.parts.options) c.self.inside.parts.safe
+    (ahead_of c.self.inside.parts))
 done c =
     let passed = rw (← c.self.view_is) at (sym c.refused_names.ensures.value ∙ c.in_default.is) in
     let finals = c.next.new.self in
-    taken (world_of c.self.inside.parts) _ _ _ c.args.t c.args.to passed c.in-Some-next.place c.index_of.result
+    taken (world_of c.self.inside.parts) _ _ _
+    (ahead_of c.self.inside.parts) c.args.t c.args.to passed c.in-Some-next.place c.index_of.result
     finals.entries
     finals.ready c.in-Some-next.ensures.taken c.next.ensures.entries c.index_of.ensures.index
 
@@ -64,6 +67,7 @@ invariant_of-self-2 c =
       finalizers = c.self.invariant.finalizers;
       index = c.self.invariant.index;
       large = c.self.invariant.large;
+      pinned = c.self.invariant.pinned;
       limit = c.self.invariant.limit;
       pins = c.self.invariant.pins;
       room = c.self.invariant.room;

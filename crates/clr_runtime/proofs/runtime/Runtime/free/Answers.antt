@@ -7,7 +7,7 @@ use Rattle.clr_model.specs.Outcomes.{answered, refused}
 use Rattle.clr_model.specs.Run.{Follows}
 use Rattle.clr_runtime.specs.Shown.{shown}
 use Rattle.clr_runtime.specs.Options.{options_of}
-use Rattle.clr_runtime.specs.RuntimeView.{seen, sums_of, world_of}
+use Rattle.clr_runtime.specs.RuntimeView.{ahead_of, seen, sums_of, world_of}
 use Rattle.clr_runtime.proofs.HandleLines.{free_missing, freed}
 use Rattle.clr_runtime.proofs.PinnedRoom.{room_kept}
 use Rattle.clr_runtime.proofs.NamesChecked.{thread_refused}
@@ -23,10 +23,11 @@ returns-in-Some c =
 -- a number that isn't in use
 missing : (c : In_default-free) → Follows (seen c.self.inside.parts) (free_handle c.args.t c.args.h) (refused NoHandle)
     (shown (record (world_of c.self.inside.parts) { handles = c.free.new.self }) (sums_of c.self.inside.parts.sums)
-    (options_of c.self.inside.parts.options) c.self.inside.parts.safe)
+    (options_of c.self.inside.parts.options) c.self.inside.parts.safe (ahead_of c.self.inside.parts))
 missing c =
     let passed = rw (← c.self.view_is) at (sym c.refused_thread.ensures.value ∙ c.in_default.is) in
-    free_missing (world_of c.self.inside.parts) _ _ _ c.args.t c.args.h passed c.free.new.self c.free.ensures.table
+    free_missing (world_of c.self.inside.parts) _ _ _
+    (ahead_of c.self.inside.parts) c.args.t c.args.h passed c.free.new.self c.free.ensures.table
     c.in_default-free.ensures.err
 
 pub invariant_of-self : goal.invariant_of-self
@@ -40,6 +41,7 @@ invariant_of-self c =
       finalizers = c.self.invariant.finalizers;
       index = c.self.invariant.index;
       large = c.self.invariant.large;
+      pinned = c.self.invariant.pinned;
       limit = c.self.invariant.limit;
       pins = c.self.invariant.pins;
       room = room_kept r.handles c.free.new.self c.args.h r.pins.spare c.free.ensures.table c.self.invariant.room;
@@ -51,10 +53,11 @@ returns-in_default-free c = rw (← c.self.view_is) (missing c)
 -- the handle is freed
 done : (c : In-Ok) → Follows (seen c.self.inside.parts) (free_handle c.args.t c.args.h) (answered Done)
     (shown (record (world_of c.self.inside.parts) { handles = c.free.new.self }) (sums_of c.self.inside.parts.sums)
-    (options_of c.self.inside.parts.options) c.self.inside.parts.safe)
+    (options_of c.self.inside.parts.options) c.self.inside.parts.safe (ahead_of c.self.inside.parts))
 done c =
     let passed = rw (← c.self.view_is) at (sym c.refused_thread.ensures.value ∙ c.in_default.is) in
-    freed (world_of c.self.inside.parts) _ _ _ c.args.t c.args.h passed c.free.new.self c.free.ensures.table
+    freed (world_of c.self.inside.parts) _ _ _
+    (ahead_of c.self.inside.parts) c.args.t c.args.h passed c.free.new.self c.free.ensures.table
     c.in-Ok.field-0
     c.in-Ok.ensures.freed
 
@@ -69,6 +72,7 @@ invariant_of-self-2 c =
       finalizers = c.self.invariant.finalizers;
       index = c.self.invariant.index;
       large = c.self.invariant.large;
+      pinned = c.self.invariant.pinned;
       limit = c.self.invariant.limit;
       pins = c.self.invariant.pins;
       room = room_kept r.handles c.free.new.self c.args.h r.pins.spare c.free.ensures.table c.self.invariant.room;

@@ -3,7 +3,7 @@ use Rattle.std.proofs.Common.{sym, ◌∙◌}
 use Rattle.clr_model.specs.Outcomes.{answered}
 use Rattle.clr_model.specs.declared.Reply.TheVariants.{Place}
 use Rattle.clr_model.proofs.LineFollows.{get_of}
-use Rattle.clr_runtime.specs.RuntimeView.{world_of}
+use Rattle.clr_runtime.specs.RuntimeView.{ahead_of, world_of}
 use Rattle.clr_runtime.proofs.LocalsSeen.{local-read, local-stands}
 use Rattle.clr_runtime.proofs.NamesChecked.{names_refused}
 use Rattle.clr_runtime.proofs.RuntimeKept.{local_kept}
@@ -27,7 +27,7 @@ returns-in-Err c =
     let r = c.self.inside.parts in
     let passed = rw (← c.self.view_is) at (sym c.refused_names.ensures.value ∙ c.in_default.is) in
     rw (← c.self.view_is)
-    (refused_slot (world_of r) _ _ _ (get_of c.args.t c.args.to c.args.from c.args.index)
+    (refused_slot (world_of r) _ _ _ (ahead_of r) (get_of c.args.t c.args.to c.args.from c.args.index)
     c.index-place.result.now passed
     (local-read c.self.invariant.shown c.args.t c.args.from c.index_of.result c.index-place.result.now
     c.index_of.ensures.within c.index_of.ensures.index c.index-place.ensures) c.in-Err.refusal c.in-Err.ensures)
@@ -41,7 +41,7 @@ invariant_of-self c =
     let name = c.slot_value-name in
     record {
       shown = local_kept is _ (answered (Place name.result)) c.index_of-2.result name.result
-          (got (world_of r) _ _ _ c.args.t c.index-place.result.now c.args.index c.in-Ok.found.item
+          (got (world_of r) _ _ _ (ahead_of r) c.args.t c.index-place.result.now c.args.index c.in-Ok.found.item
           c.in-Ok.found.slot has c.args.to c.args.from c.index_of-2.result name.result
           passed
           (local-read is c.args.t c.args.from c.index_of.result c.index-place.result.now c.index_of.ensures.within
@@ -52,6 +52,7 @@ invariant_of-self c =
       finalizers = c.self.invariant.finalizers;
       index = c.self.invariant.index;
       large = c.self.invariant.large;
+      pinned = c.self.invariant.pinned;
       limit = c.self.invariant.limit;
       pins = c.self.invariant.pins;
       room = c.self.invariant.room;
@@ -64,7 +65,7 @@ returns c =
     let (has, kind) = c.in-Ok.ensures in
     let name = c.slot_value-name in
     rw (← c.self.view_is)
-    (got (world_of r) _ _ _ c.args.t c.index-place.result.now c.args.index c.in-Ok.found.item
+    (got (world_of r) _ _ _ (ahead_of r) c.args.t c.index-place.result.now c.args.index c.in-Ok.found.item
     c.in-Ok.found.slot has c.args.to c.args.from c.index_of-2.result name.result
     passed
     (local-read c.self.invariant.shown c.args.t c.args.from c.index_of.result c.index-place.result.now

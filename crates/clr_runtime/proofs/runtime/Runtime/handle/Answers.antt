@@ -10,7 +10,7 @@ use Rattle.clr_model.proofs.HandleFollows.{create_of}
 use Rattle.clr_runtime.specs.Checks.{names_refusal}
 use Rattle.clr_runtime.specs.Options.{options_of}
 use Rattle.clr_runtime.specs.Outcomes.{handle_outcome}
-use Rattle.clr_runtime.specs.RuntimeView.{seen, sums_of, world_of}
+use Rattle.clr_runtime.specs.RuntimeView.{ahead_of, seen, sums_of, world_of}
 use Rattle.clr_runtime.proofs.HandleLines.{create_null, create_refused, created, IsCreated, named_once}
 use Rattle.clr_runtime.proofs.LocalsSeen.{local-read}
 use Rattle.clr_runtime.proofs.NamesChecked.{names_refused}
@@ -45,7 +45,8 @@ pub returns-then-target-eq0 : goal.returns-then-target-eq0
 returns-then-target-eq0 c =
     let at = goal.at.returns-then-target-eq0 c in
     rw (← c.self.view_is)
-    (create_null (world_of c.self.inside.parts) _ _ _ c.args.t c.args.kind c.args.local c.args.second c.requires.form
+    (create_null (world_of c.self.inside.parts) _ _ _
+    (ahead_of c.self.inside.parts) c.args.t c.args.kind c.args.local c.args.second c.requires.form
     (passed at.In_default) c.index-target.result.now (target-is at.After-is_dependent)
     (sym c.is_dependent.ensures ∙ c.if-is_dependent.true) c.if-target-eq0.true)
 
@@ -54,7 +55,7 @@ followed : (c : Joined-create_with_room) → Follows (seen c.self.inside.parts)
     (create_handle c.args.t c.args.kind c.args.local c.args.second) (handle_outcome c.match-create_with_room.result)
     (shown (record (world_of c.self.inside.parts) { handles = c.create_with_room.new.handles })
     (sums_of c.self.inside.parts.sums)
-    (options_of c.self.inside.parts.options) c.self.inside.parts.safe)
+    (options_of c.self.inside.parts.options) c.self.inside.parts.safe (ahead_of c.self.inside.parts))
 followed c =
     let r = c.self.inside.parts in
     let at = goal.at.returns c in
@@ -76,13 +77,14 @@ followed c =
     } in
     elim c.match-create_with_room.branch [
       | in-Ok w ↦ rw w.result-is
-          (created (world_of r) _ _ _ c.args.t c.args.kind c.args.local c.args.second c.requires.form
+          (created (world_of r) _ _ _ (ahead_of r) c.args.t c.args.kind c.args.local c.args.second c.requires.form
           (passed at.In_default) c.index-target.result.now (target-is at.After-is_dependent) some c.held_by-other.result
           (rw c.deref.ensures.value at c.held_by-other.ensures)
           c.create_with_room.new.handles c.create_with_room.result told w.in-Ok.h
           w.in-Ok.is)
       | in-Err w ↦ rw (w.result-is, w.refusal_of.ensures)
-          (create_refused (world_of r) _ _ _ c.args.t c.args.kind c.args.local c.args.second c.requires.form
+          (create_refused (world_of r) _ _ _
+          (ahead_of r) c.args.t c.args.kind c.args.local c.args.second c.requires.form
           (passed at.In_default) c.index-target.result.now (target-is at.After-is_dependent) some c.held_by-other.result
           (rw c.deref.ensures.value at c.held_by-other.ensures)
           c.create_with_room.new.handles c.create_with_room.result told w.in-Err.fault
@@ -101,6 +103,7 @@ invariant_of-self c =
       finalizers = c.self.invariant.finalizers;
       index = c.self.invariant.index;
       large = c.self.invariant.large;
+      pinned = c.self.invariant.pinned;
       limit = c.self.invariant.limit;
       pins = c.create_with_room.ensures.entries ∙ c.self.invariant.pins;
       room = c.create_with_room.ensures.room;

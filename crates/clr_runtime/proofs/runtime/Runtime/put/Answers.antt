@@ -1,12 +1,12 @@
 -- The slot takes the number.
-use Rattle.std.proofs.Common.{sym, ◌∙◌}
-use Rattle.clr_types.specs.declared.segment.SegKind.TheVariants.{Large}
+use Rattle.std.proofs.Common.{sym, ◌∙◌, refl}
+use Rattle.clr_types.specs.declared.segment.SegKind.TheVariants.{Large, Pinned}
 use Rattle.clr_model.specs.Outcomes.{answered}
 use Rattle.clr_model.specs.declared.Reply.TheVariants.{Done}
 use Rattle.clr_model.proofs.LineFollows.{put_of}
 use Rattle.clr_ctx.specs.Contexts.{young_items}
 use Rattle.clr_large.specs.Places.{kind_items}
-use Rattle.clr_runtime.specs.RuntimeView.{seen, world_of}
+use Rattle.clr_runtime.specs.RuntimeView.{ahead_of, seen, world_of}
 use Rattle.clr_runtime.proofs.IndexKept.{same_index}
 use Rattle.clr_runtime.proofs.LimitKept.{stored_limit}
 use Rattle.clr_runtime.proofs.LocalsSeen.{local-read, local-stands}
@@ -33,7 +33,7 @@ returns-in-Err c =
     let r = c.self.inside.parts in
     let passed = rw (← c.self.view_is) at (sym c.refused_names.ensures.value ∙ c.in_default.is) in
     rw (← c.self.view_is)
-    (refused_slot (world_of r) _ _ _
+    (refused_slot (world_of r) _ _ _ (ahead_of r)
     (put_of c.args.t c.args.into c.args.index c.args.value c.ranges.value.fits) c.index-place.result.now
     (once (seen r) c.args.t c.args.into _ passed)
     (local-read c.self.invariant.shown c.args.t c.args.into c.index_of.result c.index-place.result.now
@@ -49,9 +49,9 @@ invariant_of-self c =
     let number = c.narrowed-number in
     let stored = done.ensures.stored c.args.index has.slot in
     record {
-      shown = heap_kept is _ (answered Done) done.new.heap stored.held done.ensures.unmarked
+      shown = heap_kept is _ (answered Done) refl done.new.heap stored.held done.ensures.unmarked
           done.ensures.free_heads done.ensures.clean
-          (was_put (world_of r) _ _ _ c.args.t c.index-place.result.now c.args.index c.in-Ok.found.item
+          (was_put (world_of r) _ _ _ (ahead_of r) c.args.t c.index-place.result.now c.args.index c.in-Ok.found.item
           c.in-Ok.found.slot has done.new.heap c.args.into c.args.value number.result c.ranges.value.fits
           passed
           (local-read is c.args.t c.args.into c.index_of.result c.index-place.result.now c.index_of.ensures.within
@@ -65,6 +65,8 @@ invariant_of-self c =
           c.self.invariant.index;
       large = same_index
           (kind_items Large) r.types r.types r.heap done.new.heap r.large stored.layout c.self.invariant.large;
+      pinned = same_index
+          (kind_items Pinned) r.types r.types r.heap done.new.heap r.pinned stored.layout c.self.invariant.pinned;
       limit = stored_limit r.types r.heap done.new.heap c.in-Ok.found.item c.in-Ok.found.slot number.result
           done.ensures.words ∙ c.self.invariant.limit;
       pins = c.self.invariant.pins;
@@ -79,7 +81,7 @@ returns c =
     let done = c.set_slot_value in
     let number = c.narrowed-number in
     rw (← c.self.view_is)
-    (was_put (world_of r) _ _ _ c.args.t c.index-place.result.now c.args.index c.in-Ok.found.item
+    (was_put (world_of r) _ _ _ (ahead_of r) c.args.t c.index-place.result.now c.args.index c.in-Ok.found.item
     c.in-Ok.found.slot has done.new.heap c.args.into c.args.value number.result c.ranges.value.fits
     passed
     (local-read c.self.invariant.shown c.args.t c.args.into c.index_of.result c.index-place.result.now

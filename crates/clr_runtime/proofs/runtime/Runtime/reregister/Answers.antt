@@ -1,6 +1,6 @@
 -- The object's finaliser is asked for again, where there is one.
-use Rattle.std.proofs.Common.{◌≡◌, [], ◌∷◌, ◌++◌, None, sym, ap, arith, ◌∙◌, true≢false}
-use Rattle.clr_types.specs.declared.segment.SegKind.TheVariants.{Large}
+use Rattle.std.proofs.Common.{◌≡◌, [], ◌∷◌, ◌++◌, None, sym, ap, arith, ◌∙◌, true≢false, refl}
+use Rattle.clr_types.specs.declared.segment.SegKind.TheVariants.{Large, Pinned}
 use Rattle.clr_heap.specs.View.{HeapView}
 use Rattle.clr_runtime.specs.Shown.{shown}
 use Rattle.clr_model.specs.Instructions.{reregister_object}
@@ -13,7 +13,7 @@ use Rattle.clr_ctx.specs.Contexts.{young_items}
 use Rattle.clr_large.specs.Places.{kind_items}
 use Rattle.clr_runtime.specs.Checks.{names_refusal}
 use Rattle.clr_runtime.specs.Options.{options_of}
-use Rattle.clr_runtime.specs.RuntimeView.{seen, sums_of, world_of}
+use Rattle.clr_runtime.specs.RuntimeView.{ahead_of, seen, sums_of, world_of}
 use Rattle.clr_runtime.proofs.FinalizerLines.{allowed, reregister_lacks, reregister_null, reregister_plain}
 use Rattle.clr_runtime.proofs.FinalizerLines.{reregistered}
 use Rattle.clr_runtime.proofs.IndexKept.{same_index}
@@ -45,7 +45,8 @@ pub returns-then-place-eq0 : goal.returns-then-place-eq0
 returns-then-place-eq0 c =
     let at = (goal.at.returns-then-place-eq0 c).After-index-place in
     rw (← c.self.view_is)
-    (reregister_null (world_of c.self.inside.parts) _ _ _ c.args.t c.args.local (passed at) c.index-place.result.now
+    (reregister_null (world_of c.self.inside.parts) _ _ _ (ahead_of c.self.inside.parts) c.args.t c.args.local
+    (passed at) c.index-place.result.now
     (place-is at) c.if-place-eq0.true)
 
 pub is_final-requires-clause-stands : goal.is_final-requires-clause-stands
@@ -59,7 +60,8 @@ pub returns-then-not-is_final : goal.returns-then-not-is_final
 returns-then-not-is_final c =
     let at = (goal.at.returns-then-not-is_final c).After-index-place in
     rw (← c.self.view_is)
-    (reregister_plain (world_of c.self.inside.parts) _ _ _ c.args.t c.args.local (passed at) c.index-place.result.now
+    (reregister_plain (world_of c.self.inside.parts) _ _ _ (ahead_of c.self.inside.parts) c.args.t c.args.local
+    (passed at) c.index-place.result.now
     (place-is at) c.if-place-eq0.false (sym c.is_final.ensures ∙ c.if-not-is_final.true))
 
 pub is_suppressed-requires-clause-stands : goal.is_suppressed-requires-clause-stands
@@ -77,10 +79,12 @@ set_suppressed-requires-clause-stands c =
 -- one that isn't suppressed any more
 freed : (c : After-set_suppressed) → Follows (seen c.self.inside.parts) (reregister_object c.args.t c.args.local)
     (answered Done) (shown (record (world_of c.self.inside.parts) { heap = c.set_suppressed.new.heap })
-    (sums_of c.self.inside.parts.sums) (options_of c.self.inside.parts.options) c.self.inside.parts.safe)
+    (sums_of c.self.inside.parts.sums) (options_of c.self.inside.parts.options) c.self.inside.parts.safe
+    (ahead_of c.self.inside.parts))
 freed c =
     let at = (goal.at.returns-then-is_suppressed c).After-index-place in
-    allowed (world_of c.self.inside.parts) _ _ _ c.args.t c.args.local (passed at) c.index-place.result.now
+    allowed (world_of c.self.inside.parts) _ _ _ (ahead_of c.self.inside.parts) c.args.t c.args.local
+    (passed at) c.index-place.result.now
     (place-is at) c.if-place-eq0.false (sym c.is_final.ensures ∙ c.if-not-is_final.false)
     (sym c.is_suppressed.ensures ∙ c.if-is_suppressed.true) c.set_suppressed.new.heap c.set_suppressed.ensures.flagged
 
@@ -90,7 +94,7 @@ invariant_of-self c =
     let new = c.set_suppressed.new.heap in
     let set = c.set_suppressed.ensures in
     record {
-      shown = heap_kept c.self.invariant.shown _ _ new set.flagged.held set.unmarked set.free_heads
+      shown = heap_kept c.self.invariant.shown _ _ refl new set.flagged.held set.unmarked set.free_heads
           (set.clean (λ never. absurd (true≢false (sym never)))) (freed c);
       tables = flagged_tables r.cards r.safe r.bricks r.types r.heap new _ _ set.flagged c.self.invariant.tables;
       owed = c.self.invariant.owed;
@@ -98,6 +102,8 @@ invariant_of-self c =
       index = same_index young_items r.types r.types r.heap new r.contexts set.flagged.layout c.self.invariant.index;
       large = same_index
           (kind_items Large) r.types r.types r.heap new r.large set.flagged.layout c.self.invariant.large;
+      pinned = same_index
+          (kind_items Pinned) r.types r.types r.heap new r.pinned set.flagged.layout c.self.invariant.pinned;
       limit = ap (λ (h : HeapView). h.limit) set.words ∙ c.self.invariant.limit;
       pins = c.self.invariant.pins;
       room = c.self.invariant.room;
@@ -114,7 +120,8 @@ returns-in_default-reserve c =
     rw (← c.self.view_is)
     (room_follows c.self.invariant.shown finals.entries finals.ready c.reserve.ensures.entries c.reserve.ensures.ready
     (reregister_object c.args.t c.args.local) _
-    (reregister_lacks (world_of c.self.inside.parts) _ _ _ c.args.t c.args.local (passed at) c.index-place.result.now
+    (reregister_lacks (world_of c.self.inside.parts) _ _ _ (ahead_of c.self.inside.parts) c.args.t c.args.local
+    (passed at) c.index-place.result.now
     (place-is at) c.if-place-eq0.false (sym c.is_final.ensures ∙ c.if-not-is_final.false)
     (sym c.is_suppressed.ensures ∙ c.if-is_suppressed.false)))
 
@@ -124,10 +131,12 @@ entered : (c : After-register) → Follows (seen c.self.inside.parts) (reregiste
     (shown (record (world_of c.self.inside.parts) {
       entries = c.register.new.self.entries;
       ready = c.register.new.self.ready;
-    }) (sums_of c.self.inside.parts.sums) (options_of c.self.inside.parts.options) c.self.inside.parts.safe)
+    }) (sums_of c.self.inside.parts.sums) (options_of c.self.inside.parts.options) c.self.inside.parts.safe
+    (ahead_of c.self.inside.parts))
 entered c =
     let at = (goal.at.returns c).After-index-place in
-    reregistered (world_of c.self.inside.parts) _ _ _ c.args.t c.args.local (passed at) c.index-place.result.now
+    reregistered (world_of c.self.inside.parts) _ _ _ (ahead_of c.self.inside.parts) c.args.t c.args.local
+    (passed at) c.index-place.result.now
     (place-is at)
     c.if-place-eq0.false (sym c.is_final.ensures ∙ c.if-not-is_final.false)
     (sym c.is_suppressed.ensures ∙ c.if-is_suppressed.false) c.register.new.self.entries c.register.new.self.ready
@@ -150,6 +159,7 @@ invariant_of-self-2 c =
       finalizers = c.self.invariant.finalizers;
       index = c.self.invariant.index;
       large = c.self.invariant.large;
+      pinned = c.self.invariant.pinned;
       limit = c.self.invariant.limit;
       pins = c.self.invariant.pins;
       room = c.self.invariant.room;

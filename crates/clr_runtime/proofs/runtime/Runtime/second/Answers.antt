@@ -3,7 +3,7 @@ use Rattle.std.proofs.Common.{sym, ◌∙◌}
 use Rattle.clr_model.specs.Outcomes.{answered}
 use Rattle.clr_model.specs.declared.Reply.TheVariants.{Place}
 use Rattle.clr_model.proofs.HandleFollows.{second_from}
-use Rattle.clr_runtime.specs.RuntimeView.{world_of}
+use Rattle.clr_runtime.specs.RuntimeView.{ahead_of, world_of}
 use Rattle.clr_runtime.proofs.HandleLines.{second_fetched, second_missing, second_other}
 use Rattle.clr_runtime.proofs.NamesChecked.{names_refused, once}
 use Rattle.clr_runtime.proofs.RuntimeKept.{local_kept}
@@ -19,14 +19,16 @@ pub returns-in_default-get : goal.returns-in_default-get
 returns-in_default-get c =
     let passed = rw (← c.self.view_is) at (sym c.refused_names.ensures.value ∙ c.in_default.is) in
     rw (← c.self.view_is)
-    (second_missing (world_of c.self.inside.parts) _ _ _ c.args.t c.args.to c.args.h passed
+    (second_missing (world_of c.self.inside.parts) _ _ _
+    (ahead_of c.self.inside.parts) c.args.t c.args.to c.args.h passed
     (sym c.get.ensures.value ∙ c.in_default-get.is))
 
 pub returns-then-not-is_dependent : goal.returns-then-not-is_dependent
 returns-then-not-is_dependent c =
     let passed = rw (← c.self.view_is) at (sym c.refused_names.ensures.value ∙ c.in_default.is) in
     rw (← c.self.view_is)
-    (second_other (world_of c.self.inside.parts) _ _ _ c.args.t c.args.to c.args.h passed c.in-Some-get.handle
+    (second_other (world_of c.self.inside.parts) _ _ _
+    (ahead_of c.self.inside.parts) c.args.t c.args.to c.args.h passed c.in-Some-get.handle
     (sym c.get.ensures.value ∙ c.in-Some-get.is) (sym c.is_dependent.ensures ∙ c.if-not-is_dependent.true))
 
 pub invariant_of-self : goal.invariant_of-self
@@ -35,7 +37,8 @@ invariant_of-self c =
     let row = c.in-Some-get.handle in
     record {
       shown = local_kept c.self.invariant.shown _ (answered (Place row.second)) c.index_of.result row.second
-          (second_fetched (world_of c.self.inside.parts) _ _ _ c.args.t c.args.to c.args.h passed row
+          (second_fetched (world_of c.self.inside.parts) _ _ _
+          (ahead_of c.self.inside.parts) c.args.t c.args.to c.args.h passed row
           (sym c.get.ensures.value ∙ c.in-Some-get.is) (sym c.is_dependent.ensures ∙ c.if-not-is_dependent.false)
           c.index_of.result c.index_of.ensures.index);
       tables = c.self.invariant.tables;
@@ -43,6 +46,7 @@ invariant_of-self c =
       finalizers = c.self.invariant.finalizers;
       index = c.self.invariant.index;
       large = c.self.invariant.large;
+      pinned = c.self.invariant.pinned;
       limit = c.self.invariant.limit;
       pins = c.self.invariant.pins;
       room = c.self.invariant.room;
@@ -52,6 +56,7 @@ pub returns : goal.returns
 returns c =
     let passed = rw (← c.self.view_is) at (sym c.refused_names.ensures.value ∙ c.in_default.is) in
     rw (← c.self.view_is)
-    (second_fetched (world_of c.self.inside.parts) _ _ _ c.args.t c.args.to c.args.h passed c.in-Some-get.handle
+    (second_fetched (world_of c.self.inside.parts) _ _ _
+    (ahead_of c.self.inside.parts) c.args.t c.args.to c.args.h passed c.in-Some-get.handle
     (sym c.get.ensures.value ∙ c.in-Some-get.is) (sym c.is_dependent.ensures ∙ c.if-not-is_dependent.false)
     c.index_of.result c.index_of.ensures.index)

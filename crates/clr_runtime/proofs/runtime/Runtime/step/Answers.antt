@@ -4,7 +4,7 @@ use Rattle.clr_model.specs.declared.Refusal.TheVariants.{UnknownThread}
 use Rattle.clr_model.specs.Lookups.{is_step, is_thread}
 use Rattle.clr_safe.specs.Threads.{step_by}
 use Rattle.clr_runtime.specs.Options.{options_of}
-use Rattle.clr_runtime.specs.RuntimeView.{sums_of, world_of}
+use Rattle.clr_runtime.specs.RuntimeView.{ahead_of, sums_of, world_of}
 use Rattle.clr_runtime.proofs.FinishLines.{finish_refused, finish_unknown}
 use Rattle.clr_runtime.proofs.StepsSeen.{step-seen}
 use Rattle.clr_runtime.proofs.runtime.Runtime.step.Goals as goal
@@ -18,7 +18,7 @@ pub refused_idle-requires-clause-idle : goal.refused_idle-requires-clause-idle
 refused_idle-requires-clause-idle c =
     let r = c.self.inside.parts in
     rw (← c.self.view_is)
-    (ap is_step (step-seen (world_of r) (sums_of r.sums) (options_of r.options) r.safe c.args.t
+    (ap is_step (step-seen (world_of r) (sums_of r.sums) (options_of r.options) r.safe (ahead_of r) c.args.t
     ∙ ap step_by (sym c.in-Nothing.ensures)))
 
 pub returns-in-Nothing : goal.returns-in-Nothing

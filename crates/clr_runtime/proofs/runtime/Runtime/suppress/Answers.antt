@@ -1,6 +1,6 @@
 -- The object's finaliser is suppressed, where there is one.
-use Rattle.std.proofs.Common.{◌≡◌, [], ◌∷◌, None, sym, ap, ◌∙◌}
-use Rattle.clr_types.specs.declared.segment.SegKind.TheVariants.{Large}
+use Rattle.std.proofs.Common.{◌≡◌, [], ◌∷◌, None, sym, ap, ◌∙◌, refl}
+use Rattle.clr_types.specs.declared.segment.SegKind.TheVariants.{Large, Pinned}
 use Rattle.clr_heap.specs.View.{HeapView}
 use Rattle.clr_runtime.specs.Shown.{shown}
 use Rattle.clr_model.specs.Instructions.{suppress_object}
@@ -13,7 +13,7 @@ use Rattle.clr_ctx.specs.Contexts.{young_items}
 use Rattle.clr_large.specs.Places.{kind_items}
 use Rattle.clr_runtime.specs.Checks.{names_refusal}
 use Rattle.clr_runtime.specs.Options.{options_of}
-use Rattle.clr_runtime.specs.RuntimeView.{seen, sums_of, world_of}
+use Rattle.clr_runtime.specs.RuntimeView.{ahead_of, seen, sums_of, world_of}
 use Rattle.clr_runtime.proofs.FinalizerLines.{suppress_null, suppress_plain, suppressed}
 use Rattle.clr_runtime.proofs.IndexKept.{same_index}
 use Rattle.clr_runtime.proofs.LocalsSeen.{local-read, local-stands}
@@ -44,7 +44,8 @@ pub returns-then-place-eq0 : goal.returns-then-place-eq0
 returns-then-place-eq0 c =
     let at = (goal.at.returns-then-place-eq0 c).After-index-place in
     rw (← c.self.view_is)
-    (suppress_null (world_of c.self.inside.parts) _ _ _ c.args.t c.args.local (passed at) c.index-place.result.now
+    (suppress_null (world_of c.self.inside.parts) _ _ _ (ahead_of c.self.inside.parts) c.args.t c.args.local
+    (passed at) c.index-place.result.now
     (place-is at)
     c.if-place-eq0.true)
 
@@ -59,7 +60,8 @@ pub returns-then-not-is_final : goal.returns-then-not-is_final
 returns-then-not-is_final c =
     let at = (goal.at.returns-then-not-is_final c).After-index-place in
     rw (← c.self.view_is)
-    (suppress_plain (world_of c.self.inside.parts) _ _ _ c.args.t c.args.local (passed at) c.index-place.result.now
+    (suppress_plain (world_of c.self.inside.parts) _ _ _ (ahead_of c.self.inside.parts) c.args.t c.args.local
+    (passed at) c.index-place.result.now
     (place-is at) c.if-place-eq0.false (sym c.is_final.ensures ∙ c.if-not-is_final.true))
 
 pub set_suppressed-requires-clause-stands : goal.set_suppressed-requires-clause-stands
@@ -73,10 +75,11 @@ done : (c : After-set_suppressed) → Follows (seen c.self.inside.parts) (suppre
     (answered Done)
     (shown (record (world_of c.self.inside.parts) { heap = c.set_suppressed.new.heap })
     (sums_of c.self.inside.parts.sums)
-    (options_of c.self.inside.parts.options) c.self.inside.parts.safe)
+    (options_of c.self.inside.parts.options) c.self.inside.parts.safe (ahead_of c.self.inside.parts))
 done c =
     let at = (goal.at.returns c).After-index-place in
-    suppressed (world_of c.self.inside.parts) _ _ _ c.args.t c.args.local (passed at) c.index-place.result.now
+    suppressed (world_of c.self.inside.parts) _ _ _ (ahead_of c.self.inside.parts) c.args.t c.args.local
+    (passed at) c.index-place.result.now
     (place-is at)
     c.if-place-eq0.false (sym c.is_final.ensures ∙ c.if-not-is_final.false) c.set_suppressed.new.heap
     c.set_suppressed.ensures.flagged
@@ -87,7 +90,7 @@ invariant_of-self c =
     let new = c.set_suppressed.new.heap in
     let set = c.set_suppressed.ensures in
     record {
-      shown = heap_kept c.self.invariant.shown _ _ new set.flagged.held set.unmarked set.free_heads
+      shown = heap_kept c.self.invariant.shown _ _ refl new set.flagged.held set.unmarked set.free_heads
           (set.clean (λ _. sym c.is_final.ensures ∙ c.if-not-is_final.false)) (done c);
       tables = flagged_tables r.cards r.safe r.bricks r.types r.heap new _ _ set.flagged c.self.invariant.tables;
       owed = c.self.invariant.owed;
@@ -95,6 +98,8 @@ invariant_of-self c =
       index = same_index young_items r.types r.types r.heap new r.contexts set.flagged.layout c.self.invariant.index;
       large = same_index
           (kind_items Large) r.types r.types r.heap new r.large set.flagged.layout c.self.invariant.large;
+      pinned = same_index
+          (kind_items Pinned) r.types r.types r.heap new r.pinned set.flagged.layout c.self.invariant.pinned;
       limit = ap (λ (h : HeapView). h.limit) set.words ∙ c.self.invariant.limit;
       pins = c.self.invariant.pins;
       room = c.self.invariant.room;

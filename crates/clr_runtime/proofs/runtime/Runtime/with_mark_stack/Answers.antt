@@ -1,6 +1,6 @@
 -- A new runtime shows the opening state.
-use Rattle.std.proofs.Common.{◌∙◌, List, Option, ap, refl, subst, sym}
-use Rattle.clr_types.specs.declared.segment.SegKind.TheVariants.{Large}
+use Rattle.std.proofs.Common.{ap, false, List, Option, refl, subst, sym, ◌∙◌, ◌≡◌}
+use Rattle.clr_types.specs.declared.segment.SegKind.TheVariants.{Large, Pinned}
 use Rattle.clr_types.specs.Ranges.{Piece}
 use Rattle.clr_heap.specs.View.{frame, HeapView}
 use Rattle.clr_final.specs.Queues.{Queues}
@@ -10,40 +10,49 @@ use Rattle.clr_large.specs.Places.{IsKindIndex, kind_items}
 use Rattle.clr_generations.specs.Tables.{AreBricksOf, AreCardsOf, AreTablesOf}
 use Rattle.clr_generations.proofs.OpeningTables.{tables-opening}
 use Rattle.clr_runtime.specs.Options.{options_of}
+use Rattle.clr_runtime.specs.Shown.{Ahead, nothing_ahead}
 use Rattle.clr_runtime.proofs.IndexKept.{first_index}
 use Rattle.clr_runtime.proofs.PinnedRoom.{room_empty}
 use Rattle.clr_runtime.proofs.Opened.{IsFirst, new_shown, new_stands, none_owed, none_told}
 use Rattle.clr_runtime.proofs.StepsKept.{tables-carded}
 use Rattle.clr_runtime.proofs.runtime.Runtime.with_mark_stack.Goals as goal
-use Rattle.clr_runtime.proofs.runtime.Runtime.with_mark_stack.Goals.{After-new-10}
+use Rattle.clr_runtime.proofs.runtime.Runtime.with_mark_stack.Goals.{After-new-12}
 
 -- its world
-abbrev made_world : After-new-10 → World
+abbrev made_world : After-new-12 → World
 made_world c =
     let made = c.in-Ok-Ok-Ok-Ok in
     record {
       rows = made.types;
       heap = made.heap;
       locals = made.locals.items;
-      handles = c.new-7.result;
-      entries = c.new-8.result.entries;
-      ready = c.new-8.result.ready;
+      handles = c.new-8.result;
+      entries = c.new-9.result.entries;
+      ready = c.new-9.result.ready;
     }
 
-first : (c : After-new-10) → IsFirst (made_world c) c.args.options.segment c.args.options.limit
+-- nothing lies ahead
+abbrev made_ahead : After-new-12 → Ahead
+made_ahead c = record { compacts_large = false; background = c.new-12.result }
+
+made_nothing : (c : After-new-12) → made_ahead c ≡ nothing_ahead
+made_nothing c = λ j. record { compacts_large = false; background = c.new-12.ensures j }
+
+first : (c : After-new-12) → IsFirst (made_world c) c.args.options.segment c.args.options.limit
 first c =
     let made = c.in-Ok-Ok-Ok-Ok in
     record {
       rows = made.ensures;
       heap = made.ensures';
       locals = made.ensures''';
-      handles = c.new-7.ensures;
-      entries = ap (λ (q : Queues). q.entries) c.new-8.ensures;
-      ready = ap (λ (q : Queues). q.ready) c.new-8.ensures;
+      handles = c.new-8.ensures;
+      entries = ap (λ (q : Queues). q.entries) c.new-9.ensures;
+      ready = ap (λ (q : Queues). q.ready) c.new-9.ensures;
     }
 
 pub returns : goal.returns
-returns c = new_stands (made_world c) c.new-10.result c.new-10.ensures (options_of c.args.options) _ c.requires.lawful
+returns c = new_stands (made_world c) c.new-11.result c.new-11.ensures (made_ahead c) (made_nothing c)
+    (options_of c.args.options) _ c.requires.lawful
     (first c)
 
 pub invariant_of-result : goal.invariant_of-result
@@ -52,16 +61,17 @@ invariant_of-result c =
     let covered = c.cover_segments.new in
     let told = c.in_ok-cover_segments.ensures in
     record {
-      shown = new_shown (made_world c) c.new-10.result c.new-10.ensures (options_of c.args.options) _ c.requires.lawful
+      shown = new_shown (made_world c) c.new-11.result c.new-11.ensures (made_ahead c) (made_nothing c)
+          (options_of c.args.options) _ c.requires.lawful
           (first c);
-      tables = tables-carded covered.cards c.new-10.result covered.bricks made.types made.heap
+      tables = tables-carded covered.cards c.new-11.result covered.bricks made.types made.heap
           (subst (λ (h : HeapView). AreTablesOf made.types h covered.cards covered.bricks) (sym made.ensures')
           (tables-opening made.types c.args.options.segment c.args.options.limit c.requires.lawful.segment_aligned
           covered.cards covered.bricks told.unnamed
           (subst (λ (h : HeapView). AreCardsOf (frame h) covered.cards) made.ensures' told.cards)
           (subst (λ (h : HeapView). AreBricksOf (frame h) covered.bricks) made.ensures' told.bricks)));
-      owed = none_owed c.new-10.result c.new-10.ensures _;
-      finalizers = none_told c.new-10.result c.new-10.ensures made.types;
+      owed = none_owed c.new-11.result c.new-11.ensures _;
+      finalizers = none_told c.new-11.result c.new-11.ensures made.types;
       index = subst (λ (i : Option (List Piece)). IsIndex made.types made.heap i) (sym c.new-5.ensures)
           (first_index young_items made.types made.heap c.args.options.segment _ c.requires.lawful.segment_aligned
           made.ensures made.ensures' refl);
@@ -69,7 +79,11 @@ invariant_of-result c =
           (first_index (kind_items Large) made.types made.heap c.args.options.segment _
           c.requires.lawful.segment_aligned
           made.ensures made.ensures' refl);
+      pinned = subst (λ (i : Option (List Piece)). IsKindIndex Pinned made.types made.heap i) (sym c.new-7.ensures)
+          (first_index (kind_items Pinned) made.types made.heap c.args.options.segment _
+          c.requires.lawful.segment_aligned
+          made.ensures made.ensures' refl);
       limit = ap (λ (h : HeapView). h.limit) made.ensures';
       pins = c.in_ok-reserve.ensures.entries ∙ c.in_ok-pins.ensures;
-      room = room_empty c.new-7.result _ c.new-7.ensures c.in_ok-reserve.ensures.ok;
+      room = room_empty c.new-8.result _ c.new-8.ensures c.in_ok-reserve.ensures.ok;
     }

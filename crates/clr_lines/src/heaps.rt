@@ -1,0 +1,32 @@
+//! What a line on the large heap or on the pinned one does: one call of the runtime.
+ghost use Rattle.std.specs.Prelude.{◌≡◌, true};
+ghost use Rattle.clr_model.specs.Instructions.{instruction_of};
+ghost use Rattle.clr_model.specs.Run.{Follows};
+ghost use Rattle.clr_lines.specs.CommandKinds.{is_on_heaps};
+ghost use Rattle.clr_lines.specs.Outcomes.{outcome_of, CanShow};
+
+use crate::outcome::{Outcome, told_done, told_place};
+use clr_model::Command;
+use clr_runtime::Runtime;
+
+/// Does what such a command says, and tells its outcome. A line that is refused leaves the state as it was, but for a
+/// birth that finds no room after it collected: its collection stands.
+#[inline(never)]
+pub fn obey_heap(runtime: &mut Runtime, command: Command<'_>) -> Outcome
+    requires heaps { is_on_heaps command ≡ true }
+    ensures follows { Follows runtime.old.machine (instruction_of command.entry)
+        (outcome_of result) runtime.new.machine }
+    ensures heaps { is_on_heaps command.entry ≡ true }
+    ensures shows { CanShow result }
+{
+    match command {
+        Command::CompactLarge { t } => told_done(runtime.compact_large_once(t)),
+        Command::NewPinned {
+            t,
+            local,
+            name,
+            len,
+        } => told_place(runtime.new_pinned(t, local, name, len)),
+        _ => unreachable!(),
+    }
+}

@@ -1,0 +1,367 @@
+-- Headers and padding stay clean when the large heap slides.
+use Rattle.std.proofs.Common.{◌≡◌, ◌≢◌, inl, inr, ℕ, ◌+◌, ◌-◌, ◌%◌, ◌<◌, ◌≤◌, Bool, true, false, List}
+use Rattle.std.proofs.Common.{refl, ap, sym, ◌∙◌, subst, arith, map, if◌then◌else◌, ap₂}
+use Rattle.std.proofs.Common.{subst₂}
+use Rattle.std.specs.FinMap.{FinMap}
+use Rattle.std.specs.Ordering.{nat_cmp}
+use Rattle.std.proofs.lemmas.Bool.{both_ways, cases_Bool, cases_order, cases_eq, ne_eqb}
+use Rattle.clr_mem.specs.Words.{byte_of}
+use Rattle.clr_types.specs.Rising.{IsIn}
+use Rattle.clr_types.specs.Types.{form_at, size_of}
+use Rattle.clr_types.specs.declared.handle.Handle.{Handle}
+use Rattle.clr_types.specs.declared.item.Item.{Item}
+use Rattle.clr_types.proofs.ChangedLists.{into_filter, IsIn-map}
+use Rattle.clr_types.proofs.ListMembers.{from-map}
+use Rattle.clr_types.proofs.SortedLists.{out_of_sorted_by}
+use Rattle.clr_heap.specs.Memories.{word_address}
+use Rattle.clr_heap.specs.Parts.{unmarked}
+use Rattle.clr_heap.specs.View.{heap_items, HeapView, IsHeap, segment_at, word_of}
+use Rattle.clr_heap.proofs.Staying.{segment_order}
+use Rattle.clr_mark.proofs.Remarking.{cell_word, keeps_items}
+use Rattle.clr_model.specs.Compaction.{moved_by}
+use Rattle.clr_model.specs.Machine.{Machine, Object}
+use Rattle.clr_view.specs.Clean.{AreClean, HasCleanWords, IsCleanHeader, slots_end}
+use Rattle.clr_view.specs.Marks.{has_mark}
+use Rattle.clr_view.specs.Memory.{is_marked}
+use Rattle.clr_view.specs.SlotValues.{StandsAt}
+use Rattle.clr_view.specs.View.{is_object, object_in, objects_in}
+use Rattle.clr_view.proofs.Listed.{listed-above, listed-item, listed-sized}
+use Rattle.clr_view.proofs.Padding.{padding-word}
+use Rattle.clr_view.proofs.Standing.{standing}
+use Rattle.clr_plan.specs.Pinned.{has_pin}
+use Rattle.clr_moves.specs.Moves.{takes}
+use Rattle.clr_moves.specs.Objects.{is_in_parts}
+use Rattle.clr_moves.specs.Overlaid.{IsOutside}
+use Rattle.clr_moves.specs.declared.parts.Parts.TheVariants.{LargeSegments}
+use Rattle.clr_moves.proofs.PartPlaces.{into_parts}
+use Rattle.clr_survivors.specs.Pins.{HasPins, IsPinnedBelow, pinned_header}
+use Rattle.clr_survivors.proofs.CleanAfter.{pin-back, pin-none, pinned-moved}
+use Rattle.clr_survivors.proofs.ItemsOf.{item-of}
+use Rattle.clr_survivors.proofs.PaddingWords.{no-reference, none-starts}
+use Rattle.clr_survivors.proofs.PinsTold.{none-pinned}
+use Rattle.clr_survivors.proofs.SlideCourse.{away-stays, goes-lower, inside-view, IsCourse, mark-view, Stages}
+use Rattle.clr_survivors.proofs.SlideCourse.{world_of}
+use Rattle.clr_survivors.proofs.SlideEnded.{gone, in-moved, objects-ended, pins-stand}
+use Rattle.clr_survivors.proofs.SlideGiven.{row-stands}
+use Rattle.clr_view.specs.World.{IsNullOrStands}
+
+module _ (s : Stages) (m : Machine) (c : IsCourse s m) (new : HeapView)
+    (e : HasPins s.rows s.moved new s.table_after 1 65536 false) (heap : IsHeap new) where
+  -- an item of the new heap, and the one that it was
+  record HasGone (i : Item) : Type 0 where
+    object : Object
+    present : IsIn object (objects_in s.rows s.old)
+    was : Item
+    listed : IsIn was (heap_items s.rows s.old)
+    is : is_object was ≡ true
+    from : object.place ≡ was.place
+    place : i.place ≡ moved_by c.begun.plan.moves was.place
+    type : i.type_id.0 ≡ was.type_id.0
+    len : i.len ≡ was.len
+    size : i.size ≡ was.size
+    kind : (object.type ≡ was.type_id.0) × (object.len ≡ was.len)
+
+  has-gone : (i : Item) → IsIn i (heap_items s.rows new) → is_object i ≡ true → HasGone i
+  has-gone i listed object =
+      let q = object_in s.rows (word_of new) i in
+      let there = IsIn-map (object_in s.rows (word_of new))
+      (into_filter is_object (heap_items s.rows new) object listed) in
+      let (o, same, present) = from-map (gone s m c) q (objects_in s.rows s.old)
+      (out_of_sorted_by (λ (x : Object). x.name) q (map (gone s m c) (objects_in s.rows s.old))
+      (subst (λ (os : List Object). IsIn q os) (objects-ended s m c new e) there)) in
+      let k = item-of s.rows s.old o present in
+      let type : i.type_id.0 ≡ k.item.type_id.0 =
+      ap (λ (x : Object). x.type) same ∙ ap (λ (x : Object). x.type) k.is in
+      let len : i.len ≡ k.item.len = ap (λ (x : Object). x.len) same ∙ ap (λ (x : Object). x.len) k.is in
+      record {
+        object = o;
+        present = present;
+        was = k.item;
+        listed = k.listed;
+        is = k.object;
+        from = k.at;
+        kind = (ap (λ (x : Object). x.type) k.is, ap (λ (x : Object). x.len) k.is);
+        place = ap (λ (x : Object). x.place) same ∙ ap (moved_by c.begun.plan.moves) k.at;
+        type = type;
+        len = len;
+        size = listed-sized s.rows new i heap e.held listed
+            ∙ (λ j. size_of (form_at s.rows (type j)) (len j))
+            ∙ sym (listed-sized s.rows s.old k.item c.run.given.heap c.run.given.held k.listed);
+      }
+
+  -- ---- outside of large segments
+
+  outside-cell : (j : Item) → IsIn j (heap_items s.rows c.begun.view)
+      → is_in_parts c.begun.view LargeSegments j.place ≡ false
+      → (b : ℕ) → j.place ≤ b + 8 → b + 8 < j.place + j.size → IsOutside c.begun.view LargeSegments b
+  outside-cell j listed away b low high t within on =
+      let view = c.begun.view in
+      let view_heap = c.begun.plan.overlaid.heap in
+      let h = standing s.rows view view_heap c.begun.pins.held j listed in
+      let up = h.above in
+      let down = h.below in
+      let top = h.reserved in
+      let size = h.least in
+      elim (cases_order h.segment t) [
+        | inl same ↦
+            let takes_part : takes LargeSegments (segment_at view h.segment) ≡ true =
+            ap (λ (n : ℕ). takes LargeSegments (segment_at view n)) same ∙ on in
+            absurd (both_ways (is_in_parts view LargeSegments j.place) away
+            (into_parts view LargeSegments h.segment j.place
+            (record { in_range = h.in_range; takes = takes_part; low = up; high = omega (arith, down, top, size) }) up))
+        | inr (inl lower) ↦
+            let order = segment_order view h.segment t view_heap lower within in
+            inl (omega (arith, order, top, down, high))
+        | inr (inr upper) ↦
+            let order = segment_order view t h.segment view_heap upper h.in_range in
+            inr (inr (omega (arith, order, up, low)))
+      ]
+
+  module _ (i : Item) (listed : IsIn i (heap_items s.rows new)) (g : HasGone i) where
+    abbrev j : Item
+    j = g.was
+
+    in-marked-items : IsIn j (heap_items s.rows c.begun.marked)
+    in-marked-items = subst (λ (is : List Item). IsIn j is)
+        (sym (keeps_items s.rows s.old c.begun.marked c.run.given.heap c.run.given.held c.begun.remarked)) g.listed
+
+    in-view-items : IsIn j (heap_items s.rows c.begun.view)
+    in-view-items = subst (λ (is : List Item). IsIn j is) (sym c.begun.pins.items) in-marked-items
+
+    in-mid-items : IsIn j (heap_items s.rows c.went.mid)
+    in-mid-items = subst (λ (is : List Item). IsIn j is) (sym c.went.relocated.items) in-view-items
+
+    up-old : 8 ≤ j.place
+    up-old = listed-above s.rows s.old j c.run.given.heap c.run.given.held g.listed
+
+    aligned-old : j.place % 8 ≡ 0
+    aligned-old = (listed-item s.rows s.old j c.run.given.heap c.run.given.held g.listed).aligned
+
+    up-new : 8 ≤ i.place
+    up-new = listed-above s.rows new i heap e.held listed
+
+    aligned-new : i.place % 8 ≡ 0
+    aligned-new = (listed-item s.rows new i heap e.held listed).aligned
+
+    marked-mid : is_in_parts c.begun.view LargeSegments j.place ≡ true
+        → has_mark (word_of c.went.mid j.place) ≡ true
+    marked-mid inside =
+        let mark : is_marked c.begun.view g.object ≡ true =
+        mark-view s c.run.given m c.begun g.object g.present
+        ∙ sym (inside-view s c.run.given m c.begun g.object.place)
+        ∙ ap (is_in_parts c.begun.view LargeSegments) g.from ∙ inside in
+        ap has_mark ((c.went.relocated.heads j in-view-items).1 ∙ ap (word_of c.begun.view) (sym g.from)) ∙ mark
+
+    -- words of the cell, but for the mark, stand where it goes
+    moved-word : (t : ℕ) → t % 8 ≡ 0 → t < j.size → t ≢ 8
+        → word_of s.moved (i.place - 8 + t) ≡ word_of c.went.mid (j.place - 8 + t)
+    moved-word t z l ne = elim (cases_Bool (is_in_parts c.begun.view LargeSegments j.place)) [
+      | inl inside ↦
+          let vs = c.begun.plan.moves in
+          let mid_inside : is_in_parts c.went.mid LargeSegments j.place ≡ true =
+          ap (λ (h : HeapView). is_in_parts h LargeSegments j.place) c.went.relocated.others ∙ inside in
+          let marked = marked-mid inside in
+          let at = g.place in
+          elim (cases_eq t 0) [
+            | inl first_word ↦
+                let hb : i.place - 8 + t ≡ moved_by vs j.place - 8 = omega (arith, at, first_word) in
+                let back : j.place - 8 ≡ j.place - 8 + t = omega (arith, first_word) in
+                ap (word_of s.moved) hb
+                ∙ c.went.compacted.headers j in-mid-items g.is marked mid_inside
+                ∙ ap (word_of c.went.mid) back
+            | inr later_word ↦
+                let b = i.place - 8 + t in
+                let up = up-new in
+                let za = aligned-new in
+                let low = up-old in
+                let lower = goes-lower s c.run.given m c.begun j.place in
+                let from : b + (j.place - moved_by vs j.place) ≡ j.place - 8 + t = omega (arith, at, up, low, lower) in
+                c.went.compacted.cells j b in-mid-items g.is marked mid_inside (omega (arith, up, za, z))
+                (omega (arith, at, up)) (omega (arith, at, up, l))
+                ∙ ap (λ (test : Bool). if test then unmarked (word_of c.went.mid
+                (b + (j.place - moved_by vs j.place))) else word_of c.went.mid
+                (b + (j.place - moved_by vs j.place)))
+                (ne_eqb (b + (j.place - moved_by vs j.place)) j.place (λ same. ne (omega (arith, same, from, low))))
+                ∙ ap (word_of c.went.mid) from
+          ]
+      | inr away ↦
+          let at = g.place in
+          let stays = away-stays s c.run.given m c.begun c.run.ready_lawful j.place away in
+          let same : i.place - 8 + t ≡ j.place - 8 + t = omega (arith, at, stays) in
+          let up = up-old in
+          let za = aligned-old in
+          ap (word_of s.moved) same
+          ∙ c.went.compacted.outside (j.place - 8 + t) (omega (arith, up, za, z))
+          (subst (λ (h : HeapView). IsOutside h LargeSegments (j.place - 8 + t)) (sym c.went.relocated.others)
+          (outside-cell j in-view-items away (j.place - 8 + t) (omega (arith, up)) (omega (arith, up, l))))
+    ]
+
+    -- ---- before the moves
+
+    old-stands : (x : ℕ) → IsPinnedBelow s.table 1 65536 x → StandsAt s.rows s.old x
+    old-stands x q =
+        let (n, is, named) = c.run.given.world in
+        by ((row-stands (world_of s) n is named q.number q.row q.in_use).0)
+      where
+        by : IsNullOrStands s.rows s.old q.row.target → StandsAt s.rows s.old x
+        by (inl null) = let some = q.some in let at = q.target in absurd (omega (arith, null, some, at))
+        by (inr stands) = subst (StandsAt s.rows s.old) q.target stands
+
+    -- but for its header and its method table word a cell's words are as before
+    view-word : (b : ℕ) → b % 8 ≡ 0 → j.place < b → b + 8 < j.place + j.size
+        → word_of c.begun.view b ≡ word_of s.old b
+    view-word b z low high = elim (c.begun.pins.words b z) [
+      | inl hit ↦
+          absurd (none-starts s.rows s.old c.run.given.heap c.run.given.held j (b + 8) g.listed (omega (arith, low))
+          high (old-stands (b + 8) hit.0))
+      | inr miss ↦
+          miss.1
+          ∙ cell_word s.rows s.old c.begun.marked c.run.given.heap c.run.given.held c.begun.remarked j b g.listed
+          (record { aligned = z; low = omega (arith, low); high = high }) (λ same. omega (arith, same, low))
+    ]
+
+    marked-header : word_of c.begun.marked (j.place - 8) ≡ word_of s.old (j.place - 8)
+    marked-header =
+        let up = up-old in
+        let z = aligned-old in
+        let size = (listed-item s.rows s.old j c.run.given.heap c.run.given.held g.listed).least in
+        cell_word s.rows s.old c.begun.marked c.run.given.heap c.run.given.held c.begun.remarked j (j.place - 8)
+        g.listed
+        (record { aligned = omega (arith, up, z); low = omega (arith, up); high = omega (arith, up, size) })
+        (λ same. omega (arith, same, up))
+
+    -- ---- after the moves
+
+    moved-stands : (x : ℕ) → IsPinnedBelow s.table_after 1 65536 x → StandsAt s.rows s.moved x
+    moved-stands x q =
+        subst (StandsAt s.rows s.moved) q.target
+        (pins-stand s m c q.number q.row q.in_use q.pinned (subst (λ (n : ℕ). 0 < n) (sym q.target) q.some))
+
+    -- the item where it has moved
+    record IsThere : Type 0 where
+      item : Item
+      there : IsIn item (heap_items s.rows s.moved)
+      at : item.place ≡ i.place
+      bytes : item.size ≡ i.size
+
+    is-there : IsThere
+    is-there =
+        let q = gone s m c g.object in
+        let k = item-of s.rows s.moved q (in-moved s m c g.object g.present) in
+        let type : k.item.type_id.0 ≡ i.type_id.0 =
+        sym (ap (λ (x : Object). x.type) k.is) ∙ g.kind.0 ∙ sym g.type in
+        let len : k.item.len ≡ i.len = sym (ap (λ (x : Object). x.len) k.is) ∙ g.kind.1 ∙ sym g.len in
+        record {
+          item = k.item;
+          there = k.listed;
+          at = sym k.at ∙ ap (moved_by c.begun.plan.moves) g.from ∙ sym g.place;
+          bytes = listed-sized s.rows s.moved k.item c.run.moved_lawful c.went.compacted.held k.listed
+              ∙ (λ d. size_of (form_at s.rows (type d)) (len d))
+              ∙ sym (listed-sized s.rows new i heap e.held listed);
+        }
+
+    new-word : (b : ℕ) → b % 8 ≡ 0 → i.place ≤ b → b + 8 < i.place + i.size → word_of new b ≡ word_of s.moved b
+    new-word b z low high = elim (e.words b z) [
+      | inl hit ↦
+          let w = is-there in
+          let at = w.at in
+          let bytes = w.bytes in
+          absurd (none-starts s.rows s.moved c.run.moved_lawful c.went.compacted.held w.item (b + 8) w.there
+          (omega (arith, at, low)) (omega (arith, at, bytes, high)) (moved-stands (b + 8) hit.0))
+      | inr miss ↦ miss.1
+    ]
+
+    -- ---- the header
+
+    old-header : IsCleanHeader s.rows j.type_id.0 (word_of s.old (j.place - 8))
+    old-header = (c.run.given.clean j g.listed g.is).header
+
+    off-old : has_pin (word_of s.old (j.place - 8)) ≡ false
+    off-old = none-pinned s.rows j.type_id.0 (word_of s.old (j.place - 8)) old-header
+
+    moved-header : word_of s.moved (i.place - 8) ≡ word_of c.begun.view (j.place - 8)
+    moved-header =
+        let size = (listed-item s.rows s.old j c.run.given.heap c.run.given.held g.listed).least in
+        ap (word_of s.moved) (omega arith) ∙ moved-word 0 refl (omega (arith, size)) (λ same. omega (arith, same))
+        ∙ ap (word_of c.went.mid) (omega arith) ∙ (c.went.relocated.heads j in-view-items).0
+
+    new-header : word_of new (i.place - 8) ≡ word_of s.old (j.place - 8)
+    new-header =
+        let up = up-new in
+        let low = up-old in
+        let za = aligned-new in
+        let zo = aligned-old in
+        let back : i.place - 8 + 8 ≡ i.place = omega (arith, up) in
+        let back_old : j.place - 8 + 8 ≡ j.place = omega (arith, low) in
+        let place = g.place in
+        elim (e.words (i.place - 8) (omega (arith, up, za))) [
+          | inl hit ↦
+              hit.1 ∙ ap (pinned_header false) moved-header
+              ∙ elim (c.begun.pins.words (j.place - 8) (omega (arith, low, zo))) [
+                | inl was ↦
+                    ap (pinned_header false) (was.1 ∙ ap (pinned_header true) marked-header)
+                    ∙ pin-back (word_of s.old (j.place - 8)) off-old
+                | inr was ↦
+                    ap (pinned_header false) (was.1 ∙ marked-header) ∙ pin-none (word_of s.old (j.place - 8)) off-old
+              ]
+          | inr miss ↦
+              miss.1 ∙ moved-header
+              ∙ elim (c.begun.pins.words (j.place - 8) (omega (arith, low, zo))) [
+                | inl was ↦
+                    let pinned = subst (IsPinnedBelow s.table 1 65536) back_old was.0 in
+                    let moved = pinned-moved (moved_by c.begun.plan.moves) s.table 1 j.place
+                    (omega (arith, place, up)) (omega (arith, place, up)) pinned in
+                    absurd (miss.0 (subst (IsPinnedBelow s.table_after 1 65536) (sym place ∙ sym back)
+                    (subst (λ (t : FinMap nat_cmp Handle). IsPinnedBelow t 1 65536
+                    (moved_by c.begun.plan.moves j.place))
+                    (sym c.went.gone.table_is) moved)))
+                | inr was ↦ was.1 ∙ marked-header
+              ]
+        ]
+
+    -- ---- padding
+
+    clean-item : HasCleanWords s.rows (word_of new) i
+    clean-item = record {
+      header = subst₂ (λ (t w : ℕ). IsCleanHeader s.rows t w) (sym g.type) (sym new-header) old-header;
+      padding = λ a down over.
+          let form = form_at s.rows i.type_id.0 in
+          let sized = listed-sized s.rows new i heap e.held listed in
+          let z = aligned-new in
+          let zo = aligned-old in
+          let at = padding-word form i.len i.place a z down (omega (arith, over, sized)) in
+          let above = at.above in
+          let below = at.below in
+          let p = j.place + (a - i.place) in
+          let b = word_address a in
+          let d = word_address p in
+          let size = g.size in
+          let ends : slots_end form i.len ≡ slots_end (form_at s.rows j.type_id.0) j.len =
+          λ k. slots_end (form_at s.rows (g.type k)) (g.len k) in
+          let up = up-new in
+          let low = up-old in
+          let t = b + 8 - i.place in
+          let to : b ≡ i.place - 8 + t = omega (arith, above, up) in
+          let from : j.place - 8 + t ≡ d = omega (arith, above, low, z, zo, down) in
+          let low_p : j.place + slots_end (form_at s.rows j.type_id.0) j.len ≤ p = omega (arith, down, ends) in
+          let high_p : p < j.place + j.size - 8 = omega (arith, over, size, above) in
+          let none = no-reference s.rows c.begun.view c.begun.plan.overlaid.heap c.begun.pins.held LargeSegments j p
+          in-view-items low_p high_p in
+          let word : word_of new b ≡ word_of s.old d =
+          new-word b at.aligned (omega (arith, above)) (omega (arith, below, sized))
+          ∙ ap (word_of s.moved) to
+          ∙ moved-word t (omega (arith, above, z)) (omega (arith, below, above, sized, size))
+          (λ same. omega (arith, same, above))
+          ∙ ap (word_of c.went.mid) from
+          ∙ c.went.relocated.words d (omega arith)
+          ∙ ap (λ (test : Bool). if test then moved_by c.begun.plan.moves (word_of c.begun.view d)
+          else word_of c.begun.view d) none
+          ∙ view-word d (omega arith) (omega (arith, from, above, low))
+          (omega (arith, from, below, above, sized, size, low))
+          in
+          let digit : a % 8 ≡ p % 8 = omega (arith, z, zo, down) in
+          ap₂ byte_of word digit ∙ (c.run.given.clean j g.listed g.is).padding p low_p high_p;
+    }
+
+  pub clean-ended : AreClean s.rows new
+  clean-ended i listed object = clean-item i listed (has-gone i listed object)

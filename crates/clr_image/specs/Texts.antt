@@ -75,3 +75,9 @@ abbrev pub Tells : TextOf → List ℕ → Result (Vec ℕ Global) LoadFault →
 Tells IsText bytes (Ok text) = (parts : Parts) × IsImage bytes parts × IsText bytes parts text.items
 Tells IsText bytes (Err (At o)) = HasFault bytes o
 Tells IsText bytes (Err NoMemory) = Unit {0}
+
+-- whether the image is of the first version; what is told of other bytes is as above
+abbrev pub TellsVersion : List ℕ → Result Bool LoadFault → Type 0
+TellsVersion bytes (Ok first) = (parts : Parts) × IsImage bytes parts × (first ≡ is_first bytes)
+TellsVersion bytes (Err (At o)) = HasFault bytes o
+TellsVersion bytes (Err NoMemory) = Unit {0}

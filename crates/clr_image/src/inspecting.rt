@@ -1,5 +1,8 @@
 //! What the commands show of the heap in an image.
 ghost use Rattle.std.specs.Prelude.{◌≡◌, ◌++◌, IfOk, OnOk};
+ghost use Rattle.clr_format.specs.Images.{is_first};
+ghost use Rattle.clr_load.specs.Loading.{IsLoaded};
+ghost use Rattle.clr_load.specs.Sound.{IsSound};
 ghost use Rattle.clr_image.specs.Texts.{all_text, Inspected, shown_text, tables_text, Tells};
 ghost use Rattle.clr_model.specs.Machine.{Machine};
 ghost use Rattle.clr_view.specs.View.{IsHeld};
@@ -11,7 +14,7 @@ use clr_load::{Image, load};
 use clr_mem::NoMemory;
 use clr_model::{Filter, Life, Mode};
 use clr_sos::{View, dumpheap, eeheap, finalizequeue, gchandles};
-use std::alloc::Global;
+use std::alloc::{AllocError, Global};
 
 /// All items of a heap, a line for each.
 const ALL: Filter<'static> = Filter {
@@ -27,16 +30,25 @@ const ALL: Filter<'static> = Filter {
 /// to `gchandles` and `finalizequeue`, and that to `verifyheap`, which of an image is always `clean`.
 ///
 /// Bytes that are no image have the fault of `load`. `NoMemory` comes only where there was no memory for the heap or
-/// for the text.
-pub fn inspect(alloc: Global, bytes: &[u8]) -> Result<Vec<u8>, LoadFault>
-    ensures { Tells Inspected bytes.now result }
+/// for the text. The bytes are given back once they were read, so that beside the heap there is the text alone.
+pub fn inspect(alloc: Global, bytes: Vec<u8>) -> Result<Vec<u8>, LoadFault>
+    ensures { Tells Inspected bytes.items result }
 {
-    let image = load(alloc, bytes)?;
+    let image = read(alloc, bytes)?;
     let bricks = Bricks::new(alloc);
     match show(alloc, &view_of(&image, &bricks), image.first) {
         Ok(text) => Ok(text),
         Err(NoMemory) => Err(LoadFault::NoMemory),
     }
+}
+
+// What is loaded of bytes that go then.
+fn read(alloc: Global, bytes: Vec<u8>) -> Result<Image, LoadFault>
+    ensures loaded { IsLoaded bytes.items result }
+    ensures sound { IfOk result IsSound }
+    ensures version { IfOk result (λ image. image.first ≡ is_first bytes.items) }
+{
+    load(alloc, &bytes)
 }
 
 // What the commands look at. They ask nothing of the bricks, which an image doesn't have.
@@ -67,11 +79,23 @@ fn show(alloc: Global, view: &View<'_>, first: bool) -> Result<Vec<u8>, NoMemory
     requires ready { AllStand view.now.types.now view.now.heap.now view.now.finals.now.ready }
     ensures { IfOk result (λ text. (m : Machine) → IsViewOf view.now m → text.items ≡ shown_text first m) }
 {
-    let mut text = eeheap(alloc, view)?;
-    text.extend_from_slice(&all_items(alloc, view)?)?;
+    let front = eeheap(alloc, view)?;
+    // (most of the text, so the rest is put around it)
+    let mut text = all_items(alloc, view)?;
+    put_front(&mut text, &front)?;
     put_tables(&mut text, alloc, view, first)?;
     text.extend_from_slice(b"clean\n")?;
     Ok(text)
+}
+
+// Puts bytes in front of others.
+fn put_front(text: &mut Vec<u8>, front: &[u8]) -> Result<(), AllocError>
+    ensures { OnOk result (text.new.items ≡ front.now ++ text.old.items) }
+{
+    let behind = text.len();
+    text.extend_from_slice(front)?;
+    text.rotate_left(behind);
+    Ok(())
 }
 
 // The reply to `dumpheap`. There is no other fault, as no type is asked for.

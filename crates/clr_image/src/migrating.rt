@@ -3,7 +3,7 @@ ghost use Rattle.std.specs.Prelude.{◌≡◌, ◌≤◌, ◌++◌, length, drop
 ghost use Rattle.clr_fields.specs.declared.fault.LoadFault.{LoadFault as Fault};
 ghost use Rattle.clr_format.specs.Images.{is_first};
 ghost use Rattle.clr_format.specs.Saved.{empty_tables_bytes, migrated, words_bytes};
-ghost use Rattle.clr_image.specs.Texts.{Migrated, Tells};
+ghost use Rattle.clr_image.specs.Texts.{Migrated, Tells, TellsVersion};
 
 use clr_fields::LoadFault;
 use clr_load::load;
@@ -18,17 +18,26 @@ const EMPTY_WORDS: u64 = 84;
 pub fn migrate(alloc: Global, bytes: &[u8]) -> Result<Vec<u8>, LoadFault>
     ensures { Tells Migrated bytes.now result }
 {
-    let image = load(alloc, bytes)?;
+    let first = is_of_first(alloc, bytes)?;
     let mut out = Vec::with_capacity(
         alloc,
         bytes.len().saturating_add(16 + 8 * EMPTY_WORDS as usize),
     )?;
-    if image.first {
+    if first {
         put_migrated(&mut out, bytes)?;
     } else {
         out.extend_from_slice(bytes)?;
     }
     Ok(out)
+}
+
+// Whether bytes that are an image are one of the first version. What was loaded goes here, so that beside the bytes there
+// is the new image alone.
+fn is_of_first(alloc: Global, bytes: &[u8]) -> Result<bool, LoadFault>
+    ensures { TellsVersion bytes.now result }
+{
+    let image = load(alloc, bytes)?;
+    Ok(image.first)
 }
 
 // Puts the second version of an image of the first version at the end.

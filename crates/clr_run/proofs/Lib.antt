@@ -1,13 +1,4 @@
-pub mod ByteStreams
-pub mod Outputs
-pub mod LineLists
-pub mod Feeds
-pub mod SessionSteps
-pub mod FirstLines
-pub mod ScriptLoop
 pub mod SaidRuns
-pub mod SoakLoop
-pub mod SoakTexts
+pub mod Statuses
 pub mod SavedSteps
-pub mod ShownImages
 pub mod MadeImages

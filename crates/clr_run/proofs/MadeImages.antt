@@ -7,13 +7,14 @@ use Rattle.clr_model.specs.Machine.{Machine, Options}
 use Rattle.clr_model.specs.Picture.{picture}
 use Rattle.clr_runtime.specs.RuntimeView.{RuntimeView, StandsFor}
 use Rattle.clr_save.specs.SavedImages.{IsImageOf}
-use Rattle.clr_run.specs.Faults.{Appended, Taken}
-use Rattle.clr_run.specs.Images.{image_of, MadeImage, MadePart, MakesImage, RanWhole, ReadTooMuch}
-use Rattle.clr_run.specs.Progress.{Answered}
-use Rattle.clr_run.specs.declared.status.Status.{Status}
-use Rattle.clr_run.specs.declared.status.Status.TheVariants.{BadImage, Done, Memory, ReadFault, TooMuch}
-use Rattle.clr_run.specs.declared.status.Status.TheVariants.{Usage, WriteFault}
-use Rattle.clr_run.proofs.ByteStreams.{taken_more}
+use Rattle.clr_streams.specs.Faults.{Appended, Taken}
+use Rattle.clr_streams.specs.Reading.{ReadTooMuch}
+use Rattle.clr_session.specs.Progress.{Answered}
+use Rattle.clr_run.specs.Images.{image_of, MadeImage, MadePart, MakesImage, RanWhole}
+use Rattle.clr_streams.specs.declared.status.Status.{Status}
+use Rattle.clr_streams.specs.declared.status.Status.TheVariants.{BadImage, Done, Memory, ReadFault, TooMuch}
+use Rattle.clr_streams.specs.declared.status.Status.TheVariants.{Usage, WriteFault}
+use Rattle.clr_streams.proofs.ByteStreams.{taken_more}
 
 -- ---- what was run
 

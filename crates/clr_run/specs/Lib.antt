@@ -1,11 +1,1 @@
-pub mod Runs
-pub mod Faults
-pub mod Output
-pub mod Memory
-pub mod MemoryViews
-pub mod Codes
-pub mod LineStretch
-pub mod Progress
-pub mod Sessions
-pub mod Soak
 pub mod Images

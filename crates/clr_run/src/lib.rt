@@ -1,19 +1,15 @@
-//! A command from its words to its bytes: sources, sinks, the run of a script, and images.
+//! A command from its words to its bytes.
 #![tactic(auto)]
 
-mod images;
-mod script;
-mod status;
-mod streams;
+mod command;
+mod making;
 
+pub use clr_image_io::IMAGE_LIMIT;
 pub use clr_runtime::{NoMemory, Runtime};
+pub use clr_session::SCRIPT_LIMIT;
+pub use clr_streams::{
+    Failed, MemorySink, MemorySource, PlainSink, PlainSource, ReadAdapter, Sink, Source, Status,
+    WriteAdapter,
+};
 pub use clr_words::Words;
-pub use images::reading::IMAGE_LIMIT;
-pub use script::run::{SCRIPT_LIMIT, run};
-pub use status::Status;
-pub use streams::Failed;
-pub use streams::adapter::{ReadAdapter, WriteAdapter};
-pub use streams::memory::{MemorySink, MemorySource};
-pub use streams::plain::{PlainSink, PlainSource};
-pub use streams::sink::Sink;
-pub use streams::source::Source;
+pub use command::run;

@@ -40,7 +40,10 @@ fn status_of<S: Source, K: Sink>(
     sink: &mut K,
 ) -> Result<Status, Fail> {
     let words = words_of(alloc, texts)?;
-    Ok(run(alloc, &words, source, sink, &mut None))
+    let mut end_state = None;
+    let status = run(alloc, &words, source, sink, &mut end_state);
+    drop(end_state);
+    Ok(status)
 }
 
 /// A command over bytes in memory: how many a read and a write move at most, which read and which write fail, counted

@@ -67,6 +67,7 @@ fn types_are_defined_or_refused(rt: HostRuntime) -> Result<(), Fail> {
     assert_eq!(rt; bad, Err(Refusal::BadShape));
     let text = define(&mut runtime, b"Text", Shape::StructArray(b"nr"));
     assert_eq!(rt; text, Ok(0x7ff0_0000_0100));
+    drop(runtime);
     Ok(())
 }
 
@@ -86,6 +87,7 @@ fn contexts_are_used_up_and_refilled(rt: HostRuntime) -> Result<(), Fail> {
         (3, b"Refs".as_slice(), Some(1), Ok(0x1000_5020)),
     ];
     expect_births(&rt, &mut runtime, &births);
+    drop(runtime);
     Ok(())
 }
 
@@ -104,6 +106,7 @@ fn a_smaller_object_fits_where_a_greater_one_does_not(rt: HostRuntime) -> Result
     ];
     expect_births(&rt, &mut runtime, &births);
     assert_eq!(rt; runtime.copy(4, 1, 0), Ok(0x1003_f400));
+    drop(runtime);
     Ok(())
 }
 
@@ -122,6 +125,7 @@ fn a_full_compaction_makes_room(rt: HostRuntime) -> Result<(), Fail> {
     expect_births(&rt, &mut runtime, &births);
     assert_eq!(rt; runtime.copy(1, 1, 0), Ok(0x1000_1000));
     assert_eq!(rt; runtime.copy(2, 1, 0), Ok(0x1001_5c00));
+    drop(runtime);
     Ok(())
 }
 
@@ -142,6 +146,7 @@ fn a_full_segment_is_sealed(rt: HostRuntime) -> Result<(), Fail> {
     ];
     expect_births(&rt, &mut runtime, &births);
     assert_eq!(rt; runtime.copy(4, 1, 0), Ok(0x1003_0400));
+    drop(runtime);
     Ok(())
 }
 
@@ -180,5 +185,6 @@ fn large_objects_get_segments_of_their_own(rt: HostRuntime) -> Result<(), Fail> 
         (9, b"Bytes".as_slice(), Some(84_984), Ok(0x1005_5c08)),
     ];
     expect_births(&rt, &mut runtime, &again);
+    drop(runtime);
     Ok(())
 }

@@ -109,6 +109,7 @@ fn a_stack_for_one_object_serves(rt: HostRuntime) -> Result<(), Fail> {
     let mut runtime = runtime_with_stack(rt.alloc(), 1)?;
     collect_table(&rt, &mut runtime, How::Sweep);
     collect_table(&rt, &mut runtime, How::Compact);
+    drop(runtime);
     Ok(())
 }
 
@@ -117,6 +118,7 @@ fn a_table_is_wider_than_the_stack(rt: HostRuntime) -> Result<(), Fail> {
     let mut runtime = runtime_with_stack(rt.alloc(), 1024)?;
     collect_table(&rt, &mut runtime, How::Sweep);
     collect_table(&rt, &mut runtime, How::Compact);
+    drop(runtime);
     Ok(())
 }
 
@@ -126,5 +128,6 @@ fn a_long_list_is_kept(rt: HostRuntime) -> Result<(), Fail> {
     assert_eq!(rt; make_list(&mut runtime, 200_000), Ok(()));
     expect_collected(&rt, &mut runtime, How::Sweep, [200_000, 0, 4_800_000, 0]);
     expect_collected(&rt, &mut runtime, How::Compact, [200_000, 0, 0, 4_800_000]);
+    drop(runtime);
     Ok(())
 }

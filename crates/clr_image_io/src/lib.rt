@@ -1,0 +1,8 @@
+//! Commands that look at an image: it is read from a source, and what is made of it is written to a sink.
+#![tactic(auto)]
+
+mod reading;
+mod showing;
+
+pub use reading::IMAGE_LIMIT;
+pub use showing::{inspect_source, migrate_source};

@@ -1,9 +1,0 @@
--- The line stands behind what was there.
-use Rattle.std.proofs.Common.{arith}
-use Rattle.clr_script.proofs.Digits.{front_written}
-use Rattle.clr_run.proofs.streams.pending.refusal_behind.Goals as goal
-
-pub returns-clause-text : goal.returns-clause-text
-returns-clause-text c = front_written c.args.buffer.now c.put_refusal_line-count.new.into _ c.args.at _
-    c.put_refusal_line-count.result
-    (omega arith) c.put_refusal_line-count.ensures.within c.put_refusal_line-count.ensures.text

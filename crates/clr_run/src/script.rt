@@ -1,5 +1,0 @@
-//! The run of a whole script.
-
-pub mod run;
-pub mod session;
-pub mod soak;

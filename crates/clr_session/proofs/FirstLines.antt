@@ -1,0 +1,194 @@
+-- The first line of a text is answered.
+use Rattle.std.proofs.Common.{◌≡◌, ◌∙◌, ℕ, ◌+◌, ◌<◌, ◌≤◌, List, [], ◌∷◌, ◌++◌, length, take, Option, Some, None}
+use Rattle.std.proofs.Common.{refl, sym, ap}
+use Rattle.std.specs.Prelude.{Result, Ok, Err, IfOk}
+use Rattle.std.proofs.Common.{arith, append_assoc, append-nil, subst, length-append, length-drop, drop, take-add, ◌-◌}
+use Rattle.std.proofs.Math.Seq.{take-append-add}
+use Rattle.std.proofs.lemmas.List.{take-append-drop, take_rest}
+use Rattle.clr_model.specs.Machine.{Machine, Options}
+use Rattle.clr_model.specs.Outcomes.{Outcome}
+use Rattle.clr_lines.specs.Fronts.{IsAnswered}
+use Rattle.clr_session.specs.LineStretch.{IsFirstFeed}
+use Rattle.clr_session.specs.Output.{Wrote, WroteSome, StopsFront}
+use Rattle.clr_session.specs.Progress.{Progress}
+use Rattle.clr_session.specs.Runs.{run_text}
+use Rattle.clr_session.specs.Sessions.{IsAt, Goes, GoesLine, Stops}
+use Rattle.clr_session.specs.declared.session.Session.{Session}
+use Rattle.clr_session.proofs.SessionSteps.{follows_rest, goes_kept, goes_line, goes_none, goes_on}
+use Rattle.clr_session.proofs.SessionSteps.{stops_line, stops_on}
+
+-- no bytes are no bytes
+none_left : (xs : List ℕ) → length xs ≡ 0 → xs ≡ []
+none_left [] e = refl
+none_left (x ∷ xs) e = absurd (omega (arith, e))
+
+-- so much of a text is its first line with its line feed
+record IsFirst (text line rest : List ℕ) (read : ℕ) : Type 0 where
+  some : 0 < read
+  within : read ≤ length text
+  taken : line ++ 10 ∷ [] ≡ take read text
+
+is_first : (text line rest : List ℕ) (read : ℕ) → text ≡ line ++ (10 ∷ rest) → read ≡ length line + 1
+    → IsFirst text line rest read
+is_first text line rest read cut count =
+    let whole = ap length cut in
+    let parts : length (line ++ (10 ∷ rest)) ≡ length line + length (10 ∷ rest) = length-append line (10 ∷ rest) in
+    record {
+      some = omega (arith, count);
+      within = omega (arith, whole, parts, count);
+      taken = sym (ap (take read) cut ∙ (ap (λ n. take n (line ++ (10 ∷ rest))) count
+          ∙ take-append-add line (10 ∷ rest) 1));
+    }
+
+-- where no line was begun, the first line of a text goes on the script
+pub goes_front : (old : Session) (new : Machine) (left text reply : List ℕ) (read : ℕ) (before after : Option (List ℕ))
+    → length old.line.items ≡ 0 → IsAnswered old.runtime.machine text read reply new
+    → Wrote before after old.pending left reply
+    → (0 < read) × (read ≤ length text)
+    × ((options : Options) (taken : List ℕ) (outcomes : List Outcome) → IsAt options old taken outcomes
+    → (more : List Outcome) × Progress options new old.line.items (taken ++ take read text) (outcomes ++ more)
+    × Wrote before after old.pending left (run_text more))
+goes_front old new left text reply read before after none answered wrote =
+    let first = is_first text answered.line answered.rest read answered.cut answered.read_is in
+    let told : Wrote before after old.pending left _ =
+    subst (λ (l : List ℕ). Wrote before after old.pending left l) answered.told wrote in (
+      first.some,
+      first.within,
+      λ options taken outcomes at.
+          let goes = goes_line old new old.line.items left answered.line answered.outcome before after answered.unfed
+          (λ begun kept. follows_rest old.runtime.machine new old.line.items answered.line begun answered.outcome none
+          kept
+          answered.follows) (none_left old.line.items none) told options taken outcomes at in (
+            goes.0,
+            subst (λ (l : List ℕ). Progress options new old.line.items (taken ++ l) (outcomes ++ goes.0)) first.taken
+                goes.1,
+            goes.2,
+          ),
+    )
+
+-- writing stopped at a line in front of a text
+pub stops_more : (old : Session) (next rest text : List ℕ) (before after : Option (List ℕ)) → text ≡ next ++ rest
+    → Stops old next before after → Stops old text before after
+stops_more old next rest text before after e stops =
+    stops_on old old [] next rest text before before after e (goes_none old before) stops
+
+pub stops_front : (old : Session) (new : Machine) (text : List ℕ) (before after : Option (List ℕ))
+    → length old.line.items ≡ 0 → StopsFront old.runtime.machine new text before after old.pending
+    → Stops old text before after
+stops_front old new text before after none stopped =
+    let answered = stopped.answered in
+    stops_more old (answered.line ++ 10 ∷ []) answered.rest text before after
+    (answered.cut ∙ sym (append_assoc answered.line (10 ∷ []) answered.rest))
+    (stops_line old new answered.line answered.outcome before after answered.unfed
+    (λ begun kept. follows_rest old.runtime.machine new old.line.items answered.line begun answered.outcome none kept
+    answered.follows) (subst (λ (l : List ℕ). WroteSome before after (old.pending ++ l)) answered.told stopped.wrote))
+
+-- a line that a line feed ends is the first of the text
+pub goes_feed : (old new : Session) (text : List ℕ) (at : ℕ) (before after : Option (List ℕ)) → IsFirstFeed text at
+    → Goes old new (take at text ++ 10 ∷ []) before after → GoesLine old new text before after (Some (at + 1))
+goes_feed old new text at before after feed goes =
+    let within = feed.within in
+    (omega arith, omega (arith, within), subst (λ (l : List ℕ). Goes old new l before after) (sym feed.here) goes)
+
+pub stops_feed : (old : Session) (text : List ℕ) (at : ℕ) (before after : Option (List ℕ)) → IsFirstFeed text at
+    → Stops old (take at text ++ 10 ∷ []) before after → Stops old text before after
+stops_feed old text at before after feed stops =
+    stops_more old (take at text ++ 10 ∷ []) (drop (at + 1) text) text before after
+    (sym (take-append-drop (at + 1) text) ∙ ap (λ (l : List ℕ). l ++ drop (at + 1) text) feed.here) stops
+
+-- a session of the same parts goes on in the same way
+pub goes_same : (one two new : Session) (bytes : List ℕ) (before mid after : Option (List ℕ))
+    → two.runtime.machine ≡ one.runtime.machine → two.line.items ≡ one.line.items → two.pending ≡ one.pending
+    → mid ≡ before
+    → Goes two new bytes mid after
+    → Goes one new bytes before after
+goes_same one two new bytes before mid after r l p w goes options taken outcomes at =
+    let g = goes options taken outcomes (rw (r, l) at) in
+    (g.0, g.1, rw (← w, ← p) g.2)
+
+pub stops_same : (one two : Session) (bytes : List ℕ) (before mid after : Option (List ℕ))
+    → two.runtime.machine ≡ one.runtime.machine
+    → two.line.items ≡ one.line.items → two.pending ≡ one.pending → mid ≡ before → Stops two bytes mid after
+    → Stops one bytes before after
+stops_same one two bytes before mid after r l p w stops options taken outcomes at =
+    rw (← w, ← p) (stops options taken outcomes (rw (r, l) at))
+
+goes_line_same : (one two new : Session) (text : List ℕ) (before mid after : Option (List ℕ))
+    → two.runtime.machine ≡ one.runtime.machine → two.line.items ≡ one.line.items → two.pending ≡ one.pending
+    → mid ≡ before
+    → (found : Option ℕ)
+    → GoesLine two new text mid after found → GoesLine one new text before after found
+goes_line_same one two new text before mid after r l p w None (unfed, stays, goes) =
+    (unfed, stays ∙ r, goes_same one two new [] before mid after r l p w goes)
+goes_line_same one two new text before mid after r l p w (Some count) (some, within, goes) =
+    (some, within, goes_same one two new (take count text) before mid after r l p w goes)
+
+pub ok_same : {E : Type 0} (one two new : Session) (text : List ℕ) (before mid after : Option (List ℕ))
+    → two.runtime.machine ≡ one.runtime.machine → two.line.items ≡ one.line.items → two.pending ≡ one.pending
+    → mid ≡ before
+    → (found : Result (Option ℕ) E) → IfOk found (GoesLine two new text mid after)
+    → IfOk found (GoesLine one new text before after)
+ok_same one two new text before mid after r l p w (Ok found) goes =
+    goes_line_same one two new text before mid after r l p w found goes
+ok_same one two new text before mid after r l p w (Err e) goes = goes
+
+-- ---- the lines of a piece
+
+-- where writing stopped at the first line of a text, there is one
+pub some_front : {old new : Machine} {text : List ℕ} {before after : Option (List ℕ)} {waiting : List ℕ}
+    → StopsFront old new text before after waiting → 0 < length text
+some_front {text = text} stopped =
+    let answered = stopped.answered in
+    let first = is_first text answered.line answered.rest stopped.read answered.cut answered.read_is in
+    let some = first.some in
+    let within = first.within in
+    omega (arith, some, within)
+
+-- what is left of a piece
+pub piece_rest : (piece : List ℕ) (from : ℕ)
+    → length (take (length piece - from) (drop from piece)) ≡ length piece - from
+piece_rest piece from = ap length (take_rest piece from) ∙ length-drop from piece
+
+-- a line more of a piece
+pub piece_goes_on : (one two new : Session) (piece : List ℕ) (from count : ℕ) (found : Option ℕ)
+    (before mid after : Option (List ℕ)) → from ≤ length piece → found ≡ Some count
+    → Goes one two (take from piece) before mid
+    → GoesLine two new (take (length piece - from) (drop from piece)) mid after found
+    → (from + count ≤ length piece) × (0 < count) × Goes one new (take (from + count) piece) before after
+piece_goes_on one two new piece from count found before mid after low is goes line =
+    let rest = take (length piece - from) (drop from piece) in
+    let (some, within, more) = subst (λ (f : Option ℕ). GoesLine two new rest mid after f) is line in
+    let short = piece_rest piece from in (
+      omega (arith, within, short, low),
+      some,
+      goes_on one two new (take from piece) (take count (drop from piece)) (take (from + count) piece) before mid after
+          (take-add from count piece) goes
+          (subst (λ (l : List ℕ). Goes two new (take count l) mid after) (take_rest piece from) more),
+    )
+
+-- no line more ends in a piece
+pub piece_ends : (one two new : Session) (piece kept : List ℕ) (from : ℕ) (found : Option ℕ)
+    (before mid after : Option (List ℕ)) → found ≡ None → Goes one two (take from piece) before mid
+    → GoesLine two new (take (length piece - from) (drop from piece)) mid after found
+    → kept ≡ take 4097 (new.line.items ++ take (length piece - from) (drop from piece))
+    → (options : Options) (taken : List ℕ) (outcomes : List Outcome) → IsAt options one taken outcomes
+    → (x : List Outcome) × Progress options new.runtime.machine kept (taken ++ piece) (outcomes ++ x)
+    × Wrote before after one.pending new.pending (run_text x)
+piece_ends one two new piece kept from found before mid after is goes line left =
+    let rest = take (length piece - from) (drop from piece) in
+    let (unfed, stays, none) = subst (λ (f : Option ℕ). GoesLine two new rest mid after f) is line in
+    goes_kept one new (take from piece) rest piece kept before after
+    (sym (take-append-drop from piece) ∙ ap (λ (l : List ℕ). take from piece ++ l) (sym (take_rest piece from)))
+    (goes_on one two new (take from piece) [] (take from piece) before mid after (sym (append-nil (take from piece)))
+    goes
+    none) unfed left
+
+-- writing stopped at a line of a piece
+pub piece_stops : (one two : Session) (piece : List ℕ) (from : ℕ) (before mid after : Option (List ℕ))
+    → Goes one two (take from piece) before mid → Stops two (take (length piece - from) (drop from piece)) mid after
+    → Stops one piece before after
+piece_stops one two piece from before mid after goes stops =
+    let rest = take (length piece - from) (drop from piece) in
+    stops_on one two (take from piece) rest [] piece before mid after
+    (sym (take-append-drop from piece) ∙ ap (λ (l : List ℕ). take from piece ++ l)
+    (sym (take_rest piece from) ∙ sym (append-nil rest))) goes stops

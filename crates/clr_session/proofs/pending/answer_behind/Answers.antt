@@ -1,0 +1,13 @@
+-- The reply stands behind what was there.
+use Rattle.std.proofs.Common.{arith, refl}
+use Rattle.clr_script.proofs.Digits.{front_written}
+use Rattle.clr_session.proofs.pending.answer_behind.Goals as goal
+
+pub returns-clause-answered : goal.returns-clause-answered
+returns-clause-answered c =
+    let done = c.in_ok-read.ensures in (
+      _,
+      done.answered,
+      front_written c.args.buffer.now c.answer_line.new.into _ c.args.at _ c.in_ok-read.written
+          (omega arith) done.within refl,
+    )

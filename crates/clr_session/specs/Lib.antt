@@ -1,0 +1,6 @@
+pub mod Runs
+pub mod Output
+pub mod LineStretch
+pub mod Progress
+pub mod Sessions
+pub mod Soak

@@ -1,0 +1,5 @@
+pub mod Faults
+pub mod Memory
+pub mod MemoryViews
+pub mod Codes
+pub mod Reading

@@ -84,9 +84,11 @@ class Crates(unittest.TestCase):
             (crate / "src/steps.rt").write_text(TEXT)
             (crate / "proofs/steps/law").mkdir(parents=True)
             (crate / "proofs/steps/law/Answers.antt").write_text("as it was")
+            (crate / "proofs/steps/fn/law/inside").mkdir(parents=True)
             OVER_HOLES.stand_in(crate, Path(folder) / "made/walks")
             made = Path(folder) / "made/walks/proofs/steps"
             self.assertFalse((made / "law/Answers.antt").exists())
+            self.assertFalse((made / "fn/law").exists())
             law = (made / "law/Proof.antt").read_text()
             self.assertIn("use Rattle.walks.proofs.steps.law.Statement.{statement}", law)
             self.assertIn("tick_spec = ?", (made / "Steps/tick/Proof.antt").read_text())

@@ -85,6 +85,10 @@ class Feeding(WithProgram):
         finally:
             sessions.PIECE = piece
 
+    def test_retained_of_a_program_that_makes_no_image(self):
+        ran = self.run_tool("ask", "retained\ntwo\n", self.write("a.script", ""))
+        self.assertEqual(ran.stdout, "no answer: this is no image of a heap\n\none\ntwo\n\n")
+
     def test_a_program_that_ends(self):
         with self.assertRaises(sessions.Ended) as fault:
             self.feed("two\nend\n")
@@ -172,6 +176,20 @@ class Transcripts(WithProgram):
     def test_a_program_that_ends(self):
         ran = self.run_tool("transcript", "two\nend\ntwo\n", "-")
         self.assertEqual((ran.returncode, ran.stdout), (3, "> two\none\ntwo\n"))
+
+    @unittest.skipUnless("CLRHEAP" in os.environ, "CLRHEAP names no program")
+    def test_retained(self):
+        script = self.write("a.script", "type A class r\ntype B class n\nt1 new l0 A\nt1 new l1 B\nt1 set l0 0 l1")
+        asked = "retained 1\nt1 null l1\nretained 1\nretained B\nretained 0000000010001018\n"
+        ran = self.run_tool("ask", asked, script, program=os.environ["CLRHEAP"])
+        first, null, second, of_type, of_object, rest = ran.stdout.split("\n\n")
+        head = "retained objects size place            name\n"
+        self.assertEqual(first, head + "      24       1   24 0000000010001000 A\ntotal 2 bytes 48")
+        self.assertEqual(null, "ok")
+        self.assertEqual(second, head + "      48       2   24 0000000010001000 A\ntotal 2 bytes 48")
+        self.assertEqual(of_type.splitlines()[1:], ["      24       1         1   24 B"])
+        self.assertIn("root t1 l0 0000000010001000 A", of_object)
+        self.assertEqual(rest, "")
 
     @unittest.skipUnless("CLRHEAP" in os.environ, "CLRHEAP names no program")
     def test_the_program_itself(self):

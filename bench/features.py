@@ -1,0 +1,98 @@
+#!/usr/bin/env python3
+"""Times lines beside another program that takes the same scripts: slides of large segments, sizes, background collections.
+
+Each case is a script that is run with and without the lines that it times, the programs in turn; the difference of the least times is the time of these lines.
+
+- `slide`: 1,000 large arrays of 85,000 bytes, of which every second is dropped: a full sweep that slides the others, beside one that doesn't.
+- `objsize`: 20 sizes of 200,000 objects, for each object.
+- `background`: a background collection of 200,000 old objects by steps of 1,000, and by its last pause alone beside its other parts; and a blocking sweep of them.
+- `stores`: 1,000,000 stores into old objects while no background collection runs, and while one does.
+
+Usage: features.py PROGRAM [OTHER]
+"""
+import pathlib
+import sys
+import tempfile
+
+from programs import Program
+
+TURNS, OBJECTS, ROW, STORES = 7, 200_000, 10_000, 1_000_000
+
+
+def arrays():
+    """The script of the large arrays, every second of them dropped."""
+    script = ["type Table refs", "type byte[] bytes", "t1 new l0 Table 1000"]
+    for i in range(1000):
+        script += ["t1 new l1 byte[] 84976", f"t1 set l0 {i} l1"]
+    script.append("t1 null l1")
+    script += [f"t1 set l0 {i} l1" for i in range(0, 1000, 2)]
+    return script
+
+
+def graph():
+    """The script of objects in tables, each of which names the one before, all of generation 2."""
+    tables = OBJECTS // ROW
+    script = ["type Table refs", "type Node class rrn", f"t1 new l0 Table {tables}"]
+    for table in range(tables):
+        script += [f"t1 new l1 Table {ROW}", f"t1 set l0 {table} l1"]
+        for i in range(ROW):
+            script += ["t1 new l2 Node", f"t1 set l1 {i} l2", "t1 set l2 0 l3", "t1 copy l3 l2"]
+    script += ["t1 null l1", "t1 null l2", "t1 null l3", "t1 collect 1 compacting", "t1 collect 1 compacting"]
+    return script
+
+
+def timed(programs, folder, before, lines):
+    """The least seconds that the lines take behind the others, of each program."""
+    scripts = []
+    for name, text in (("with", before + lines), ("without", before)):
+        path = folder / name
+        path.write_text("\n".join(text) + "\n")
+        scripts.append(path)
+    least = [[None, None] for _ in programs]
+    for _ in range(TURNS):
+        for program, times in zip(programs, least):
+            for k, script in enumerate(scripts):
+                spent = program.least_time(script, 1)
+                times[k] = spent if times[k] is None else min(times[k], spent)
+    return [long - short for long, short in least]
+
+
+def show(name, times, unit, count):
+    """A row: the time of each program, and the ratio of the first to the second."""
+    shown = ", ".join(f"{spent * 1e9 / count / (1e6 if unit == 'ms' else 1):.1f} {unit}" for spent in times)
+    ratio = f", {times[0] / times[1]:.2f} times" if len(times) == 2 and times[1] > 0 else ""
+    print(f"{name}: {shown}{ratio}")
+
+
+def main():
+    if not 2 <= len(sys.argv) <= 3:
+        sys.exit(f"usage: {sys.argv[0]} PROGRAM [OTHER]")
+    programs = [Program(path, "3") for path in sys.argv[1:]]
+    with tempfile.TemporaryDirectory() as name:
+        folder = pathlib.Path(name)
+        swept = timed(programs, folder, arrays(), ["t1 collect 2 sweeping"])
+        show("a full sweep of the arrays", swept, "ms", 1)
+        slid = timed(programs, folder, arrays(), ["t1 compact-large once", "t1 collect 2 sweeping"])
+        show("with a slide", slid, "ms", 1)
+        old = graph()
+        place = "0000000010001000"
+        first = programs[0].replies(write(folder, old))[2] or place
+        show("objsize, an object", timed(programs, folder, old, [f"objsize {first}"] * 20), "ns", 20 * OBJECTS)
+        show("a blocking sweep", timed(programs, folder, old, ["t1 collect 2 sweeping"]), "ms", 1)
+        begun = ["t1 background begin"]
+        marked = begun + ["background step 1000"] * (OBJECTS // 1000 + 1)
+        show("a background collection", timed(programs, folder, old, marked + ["t1 background end"]), "ms", 1)
+        show("its last pause", timed(programs, folder, old + marked, ["t1 background end"]), "ms", 1)
+        stores = ["t1 get l1 l0 3", "t1 get l2 l1 7"] + ["t1 set l1 9 l2"] * STORES
+        show("a store", timed(programs, folder, old, stores), "ns", STORES)
+        show("a store while one runs", timed(programs, folder, old + begun, stores), "ns", STORES)
+
+
+def write(folder, lines):
+    path = folder / "script"
+    path.write_text("\n".join(lines) + "\n")
+    return path
+
+
+if __name__ == "__main__":
+    main()

@@ -1,4 +1,6 @@
-"""Looks in the sources for what pages of docs/ name: crates, files, definitions, functions, clauses. Run this file."""
+"""Looks in the sources for what pages name: crates, files, definitions, functions, clauses. Run this file.
+
+The pages are those of docs/, and the README of each crate."""
 import re
 import sys
 import unittest
@@ -45,9 +47,16 @@ def rows(page, columns):
     return [[cell.strip() for cell in row] for row in split if len(row) == columns and set(row[0]) != {"-"}]
 
 
+def crate_pages():
+    """The README of each crate, by the crate's name."""
+    return {name: (CRATES / name / "README.md").read_text(encoding="utf-8") for name in uses()}
+
+
 def sections():
-    """The parts of ARCHITECTURE.md that speak of one crate."""
-    return re.findall(r"^### (clr\w+)\n(.*?)(?=^##)", PAGES["ARCHITECTURE.md"], re.MULTILINE | re.DOTALL)
+    """What each crate's README says of its files."""
+    found = [(name, re.search(r"^## Files\n(.*?)(?=^## |\Z)", page, re.MULTILINE | re.DOTALL))
+             for name, page in crate_pages().items()]
+    return [(name, section.group(1)) for name, section in found if section]
 
 
 class Names(unittest.TestCase):
@@ -85,9 +94,27 @@ class Names(unittest.TestCase):
 
     def test_claims_name_functions_and_clauses(self):
         claims = [row for row in rows(PAGES["PROVED.md"], 3) if "clr" in row[1]]
-        self.assertGreater(len(claims), 100)
+        self.assertGreater(len(claims), 50)
+        for name, page in crate_pages().items():
+            told = [row for row in rows(page, 3) if row[0] != "property"]
+            claims += [[row[0], f"{name}, {row[1]}", row[2]] for row in told]
+        self.assertGreater(len(claims), 240)
         for _, where, clauses in claims:
             self.check_claim(where, clauses)
+
+    def test_laws_are_functions(self):
+        laws = [row for row in rows(crate_pages()["clr_model"], 2) if row[0] != "law"]
+        self.assertGreater(len(laws), 25)
+        for _, functions in laws:
+            self.check_claim(f"clr_model, {functions}", "")
+
+    def test_each_crate_has_a_page_that_says_what_it_uses(self):
+        for name, page in crate_pages().items():
+            with self.subTest(crate=name):
+                self.assertTrue(page.startswith(f"# {name}\n"))
+                told = re.search(r"^It uses (.*?)\.\n\n", page, re.MULTILINE | re.DOTALL)
+                words = set() if "no other crate of ours" in told.group(1) else set(re.findall(r"\w+", told.group(1)))
+                self.assertEqual(words, set(uses()[name]))
 
     def test_rules_name_definitions_code_and_tests(self):
         rules = [row for row in rows(PAGES["MODEL.md"], 6) if row[3].startswith("clr")]

@@ -63,9 +63,12 @@ def graph(objects=200_000, row=10_000):
     return script
 
 
-# The functions of a collection, by what their names begin with: what a function inlined counts with it, and the sweep's pass is
-# inlined into its caller.
-PHASES = {"clr_mark": "marking", "clr_sweep": "sweeping", "clr_collect": "sweeping", "clr_runtime::runtime::Runtime::collect": "sweeping"}
+# The functions of a collection, by what their names begin with: what a function inlined counts with it, and the sweep's
+# pass is inlined into its caller.
+PHASES = {
+    "clr_mark": "marking", "clr_sweep": "sweeping", "clr_collect": "sweeping",
+    "clr_runtime::runtime::Runtime::collect": "sweeping",
+}
 
 
 def phase(function):

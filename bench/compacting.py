@@ -1,12 +1,14 @@
 #!/usr/bin/env python3
 """Times compacting collections of the built program beside another program that takes the same scripts.
 
-Two heaps. `compact` is 200,000 objects in 20 tables of 10,000 references; before each of 8 full compactions every 24th slot of the tables is emptied. `pins` has
-OBJECTS objects, of which every fourth is pinned by a handle and every fourth named by a table; six compactions, two of each generation, and after each so many
-births into the gaps. `pins` is run for a quarter, a half and all of the objects, since its time is to grow no faster than they do.
+Two heaps. `compact` is 200,000 objects in 20 tables of 10,000 references; before each of 8 full compactions every 24th
+slot of the tables is emptied. `pins` has OBJECTS objects, of which every fourth is pinned by a handle and every fourth
+named by a table; six compactions, two of each generation, and after each so many births into the gaps. `pins` is run
+for a quarter, a half and all of the objects, since its time is to grow no faster than they do.
 
-Each script is run with and without its collections, the programs in turn; the difference of the least times, divided by the objects that the collections answer,
-is the time for an object. For `pins` the births into the gaps are a part of the difference. With `perf` on the machine that of this program is split into phases.
+Each script is run with and without its collections, the programs in turn; the difference of the least times, divided by
+the objects that the collections answer, is the time for an object. For `pins` the births into the gaps are a part of
+the difference. With `perf` on the machine that of this program is split into phases.
 
 Usage: compacting.py PROGRAM [OTHER [OPTION..]]
 """
@@ -25,8 +27,9 @@ COLLECTED = re.compile(rb"collected \d \w+ kept (\d+) freed (\d+)")
 # What a function belongs to, by its name in the report of `perf`.
 PHASES = [
     ("clr_mark", "mark"), ("clr_scan", "mark"),
-    ("clr_plan", "plan"), ("clr_plugs::writer", "plan"), ("clr_plugs::builder", "plan"), ("clr_sweep", "plan"), ("clr_survivors::pins", "plan"),
-    ("clr_reloc", "relocate"), ("clr_moves::going", "relocate"), ("clr_plugs::search", "relocate"), ("clr_survivors::roots", "relocate"),
+    ("clr_plan", "plan"), ("clr_plugs::writer", "plan"), ("clr_plugs::builder", "plan"), ("clr_sweep", "plan"),
+    ("clr_survivors::pins", "plan"), ("clr_reloc", "relocate"), ("clr_moves::going", "relocate"),
+    ("clr_plugs::search", "relocate"), ("clr_survivors::roots", "relocate"),
     ("clr_compact", "move"), ("clr_moves", "move"), ("clr_plugs", "move"),
     ("clr_survivors", "other"), ("clr_collect", "other"),
 ]
@@ -106,10 +109,10 @@ def phases(words, path, folder):
     """The shares of the phases, by `perf`, in hundredths of the whole script."""
     data = folder / "perf.data"
     with open(path) as lines:
-        subprocess.run(["perf", "record", "-q", "-o", str(data), *words], stdin=lines, stdout=subprocess.DEVNULL, stderr=subprocess.DEVNULL)
-    report = subprocess.run(
-        ["perf", "report", "-q", "-i", str(data), "--stdio", "--percent-limit", "0.1", "-F", "overhead,symbol"], capture_output=True, text=True
-    )
+        record = ["perf", "record", "-q", "-o", str(data), *words]
+        subprocess.run(record, stdin=lines, stdout=subprocess.DEVNULL, stderr=subprocess.DEVNULL)
+    told = ["perf", "report", "-q", "-i", str(data), "--stdio", "--percent-limit", "0.1", "-F", "overhead,symbol"]
+    report = subprocess.run(told, capture_output=True, text=True)
     shares = {}
     for line in report.stdout.splitlines():
         row = re.match(r"\s*([\d.]+)%\s+\[.\]\s+(.*)", line)
@@ -130,7 +133,9 @@ def timed(name, script, programs, folder):
     spent, bare = least(programs, whole), least(programs, plain)
     each = [(a - b) / objects * 1e9 for a, b in zip(spent, bare)]
     text = ", ".join(f"{nanos:.1f} ns an object" for nanos in each)
-    ratio = "" if len(programs) == 1 else f", {each[0] / each[1]:.2f} times the other; whole scripts {spent[0] / spent[1]:.2f} times"
+    ratio = ""
+    if len(programs) > 1:
+        ratio = f", {each[0] / each[1]:.2f} times the other; whole scripts {spent[0] / spent[1]:.2f} times"
     print(f"{name}: {objects} objects, {text}{ratio}", flush=True)
     if shutil.which("perf"):
         for part, share in sorted(phases(programs[0], whole, folder).items()):

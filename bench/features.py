@@ -1,11 +1,14 @@
 #!/usr/bin/env python3
-"""Times lines beside another program that takes the same scripts: slides of large segments, sizes, background collections.
+"""Times lines beside another program that takes the same scripts: slides, sizes, background collections.
 
-Each case is a script that is run with and without the lines that it times, the programs in turn; the difference of the least times is the time of these lines.
+Each case is a script that is run with and without the lines that it times, the programs in turn; the difference of the
+least times is the time of these lines.
 
-- `slide`: 1,000 large arrays of 85,000 bytes, of which every second is dropped: a full sweep that slides the others, beside one that doesn't.
+- `slide`: 1,000 large arrays of 85,000 bytes, of which every second is dropped: a full sweep that slides the others,
+  beside one that doesn't.
 - `objsize`: 20 sizes of 200,000 objects, for each object.
-- `background`: a background collection of 200,000 old objects by steps of 1,000, and by its last pause alone beside its other parts; and a blocking sweep of them.
+- `background`: a background collection of 200,000 old objects by steps of 1,000, and by its last pause alone beside its
+  other parts; and a blocking sweep of them.
 - `stores`: 1,000,000 stores into old objects while no background collection runs, and while one does.
 
 Usage: features.py PROGRAM [OTHER]

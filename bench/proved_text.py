@@ -1,12 +1,13 @@
 #!/usr/bin/env python3
 """Keeps the LLVM text of the proved program, so that other marks on inlining are tried on just that.
 
-    proved_text.py FILE [CHECKOUT]          of a checkout in which `rt ci` has passed, this one if none is named, in some three minutes
+    proved_text.py FILE [CHECKOUT]     of a checkout in which `rt ci` has passed, this one if none is named: 3 minutes
     unproved.py OUT --from FILE [NAME=MARK..]
 
-The gate leaves the library of each crate behind. This has the kit check and build the program over them, and keeps the module that it hands
-to clang. What `unproved.py` makes of the text with no mark changed is the proved program but for where its functions stand, and with marks changed no proof is any
-worse for it, since no proof speaks of marks; but only the gate builds what is proved.
+The gate leaves the library of each crate behind. This has the kit check and build the program over them, and keeps the
+module that it hands to clang. What `unproved.py` makes of the text with no mark changed is the proved program but for
+where its functions stand, and with marks changed no proof is any worse for it, since no proof speaks of marks; but only
+the gate builds what is proved.
 """
 import argparse
 import pathlib
@@ -44,7 +45,8 @@ def words(home, checkout, tools, made):
     for name in names:
         built += ["-L", f"dependency={checkout}/crates/{name}/out/rlib"]
     logic = ["--antt-project", f"{home}/rattle/logic/antt-project.json", "--logic-built", f"{home}/logic_built"]
-    return [f"{home}/bin/rattle", "build", "--crate-name", "clrheap", "src/main.rt", *built, *logic, "--toolchain", tools, "--backend", "llvm", "-o", made]
+    build = [f"{home}/bin/rattle", "build", "--crate-name", "clrheap", "src/main.rt"]
+    return build + [*built, *logic, "--toolchain", tools, "--backend", "llvm", "-o", made]
 
 
 def main():
@@ -61,7 +63,8 @@ def main():
         ran = subprocess.run(built, cwd=checkout / "crates/clrheap", capture_output=True, text=True)
         if ran.returncode or not kept.exists():
             sys.exit(ran.stdout + ran.stderr)
-        subprocess.run([home / "toolchain/bin/clang", "--no-default-config", "-x", "ir", kept, "-S", "-emit-llvm", "-O0", "-o", asked.file], check=True, stderr=subprocess.DEVNULL)
+        told = [home / "toolchain/bin/clang", "--no-default-config", "-x", "ir", kept, "-S", "-emit-llvm", "-O0"]
+        subprocess.run([*told, "-o", asked.file], check=True, stderr=subprocess.DEVNULL)
 
 
 main()

@@ -55,7 +55,7 @@ def times(output):
 
 
 def crates():
-    """The crates under test with all that they use, as the repository's crates.txt has them, and in the end the benchmark's own."""
+    """The crates under test with all that they use, as crates.txt has them, and in the end the benchmark's own."""
     rows = dict(line.split(":") for line in (HERE.parent / "crates.txt").read_text().splitlines())
     wanted, found = [name for line in OWN.splitlines() for name in line.split(":")[1].split()], set()
     while wanted:

@@ -1,11 +1,11 @@
 #!/usr/bin/env python3
 """Times young sweeps of the built program, over a small and a large heap of old objects.
 
-Each heap has tables of 10,000 references to old objects. Then, 10,000 times over, one object is made, 100 slots of the tables
-come to name it, and generation 0 is swept, each tenth time generation 1.
+Each heap has tables of 10,000 references to old objects. Then, 10,000 times over, one object is made, 100 slots of the
+tables come to name it, and generation 0 is swept, each tenth time generation 1.
 
-`near` stores into 100 slots in a row of one table, `far` into 100 slots at random. In `far` most cards of the tables name
-objects of generation 1 at most times, so each sweep scans most of them; in `near` it scans few.
+`near` stores into 100 slots in a row of one table, `far` into 100 slots at random. In `far` most cards of the tables
+name objects of generation 1 at most times, so each sweep scans most of them; in `near` it scans few.
 
 Each script is run with and without its collections; the difference is the time for them. With
 a second program, which takes the same scripts, the ratio of the whole scripts is shown, interleaved.
@@ -81,7 +81,9 @@ def main():
                     spent[part] = least(programs, path)
                 each = [(whole - stores) / ROUNDS * 1e6 for whole, stores in zip(spent["whole"], spent["stores"])]
                 text = ", ".join(f"{micros:.1f} us a sweep" for micros in each)
-                ratio = "" if len(programs) == 1 else f", whole script {spent['whole'][0] / spent['whole'][1]:.2f} times the other"
+                ratio = ""
+                if len(programs) > 1:
+                    ratio = f", whole script {spent['whole'][0] / spent['whole'][1]:.2f} times the other"
                 print(f"{name}, {objects} old objects: {text}{ratio}")
 
 

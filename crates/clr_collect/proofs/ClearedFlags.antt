@@ -9,7 +9,7 @@ use Rattle.clr_types.specs.Rising.{changed_by, IsIn, later}
 use Rattle.clr_types.specs.Segments.{generation, Layout}
 use Rattle.clr_types.specs.Types.{TypeRow}
 use Rattle.clr_types.proofs.ChangedLists.{into_filter, IsIn-map, out_of_filter}
-use Rattle.clr_types.proofs.ListMembers.{any-from, any-in, any-map, any-on, map-on}
+use Rattle.clr_types.proofs.ListMembers.{any-from, any-in, any-map, any-on, in_append, map-on}
 use Rattle.clr_types.proofs.RisingLists.{in_cons}
 use Rattle.clr_heap.specs.View.{HeapView}
 use Rattle.clr_model.specs.Machine.{Object}
@@ -21,7 +21,7 @@ use Rattle.clr_view.specs.Marks.{Marked}
 use Rattle.clr_view.specs.Memory.{is_left, is_left_name, is_marked}
 use Rattle.clr_view.specs.SlotValues.{StandsAt}
 use Rattle.clr_view.specs.View.{AreFreeHeads, IsHeld, layout_in, objects_in}
-use Rattle.clr_collect.specs.Collecting.{HasUnflagged, unflagged}
+use Rattle.clr_collect.specs.Collecting.{AllLeft, HasUnflagged, unflagged}
 
 -- ---- Booleans
 
@@ -226,6 +226,17 @@ module _ (rows : List TypeRow) (old : HeapView) (g : ℕ) where
 
 -- ---- all entries
 
+-- one more place whose object is left
+pub left_more : (rows : List TypeRow) (h : HeapView) (g : ℕ) (done : List ℕ) (p : ℕ) → AllLeft rows h g done
+    → is_left_name rows h g p ≡ true → AllLeft rows h g (done ++ p ∷ [])
+left_more rows h g done p all stays x i = elim (in_append done i) [
+  | inl before ↦ all x before
+  | inr last ↦ elim (in_cons last) [
+    | inl e ↦ ap (is_left_name rows h g) e ∙ stays
+    | inr none ↦ elim none [ ]
+  ]
+]
+
 -- what is behind the first places is among all
 pub behind-among : (n : ℕ) (xs : List ℕ) (x : ℕ) → IsIn x (drop n xs) → IsIn x xs
 behind-among zero xs x i = i
@@ -234,7 +245,7 @@ behind-among (suc n) (y ∷ xs) x i = later (behind-among n xs x i)
 
 module _ (left suppressed : ℕ → Bool) where
   -- what isn't among the first places is behind them
-  behind : (n : ℕ) (xs : List ℕ) (x : ℕ) → IsIn x xs → left x ≡ false
+  pub behind : (n : ℕ) (xs : List ℕ) (x : ℕ) → IsIn x xs → left x ≡ false
       → ((i : ℕ) → i < n → left (slice_index xs i) ≡ true) → IsIn x (drop n xs)
   behind zero xs x i gone all = i
   behind (suc n) [] x i gone all = elim i [ ]

@@ -1,7 +1,7 @@
 -- Entries between the two passes that judge them: from what each pass answers to what both leave.
 use Rattle.std.proofs.Common.{◌≡◌, ℕ, ◌<◌, ◌≤◌, ◌++◌, ◌||◌, List, filter, map, drop, length}
 use Rattle.std.proofs.Common.{slice_index}
-use Rattle.std.proofs.Common.{if◌then◌else◌, Bool, true, ap, ◌∙◌, subst, arith}
+use Rattle.std.proofs.Common.{if◌then◌else◌, Bool, true, false, refl, ap, ◌∙◌, subst, arith}
 use Rattle.clr_types.specs.Rising.{IsIn}
 use Rattle.clr_types.specs.Types.{TypeRow}
 use Rattle.clr_types.proofs.ChangedLists.{out_of_filter, rising-distinct}
@@ -20,9 +20,11 @@ use Rattle.clr_view.proofs.Listings.{heap-rise}
 use Rattle.clr_view.proofs.Rises.{objects-rise}
 use Rattle.clr_mark.specs.Marks.{is_condemned_place}
 use Rattle.clr_mark.proofs.Rooting.{at_in}
-use Rattle.clr_collect.specs.Collecting.{AllStand, drops_at, HasUnflagged, HaveBeenJudged, unflagged, wakes_at}
-use Rattle.clr_collect.proofs.ClearedFlags.{left_unflagged, stands_unflagged, unflagged_all}
-use Rattle.clr_collect.proofs.JudgedEntries.{entries_after, ready_after, sorted_by_verdict, wakes-alive}
+use Rattle.clr_collect.specs.Collecting.{AllLeft, AllStand, drops_at, HasUnflagged, HaveBeenJudged, unflagged}
+use Rattle.clr_collect.specs.Collecting.{wakes_at}
+use Rattle.clr_collect.proofs.ClearedFlags.{behind, left_unflagged, stands_unflagged, unflagged_all}
+use Rattle.clr_collect.proofs.JudgedEntries.{entries_after, left_dropped, none_woken, ready_after, sorted_by_verdict}
+use Rattle.clr_collect.proofs.JudgedEntries.{wakes-alive}
 use Rattle.clr_collect.proofs.LeftBelow.{left_below}
 
 module _ (rows : List TypeRow) (h : HeapView) (heap : IsHeap h) (held : IsHeld rows h) (g low : ℕ)
@@ -99,36 +101,50 @@ module _ (rows : List TypeRow) (h : HeapView) (heap : IsHeap h) (held : IsHeld r
       pub flat_stand : AllStand rows flat mid.entries
       flat_stand x i = stands_unflagged rows h flat g (drop n mid.entries) u x (mid_stand x i)
 
-      -- ---- after the second pass
-
       same-left : (x : ℕ) → is_left_name rows flat g x ≡ left x
       same-left = left_unflagged rows h flat g (drop n mid.entries) u
 
-      same-drops : (x : ℕ) → drops_at rows flat g x ≡ drops_at rows h g x
-      same-drops x = ap (λ (b : Bool). if b then Alive else Dropped) (same-left x)
+      -- where all that were looked at are left, so are all that stay
+      pub all_left : AllLeft rows h g (drop n mid.entries) → AllLeft rows flat g mid.entries
+      all_left looked_left x i = same-left x ∙ go (left x) refl
+        where
+          go : (b : Bool) → left x ≡ b → left x ≡ true
+          go true e = e
+          go false e = looked_left x (behind left suppressed n mid.entries x i e (λ j l.
+              left_below rows h g low lowest (slice_index mid.entries j) (early j l)
+              (mid_stand (slice_index mid.entries j) (at_in mid.entries j 0 (omega (arith, l, within))))))
+
+      -- ---- after the second pass
 
       -- ENTRIES AND QUEUE are as a collection leaves them
-      pub both_judged : (later : ℕ → Verdict → Type 0) (new : Queues)
-          → ArePlacesJudged later low mid.entries new.entries mid.ready new.ready
-          → ((x : ℕ) (v : Verdict) → later x v → v ≡ drops_at rows flat g x) → HaveBeenJudged rows h g old new
-      both_judged later new sorted_later told_later =
-          let (entries, ready) =
-          sorted_by_verdict rows h low (drops_at rows flat g)
-          (λ x under stands. ap (λ (b : Bool). if b then Alive else Dropped)
-          (same-left x ∙ left_below rows h g low lowest x under stands))
-          later told_later mid.entries new.entries mid.ready new.ready mid_stand sorted_later in
-          record {
-            entries =
-                entries
-                ∙ filter-on (λ x. is_alive (drops_at rows flat g x)) (λ x. is_alive (drops_at rows h g x)) mid.entries
-                (λ x i. ap is_alive (same-drops x))
-                ∙ ap (filter (λ x. is_alive (drops_at rows h g x))) first-pass.0
-                ∙ entries_after left suppressed old.entries;
-            ready =
-                ready
-                ∙ ap (λ xs. mid.ready ++ xs)
-                (filter-on (λ x. is_woken (drops_at rows flat g x)) (λ x. is_woken (drops_at rows h g x)) mid.entries
-                (λ x i. ap is_woken (same-drops x)))
-                ∙ (λ k. first-pass.1 k ++ filter (λ x. is_woken (drops_at rows h g x)) (first-pass.0 k))
-                ∙ ready_after left suppressed old.entries old.ready;
-          }
+      pub both_judged : (new : Queues) → new.entries ≡ filter (is_left_name rows flat g) mid.entries
+          → new.ready ≡ mid.ready → HaveBeenJudged rows h g old new
+      both_judged new entries ready = record {
+        entries =
+            entries
+            ∙ filter-on (is_left_name rows flat g) left mid.entries (λ x i. same-left x)
+            ∙ ap (filter left) first-pass.0
+            ∙ entries_after left suppressed old.entries;
+        ready = ready ∙ first-pass.1 ∙ ready_after left suppressed old.entries old.ready;
+      }
+
+-- ---- the second pass
+
+module _ (rows : List TypeRow) (h : HeapView) (g low : ℕ)
+    (lowest : (x : ℕ) → is_condemned_place h g x ≡ true → low ≤ x) (old new : Queues)
+    (stand : AllStand rows h old.entries) (answers : ℕ → Verdict → Type 0)
+    (sorted : ArePlacesJudged answers low old.entries new.entries old.ready new.ready)
+    (told : (x : ℕ) (v : Verdict) → answers x v → v ≡ drops_at rows h g x) where
+  dropped : (new.entries ≡ filter (λ x. is_alive (drops_at rows h g x)) old.entries)
+      × (new.ready ≡ old.ready ++ filter (λ x. is_woken (drops_at rows h g x)) old.entries)
+  dropped =
+      sorted_by_verdict rows h low (drops_at rows h g)
+      (λ x under stands. ap (λ (b : Bool). if b then Alive else Dropped)
+      (left_below rows h g low lowest x under stands))
+      answers told old.entries new.entries old.ready new.ready stand sorted
+
+  pub dropped_entries : new.entries ≡ filter (is_left_name rows h g) old.entries
+  dropped_entries = dropped.0 ∙ left_dropped (is_left_name rows h g) (λ x. true) old.entries
+
+  pub dropped_ready : new.ready ≡ old.ready
+  dropped_ready = dropped.1 ∙ none_woken (is_left_name rows h g) (λ x. true) old.entries old.ready

@@ -6,6 +6,7 @@ use Rattle.std.proofs.Common.{[], filter, if◌then◌else◌, nat_lt, get_or, r
 use Rattle.std.proofs.Common.{◌∙◌}
 use Rattle.std.proofs.lemmas.Bool.{both_ways, le-ltb, lt-ltb, ltb-true}
 use Rattle.std.proofs.lemmas.List.{append-nil}
+use Rattle.clr_types.specs.Rising.{first, IsIn, later}
 use Rattle.clr_types.specs.Types.{TypeRow}
 use Rattle.clr_types.proofs.ListMembers.{filter-on}
 use Rattle.clr_final.specs.Queues.{ArePlacesJudged, is_alive, is_woken}
@@ -91,24 +92,34 @@ module _ (left suppressed : ℕ → Bool) where
 
   -- WHAT THE TWO PASSES LEAVE of the entries: those of what is left
   pub entries_after : (old : List ℕ)
-      → filter (λ x. is_alive (drops left x)) (filter (λ x. is_alive (wakes left suppressed x)) old)
-      ≡ filter left old
+      → filter left (filter (λ x. is_alive (wakes left suppressed x)) old) ≡ filter left old
   entries_after old =
-      ap (filter (λ x. is_alive (drops left x)))
+      ap (filter left)
       (filter-on (λ x. is_alive (wakes left suppressed x)) (λ x. left x || suppressed x) old
       (λ x i. wakes-alive (left x) (suppressed x)))
-      ∙ filter-on (λ x. is_alive (drops left x)) left (filter (λ x. left x || suppressed x) old)
-      (λ x i. drops-alive (left x))
       ∙ filter-twice (λ x. left x || suppressed x) left old left-more
 
   -- and what they put behind the f-reachable places: the woken ones
-  pub ready_after : (old ready : List ℕ) → (ready ++ filter (λ x. is_woken (wakes left suppressed x)) old)
-      ++ filter (λ x. is_woken (drops left x)) (filter (λ x. is_alive (wakes left suppressed x)) old)
+  pub ready_after : (old ready : List ℕ) → ready ++ filter (λ x. is_woken (wakes left suppressed x)) old
       ≡ ready ++ filter (λ x. not (left x) && not (suppressed x)) old
   ready_after old ready =
-      ap (λ (ys : List ℕ). (ready ++ filter (λ x. is_woken (wakes left suppressed x)) old) ++ ys)
-      (none-passes (λ x. is_woken (drops left x)) (filter (λ x. is_alive (wakes left suppressed x)) old)
-      (λ x. drops-woken (left x)))
-      ∙ append-nil (ready ++ filter (λ x. is_woken (wakes left suppressed x)) old)
-      ∙ ap (λ (ys : List ℕ). ready ++ ys) (filter-on (λ x. is_woken (wakes left suppressed x))
+      ap (λ (ys : List ℕ). ready ++ ys) (filter-on (λ x. is_woken (wakes left suppressed x))
       (λ x. not (left x) && not (suppressed x)) old (λ x i. wakes-woken (left x) (suppressed x)))
+
+  -- the second pass leaves what is left
+  pub left_dropped : (old : List ℕ) → filter (λ x. is_alive (drops left x)) old ≡ filter left old
+  left_dropped old = filter-on (λ x. is_alive (drops left x)) left old (λ x i. drops-alive (left x))
+
+  -- and wakes nothing
+  pub none_woken : (old ready : List ℕ) → ready ++ filter (λ x. is_woken (drops left x)) old ≡ ready
+  none_woken old ready =
+      ap (λ (ys : List ℕ). ready ++ ys)
+      (none-passes (λ x. is_woken (drops left x)) old (λ x. drops-woken (left x)))
+      ∙ append-nil ready
+
+-- where all are left, all stay
+pub all_stay : (left : ℕ → Bool) (xs : List ℕ) → ((x : ℕ) → IsIn x xs → left x ≡ true) → filter left xs ≡ xs
+all_stay left [] all = refl
+all_stay left (x ∷ xs) all =
+    ap (λ (b : Bool). if b then x ∷ filter left xs else filter left xs) (all x first)
+    ∙ ap (λ (ys : List ℕ). x ∷ ys) (all_stay left xs (λ y i. all y (later i)))

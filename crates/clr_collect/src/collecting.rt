@@ -275,7 +275,8 @@ fn mark_alive(
     contexts.lose();
     contexts.give_up_all(heap, types);
     heap.lawful();
-    let ready = finals.ready();
+    marker.begin(g);
+    let ready = finals.ready_from(marker.lowest_condemned(heap));
     mark_from(
         marker, heap, types, g, handles, locals, ready, cards, bricks,
     );

@@ -1,5 +1,5 @@
 // What becomes of finalisation entries and of handles whose objects aren't reached.
-ghost use Rattle.std.specs.Prelude.{◌≡◌, ℕ, ℤ, ◌+◌, ◌≤◌, length, [], None, List};
+ghost use Rattle.std.specs.Prelude.{◌≡◌, ℕ, ℤ, ◌+◌, ◌≤◌, false, filter, length, [], None, List};
 ghost use Rattle.clr_types.specs.Maps.{map_values};
 ghost use Rattle.clr_types.specs.declared.handle.Kind.TheVariants.{Dependent, Weak, WeakLong};
 ghost use Rattle.clr_handles.specs.Laws.{cleared};
@@ -11,8 +11,8 @@ ghost use Rattle.clr_view.specs.View.{IsHeld};
 ghost use Rattle.clr_view.specs.World.{HandlesStand};
 ghost use Rattle.clr_generations.specs.Tables.{AreTablesOf};
 ghost use Rattle.clr_mark.specs.Waiting.{IsGray};
-ghost use Rattle.clr_collect.specs.Collecting.{AllStand, drops_at, HasMarkedAlive, HasMarkedKept, HasUnflagged};
-ghost use Rattle.clr_collect.specs.Collecting.{HaveBeenJudged, LeftStart, wakes_at, world_with};
+ghost use Rattle.clr_collect.specs.Collecting.{AllLeft, AllStand, drops_at, HasMarkedAlive, HasMarkedKept};
+ghost use Rattle.clr_collect.specs.Collecting.{HasUnflagged, HaveBeenJudged, LeftStart, wakes_at, world_with};
 
 use clr_final::{Finals, Verdict};
 use clr_handles::Handles;
@@ -71,8 +71,25 @@ fn judge_entries(types: &Types, heap: &mut Heap, marker: &Marker, finals: &mut F
     let low = marker.lowest_condemned(heap);
     finals.dead_from(low, |place| wake(types, heap, marker, place));
     let first = finals.settled(low);
-    clear_flags(types, heap, marker, &finals.entries()[first..]);
-    finals.dead_from(low, |place| drop_dead(types, heap, marker, place));
+    let any_dead = clear_flags(types, heap, marker, &finals.entries()[first..]);
+    drop_entries(types, heap, marker, finals, any_dead);
+}
+
+// Takes out the entries of objects that aren't left. There are some only where `any_dead` says so.
+fn drop_entries(types: &Types, heap: &Heap, marker: &Marker, finals: &mut Finals, any_dead: bool)
+    requires held { IsHeld types.now heap.now }
+    requires stand { AllStand types.now heap.now finals.old.entries }
+    requires left { any_dead ≡ false → AllLeft types.now heap.now marker.now.oldest finals.old.entries }
+    ensures entries { finals.new.entries
+        ≡ filter (is_left_name types.now heap.now marker.now.oldest) finals.old.entries }
+    ensures ready { finals.new.ready ≡ finals.old.ready }
+    ensures spare { finals.old.spare ≤ finals.new.spare }
+    ensures none_added { finals.new.spare + length finals.new.entries ≤ finals.old.spare + length finals.old.entries }
+{
+    if any_dead {
+        let low = marker.lowest_condemned(heap);
+        finals.dead_from(low, |place| drop_dead(types, heap, marker, place));
+    }
 }
 
 // Whether an entry is woken; one that is to be dropped stays among the entries for now.
@@ -101,17 +118,21 @@ fn drop_dead(types: &Types, heap: &Heap, marker: &Marker, place: u64) -> Verdict
     }
 }
 
-// Clears the flags of those of some objects that aren't left.
-fn clear_flags(types: &Types, heap: &mut Heap, marker: &Marker, places: &[u64])
+// Clears the flags of those of some objects that aren't left, and answers whether there are any.
+fn clear_flags(types: &Types, heap: &mut Heap, marker: &Marker, places: &[u64]) -> bool
     requires held { IsHeld types.now heap.old }
     requires places { AllStand types.now heap.old places.now }
-    ensures { HasUnflagged types.now heap.old heap.new marker.now.oldest places.now }
+    ensures unflagged { HasUnflagged types.now heap.old heap.new marker.now.oldest places.now }
+    ensures left { result ≡ false → AllLeft types.now heap.old marker.now.oldest places.now }
 {
+    let mut any_dead = false;
     for &place in places {
         if !marker.is_left(heap, types, place) {
             set_suppressed(heap, types, place, false);
+            any_dead = true;
         }
     }
+    any_dead
 }
 
 // Clears the short weak handles whose targets aren't left.

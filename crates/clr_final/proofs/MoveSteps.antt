@@ -1,11 +1,11 @@
 -- Places that follow their objects, one after the other.
-use Rattle.std.proofs.Common.{◌≡◌, ◌⊎◌, ℕ, suc, ◌+◌, ◌-◌, ◌<◌, ◌≤◌, ltb, List, [], ◌∷◌, length, drop, get_or, inl, inr}
-use Rattle.std.proofs.Common.{sym, ap, ◌∙◌, subst, arith}
+use Rattle.std.proofs.Common.{◌≡◌, ◌⊎◌, ℕ, suc, ◌+◌, ◌-◌, ◌<◌, ◌≤◌, ltb, List, [], ◌∷◌, length, take, drop, get_or, inl}
+use Rattle.std.proofs.Common.{inr, sym, ap, ◌∙◌, subst, arith}
 use Rattle.std.proofs.lemmas.Bool.{cases_lt, lt-ltb}
-use Rattle.std.proofs.lemmas.List.{get_or-drop, length-drop}
+use Rattle.std.proofs.lemmas.List.{drop-drop, get_or-drop, length-drop, take_rest}
 use Rattle.std.specs.List.{AllZip}
 use Rattle.clr_final.specs.Places.{PlaceList}
-use Rattle.clr_final.specs.Queues.{AreQueues, HaveMoved, IsMoved, IsMovedBetween, MayAsk, queues}
+use Rattle.clr_final.specs.Queues.{AreQueues, HasAllFrom, HaveMoved, IsMoved, IsMovedBetween, MayAsk, queues}
 use Rattle.clr_final.proofs.JudgeSteps.{at-match}
 
 -- a relation at each index is one of the lists
@@ -88,3 +88,21 @@ pub settled-untaken : (low taken settled first : ℕ) (xs : List ℕ) → (first
     → ((i : ℕ) → i < settled → get_or xs i 0 < low) → (i : ℕ) → taken ≤ i → i < first → get_or xs i 0 < low
 settled-untaken low taken settled first xs (inl e) below i from early = below i (omega (arith, e, early))
 settled-untaken low taken settled first xs (inr e) below i from early = absurd (omega (arith, e, early, from))
+
+-- the places that aren't taken, but for some that are settled
+pub from-untaken : (low taken first : ℕ) (items told ready : List ℕ) → told ≡ items → drop taken items ≡ ready
+    → taken ≤ first → ((i : ℕ) → taken ≤ i → i < first → get_or items i 0 < low)
+    → HasAllFrom low ready (take (length told - first) (drop first told))
+from-untaken low taken first items told ready same is later settled =
+    let at : taken + (first - taken) ≡ first = omega (arith, later) in
+    record {
+      first = first - taken;
+      rest_is =
+          take_rest told first ∙ ap (drop first) same ∙ ap (λ n. drop n items) (sym at)
+          ∙ sym (drop-drop (first - taken) taken items) ∙ ap (drop (first - taken)) is;
+      below = λ i inside.
+          let read : get_or ready i 0 ≡ get_or items (taken + i) 0 =
+          ap (λ xs. get_or xs i 0) (sym is) ∙ get_or-drop taken items i 0 in
+          let less = settled (taken + i) (omega arith) (omega (arith, inside, later)) in
+          omega (arith, read, less);
+    }

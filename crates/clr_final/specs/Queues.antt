@@ -76,6 +76,12 @@ pub record HaveMoved (answers : ℕ → ℕ → Type 0) (low : ℕ) (old new : Q
   pub ready : AllZip (IsMoved answers low) old.ready new.ready
   pub spare : new.spare ≡ old.spare
 
+-- the last of some places, from an index on before which all lie below `low`
+pub record HasAllFrom (low : ℕ) (places rest : List ℕ) : Type 0 where
+  pub first : ℕ
+  pub rest_is : rest ≡ drop first places
+  pub below : (i : ℕ) → i < first → slice_index places i < low
+
 -- this may be asked of each of these places from `low` on
 abbrev pub MayAsk : ℕ → List ℕ → (ℕ → Type 0) → Type 0
 MayAsk low places P = EachIndex places (λ i. low ≤ slice_index places i → P (slice_index places i))

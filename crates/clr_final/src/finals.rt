@@ -1,8 +1,10 @@
 // The finalisation queue.
 ghost use Rattle.std.specs.Prelude.{◌≡◌, ℕ, ◌+◌, ◌<◌, ◌≤◌, ◌++◌, [], ◌∷◌, length, IfNone, OnErr, OnOk};
 ghost use Rattle.std.specs.Prelude.{option_to_list, slice_index};
+ghost use Rattle.clr_final.specs.Queues.{HasAllFrom};
 
 use crate::NoMemory;
+use crate::moving::later;
 use crate::places::Places;
 use std::alloc::Global;
 use std::marker::Model;
@@ -87,6 +89,14 @@ impl Finals {
         ensures { result.now ≡ self.now.ready }
     {
         &self.ready.as_slice()[self.taken..]
+    }
+
+    /// The f-reachable places, in order, but for some at the front that are known to lie below `low`.
+    pub fn ready_from(&self, low: u64) -> &[u64]
+        ensures { HasAllFrom low self.now.ready result.now }
+    {
+        let first = later(self.ready.settled(low), self.taken);
+        &self.ready.as_slice()[first..]
     }
 
     /// How many entries at the front are known to lie below `low`. It may be fewer than there are.

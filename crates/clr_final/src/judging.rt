@@ -32,6 +32,7 @@ impl Finals {
         let start = self.entries.settled(low);
         judge_from(&mut self.entries, &mut self.ready, start, low, judge);
         self.entries.settle();
+        self.ready.settle();
     }
 }
 

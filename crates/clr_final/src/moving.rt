@@ -63,7 +63,7 @@ fn moved_place<F: Fn(u64) -> u64>(place: u64, low: u64, to: &F) -> u64
 }
 
 // The greater of two indexes.
-fn later(a: usize, b: usize) -> usize
+pub(crate) fn later(a: usize, b: usize) -> usize
     ensures first { a ≤ result }
     ensures second { b ≤ result }
     ensures one { (result ≡ a) ⊎ (result ≡ b) }

@@ -109,11 +109,14 @@ impl Places {
         }
     }
 
-    /// Changes the place at an index.
+    /// Changes the place at an index. What stands there already isn't written, so what is known stays known.
     pub(crate) fn set(&mut self, i: usize, place: u64)
         requires { i < length self.old.items }
         ensures { self.new ≡ record self.old { items = slice_set self.old.items i place } }
     {
+        if self.items[i] == place {
+            return;
+        }
         self.peaks.truncate(i / CHUNK);
         self.items[i] = place;
     }

@@ -1,5 +1,6 @@
 -- Clearing handles: what stays, and how high the handles reach then.
-use Rattle.std.proofs.Common.{◌≡◌, ◌≢◌, ◌⊎◌, ℕ, ◌+◌, ◌*◌, ◌<◌, ◌≤◌, Bool, true, false, ◌&&◌, not, cond, eqb, ltb, max}
+use Rattle.std.proofs.Common.{◌≡◌, ◌≢◌, ◌⊎◌, ℕ, ◌+◌, ◌*◌, ◌==◌, ◌<◌, ◌≤◌, Bool, true, false, ◌&&◌, not, cond}
+use Rattle.std.proofs.Common.{eqb, ltb, max, Option, None}
 use Rattle.std.proofs.Common.{List, Some, inl, inr, refl, sym, ap, ◌∙◌, subst, arith, eq-eqb, eqb-true, MatchBool}
 use Rattle.std.proofs.lemmas.Bool.{and_parts, not-true, cases_eq, cases_lt, ne_eqb, eqb-false, lt-ltb}
 use Rattle.clr_types.specs.HandleCode.{number_of_kind, kind_of_number, kind_back}
@@ -9,10 +10,10 @@ use Rattle.clr_types.specs.declared.handle.Kind.TheVariants.{Strong, Pinned, Wea
 use Rattle.clr_types.specs.declared.handle.Handle.{Handle}
 use Rattle.clr_handles.specs.Tables.{Table}
 use Rattle.clr_handles.specs.Places.{IsKept, IsCleared, nulled, nulled_of}
-use Rattle.clr_handles.specs.Changes.{Becomes, BecomesAt, BecomesWithin}
-use Rattle.clr_types.specs.Kinds.{is_dependent, is_pinned_kind}
-use Rattle.clr_handles.specs.Tops.{AreTops, IsTop, pinned_in, reach}
-use Rattle.clr_handles.proofs.PinnedCounts.{pinned-replaced, weight}
+use Rattle.clr_handles.specs.Changes.{Becomes, BecomesAt, BecomesWithin, EachBecomes}
+use Rattle.clr_types.specs.Kinds.{is_dependent}
+use Rattle.clr_handles.specs.Tops.{AreTops, HasNone, IsTop, KeepsCounts, kind_count, reach}
+use Rattle.clr_handles.proofs.PinnedCounts.{counted-replaced}
 use Rattle.clr_handles.proofs.ChangedRows.{at-changed, was-before, within-kept}
 
 -- ---- the height of a handle, by cases
@@ -80,15 +81,13 @@ nulled-kind row = go row.kind
     go WeakLong = refl
     go Dependent = refl
 
-nulled-weight : (row : Handle) → weight (nulled row) ≡ weight row
-nulled-weight row = ap (λ k. cond (is_pinned_kind k) 1 0) (nulled-kind row)
-
--- as many handles are pinned where one is written null
-pub pinned-nulled : (table new : Table) (at : ℕ) (row put : Handle) → finmap.get table at ≡ Some row
-    → put ≡ nulled row → new ≡ finmap.insert table at put → pinned_in new ≡ pinned_in table
-pinned-nulled table new at row put here is set =
-    ap pinned_in (set ∙ ap (finmap.insert table at) is)
-    ∙ pinned-replaced table at row (nulled row) here (nulled-weight row)
+-- as many handles of each kind are there where one is written null
+pub counts-nulled : (table new : Table) (at : ℕ) (row put : Handle) → finmap.get table at ≡ Some row
+    → put ≡ nulled row → new ≡ finmap.insert table at put → KeepsCounts table new
+counts-nulled table new at row put here is set kind =
+    ap (kind_count kind) (set ∙ ap (finmap.insert table at) is)
+    ∙ counted-replaced (λ k. number_of_kind k == number_of_kind kind) table at row (nulled row) here
+    (ap (λ k. cond (number_of_kind k == number_of_kind kind) 1 0) (nulled-kind row))
 
 -- a handle that is null is so already
 pub nulled-itself : (row : Handle) → row.target ≡ 0 → row.second ≡ 0 → row ≡ nulled row
@@ -242,3 +241,12 @@ module _ (kind : Kind) (answers : ℕ → Bool → Type 0) (low : ℕ) where
 
       before : (h : ℕ) (row' : Handle) → finmap.get new h ≡ Some row' → WasAsHigh old h row'
       before h row' here = from-a h row' here (cases_lt h a)
+
+-- where no handle is of the kind, clearing that kind changes nothing
+pub cleared-none : (kind : Kind) (answers : ℕ → Bool → Type 0) (low : ℕ) (table : Table) → HasNone kind table
+    → EachBecomes (IsCleared kind answers low) table table
+cleared-none kind answers low table none h = at (finmap.get table h) refl
+  where
+    at : (found : Option Handle) → finmap.get table h ≡ found → Becomes (IsCleared kind answers low) found found
+    at None was = refl
+    at (Some row) was = record { asked = λ is. absurd (none h row was is); others = λ apart. refl }

@@ -1,15 +1,34 @@
--- What the table keeps beside the handles: how many are pinned, and how high the places are that each chunk of 64
--- numbers names.
+-- What the table keeps beside the handles: how many there are of each kind, and how high the places are that each chunk
+-- of 64 numbers names.
 use Rattle.std.specs.Prelude.{◌≡◌, ℕ, ◌+◌, ◌*◌, ◌/◌, ◌<◌, ◌≤◌, ◌==◌, List, length, slice_index, Some}
 use Rattle.std.specs.Prelude.{count_by, if◌then◌else◌, max, ◌&&◌, not}
 use Rattle.std.specs.FinMap as finmap
+use Rattle.clr_types.specs.HandleCode.{number_of_kind}
 use Rattle.clr_types.specs.Kinds.{is_dependent, is_pinned_kind}
+use Rattle.clr_types.specs.declared.handle.Kind.{Kind}
 use Rattle.clr_types.specs.declared.handle.Handle.{Handle}
 use Rattle.clr_handles.specs.Tables.{Table}
 
 -- how many handles are pinned
 abbrev pub pinned_in : Table → ℕ
 pinned_in table = count_by (λ (row : Handle). is_pinned_kind row.kind) (finmap.values table)
+
+-- how many handles are of a kind
+abbrev pub kind_count : Kind → Table → ℕ
+kind_count kind table =
+    count_by (λ (row : Handle). number_of_kind row.kind == number_of_kind kind) (finmap.values table)
+
+-- the counts of all kinds, by the numbers of these
+abbrev pub AreCounts : Table → List ℕ → Type 0
+AreCounts table counts = (kind : Kind) → slice_index counts (number_of_kind kind) ≡ kind_count kind table
+
+-- as many handles of each kind as before
+abbrev pub KeepsCounts : Table → Table → Type 0
+KeepsCounts old new = (kind : Kind) → kind_count kind new ≡ kind_count kind old
+
+-- no handle is of this kind
+abbrev pub HasNone : Kind → Table → Type 0
+HasNone kind table = (h : ℕ) (row : Handle) → finmap.get table h ≡ Some row → row.kind ≡ kind → ⊥
 
 -- The greater place that a handle names. One with a second that it shouldn't have is to be looked at in any case.
 abbrev pub reach : Handle → ℕ

@@ -3,7 +3,7 @@ ghost use Rattle.std.specs.Prelude.{◌≡◌, ℕ, ◌+◌, ◌*◌, ◌<◌, �
 ghost use Rattle.std.specs.FinMap as finmap;
 ghost use Rattle.clr_handles.specs.Places.{IsCleared, IsKept, MayAsk, MayAskOf, nulled};
 ghost use Rattle.clr_handles.specs.Changes.{BecomesAt, BecomesWithin, EachBecomes};
-ghost use Rattle.clr_handles.specs.Tops.{IsTop, pinned_in};
+ghost use Rattle.clr_handles.specs.Tops.{IsTop, KeepsCounts};
 
 use crate::rows::Rows;
 use crate::tops::CHUNK;
@@ -64,11 +64,15 @@ impl Handles {
         self.clear(Kind::Dependent, low, &kept);
     }
 
-    // Clears the handles of a kind that aren't kept. Chunks that name nothing from `low` on are passed over.
+    // Clears the handles of a kind that aren't kept, where there are any. Chunks that name nothing from `low` on are
+    // passed over.
     fn clear<F: Fn(u64) -> bool>(&mut self, kind: Kind, low: u64, kept: &F)
         requires { MayAsk kind low self.old (λ place. F.pre kept.now place) }
         ensures { EachBecomes (IsCleared kind (λ place answer. F.post kept.now place answer) low) self.old self.new }
     {
+        if !self.has_kind(kind) {
+            return;
+        }
         for chunk in 0..self.tops.len() {
             clear_chunk(
                 &mut self.rows,
@@ -97,7 +101,7 @@ fn clear_chunk<F: Fn(u64) -> bool>(
         → MayAskOf kind low (finmap.get rows.old h) (λ place. F.pre kept.now place) }
     ensures cleared { BecomesWithin (IsCleared kind (λ place answer. F.post kept.now place answer) low)
         rows.old rows.new (64 * chunk) (64 * chunk + 64) }
-    ensures pinned { pinned_in rows.new ≡ pinned_in rows.old }
+    ensures counts { KeepsCounts rows.old rows.new }
 {
     if top < low {
         return;
@@ -113,7 +117,7 @@ fn clear_row<F: Fn(u64) -> bool>(rows: &mut Rows, h: u64, kind: Kind, low: u64, 
     requires { MayAskOf kind low (finmap.get rows.old h) (λ place. F.pre kept.now place) }
     ensures cleared { BecomesAt (IsCleared kind (λ place answer. F.post kept.now place answer) low)
         rows.old rows.new h }
-    ensures pinned { pinned_in rows.new ≡ pinned_in rows.old }
+    ensures counts { KeepsCounts rows.old rows.new }
 {
     if let Some(handle) = rows.get(h) {
         if handle.kind == kind && !is_kept(handle.target, low, kept) {

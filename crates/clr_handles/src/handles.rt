@@ -1,11 +1,11 @@
 // The table of handles.
 ghost use Rattle.std.specs.Prelude.{◌≡◌, ℕ, ◌<◌, ◌↔◌, ◌≤◌, IfOk, IfSome, None, Some, Err, OnOk, OnErr};
-ghost use Rattle.std.specs.Prelude.{if◌then◌else◌};
+ghost use Rattle.std.specs.Prelude.{false};
 ghost use Rattle.std.specs.FinMap as finmap;
 ghost use Rattle.clr_types.specs.declared.handle.Handle.{Handle as Row};
-ghost use Rattle.clr_handles.specs.Tops.{pinned_in};
-ghost use Rattle.clr_types.specs.Kinds.{is_pinned_kind};
+ghost use Rattle.clr_handles.specs.Tops.{HasNone, pinned_in};
 
+use crate::kinds::number_of;
 use crate::numbering::MOST_HANDLES;
 use crate::rows::Rows;
 use crate::tops::{CHUNK, grow, raise, reach_of};
@@ -21,14 +21,15 @@ use std::marker::Model;
 pub struct Handles {
     pub(crate) rows: Rows,
     pub(crate) tops: Vec<u64>,
-    pinned: usize,
+    // How many there are of each kind.
+    pub(crate) counts: [usize; 5],
 }
 
 impl Model for Handles {
     ghost use Rattle.std.specs.Prelude.{◌≡◌};
     ghost use Rattle.clr_types.specs.HandleCode.{handles_code};
     ghost use Rattle.clr_handles.specs.Tables.{Table};
-    ghost use Rattle.clr_handles.specs.Tops.{AreTops, pinned_in};
+    ghost use Rattle.clr_handles.specs.Tops.{AreCounts, AreTops};
 
     ghost Value = { Table };
 
@@ -36,7 +37,7 @@ impl Model for Handles {
 
     ghost view = { λ t. t.rows };
 
-    ghost invariant = { λ t. AreTops t.rows t.tops.items × (t.pinned ≡ pinned_in t.rows) };
+    ghost invariant = { λ t. AreTops t.rows t.tops.items × AreCounts t.rows t.counts };
 }
 
 impl Handles {
@@ -47,7 +48,7 @@ impl Handles {
         Handles {
             rows: Rows::new(alloc),
             tops: Vec::new(alloc),
-            pinned: 0,
+            counts: [0; 5],
         }
     }
 
@@ -88,7 +89,7 @@ impl Handles {
         self.rows.add_at(h, handle)?;
         let _ = self.rows.count();
         raise(&mut self.tops, chunk, reach_of(&handle));
-        self.pinned += pinned_weight(handle.kind);
+        self.counts[number_of(handle.kind)] += 1;
         Ok(())
     }
 
@@ -118,7 +119,7 @@ impl Handles {
         let Some(handle) = self.rows.remove(h) else {
             return Err(NoHandle);
         };
-        self.pinned -= pinned_weight(handle.kind);
+        self.counts[number_of(handle.kind)] -= 1;
         Ok(handle)
     }
 
@@ -126,13 +127,13 @@ impl Handles {
     pub fn pinned_count(&self) -> usize
         ensures { result ≡ pinned_in self.now }
     {
-        self.pinned
+        self.counts[1]
     }
-}
 
-// 1 for a pinned handle, 0 for any other.
-fn pinned_weight(kind: Kind) -> usize
-    ensures { result ≡ (if is_pinned_kind kind then 1 else 0) }
-{
-    if kind.is_pinned() { 1 } else { 0 }
+    /// Whether any handle of a kind is in use. A pass that looks for handles of a kind needn't be made where none is.
+    pub fn has_kind(&self, kind: Kind) -> bool
+        ensures { result ≡ false → HasNone kind self.now }
+    {
+        self.counts[number_of(kind)] > 0
+    }
 }

@@ -6,7 +6,8 @@
 //!
 //! Of each chunk of 64 numbers the table keeps a bound on how high the places are that its handles name. So the calls
 //! that take a bound `low` pass over the chunks that are known to name nothing from there on, and the handles of old
-//! objects cost a young collection next to nothing.
+//! objects cost a young collection next to nothing. It also counts the handles of each kind, so that no pass is made
+//! for a kind of which there is none.
 #![tactic(auto)]
 
 ghost use Rattle.clr_handles.specs.Laws.{ClearingLaw, RelocationLaw};
@@ -20,6 +21,7 @@ pub use clr_types::{Handle, Kind};
 mod clearing;
 mod fault;
 mod handles;
+mod kinds;
 mod moving;
 mod naming;
 mod numbering;

@@ -5,7 +5,7 @@ ghost use Rattle.clr_types.specs.Kinds.{is_pinned_kind};
 ghost use Rattle.clr_types.specs.declared.handle.Handle.{Handle as Row};
 ghost use Rattle.clr_handles.specs.Places.{IsFollowed, IsMoved, IsRelocated, MayFollow, MayFollowAll};
 ghost use Rattle.clr_handles.specs.Changes.{BecomesAt, BecomesWithin, EachBecomes};
-ghost use Rattle.clr_handles.specs.Tops.{IsTop, pinned_in, reach};
+ghost use Rattle.clr_handles.specs.Tops.{IsTop, KeepsCounts, reach};
 
 use crate::rows::Rows;
 use crate::tops::{CHUNK, reach_of};
@@ -64,7 +64,7 @@ fn follow_in_chunk<F: Fn(u64) -> u64>(
         → MayFollow low (finmap.get rows.old h) (λ place. F.pre to.now place) }
     ensures moved { BecomesWithin (IsFollowed spares (λ place moved. F.post to.now place moved) low)
         rows.old rows.new (64 * chunk) (64 * chunk + 64) }
-    ensures pinned { pinned_in rows.new ≡ pinned_in rows.old }
+    ensures counts { KeepsCounts rows.old rows.new }
     ensures top { IsTop rows.new chunk result }
 {
     if top < low {
@@ -83,7 +83,7 @@ fn follow_in_chunk<F: Fn(u64) -> u64>(
 fn follow_in_row<F: Fn(u64) -> u64>(rows: &mut Rows, h: u64, spares: bool, low: u64, to: &F) -> u64
     requires { MayFollow low (finmap.get rows.old h) (λ place. F.pre to.now place) }
     ensures moved { BecomesAt (IsFollowed spares (λ place moved. F.post to.now place moved) low) rows.old rows.new h }
-    ensures pinned { pinned_in rows.new ≡ pinned_in rows.old }
+    ensures counts { KeepsCounts rows.old rows.new }
     ensures reach { (row : Row) → finmap.get rows.new h ≡ Some row → reach row ≤ result }
 {
     let Some(handle) = rows.get(h) else {

@@ -6,6 +6,8 @@ pub mod Graying
 pub mod Laws
 pub mod Following
 pub mod RunReferences
+pub mod RunKinds
+pub mod RootsFollowed
 pub mod Meeting
 pub mod Gathering
 pub mod Visiting

@@ -6,8 +6,11 @@ use Rattle.std.proofs.lemmas.Bool.{and_cases, and_left, and_parts, and_right, bo
 use Rattle.std.proofs.lemmas.Bool.{false_from_ne_true, not-false, not-true, true≢false}
 use Rattle.clr_types.specs.Types.{TypeRow}
 use Rattle.clr_types.specs.declared.handle.Handle.{Handle}
+use Rattle.clr_types.specs.declared.handle.Kind.{Kind}
+use Rattle.clr_types.specs.declared.handle.Kind.TheVariants.{Dependent, Pinned, Strong, Weak, WeakLong}
 use Rattle.clr_handles.specs.Places.{names_from}
 use Rattle.clr_handles.specs.Tables.{Table}
+use Rattle.clr_handles.specs.Tops.{HasNone}
 use Rattle.clr_heap.specs.View.{HeapView, IsHeap, word_of}
 use Rattle.clr_types.specs.Kinds.{is_dependent}
 use Rattle.clr_model.specs.Reach.{follows, Reach, SecondOf, starts}
@@ -367,3 +370,18 @@ module _ (rows : List TypeRow) (h now : HeapView) (m mark : MarkerView) (handles
               | inr tied ↦ ties.from_marked y z s tied (same_condemned rows h now g z q ∙ e.condemned)
             ]),
       )
+
+-- without dependent handles no object is tied to another
+dependent_is : (k : Kind) → IsTrue (is_dependent k) → k ≡ Dependent
+dependent_is Strong e = absurd (true≢false (sym e))
+dependent_is Pinned e = absurd (true≢false (sym e))
+dependent_is Weak e = absurd (true≢false (sym e))
+dependent_is WeakLong e = absurd (true≢false (sym e))
+dependent_is Dependent e = refl
+
+pub no_ties : (rows : List TypeRow) (h : HeapView) (handles : Table) (g : ℕ)
+    → HasNone Dependent handles → AreTiesFollowed rows h handles g
+no_ties rows h handles g none = record {
+  from_marked = λ x y marked s near. absurd (none s.handle s.row s.in_use (dependent_is s.row.kind s.dependent));
+  from_old = λ y t. let s = t.tied in absurd (none s.handle s.row s.in_use (dependent_is s.row.kind s.dependent));
+}

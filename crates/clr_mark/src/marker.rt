@@ -10,7 +10,8 @@ ghost use Rattle.clr_view.specs.Memory.{is_left_name};
 ghost use Rattle.clr_view.specs.SlotValues.{StandsAt};
 ghost use Rattle.clr_view.specs.View.{IsHeld};
 ghost use Rattle.clr_mark.specs.Marks.{is_condemned_place, is_new, IsClosed, IsRemarked, LeadsTo, with_mark};
-ghost use Rattle.clr_mark.specs.Markings.{HasGrayed};
+ghost use Rattle.clr_mark.specs.Kinds.{IsRunKind};
+ghost use Rattle.clr_mark.specs.Markings.{HasGrayed, HasRooted};
 ghost use Rattle.clr_mark.specs.Waiting.{IsGray, widened, with_next, with_waiting};
 
 use crate::NoMemory;
@@ -22,6 +23,7 @@ use std::marker::Model;
 mod ahead;
 mod batch;
 mod gather;
+mod kind;
 mod rescan;
 mod scan;
 mod targets;
@@ -30,6 +32,7 @@ mod unmark;
 mod wide;
 
 pub(crate) use ahead::Ahead;
+pub(crate) use kind::RunKind;
 
 /// What marking needs: the objects whose slots are still to be followed, on a stack, and the lowest and the highest
 /// place of those that had no room on it.
@@ -117,6 +120,7 @@ impl Marker {
     /// Marks the object at `obj`, where it is condemned. It waits then, where it wasn't marked before.
     ///
     /// All else stays.
+    #[inline(always)]
     pub fn root(&mut self, heap: &mut Heap, types: &Types, obj: u64)
         requires gray { IsGray types.now heap.old self.old }
         requires object { StandsAt types.now heap.old obj }
@@ -133,7 +137,7 @@ impl Marker {
 
     // Marks the object at `obj`, where it is condemned, and lets it wait where it wasn't marked. Only where it is
     // condemned its segment is looked for.
-    #[inline]
+    #[inline(always)]
     fn mark_condemned(&mut self, heap: &mut Heap, obj: u64)
         requires { HasWord heap.old.memories obj }
         ensures heap { heap.new ≡ with_mark heap.old self.old.oldest obj }
@@ -141,8 +145,39 @@ impl Marker {
     {
         if self.is_condemned(heap, obj) {
             let k = heap.segment_of(obj);
-            self.mark(heap, k, obj);
+            self.mark_chosen(heap, k, obj);
         }
+    }
+
+    // Marks the object at `obj`, where it is condemned, and where it wasn't marked, what its slots name: that waits
+    // then, and not the object. `known` is what is known of objects before it. It answers what is known then.
+    #[inline(always)]
+    pub(crate) fn follow_root(
+        &mut self,
+        heap: &mut Heap,
+        types: &Types,
+        obj: u64,
+        known: RunKind,
+    ) -> RunKind
+        requires gray { IsGray types.now heap.old self.old }
+        requires object { StandsAt types.now heap.old obj }
+        requires known { IsRunKind types.now known }
+        ensures gray { IsGray types.now heap.new self.new }
+        ensures rooted { HasRooted types.now self.old.oldest heap.old heap.new obj }
+        ensures capacity { self.new.capacity ≡ self.old.capacity }
+        ensures oldest { self.new.oldest ≡ self.old.oldest }
+        ensures known { IsRunKind types.now result }
+    {
+        if !self.is_condemned(heap, obj) {
+            return known;
+        }
+        let k = heap.segment_of(obj);
+        let word = heap.word_at(k, obj);
+        if mark::is_marked(word) {
+            return known;
+        }
+        heap.set_word_at(k, obj, word + 1);
+        self.follow(heap, types, k, obj, mark::unmarked(word), known)
     }
 
     /// Marks what the marked objects reach over condemned ones by slots. Nothing waits then.
@@ -169,22 +204,36 @@ impl Marker {
         ensures grayed { HasGrayed types.now heap.old heap.new self.old self.new }
         ensures empty { self.new.stack ≡ [] }
     {
+        let mut known = RunKind::none();
         while let Some(obj) = self.stack.pop() {
-            self.scan_object(heap, types, obj);
+            let k = heap.segment_of(obj);
+            let mt = mark::unmarked(heap.word_at(k, obj));
+            known = self.follow(heap, types, k, obj, mt, known);
         }
     }
 
     // Marks the object at `obj`, in segment `k`, where it is condemned, and lets it wait where it wasn't marked.
-    #[inline]
+    #[inline(always)]
     fn mark(&mut self, heap: &mut Heap, k: usize, obj: u64)
         requires word { HasWord heap.old.memories obj }
         requires segment { k ≡ memory_index heap.old.memories obj }
         ensures heap { heap.new ≡ with_mark heap.old self.old.oldest obj }
         ensures marker { self.new ≡ with_waiting heap.old self.old obj }
     {
-        if !self.is_condemned(heap, obj) {
-            return;
+        if self.is_condemned(heap, obj) {
+            self.mark_chosen(heap, k, obj);
         }
+    }
+
+    // The same for a condemned object.
+    #[inline(always)]
+    fn mark_chosen(&mut self, heap: &mut Heap, k: usize, obj: u64)
+        requires word { HasWord heap.old.memories obj }
+        requires segment { k ≡ memory_index heap.old.memories obj }
+        requires condemned { is_condemned_place heap.old self.old.oldest obj ≡ true }
+        ensures heap { heap.new ≡ with_mark heap.old self.old.oldest obj }
+        ensures marker { self.new ≡ with_waiting heap.old self.old obj }
+    {
         if self.stack.len() < self.stack.capacity() {
             self.mark_with_room(heap, k, obj);
         } else {
@@ -194,7 +243,7 @@ impl Marker {
 
     // The same for a condemned object, where the stack has room. It decides nothing: often whether an object is marked
     // already can't be foreseen.
-    #[inline]
+    #[inline(always)]
     fn mark_with_room(&mut self, heap: &mut Heap, k: usize, obj: u64)
         requires word { HasWord heap.old.memories obj }
         requires segment { k ≡ memory_index heap.old.memories obj }
@@ -229,7 +278,7 @@ impl Marker {
     }
 
     // Whether the object at `obj` is condemned.
-    #[inline]
+    #[inline(always)]
     fn is_condemned(&self, heap: &Heap, obj: u64) -> bool
         ensures { result ≡ is_condemned_place heap.now self.now.oldest obj }
     {

@@ -11,7 +11,7 @@ ghost use Rattle.clr_mark.specs.Ties as ties;
 ghost use Rattle.clr_mark.specs.Waiting.{IsGray};
 
 use crate::Marker;
-use crate::marker::Ahead;
+use crate::marker::{Ahead, RunKind};
 use clr_handles::Handles;
 use clr_heap::Heap;
 use clr_types::{Handle, Types};
@@ -31,9 +31,10 @@ impl Marker {
             ↔ Reach (LeadsTo types.now heap.old self.old.oldest)
             (λ y. Marked types.now heap.old y ⊎ IsCondemnedRoot roots.now heap.old self.old.oldest y) x }
     {
+        let mut known = RunKind::none();
         for &root in roots {
             if root != 0 {
-                self.root(heap, types, root);
+                known = self.follow_root(heap, types, root, known);
                 self.drain_if_full(heap, types);
             }
         }
@@ -56,9 +57,10 @@ impl Marker {
     {
         let low = self.lowest_condemned(heap);
         let mut ahead = Ahead::From(0);
+        let mut known = RunKind::none();
         while let Some(handle) = ahead.next(handles, low) {
             if is_root_handle(&handle) {
-                self.root(heap, types, handle.target);
+                known = self.follow_root(heap, types, handle.target, known);
                 self.drain_if_full(heap, types);
             }
         }

@@ -15,7 +15,7 @@ use super::Marker;
 use super::ahead::Ahead;
 use clr_handles::{Handles, MOST_HANDLES};
 use clr_heap::Heap;
-use clr_types::{Handle, Types};
+use clr_types::{Handle, Kind, Types};
 
 impl Marker {
     /// Marks all that the marked objects reach over condemned ones, by slots and by dependent handles: the second of
@@ -63,6 +63,9 @@ impl Marker {
         ensures fewer { result ≡ true → unmarked_count types.now heap.new < unmarked_count types.now heap.old }
         ensures followed { result ≡ false → AreTiesFollowed types.now heap.new handles.now self.old.oldest }
     {
+        if !handles.has_kind(Kind::Dependent) {
+            return false;
+        }
         let low = self.lowest_condemned(heap);
         let mut marked = false;
         while let Some(handle) = ahead.next(handles, low) {

@@ -1,13 +1,12 @@
 -- The contexts are given up, and what is alive is marked.
-use Rattle.std.proofs.Common.{◌↔◌, ◌⊎◌, ℕ, List, subst, sym}
-use Rattle.clr_model.specs.Reach.{Reach}
-use Rattle.clr_view.specs.Marks.{Marked}
-use Rattle.clr_mark.specs.Roots.{AreObjects}
-use Rattle.clr_mark.specs.Ties.{Draws, IsCondemnedStart}
+use Rattle.std.proofs.Common.{[], None, ap, ◌∙◌}
+use Rattle.clr_mark.specs.Ties.{Draws}
+use Rattle.clr_mark.specs.Waiting.{MarkerView}
 use Rattle.clr_collect.specs.Collecting.{world_with}
 use Rattle.clr_scan.specs.References.{IsNamedByOlder}
 use Rattle.clr_collect.proofs.ReachedMarks.{given_clear, given_closed, given_handles, given_locals, given_none}
 use Rattle.clr_collect.proofs.ReachedMarks.{given_parts, given_ready, reached_marked}
+use Rattle.clr_collect.proofs.SettledReady.{lowest_begun, marked_from_all, rest_stands}
 use Rattle.clr_collect.proofs.TablesKept.{tables_given_up}
 use Rattle.clr_collect.proofs.collecting.mark_alive.Goals as goal
 
@@ -36,7 +35,11 @@ mark_from-requires-clause-locals c =
 
 pub mark_from-requires-clause-ready : goal.mark_from-requires-clause-ready
 mark_from-requires-clause-ready c =
-    subst (AreObjects c.args.types.now c.give_up_all.new.heap) (sym c.ready-ready.ensures)
+    let mid = c.give_up_all.new.heap in
+    rest_stands c.args.types.now mid c.args.g c.lowest_condemned.result
+    (lowest_begun mid c.args.g c.lowest_condemned.result c.begin.new.self.oldest
+    (ap (λ (m : MarkerView). m.oldest) c.begin.ensures) c.lowest_condemned.ensures.below)
+    c.args.finals.now.ready c.ready_from-ready.result.now c.ready_from-ready.ensures
     (given_ready (world_with c.args.types.now c.args.heap.now c.args.locals.now c.args.handles.now c.args.finals.now)
     c.give_up_all.new.heap c.lawful.ensures c.requires.held c.requires.unmarked c.give_up_all.ensures.given
     c.requires.world)
@@ -64,8 +67,14 @@ returns-clause-alive c =
     c.give_up_all.new.heap c.lawful.ensures c.requires.held c.requires.unmarked c.give_up_all.ensures.given
     c.mark_from.new.heap c.lawful-2.ensures c.mark_from.ensures.words c.lawful-3.ensures
     c.mark_from.ensures.gray.closed.held c.args.g
-    (subst (λ (rs : List ℕ). (x : ℕ) → Marked c.args.types.now c.mark_from.new.heap x
-    ↔ Reach (Draws c.args.types.now c.give_up_all.new.heap c.args.handles.now c.args.g)
-    (λ y. IsCondemnedStart c.args.types.now c.give_up_all.new.heap c.args.handles.now c.args.g c.args.locals.now rs y
-    ⊎ IsNamedByOlder c.args.types.now c.give_up_all.new.heap c.args.g y) x) c.ready-ready.ensures
-    c.mark_from.ensures.marked)
+    (marked_from_all c.args.types.now c.give_up_all.new.heap c.args.g c.lowest_condemned.result
+    (lowest_begun c.give_up_all.new.heap c.args.g c.lowest_condemned.result c.begin.new.self.oldest
+    (ap (λ (m : MarkerView). m.oldest) c.begin.ensures) c.lowest_condemned.ensures.below)
+    c.args.finals.now.ready c.ready_from-ready.result.now c.ready_from-ready.ensures c.args.handles.now
+    c.args.locals.now c.mark_from.new.heap (Draws c.args.types.now c.give_up_all.new.heap c.args.handles.now c.args.g)
+    (IsNamedByOlder c.args.types.now c.give_up_all.new.heap c.args.g) c.mark_from.ensures.marked)
+
+pub returns-clause-marker : goal.returns-clause-marker
+returns-clause-marker c =
+    c.mark_from.ensures.marker
+    ∙ ap (λ (m : MarkerView). record m { stack = []; range = None; oldest = c.args.g }) c.begin.ensures

@@ -3,9 +3,9 @@ use Rattle.std.proofs.Common.{◌≡◌, ◌-◌, ℕ, List, rules, ap, ◌∙�
 use Rattle.std.proofs.lemmas.List.{take_rest}
 use Rattle.clr_types.specs.Rising.{IsIn}
 use Rattle.clr_mark.proofs.Rooting.{at_in}
-use Rattle.clr_collect.specs.Collecting.{HasUnflagged}
+use Rattle.clr_collect.specs.Collecting.{AllLeft, HasUnflagged}
 use Rattle.clr_collect.proofs.ClearedFlags.{behind-among}
-use Rattle.clr_collect.proofs.EntryPasses.{all_unflagged, both_judged, flat_stand, mid_stand}
+use Rattle.clr_collect.proofs.EntryPasses.{all_left, all_unflagged, both_judged, flat_stand, mid_stand}
 use Rattle.clr_collect.proofs.judging.judge_entries.Goals as goal
 
 pub dead_from-requires : goal.dead_from-requires
@@ -19,8 +19,8 @@ dead_from-requires c = λ i inside high κs p e a l. (
 looked : (told entries : List ℕ) (n : ℕ) → told ≡ entries → take (length told - n) (drop n told) ≡ drop n entries
 looked told entries n same = take_rest told n ∙ ap (drop n) same
 
-pub clear_flags-requires-clause-places : goal.clear_flags-requires-clause-places
-clear_flags-requires-clause-places c = λ x i.
+pub clear_flags-any_dead-requires-clause-places : goal.clear_flags-any_dead-requires-clause-places
+clear_flags-any_dead-requires-clause-places c = λ x i.
     mid_stand c.args.types.now c.args.heap.now c.lawful.ensures c.requires.held c.args.marker.now.oldest
     c.lowest_condemned-low.result c.lowest_condemned-low.ensures.below c.args.finals.now c.requires.entries _
     c.dead_from.new.self c.dead_from.ensures.places (λ x v answer. search rules) x
@@ -28,36 +28,45 @@ clear_flags-requires-clause-places c = λ x i.
     (subst (IsIn x) (looked c.entries.result.now c.dead_from.new.self.entries c.settled-first.result
     c.entries.ensures) i))
 
-pub dead_from-requires-2 : goal.dead_from-requires-2
-dead_from-requires-2 c = λ i inside high κs p e a l. (
-  c.clear_flags.ensures.held,
-  flat_stand c.args.types.now c.args.heap.now c.lawful.ensures c.requires.held c.args.marker.now.oldest
-      c.lowest_condemned-low.result c.lowest_condemned-low.ensures.below c.args.finals.now c.requires.entries _
-      c.dead_from.new.self c.dead_from.ensures.places (λ x v answer. search rules) c.settled-first.result
-      c.settled-first.ensures.within c.settled-first.ensures.below c.clear_flags.new.heap
-      (subst (HasUnflagged c.args.types.now c.args.heap.now c.clear_flags.new.heap c.args.marker.now.oldest)
-      (looked c.entries.result.now c.dead_from.new.self.entries c.settled-first.result c.entries.ensures)
-      c.clear_flags.ensures) (slice_index c.dead_from.new.self.entries i)
-      (at_in c.dead_from.new.self.entries i 0 inside),
-)
+pub drop_entries-requires-clause-stand : goal.drop_entries-requires-clause-stand
+drop_entries-requires-clause-stand c =
+    flat_stand c.args.types.now c.args.heap.now c.lawful.ensures c.requires.held c.args.marker.now.oldest
+    c.lowest_condemned-low.result c.lowest_condemned-low.ensures.below c.args.finals.now c.requires.entries _
+    c.dead_from.new.self c.dead_from.ensures.places (λ x v answer. search rules) c.settled-first.result
+    c.settled-first.ensures.within c.settled-first.ensures.below c.clear_flags-any_dead.new.heap
+    (subst (HasUnflagged c.args.types.now c.args.heap.now c.clear_flags-any_dead.new.heap c.args.marker.now.oldest)
+    (looked c.entries.result.now c.dead_from.new.self.entries c.settled-first.result c.entries.ensures)
+    c.clear_flags-any_dead.ensures.unflagged)
+
+pub drop_entries-requires-clause-left : goal.drop_entries-requires-clause-left
+drop_entries-requires-clause-left c = λ none.
+    let same = looked c.entries.result.now c.dead_from.new.self.entries c.settled-first.result c.entries.ensures in
+    all_left c.args.types.now c.args.heap.now c.lawful.ensures c.requires.held c.args.marker.now.oldest
+    c.lowest_condemned-low.result c.lowest_condemned-low.ensures.below c.args.finals.now c.requires.entries _
+    c.dead_from.new.self c.dead_from.ensures.places (λ x v answer. search rules) c.settled-first.result
+    c.settled-first.ensures.within c.settled-first.ensures.below c.clear_flags-any_dead.new.heap
+    (subst (HasUnflagged c.args.types.now c.args.heap.now c.clear_flags-any_dead.new.heap c.args.marker.now.oldest)
+    same c.clear_flags-any_dead.ensures.unflagged)
+    (subst (AllLeft c.args.types.now c.args.heap.now c.args.marker.now.oldest) same
+    (c.clear_flags-any_dead.ensures.left none))
 
 pub returns-clause-judged : goal.returns-clause-judged
 returns-clause-judged c =
     both_judged c.args.types.now c.args.heap.now c.lawful.ensures c.requires.held c.args.marker.now.oldest
     c.lowest_condemned-low.result c.lowest_condemned-low.ensures.below c.args.finals.now c.requires.entries _
     c.dead_from.new.self c.dead_from.ensures.places (λ x v answer. search rules) c.settled-first.result
-    c.settled-first.ensures.within c.settled-first.ensures.below c.clear_flags.new.heap
-    (subst (HasUnflagged c.args.types.now c.args.heap.now c.clear_flags.new.heap c.args.marker.now.oldest)
+    c.settled-first.ensures.within c.settled-first.ensures.below c.clear_flags-any_dead.new.heap
+    (subst (HasUnflagged c.args.types.now c.args.heap.now c.clear_flags-any_dead.new.heap c.args.marker.now.oldest)
     (looked c.entries.result.now c.dead_from.new.self.entries c.settled-first.result c.entries.ensures)
-    c.clear_flags.ensures) _ c.dead_from-2.new.self c.dead_from-2.ensures.places
-    (λ x v answer. search rules)
+    c.clear_flags-any_dead.ensures.unflagged) c.drop_entries.new.finals c.drop_entries.ensures.entries
+    c.drop_entries.ensures.ready
 
 pub returns-clause-unflagged : goal.returns-clause-unflagged
 returns-clause-unflagged c =
     all_unflagged c.args.types.now c.args.heap.now c.lawful.ensures c.requires.held c.args.marker.now.oldest
     c.lowest_condemned-low.result c.lowest_condemned-low.ensures.below c.args.finals.now c.requires.entries _
     c.dead_from.new.self c.dead_from.ensures.places (λ x v answer. search rules) c.settled-first.result
-    c.settled-first.ensures.within c.settled-first.ensures.below c.clear_flags.new.heap
-    (subst (HasUnflagged c.args.types.now c.args.heap.now c.clear_flags.new.heap c.args.marker.now.oldest)
+    c.settled-first.ensures.within c.settled-first.ensures.below c.clear_flags-any_dead.new.heap
+    (subst (HasUnflagged c.args.types.now c.args.heap.now c.clear_flags-any_dead.new.heap c.args.marker.now.oldest)
     (looked c.entries.result.now c.dead_from.new.self.entries c.settled-first.result c.entries.ensures)
-    c.clear_flags.ensures)
+    c.clear_flags-any_dead.ensures.unflagged)

@@ -12,7 +12,7 @@ returns-then-top-low g c =
       cleared =
           chunk-below (IsCleared c.args.kind post c.args.low) c.args.rows.now c.args.chunk c.args.top c.args.low fits
           c.requires.top c.if-top-low.true (cleared-below c.args.kind post c.args.low);
-      pinned = refl;
+      counts = λ kind. refl;
     }
 
 pub loop-h-init : goal.loop-h-init
@@ -20,7 +20,7 @@ loop-h-init g c =
     let post = λ (place : ℕ) (answer : Bool). goal.F-post g c.args.kept.now place answer in
     record {
       cleared = within-none (IsCleared c.args.kind post c.args.low) c.args.rows.now (64 * c.args.chunk);
-      pinned = refl;
+      counts = λ kind. refl;
     }
 
 pub clear_row-requires : goal.clear_row-requires
@@ -37,5 +37,5 @@ loop-h-preserved g c =
       cleared =
           within-more (IsCleared c.args.kind post c.args.low) c.args.rows.now c.loop-h.rows c.clear_row.new.rows
           (64 * c.args.chunk) c.loop-h.h c.loop-h.auto.h c.loop-h.invariant.cleared c.clear_row.ensures.cleared;
-      pinned = c.clear_row.ensures.pinned ∙ c.loop-h.invariant.pinned;
+      counts = λ kind. c.clear_row.ensures.counts kind ∙ c.loop-h.invariant.counts kind;
     }

@@ -18,7 +18,7 @@ loop-h-init g c =
     let post = λ (place moved : ℕ). goal.F-post g c.args.to.now place moved in
     record {
       moved = within-none (IsFollowed c.args.spares post c.args.low) c.args.rows.now (64 * c.args.chunk);
-      pinned = refl;
+      counts = λ kind. refl;
       top = top-none c.args.rows.now (64 * c.args.chunk);
     }
 
@@ -37,7 +37,7 @@ loop-h-preserved g c =
       moved =
           within-more (IsFollowed c.args.spares post c.args.low) c.args.rows.now c.loop-h.rows step.new.rows
           (64 * c.args.chunk) c.loop-h.h c.loop-h.auto.h c.loop-h.invariant.moved step.ensures.moved;
-      pinned = step.ensures.pinned ∙ c.loop-h.invariant.pinned;
+      counts = λ kind. step.ensures.counts kind ∙ c.loop-h.invariant.counts kind;
       top =
           let top : c.max-new_top.result ≡ max c.loop-h.new_top step.result = search rules in
           subst (IsTopBetween step.new.rows (64 * c.args.chunk) (c.loop-h.h + 1)) (sym top)

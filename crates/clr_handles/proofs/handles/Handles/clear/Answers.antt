@@ -1,7 +1,7 @@
-use Rattle.std.proofs.Common.{◌∙◌, ◌*◌, ◌+◌, ℕ, Bool, arith, ap, vec_len}
+use Rattle.std.proofs.Common.{◌∙◌, ◌*◌, ◌+◌, ℕ, Bool, arith, ap, sym, vec_len}
 use Rattle.clr_handles.specs.Places.{IsCleared}
 use Rattle.clr_handles.proofs.ChangedRows.{within-chunk}
-use Rattle.clr_handles.proofs.ClearedRows.{tops-cleared}
+use Rattle.clr_handles.proofs.ClearedRows.{cleared-none, tops-cleared}
 use Rattle.clr_handles.proofs.TopSteps.{top-read}
 use Rattle.clr_handles.proofs.handles.Handles.clear.Goals as goal
 
@@ -30,5 +30,10 @@ loop-chunk-preserved g c =
       tops =
           tops-cleared c.args.kind post c.args.low before.rows c.clear_chunk.new.rows before.tops.items (64 * n)
           (64 * n + 64) c.loop-chunk.invariant.tops c.clear_chunk.ensures.cleared;
-      pinned = c.clear_chunk.ensures.pinned ∙ c.loop-chunk.invariant.pinned;
+      counts = λ kind. c.loop-chunk.invariant.counts kind ∙ sym (c.clear_chunk.ensures.counts kind);
     }
+
+pub returns-then-not-has_kind : goal.returns-then-not-has_kind
+returns-then-not-has_kind g c =
+    let post = λ (place : ℕ) (answer : Bool). goal.F-post g c.args.kept.now place answer in
+    cleared-none c.args.kind post c.args.low c.args.self.now (c.has_kind.ensures c.if-not-has_kind.true)

@@ -36,5 +36,5 @@ loop-chunk-preserved g c =
           tops-moved R before.rows c.follow_in_chunk.new.rows before.tops.items c.loop-chunk.chunk
           c.follow_in_chunk.result c.loop-chunk.invariant.tops within c.follow_in_chunk.ensures.moved
           c.follow_in_chunk.ensures.top;
-      pinned = c.follow_in_chunk.ensures.pinned ∙ c.loop-chunk.invariant.pinned;
+      counts = λ kind. c.loop-chunk.invariant.counts kind ∙ sym (c.follow_in_chunk.ensures.counts kind);
     }

@@ -1,7 +1,22 @@
-use Rattle.std.proofs.Common.{sym, ◌∙◌}
+use Rattle.std.proofs.Common.{◌⊎◌, inl, sym, ◌∙◌}
+use Rattle.clr_view.specs.Marks.{Marked}
+use Rattle.clr_mark.specs.Ties.{Draws, IsTiedToOld}
+use Rattle.clr_mark.proofs.Graying.{reached-refl}
 use Rattle.clr_mark.proofs.TiedMarks.{handles_on}
-use Rattle.clr_mark.proofs.Tying.{tying_due, tying_ends, tying_not_due, tying_starts}
+use Rattle.clr_mark.proofs.Tying.{no_ties, tying_due, tying_ends, tying_not_due, tying_starts}
 use Rattle.clr_mark.proofs.marker.Marker.follow_ties.Goals as goal
+
+pub returns-then-not-has_kind-clause-reached : goal.returns-then-not-has_kind-clause-reached
+returns-then-not-has_kind-clause-reached c =
+    reached-refl c.args.types.now (Draws c.args.types.now c.args.heap.now c.args.handles.now c.args.self.now.oldest)
+    (λ y. Marked c.args.types.now c.args.heap.now y
+    ⊎ IsTiedToOld c.args.types.now c.args.heap.now c.args.handles.now c.args.self.now.oldest y) c.args.heap.now
+    (λ x marked. inl marked)
+
+pub returns-then-not-has_kind-clause-followed : goal.returns-then-not-has_kind-clause-followed
+returns-then-not-has_kind-clause-followed c = λ done.
+    no_ties c.args.types.now c.args.heap.now c.args.handles.now c.args.self.now.oldest
+    (c.has_kind.ensures c.if-not-has_kind.true)
 
 pub loop-handle-init : goal.loop-handle-init
 loop-handle-init c =

@@ -1,0 +1,95 @@
+// The references of objects that are like one before: most objects that are followed in a row are of few types.
+ghost use Rattle.std.specs.Prelude.{◌≡◌, ℕ, List};
+ghost use Rattle.clr_types.specs.Rising.{IsIn};
+ghost use Rattle.clr_types.specs.Types.{TypeRow};
+ghost use Rattle.clr_heap.specs.Memories.{memory_index};
+ghost use Rattle.clr_heap.specs.Parts.{unmarked};
+ghost use Rattle.clr_heap.specs.View.{word_of};
+ghost use Rattle.clr_view.specs.Marks.{Marked};
+ghost use Rattle.clr_mark.specs.Kinds.{IsRunKind};
+ghost use Rattle.clr_mark.specs.Marks.{IsClosed, LeadsTo};
+ghost use Rattle.clr_mark.specs.Markings.{HasGrayed};
+
+use super::Marker;
+use super::scan::head_at;
+use super::wide::FEW_SLOTS;
+use clr_heap::Heap;
+use clr_types::{ReferenceRun, Types, mark};
+
+// What is known of the objects of one type without a length, whose references are one run of few.
+#[derive(Clone, Copy)]
+pub(crate) struct RunKind {
+    // Their method table word without a mark.
+    pub mt: u64,
+    pub run: ReferenceRun,
+}
+
+impl RunKind {
+    // Nothing is known: a word without a mark isn't odd.
+    #[inline(always)]
+    pub(crate) fn none() -> RunKind
+        ensures { (rows : List TypeRow) → IsRunKind rows result }
+    {
+        RunKind {
+            mt: 1,
+            run: ReferenceRun {
+                offset: 0,
+                count: 0,
+            },
+        }
+    }
+}
+
+impl Marker {
+    // Marks what the slots of the object at `obj`, in segment `k`, name. `mt` is its method table word without a mark,
+    // and `known` is what is known of objects before it. It answers what is known then.
+    #[inline(always)]
+    pub(super) fn follow(
+        &mut self,
+        heap: &mut Heap,
+        types: &Types,
+        k: usize,
+        obj: u64,
+        mt: u64,
+        known: RunKind,
+    ) -> RunKind
+        requires closed { IsClosed types.now heap.old }
+        requires marked { Marked types.now heap.old obj }
+        requires stacked { (x : ℕ) → IsIn x self.old.stack → Marked types.now heap.old x }
+        requires segment { k ≡ memory_index heap.old.memories obj }
+        requires word { mt ≡ unmarked (word_of heap.old obj) }
+        requires known { IsRunKind types.now known }
+        ensures grayed { HasGrayed types.now heap.old heap.new self.old self.new }
+        ensures followed { (y : ℕ) → LeadsTo types.now heap.old self.old.oldest obj y → Marked types.now heap.new y }
+        ensures known { IsRunKind types.now result }
+    {
+        if mt == known.mt {
+            self.scan_run(heap, types, k, obj, known.run);
+            return known;
+        }
+        let found = kind_behind(heap, types, k, obj, mt, known);
+        self.scan_object(heap, types, obj);
+        found
+    }
+}
+
+// What is known behind the object at `obj`, in segment `k`, whose method table word is `mt` without a mark: its kind,
+// where it is of one, else what was known.
+#[inline(always)]
+fn kind_behind(heap: &Heap, types: &Types, k: usize, obj: u64, mt: u64, known: RunKind) -> RunKind
+    requires closed { IsClosed types.now heap.now }
+    requires marked { Marked types.now heap.now obj }
+    requires segment { k ≡ memory_index heap.now.memories obj }
+    requires word { mt ≡ unmarked (word_of heap.now obj) }
+    requires known { IsRunKind types.now known }
+    ensures { IsRunKind types.now result }
+{
+    let (type_id, _) = head_at(heap, types, k, obj);
+    if types.has_length(type_id) {
+        return known;
+    }
+    match types.reference_run(type_id, 0) {
+        Some(run) if run.count <= FEW_SLOTS => RunKind { mt, run },
+        _ => known,
+    }
+}

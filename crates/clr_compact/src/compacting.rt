@@ -39,14 +39,16 @@ pub fn compact(
     requires least { g ≤ 2 }
     requires plan { CanCompact types.now heap.old bricks.old pins.old.entries g planned.now }
     ensures compacted { (view : HeapView) (vs : List Move)
-        → HoldsPlan types.now view heap.old bricks.old pins.old.entries (Generations g) vs planned.now.start1 planned.now.start0
+        → HoldsPlan types.now view heap.old bricks.old pins.old.entries (Generations g) vs planned.now.start1
+        planned.now.start0
         → HasCompacted types.now view heap.new (Generations g) vs }
     ensures start1 { heap.new.start1 ≡ planned.now.start1 }
     ensures start0 { heap.new.start0 ≡ planned.now.start0 }
     ensures empty { pins.new.entries ≡ [] }
     ensures spare { pins.new.spare ≡ pins.old.spare + length pins.old.entries }
     ensures slides { (view : HeapView) (vs : List Move)
-        → HoldsPlan types.now view heap.old bricks.old pins.old.entries (Generations g) vs planned.now.start1 planned.now.start0
+        → HoldsPlan types.now view heap.old bricks.old pins.old.entries (Generations g) vs planned.now.start1
+        planned.now.start0
         → slides.new ≡ min (2 ^ 64 - 1) (slides.old + (1 + moved_bytes vs)) }
     ensures brick_law { BrickLaw types.now (frame heap.new) (objects_in types.now heap.new) (entry_at bricks.new) }
     ensures spans { spans bricks.new ≡ spans bricks.old }

@@ -65,7 +65,8 @@ pub(crate) fn enter_parts(
         → IsYoungPart heap.old e part.start part.end planned.now }
     ensures shape { SameShape heap.old heap.new }
     ensures words { (was : HeapView) → HasMovedBounds g part.start was heap.old
-        → Rewrites (cleared (part_items types.now was (Generations g) (length was.segments))) (word_of was) (word_of heap.new) }
+        → Rewrites (cleared (part_items types.now was (Generations g) (length was.segments))) (word_of was)
+        (word_of heap.new) }
     ensures parts { (final : HeapView)
         → CanEnterParts types.now heap.old final bricks.old g part.start part.end planned.now → (t : ℕ)
         → t < length heap.old.segments → takes (Generations g) (segment_at heap.old t) ≡ true

@@ -1,12 +1,10 @@
 -- A place in a plug: its part, the plug that is nearest to it, and where it goes.
 use Rattle.std.proofs.Common.{◌≡◌, inl, inr, ℕ, ◌+◌, ◌-◌, ◌<◌, ◌≤◌, true, List, [], ◌∷◌, ◌++◌, length, refl}
 use Rattle.std.proofs.Common.{ap, sym, ◌∙◌, arith}
-use Rattle.std.specs.Prelude.{unsigned_abs}
 use Rattle.std.proofs.lemmas.Bool.{cases_lt}
-use Rattle.clr_types.specs.Rising.{first, IsIn, IsRisingBy, later}
+use Rattle.clr_types.specs.Rising.{first, IsIn, later}
 use Rattle.clr_types.specs.Types.{TypeRow}
-use Rattle.clr_types.proofs.ChangedLists.{all-unmap, IsIn-map}
-use Rattle.clr_types.proofs.ListMembers.{rising_same}
+use Rattle.clr_types.proofs.ChangedLists.{IsIn-map}
 use Rattle.clr_types.proofs.RisingLists.{in_cons}
 use Rattle.clr_heap.specs.View.{first_of, HeapView, IsHeap, last_of, SameShape, segment_at}
 use Rattle.clr_heap.proofs.Framing.{lawful_at}
@@ -15,13 +13,10 @@ use Rattle.clr_model.specs.Compaction.{Move, moved_by}
 use Rattle.clr_model.proofs.MovedPlaces.{moved-is}
 use Rattle.clr_pinq.specs.declared.entry.PinEntry.{PinEntry}
 use Rattle.clr_plugs.specs.BrickEntries.{BricksView}
-use Rattle.clr_plugs.specs.Plans.{back_number, PlannedPart, PlannedPlug, plug_starts}
-use Rattle.clr_plugs.specs.Searches.{IsNearestPlug}
-use Rattle.clr_plugs.specs.declared.search.Plug.{Plug}
-use Rattle.clr_plugs.proofs.Starts.{spaced-rises}
+use Rattle.clr_plugs.specs.Plans.{back_number, PlannedPart, PlannedPlug}
 use Rattle.clr_moves.proofs.PlugMoves.{in_moves, IsPlugMove, number_of, number_plug, plug_number}
 use Rattle.clr_moves.proofs.Reading.{back_is}
-use Rattle.clr_moves.specs.Going.{IsNearPlug}
+use Rattle.clr_moves.specs.Going.{IsNearest, IsNearPlug}
 use Rattle.clr_moves.specs.Moves.{AreInLine, IsInPart, IsInPlug, move_at, part_of, plug_stop, room_end, takes}
 use Rattle.clr_moves.specs.Overlaid.{HoldsPlan, MayGo}
 use Rattle.clr_moves.specs.Told.{end_before, IsPartPlanned, moves_of, TellMoves}
@@ -205,20 +200,13 @@ module _ (rows : List TypeRow) (h : HeapView) (bricks : BricksView) (g : Parts) 
 
   module _ (line : AreInLine vs) (k place : ℕ) (i : IsInPlug vs k place) where
     -- the nearest plug at a place of a plug or below it is this plug
-    pub near_plug : IsNearPlug h bricks place (back_number (plug_of k i.within).plug.distance)
-    near_plug =
+    pub nearest_here : IsNearest (tell.parts (plug_of k i.within).segment).plugs place (plug_of k i.within).plug
+    nearest_here =
         let m = plug_of k i.within in
-        let a = part_at k place i in
-        let plan = tell.each m.segment m.within m.takes in
         let at = m.is.start in
         let low = i.low in
         let high = i.high in
         record {
-          part = tell.parts m.segment;
-          planned = plan.planned;
-          low = a.low;
-          high = a.high;
-          plug = m.plug;
           among = m.among;
           below = omega (arith, at, low);
           nearest = λ p j under.
@@ -235,6 +223,20 @@ module _ (rows : List TypeRow) (h : HeapView) (bricks : BricksView) (g : Parts) 
                       omega (arith, both, start, at)
                 ]
               ]);
+        }
+
+    pub near_plug : IsNearPlug h bricks place (back_number (plug_of k i.within).plug.distance)
+    near_plug =
+        let m = plug_of k i.within in
+        let a = part_at k place i in
+        let plan = tell.each m.segment m.within m.takes in
+        record {
+          part = tell.parts m.segment;
+          planned = plan.planned;
+          low = a.low;
+          high = a.high;
+          plug = m.plug;
+          near = nearest_here;
           goes = plan.down m.plug m.among;
           back_is = refl;
         }
@@ -250,32 +252,6 @@ module _ (rows : List TypeRow) (h : HeapView) (bricks : BricksView) (g : Parts) 
         let to = m.is.to in
         let moved = moved_in_plug vs line k place i in
         omega (arith, moved, start, to, within, low)
-
--- ---- the plug that is found
-
-rising_plugs : (plugs : List PlannedPlug) → IsRisingBy (λ x. x) (plug_starts plugs) → IsRisingBy (λ p. p.start) plugs
-rising_plugs [] r = tt
-rising_plugs (p ∷ ps) r =
-    (all-unmap (λ (q : PlannedPlug). q.start) (λ x. p.start < x) ps r.0, rising_plugs ps r.1)
-
--- the nearest plug is the one that is found
-pub found_near : (h : HeapView) (bricks : BricksView) (place back : ℕ) (n : IsNearPlug h bricks place back)
-    (found : Plug)
-    → IsNearestPlug n.part.plugs place found
-    → (unsigned_abs found.distance ≡ back) × (back ≤ place)
-found_near h bricks place back n found f =
-    let rises = rising_plugs n.part.plugs (spaced-rises n.part.low (plug_starts n.part.plugs) n.planned.lies.spaced) in
-    let one = n.nearest f.plug f.among f.not_above in
-    let other = f.greatest n.plug n.among n.below in
-    let same = rising_same (λ (p : PlannedPlug). p.start) n.part.plugs f.plug n.plug rises f.among n.among
-    (omega (arith, one, other)) in
-    let goes = back_is n.plug n.goes in
-    let within = goes.1 in
-    let below = n.below in
-    let is = n.back_is in (
-      ap unsigned_abs (f.distance ∙ ap (λ (p : PlannedPlug). p.distance) same) ∙ goes.0 ∙ sym is,
-      omega (arith, within, below, is),
-    )
 
 -- ---- in the heap and in the view
 

@@ -1,17 +1,18 @@
 -- The way down a tree to the last plug that doesn't start above a place.
-use Rattle.std.proofs.Common.{◌≡◌, ◌≢◌, inl, inr, ℕ, ◌+◌, ◌-◌, ◌*◌, ◌^◌, ◌<◌, ◌≤◌, List, [], ◌∷◌, ◌++◌, length, refl}
+use Rattle.std.proofs.Common.{◌⊎◌, ◌≡◌, ◌≢◌, inl, inr, ℕ, ◌+◌, ◌-◌, ◌*◌, ◌<◌, ◌≤◌, List, [], ◌∷◌, ◌++◌, length}
+use Rattle.std.proofs.Common.{refl}
 use Rattle.std.proofs.Common.{ap, sym, ◌∙◌, subst, arith}
 use Rattle.std.proofs.lemmas.Bool.{cases_Bool, leb-true, le-leb}
 use Rattle.std.proofs.Common.{leb}
 use Rattle.std.specs.List.{AllByRecursion}
 use Rattle.clr_types.specs.Rising.{first, IsIn, IsRisingBy, later}
 use Rattle.clr_types.proofs.RisingLists.{all_at, in_cons}
-use Rattle.clr_types.proofs.ListMembers.{append_right}
+use Rattle.clr_types.proofs.ListMembers.{append_right, in_append}
 use Rattle.clr_types.proofs.ChangedLists.{append_left}
 use Rattle.clr_heap.specs.View.{HeapView, word_of}
 use Rattle.clr_plugs.specs.Info.{left_of, right_of}
 use Rattle.clr_plugs.specs.Trees.{in_order, IsBrickTree, IsWithinDigits, leaf, levels, node, root_of, Stands, Tree}
-use Rattle.clr_plugs.specs.Searches.{CanFindIn, HasPlugWords, nearest}
+use Rattle.clr_plugs.specs.Searches.{CanFindIn, HasPlugWords, nearest, NoneBetween}
 
 -- the words tell one tree from a root
 pub one_tree : (word : ℕ → ℕ) (base : ℕ) (t u : Tree) → Stands word base t → Stands word base u
@@ -77,37 +78,39 @@ nearest-left (x ∷ xs) p ys a other high = elim (cases_Bool (leb x a)) [
 -- ---- the loop
 
 -- From the root the search has come to `at`: what is left to look at is a tree between the best place so far and
--- `above`.
-pub record IsDescent (h : HeapView) (k brick from a found above at before now : ℕ) : Type 0 where
+-- `above`. All other places of the whole tree stand at a or below it, or at `above` or over it.
+pub record IsDescent (h : HeapView) (k brick from a end found above at before now : ℕ) : Type 0 where
   pub tree : Tree
   pub root : at ≡ root_of (brick * 4096) tree
   pub stands : Stands (word_of h) (brick * 4096) tree
   pub rising : IsRisingBy (λ x. x) (in_order tree)
   pub words : (x : ℕ) → IsIn x (in_order tree) → HasPlugWords h k x
   pub inside : (x : ℕ) → IsIn x (in_order tree) → (found < x) × (x < above)
-  pub limit : above ≤ brick * 4096 + 4096
-  pub fits : brick * 4096 + 4096 < 2 ^ 64
+  pub limit : above ≤ end
+  pub past : a < end → a < above
+  pub passed : (t : Tree) → Stands (word_of h) (brick * 4096) t → from ≡ root_of (brick * 4096) t
+      → (x : ℕ) → IsIn x (in_order t) → IsIn x (in_order tree) ⊎ ((x ≤ a) ⊎ (above ≤ x))
   pub answer : (t : Tree) → Stands (word_of h) (brick * 4096) t → from ≡ root_of (brick * 4096) t
       → nearest (in_order tree) a found ≡ nearest (in_order t) a 0
   pub steps : (t : Tree) → Stands (word_of h) (brick * 4096) t → from ≡ root_of (brick * 4096) t
       → now + levels tree ≤ before + levels t
 
 -- the search stands at a plug, and can go on to either side
-pub record IsAtPlug (h : HeapView) (k brick from a found above at before now : ℕ) : Type 0 where
+pub record IsAtPlug (h : HeapView) (k brick from a end found above at before now : ℕ) : Type 0 where
   pub plug : ℕ
   pub place : brick * 4096 + (at - 1) ≡ plug
   pub low : brick * 4096 ≤ plug
   pub high : plug < above
   pub better : found < plug
-  pub limit : above ≤ brick * 4096 + 4096
-  pub fits : brick * 4096 + 4096 < 2 ^ 64
+  pub limit : above ≤ end
   pub words : HasPlugWords h k plug
-  pub right : plug ≤ a → IsDescent h k brick from a plug above (right_of (word_of h) plug) before (now + 1)
-  pub left : a < plug → IsDescent h k brick from a found plug (left_of (word_of h) plug) before (now + 1)
+  pub right : plug ≤ a → IsDescent h k brick from a end plug above (right_of (word_of h) plug) before (now + 1)
+  pub left : a < plug → IsDescent h k brick from a end found plug (left_of (word_of h) plug) before (now + 1)
 
-module _ (h : HeapView) (k brick from a before : ℕ) where
-  pub begin_descent : CanFindIn h k brick from → IsDescent h k brick from a 0 (brick * 4096 + 4096) from before before
-  begin_descent can =
+module _ (h : HeapView) (k brick from a end before : ℕ) where
+  pub begin_descent : CanFindIn h k brick from → brick * 4096 + 4096 ≤ end
+      → IsDescent h k brick from a end 0 end from before before
+  begin_descent can all =
       let t = can.tree in
       record {
         tree = t.tree;
@@ -121,9 +124,12 @@ module _ (h : HeapView) (k brick from a before : ℕ) where
             let b = can.inside x j in
             let w = can.words x j in
             let above = w.above in
-            (omega (arith, above), omega (arith, b.1));
+            (omega (arith, above), omega (arith, b.1, all));
         limit = omega arith;
-        fits = can.fits;
+        past = λ l. l;
+        passed = λ u s e x i. inl
+            (let same = one_tree (word_of h) (brick * 4096) t.tree u t.stands s (sym t.root ∙ e) in
+            let P : Tree → Type 0 = λ v. IsIn x (in_order v) in subst P (sym same) i);
         answer = λ u s e. ap (λ (v : Tree). nearest (in_order v) a 0)
             (one_tree (word_of h) (brick * 4096) t.tree u t.stands s (sym t.root ∙ e));
         steps = λ u s e. let same =
@@ -131,8 +137,8 @@ module _ (h : HeapView) (k brick from a before : ℕ) where
       }
 
   -- a step down from the root of a tree
-  step_down : (found above at now : ℕ) (tree : Tree) (d : IsDescent h k brick from a found above at before now)
-      → tree ≡ d.tree → at ≢ 0 → IsAtPlug h k brick from a found above at before now
+  step_down : (found above at now : ℕ) (tree : Tree) (d : IsDescent h k brick from a end found above at before now)
+      → tree ≡ d.tree → at ≢ 0 → IsAtPlug h k brick from a end found above at before now
   step_down found above at now leaf d e some = let z = ap (root_of (brick * 4096)) e in let root = d.root in
       absurd (some (omega (arith, root, z)))
   step_down found above at now (node l p r) d e some =
@@ -151,6 +157,11 @@ module _ (h : HeapView) (k brick from a before : ℕ) where
       let rights : (x : ℕ) → IsIn x (in_order r) → IsIn x (in_order d.tree) =
       λ x i. within x (append_right (in_order l) (later i)) in
       let b = d.inside p here in
+      let sides : (x : ℕ) → IsIn x (in_order d.tree) → (x < p) ⊎ IsIn x (p ∷ in_order r) =
+      λ x i. elim (in_append (in_order l) (subst (IsIn x) (sym order) i)) [
+        | inl under ↦ inl (split.below x under)
+        | inr beyond ↦ inr beyond
+      ] in
       let low = s.0 in
       let root : at ≡ p - base + 1 = d.root ∙ sym (ap (root_of base) e) in
       let deep = ap levels e in
@@ -161,7 +172,6 @@ module _ (h : HeapView) (k brick from a before : ℕ) where
         high = b.1;
         better = b.0;
         limit = d.limit;
-        fits = d.fits;
         words = d.words p here;
         right = λ le. record {
           tree = r;
@@ -171,7 +181,14 @@ module _ (h : HeapView) (k brick from a before : ℕ) where
           words = λ x i. d.words x (rights x i);
           inside = λ x i. (split.above x i, (d.inside x (rights x i)).1);
           limit = d.limit;
-          fits = d.fits;
+          past = d.past;
+          passed = λ t st et x i. elim (d.passed t st et x i) [
+            | inl left ↦ elim (sides x left) [
+              | inl under ↦ inr (inl (omega (arith, under, le)))
+              | inr beyond ↦ elim (in_cons beyond) [ inl same ↦ inr (inl (omega (arith, same, le))) | inr r ↦ inl r ]
+            ]
+            | inr out ↦ inr out
+          ];
           answer = λ t st et. sym (nearest-right (in_order l) p (in_order r) a found split.below le)
               ∙ ap (λ (xs : List ℕ). nearest xs a found) order ∙ d.answer t st et;
           steps = λ t st et. let old = d.steps t st et in omega (arith, old, deep);
@@ -184,58 +201,82 @@ module _ (h : HeapView) (k brick from a before : ℕ) where
           words = λ x i. d.words x (lefts x i);
           inside = λ x i. ((d.inside x (lefts x i)).0, split.below x i);
           limit = let lim = d.limit in omega (arith, lim, b.1);
-          fits = d.fits;
+          past = λ l. lt;
+          passed = λ t st et x i. elim (d.passed t st et x i) [
+            | inl left ↦ elim (in_append (in_order l) (subst (IsIn x) (sym order) left)) [
+              | inl under ↦ inl under
+              | inr beyond ↦ inr (inr (elim (in_cons beyond) [
+                | inl same ↦ omega (arith, same)
+                | inr r ↦ let up = split.above x r in omega (arith, up)
+              ]))
+            ]
+            | inr out ↦ inr (elim out [ inl low ↦ inl low | inr high ↦ inr (omega (arith, high, b.1)) ])
+          ];
           answer = λ t st et. sym (nearest-left (in_order l) p (in_order r) a found lt)
               ∙ ap (λ (xs : List ℕ). nearest xs a found) order ∙ d.answer t st et;
           steps = λ t st et. let old = d.steps t st et in omega (arith, old, deep);
         };
       }
 
-  pub at_plug : (found above at now : ℕ) → IsDescent h k brick from a found above at before now → at ≢ 0
-      → IsAtPlug h k brick from a found above at before now
+  pub at_plug : (found above at now : ℕ) → IsDescent h k brick from a end found above at before now → at ≢ 0
+      → IsAtPlug h k brick from a end found above at before now
   at_plug found above at now d some = step_down found above at now d.tree d refl some
 
   -- at the end nothing is left to look at
-  ended : (found above now : ℕ) (tree : Tree) (d : IsDescent h k brick from a found above 0 before now) → tree ≡ d.tree
+  ended : (found above now : ℕ) (tree : Tree) (d : IsDescent h k brick from a end found above 0 before now) → tree ≡
+      d.tree
       → (t : Tree) → Stands (word_of h) (brick * 4096) t → from ≡ root_of (brick * 4096) t
-      → (found ≡ nearest (in_order t) a 0) × (now ≤ before + levels t)
+      → (found ≡ nearest (in_order t) a 0) × (now ≤ before + levels t) × NoneBetween (in_order t) a above
   ended found above now leaf d e t s et =
-      let steps = d.steps t s et in
-      (ap (λ (u : Tree). nearest (in_order u) a found) e ∙ d.answer t s et, omega (arith, steps))
+      let steps = d.steps t s et in (
+        ap (λ (u : Tree). nearest (in_order u) a found) e ∙ d.answer t s et,
+        omega (arith, steps),
+        λ x i up. elim (d.passed t s et x i) [
+          | inl left ↦ elim (let P : Tree → Type 0 = λ u. IsIn x (in_order u) in subst P (sym e) left) [ ]
+          | inr out ↦ elim out [ inl low ↦ absurd (omega (arith, low, up)) | inr high ↦ high ]
+        ],
+      )
   ended found above now (node l p r) d e t s et = let root = d.root in let z = ap (root_of (brick * 4096)) e in
       absurd (omega (arith, root, z))
 
-  pub found_in_tree : (found above now : ℕ) → IsDescent h k brick from a found above 0 before now → (starts : List ℕ)
+  pub found_in_tree : (found above now : ℕ) → IsDescent h k brick from a end found above 0 before now →
+      (starts : List ℕ)
       → IsBrickTree (word_of h) brick from starts
-      → (found ≡ nearest starts a 0) × (digits : ℕ) × IsWithinDigits digits (length starts) × (now ≤ before + digits)
+      → (found ≡ nearest starts a 0) × NoneBetween starts a above
+      × (digits : ℕ) × IsWithinDigits digits (length starts) × (now ≤ before + digits)
   found_in_tree found above now d starts t =
-      let e = ended found above now d.tree d refl t.tree t.stands t.root in
-      (e.0 ∙ ap (λ (xs : List ℕ). nearest xs a 0) t.order, levels t.tree, t.balanced, e.1)
+      let e = ended found above now d.tree d refl t.tree t.stands t.root in (
+        e.0 ∙ ap (λ (xs : List ℕ). nearest xs a 0) t.order,
+        (let P : List ℕ → Type 0 = λ xs. NoneBetween xs a above in subst P t.order e.2),
+        levels t.tree,
+        t.balanced,
+        e.1,
+      )
 
-  pub go_right : (found above at now : ℕ) → IsDescent h k brick from a found above at before now → at ≢ 0
+  pub go_right : (found above at now : ℕ) → IsDescent h k brick from a end found above at before now → at ≢ 0
       → brick * 4096 + (at - 1) ≤ a → (children : ℕ × ℕ) (next : ℕ)
       → children ≡ (left_of (word_of h) (brick * 4096 + (at - 1)), right_of (word_of h) (brick * 4096 + (at - 1)))
-      → next ≡ now + 1 → IsDescent h k brick from a (brick * 4096 + (at - 1)) above children.1 before next
+      → next ≡ now + 1 → IsDescent h k brick from a end (brick * 4096 + (at - 1)) above children.1 before next
   go_right found above at now d some le children next both en =
       let p = at_plug found above at now d some in
       let place = p.place in
-      let P : ℕ → Type 0 = λ q. IsDescent h k brick from a q above (right_of (word_of h) q) before (now + 1) in
+      let P : ℕ → Type 0 = λ q. IsDescent h k brick from a end q above (right_of (word_of h) q) before (now + 1) in
       let there = subst P (sym place) (p.right (omega (arith, place))) in
       let Q : ℕ × ℕ → Type 0 =
-      λ c. IsDescent h k brick from a (brick * 4096 + (at - 1)) above c.1 before (now + 1) in
-      let R : ℕ → Type 0 = λ n. IsDescent h k brick from a (brick * 4096 + (at - 1)) above children.1 before n in
+      λ c. IsDescent h k brick from a end (brick * 4096 + (at - 1)) above c.1 before (now + 1) in
+      let R : ℕ → Type 0 = λ n. IsDescent h k brick from a end (brick * 4096 + (at - 1)) above children.1 before n in
       subst R (sym en) (subst Q (sym both) there)
 
-  pub go_left : (found above at now : ℕ) → IsDescent h k brick from a found above at before now → at ≢ 0
+  pub go_left : (found above at now : ℕ) → IsDescent h k brick from a end found above at before now → at ≢ 0
       → a < brick * 4096 + (at - 1) → (children : ℕ × ℕ) (next : ℕ)
       → children ≡ (left_of (word_of h) (brick * 4096 + (at - 1)), right_of (word_of h) (brick * 4096 + (at - 1)))
-      → next ≡ now + 1 → IsDescent h k brick from a found (brick * 4096 + (at - 1)) children.0 before next
+      → next ≡ now + 1 → IsDescent h k brick from a end found (brick * 4096 + (at - 1)) children.0 before next
   go_left found above at now d some lt children next both en =
       let p = at_plug found above at now d some in
       let place = p.place in
-      let P : ℕ → Type 0 = λ q. IsDescent h k brick from a found q (left_of (word_of h) q) before (now + 1) in
+      let P : ℕ → Type 0 = λ q. IsDescent h k brick from a end found q (left_of (word_of h) q) before (now + 1) in
       let there = subst P (sym place) (p.left (omega (arith, place))) in
       let Q : ℕ × ℕ → Type 0 =
-      λ c. IsDescent h k brick from a found (brick * 4096 + (at - 1)) c.0 before (now + 1) in
-      let R : ℕ → Type 0 = λ n. IsDescent h k brick from a found (brick * 4096 + (at - 1)) children.0 before n in
+      λ c. IsDescent h k brick from a end found (brick * 4096 + (at - 1)) c.0 before (now + 1) in
+      let R : ℕ → Type 0 = λ n. IsDescent h k brick from a end found (brick * 4096 + (at - 1)) children.0 before n in
       subst R (sym en) (subst Q (sym both) there)

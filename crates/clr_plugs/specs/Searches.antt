@@ -19,7 +19,16 @@ nearest (x ∷ xs) a other = if nat_le x a then nearest xs a x else other
 abbrev pub NoneStarts : List PlannedPlug → ℕ → Type 0
 NoneStarts plugs a = (p : PlannedPlug) → IsIn p plugs → a < p.start
 
--- what was found is the plug with the greatest start at the place or below it
+-- of these places none lies above a and below `stop`
+abbrev pub NoneBetween : List ℕ → ℕ → ℕ → Type 0
+NoneBetween starts a stop = (x : ℕ) → IsIn x starts → a < x → stop ≤ x
+
+-- `stop` lies in the brick or at its end, and above a place of the brick
+abbrev pub IsStopIn : ℕ → ℕ → ℕ → Type 0
+IsStopIn brick a stop = (stop ≤ brick * 4096 + 4096) × (a < brick * 4096 + 4096 → a < stop)
+
+-- What was found is the plug with the greatest start at the place or below it, and where the next plug of the place's
+-- brick starts, or the brick's end.
 pub record IsNearestPlug (plugs : List PlannedPlug) (a : ℕ) (found : Plug) : Type 0 where
   pub plug : PlannedPlug
   pub among : IsIn plug plugs
@@ -27,6 +36,8 @@ pub record IsNearestPlug (plugs : List PlannedPlug) (a : ℕ) (found : Plug) : T
   pub distance : found.distance ≡ plug.distance
   pub not_above : plug.start ≤ a
   pub greatest : (other : PlannedPlug) → IsIn other plugs → other.start ≤ a → other.start ≤ plug.start
+  pub alone : NoneBetween (plug_starts plugs) a found.stop
+  pub stop : IsStopIn (a / 4096) a found.stop
 
 -- the heap and the bricks hold some plan of a part that has the place
 pub record IsInPlan (h : HeapView) (bricks : BricksView) (a : ℕ) : Type 0 where

@@ -15,7 +15,9 @@ use Rattle.clr_heap.proofs.Storing.{HasWord-shapes}
 use Rattle.clr_model.specs.Compaction.{Move, moved_by}
 use Rattle.clr_plugs.specs.BrickEntries.{BricksView}
 use Rattle.clr_pinq.specs.Queue.{QueueView}
+use Rattle.clr_moves.specs.Going.{IsStretchOf}
 use Rattle.clr_moves.specs.declared.planned.Planned.{Planned}
+use Rattle.clr_moves.specs.declared.stretch.Stretch.{Stretch}
 use Rattle.clr_moves.specs.declared.parts.Parts.{Parts}
 use Rattle.clr_reloc.specs.References.{references_of}
 use Rattle.clr_reloc.specs.Relocated.{rebounded}
@@ -43,8 +45,8 @@ run_around offset (suc count) (suc i) l =
 
 module _ (rows : List TypeRow) (bricks : BricksView) (g : Parts) (planned : Planned) (found : Item) (to : ℕ)
     (h : HeapView) (pins : QueueView) (cards : List (CoverView ℕ)) where
-  pub record HasPassed (after : HeapView) (queue : QueueView) (flags : List (CoverView ℕ)) (offsets : List ℕ)
-      : Type 0 where
+  pub record HasPassed (after : HeapView) (queue : QueueView) (flags : List (CoverView ℕ)) (near : Stretch)
+      (offsets : List ℕ) : Type 0 where
     pub gone : (view now : HeapView) (vs : List Move)
         → IsRelocating rows view now h bricks pins.entries g vs planned.start1 planned.start0
         → IsLeftItem rows view g found → IsAhead view now g vs found.place (found.place + found.size)
@@ -53,19 +55,21 @@ module _ (rows : List TypeRow) (bricks : BricksView) (g : Parts) (planned : Plan
         × IsRelocating rows view next after bricks queue.entries g vs planned.start1 planned.start0
         × KeepsTelling rows view g vs pins.entries h after
         × HasGoneAt rows view now next g vs found offsets (rebounded (frame view) planned) (is_card_set flags)
+        × IsStretchOf view g vs near
     pub saved : SavesSame pins.entries queue.entries
     pub kept : (c : ℕ) → is_card_set cards c ≡ true → is_card_set flags c ≡ true
     pub covered : spans flags ≡ spans cards
     pub count : length queue.entries ≡ length pins.entries
     pub room : queue.spare ≡ pins.spare
 
-  pub passed_none : HasPassed h pins cards []
-  passed_none = record {
+  pub passed_none : (near : Stretch) → near.stop ≡ 0 → HasPassed h pins cards near []
+  passed_none near none = record {
     gone = λ view now vs r left ahead goes. (
       now,
       r,
       keeps_refl rows view g vs pins.entries h,
       gone_nowhere rows view now g vs found (rebounded (frame view) planned) (is_card_set cards),
+      λ x low high go. absurd (omega (arith, none, high)),
     );
     saved = saves_refl pins.entries;
     kept = λ i on. on;
@@ -74,9 +78,9 @@ module _ (rows : List TypeRow) (bricks : BricksView) (g : Parts) (planned : Plan
     room = refl;
   }
 
-  module _ (after : HeapView) (queue : QueueView) (flags : List (CoverView ℕ)) (yielded : List ℕ) (offset : ℕ)
-      (rest : List ℕ) (walked : yielded ++ offset ∷ rest ≡ references_of rows found)
-      (passed : HasPassed after queue flags yielded) where
+  module _ (after : HeapView) (queue : QueueView) (flags : List (CoverView ℕ)) (near : Stretch) (yielded : List ℕ)
+      (offset : ℕ) (rest : List ℕ) (walked : yielded ++ offset ∷ rest ≡ references_of rows found)
+      (passed : HasPassed after queue flags near yielded) where
     abbrev a : ℕ
     a = found.place + offset
 
@@ -102,7 +106,7 @@ module _ (rows : List TypeRow) (bricks : BricksView) (g : Parts) (planned : Plan
           × IsRelocating rows view next after bricks queue.entries g vs planned.start1 planned.start0
           × IsSlotAhead rows view next g vs (found.place + offset)
       slot_next =
-          let (next, q, keeps, gone) = passed.gone view now vs r left ahead goes in (
+          let (next, q, keeps, gone, met) = passed.gone view now vs r left ahead goes in (
             next,
             q,
             slot_ahead rows view now next g vs found (rebounded (frame view) planned) (is_card_set flags)
@@ -113,7 +117,7 @@ module _ (rows : List TypeRow) (bricks : BricksView) (g : Parts) (planned : Plan
       pub slot_at : (k : ℕ) → k ≡ memory_index h.memories found.place
           → k ≡ memory_index after.memories (found.place + offset)
       slot_at k is =
-          let (next, q, keeps, gone) = passed.gone view now vs r left ahead goes in
+          let (next, q, keeps, gone, met) = passed.gone view now vs r left ahead goes in
           slot_segment rows view r.begun.plan.overlaid.heap r.begun.plan.held found left.listed h after r.shape q.shape
           k is offset listed
 
@@ -127,29 +131,30 @@ module _ (rows : List TypeRow) (bricks : BricksView) (g : Parts) (planned : Plan
 
     -- once it has been relocated, the loop has passed one offset more
     pub passed_more : (age : ℕ) → age ≡ generation (rebounded (frame h) planned) to
-        → (new : HeapView) (saved : QueueView) (set : List (CoverView ℕ))
+        → (new : HeapView) (saved : QueueView) (set : List (CoverView ℕ)) (nearer : Stretch)
         → ((view next : HeapView) (vs : List Move)
         → IsRelocating rows view next after bricks queue.entries g vs planned.start1 planned.start0
-        → IsSlotAhead rows view next g vs (found.place + offset)
+        → IsSlotAhead rows view next g vs (found.place + offset) → IsStretchOf view g vs near
         → IsRelocating rows view (stored next (found.place + offset) (moved_by vs (word_of view (found.place +
         offset))))
         new bricks saved.entries g vs planned.start1 planned.start0
         × KeepsTelling rows view g vs queue.entries after new
         × (generation (rebounded (frame view) planned) (moved_by vs (word_of view (found.place + offset))) < age
-        → is_card_set set ((to + offset) / 2048) ≡ true))
+        → is_card_set set ((to + offset) / 2048) ≡ true)
+        × IsStretchOf view g vs nearer)
         → SavesSame queue.entries saved.entries
         → ((c : ℕ) → is_card_set flags c ≡ true → is_card_set set c ≡ true) → spans set ≡ spans flags
         → length saved.entries ≡ length queue.entries → saved.spare ≡ queue.spare
-        → HasPassed new saved set (yielded ++ offset ∷ [])
-    passed_more age age_is new saved set slot saves keep covered count room = record {
+        → HasPassed new saved set nearer (yielded ++ offset ∷ [])
+    passed_more age age_is new saved set nearer slot saves keep covered count room = record {
       gone = λ view now vs r left ahead goes.
-          let (next, q, keeps, gone) = passed.gone view now vs r left ahead goes in
+          let (next, q, keeps, gone, met) = passed.gone view now vs r left ahead goes in
           let layout = rebounded (frame view) planned in
           let heap = r.begun.plan.overlaid.heap in
           let held = r.begun.plan.held in
           let here = slot_ahead rows view now next g vs found layout (is_card_set flags) heap held left ahead yielded
           offset rest walked gone in
-          let (again, also, carded) = slot view next vs q here in
+          let (again, also, carded, meets) = slot view next vs q here met in
           let same : frame h ≡ frame view = ap (λ (x : HeapView). frame x) r.shape.others in
           let own : age ≡ generation layout (moved_by vs found.place) =
           age_is ∙ ap (λ (l : Layout). generation (rebounded l planned) to) same ∙ ap (generation layout) goes in
@@ -163,6 +168,7 @@ module _ (rows : List TypeRow) (bricks : BricksView) (g : Parts) (planned : Plan
                 (inside view now vs r left ahead goes).word).inside keep
                 (λ less. subst (λ n. is_card_set set ((n + offset) / 2048) ≡ true) goes
                 (carded (omega (arith, own, less)))),
+            meets,
           );
       saved = saves_trans pins.entries queue.entries saved.entries passed.saved saves;
       kept = λ i on. keep i (passed.kept i on);
@@ -172,8 +178,8 @@ module _ (rows : List TypeRow) (bricks : BricksView) (g : Parts) (planned : Plan
     }
 
   -- all of them
-  pub passed_all : (after : HeapView) (queue : QueueView) (flags : List (CoverView ℕ)) (offsets : List ℕ)
-      → HasPassed after queue flags offsets → offsets ≡ references_of rows found
+  pub passed_all : (after : HeapView) (queue : QueueView) (flags : List (CoverView ℕ)) (near : Stretch)
+      (offsets : List ℕ) → HasPassed after queue flags near offsets → offsets ≡ references_of rows found
       → (view now : HeapView) (vs : List Move)
       → IsRelocating rows view now h bricks pins.entries g vs planned.start1 planned.start0
       → IsLeftItem rows view g found → IsAhead view now g vs found.place (found.place + found.size)
@@ -184,8 +190,8 @@ module _ (rows : List TypeRow) (bricks : BricksView) (g : Parts) (planned : Plan
       × KeepsTelling rows view g vs pins.entries h after
       × ((offset : ℕ) → IsIn offset (references_of rows found)
       → IsCarded view vs (rebounded (frame view) planned) (is_card_set flags) found.place offset)
-  passed_all after queue flags offsets passed all view now vs r left ahead goes =
-      let (next, q, keeps, gone) = passed.gone view now vs r left ahead goes in
+  passed_all after queue flags near offsets passed all view now vs r left ahead goes =
+      let (next, q, keeps, gone, met) = passed.gone view now vs r left ahead goes in
       let layout = rebounded (frame view) planned in
       let heap = r.begun.plan.overlaid.heap in
       let held = r.begun.plan.held in (

@@ -25,9 +25,11 @@ use Rattle.clr_view.specs.View.{free_among, IsHeld, is_object, layout_in, object
 use Rattle.clr_view.proofs.Standing.{standing}
 use Rattle.clr_plugs.specs.BrickEntries.{BricksView}
 use Rattle.clr_pinq.specs.declared.entry.PinEntry.{PinEntry}
+use Rattle.clr_moves.specs.Going.{IsStretchOf}
 use Rattle.clr_moves.specs.Moves.{age_of, AreMoves, IsInPart, move_at}
 use Rattle.clr_moves.specs.Overlaid.{HoldsPlan, IsLaidBy, IsOutside, MayGo}
 use Rattle.clr_moves.specs.declared.parts.Parts.{Parts}
+use Rattle.clr_moves.specs.declared.stretch.Stretch.{Stretch}
 use Rattle.clr_reloc.specs.Relocating.{IsRelocating, IsUnderway}
 use Rattle.clr_reloc.proofs.Heads.{count_same, head_left, items_same, parts_left}
 
@@ -93,6 +95,16 @@ module _ (view now : HeapView) (shape : SameShape view now) where
     | inl none ↦ inl (λ t p. none t (part_before g t x p))
     | inr plug ↦ inr plug
   ]
+
+  -- a stretch of the moves is one wherever the parts are the same
+  pub stretch_now : (g : Parts) (vs : List Move) (s : Stretch) → IsStretchOf view g vs s → IsStretchOf now g vs s
+  stretch_now g vs s met x low high may = met x low high (elim may [
+    | inl none ↦ inl (λ t p. none t (part_now g t x p))
+    | inr plug ↦ inr plug
+  ])
+
+  pub stretch_before : (g : Parts) (vs : List Move) (s : Stretch) → IsStretchOf now g vs s → IsStretchOf view g vs s
+  stretch_before g vs s met x low high may = met x low high (may_go_now g vs x may)
 
   moves_now : (g : Parts) (vs : List Move) → AreMoves view g vs → AreMoves now g vs
   moves_now g vs m =

@@ -20,6 +20,7 @@ use crate::relocation::Relocation;
 use crate::resting::resting_words;
 use clr_cards::Cards;
 use clr_heap::{Heap, Item};
+use clr_moves::Stretch;
 use clr_pinq::PinQueue;
 use clr_types::ReferenceRun;
 
@@ -69,6 +70,7 @@ pub(crate) fn relocate_words(
     ensures count { length pins.new.entries ≡ length pins.old.entries }
     ensures spare { pins.new.spare ≡ pins.old.spare }
 {
+    let mut last = Stretch::NONE;
     let mut at = 0;
     while at < run.count {
         let offset = run.offset + 8 * at;
@@ -94,6 +96,7 @@ pub(crate) fn relocate_words(
             work,
             cards,
             pins,
+            &mut last,
             k,
             near,
             found.place + offset,

@@ -143,8 +143,8 @@ module _ (s : Stages) (m : Machine) (kept : ℕ → Bool) (c : IsCourse s m kept
     card_law = λ a y. card_law a
         (were-younger s.rows s.rows (rebounded (frame c.begun.view) s.planned) (frame new)
         (relocated.left_objects s.rows c.begun.view (Generations s.g) c.begun.plan.moves) (objects_in s.rows new)
-        same-bounds (same-members s.rows (relocated.left_objects s.rows c.begun.view (Generations s.g) c.begun.plan.moves)
-        (objects_in s.rows new)
+        same-bounds (same-members s.rows (relocated.left_objects s.rows c.begun.view (Generations s.g)
+        c.begun.plan.moves) (objects_in s.rows new)
         (objects-ended s m kept c new e ∙ ap (sorted_by (λ (o : Object). o.name)) (sym left-lists))) a y);
     brick_law = brick_law;
   }

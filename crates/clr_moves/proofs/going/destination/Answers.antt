@@ -1,36 +1,9 @@
-use Rattle.std.proofs.Common.{◌∙◌}
-use Rattle.clr_moves.proofs.PlacesInPlugs.{goes_near, none_at_zero, outside_stays}
-use Rattle.clr_moves.proofs.going.destination.Goals.{then-place-eq0-via-then-place-eq0}
-use Rattle.clr_moves.proofs.going.destination.Goals.{then-place-eq0-via-else-place-eq0+then-not-is_in_part}
+use Rattle.std.proofs.Common.{arith}
 use Rattle.clr_moves.proofs.going.destination.Goals as goal
-
-pub returns-then-place-eq0 : goal.returns-then-place-eq0
-returns-then-place-eq0 c = record {
-  goes = λ rows view entries vs start1 start0 plan may.
-      let h = c.args.heap.now in
-      let heap = c.lawful.ensures in
-      outside_stays rows h c.args.bricks.now c.args.g vs heap plan.told c.args.place (elim c.then-place-eq0.branch [
-        | then-place-eq0-via-then-place-eq0 w ↦
-            none_at_zero rows view h c.args.bricks.now entries c.args.g vs start1 start0 heap plan c.args.place
-            w.if-place-eq0.true
-        | then-place-eq0-via-else-place-eq0+then-not-is_in_part w ↦
-            w.is_in_part.ensures.outside w.if-not-is_in_part.true
-      ]);
-}
-
-pub with_its_plug-requires-clause-plug : goal.with_its_plug-requires-clause-plug
-with_its_plug-requires-clause-plug c =
-    let (rows, view, entries, vs, start1, start0, plan, may) = c.requires.told in
-    let inside = c.is_in_part.ensures.inside c.if-not-is_in_part.false in
-    let (back, near, is) = goes_near rows view c.args.heap.now c.args.bricks.now entries c.args.g vs start1 start0
-    c.lawful.ensures plan c.args.place may inside in
-    (back, near)
 
 pub returns : goal.returns
 returns c = record {
   goes = λ rows view entries vs start1 start0 plan may.
-      let inside = c.is_in_part.ensures.inside c.if-not-is_in_part.false in
-      let (back, near, is) = goes_near rows view c.args.heap.now c.args.bricks.now entries c.args.g vs start1 start0
-      c.lawful.ensures plan c.args.place may inside in
-      c.with_its_plug.ensures.goes back near ∙ is;
+      c.destination_near.ensures.goes rows view entries vs start1 start0 plan may
+      (λ x low high go. absurd (omega (arith, high)));
 }

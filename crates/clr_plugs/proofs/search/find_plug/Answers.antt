@@ -17,14 +17,15 @@ pub word_at-requires : goal.word_at-requires
 word_at-requires g c =
     let i = c.requires in
     let held = held_at c.args.heap.now c.args.bricks.now c.args.a c.segments.ensures.heap i in
-    let w = found_words c.args.heap.now c.args.bricks.now c.args.a c.greatest_start-start.result c.segments.ensures.heap
+    let w = found_words c.args.heap.now c.args.bricks.now c.args.a c.greatest_start-start.result.0
+    c.segments.ensures.heap
     i c.if-start-eq0.false (c.greatest_start-start.ensures.found i.part i.planned i.low i.high) in
     record { word = w.distance; segment = c.segment_of-k.ensures ∙ sym held.segment ∙ w.distance_in }
 
 pub returns-then-start-eq0 : goal.returns-then-start-eq0
 returns-then-start-eq0 g c = record {
   found = λ part plan low high. nothing_found c.args.heap.now c.args.bricks.now part plan c.args.a
-      c.greatest_start-start.result c.if-start-eq0.true (c.greatest_start-start.ensures.found part plan low high);
+      c.greatest_start-start.result.0 c.if-start-eq0.true (c.greatest_start-start.ensures.found part plan low high);
   steps = c.greatest_start-start.ensures.steps;
 }
 
@@ -34,7 +35,9 @@ returns g c = record {
       let fits : SFits w64 c.cast_signed.result = search rules in
       let read = to_z-of_z w64 c.cast_signed.result fits ∙ c.cast_signed.ensures
       ∙ ap (cast_signed w64) c.word_at.ensures in
-      plug_found c.args.heap.now c.args.bricks.now part plan c.args.a c.greatest_start-start.result _
-      c.if-start-eq0.false (c.greatest_start-start.ensures.found part plan low high) read;
+      plug_found c.args.heap.now c.args.bricks.now part plan c.args.a c.greatest_start-start.result.0
+      c.greatest_start-start.result.1 _
+      c.if-start-eq0.false (c.greatest_start-start.ensures.found part plan low high) read
+      (c.greatest_start-start.ensures.alone part plan low high) c.greatest_start-start.ensures.stop;
   steps = c.greatest_start-start.ensures.steps;
 }

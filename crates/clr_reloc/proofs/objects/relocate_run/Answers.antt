@@ -1,4 +1,4 @@
-use Rattle.std.proofs.Common.{◌≡◌, ◌+◌, ◌-◌, ◌*◌, ap, sym, ◌∙◌, subst, arith}
+use Rattle.std.proofs.Common.{◌≡◌, ◌+◌, ◌-◌, ◌*◌, refl, ap, sym, ◌∙◌, subst, arith}
 use Rattle.clr_types.specs.Descriptors.{offsets_from}
 use Rattle.clr_mark.proofs.RunReferences.{run_more}
 use Rattle.clr_reloc.proofs.ObjectLoops.{HasPassed, passed_all, passed_more, passed_none, run_around, slot_at}
@@ -10,7 +10,7 @@ pub loop-i-init : goal.loop-i-init
 loop-i-init c =
     let w = c.args.work.now in
     passed_none w.types.now w.bricks.now w.g w.planned c.args.found c.args.to c.args.heap.now c.args.pins.now
-    c.args.cards.now
+    c.args.cards.now _ refl
 
 pub overflow_mul-offset : goal.overflow_mul-offset
 overflow_mul-offset c =
@@ -18,7 +18,8 @@ overflow_mul-offset c =
     let walked = run_around c.args.run.offset c.args.run.count c.loop-i.i c.loop-i-test.true ∙ sym c.requires.run in
     let (view, now, vs, r, left, ahead, to) = c.requires.can in
     let fits = slot_fits w.types.now w.bricks.now w.g w.planned c.args.found c.args.to c.args.heap.now
-    c.args.pins.now c.args.cards.now c.loop-i.heap c.loop-i.pins c.loop-i.cards (offsets_from c.args.run.offset
+    c.args.pins.now c.args.cards.now c.loop-i.heap c.loop-i.pins c.loop-i.cards c.loop-i.last
+    (offsets_from c.args.run.offset
     c.loop-i.i) (c.args.run.offset + 8 * c.loop-i.i) (offsets_from (c.args.run.offset + 8 * c.loop-i.i + 8)
     (c.args.run.count - c.loop-i.i - 1)) walked c.loop-i.invariant view now vs r left ahead to in
     let small = fits.0 in
@@ -30,7 +31,8 @@ overflow_add-offset c =
     let walked = run_around c.args.run.offset c.args.run.count c.loop-i.i c.loop-i-test.true ∙ sym c.requires.run in
     let (view, now, vs, r, left, ahead, to) = c.requires.can in
     let fits = slot_fits w.types.now w.bricks.now w.g w.planned c.args.found c.args.to c.args.heap.now
-    c.args.pins.now c.args.cards.now c.loop-i.heap c.loop-i.pins c.loop-i.cards (offsets_from c.args.run.offset
+    c.args.pins.now c.args.cards.now c.loop-i.heap c.loop-i.pins c.loop-i.cards c.loop-i.last
+    (offsets_from c.args.run.offset
     c.loop-i.i) (c.args.run.offset + 8 * c.loop-i.i) (offsets_from (c.args.run.offset + 8 * c.loop-i.i + 8)
     (c.args.run.count - c.loop-i.i - 1)) walked c.loop-i.invariant view now vs r left ahead to in
     let small = fits.0 in
@@ -42,7 +44,8 @@ overflow_add-next c =
     let walked = run_around c.args.run.offset c.args.run.count c.loop-i.i c.loop-i-test.true ∙ sym c.requires.run in
     let (view, now, vs, r, left, ahead, to) = c.requires.can in
     let fits = slot_fits w.types.now w.bricks.now w.g w.planned c.args.found c.args.to c.args.heap.now
-    c.args.pins.now c.args.cards.now c.loop-i.heap c.loop-i.pins c.loop-i.cards (offsets_from c.args.run.offset
+    c.args.pins.now c.args.cards.now c.loop-i.heap c.loop-i.pins c.loop-i.cards c.loop-i.last
+    (offsets_from c.args.run.offset
     c.loop-i.i) (c.args.run.offset + 8 * c.loop-i.i) (offsets_from (c.args.run.offset + 8 * c.loop-i.i + 8)
     (c.args.run.count - c.loop-i.i - 1)) walked c.loop-i.invariant view now vs r left ahead to in
     let small = fits.0 in
@@ -54,7 +57,8 @@ overflow_add-to c =
     let walked = run_around c.args.run.offset c.args.run.count c.loop-i.i c.loop-i-test.true ∙ sym c.requires.run in
     let (view, now, vs, r, left, ahead, to) = c.requires.can in
     let fits = slot_fits w.types.now w.bricks.now w.g w.planned c.args.found c.args.to c.args.heap.now
-    c.args.pins.now c.args.cards.now c.loop-i.heap c.loop-i.pins c.loop-i.cards (offsets_from c.args.run.offset
+    c.args.pins.now c.args.cards.now c.loop-i.heap c.loop-i.pins c.loop-i.cards c.loop-i.last
+    (offsets_from c.args.run.offset
     c.loop-i.i) (c.args.run.offset + 8 * c.loop-i.i) (offsets_from (c.args.run.offset + 8 * c.loop-i.i + 8)
     (c.args.run.count - c.loop-i.i - 1)) walked c.loop-i.invariant view now vs r left ahead to in
     let small = fits.1 in
@@ -66,7 +70,8 @@ relocate_slot-requires-clause-can c =
     let walked = run_around c.args.run.offset c.args.run.count c.loop-i.i c.loop-i-test.true ∙ sym c.requires.run in
     let (view, now, vs, r, left, ahead, to) = c.requires.can in
     let (next, q, here) = slot_next w.types.now w.bricks.now w.g w.planned c.args.found c.args.to c.args.heap.now
-    c.args.pins.now c.args.cards.now c.loop-i.heap c.loop-i.pins c.loop-i.cards (offsets_from c.args.run.offset
+    c.args.pins.now c.args.cards.now c.loop-i.heap c.loop-i.pins c.loop-i.cards c.loop-i.last
+    (offsets_from c.args.run.offset
     c.loop-i.i) (c.args.run.offset + 8 * c.loop-i.i) (offsets_from (c.args.run.offset + 8 * c.loop-i.i + 8)
     (c.args.run.count - c.loop-i.i - 1)) walked c.loop-i.invariant view now vs r left ahead to in
     (view, next, vs, q, here)
@@ -77,7 +82,8 @@ relocate_slot-requires-clause-segment c =
     let walked = run_around c.args.run.offset c.args.run.count c.loop-i.i c.loop-i-test.true ∙ sym c.requires.run in
     let (view, now, vs, r, left, ahead, to) = c.requires.can in
     slot_at w.types.now w.bricks.now w.g w.planned c.args.found c.args.to c.args.heap.now c.args.pins.now
-    c.args.cards.now c.loop-i.heap c.loop-i.pins c.loop-i.cards (offsets_from c.args.run.offset c.loop-i.i)
+    c.args.cards.now c.loop-i.heap c.loop-i.pins c.loop-i.cards c.loop-i.last
+    (offsets_from c.args.run.offset c.loop-i.i)
     (c.args.run.offset + 8 * c.loop-i.i) (offsets_from (c.args.run.offset + 8 * c.loop-i.i + 8) (c.args.run.count -
     c.loop-i.i - 1)) walked c.loop-i.invariant view now vs r left ahead to c.args.k c.requires.segment
 
@@ -87,7 +93,8 @@ relocate_slot-requires-clause-card c =
     let walked = run_around c.args.run.offset c.args.run.count c.loop-i.i c.loop-i-test.true ∙ sym c.requires.run in
     let (view, now, vs, r, left, ahead, to) = c.requires.can in
     slot_card w.types.now w.bricks.now w.g w.planned c.args.found c.args.to c.args.heap.now c.args.pins.now
-    c.args.cards.now c.loop-i.heap c.loop-i.pins c.loop-i.cards (offsets_from c.args.run.offset c.loop-i.i)
+    c.args.cards.now c.loop-i.heap c.loop-i.pins c.loop-i.cards c.loop-i.last
+    (offsets_from c.args.run.offset c.loop-i.i)
     (c.args.run.offset + 8 * c.loop-i.i) (offsets_from (c.args.run.offset + 8 * c.loop-i.i + 8) (c.args.run.count -
     c.loop-i.i - 1)) walked c.loop-i.invariant view now vs r left ahead to c.requires.cards
 
@@ -97,13 +104,16 @@ loop-i-preserved c =
     let walked = run_around c.args.run.offset c.args.run.count c.loop-i.i c.loop-i-test.true ∙ sym c.requires.run in
     let slot = c.relocate_slot.ensures in
     let more = passed_more w.types.now w.bricks.now w.g w.planned c.args.found c.args.to c.args.heap.now
-    c.args.pins.now c.args.cards.now c.loop-i.heap c.loop-i.pins c.loop-i.cards (offsets_from c.args.run.offset
+    c.args.pins.now c.args.cards.now c.loop-i.heap c.loop-i.pins c.loop-i.cards c.loop-i.last
+    (offsets_from c.args.run.offset
     c.loop-i.i) (c.args.run.offset + 8 * c.loop-i.i) (offsets_from (c.args.run.offset + 8 * c.loop-i.i + 8)
     (c.args.run.count - c.loop-i.i - 1)) walked c.loop-i.invariant c.args.age c.requires.age c.relocate_slot.new.heap
-    c.relocate_slot.new.pins c.relocate_slot.new.cards slot.gone slot.saved slot.kept slot.cards slot.count
+    c.relocate_slot.new.pins c.relocate_slot.new.cards c.relocate_slot.new.last slot.gone slot.saved slot.kept
+    slot.cards slot.count
     slot.spare in
     subst (HasPassed w.types.now w.bricks.now w.g w.planned c.args.found c.args.to c.args.heap.now c.args.pins.now
-    c.args.cards.now c.relocate_slot.new.heap c.relocate_slot.new.pins c.relocate_slot.new.cards) (sym (run_more
+    c.args.cards.now c.relocate_slot.new.heap c.relocate_slot.new.pins c.relocate_slot.new.cards
+    c.relocate_slot.new.last) (sym (run_more
     c.args.run.offset c.loop-i.i)) more
 
 pub returns-clause-gone : goal.returns-clause-gone
@@ -113,7 +123,8 @@ returns-clause-gone c =
     let within = c.loop-i.auto.i-end in
     let whole : c.loop-i.i ≡ c.args.run.count = omega (arith, off, within) in
     passed_all w.types.now w.bricks.now w.g w.planned c.args.found c.args.to c.args.heap.now c.args.pins.now
-    c.args.cards.now c.loop-i.heap c.loop-i.pins c.loop-i.cards (offsets_from c.args.run.offset c.loop-i.i)
+    c.args.cards.now c.loop-i.heap c.loop-i.pins c.loop-i.cards c.loop-i.last
+    (offsets_from c.args.run.offset c.loop-i.i)
     c.loop-i.invariant (ap (offsets_from c.args.run.offset) whole ∙ sym c.requires.run)
 
 pub returns-clause-saved : goal.returns-clause-saved

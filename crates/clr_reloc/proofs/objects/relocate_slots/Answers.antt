@@ -21,7 +21,7 @@ loop-offset-init c =
     record {
       walked = refl;
       passed = passed_none w.types.now w.bricks.now w.g w.planned c.args.found c.args.to
-          c.args.heap.now c.args.pins.now c.args.cards.now;
+          c.args.heap.now c.args.pins.now c.args.cards.now _ refl;
     }
 
 pub overflow_add-next : goal.overflow_add-next
@@ -32,7 +32,8 @@ overflow_add-next c =
     c.slots-offset-items.ensures in
     let (view, now, vs, r, left, ahead, to) = c.requires.can in
     let fits = slot_fits w.types.now w.bricks.now w.g w.planned c.args.found c.args.to c.args.heap.now
-    c.args.pins.now c.args.cards.now c.loop-offset.heap c.loop-offset.pins c.loop-offset.cards c.loop-offset.yielded
+    c.args.pins.now c.args.cards.now c.loop-offset.heap c.loop-offset.pins c.loop-offset.cards c.loop-offset.last
+    c.loop-offset.yielded
     c.in-Some.offset c.next.new.self walked c.loop-offset.invariant.passed view now vs r left ahead to in
     let small = fits.0 in
     omega (arith, small)
@@ -45,7 +46,8 @@ overflow_add-to c =
     c.slots-offset-items.ensures in
     let (view, now, vs, r, left, ahead, to) = c.requires.can in
     let fits = slot_fits w.types.now w.bricks.now w.g w.planned c.args.found c.args.to c.args.heap.now
-    c.args.pins.now c.args.cards.now c.loop-offset.heap c.loop-offset.pins c.loop-offset.cards c.loop-offset.yielded
+    c.args.pins.now c.args.cards.now c.loop-offset.heap c.loop-offset.pins c.loop-offset.cards c.loop-offset.last
+    c.loop-offset.yielded
     c.in-Some.offset c.next.new.self walked c.loop-offset.invariant.passed view now vs r left ahead to in
     let small = fits.1 in
     omega (arith, small)
@@ -58,7 +60,8 @@ relocate_slot-requires-clause-can c =
     c.slots-offset-items.ensures in
     let (view, now, vs, r, left, ahead, to) = c.requires.can in
     let (next, q, here) = slot_next w.types.now w.bricks.now w.g w.planned c.args.found c.args.to c.args.heap.now
-    c.args.pins.now c.args.cards.now c.loop-offset.heap c.loop-offset.pins c.loop-offset.cards c.loop-offset.yielded
+    c.args.pins.now c.args.cards.now c.loop-offset.heap c.loop-offset.pins c.loop-offset.cards c.loop-offset.last
+    c.loop-offset.yielded
     c.in-Some.offset c.next.new.self walked c.loop-offset.invariant.passed view now vs r left ahead to in
     (view, next, vs, q, here)
 
@@ -70,7 +73,8 @@ relocate_slot-requires-clause-segment c =
     c.slots-offset-items.ensures in
     let (view, now, vs, r, left, ahead, to) = c.requires.can in
     slot_at w.types.now w.bricks.now w.g w.planned c.args.found c.args.to c.args.heap.now c.args.pins.now
-    c.args.cards.now c.loop-offset.heap c.loop-offset.pins c.loop-offset.cards c.loop-offset.yielded c.in-Some.offset
+    c.args.cards.now c.loop-offset.heap c.loop-offset.pins c.loop-offset.cards c.loop-offset.last c.loop-offset.yielded
+    c.in-Some.offset
     c.next.new.self walked c.loop-offset.invariant.passed view now vs r left ahead to c.args.k c.requires.segment
 
 pub relocate_slot-requires-clause-card : goal.relocate_slot-requires-clause-card
@@ -81,7 +85,8 @@ relocate_slot-requires-clause-card c =
     c.slots-offset-items.ensures in
     let (view, now, vs, r, left, ahead, to) = c.requires.can in
     slot_card w.types.now w.bricks.now w.g w.planned c.args.found c.args.to c.args.heap.now c.args.pins.now
-    c.args.cards.now c.loop-offset.heap c.loop-offset.pins c.loop-offset.cards c.loop-offset.yielded c.in-Some.offset
+    c.args.cards.now c.loop-offset.heap c.loop-offset.pins c.loop-offset.cards c.loop-offset.last c.loop-offset.yielded
+    c.in-Some.offset
     c.next.new.self walked c.loop-offset.invariant.passed view now vs r left ahead to c.requires.cards
 
 pub loop-offset-preserved : goal.loop-offset-preserved
@@ -95,9 +100,10 @@ loop-offset-preserved c =
       walked = append_assoc c.loop-offset.yielded (c.in-Some.offset ∷ []) c.next.new.self ∙ ap (λ (rest : List ℕ).
           c.loop-offset.yielded ++ rest) (sym c.in-Some.ensures.steps) ∙ c.loop-offset.invariant.walked;
       passed = passed_more w.types.now w.bricks.now w.g w.planned c.args.found c.args.to c.args.heap.now
-          c.args.pins.now c.args.cards.now c.loop-offset.heap c.loop-offset.pins c.loop-offset.cards
+          c.args.pins.now c.args.cards.now c.loop-offset.heap c.loop-offset.pins c.loop-offset.cards c.loop-offset.last
           c.loop-offset.yielded c.in-Some.offset c.next.new.self walked c.loop-offset.invariant.passed c.args.age
-          c.requires.age c.relocate_slot.new.heap c.relocate_slot.new.pins c.relocate_slot.new.cards slot.gone
+          c.requires.age c.relocate_slot.new.heap c.relocate_slot.new.pins c.relocate_slot.new.cards
+          c.relocate_slot.new.last slot.gone
           slot.saved slot.kept slot.cards slot.count slot.spare;
     }
 
@@ -108,7 +114,7 @@ returns-clause-gone c =
     c.in-None.ensures.steps.0) ∙ c.loop-offset.invariant.walked ∙ c.into_iter-offset-iterator.ensures.into_iter_gives
     ∙ c.slots-offset-items.ensures in
     passed_all w.types.now w.bricks.now w.g w.planned c.args.found c.args.to c.args.heap.now c.args.pins.now
-    c.args.cards.now c.loop-offset.heap c.loop-offset.pins c.loop-offset.cards c.loop-offset.yielded
+    c.args.cards.now c.loop-offset.heap c.loop-offset.pins c.loop-offset.cards c.loop-offset.last c.loop-offset.yielded
     c.loop-offset.invariant.passed all
 
 pub returns-clause-saved : goal.returns-clause-saved

@@ -7,5 +7,5 @@ invariant-loop-offset l = record {
   walked : l.yielded ++ l.offset-iterator ≡ l.initial.offset-iterator;
   passed : HasPassed l.work.types.now l.work.bricks.now l.work.g l.work.planned l.found l.to l.initial.heap
       l.initial.pins l.initial.cards
-      l.heap l.pins l.cards l.yielded;
+      l.heap l.pins l.cards l.last l.yielded;
 }

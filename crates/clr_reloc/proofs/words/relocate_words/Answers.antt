@@ -1,4 +1,4 @@
-use Rattle.std.proofs.Common.{◌≡◌, ◌+◌, ◌*◌, ◌<◌, ap, sym, ◌∙◌, subst, arith}
+use Rattle.std.proofs.Common.{◌≡◌, ◌+◌, ◌*◌, ◌<◌, refl, ap, sym, ◌∙◌, subst, arith}
 use Rattle.clr_types.specs.Descriptors.{offsets_from}
 use Rattle.clr_heap.specs.Memories.{HasWord, memory_index}
 use Rattle.clr_heap.specs.View.{frame}
@@ -12,7 +12,7 @@ pub loop-at-init : goal.loop-at-init
 loop-at-init c =
     let w = c.args.work.now in (
       passed_none w.types.now w.bricks.now w.g w.planned c.args.found c.args.to c.args.heap.now c.args.pins.now
-          c.args.cards.now,
+          c.args.cards.now _ refl,
       omega arith,
     )
 
@@ -20,7 +20,8 @@ pub overflow_mul-offset : goal.overflow_mul-offset
 overflow_mul-offset c =
     let w = c.args.work.now in
     let fits = run_fits w.types.now w.bricks.now w.g w.planned c.args.found c.args.to c.args.heap.now c.args.pins.now
-    c.args.cards.now c.loop-at.heap c.loop-at.pins c.loop-at.cards c.args.run.offset c.args.run.count c.requires.run
+    c.args.cards.now c.loop-at.heap c.loop-at.pins c.loop-at.cards c.loop-at.last c.args.run.offset c.args.run.count
+    c.requires.run
     (offsets_from c.args.run.offset c.loop-at.at) c.loop-at.invariant.0 c.requires.can c.loop-at.at
     c.loop-at-test.true in
     let small = fits.0 in
@@ -30,7 +31,8 @@ pub overflow_add-offset : goal.overflow_add-offset
 overflow_add-offset c =
     let w = c.args.work.now in
     let fits = run_fits w.types.now w.bricks.now w.g w.planned c.args.found c.args.to c.args.heap.now c.args.pins.now
-    c.args.cards.now c.loop-at.heap c.loop-at.pins c.loop-at.cards c.args.run.offset c.args.run.count c.requires.run
+    c.args.cards.now c.loop-at.heap c.loop-at.pins c.loop-at.cards c.loop-at.last c.args.run.offset c.args.run.count
+    c.requires.run
     (offsets_from c.args.run.offset c.loop-at.at) c.loop-at.invariant.0 c.requires.can c.loop-at.at
     c.loop-at-test.true in
     let small = fits.0 in
@@ -40,7 +42,8 @@ pub overflow_add-found : goal.overflow_add-found
 overflow_add-found c =
     let w = c.args.work.now in
     let fits = run_fits w.types.now w.bricks.now w.g w.planned c.args.found c.args.to c.args.heap.now c.args.pins.now
-    c.args.cards.now c.loop-at.heap c.loop-at.pins c.loop-at.cards c.args.run.offset c.args.run.count c.requires.run
+    c.args.cards.now c.loop-at.heap c.loop-at.pins c.loop-at.cards c.loop-at.last c.args.run.offset c.args.run.count
+    c.requires.run
     (offsets_from c.args.run.offset c.loop-at.at) c.loop-at.invariant.0 c.requires.can c.loop-at.at
     c.loop-at-test.true in
     let small = fits.0 in
@@ -50,7 +53,8 @@ pub overflow_add-to : goal.overflow_add-to
 overflow_add-to c =
     let w = c.args.work.now in
     let fits = run_fits w.types.now w.bricks.now w.g w.planned c.args.found c.args.to c.args.heap.now c.args.pins.now
-    c.args.cards.now c.loop-at.heap c.loop-at.pins c.loop-at.cards c.args.run.offset c.args.run.count c.requires.run
+    c.args.cards.now c.loop-at.heap c.loop-at.pins c.loop-at.cards c.loop-at.last c.args.run.offset c.args.run.count
+    c.requires.run
     (offsets_from c.args.run.offset c.loop-at.at) c.loop-at.invariant.0 c.requires.can c.loop-at.at
     c.loop-at-test.true in
     let small = fits.1 in
@@ -66,7 +70,8 @@ pub resting_words-resting-requires-clause-fits : goal.resting_words-resting-requ
 resting_words-resting-requires-clause-fits c j l =
     let w = c.args.work.now in
     let fits = run_fits w.types.now w.bricks.now w.g w.planned c.args.found c.args.to c.args.heap.now c.args.pins.now
-    c.args.cards.now c.loop-at.heap c.loop-at.pins c.loop-at.cards c.args.run.offset c.args.run.count c.requires.run
+    c.args.cards.now c.loop-at.heap c.loop-at.pins c.loop-at.cards c.loop-at.last c.args.run.offset c.args.run.count
+    c.requires.run
     (offsets_from c.args.run.offset c.loop-at.at) c.loop-at.invariant.0 c.requires.can (c.loop-at.at + j)
     (omega (arith, l)) in
     let small = fits.0 in
@@ -79,7 +84,8 @@ resting_words-resting-requires-clause-words c j l =
     ≡ c.args.found.place + (c.args.run.offset + 8 * c.loop-at.at) + 8 * j = omega arith in
     subst (HasWord c.loop-at.heap.memories) at
     (run_has w.types.now w.bricks.now w.g w.planned c.args.found c.args.to c.args.heap.now c.args.pins.now
-    c.args.cards.now c.loop-at.heap c.loop-at.pins c.loop-at.cards c.args.run.offset c.args.run.count c.requires.run
+    c.args.cards.now c.loop-at.heap c.loop-at.pins c.loop-at.cards c.loop-at.last c.args.run.offset c.args.run.count
+    c.requires.run
     (offsets_from c.args.run.offset c.loop-at.at) c.loop-at.invariant.0 c.requires.can (c.loop-at.at + j)
     (omega (arith, l)))
 
@@ -89,7 +95,8 @@ resting_words-resting-requires-clause-segment c j l =
     let at : c.args.found.place + (c.args.run.offset + 8 * (c.loop-at.at + j))
     ≡ c.args.found.place + (c.args.run.offset + 8 * c.loop-at.at) + 8 * j = omega arith in
     run_index w.types.now w.bricks.now w.g w.planned c.args.found c.args.to c.args.heap.now c.args.pins.now
-    c.args.cards.now c.loop-at.heap c.loop-at.pins c.loop-at.cards c.args.run.offset c.args.run.count c.requires.run
+    c.args.cards.now c.loop-at.heap c.loop-at.pins c.loop-at.cards c.loop-at.last c.args.run.offset c.args.run.count
+    c.requires.run
     (offsets_from c.args.run.offset c.loop-at.at) c.loop-at.invariant.0 c.requires.can (c.loop-at.at + j)
     (omega (arith, l)) c.args.k c.requires.segment
     ∙ ap (memory_index c.loop-at.heap.memories) at
@@ -98,7 +105,8 @@ pub resting_words-resting-requires-clause-card : goal.resting_words-resting-requ
 resting_words-resting-requires-clause-card c =
     let w = c.args.work.now in
     run_card w.types.now w.bricks.now w.g w.planned c.args.found c.args.to c.args.heap.now c.args.pins.now
-    c.args.cards.now c.loop-at.heap c.loop-at.pins c.loop-at.cards c.args.run.offset c.args.run.count c.requires.run
+    c.args.cards.now c.loop-at.heap c.loop-at.pins c.loop-at.cards c.loop-at.last c.args.run.offset c.args.run.count
+    c.requires.run
     (offsets_from c.args.run.offset c.loop-at.at) c.loop-at.invariant.0 c.requires.can c.loop-at.at c.loop-at-test.true
     c.requires.cards
 
@@ -110,7 +118,8 @@ overflow_mul-offset-in-loop-at c =
     let low = c.loop-at.invariant.1 in
     let ne = c.if-at-run.false in
     let fits = run_fits w.types.now w.bricks.now w.g w.planned c.args.found c.args.to c.args.heap.now c.args.pins.now
-    c.args.cards.now c.loop-at.heap c.loop-at.pins c.loop-at.cards c.args.run.offset c.args.run.count c.requires.run
+    c.args.cards.now c.loop-at.heap c.loop-at.pins c.loop-at.cards c.loop-at.last c.args.run.offset c.args.run.count
+    c.requires.run
     (offsets_from c.args.run.offset c.loop-at.at) c.loop-at.invariant.0 c.requires.can
     (c.loop-at.at + c.resting_words-resting.result) (omega (arith, within, low, ne)) in
     let small = fits.0 in
@@ -124,7 +133,8 @@ overflow_add-offset-in-loop-at c =
     let low = c.loop-at.invariant.1 in
     let ne = c.if-at-run.false in
     let fits = run_fits w.types.now w.bricks.now w.g w.planned c.args.found c.args.to c.args.heap.now c.args.pins.now
-    c.args.cards.now c.loop-at.heap c.loop-at.pins c.loop-at.cards c.args.run.offset c.args.run.count c.requires.run
+    c.args.cards.now c.loop-at.heap c.loop-at.pins c.loop-at.cards c.loop-at.last c.args.run.offset c.args.run.count
+    c.requires.run
     (offsets_from c.args.run.offset c.loop-at.at) c.loop-at.invariant.0 c.requires.can
     (c.loop-at.at + c.resting_words-resting.result) (omega (arith, within, low, ne)) in
     let small = fits.0 in
@@ -138,7 +148,8 @@ overflow_add-found-in-loop-at c =
     let low = c.loop-at.invariant.1 in
     let ne = c.if-at-run.false in
     let fits = run_fits w.types.now w.bricks.now w.g w.planned c.args.found c.args.to c.args.heap.now c.args.pins.now
-    c.args.cards.now c.loop-at.heap c.loop-at.pins c.loop-at.cards c.args.run.offset c.args.run.count c.requires.run
+    c.args.cards.now c.loop-at.heap c.loop-at.pins c.loop-at.cards c.loop-at.last c.args.run.offset c.args.run.count
+    c.requires.run
     (offsets_from c.args.run.offset c.loop-at.at) c.loop-at.invariant.0 c.requires.can
     (c.loop-at.at + c.resting_words-resting.result) (omega (arith, within, low, ne)) in
     let small = fits.0 in
@@ -152,7 +163,8 @@ overflow_add-to-in-loop-at c =
     let low = c.loop-at.invariant.1 in
     let ne = c.if-at-run.false in
     let fits = run_fits w.types.now w.bricks.now w.g w.planned c.args.found c.args.to c.args.heap.now c.args.pins.now
-    c.args.cards.now c.loop-at.heap c.loop-at.pins c.loop-at.cards c.args.run.offset c.args.run.count c.requires.run
+    c.args.cards.now c.loop-at.heap c.loop-at.pins c.loop-at.cards c.loop-at.last c.args.run.offset c.args.run.count
+    c.requires.run
     (offsets_from c.args.run.offset c.loop-at.at) c.loop-at.invariant.0 c.requires.can
     (c.loop-at.at + c.resting_words-resting.result) (omega (arith, within, low, ne)) in
     let small = fits.1 in
@@ -165,12 +177,14 @@ relocate_slot-requires-clause-can c =
     let within = resting.within in
     let low = c.loop-at.invariant.1 in
     let passed = all_rest w.types.now w.bricks.now w.g w.planned c.args.found c.args.to c.args.heap.now c.args.pins.now
-    c.args.cards.now c.loop-at.heap c.loop-at.pins c.loop-at.cards c.args.age c.requires.age c.requires.few resting.heap
+    c.args.cards.now c.loop-at.heap c.loop-at.pins c.loop-at.cards c.loop-at.last c.args.age c.requires.age
+    c.requires.few resting.heap
     c.args.run.offset c.args.run.count c.requires.run c.loop-at.at c.resting_words-resting.result
     (omega (arith, within, low)) c.loop-at.invariant.0 resting.rest in
     let ne = c.if-at-run.false in
     run_next w.types.now w.bricks.now w.g w.planned c.args.found c.args.to c.args.heap.now c.args.pins.now
-    c.args.cards.now c.loop-at.heap c.loop-at.pins c.loop-at.cards c.args.run.offset c.args.run.count c.requires.run
+    c.args.cards.now c.loop-at.heap c.loop-at.pins c.loop-at.cards c.loop-at.last c.args.run.offset c.args.run.count
+    c.requires.run
     (c.loop-at.at + c.resting_words-resting.result) (omega (arith, within, low, ne)) passed c.requires.can
 
 pub relocate_slot-requires-clause-segment : goal.relocate_slot-requires-clause-segment
@@ -181,7 +195,8 @@ relocate_slot-requires-clause-segment c =
     let low = c.loop-at.invariant.1 in
     let ne = c.if-at-run.false in
     run_index w.types.now w.bricks.now w.g w.planned c.args.found c.args.to c.args.heap.now c.args.pins.now
-    c.args.cards.now c.loop-at.heap c.loop-at.pins c.loop-at.cards c.args.run.offset c.args.run.count c.requires.run
+    c.args.cards.now c.loop-at.heap c.loop-at.pins c.loop-at.cards c.loop-at.last c.args.run.offset c.args.run.count
+    c.requires.run
     (offsets_from c.args.run.offset c.loop-at.at) c.loop-at.invariant.0 c.requires.can
     (c.loop-at.at + c.resting_words-resting.result) (omega (arith, within, low, ne)) c.args.k c.requires.segment
 
@@ -193,7 +208,8 @@ relocate_slot-requires-clause-card c =
     let low = c.loop-at.invariant.1 in
     let ne = c.if-at-run.false in
     run_card w.types.now w.bricks.now w.g w.planned c.args.found c.args.to c.args.heap.now c.args.pins.now
-    c.args.cards.now c.loop-at.heap c.loop-at.pins c.loop-at.cards c.args.run.offset c.args.run.count c.requires.run
+    c.args.cards.now c.loop-at.heap c.loop-at.pins c.loop-at.cards c.loop-at.last c.args.run.offset c.args.run.count
+    c.requires.run
     (offsets_from c.args.run.offset c.loop-at.at) c.loop-at.invariant.0 c.requires.can
     (c.loop-at.at + c.resting_words-resting.result) (omega (arith, within, low, ne)) c.requires.cards
 
@@ -204,16 +220,19 @@ loop-at-preserved c =
     let within = resting.within in
     let low = c.loop-at.invariant.1 in
     let passed = all_rest w.types.now w.bricks.now w.g w.planned c.args.found c.args.to c.args.heap.now c.args.pins.now
-    c.args.cards.now c.loop-at.heap c.loop-at.pins c.loop-at.cards c.args.age c.requires.age c.requires.few resting.heap
+    c.args.cards.now c.loop-at.heap c.loop-at.pins c.loop-at.cards c.loop-at.last c.args.age c.requires.age
+    c.requires.few resting.heap
     c.args.run.offset c.args.run.count c.requires.run c.loop-at.at c.resting_words-resting.result
     (omega (arith, within, low)) c.loop-at.invariant.0 resting.rest in
     let ne = c.if-at-run.false in
     let slot = c.relocate_slot.ensures in
     let less : c.loop-at.at + c.resting_words-resting.result < c.args.run.count = omega (arith, within, low, ne) in (
       run_passed w.types.now w.bricks.now w.g w.planned c.args.found c.args.to c.args.heap.now c.args.pins.now
-          c.args.cards.now c.loop-at.heap c.loop-at.pins c.loop-at.cards c.args.run.offset c.args.run.count
+          c.args.cards.now c.loop-at.heap c.loop-at.pins c.loop-at.cards c.loop-at.last c.args.run.offset
+          c.args.run.count
           c.requires.run (c.loop-at.at + c.resting_words-resting.result) less passed c.args.age c.requires.age
-          c.relocate_slot.new.heap c.relocate_slot.new.pins c.relocate_slot.new.cards slot.gone slot.saved slot.kept
+          c.relocate_slot.new.heap c.relocate_slot.new.pins c.relocate_slot.new.cards c.relocate_slot.new.last
+          slot.gone slot.saved slot.kept
           slot.cards slot.count slot.spare,
       omega (arith, less),
     )
@@ -225,11 +244,12 @@ returns-then-at-run-clause-gone c =
     let within = resting.within in
     let low = c.loop-at.invariant.1 in
     let passed = all_rest w.types.now w.bricks.now w.g w.planned c.args.found c.args.to c.args.heap.now c.args.pins.now
-    c.args.cards.now c.loop-at.heap c.loop-at.pins c.loop-at.cards c.args.age c.requires.age c.requires.few resting.heap
+    c.args.cards.now c.loop-at.heap c.loop-at.pins c.loop-at.cards c.loop-at.last c.args.age c.requires.age
+    c.requires.few resting.heap
     c.args.run.offset c.args.run.count c.requires.run c.loop-at.at c.resting_words-resting.result
     (omega (arith, within, low)) c.loop-at.invariant.0 resting.rest in
     passed_all w.types.now w.bricks.now w.g w.planned c.args.found c.args.to c.args.heap.now c.args.pins.now
-    c.args.cards.now c.loop-at.heap c.loop-at.pins c.loop-at.cards
+    c.args.cards.now c.loop-at.heap c.loop-at.pins c.loop-at.cards c.loop-at.last
     (offsets_from c.args.run.offset (c.loop-at.at + c.resting_words-resting.result)) passed
     (ap (offsets_from c.args.run.offset) c.if-at-run.true ∙ sym c.requires.run)
 
@@ -240,5 +260,6 @@ returns-clause-gone c =
     let within = c.loop-at.invariant.1 in
     let whole : c.loop-at.at ≡ c.args.run.count = omega (arith, off, within) in
     passed_all w.types.now w.bricks.now w.g w.planned c.args.found c.args.to c.args.heap.now c.args.pins.now
-    c.args.cards.now c.loop-at.heap c.loop-at.pins c.loop-at.cards (offsets_from c.args.run.offset c.loop-at.at)
+    c.args.cards.now c.loop-at.heap c.loop-at.pins c.loop-at.cards c.loop-at.last
+    (offsets_from c.args.run.offset c.loop-at.at)
     c.loop-at.invariant.0 (ap (offsets_from c.args.run.offset) whole ∙ sym c.requires.run)

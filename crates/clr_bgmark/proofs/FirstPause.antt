@@ -11,14 +11,25 @@ use Rattle.clr_types.specs.declared.handle.Handle.{Handle}
 use Rattle.clr_types.specs.declared.item.Item.{Item}
 use Rattle.clr_types.specs.declared.segment.SegInfo.{SegInfo}
 use Rattle.clr_heap.specs.View.{HeapView, extents, listing, listings}
-use Rattle.clr_bgmark.specs.Pauses.{all_taken, root_grayed, roots_grayed, taken_item, target_grayed, targets_grayed}
-use Rattle.clr_bgmark.specs.Shades.{AreApart, BackgroundView, covers, is_covered, ShadeView}
-use Rattle.clr_bgmark.proofs.Kept.{covers_inside}
+use Rattle.clr_bgmark.specs.Pauses.{all_taken, is_oldest, root_grayed, roots_grayed, taken_item}
+use Rattle.clr_bgmark.specs.Pauses.{target_grayed, targets_grayed}
+use Rattle.clr_bgmark.specs.Shades.{AreApart, BackgroundView, changed_at, covers, is_covered, ShadeView, with_taken}
+use Rattle.clr_bgmark.proofs.Kept.{apart_kept, covers_inside}
 
 pub taken_more : (h : HeapView) (ss : List ShadeView) (xs ys : List Item)
     → all_taken h ss (xs ++ ys) ≡ all_taken h (all_taken h ss xs) ys
 taken_more h ss [] ys = refl
 taken_more h ss (x ∷ xs) ys = taken_more h (taken_item h ss x) xs ys
+
+-- what is taken leaves the segments apart
+pub taken_apart : (h : HeapView) (items : List Item) (ss : List ShadeView) → AreApart ss
+    → AreApart (all_taken h ss items)
+taken_apart h [] ss apart = apart
+taken_apart h (i ∷ items) ss apart = taken_apart h items (taken_item h ss i) (one (is_oldest h i))
+  where
+    one : (b : Bool) → AreApart (if b then changed_at i.place (with_taken i.place) ss else ss)
+    one true = apart_kept (with_taken i.place) (λ s b. refl) ss i.place apart
+    one false = apart
 
 -- n + 1 segments are n segments and the one after them
 pub listings_more : (rows : List TypeRow) (h : HeapView) (k n : ℕ)

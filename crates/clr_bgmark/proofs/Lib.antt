@@ -1,5 +1,6 @@
 pub mod Lookups
 pub mod MoreBits
+pub mod WordSearch
 pub mod Kept
 pub mod GrayPlaces
 pub mod FoundPlaces
@@ -19,3 +20,6 @@ pub mod FirstRoots
 pub mod FirstBegun
 pub mod FirstCounted
 pub mod FoundMarked
+pub mod CardLookups
+pub mod OwnSlots
+pub mod RootedFound

@@ -1,17 +1,16 @@
 -- A scan logs what it reads.
 use Rattle.std.proofs.Common.{◌≡◌, ◌≢◌, ℕ, ◌+◌, ◌/◌, ◌%◌, ◌⊎◌, inl, inr, List, map, filter, refl, sym, ap, subst}
-use Rattle.std.proofs.Common.{◌∙◌, arith, Bool, true, false, ◌&&◌, not, Some, zero, suc, [], ◌∷◌}
+use Rattle.std.proofs.Common.{◌∙◌, arith, Bool, true, false, ◌&&◌, not, Some}
 use Rattle.std.specs.Prelude.{slice_get, IsTrue}
 use Rattle.std.specs.List.{AllByRecursion}
 use Rattle.std.proofs.lemmas.Bool.{cases_Bool, both_ways, eq-eqb, eqb-true}
-use Rattle.clr_types.specs.Rising.{IsIn, find_by}
+use Rattle.clr_types.specs.Rising.{IsIn}
 use Rattle.clr_types.specs.Types.{TypeRow, Form, form_at, is_bytes, slot_offset, slots_of}
 use Rattle.clr_types.specs.declared.item.Item.{Item}
 use Rattle.clr_types.specs.declared.shape.Slot.{Slot}
-use Rattle.clr_types.proofs.ChangedLists.{into_filter, IsIn-map, out_of_filter, rising-distinct}
+use Rattle.clr_types.proofs.ChangedLists.{into_filter, IsIn-map, out_of_filter}
 use Rattle.clr_types.proofs.ListMembers.{from-map}
 use Rattle.clr_types.proofs.SlotsByForm.{bytes_offsets}
-use Rattle.clr_types.proofs.SortedLists.{find_by-member}
 use Rattle.clr_heap.specs.Parts.{item_at}
 use Rattle.clr_heap.specs.View.{HeapView, heap_items, IsHeap, word_of}
 use Rattle.clr_model.specs.Background.{taken}
@@ -20,8 +19,6 @@ use Rattle.clr_model.specs.Reach.{Marked, SlotNames}
 use Rattle.clr_model.proofs.ObjectChanged.{slice_get-map}
 use Rattle.clr_view.specs.View.{IsHeld, object_in, objects_in, slot_value, word_value}
 use Rattle.clr_view.specs.SlotValues.{IsObjectAt, StandsAt}
-use Rattle.clr_view.proofs.Listings.{heap-rise}
-use Rattle.clr_view.proofs.Rises.{objects-rise}
 use Rattle.clr_view.proofs.SlotReads.{slot-told}
 use Rattle.clr_view.proofs.StoredSlots.{bytes-form, value-is}
 use Rattle.clr_mark.specs.Markings.{references_at}
@@ -36,15 +33,9 @@ use Rattle.clr_bgmark.specs.Shades.{BackgroundView, card_of, colour_at, colour_b
 use Rattle.clr_bgmark.specs.Shades.{is_marked, is_outside, is_scanned, is_taken, met_all, ShadeView, with_scanned}
 use Rattle.clr_bgmark.proofs.FollowedSlots.{at}
 use Rattle.clr_bgmark.proofs.Kept.{covered_kept, told_kept}
+use Rattle.clr_bgmark.proofs.OwnSlots.{map_read, object_is}
 use Rattle.clr_bgmark.proofs.ScannedLists.{black_back, black_forth, gray_parts, stands_aligned, stands_named, x_stands}
 use Rattle.clr_bgmark.proofs.ScannedLog.{IsReadOutside, logged_all, LogsReferences}
-
--- what is read of the images is the image of what is read
-map_read : {X Y : Type 0} (f : X → Y) (xs : List X) (j : ℕ) (y : Y) → slice_get (map f xs) j ≡ Some y
-    → (x : X) × (slice_get xs j ≡ Some x) × (f x ≡ y)
-map_read f [] j y e = absurd cc
-map_read f (x ∷ xs) zero y e = let same : f x ≡ y = cc in (x, refl, same)
-map_read f (x ∷ xs) (suc j) y e = map_read f xs j y e
 
 -- ---- what was taken
 
@@ -122,17 +113,6 @@ module _ (rows : List TypeRow) (h : HeapView) (heap : IsHeap h) (held : IsHeld r
 
   own_present : IsIn own objects
   own_present = IsIn-map (object_in rows (word_of h)) (into_filter _ (heap_items rows h) stands.object stands.listed)
-
-  -- the object with the name x is the item's
-  object_is : (o : Object) → IsIn o objects → o.name ≡ x → o ≡ own
-  object_is o l e =
-      let key : Object → ℕ = λ o. o.name in
-      let distinct = rising-distinct key objects
-      (objects-rise rows (word_of h) (heap_items rows h) (heap-rise rows h held.walkable heap)) in
-      let same : Some o ≡ Some own =
-      sym (find_by-member key o objects distinct l)
-      ∙ ap (λ (n : ℕ). find_by key n objects) e ∙ stands.named in
-      cc
 
   named : (offset : ℕ) → IsIn offset (references_at rows h x) → word_of h (x + offset) ≢ 0
       → SlotNames objects x (word_of h (x + offset))
@@ -212,7 +192,7 @@ module _ (rows : List TypeRow) (h : HeapView) (heap : IsHeap h) (held : IsHeld r
 
     -- the object that became black is the one that was scanned
     read_is : (a : ℕ) → (r : IsReadAt m old new a) → r.object ≡ own
-    read_is a r = object_is r.object (subst (λ os. IsIn r.object os) same r.present) (elim
+    read_is a r = object_is rows h heap held x i stands r.object (subst (λ os. IsIn r.object os) same r.present) (elim
         (black_forth rows h heap held v all known x whole gray closed r.object.name r.black) [
           | inl black ↦ absurd (r.was_not black)
           | inr is ↦ is

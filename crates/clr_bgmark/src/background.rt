@@ -7,25 +7,31 @@ ghost use Rattle.std.specs.List.{AllByRecursion};
 ghost use Rattle.clr_model.specs.Reach.{Reach};
 ghost use Rattle.clr_view.specs.Marks.{Marked};
 ghost use Rattle.clr_view.specs.World.{HandlesStand};
+ghost use Rattle.clr_types.specs.Descriptors.{offsets_from};
+ghost use Rattle.clr_heap.specs.Memories.{memory_index};
+ghost use Rattle.clr_heap.specs.Parts.{item_at};
+ghost use Rattle.clr_heap.specs.View.{word_of};
 ghost use Rattle.clr_mark.specs.Marks.{IsClosed, IsRemarked};
+ghost use Rattle.clr_mark.specs.Markings.{references_at};
 ghost use Rattle.clr_mark.specs.Ties.{IsStart, Joins};
 ghost use Rattle.clr_mark.specs.Waiting.{IsGray};
+ghost use Rattle.clr_bgmark.specs.LastPause.{LogHolds};
 ghost use Rattle.clr_bgmark.specs.Pauses.{roots_grayed, HasBegun, IsFound, root_grayed, target_grayed, targets_grayed};
 ghost use Rattle.clr_bgmark.specs.Scanning.{AreObjects, followed, HasScanned, HasScannedOne, HaveWholeObjects};
 ghost use Rattle.clr_bgmark.specs.Scanning.{IsCounted, HasLogged, marking_in};
 ghost use Rattle.clr_bgmark.specs.Shades.{blackened, changed_at, IsShade, colour_at, grayed, is_covered, is_gray};
-ghost use Rattle.clr_bgmark.specs.Shades.{is_logged, met, with_logged};
+ghost use Rattle.clr_bgmark.specs.Shades.{is_logged, met, met_all, with_logged};
 ghost use Rattle.clr_mark.specs.Roots as roots;
 
 use crate::NoMemory;
 use crate::first_pause::{shades_of, take_oldest};
 use crate::last_pause::mark_found;
 use crate::shade::{Bit, Shade};
-use crate::shades::{colour_in, find, first_gray, logged_in, set_bit_at};
+use crate::shades::{colour_in, find, find_near, first_gray, logged_in, set_bit_at, set_bit_near};
 use clr_handles::Handles;
 use clr_heap::Heap;
 use clr_mark::Marker;
-use clr_types::{Handle, Types};
+use clr_types::{Handle, Item, ReferenceRun, Types};
 use std::alloc::Global;
 use std::marker::Model;
 
@@ -96,9 +102,18 @@ impl Background {
     pub fn colour(&self, obj: u64) -> Colour
         ensures { result ≡ colour_at self.now.shades obj }
     {
-        match find(&self.shades, obj) {
-            Some(k) => colour_in(&self.shades, k, obj),
-            None => Colour::Outside,
+        let (_, colour) = self.colour_near(0, obj);
+        colour
+    }
+
+    // The same, and which segment has the place, a guess for the next one. It is looked for at `near` first.
+    #[inline(always)]
+    fn colour_near(&self, near: usize, obj: u64) -> (usize, Colour)
+        ensures { result.1 ≡ colour_at self.now.shades obj }
+    {
+        match find_near(&self.shades, near, obj) {
+            Some(k) => (k, colour_in(&self.shades, k, obj)),
+            None => (near, Colour::Outside),
         }
     }
 
@@ -196,12 +211,13 @@ impl Background {
         ensures { self.new ≡ root_grayed self.old root }
     {
         if self.colour(root) == Colour::White {
-            self.gray_white(root);
+            self.gray_white(0, root);
         }
     }
 
     /// The last pause: marks in the heap what the roots and what is gray or black reach, by slots and by dependent
-    /// handles, where nothing is marked before. None runs then.
+    /// handles, where nothing is marked before. None runs then. Of the black objects only those are followed that
+    /// stand on a logged card.
     pub fn finish(
         &mut self,
         heap: &mut Heap,
@@ -217,6 +233,7 @@ impl Background {
         requires handles { HandlesStand types.now heap.old handles.now }
         requires locals { roots.AreObjects types.now heap.old locals.now }
         requires ready { roots.AreObjects types.now heap.old ready.now }
+        requires log { LogHolds types.now (objects_in types.now heap.old) self.old.shades }
         ensures background { self.new ≡ record { running = false; shades = []; gray = 0 } }
         ensures marker { marker.new ≡ record marker.old { stack = []; range = None; oldest = 2 } }
         ensures gray { IsGray types.now heap.new marker.new }
@@ -286,69 +303,133 @@ impl Background {
             → (marking_in (objects_in types.now heap.now) self.old.shades).gray ≡ [] }
     {
         match self.next_gray() {
-            Some(obj) => {
-                self.scan(heap, types, obj);
+            Some((near, obj)) => {
+                self.scan(heap, types, near, obj);
                 true
             }
             None => false,
         }
     }
 
-    // A gray place.
-    fn next_gray(&mut self) -> Option<u64>
+    // A gray place, and where its segment is looked for first.
+    fn next_gray(&mut self) -> Option<(usize, u64)>
         ensures same { self.new ≡ self.old }
         ensures shades { AllByRecursion IsShade self.old.shades }
-        ensures gray { IfSome result (λ a. is_gray self.old.shades a ≡ true) }
-        ensures aligned { IfSome result (λ a. a % 8 ≡ 0) }
+        ensures gray { IfSome result (λ f. is_gray self.old.shades f.1 ≡ true) }
+        ensures aligned { IfSome result (λ f. f.1 % 8 ≡ 0) }
         ensures none { IfNone result ((a : ℕ) → is_gray self.old.shades a ≡ false) }
     {
         first_gray(&mut self.shades)
     }
 
-    // Follows what the slots of an object name, and makes it black.
-    fn scan(&mut self, heap: &Heap, types: &Types, obj: u64)
+    // Follows what the slots of an object name, and makes it black. Its segment is looked for at `near` first.
+    fn scan(&mut self, heap: &Heap, types: &Types, near: usize, obj: u64)
         requires held { IsHeld types.now heap.now }
         requires stands { StandsAt types.now heap.now obj }
         ensures { self.new ≡ followed types.now heap.now self.old obj }
     {
         heap.lawful();
-        let item = heap.item(types, obj);
-        let k = heap.segment_of(obj);
-        for offset in types.slots(item.type_id, item.len) {
-            let slot = obj + offset;
-            self.meet(heap.word_at(k, slot), slot);
+        let k = heap.segment_near(near, obj);
+        let item = heap.item_of_word(types, k, obj, heap.word_at(k, obj));
+        self.meet_references(heap, types, near, k, item);
+        self.blacken(near, obj);
+    }
+
+    // Follows the references of the object that an item in segment `k` is.
+    #[inline]
+    fn meet_references(&mut self, heap: &Heap, types: &Types, near: usize, k: usize, item: Item)
+        requires held { IsHeld types.now heap.now }
+        requires stands { StandsAt types.now heap.now item.place }
+        requires segment { k ≡ memory_index heap.now.memories item.place }
+        requires item { item ≡ item_at types.now (word_of heap.now) item.place }
+        ensures { self.new
+            ≡ met_all (word_of heap.now) self.old item.place (references_at types.now heap.now item.place) }
+    {
+        heap.lawful();
+        match types.reference_run(item.type_id, item.len) {
+            Some(run) => self.meet_run(heap, types, near, k, item.place, run),
+            None => self.meet_each(heap, types, near, k, item),
         }
-        self.blacken(obj);
+    }
+
+    // The references of an object are followed, where they are one run.
+    #[inline]
+    fn meet_run(
+        &mut self,
+        heap: &Heap,
+        types: &Types,
+        near: usize,
+        k: usize,
+        obj: u64,
+        run: ReferenceRun,
+    )
+        requires held { IsHeld types.now heap.now }
+        requires stands { StandsAt types.now heap.now obj }
+        requires segment { k ≡ memory_index heap.now.memories obj }
+        requires run { references_at types.now heap.now obj ≡ offsets_from run.offset run.count }
+        ensures { self.new ≡ met_all (word_of heap.now) self.old obj (references_at types.now heap.now obj) }
+    {
+        heap.lawful();
+        let _ = types;
+        let mut shade = near;
+        for i in 0..run.count {
+            let slot = obj + run.offset + 8 * i;
+            shade = self.meet(shade, heap.word_at(k, slot), slot);
+        }
+    }
+
+    // The same for any object, one after the other.
+    #[inline(never)]
+    fn meet_each(&mut self, heap: &Heap, types: &Types, near: usize, k: usize, item: Item)
+        requires held { IsHeld types.now heap.now }
+        requires stands { StandsAt types.now heap.now item.place }
+        requires segment { k ≡ memory_index heap.now.memories item.place }
+        requires item { item ≡ item_at types.now (word_of heap.now) item.place }
+        ensures { self.new
+            ≡ met_all (word_of heap.now) self.old item.place (references_at types.now heap.now item.place) }
+    {
+        heap.lawful();
+        let mut shade = near;
+        for offset in types.slots(item.type_id, item.len) {
+            let slot = item.place + offset;
+            shade = self.meet(shade, heap.word_at(k, slot), slot);
+        }
     }
 
     // The slot at an address names `target`: where that is white it becomes gray, and where it wasn't taken the slot's
-    // card is logged.
-    fn meet(&mut self, target: u64, slot: u64)
+    // card is logged. The segment of the target is looked for at `near` first. It answers which one it is, a guess for
+    // the next target.
+    #[inline(always)]
+    fn meet(&mut self, near: usize, target: u64, slot: u64) -> usize
         ensures { self.new ≡ met self.old target slot }
     {
         if target == 0 {
-            return;
+            return near;
         }
-        match self.colour(target) {
-            Colour::White => self.gray_white(target),
+        let (k, colour) = self.colour_near(near, target);
+        match colour {
+            Colour::White => self.gray_white(k, target),
             Colour::Outside => self.wrote(slot),
             Colour::Gray | Colour::Black => {}
         }
+        k
     }
 
-    // A white object becomes gray.
-    fn gray_white(&mut self, obj: u64)
+    // A white object becomes gray. Its segment is looked for at `near` first.
+    #[inline(always)]
+    fn gray_white(&mut self, near: usize, obj: u64)
         ensures { self.new ≡ grayed self.old obj }
     {
-        set_bit_at(&mut self.shades, Bit::Marked, obj);
+        set_bit_near(&mut self.shades, near, Bit::Marked, obj);
         self.gray = self.gray.saturating_add(1);
     }
 
-    // A gray object becomes black.
-    fn blacken(&mut self, obj: u64)
+    // A gray object becomes black. Its segment is looked for at `near` first.
+    #[inline]
+    fn blacken(&mut self, near: usize, obj: u64)
         ensures { self.new ≡ blackened self.old obj }
     {
-        set_bit_at(&mut self.shades, Bit::Scanned, obj);
+        set_bit_near(&mut self.shades, near, Bit::Scanned, obj);
         self.gray = self.gray.saturating_sub(1);
     }
 

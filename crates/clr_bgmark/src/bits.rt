@@ -1,6 +1,7 @@
 // Sets of numbers.
-ghost use Rattle.std.specs.Prelude.{◌≡◌, ℕ, ◌*◌, ◌<◌, ◌≤◌, ◌^◌, ◌&&◌, not, true, false, length, get_or, IfOk, IfSome};
-ghost use Rattle.std.specs.Prelude.{IfNone};
+ghost use Rattle.std.specs.Int.{bit_at};
+ghost use Rattle.std.specs.Prelude.{◌≡◌, ◌⊎◌, ℕ, ◌*◌, ◌/◌, ◌%◌, ◌<◌, ◌≤◌, ◌^◌, ◌&&◌, not, true, false, length, get_or};
+ghost use Rattle.std.specs.Prelude.{IfNone, IfOk, IfSome};
 ghost use Rattle.clr_bgmark.specs.Bits.{has_bit, with_bit};
 
 use std::alloc::{AllocError, Global};
@@ -55,13 +56,10 @@ impl Bits {
     {
         let mut n = from;
         while n < past {
-            if n % 64 == 0 && self.word(n / 64) == other.word(n / 64) {
-                n += 64;
-            } else if self.has(n) && !other.has(n) {
-                return Some(n);
-            } else {
-                n += 1;
+            if let Some(m) = first_in(beside(self.word(n / 64), other.word(n / 64)), n) {
+                return if m < past { Some(m) } else { None };
             }
+            n += 64 - n % 64;
         }
         None
     }
@@ -77,13 +75,10 @@ impl Bits {
     {
         let mut n = from;
         while n < past {
-            if n % 64 == 0 && self.word(n / 64) == 0 {
-                n += 64;
-            } else if self.has(n) {
-                return Some(n);
-            } else {
-                n += 1;
+            if let Some(m) = first_in(self.word(n / 64), n) {
+                return if m < past { Some(m) } else { None };
             }
+            n += 64 - n % 64;
         }
         None
     }
@@ -108,4 +103,30 @@ impl Bits {
         let k = (n / 64) as usize;
         self.words[k] |= 1 << (n % 64);
     }
+}
+
+// The first number from `n` on that is among the 64 numbers of its word, and in the word.
+#[inline]
+fn first_in(word: u64, n: u64) -> Option<u64>
+    requires { n < 2 ^ 62 }
+    ensures low { IfSome result (λ m. n ≤ m) }
+    ensures near { IfSome result (λ m. m / 64 ≡ n / 64) }
+    ensures here { IfSome result (λ m. bit_at word (m % 64) ≡ 1) }
+    ensures first { IfSome result (λ m. (i : ℕ) → n ≤ i → i < m → bit_at word (i % 64) ≡ 0) }
+    ensures none { IfNone result ((i : ℕ) → n ≤ i → i / 64 ≡ n / 64 → bit_at word (i % 64) ≡ 0) }
+{
+    let rest = word >> (n % 64);
+    if rest == 0 {
+        return None;
+    }
+    Some(n + rest.trailing_zeros() as u64)
+}
+
+// The bits of a word that aren't in the other.
+#[inline]
+fn beside(one: u64, other: u64) -> u64
+    ensures has { (i : ℕ) → i < 64 → bit_at result i ≡ 1 → (bit_at one i ≡ 1) × (bit_at other i ≡ 0) }
+    ensures lacks { (i : ℕ) → i < 64 → bit_at result i ≡ 0 → (bit_at one i ≡ 0) ⊎ (bit_at other i ≡ 1) }
+{
+    one & !other
 }

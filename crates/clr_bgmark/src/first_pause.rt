@@ -8,7 +8,7 @@ ghost use Rattle.clr_bgmark.specs.Shades.{AreApart, IsShade};
 
 use crate::NoMemory;
 use crate::shade::{Bit, Shade};
-use crate::shades::set_bit_at;
+use crate::shades::set_bit_near;
 use clr_heap::Heap;
 use clr_types::{Item, Types};
 use std::alloc::Global;
@@ -31,7 +31,8 @@ pub(crate) fn shades_of(alloc: Global, heap: &Heap) -> Result<Vec<Shade>, NoMemo
 
 /// Takes the objects of generation 2.
 pub(crate) fn take_oldest(shades: &mut Vec<Shade>, heap: &Heap, types: &Types)
-    requires { IsHeld types.now heap.now }
+    requires held { IsHeld types.now heap.now }
+    requires apart { AreApart shades.old.items }
     ensures { shades.new.items ≡ all_taken heap.now shades.old.items (heap_items types.now heap.now) }
 {
     for k in 0..heap.segments() {
@@ -43,18 +44,21 @@ pub(crate) fn take_oldest(shades: &mut Vec<Shade>, heap: &Heap, types: &Types)
 fn take_segment(shades: &mut Vec<Shade>, heap: &Heap, types: &Types, k: usize)
     requires in_range { k < length heap.now.segments }
     requires walkable { IsWalkable types.now heap.now k }
+    requires apart { AreApart shades.old.items }
     ensures { shades.new.items ≡ all_taken heap.now shades.old.items (listing types.now heap.now k) }
 {
     for item in heap.walk(types, k) {
-        take_if_oldest(shades, heap, item);
+        take_if_oldest(shades, k, heap, item);
     }
 }
 
-// Takes the object that an item is, where it is one of generation 2.
-fn take_if_oldest(shades: &mut Vec<Shade>, heap: &Heap, item: Item)
+// Takes the object that an item is, where it is one of generation 2. Its segment is looked for at `near` first.
+#[inline]
+fn take_if_oldest(shades: &mut Vec<Shade>, near: usize, heap: &Heap, item: Item)
+    requires { AreApart shades.old.items }
     ensures { shades.new.items ≡ taken_item heap.now shades.old.items item }
 {
     if item.type_id.0 != 0 && heap.gen_of(item.place) == 2 {
-        set_bit_at(shades, Bit::Taken, item.place);
+        set_bit_near(shades, near, Bit::Taken, item.place);
     }
 }

@@ -1,37 +1,116 @@
 // What is gray or black is marked in the heap.
-ghost use Rattle.std.specs.Prelude.{◌≡◌, ℕ, ◌^◌, ◌/◌, ◌<◌, ◌≤◌, [], length, None, IfSome, IfNone, ◌↔◌, ◌⊎◌};
+ghost use Rattle.std.specs.Prelude.{◌≡◌, ℕ, ◌^◌, ◌/◌, ◌<◌, ◌≤◌, [], length, true, false, None, IfSome, IfNone};
+ghost use Rattle.std.specs.Prelude.{◌↔◌, ◌⊎◌};
+ghost use Rattle.std.specs.List.{AllByRecursion};
+ghost use Rattle.clr_heap.specs.Memories.{HasWord, memory_index};
 ghost use Rattle.clr_model.specs.Reach.{Reach};
 ghost use Rattle.clr_view.specs.Marks.{Marked};
-ghost use Rattle.clr_mark.specs.Marks.{IsRemarked, LeadsTo};
+ghost use Rattle.clr_view.specs.SlotValues.{StandsAt};
+ghost use Rattle.clr_view.specs.View.{IsHeld, objects_in};
+ghost use Rattle.clr_mark.specs.Marks.{is_condemned_place, IsRemarked, LeadsTo, with_mark};
 ghost use Rattle.clr_mark.specs.Waiting.{IsGray};
+ghost use Rattle.clr_bgmark.specs.LastPause.{HasRooted, IsDue, LogHolds};
 ghost use Rattle.clr_bgmark.specs.Pauses.{IsBehind, IsFound, IsNextFound};
 ghost use Rattle.clr_bgmark.specs.Scanning.{AreObjects};
-ghost use Rattle.clr_bgmark.specs.Shades.{AreApart};
+ghost use Rattle.clr_bgmark.specs.Shades.{AreApart, IsAt, IsShade};
 
 use crate::shade::Shade;
+use crate::shades::any_logged;
 use clr_heap::Heap;
 use clr_mark::Marker;
-use clr_types::Types;
+use clr_types::{Types, mark};
 
-/// Marks in the heap what is gray or black, and what that reaches by slots.
+/// Marks in the heap what is gray or black, and what that reaches by slots. Of the black objects only those are
+/// followed that stand on a logged card: what the others name is gray or black.
 pub(crate) fn mark_found(shades: &Vec<Shade>, heap: &mut Heap, types: &Types, marker: &mut Marker)
     requires apart { AreApart shades.now.items }
+    requires shades { AllByRecursion IsShade shades.now.items }
     requires gray { IsGray types.now heap.old marker.old }
     requires oldest { marker.old.oldest ≡ 2 }
     requires objects { AreObjects types.now heap.old shades.now.items }
+    requires log { LogHolds types.now (objects_in types.now heap.old) shades.now.items }
     ensures marker { marker.new ≡ record marker.old { stack = []; range = None } }
     ensures gray { IsGray types.now heap.new marker.new }
     ensures words { IsRemarked types.now heap.old heap.new }
     ensures marked { (x : ℕ) → Marked types.now heap.new x ↔ Reach (LeadsTo types.now heap.old marker.old.oldest)
         (λ y. Marked types.now heap.old y ⊎ IsFound shades.now.items y) x }
 {
+    root_found(shades, heap, types, marker);
+    mark_each(shades, heap, types);
+    marker.drain_slots(heap, types);
+}
+
+// Marks what is gray, and what is black and stands on a logged card, and lets it wait.
+fn root_found(shades: &Vec<Shade>, heap: &mut Heap, types: &Types, marker: &mut Marker)
+    requires apart { AreApart shades.now.items }
+    requires shades { AllByRecursion IsShade shades.now.items }
+    requires gray { IsGray types.now heap.old marker.old }
+    requires oldest { marker.old.oldest ≡ 2 }
+    requires objects { AreObjects types.now heap.old shades.now.items }
+    ensures { HasRooted types.now shades.now.items heap.old heap.new marker.old marker.new }
+{
     let mut spot = Spot { k: 0, from: 0 };
     while let Some((k, obj)) = next_found(shades, spot) {
-        marker.root(heap, types, obj);
-        marker.drain_if_full(heap, types);
         spot = Spot { k, from: obj + 8 };
+        if is_due(shades, k, heap, types, obj) {
+            marker.root(heap, types, obj);
+            marker.drain_if_full(heap, types);
+        }
     }
-    marker.drain_slots(heap, types);
+}
+
+// Whether a found object in segment `k` of the first pause is gray, or a card is logged between its place and its end.
+// Where it is neither, it isn't due.
+fn is_due(shades: &Vec<Shade>, k: usize, heap: &Heap, types: &Types, obj: u64) -> bool
+    requires apart { AreApart shades.now.items }
+    requires shades { AllByRecursion IsShade shades.now.items }
+    requires within { k < length shades.now.items }
+    requires at { IsAt shades.now.items k obj }
+    requires held { IsHeld types.now heap.now }
+    requires stands { StandsAt types.now heap.now obj }
+    ensures { result ≡ false → IsDue types.now (objects_in types.now heap.now) shades.now.items obj → ⊥ }
+{
+    heap.lawful();
+    if !shades[k].is_scanned(obj) {
+        return true;
+    }
+    let item = heap.item(types, obj);
+    any_logged(shades, k, obj, obj + item.size)
+}
+
+// Marks what is gray or black, and nothing else.
+fn mark_each(shades: &Vec<Shade>, heap: &mut Heap, types: &Types)
+    requires apart { AreApart shades.now.items }
+    requires held { IsHeld types.now heap.old }
+    requires objects { AreObjects types.now heap.old shades.now.items }
+    ensures words { IsRemarked types.now heap.old heap.new }
+    ensures kept { (x : ℕ) → Marked types.now heap.old x → Marked types.now heap.new x }
+    ensures only { (x : ℕ) → Marked types.now heap.new x → Marked types.now heap.old x ⊎ IsFound shades.now.items x }
+    ensures found { (x : ℕ) → IsFound shades.now.items x → Marked types.now heap.new x }
+{
+    heap.lawful();
+    let _ = types.count();
+    let mut near = 0;
+    let mut at = Spot { k: 0, from: 0 };
+    while let Some((k, obj)) = next_found(shades, at) {
+        near = heap.segment_near(near, obj);
+        mark_at(heap, near, obj);
+        at = Spot { k, from: obj + 8 };
+    }
+}
+
+// Marks the object at `obj`, in segment `k`.
+#[inline]
+fn mark_at(heap: &mut Heap, k: usize, obj: u64)
+    requires word { HasWord heap.old.memories obj }
+    requires segment { k ≡ memory_index heap.old.memories obj }
+    requires condemned { is_condemned_place heap.old 2 obj ≡ true }
+    ensures { heap.new ≡ with_mark heap.old 2 obj }
+{
+    let word = heap.word_at(k, obj);
+    if !mark::is_marked(word) {
+        heap.set_word_at(k, obj, word + 1);
+    }
 }
 
 // Where the search for marked places stands: at a segment, and at an address from which on they are still to be looked

@@ -1,6 +1,8 @@
 // The bits of all segments that there were at the first pause.
-ghost use Rattle.std.specs.Prelude.{◌≡◌, ℕ, ◌%◌, ◌<◌, true, false, length, IfSome, IfNone};
+ghost use Rattle.std.specs.Prelude.{◌≡◌, ℕ, ◌%◌, ◌^◌, ◌<◌, ◌≤◌, true, false, length, get_or, IfSome, IfNone};
+ghost use Rattle.std.specs.List.{AllByRecursion};
 ghost use Rattle.clr_bgmark.specs.Shades.{AreApart, changed_at, colour_at, is_covered, is_gray, is_logged, IsAt};
+ghost use Rattle.clr_bgmark.specs.Shades.{covers, IsShade};
 ghost use Rattle.clr_bgmark.specs.Shades.{with_set};
 ghost use Rattle.clr_bgmark.specs.Shades as shades;
 
@@ -21,7 +23,34 @@ pub(crate) fn find(shades: &Vec<Shade>, a: u64) -> Option<usize>
     None
 }
 
+/// The number of the segment that has the address, at once where that is `near`, a guess.
+#[inline(always)]
+pub(crate) fn find_near(shades: &Vec<Shade>, near: usize, a: u64) -> Option<usize>
+    requires { AreApart shades.now.items }
+    ensures within { IfSome result (λ k. k < length shades.now.items) }
+    ensures at { IfSome result (λ k. IsAt shades.now.items k a) }
+    ensures none { IfNone result (is_covered shades.now.items a ≡ false) }
+{
+    if is_in(shades, near, a) {
+        return Some(near);
+    }
+    find(shades, a)
+}
+
+// Whether segment `k` is there, and has the address.
+#[inline(always)]
+fn is_in(shades: &Vec<Shade>, k: usize, a: u64) -> bool
+    ensures { result ≡ true → (d : _)
+        → (k < length shades.now.items) × (covers (get_or shades.now.items k d) a ≡ true) }
+{
+    match shades.get(k) {
+        Some(shade) => shade.covers(a),
+        None => false,
+    }
+}
+
 /// The colour of a place in segment `k`.
+#[inline(always)]
 pub(crate) fn colour_in(shades: &Vec<Shade>, k: usize, a: u64) -> Colour
     requires within { k < length shades.now.items }
     requires at { IsAt shades.now.items k a }
@@ -35,7 +64,7 @@ pub(crate) fn colour_in(shades: &Vec<Shade>, k: usize, a: u64) -> Colour
 }
 
 // The colour that three bits tell.
-#[inline]
+#[inline(always)]
 fn colour_by(scanned: bool, marked: bool, taken: bool) -> Colour
     ensures { result ≡ shades.colour_by scanned marked taken }
 {
@@ -59,21 +88,61 @@ pub(crate) fn logged_in(shades: &Vec<Shade>, k: usize, a: u64) -> bool
     shades[k].is_logged(a)
 }
 
-/// A gray place, the first one of its segment.
-pub(crate) fn first_gray(shades: &mut Vec<Shade>) -> Option<u64>
+/// Whether a card is logged between these addresses. Segments are looked for at `near` first.
+pub(crate) fn any_logged(shades: &Vec<Shade>, near: usize, low: u64, high: u64) -> bool
+    requires apart { AreApart shades.now.items }
+    requires shades { AllByRecursion IsShade shades.now.items }
+    requires small { high < 2 ^ 63 }
+    ensures { result ≡ false → (a : ℕ) → low ≤ a → a < high → is_logged shades.now.items a ≡ false }
+{
+    let mut a = low;
+    while a < high {
+        if logged_near(shades, near, a) {
+            return true;
+        }
+        a = (a / 2048 + 1) * 2048;
+    }
+    false
+}
+
+// Whether the card of a slot is logged. Its segment is looked for at `near` first.
+#[inline]
+fn logged_near(shades: &Vec<Shade>, near: usize, a: u64) -> bool
+    requires { AreApart shades.now.items }
+    ensures { result ≡ is_logged shades.now.items a }
+{
+    match find_near(shades, near, a) {
+        Some(k) => logged_in(shades, k, a),
+        None => false,
+    }
+}
+
+/// A gray place, the first one of its segment, and the number of the segment, a guess.
+pub(crate) fn first_gray(shades: &mut Vec<Shade>) -> Option<(usize, u64)>
     requires { AreApart shades.old.items }
     ensures same { shades.new.items ≡ shades.old.items }
-    ensures gray { IfSome result (λ a. is_gray shades.old.items a ≡ true) }
-    ensures aligned { IfSome result (λ a. a % 8 ≡ 0) }
+    ensures gray { IfSome result (λ f. is_gray shades.old.items f.1 ≡ true) }
+    ensures aligned { IfSome result (λ f. f.1 % 8 ≡ 0) }
     ensures none { IfNone result ((a : ℕ) → is_gray shades.old.items a ≡ false) }
 {
     for k in 0..shades.len() {
         let shade = &mut shades[k];
         if let Some(a) = shade.first_gray() {
-            return Some(a);
+            return Some((k, a));
         }
     }
     None
+}
+
+/// Sets a bit of an address, where its segment is there: at once where that is `near`, a guess.
+#[inline(always)]
+pub(crate) fn set_bit_near(shades: &mut Vec<Shade>, near: usize, bit: Bit, a: u64)
+    requires { AreApart shades.old.items }
+    ensures { shades.new.items ≡ changed_at a (with_set bit a) shades.old.items }
+{
+    if let Some(k) = find_near(shades, near, a) {
+        set_bit_in(shades, k, bit, a);
+    }
 }
 
 /// Sets a bit of an address, where its segment is there.
@@ -85,8 +154,9 @@ pub(crate) fn set_bit_at(shades: &mut Vec<Shade>, bit: Bit, a: u64)
     }
 }
 
-// Sets a bit of an address in segment `k`.
-fn set_bit_in(shades: &mut Vec<Shade>, k: usize, bit: Bit, a: u64)
+/// Sets a bit of an address in segment `k`.
+#[inline(always)]
+pub(crate) fn set_bit_in(shades: &mut Vec<Shade>, k: usize, bit: Bit, a: u64)
     requires within { k < length shades.old.items }
     requires at { IsAt shades.old.items k a }
     ensures { shades.new.items ≡ changed_at a (with_set bit a) shades.old.items }

@@ -66,8 +66,8 @@ module _ (m : Machine) (marking : Marking) (answer : Collected) (new : Machine) 
 
 -- ---- the heap
 
--- The heap of a world before the last pause, and before its sweep, with what is kept marked; then when it was swept, and
--- when empty segments were given back.
+-- The heap of a world before the last pause, and before its sweep, with what is kept marked; then when it was swept,
+-- and when empty segments were given back.
 module _ (w : World) (marking : Marking) (marked : HeapView) (handles : FinMap nat_cmp Handle) (queues : Queues)
     (least : 2 ≤ 2) (k : HasMarkedKept w (LastPauseStart marking) marked handles queues 2) (swept : HeapView)
     (swept_heap : IsHeap swept) (s : HasSwept w.rows marked swept 2) (new : HeapView)

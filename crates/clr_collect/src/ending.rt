@@ -13,6 +13,7 @@ ghost use Rattle.clr_view.specs.World.{IsWorldOf};
 ghost use Rattle.clr_ctx.specs.Contexts.{IsIndex};
 ghost use Rattle.clr_generations.specs.Tables.{AreTablesOf};
 ghost use Rattle.clr_mark.specs.Waiting.{IsGray};
+ghost use Rattle.clr_bgmark.specs.LastPause.{LogHolds};
 ghost use Rattle.clr_bgmark.specs.Scanning.{AreObjects, marking_in};
 ghost use Rattle.clr_handles.specs.Tops.{pinned_in};
 ghost use Rattle.clr_collect.specs.Collecting.{HasMarkedAlive, HasMarkedKept, LastPauseStart, world_with};
@@ -43,8 +44,8 @@ use clr_types::Types;
 ///
 /// It is the end, in every lawful machine, its objects named by their places, that has this memory, these locals and
 /// handles, this finalisation queue, and no thread between the halves of a step, of a background collection that has
-/// marked what is gray and black here. Sums and options are that machine's own, and whether large segments are to be
-/// compacted stays as it says.
+/// marked what is gray and black here. What a slot of a black object names is gray or black, or the slot is logged.
+/// Sums and options are that machine's own, and whether large segments are to be compacted stays as it says.
 ///
 /// The answer counts the objects that stay and those that go, and the bytes that went from generation 0 to 1 and from
 /// 1 to 2. Nothing is marked before and after, and no free item's head is. Headers and padding are clean before and
@@ -71,6 +72,7 @@ pub fn end_background(
         × IsPlaceNamed m × (lowest_in_step m ≡ None) }
     requires tables { AreTablesOf types.now heap.old cards.old bricks.old }
     requires objects { AreObjects types.now heap.old background.old.shades }
+    requires log { LogHolds types.now (objects_in types.now heap.old) background.old.shades }
     ensures collected { (m : Machine) → IsWorldOf (world_with types.now heap.old locals.now handles.old finals.old) m
         → IsPlaceNamed m → lowest_in_step m ≡ None
         → (after : Machine)
@@ -121,6 +123,7 @@ fn mark_found_kept(
     requires world { (m : Machine) × IsWorldOf (world_with types.now heap.old locals.now handles.old finals.old) m
         × IsPlaceNamed m }
     requires objects { AreObjects types.now heap.old background.old.shades }
+    requires log { LogHolds types.now (objects_in types.now heap.old) background.old.shades }
     ensures kept { HasMarkedKept (world_with types.now heap.old locals.now handles.old finals.old)
         (LastPauseStart (marking_in (objects_in types.now heap.old) background.old.shades)) heap.new handles.new
         finals.new 2 }
@@ -153,6 +156,7 @@ fn mark_found_alive(
     requires world { (m : Machine) × IsWorldOf (world_with types.now heap.old locals.now handles.now finals.now) m
         × IsPlaceNamed m }
     requires objects { AreObjects types.now heap.old background.old.shades }
+    requires log { LogHolds types.now (objects_in types.now heap.old) background.old.shades }
     ensures alive { HasMarkedAlive (world_with types.now heap.old locals.now handles.now finals.now)
         (LastPauseStart (marking_in (objects_in types.now heap.old) background.old.shades)) heap.new 2 }
     ensures gray { IsGray types.now heap.new marker.new }

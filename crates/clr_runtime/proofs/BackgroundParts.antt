@@ -18,13 +18,16 @@ use Rattle.clr_mark.specs.Marks.{IsClosed}
 use Rattle.clr_mark.specs.Roots as roots
 use Rattle.clr_model.specs.Background.{IsBegun, IsLawfulMarking, ScansUpTo, taken}
 use Rattle.clr_model.specs.Lawful.{IsPlaceNamed}
+use Rattle.clr_model.specs.Lookups.{lowest_in_step}
 use Rattle.clr_model.specs.Machine.{begun_store, Machine, Marking, Object, ref}
 use Rattle.clr_model.specs.Reach.{SlotNames}
 use Rattle.clr_model.proofs.Remarked.{begun_lawful, remarked_place_named, scans_lawful}
 use Rattle.clr_model.proofs.SeenSound.{found-at}
-use Rattle.clr_background.specs.Log.{IsNullOrMarked, LogLaw, slot_address}
+use Rattle.clr_background.specs.Log.{IsNullOrMarked, LogLaw, slot_address, StrictLogLaw}
+use Rattle.clr_background.proofs.LogHolds.{strict_log_holds}
 use Rattle.clr_background.proofs.Markings.{MarksOn, scans_on_marking}
 use Rattle.clr_background.proofs.Members.{read_member, stands_or_not}
+use Rattle.clr_bgmark.specs.LastPause.{LogHolds}
 use Rattle.clr_bgmark.specs.Pauses.{HasBegun}
 use Rattle.clr_bgmark.specs.Scanning.{AreObjects, HasLogged, HasScanned, HaveWholeObjects, IsCounted, IsTakenAt}
 use Rattle.clr_bgmark.specs.Scanning.{LogsRead, marking_in}
@@ -283,6 +286,17 @@ module _ (p : Parts) (is : IsRuntime p) (heap : IsHeap p.heap) where
 
     pub same_old : marking_by p.background.shades ≡ marking_in (objects_in p.types p.heap) p.background.shades
     same_old = marking_is p.types p.heap heap is.shown.held old_shades parts_objects
+
+    -- no thread is between the halves of a step: what black objects name is gray or black, or logged
+    pub parts_log : lowest_in_step (seen p) ≡ None
+        → LogHolds p.types (objects_in p.types p.heap) p.background.shades
+    parts_log idle = (
+      seen p,
+      refl,
+      refl,
+      subst (λ (k : Marking). StrictLogLaw (seen p) k (is_logged old_shades)) same_old
+          (strict_log_holds (seen p) (marking_by old_shades) (is_logged old_shades) idle so_far.log),
+    )
 
     pub parts_counted : IsCounted (objects_in p.types p.heap) p.background
     parts_counted = so_far.counted ∙ ap (λ (k : Marking). length k.gray) same_old

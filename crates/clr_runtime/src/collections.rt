@@ -58,10 +58,10 @@ impl Runtime {
 }
 
 // Collects generation `g` and all younger ones, as `how` says. No thread is in mid-step, and none has a context
-// afterwards. The finalisation queue still has room for as many entries. It takes no memory: no queue has room for more
-// than it had room for, nor has the marker's stack. One of all generations ends a background collection that runs. The
-// indexes of free items of large and of pinned segments are dropped, and after a compaction that of the contexts; each is
-// made anew where room is next wanted there.
+// afterwards. The finalisation queue still has room for as many entries. It takes no memory: no queue has room for
+// more than it had room for, nor has the marker's stack. One of all generations ends a background collection that
+// runs. The indexes of free items of large and of pinned segments are dropped, and after a compaction that of the
+// contexts; each is made anew where room is next wanted there.
 pub(crate) fn collect_parts(parts: &mut Parts, g: u8, how: How) -> Collected
     requires generation { g ≤ 2 }
     requires unfitted { is_fit how ≡ false }

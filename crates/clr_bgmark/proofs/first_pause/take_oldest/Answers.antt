@@ -1,8 +1,8 @@
-use Rattle.std.proofs.Common.{◌≡◌, ℕ, ◌+◌, List, ◌++◌, ap, arith, sym, ◌∙◌}
+use Rattle.std.proofs.Common.{◌≡◌, ℕ, ◌+◌, List, ◌++◌, ap, arith, sym, subst, ◌∙◌}
 use Rattle.clr_heap.specs.View.{listing, listings}
 use Rattle.clr_bgmark.specs.Pauses.{all_taken}
-use Rattle.clr_bgmark.specs.Shades.{ShadeView}
-use Rattle.clr_bgmark.proofs.FirstPause.{listings_more, taken_more}
+use Rattle.clr_bgmark.specs.Shades.{AreApart, ShadeView}
+use Rattle.clr_bgmark.proofs.FirstPause.{listings_more, taken_apart, taken_more}
 use Rattle.clr_bgmark.proofs.first_pause.take_oldest.Goals as goal
 
 pub loop-k-preserved : goal.loop-k-preserved
@@ -27,3 +27,9 @@ returns c =
     let all : c.loop-k.k ≡ c.segments-k-end.result = omega (arith, low, high) in
     c.loop-k.invariant
     ∙ ap (λ (n : ℕ). all_taken h c.args.shades.now.items (listings rows h 0 n)) (all ∙ c.segments-k-end.ensures.count)
+
+pub take_segment-requires-clause-apart : goal.take_segment-requires-clause-apart
+take_segment-requires-clause-apart c =
+    let h = c.args.heap.now in
+    subst AreApart (sym c.loop-k.invariant)
+    (taken_apart h (listings c.args.types.now h 0 c.loop-k.k) c.args.shades.now.items c.requires.apart)

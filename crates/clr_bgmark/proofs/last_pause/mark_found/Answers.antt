@@ -1,63 +1,42 @@
-use Rattle.std.proofs.Common.{ℕ, ◌+◌, ◌≤◌, ap, arith, subst, ◌∙◌, [], None}
-use Rattle.clr_mark.specs.Markings.{HasMarked}
-use Rattle.clr_mark.specs.Waiting.{MarkerView}
-use Rattle.clr_mark.proofs.Laws.{waiting_keeps}
-use Rattle.clr_mark.proofs.Remarking.{keeps_stands}
-use Rattle.clr_mark.proofs.Rooting.{all_condemned, rooting_ends, rooting_more, rooting_starts}
-use Rattle.clr_bgmark.specs.Pauses.{IsBehind, IsFound}
-use Rattle.clr_bgmark.proofs.FoundPlaces.{behind_none}
+use Rattle.std.proofs.Common.{None, [], ◌∙◌}
+use Rattle.clr_mark.proofs.Rooting.{IsRooting, rooting_ends}
+use Rattle.clr_bgmark.specs.Pauses.{IsFound}
+use Rattle.clr_bgmark.proofs.RootedFound.{found_rooting, known_on}
+use Rattle.clr_bgmark.proofs.last_pause.mark_found.Goals.{After-mark_each}
 use Rattle.clr_bgmark.proofs.last_pause.mark_found.Goals as goal
 
-pub loop-k-init : goal.loop-k-init
-loop-k-init c =
-    rooting_starts c.args.types.now c.args.heap.now c.args.marker.now (IsFound c.args.shades.now.items)
-    (IsBehind c.args.shades.now.items 0 0) c.requires.gray (λ y s v. behind_none c.args.shades.now.items y v)
+pub mark_each-requires-clause-held : goal.mark_each-requires-clause-held
+mark_each-requires-clause-held c = c.root_found.ensures.gray.closed.held
 
-pub root-requires : goal.root-requires
-root-requires c =
-    let inv = c.loop-k.invariant in
+pub mark_each-requires-clause-objects : goal.mark_each-requires-clause-objects
+mark_each-requires-clause-objects c =
     let closed = c.requires.gray.closed in
-    let found = c.in-Some.ensures.found.found in
-    record {
-      gray = inv.gray;
-      object = keeps_stands c.args.types.now c.args.heap.now c.loop-k.heap closed.heap closed.held
-          inv.reached.remarked c.in-Some.obj (c.requires.objects.marked c.in-Some.obj found.0 found.1);
-    }
+    known_on c.args.types.now c.args.heap.now c.root_found.new.heap closed.heap closed.held
+    c.root_found.ensures.reached.remarked c.args.shades.now.items c.requires.objects
 
-pub loop-k-preserved : goal.loop-k-preserved
-loop-k-preserved c =
-    let rows = c.args.types.now in
-    let h = c.args.heap.now in
-    let m = c.args.marker.now in
-    let ss = c.args.shades.now.items in
+-- the law of a marking holds after all that is found was marked
+rooting : (c : After-mark_each) → IsRooting c.args.types.now c.args.heap.now c.mark_each.new.heap c.args.marker.now
+    c.root_found.new.marker (IsFound c.args.shades.now.items) (λ y. IsFound c.args.shades.now.items y)
+rooting c =
     let closed = c.requires.gray.closed in
-    let keeps = waiting_keeps c.loop-k.heap c.loop-k.marker c.in-Some.obj in
-    let oldest = ap (λ (n : MarkerView). n.oldest) c.root.ensures.marker ∙ keeps.0 in
-    let capacity = ap (λ (n : MarkerView). n.capacity) c.root.ensures.marker ∙ keeps.1 in
-    let drained = subst (λ (b : ℕ). HasMarked rows b c.root.new.heap c.drain_if_full.new.heap) oldest
-    c.drain_if_full.ensures.marked in
-    let full = c.requires.oldest in
-    let two : 2 ≤ m.oldest = omega arith in
-    let next = c.in-Some.ensures.found in
-    rooting_more rows h c.loop-k.heap m c.loop-k.marker (IsFound ss)
-    (IsBehind ss c.loop-k.spot.k c.loop-k.spot.from) closed.heap closed.held c.loop-k.invariant
-    (IsBehind ss c.in-Some.k (c.in-Some.obj + 8)) c.root.new.heap c.drain_if_full.new.heap c.drain_if_full.new.self
-    c.in-Some.obj (λ near. next.found) (λ y s. all_condemned h m.oldest y two) (λ y s v. next.next y s v)
-    c.root.ensures.words c.root.ensures.marked drained c.drain_if_full.ensures.gray
-    (c.drain_if_full.ensures.capacity ∙ capacity) (c.drain_if_full.ensures.oldest ∙ oldest)
+    let marks = c.mark_each.ensures in
+    found_rooting c.args.types.now c.args.heap.now c.root_found.new.heap c.mark_each.new.heap c.args.marker.now
+    c.root_found.new.marker closed.heap closed.held c.args.shades.now.items c.requires.objects c.requires.log
+    c.root_found.ensures marks.words marks.kept marks.only marks.found
+
+pub drain_slots-requires : goal.drain_slots-requires
+drain_slots-requires c = (rooting (goal.at.drain_slots-requires c).After-mark_each).gray
 
 pub returns : goal.returns
 returns c =
-    let inv = c.loop-k.invariant in
+    let inv = rooting (goal.at.returns c).After-mark_each in
     let closed = c.requires.gray.closed in
-    let h = c.args.heap.now in
-    let m = c.args.marker.now in
     let ss = c.args.shades.now.items in
-    let ends = rooting_ends c.args.types.now h c.loop-k.heap m c.loop-k.marker (IsFound ss)
-    (IsBehind ss c.loop-k.spot.k c.loop-k.spot.from) closed.heap closed.held inv c.drain_slots.new.heap
-    c.in_default.ensures.none c.drain_slots.ensures.words c.drain_slots.ensures.marked in
+    let ends = rooting_ends c.args.types.now c.args.heap.now c.mark_each.new.heap c.args.marker.now
+    c.root_found.new.marker (IsFound ss) (λ y. IsFound ss y) closed.heap closed.held inv c.drain_slots.new.heap
+    (λ y f. f) c.drain_slots.ensures.words c.drain_slots.ensures.marked in
     record {
-      marker = c.drain_slots.ensures.marker ∙ (λ k. record c.loop-k.marker {
+      marker = c.drain_slots.ensures.marker ∙ (λ k. record c.root_found.new.marker {
         stack = [];
         capacity = inv.capacity k;
         range = None;

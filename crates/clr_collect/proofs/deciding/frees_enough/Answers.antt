@@ -17,5 +17,6 @@ returns c = λ rows m memory ks is same.
     c.extent-all.ensures.bytes ∙ ap (λ (l : Layout). extent l g) (sym memory.layout) in
     let first = c.saturating_sub.ensures in
     let second = c.saturating_sub-free.ensures in
-    let free : c.saturating_sub-free.result ≡ extent m.layout g - kept_bytes m.layout ks = omega (arith, all, is, first, second) in
+    let free : c.saturating_sub-free.result ≡ extent m.layout g - kept_bytes m.layout ks =
+    omega (arith, all, is, first, second) in
     (λ i. nat_lt (sym same i * all i) (free i * 100)))

@@ -1,10 +1,12 @@
 -- The contexts are given up, and what the last pause finds alive is marked.
 use Rattle.std.proofs.Common.{◌↔◌, ◌⊎◌, ℕ, List, subst, sym}
+use Rattle.clr_model.specs.Machine.{Object}
 use Rattle.clr_model.specs.Reach.{Reach}
 use Rattle.clr_view.specs.Marks.{Marked}
 use Rattle.clr_mark.proofs.Remarking.{keeps_layout, keeps_objects}
 use Rattle.clr_mark.specs.Roots as roots
 use Rattle.clr_mark.specs.Ties.{IsStart, Joins}
+use Rattle.clr_bgmark.specs.LastPause.{LogHolds}
 use Rattle.clr_bgmark.specs.Pauses.{IsFound}
 use Rattle.clr_collect.specs.Collecting.{world_with}
 use Rattle.clr_collect.proofs.FoundAlive.{found_alive, given_known}
@@ -47,6 +49,11 @@ finish-requires-clause-ready c =
     (given_ready (world_with c.args.types.now c.args.heap.now c.args.locals.now c.args.handles.now c.args.finals.now)
     c.give_up_all.new.heap c.lawful.ensures c.requires.held c.requires.unmarked c.give_up_all.ensures.given
     c.requires.world)
+
+pub finish-requires-clause-log : goal.finish-requires-clause-log
+finish-requires-clause-log c =
+    subst (λ (os : List Object). LogHolds c.args.types.now os c.args.background.now.shades)
+    (sym c.give_up_all.ensures.given.objects) c.requires.log
 
 pub returns-clause-alive : goal.returns-clause-alive
 returns-clause-alive c =

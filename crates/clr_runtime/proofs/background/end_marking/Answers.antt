@@ -8,7 +8,7 @@ use Rattle.clr_collect.specs.Collecting.{world_with}
 use Rattle.clr_runtime.specs.Marked.{marking_by}
 use Rattle.clr_runtime.specs.Options.{options_of}
 use Rattle.clr_runtime.specs.RuntimeView.{ahead_of, seen, sums_of, world_of}
-use Rattle.clr_runtime.proofs.BackgroundParts.{parts_objects, runs_seen, same_old}
+use Rattle.clr_runtime.proofs.BackgroundParts.{parts_log, parts_objects, runs_seen, same_old}
 use Rattle.clr_runtime.proofs.CollectLines.{whole_world}
 use Rattle.clr_runtime.proofs.EndedParts.{ended_kept, ended_told, has_ended}
 use Rattle.clr_runtime.proofs.StepsKept.{tables-carded, tables-idle}
@@ -48,6 +48,10 @@ end_background-collected-requires-clause-free_heads c = c.requires.runtime.shown
 pub end_background-collected-requires-clause-objects : goal.end_background-collected-requires-clause-objects
 end_background-collected-requires-clause-objects c =
     parts_objects c.args.parts.now c.requires.runtime c.lawful.ensures c.requires.running
+
+pub end_background-collected-requires-clause-log : goal.end_background-collected-requires-clause-log
+end_background-collected-requires-clause-log c =
+    parts_log c.args.parts.now c.requires.runtime c.lawful.ensures c.requires.running c.requires.idle
 
 pub returns-clause-ended : goal.returns-clause-ended
 returns-clause-ended c =

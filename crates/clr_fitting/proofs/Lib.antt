@@ -1,0 +1,13 @@
+pub mod TwoSteps
+pub mod SeenSteps
+pub mod FitLists
+pub mod PromotedTwice
+pub mod BothCollect
+pub mod ItemByItem
+pub mod FitMoves
+pub mod SeenFitted
+pub mod FittedBytes
+pub mod MovesInTurn
+pub mod PartFit
+pub mod AlikeLayouts
+pub mod Copies

@@ -163,8 +163,8 @@ fn read_type(reader: &mut Reader<'_>, types: &mut Types) -> Result<(), LoadFault
 /// A type is the length of its name, the name, the number of its shape, whether it has a finaliser, the length of its
 /// pattern, and the pattern. All but name and pattern are words.
 ///
-/// `At` comes with the offset of the first field that isn't whole or not lawful, and of a pattern's first byte that says
-/// no slot. `NoMemory` comes where there is no memory for them, which is taken for types that were read alone.
+/// `At` comes with the offset of the first field that isn't whole or not lawful, and of a pattern's first byte that
+/// says no slot. `NoMemory` comes where there is no memory for them, which is taken for types that were read alone.
 #[tactic(auto, unfolding(crate::specs::TypeFields::types_fields))]
 pub fn read_types(alloc: Global, reader: &mut Reader<'_>) -> Result<Types, LoadFault>
     ensures { Finds types_fields reader.old reader.new result }

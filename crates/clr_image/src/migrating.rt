@@ -31,8 +31,8 @@ pub fn migrate(alloc: Global, bytes: &[u8]) -> Result<Vec<u8>, LoadFault>
     Ok(out)
 }
 
-// Whether bytes that are an image are one of the first version. What was loaded goes here, so that beside the bytes there
-// is the new image alone.
+// Whether bytes that are an image are one of the first version. What was loaded goes here, so that beside the bytes
+// there is the new image alone.
 fn is_of_first(alloc: Global, bytes: &[u8]) -> Result<bool, LoadFault>
     ensures { TellsVersion bytes.now result }
 {

@@ -12,8 +12,8 @@ pub const IMAGE_LIMIT: u64 = 2_147_483_648;
 /// So many bytes are read at once.
 const PIECE: usize = 65_536;
 
-/// Reads an image from the source, of at most `IMAGE_LIMIT` bytes, as `read_all`. `Memory` comes also where there was no
-/// room for a buffer.
+/// Reads an image from the source, of at most `IMAGE_LIMIT` bytes, as `read_all`. `Memory` comes also where there was
+/// no room for a buffer.
 pub fn read_image<S: Source>(alloc: Global, source: &mut S) -> Result<Vec<u8>, Status>
     ensures whole { IfOk result (λ bytes. ReadWhole IMAGE_LIMIT (S.held source.old) (S.held source.new) bytes.items) }
     ensures read_fault { result ≡ Err Status.ReadFault → Rose (S.faults source.old) (S.faults source.new) }

@@ -55,8 +55,8 @@ module _ (group : SegKind) (rows : List TypeRow) (h : HeapView) (size : ℕ) (he
         go None e under =
             absurd (none_found (λ p. fits size p.size) (kind_items group layout) q (sym e) (listed q is) is.2)
         go (Some p) e under =
-            let least = found_lowest (λ p. fits size p.size) (kind_items group layout) p q (kind_rise group rows h heap held)
-            (sym e) (listed q is) is.2 in
+            let least = found_lowest (λ p. fits size p.size) (kind_items group layout) p q
+            (kind_rise group rows h heap held) (sym e) (listed q is) is.2 in
             omega arith
 
     tail_above : (low : ℕ) → IfSome tail (λ k. low ≤ last_of h k) → (s : SegInfo) → FitsBehind s → low ≤ s.end

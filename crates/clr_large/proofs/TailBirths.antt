@@ -240,7 +240,8 @@ module _ (group : SegKind) (rows : List TypeRow) (h : HeapView) (k t n : ℕ) (a
 
       same_young : ephemeral (frame grown) ≡ ephemeral (frame h)
       same_young =
-          let off : same_kind Ephemeral (segment_at h k).kind ≡ false = ap (same_kind Ephemeral) is_of ∙ old-not_ephemeral group asked.old in
+          let off : same_kind Ephemeral (segment_at h k).kind ≡ false =
+          ap (same_kind Ephemeral) is_of ∙ old-not_ephemeral group asked.old in
           ap segment_or_empty (ephemerals-alike (set h.segments k moved) h.segments (length-set h.segments k moved)
           (λ j lj. elim (cases_eq j k) [
             | inl at ↦

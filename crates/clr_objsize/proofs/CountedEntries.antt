@@ -1,12 +1,13 @@
 -- The objects that a search has found, counted entry by entry.
-use Rattle.std.proofs.Common.{◌≡◌, ◌≢◌, ◌↔◌, ℕ, zero, suc, ◌+◌, ◌<◌, ◌≤◌, Bool, true, false, ◌||◌, List, [], ◌∷◌}
+use Rattle.std.proofs.Common.{◌≡◌, ◌≢◌, ◌↔◌, ℕ, zero, suc, ◌+◌, ◌<◌, ◌≤◌, Bool, false, ◌||◌, List, [], ◌∷◌}
 use Rattle.std.proofs.Common.{length, take}
-use Rattle.std.proofs.Common.{filter, sum_by, count_by, nat_eq, Some, refl, sym, ap, ◌∙◌, subst, arith}
+use Rattle.std.proofs.Common.{filter, sum_by, count_by, nat_eq, Some, refl, sym, ap, ap₂, ◌∙◌, subst, arith}
 use Rattle.std.proofs.lemmas.Bool.{ne_eqb}
 use Rattle.std.proofs.lemmas.List.{get_or-take, length-take-le, take_more}
 use Rattle.std.proofs.lemmas.List.Folds.{list_any-append}
 use Rattle.std.proofs.lemmas.List.Sums.{sum_by-cons}
 use Rattle.std.proofs.Math.Seq.{take-length}
+use Rattle.clr_types.specs.Rising.{Tests}
 use Rattle.clr_types.specs.Types.{TypeRow}
 use Rattle.clr_types.specs.declared.item.Item.{Item}
 use Rattle.clr_types.proofs.ChangedLists.{into_filter, IsIn-map}
@@ -24,14 +25,13 @@ use Rattle.clr_view.proofs.Listed.{listed-sized}
 use Rattle.clr_view.proofs.Listings.{heap-rise}
 use Rattle.clr_view.proofs.ObjectItems.{stands-item}
 use Rattle.clr_view.proofs.Rises.{objects-rise}
-use Rattle.clr_sos.specs.Reaching.{entry_of, is_listed, no_entry, place_at}
-use Rattle.clr_sos.specs.SlotReaching.{AreReachedBySlots}
+use Rattle.clr_sos.specs.Reaching.{entry_of, HasGrown, is_listed, IsListed, IsSearch, IsSound, no_entry, place_at}
 use Rattle.clr_sos.specs.Views.{IsViewOf}
 use Rattle.clr_sos.specs.declared.reach.Entry.{Entry}
 use Rattle.clr_sos.specs.declared.view.View.{View}
 use Rattle.clr_sos.proofs.ObjectsByPlace.{object-with_place}
 use Rattle.clr_sos.proofs.ReachedAll.{listed-told, unlisted}
-use Rattle.clr_objsize.specs.Sizes.{HasCounted, IsSizeOf}
+use Rattle.clr_objsize.specs.Sizes.{HasTotal, IsSizeOf}
 use Rattle.clr_objsize.specs.declared.sizes.Total.{Total}
 use Rattle.clr_objsize.proofs.OneMore.{or_false, sum-one_more}
 
@@ -42,6 +42,18 @@ sum-none weight (x ∷ xs) =
     let one = sum_by-cons (counted (λ y. false) weight) x xs in
     let rest = sum-none weight xs in
     omega (arith, one, rest)
+
+-- lists that agree up to n begin alike
+take-same : (xs ys : List Entry) (n : ℕ) → n ≤ length xs → n ≤ length ys
+    → ((i : ℕ) → i < n → entry_of xs i ≡ entry_of ys i) → take n xs ≡ take n ys
+take-same xs ys zero l k same = refl
+take-same [] ys (suc n) l k same = absurd (omega (arith, l))
+take-same (x ∷ xs) [] (suc n) l k same = absurd (omega (arith, k))
+take-same (x ∷ xs) (y ∷ ys) (suc n) l k same =
+    let here : x ≡ y = same 0 (omega arith) in
+    let rest = take-same xs ys n (omega (arith, l)) (omega (arith, k))
+    (λ i low. same (suc i) (omega (arith, low))) in
+    ap₂ (λ (z : Entry) (zs : List Entry). z ∷ zs) here rest
 
 -- whether one of the first n entries has the place
 abbrev pub is_among : List Entry → ℕ → ℕ → Bool
@@ -74,8 +86,25 @@ module _ (es : List Entry) where
       ap (λ (e : Entry). nat_eq e.place (place_at es n)) (get_or-take n es j no_entry low)
       ∙ ne_eqb (place_at es j) (place_at es n) (distinct j n low l))
 
-module _ (v : View) (heap : IsHeap v.heap.now) (held : IsHeld v.types.now v.heap.now) (a : ℕ) (es : List Entry)
-    (r : AreReachedBySlots v a es) where
+-- the first n entries are the same ones, when some are added
+among-grown : (old new : List Entry) → HasGrown old new → (n : ℕ) → n ≤ length old → take n new ≡ take n old
+among-grown old new g n l =
+    let longer = g.longer in
+    take-same new old n (omega (arith, l, longer)) l (λ i low. g.same i (omega (arith, low, l)))
+
+pub sum-grown : (v : View) (old new : List Entry) → HasGrown old new → (n : ℕ) → n ≤ length old
+    → (weight : Object → ℕ) → sum_among v new n weight ≡ sum_among v old n weight
+sum-grown v old new g n l weight =
+    ap (λ (xs : List Entry). sum_by (counted (λ (o : Object). is_listed xs o.name) weight)
+    (objects_in v.types.now v.heap.now)) (among-grown old new g n l)
+
+module _ (v : View) (sound : IsSound v) (seen : List (List ℕ)) (es : List Entry) (s : IsSearch v seen es) where
+  heap : IsHeap v.heap.now
+  heap = sound.closed.heap
+
+  held : IsHeld v.types.now v.heap.now
+  held = sound.closed.held
+
   -- the object of an entry counts once
   among-counted : (n : ℕ) (i : Item) (weight : Object → ℕ) → n < length es
       → IsObjectAt v.types.now v.heap.now (place_at es n) i
@@ -87,7 +116,7 @@ module _ (v : View) (heap : IsHeap v.heap.now) (held : IsHeld v.types.now v.heap
       (among-more es n l) (object_in rows (word_of h) i) (objects_in rows h)
       (objects-rise rows (word_of h) (heap_items rows h) (heap-rise rows h held.walkable heap))
       (IsIn-map (object_in rows (word_of h)) (into_filter is_object (heap_items rows h) at.object at.listed))
-      at.at (among-fresh es n l r.distinct)
+      at.at (among-fresh es n l s.distinct)
 
   -- so do its bytes
   pub bytes-more : (n : ℕ) (i : Item) → n < length es → IsObjectAt v.types.now v.heap.now (place_at es n) i
@@ -115,7 +144,7 @@ module _ (v : View) (heap : IsHeap v.heap.now) (held : IsHeld v.types.now v.heap
   counts (suc n) l =
       let more : n + 1 ≡ suc n = omega arith in
       let below : n < length es = omega (arith, l) in
-      let stands = r.stand n below in
+      let stands = (s.sound n below).stands in
       let at = stands-item v.types.now v.heap.now heap held (place_at es n) stands in
       subst (λ (k : ℕ). sum_among v es k (λ (o : Object). 1) ≡ k) more
       (among-counted n (item_at v.types.now (word_of v.heap.now) (place_at es n)) (λ (o : Object). 1) below at
@@ -128,31 +157,30 @@ module _ (v : View) (heap : IsHeap v.heap.now) (held : IsHeld v.types.now v.heap
       ap (λ (xs : List Entry). sum_by (counted (λ (o : Object). is_listed xs o.name) weight)
       (objects_in v.types.now v.heap.now)) (take-length es)
 
-  pub all-counted : (n bytes : ℕ) → n ≡ length es → bytes ≡ sum_among v es n (object_size v.types.now)
-      → HasCounted v es (record { objects = length es; bytes = bytes })
-  all-counted n bytes all sum = record {
-    objects = sym (counts (length es) (omega arith)) ∙ sums-all (λ (o : Object). 1);
-    bytes = sum ∙ ap (λ (k : ℕ). sum_among v es k (object_size v.types.now)) all ∙ sums-all (object_size v.types.now)
+  -- THE TOTAL, where the entries are what is reached
+  pub total-of : (Named : ℕ → Type 0) → ((x : ℕ)
+      → IsListed es x ↔ Reach (SlotNames (objects_in v.types.now v.heap.now)) Named x) → (n bytes : ℕ)
+      → n ≡ length es → bytes ≡ sum_among v es n (object_size v.types.now)
+      → HasTotal v Named (record { objects = n; bytes = bytes })
+  total-of Named exact n bytes all sum = (
+    is_listed es,
+    λ x. (λ e. (exact x).0 ((listed-told es x).0 e), λ r. (listed-told es x).1 ((exact x).1 r)),
+    all ∙ sym (counts (length es) (omega arith)) ∙ sums-all (λ (o : Object). 1),
+    sum ∙ ap (λ (k : ℕ). sum_among v es k (object_size v.types.now)) all ∙ sums-all (object_size v.types.now)
         ∙ sym (sum-filtered (λ (o : Object). is_listed es o.name) (object_size v.types.now)
-        (objects_in v.types.now v.heap.now));
-  }
+        (objects_in v.types.now v.heap.now)),
+  )
 
 -- THE SIZE OF AN OBJECT in a machine that is shown
-pub size-told : (v : View) (a : ℕ) (es : List Entry) (total : Total) → AreReachedBySlots v a es
-    → HasCounted v es total → (m : Machine) → IsViewOf v m → IsSizeOf m a total
-size-told v a es total r c m is = (
-  is_listed es,
-  λ x. subst (λ (os : List Object). (is_listed es x ≡ true) ↔ Reach (SlotNames os) (λ y. y ≡ a) x) (sym is.objects) (
-    λ e. (r.exact x).0 ((listed-told es x).0 e),
-    λ q. (listed-told es x).1 ((r.exact x).1 q),
-  ),
-  c.objects ∙ ap (count_by (λ (o : Object). is_listed es o.name)) (sym is.objects),
-  c.bytes
-      ∙ ap (λ (rows : List TypeRow). sum_by (object_size rows)
-      (filter (λ (o : Object). is_listed es o.name) (objects_in v.types.now v.heap.now))) (sym is.types)
-      ∙ ap (λ (os : List Object). sum_by (object_size m.types) (filter (λ (o : Object). is_listed es o.name) os))
-      (sym is.objects),
-)
+pub size-told : (v : View) (a : ℕ) (total : Total) → HasTotal v (λ y. y ≡ a) total → (m : Machine) → IsViewOf v m
+    → IsSizeOf m a total
+size-told v a total t m is =
+    let P : List TypeRow → List Object → Type 0 = λ rows os.
+    (reached : ℕ → Bool) × Tests reached (Reach (SlotNames os) (λ y. y ≡ a))
+    × (total.objects ≡ count_by (λ (o : Object). reached o.name) os)
+    × (total.bytes ≡ sum_by (object_size rows) (filter (λ (o : Object). reached o.name) os)) in
+    subst (λ (rows : List TypeRow). P rows m.objects) (sym is.types)
+    (subst (λ (os : List Object). P v.types.now os) (sym is.objects) t)
 
 -- an item that a look-up by its place finds is an object that stands there
 pub stands-there : (rows : List TypeRow) (h : HeapView) → IsHeap h → IsHeld rows h → (a : ℕ) (i : Item)

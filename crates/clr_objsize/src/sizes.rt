@@ -1,16 +1,18 @@
 //! `objsize`: how many objects an object reaches by slots, and how many bytes these have.
-ghost use Rattle.std.specs.Prelude.{◌≡◌, ◌≢◌, ◌↔◌, IfOk, Err, None};
+ghost use Rattle.std.specs.Prelude.{◌≡◌, ◌≢◌, ◌↔◌, [], IfOk, Err, None};
+ghost use Rattle.std.specs.FinMap as finmap;
 ghost use Rattle.clr_model.specs.Lookups.{object_at as object_of};
 ghost use Rattle.clr_model.specs.Machine.{Machine};
-ghost use Rattle.clr_view.specs.View.{IsHeld};
-ghost use Rattle.clr_sos.specs.SlotReaching.{AreReachedBySlots};
+ghost use Rattle.clr_mark.specs.Roots.{IsRoot};
+ghost use Rattle.clr_sos.specs.Reaching.{IsObjectOf, IsSound};
 ghost use Rattle.clr_sos.specs.Views.{IsLawfulView, IsViewOf};
-ghost use Rattle.clr_objsize.specs.Sizes.{HasCounted, IsSizeOf};
+ghost use Rattle.clr_objsize.specs.Sizes.{HasTotal, IsSizeOf};
 
+use clr_final::Finals;
 use clr_generations::object_at;
-use clr_sos::{Entry, SosFault, View, reach_by_slots};
-use clr_view::object_item;
-use std::alloc::Global;
+use clr_handles::Handles;
+use clr_sos::{Reached, SosFault, View};
+use std::alloc::{AllocError, Global};
 
 /// How many objects there are, and how many bytes they have together.
 #[derive(Clone, Copy, Debug, PartialEq, Eq)]
@@ -36,23 +38,52 @@ pub fn objsize(alloc: Global, view: &View<'_>, a: u64) -> Result<Total, SosFault
     let Some(_) = object_at(view.heap, view.types, view.bricks, a) else {
         return Err(SosFault::NoObject);
     };
-    let reached = reach_by_slots(alloc, view, a)?;
-    Ok(total_of(view, a, &reached.entries))
+    let total = total_from(alloc, view, a)?;
+    Ok(total)
 }
 
-// What the entries come to that a search from the object with the place `a` has found.
-fn total_of(view: &View<'_>, a: u64, entries: &[Entry]) -> Total
-    requires held { IsHeld view.now.types.now view.now.heap.now }
-    requires reached { AreReachedBySlots view.now a entries.now }
-    ensures { HasCounted view.now entries.now result }
+// What the object at a place holds. That is what the locals of another view hold: of one that has the place as its only
+// local, no handles and no f-reachable queue.
+fn total_from(alloc: Global, view: &View<'_>, place: u64) -> Result<Total, AllocError>
+    requires lawful { IsLawfulView view.now }
+    requires stands { IsObjectOf view.now place }
+    ensures { IfOk result (HasTotal view.now (λ y. y ≡ place)) }
 {
     view.heap.lawful();
+    let locals = [place];
+    let handles = Handles::new(alloc);
+    let finals = Finals::new(alloc);
+    let only = View {
+        types: view.types,
+        heap: view.heap,
+        bricks: view.bricks,
+        handles: &handles,
+        finals: &finals,
+        locals: &locals,
+        limit: view.limit,
+        large: view.large,
+    };
+    total_of_locals(alloc, &only)
+}
+
+// What the locals of a view hold that has no handles and no f-reachable queue. Each object is measured when its slots
+// are followed.
+fn total_of_locals(alloc: Global, view: &View<'_>) -> Result<Total, AllocError>
+    requires sound { IsSound view.now }
+    requires handles { view.now.handles.now ≡ finmap.empty }
+    requires ready { view.now.finals.now.ready ≡ [] }
+    ensures { IfOk result (HasTotal view.now (IsRoot view.now.locals.now)) }
+{
+    let mut reached = Reached::from_locals(alloc, view)?;
     let mut bytes = 0;
-    for entry in entries {
-        bytes += object_item(view.heap, view.types, entry.place).size;
+    let mut next = 0;
+    while next < reached.entries.len() {
+        let item = reached.follow_slots(view, next)?;
+        bytes += item.size;
+        next += 1;
     }
-    Total {
-        objects: entries.len() as u64,
+    Ok(Total {
+        objects: next as u64,
         bytes,
-    }
+    })
 }

@@ -52,10 +52,27 @@ fn runtime_of_segments(alloc: Global, count: u64) -> Result<Runtime, Fail>
         large: 85_000,
     };
     let mut runtime = Runtime::new(alloc, options)?;
-    let _ = define(&mut runtime, b"Pair", Shape::Class(b"rn"))?;
-    let _ = define(&mut runtime, b"Refs", Shape::RefArray)?;
-    let _ = define(&mut runtime, b"Bytes", Shape::ByteArray)?;
-    Ok(runtime)
+    let told = define_types(&mut runtime);
+    runtime_where(told, runtime)
+}
+
+// Defines a class of a reference and a number, arrays of references, and arrays of bytes.
+fn define_types(runtime: &mut Runtime) -> Result<(), Refusal> {
+    let _ = define(runtime, b"Pair", Shape::Class(b"rn"))?;
+    let _ = define(runtime, b"Refs", Shape::RefArray)?;
+    let _ = define(runtime, b"Bytes", Shape::ByteArray)?;
+    Ok(())
+}
+
+// The runtime, where it was told what it was to be told.
+fn runtime_where(told: Result<(), Refusal>, runtime: Runtime) -> Result<Runtime, Fail> {
+    match told {
+        Ok(()) => Ok(runtime),
+        Err(refusal) => {
+            drop(runtime);
+            Err(Fail::from(refusal))
+        }
+    }
 }
 
 #[test]

@@ -1,15 +1,13 @@
 -- The tables and the locals of a lawful machine may be written, and name what is there.
 use Rattle.std.proofs.Common.{◌≡◌, ℕ, ◌+◌, ◌≤◌, ◌<◌, ◌&&◌, ◌==◌, Bool, true, false, List, [], ◌∷◌}
-use Rattle.std.proofs.Common.{map, Option, Some, None, IfSome, IsTrue, T, refl, ap, ap₂, sym, ◌∙◌, arith}
-use Rattle.std.proofs.Common.{inl, inr, leb-true, nat_le, Ordering, Less, Equal, Greater}
+use Rattle.std.proofs.Common.{map, Option, Some, None, IfSome, IsTrue, refl, ap, ap₂, sym, ◌∙◌, arith}
+use Rattle.std.proofs.Common.{inl, inr, leb-true, nat_le}
 use Rattle.std.specs.FinMap as finmap
-use Rattle.std.specs.FinMap.Entries.{below_all}
 use Rattle.std.specs.List.{AllByRecursion, list_all}
-use Rattle.std.specs.Ordering.{is_lt, MatchOrdering, nat_cmp}
 use Rattle.std.proofs.lemmas.Bool.{and_parts, cases_Bool, eq-eqb, eqb-true, true≢false}
-use Rattle.std.proofs.lemmas.Cmp.{ranked}
 use Rattle.clr_types.specs.HandleCode.{kind_back, number_of_kind}
 use Rattle.clr_types.specs.Kinds.{is_dependent}
+use Rattle.clr_types.specs.Rising.{IsRisingBy}
 use Rattle.clr_types.specs.Types.{has_finalizer, type_row, TypeRow}
 use Rattle.clr_types.specs.declared.handle.Handle.{Handle}
 use Rattle.clr_types.specs.declared.item.Item.{Item}
@@ -22,6 +20,7 @@ use Rattle.clr_model.specs.Machine.{Machine, Object}
 use Rattle.clr_view.specs.View.{IsHeld}
 use Rattle.clr_view.specs.World.{IsNullOrStands}
 use Rattle.clr_sos.proofs.NamedPlaces.{present-stands}
+use Rattle.clr_sos.proofs.NumberedEntries.{rising}
 use Rattle.clr_format.specs.NameTests as tests
 use Rattle.clr_format.specs.TableFields.{is_second}
 use Rattle.clr_save.specs.Writable.{AreWrittenHandles, IsHolder, IsWord, IsWrittenHandle}
@@ -32,25 +31,6 @@ use Rattle.clr_save.proofs.SavedSteps.{present}
 use Rattle.clr_save.proofs.ShownState.{saved_machine}
 
 -- ---- handles by rising number
-
-lower : (a b : ℕ) → is_lt (nat_cmp a b) ≡ true → a < b
-lower a b less = go (nat_cmp a b) (ranked a b (nat_cmp a b) refl) less
-  where
-    go : (o : Ordering) → MatchOrdering o (a < b) (a ≡ b) (b < a) → is_lt o ≡ true → a < b
-    go Less under e = under
-    go Equal same e = absurd cc
-    go Greater over e = absurd cc
-
-holds : (b : Bool) → T b → b ≡ true
-holds true t = refl
-holds false t = absurd t
-
-above : (k : ℕ) (es : List (ℕ × Handle)) → below_all nat_cmp k es ≡ true
-    → AllByRecursion (λ (e : ℕ × Handle). k + 1 ≤ e.0) es
-above k [] h = tt
-above k (e ∷ es) h =
-    let both = and_parts (is_lt (nat_cmp k e.0)) (below_all nat_cmp k es) h in
-    let less = lower k e.0 both.0 in (omega arith, above k es both.1)
 
 second-is : (row : Handle) → HasItsSecond row → is_second (number_of_kind row.kind) row.target row.second ≡ true
 second-is row own =
@@ -69,13 +49,14 @@ second-is row own =
     not-null : (x : ℕ) → (x == 0) ≡ false → x ≡ 0 → ⊥
     not-null x some null = true≢false (sym (eq-eqb x 0 null) ∙ some)
 
-numbers-rise : (low : ℕ) (es : List (ℕ × Handle)) → finmap.is_sorted nat_cmp es ≡ true
+numbers-rise : (low : ℕ) (es : List (ℕ × Handle)) → IsRisingBy (λ (e : ℕ × Handle). e.0) es
     → AllByRecursion (λ (e : ℕ × Handle). low ≤ e.0) es → AllByRecursion (λ (e : ℕ × Handle). e.0 < 65536) es
     → AllByRecursion IsWrittenHandle (map (λ (e : ℕ × Handle). e.1) es) → AreWrittenHandles low es
-numbers-rise low [] sorted over few each = tt
-numbers-rise low (e ∷ es) sorted over few each =
-    let both = and_parts (below_all nat_cmp e.0 es) (finmap.is_sorted nat_cmp es) sorted in
-    (over.0, few.0, each.0, numbers-rise (e.0 + 1) es both.1 (above e.0 es both.0) few.1 each.1)
+numbers-rise low [] rise over few each = tt
+numbers-rise low (e ∷ es) rise over few each =
+    let above = all_imply (λ (f : ℕ × Handle). e.0 < f.0) (λ (f : ℕ × Handle). e.0 + 1 ≤ f.0) es
+    (λ f less. omega (arith, less)) rise.0 in
+    (over.0, few.0, each.0, numbers-rise (e.0 + 1) es rise.1 above few.1 each.1)
 
 -- ---- the holder
 
@@ -124,7 +105,7 @@ module _ (s : Snapshot) (m0 : Machine) (heap : IsHeap s.heap.now) (held : IsHeld
   handles-written =
       let es = finmap.entries m.handles in
       let rows_of : List Handle = map (λ (e : ℕ × Handle). e.1) es in
-      numbers-rise 0 es (holds (finmap.is_sorted nat_cmp es) (finmap.entries_sorted m.handles))
+      numbers-rise 0 es (rising es (finmap.entries_sorted m.handles))
       (all_members (λ (e : ℕ × Handle). 0 ≤ e.0) es (λ e inside. omega arith)) lawful.handle_numbers
       (all_members IsWrittenHandle rows_of (λ row inside.
       let both = all_at IsNaming inside lawful.names.handles in

@@ -85,9 +85,9 @@ fn run_script<S: Source, K: Sink>(
 /// Runs the script that the source holds, over a runtime with these options, and tells what came of it. After `Done`
 /// the end state is the runtime that ran the lines, and else there is none.
 ///
-/// `ReadFault` comes where a read failed, `WriteFault` where a write did, `TooMuch` where `SCRIPT_LIMIT` bytes were read
-/// and a further byte came, `Memory` where there was no room for the runtime or a buffer. After `Memory` nothing was read
-/// or written.
+/// `ReadFault` comes where a read failed, `WriteFault` where a write did, `TooMuch` where `SCRIPT_LIMIT` bytes were
+/// read and a further byte came, `Memory` where there was no room for the runtime or a buffer. After `Memory` nothing
+/// was read or written.
 pub fn run_source<S: Source, K: Sink>(
     alloc: Global,
     options: Options,

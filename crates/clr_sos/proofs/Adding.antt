@@ -1,5 +1,5 @@
 -- Entries that are added one after the other.
-use Rattle.std.proofs.Common.{◌≡◌, ◌⊎◌, inl, inr, ℕ, ◌+◌, ◌<◌, ◌≤◌, List, [], ◌∷◌, ◌++◌, length}
+use Rattle.std.proofs.Common.{◌≡◌, ◌≢◌, ◌⊎◌, inl, inr, ℕ, ◌+◌, ◌<◌, ◌≤◌, List, [], ◌∷◌, ◌++◌, length}
 use Rattle.std.proofs.Common.{get_or, ap, sym, ◌∙◌, subst, arith, Some, IsTrue}
 use Rattle.std.specs.FinMap as finmap
 use Rattle.std.specs.FinMap.{FinMap}
@@ -141,12 +141,21 @@ word-back word place offset x done w = elim (in_append done w.listed) [
   ]
 ]
 
-pub word-null : (word : ℕ → ℕ) (place offset x : ℕ) (done : List ℕ) → word (place + offset) ≡ 0
-    → IsWordAmong word place (done ++ offset ∷ []) x → IsWordAmong word place done x
-word-null word place offset x done null w = elim (word-back word place offset x done w) [
-  | inl early ↦ early
-  | inr last ↦ let some = w.not_null in absurd (omega (arith, last, null, some))
-]
+-- one word more was met, where it isn't null
+pub added-word : (v : View) (word : ℕ → ℕ) (place : ℕ) (old now : List Entry) (seen : List (List ℕ)) (done : List ℕ)
+    → HasAdded v old seen now (IsWordAmong word place done) → (offset target : ℕ) → target ≡ word (place + offset)
+    → (new : List Entry) (after : List (List ℕ)) → IsSearch v after new → HasGrown now new
+    → (target ≢ 0 → IsListed new target) → HasAdded v old after new (IsWordAmong word place (done ++ offset ∷ []))
+added-word v word place old now seen done a offset target read new after s g met = record {
+  search = s;
+  grown = grown-trans old now new a.grown g;
+  added = λ x w. elim (word-back word place offset x done w) [
+    | inl early ↦ listed-on now new x g (a.added x early)
+    | inr last ↦
+        let some = w.not_null in
+        subst (IsListed new) (read ∙ sym last) (met (λ e. omega (arith, e, read, last, some)))
+  ];
+}
 
 -- ---- dependent handles
 

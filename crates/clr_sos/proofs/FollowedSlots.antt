@@ -14,40 +14,62 @@ use Rattle.clr_view.specs.View.{objects_in}
 use Rattle.clr_mark.specs.Markings.{item_references}
 use Rattle.clr_mark.proofs.References.{no_references, reference_has, reference_index, reference_low, refers_from}
 use Rattle.clr_mark.proofs.References.{refers_to}
-use Rattle.clr_sos.specs.Reaching.{HasAdded, HasGrown, IsObjectOf, IsOrigin, IsSearch, IsSound, no_entry, place_at}
+use Rattle.clr_sos.specs.Reaching.{HasAdded, HasGrown, IsItemOf, IsObjectOf, IsOrigin, IsSearch, IsSound}
+use Rattle.clr_sos.specs.Reaching.{no_entry, place_at}
 use Rattle.clr_sos.specs.declared.reach.Entry.{Entry}
 use Rattle.clr_sos.specs.declared.reach.Origin.TheVariants.{Through}
 use Rattle.clr_sos.specs.declared.view.View.{View}
-use Rattle.clr_sos.proofs.Adding.{added-on, added-starts, IsWordAmong}
+use Rattle.clr_sos.proofs.Adding.{added-on, added-starts, IsWordAmong, word-none}
 
 -- an entry that was read is that of its index
 pub place-read : (es : List Entry) (i : ℕ) (e : Entry) → i < length es → e ≡ get_or es i e → e.place ≡ place_at es i
 place-read es i e l read = ap (λ (x : Entry). x.place) (read ∙ get_or_default es i e no_entry l)
 
-module _ (v : View) (sound : IsSound v) (old : List Entry) (n x : ℕ) (i : Item) (own : x ≡ place_at old n)
-    (at : IsObjectAt v.types.now v.heap.now x i) where
-  abbrev word : ℕ → ℕ
-  word = word_of v.heap.now
+-- the object at its place has its item
+pub item-read : (v : View) (es : List Entry) (n place : ℕ) (i : Item) → n < length es → place ≡ place_at es n
+    → IsObjectAt v.types.now v.heap.now place i → IsItemOf v es n i
+item-read v es n place i l own at = record {
+  below = l;
+  place = at.at ∙ own;
+  stands = subst (λ (p : ℕ). IsObjectAt v.types.now v.heap.now p i) (sym at.at) at;
+}
+
+-- what the code asks to follow the reference at an offset of entry n of the old ones, when some were added since
+pub record CanMeet (v : View) (now : List Entry) (n place offset : ℕ) : Type 0 where
+  pub has : HasWord v.heap.now.memories (place + offset)
+  pub segment : memory_index v.heap.now.memories place ≡ memory_index v.heap.now.memories (place + offset)
+  pub fits : place + offset < 2 ^ 64
+  pub object : word_of v.heap.now (place + offset) ≢ 0 → IsObjectOf v (word_of v.heap.now (place + offset))
+  pub origin : word_of v.heap.now (place + offset) ≢ 0
+      → IsOrigin v now (length now) (word_of v.heap.now (place + offset)) (Through n)
+
+module _ (v : View) (sound : IsSound v) (old : List Entry) (n : ℕ) (i : Item) (is : IsItemOf v old n i) where
+  abbrev names : ℕ → ℕ → Type 0
+  names = SlotNames (objects_in v.types.now v.heap.now)
+
+  -- the words at these offsets
+  abbrev among : List ℕ → ℕ → Type 0
+  among = IsWordAmong (word_of v.heap.now) i.place
 
   -- its slots name nothing, where its type has no references
   pub slots-none : (seen : List (List ℕ)) → IsSearch v seen old → series_of (form_at v.types.now i.type_id.0) ≡ []
-      → HasAdded v old seen old (SlotNames (objects_in v.types.now v.heap.now) (place_at old n))
-  slots-none seen s none =
-      added-starts v seen old (SlotNames (objects_in v.types.now v.heap.now) (place_at old n)) s (λ y names.
-      let f = refers_from v.types.now v.heap.now sound.closed.heap sound.closed.held x i at y
-      (subst (λ (p : ℕ). SlotNames (objects_in v.types.now v.heap.now) p y) (sym own) names) in
+      → HasAdded v old seen old (names (place_at old n))
+  slots-none seen s none = added-starts v seen old (names (place_at old n)) s (λ y named.
+      let f = refers_from v.types.now v.heap.now sound.closed.heap sound.closed.held i.place i is.stands y
+      (subst (λ (p : ℕ). names p y) (sym is.place) named) in
       elim (subst (λ (os : List ℕ). IsIn f.offset os) (no_references (form_at v.types.now i.type_id.0) i.len none)
       f.listed) [ ])
 
+  -- no reference was followed yet
+  pub slots-start : (seen : List (List ℕ)) → IsSearch v seen old → HasAdded v old seen old (among [])
+  slots-start seen s = added-starts v seen old (among []) s (λ x w. word-none (word_of v.heap.now) i.place x w)
+
   -- WHERE ALL REFERENCES WERE FOLLOWED, all that its slots name was found
   pub slots-all : (seen : List (List ℕ)) (now : List Entry) (done : List ℕ) → done ≡ item_references v.types.now i
-      → HasAdded v old seen now (IsWordAmong word x done)
-      → HasAdded v old seen now (SlotNames (objects_in v.types.now v.heap.now) (place_at old n))
-  slots-all seen now done all added =
-      added-on v old now seen (IsWordAmong word x done) added
-      (SlotNames (objects_in v.types.now v.heap.now) (place_at old n)) (λ y names.
-      let f = refers_from v.types.now v.heap.now sound.closed.heap sound.closed.held x i at y
-      (subst (λ (p : ℕ). SlotNames (objects_in v.types.now v.heap.now) p y) (sym own) names) in
+      → HasAdded v old seen now (among done) → HasAdded v old seen now (names (place_at old n))
+  slots-all seen now done all added = added-on v old now seen (among done) added (names (place_at old n)) (λ y named.
+      let f = refers_from v.types.now v.heap.now sound.closed.heap sound.closed.held i.place i is.stands y
+      (subst (λ (p : ℕ). names p y) (sym is.place) named) in
       record {
         offset = f.offset;
         listed = subst (λ (os : List ℕ). IsIn f.offset os) (sym all) f.listed;
@@ -55,31 +77,27 @@ module _ (v : View) (sound : IsSound v) (old : List Entry) (n x : ℕ) (i : Item
         not_null = f.not_null;
       })
 
-  module _ (offset : ℕ) (l : IsIn offset (item_references v.types.now i)) where
-    -- the word of a reference can be read
-    pub slot-has : HasWord v.heap.now.memories (x + offset)
-    slot-has = reference_has v.types.now v.heap.now sound.closed.heap sound.closed.held x i at.listed at.at offset l
-
-    pub slot-index : memory_index v.heap.now.memories x ≡ memory_index v.heap.now.memories (x + offset)
-    slot-index =
-        reference_index v.types.now v.heap.now sound.closed.heap sound.closed.held x i at.listed at.at offset l
-
-    pub slot-low : x + offset < 2 ^ 64
-    slot-low = reference_low v.types.now v.heap.now sound.closed.heap sound.closed.held x i at.listed at.at offset l
-
-    module _ (some : word (x + offset) ≢ 0) where
-      names : SlotNames (objects_in v.types.now v.heap.now) x (word (x + offset))
-      names = refers_to v.types.now v.heap.now sound.closed.heap sound.closed.held x i at offset l some
-
-      -- and names an object
-      pub slot-stands : IsObjectOf v (word (x + offset))
-      slot-stands = sound.closed.named x (word (x + offset)) names
-
-      pub slot-origin : (now : List Entry) → HasGrown old now → n < length old
-          → IsOrigin v now (length now) (word (x + offset)) (Through n)
-      slot-origin now g inside =
-          let longer = g.longer in
-          let same : x ≡ place_at now n = own ∙ sym (ap (λ (e : Entry). e.place) (g.same n inside)) in (
-            omega (arith, inside, longer),
-            inl (subst (λ (p : ℕ). SlotNames (objects_in v.types.now v.heap.now) p (word (x + offset))) same names),
-          )
+  -- each reference can be followed
+  pub can_meet : (offset : ℕ) → IsIn offset (item_references v.types.now i) → (now : List Entry) → HasGrown old now
+      → CanMeet v now n i.place offset
+  can_meet offset l now g =
+      let rows = v.types.now in
+      let h = v.heap.now in
+      let heap = sound.closed.heap in
+      let held = sound.closed.held in
+      let listed = is.stands.listed in
+      let below = is.below in
+      let longer = g.longer in
+      let name : word_of h (i.place + offset) ≢ 0 → names i.place (word_of h (i.place + offset)) =
+      λ some. refers_to rows h heap held i.place i is.stands offset l some in
+      let same : i.place ≡ place_at now n = is.place ∙ sym (ap (λ (e : Entry). e.place) (g.same n below)) in
+      record {
+        has = reference_has rows h heap held i.place i listed is.stands.at offset l;
+        segment = reference_index rows h heap held i.place i listed is.stands.at offset l;
+        fits = reference_low rows h heap held i.place i listed is.stands.at offset l;
+        object = λ some. sound.closed.named i.place (word_of h (i.place + offset)) (name some);
+        origin = λ some. (
+          omega (arith, below, longer),
+          inl (subst (λ (p : ℕ). names p (word_of h (i.place + offset))) same (name some)),
+        );
+      }

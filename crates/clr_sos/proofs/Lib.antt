@@ -35,10 +35,10 @@ pub mod ViewNames
 pub mod Seen
 pub mod Searching
 pub mod ReachedAll
-pub mod SlotsAlone
 pub mod Adding
 pub mod Ties
 pub mod FollowedSlots
+pub mod ObjectHeads
 pub mod PlaceLines
 pub mod Trails
 pub mod HeldHeaps

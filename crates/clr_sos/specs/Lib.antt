@@ -11,7 +11,6 @@ pub mod CleanStates
 pub mod Bits
 pub mod Dumping
 pub mod Reaching
-pub mod SlotReaching
 pub mod Walks
 pub mod Wants
 pub mod RootTexts

@@ -9,10 +9,12 @@ use Rattle.std.specs.Ordering.{nat_cmp}
 use Rattle.clr_types.specs.Kinds.{is_root_kind}
 use Rattle.clr_types.specs.Rising.{IsIn}
 use Rattle.clr_types.specs.declared.handle.Handle.{Handle as Row}
+use Rattle.clr_types.specs.declared.item.Item.{Item}
 use Rattle.clr_heap.specs.Memories.{memory_index}
 use Rattle.clr_heap.specs.View.{HeapView, segment_at}
-use Rattle.clr_model.specs.Reach.{HeldBy, SecondOf}
-use Rattle.clr_view.specs.SlotValues.{StandsAt}
+use Rattle.clr_model.specs.Reach.{HeldBy, SecondOf, SlotNames}
+use Rattle.clr_view.specs.SlotValues.{IsObjectAt, StandsAt}
+use Rattle.clr_view.specs.View.{objects_in}
 use Rattle.clr_view.specs.World.{HandlesStand}
 use Rattle.clr_mark.specs.Marks.{IsClosed}
 use Rattle.clr_mark.specs.Roots.{AreObjects}
@@ -86,6 +88,12 @@ pub record IsListed (es : List Entry) (x : ℕ) : Type 0 where
 abbrev pub is_listed : List Entry → ℕ → Bool
 is_listed es x = list_any (λ e. e.place == x) es
 
+-- the item is that of entry i
+pub record IsItemOf (v : View) (es : List Entry) (i : ℕ) (item : Item) : Type 0 where
+  pub below : i < length es
+  pub place : item.place ≡ place_at es i
+  pub stands : IsObjectAt v.types.now v.heap.now item.place item
+
 -- handle h is strong or pinned, and names the place
 pub record IsHandleRoot (v : View) (h place : ℕ) : Type 0 where
   pub row : Row
@@ -129,6 +137,11 @@ pub record HasAdded (v : View) (old : List Entry) (seen : List (List ℕ)) (new 
   pub search : IsSearch v seen new
   pub grown : HasGrown old new
   pub added : (x : ℕ) → Wanted x → IsListed new x
+
+-- entries were added, among them whatever the slots of entry i name
+abbrev pub HasFollowed : View → List Entry → ℕ → List (List ℕ) → List Entry → Type 0
+HasFollowed v old i seen new =
+    HasAdded v old seen new (SlotNames (objects_in v.types.now v.heap.now) (place_at old i))
 
 -- ---- dependent handles
 

@@ -1,26 +1,24 @@
-// What the roots reach, and what an object reaches by slots: a search beside the heap, breadth first.
-ghost use Rattle.std.specs.Prelude.{◌≡◌, ℕ, ◌+◌, ◌<◌, ◌↔◌, false, [], length, IfOk, IfSome, IfNone, OnOk};
-ghost use Rattle.std.specs.FinMap as finmap;
+// What the roots reach: a search beside the heap, breadth first.
+ghost use Rattle.std.specs.Prelude.{◌≡◌, ◌≢◌, ℕ, ◌<◌, false, [], length, IfOk, IfSome, IfNone, OnOk};
+ghost use Rattle.clr_types.specs.Descriptors.{offsets_from};
 ghost use Rattle.clr_types.specs.Rising.{Tests};
-ghost use Rattle.clr_heap.specs.Memories.{HasWord};
+ghost use Rattle.clr_heap.specs.Memories.{HasWord, memory_index};
 ghost use Rattle.clr_model.specs.Machine.{Machine};
-ghost use Rattle.clr_model.specs.Reach.{Live, Reach, SecondOf, SlotNames};
-ghost use Rattle.clr_view.specs.View.{objects_in};
+ghost use Rattle.clr_model.specs.Reach.{Live, SecondOf};
+ghost use Rattle.clr_view.specs.SlotValues.{IsObjectAt};
+ghost use Rattle.clr_mark.specs.Markings.{item_references};
 ghost use Rattle.clr_mark.specs.Roots.{IsRoot};
 ghost use Rattle.clr_mark.specs.Ties.{IsTarget};
-ghost use Rattle.clr_sos.specs.Reaching.{AreTies, HasAdded, HasGrown, HasRoom, is_listed, is_seen, IsListed};
-ghost use Rattle.clr_sos.specs.Reaching.{IsObjectOf};
-ghost use Rattle.clr_sos.specs.Reaching.{IsOrigin, IsSearch, IsSound, place_at};
-ghost use Rattle.clr_sos.specs.SlotReaching.{AreReachedBySlots};
-ghost use Rattle.clr_sos.specs.Views.{IsLawfulView, IsViewOf};
+ghost use Rattle.clr_sos.specs.Reaching.{AreTies, HasAdded, HasFollowed, HasGrown, HasRoom, is_listed, is_seen};
+ghost use Rattle.clr_sos.specs.Reaching.{IsItemOf, IsListed, IsObjectOf, IsOrigin, IsSearch, IsSound, place_at};
+ghost use Rattle.clr_sos.specs.Views.{IsViewOf};
 
 use crate::View;
 use crate::reach::bits::Bits;
 use crate::reach::ties::{Tie, first_tie, ties_of};
-use clr_final::Finals;
-use clr_handles::{Handles, MOST_HANDLES};
-use clr_heap::Heap;
-use clr_view::object_item;
+use clr_handles::MOST_HANDLES;
+use clr_heap::{Heap, Item};
+use clr_types::ReferenceRun;
 use std::alloc::{AllocError, Global};
 
 mod bits;
@@ -46,8 +44,8 @@ pub struct Entry {
     pub(crate) origin: Origin,
 }
 
-/// The objects that roots, or an object, reach, in the order in which a search breadth first finds them. The search
-/// touches no mark of the heap: it has a bit for each word of each segment.
+/// The objects that roots reach, in the order in which a search breadth first finds them. The search touches no mark of
+/// the heap: it has a bit for each word of each segment.
 #[derive(Drop)]
 pub struct Reached {
     pub(crate) seen: Vec<Bits>,
@@ -73,61 +71,24 @@ pub(crate) fn reach(alloc: Global, view: &View<'_>) -> Result<Reached, AllocErro
     reached.add_ready(view)?;
     let mut next = 0;
     while next < reached.entries.len() {
-        reached.follow_slots(view, next)?;
+        let _ = reached.follow_slots(view, next)?;
         reached.follow_ties(view, &ties, next)?;
         next += 1;
     }
     Ok(reached)
 }
 
-/// What the object at a place reaches by slots: itself, each object that a slot of it names, each that a slot of these
-/// names, and so on. Dependent handles don't count. Each slot of what is reached is followed once. It takes a bit for
-/// each word of the heap's used ranges, as `reach` does, and 24 bytes for each object that it finds.
-///
-/// That is what the roots of another view reach: of one that has the place as its only local, no handles and no
-/// f-reachable queue.
-pub fn reach_by_slots(alloc: Global, view: &View<'_>, place: u64) -> Result<Reached, AllocError>
-    requires lawful { IsLawfulView view.now }
-    requires stands { IsObjectOf view.now place }
-    ensures { IfOk result (λ r. AreReachedBySlots view.now place r.entries.items) }
-{
-    view.heap.lawful();
-    let locals = [place];
-    let handles = Handles::new(alloc);
-    let finals = Finals::new(alloc);
-    let only = View {
-        types: view.types,
-        heap: view.heap,
-        bricks: view.bricks,
-        handles: &handles,
-        finals: &finals,
-        locals: &locals,
-        limit: view.limit,
-        large: view.large,
-    };
-    follow_locals(alloc, &only)
-}
-
-// What the locals of a view reach that has no handles and no f-reachable queue: by slots alone.
-fn follow_locals(alloc: Global, view: &View<'_>) -> Result<Reached, AllocError>
-    requires sound { IsSound view.now }
-    requires handles { view.now.handles.now ≡ finmap.empty }
-    requires ready { view.now.finals.now.ready ≡ [] }
-    ensures search { IfOk result (λ r. IsSearch view.now r.seen.items r.entries.items) }
-    ensures exact { IfOk result (λ r. (x : ℕ) → IsListed r.entries.items x
-        ↔ Reach (SlotNames (objects_in view.now.types.now view.now.heap.now)) (IsRoot view.now.locals.now) x) }
-{
-    let mut reached = Reached::new(alloc, view.heap)?;
-    reached.add_locals(view)?;
-    let mut next = 0;
-    while next < reached.entries.len() {
-        reached.follow_slots(view, next)?;
-        next += 1;
-    }
-    Ok(reached)
-}
-
 impl Reached {
+    /// What locals name, and nothing else yet.
+    pub fn from_locals(alloc: Global, view: &View<'_>) -> Result<Reached, AllocError>
+        requires { IsSound view.now }
+        ensures { IfOk result (λ r. HasAdded view.now [] r.seen.items r.entries.items (IsRoot view.now.locals.now)) }
+    {
+        let mut reached = Reached::new(alloc, view.heap)?;
+        reached.add_locals(view)?;
+        Ok(reached)
+    }
+
     // Nothing, with room for marks of all objects.
     fn new(alloc: Global, heap: &Heap) -> Result<Reached, AllocError>
         ensures entries { IfOk result (λ r. r.entries.items ≡ []) }
@@ -183,12 +144,59 @@ impl Reached {
         ensures met { OnOk result (IsListed self.new.entries.items place) }
     {
         let k = view.heap.segment_of(place);
+        self.meet_in(view, k, place, origin)
+    }
+
+    // The same for an object in segment `k`.
+    #[inline(always)]
+    fn meet_in(
+        &mut self,
+        view: &View<'_>,
+        k: usize,
+        place: u64,
+        origin: Origin,
+    ) -> Result<(), AllocError>
+        requires sound { IsSound view.now }
+        requires stands { IsObjectOf view.now place }
+        requires segment { k ≡ memory_index view.now.heap.now.memories place }
+        requires search { IsSearch view.now self.old.seen.items self.old.entries.items }
+        requires origin { IsOrigin view.now self.old.entries.items (length self.old.entries.items) place origin }
+        ensures search { OnOk result (IsSearch view.now self.new.seen.items self.new.entries.items) }
+        ensures grown { OnOk result (HasGrown self.old.entries.items self.new.entries.items) }
+        ensures met { OnOk result (IsListed self.new.entries.items place) }
+    {
         let number = (place - view.heap.info(k).base) / 8;
         let bits = &mut self.seen[k];
         if !bits.has(number) {
             bits.add(number);
             self.entries.push(Entry { place, origin })?;
         }
+        Ok(())
+    }
+
+    // Adds the object that a slot of entry `i` names, where it isn't null. It is looked for in segment `near` first.
+    #[inline(always)]
+    fn meet_named(
+        &mut self,
+        view: &View<'_>,
+        near: usize,
+        target: u64,
+        i: usize,
+    ) -> Result<(), AllocError>
+        requires sound { IsSound view.now }
+        requires search { IsSearch view.now self.old.seen.items self.old.entries.items }
+        requires stands { target ≢ 0 → IsObjectOf view.now target }
+        requires origin { target ≢ 0
+            → IsOrigin view.now self.old.entries.items (length self.old.entries.items) target (Origin.Through i) }
+        ensures search { OnOk result (IsSearch view.now self.new.seen.items self.new.entries.items) }
+        ensures grown { OnOk result (HasGrown self.old.entries.items self.new.entries.items) }
+        ensures met { OnOk result (target ≢ 0 → IsListed self.new.entries.items target) }
+    {
+        if target == 0 {
+            return Ok(());
+        }
+        let k = view.heap.segment_near(near, target);
+        self.meet_in(view, k, target, Origin::Through(i))?;
         Ok(())
     }
 
@@ -243,26 +251,93 @@ impl Reached {
         Ok(())
     }
 
-    // Adds what the slots of entry `i` name.
-    fn follow_slots(&mut self, view: &View<'_>, i: usize) -> Result<(), AllocError>
+    /// Adds what the slots of entry `i` name, and answers the item of its object.
+    #[inline(always)]
+    pub fn follow_slots(&mut self, view: &View<'_>, i: usize) -> Result<Item, AllocError>
         requires sound { IsSound view.now }
         requires search { IsSearch view.now self.old.seen.items self.old.entries.items }
         requires below { i < length self.old.entries.items }
-        ensures { OnOk result (HasAdded view.now self.old.entries.items self.new.seen.items self.new.entries.items
-            (SlotNames (objects_in view.now.types.now view.now.heap.now) (place_at self.old.entries.items i))) }
+        ensures added { OnOk result
+            (HasFollowed view.now self.old.entries.items i self.new.seen.items self.new.entries.items) }
+        ensures item { IfOk result
+            (IsObjectAt view.now.types.now view.now.heap.now (place_at self.old.entries.items i)) }
     {
         let place = self.entries[i].place;
-        let item = object_item(view.heap, view.types, place);
+        let k = view.heap.segment_of(place);
+        let item = item_in(view, k, place);
+        self.follow_item(view, k, i, item)?;
+        Ok(item)
+    }
+
+    // Adds what the slots of the item of entry `i` name, which stands in segment `k`.
+    #[inline(always)]
+    fn follow_item(
+        &mut self,
+        view: &View<'_>,
+        k: usize,
+        i: usize,
+        item: Item,
+    ) -> Result<(), AllocError>
+        requires sound { IsSound view.now }
+        requires search { IsSearch view.now self.old.seen.items self.old.entries.items }
+        requires entry { IsItemOf view.now self.old.entries.items i item }
+        requires segment { k ≡ memory_index view.now.heap.now.memories item.place }
+        ensures { OnOk result
+            (HasFollowed view.now self.old.entries.items i self.new.seen.items self.new.entries.items) }
+    {
+        match view.types.reference_run(item.type_id, item.len) {
+            Some(run) => self.follow_run(view, k, i, item, run),
+            None => self.follow_each(view, k, i, item),
+        }
+    }
+
+    // The same, where the references are one run.
+    #[inline(always)]
+    fn follow_run(
+        &mut self,
+        view: &View<'_>,
+        k: usize,
+        i: usize,
+        item: Item,
+        run: ReferenceRun,
+    ) -> Result<(), AllocError>
+        requires sound { IsSound view.now }
+        requires search { IsSearch view.now self.old.seen.items self.old.entries.items }
+        requires entry { IsItemOf view.now self.old.entries.items i item }
+        requires segment { k ≡ memory_index view.now.heap.now.memories item.place }
+        requires run { item_references view.now.types.now item ≡ offsets_from run.offset run.count }
+        ensures { OnOk result
+            (HasFollowed view.now self.old.entries.items i self.new.seen.items self.new.entries.items) }
+    {
+        for j in 0..run.count {
+            let target = view.heap.word_at(k, item.place + (run.offset + 8 * j));
+            self.meet_named(view, k, target, i)?;
+        }
+        Ok(())
+    }
+
+    // The same, slot by slot.
+    #[inline(never)]
+    fn follow_each(
+        &mut self,
+        view: &View<'_>,
+        k: usize,
+        i: usize,
+        item: Item,
+    ) -> Result<(), AllocError>
+        requires sound { IsSound view.now }
+        requires search { IsSearch view.now self.old.seen.items self.old.entries.items }
+        requires entry { IsItemOf view.now self.old.entries.items i item }
+        requires segment { k ≡ memory_index view.now.heap.now.memories item.place }
+        ensures { OnOk result
+            (HasFollowed view.now self.old.entries.items i self.new.seen.items self.new.entries.items) }
+    {
         if view.types.series(item.type_id).is_empty() {
             return Ok(());
         }
-        let k = view.heap.segment_of(place);
         for offset in view.types.slots(item.type_id, item.len) {
-            let target = view.heap.word_at(k, place + offset);
-            if target == 0 {
-                continue;
-            }
-            self.meet(view, target, Origin::Through(i))?;
+            let target = view.heap.word_at(k, item.place + offset);
+            self.meet_named(view, k, target, i)?;
         }
         Ok(())
     }
@@ -287,4 +362,16 @@ impl Reached {
         }
         Ok(())
     }
+}
+
+// The item of the object at a place, in segment `k`.
+#[inline(always)]
+fn item_in(view: &View<'_>, k: usize, place: u64) -> Item
+    requires sound { IsSound view.now }
+    requires stands { IsObjectOf view.now place }
+    requires segment { k ≡ memory_index view.now.heap.now.memories place }
+    ensures { IsObjectAt view.now.types.now view.now.heap.now place result }
+{
+    let mt = view.heap.word_at(k, place);
+    view.heap.item_of_word(view.types, k, place, mt)
 }

@@ -2,7 +2,7 @@
 ghost use Rattle.std.specs.Prelude.{◌≡◌, ◌≤◌, false};
 ghost use Rattle.clr_model.specs.Collection.{is_fit};
 
-use super::define;
+use super::{define, runtime_where};
 use clr_model::{Collected, How, Refusal};
 use clr_runtime::{Options, Runtime};
 use clr_types::Shape;
@@ -26,9 +26,15 @@ fn runtime_with_stack(alloc: Global, capacity: usize) -> Result<Runtime, Fail>
         large: 85_000,
     };
     let mut runtime = Runtime::with_mark_stack(alloc, options, capacity)?;
-    let _ = define(&mut runtime, b"Link", Shape::Class(b"r"))?;
-    let _ = define(&mut runtime, b"Table", Shape::RefArray)?;
-    Ok(runtime)
+    let told = define_types(&mut runtime);
+    runtime_where(told, runtime)
+}
+
+// Defines a class of one reference, and arrays of references.
+fn define_types(runtime: &mut Runtime) -> Result<(), Refusal> {
+    let _ = define(runtime, b"Link", Shape::Class(b"r"))?;
+    let _ = define(runtime, b"Table", Shape::RefArray)?;
+    Ok(())
 }
 
 // Makes two objects, of which the first refers to the second, and puts the first into slot `i` of the table of local 0.

@@ -17,11 +17,12 @@ use Rattle.clr_mark.specs.Roots.{IsRoot}
 use Rattle.clr_mark.proofs.Graying.{reach_on}
 use Rattle.clr_sos.specs.Reaching.{HasAdded, IsFollowed, IsListed, IsObjectOf, IsRootOf, IsSearch, IsSound, Leads}
 use Rattle.clr_sos.specs.Reaching.{place_at}
-use Rattle.clr_sos.specs.SlotReaching.{AreReachedBySlots}
 use Rattle.clr_sos.specs.declared.reach.Entry.{Entry}
 use Rattle.clr_sos.specs.declared.view.View.{View}
 use Rattle.clr_sos.proofs.Adding.{added-starts}
 use Rattle.clr_sos.proofs.ReachedAll.{followed-more, reached-exactly}
+use Rattle.clr_objsize.specs.Sizes.{HasTotal}
+use Rattle.clr_objsize.specs.declared.sizes.Total.{Total}
 
 -- no number is in use
 none_used : (handles : FinMap nat_cmp Row) → handles ≡ finmap.empty → (h : ℕ) (row : Row)
@@ -81,57 +82,47 @@ module _ (v : View) (sound : IsSound v) (bare : v.handles.now ≡ finmap.empty) 
 
 -- ---- one object
 
--- A view of the same heap whose only local is the place of an object, without handles and without a queue.
-module _ (v w : View) (types : w.types.now ≡ v.types.now) (heap : w.heap.now ≡ v.heap.now) (place : ℕ)
-    (local : w.locals.now ≡ place ∷ []) where
-  -- what holds of types and a heap
-  over : (P : List TypeRow → HeapView → Type 0) → P v.types.now v.heap.now → P w.types.now w.heap.now
-  over P p = subst (λ (h : HeapView). P w.types.now h) (sym heap)
-      (subst (λ (rows : List TypeRow). P rows v.heap.now) (sym types) p)
+-- a list of one place names it alone
+only_place : (place x : ℕ) → IsIn x (place ∷ []) → x ≡ place
+only_place place x l = elim (in_cons l) [
+  | inl same ↦ same
+  | inr none ↦ elim none [ ]
+]
 
-  back : (P : List TypeRow → HeapView → Type 0) → P w.types.now w.heap.now → P v.types.now v.heap.now
-  back P p = subst (λ (rows : List TypeRow). P rows v.heap.now) types
-      (subst (λ (h : HeapView). P w.types.now h) heap p)
+-- A VIEW OF THE SAME HEAP whose only local is the place of an object, without handles and without a queue, is sound
+-- where the first view is.
+pub sound-alone : (v w : View) → w.types.now ≡ v.types.now → w.heap.now ≡ v.heap.now → (place : ℕ)
+    → w.locals.now ≡ place ∷ [] → IsSound v → IsObjectOf v place → w.handles.now ≡ finmap.empty
+    → w.finals.now.ready ≡ [] → IsSound w
+sound-alone v w types heap place local sound stands bare idle = record {
+  closed = over IsClosed sound.closed;
+  handles = λ k row used. absurd (none_used w.handles.now bare k row used);
+  locals = λ x root. over (λ rows h. StandsAt rows h x)
+      (subst (λ (y : ℕ). StandsAt v.types.now v.heap.now y)
+      (sym (only_place place x (subst (λ (xs : List ℕ). IsIn x xs) local root.listed))) stands);
+  ready = λ x root. elim (subst (λ (xs : List ℕ). IsIn x xs) idle root.listed) [ ];
+}
+  where
+    -- what holds of types and a heap
+    over : (P : List TypeRow → HeapView → Type 0) → P v.types.now v.heap.now → P w.types.now w.heap.now
+    over P p = subst (λ (h : HeapView). P w.types.now h) (sym heap)
+        (subst (λ (rows : List TypeRow). P rows v.heap.now) (sym types) p)
 
-  -- it names the one place
-  only_local : (x : ℕ) → IsIn x w.locals.now → x ≡ place
-  only_local x l = elim (in_cons (subst (λ (xs : List ℕ). IsIn x xs) local l)) [
-    | inl same ↦ same
-    | inr none ↦ elim none [ ]
-  ]
-
-  -- IT IS SOUND where the first view is
-  pub sound-alone : IsSound v → IsObjectOf v place → w.handles.now ≡ finmap.empty → w.finals.now.ready ≡ []
-      → IsSound w
-  sound-alone sound stands bare idle = record {
-    closed = over IsClosed sound.closed;
-    handles = λ k row used. absurd (none_used w.handles.now bare k row used);
-    locals = λ x root. over (λ rows h. StandsAt rows h x)
-        (subst (λ (y : ℕ). StandsAt v.types.now v.heap.now y) (sym (only_local x root.listed)) stands);
-    ready = λ x root. elim (subst (λ (xs : List ℕ). IsIn x xs) idle root.listed) [ ];
-  }
-
-  -- WHAT ITS LOCAL REACHES by slots is what the object reaches
-  pub reached-alone : (seen : List (List ℕ)) (es : List Entry) → 0 < place → IsSearch w seen es
-      → ((x : ℕ) → IsListed es x
-      ↔ Reach (SlotNames (objects_in w.types.now w.heap.now)) (IsRoot w.locals.now) x)
-      → AreReachedBySlots v place es
-  reached-alone seen es some s exact =
-      let names : (rows : List TypeRow) (h : HeapView) → ℕ → ℕ → Type 0 = λ rows h. SlotNames (objects_in rows h) in
-      let near : ℕ → ℕ → Type 0 = names v.types.now v.heap.now in
-      let told : (x : ℕ) → IsListed es x ↔ Reach near (IsRoot w.locals.now) x =
-      back (λ rows h. (x : ℕ) → IsListed es x ↔ Reach (names rows h) (IsRoot w.locals.now) x) exact in
-      record {
-        exact = λ x. (
-          λ l. reach_on near near (λ y. y ≡ place) (IsRoot w.locals.now) x (λ y z e. e)
-              (λ y root. only_local y root.listed) ((told x).0 l),
-          λ r. (told x).1 (reach_on near near (IsRoot w.locals.now) (λ y. y ≡ place) x (λ y z e. e)
-              (λ y same. record {
-                listed = subst (λ (xs : List ℕ). IsIn y xs) (sym local)
-                    (subst (λ (z : ℕ). IsIn y (z ∷ [])) same first);
-                not_null = subst (λ (z : ℕ). 0 < z) (sym same) some;
-              }) r),
-        );
-        stand = λ i l. back (λ rows h. StandsAt rows h (place_at es i)) (s.sound i l).stands;
-        distinct = s.distinct;
-      }
+-- WHAT ITS LOCAL HOLDS is what the object holds
+pub total-alone : (v : View) (place : ℕ) (total : Total) → 0 < place → HasTotal v (IsRoot (place ∷ [])) total
+    → HasTotal v (λ y. y ≡ place) total
+total-alone v place total some told =
+    let near : ℕ → ℕ → Type 0 = SlotNames (objects_in v.types.now v.heap.now) in (
+      told.0,
+      λ x. (
+        λ e. reach_on near near (λ y. y ≡ place) (IsRoot (place ∷ [])) x (λ y z f. f)
+            (λ y root. only_place place y root.listed) ((told.1 x).0 e),
+        λ r. (told.1 x).1 (reach_on near near (IsRoot (place ∷ [])) (λ y. y ≡ place) x (λ y z f. f)
+            (λ y same. record {
+              listed = subst (λ (z : ℕ). IsIn z (place ∷ [])) (sym same) first;
+              not_null = subst (λ (z : ℕ). 0 < z) (sym same) some;
+            }) r),
+      ),
+      told.2,
+      told.3,
+    )

@@ -1,0 +1,14 @@
+use Rattle.std.proofs.Common.{◌-◌}
+use Rattle.clr_heap.specs.View.{first_of}
+use Rattle.clr_evacuate.specs.Forwarding.{AreCleared, IsBetween}
+use Rattle.clr_evacuate.proofs.Walks.{IsWalking}
+use Rattle.clr_evacuate.proofs.clearing.clear_segment.Given as goal
+
+abbrev pub invariant-loop-place : goal.invariant-loop-place
+invariant-loop-place l = record {
+  walking : IsWalking l.types l.initial.heap l.k l.place l.segment.end;
+  cleared : AreCleared l.types l.initial.heap l.heap (λ a. IsBetween (first_of l.initial.heap l.k) l.place a);
+}
+
+abbrev pub decreases-loop-place : goal.decreases-loop-place
+decreases-loop-place l = l.segment.end - l.place

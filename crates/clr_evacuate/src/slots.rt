@@ -1,0 +1,120 @@
+// References of objects become the places where what they name went.
+ghost use Rattle.std.specs.Prelude.{◌≡◌, ℕ, ◌+◌, ◌<◌, true, length, map, ℤ};
+ghost use Rattle.clr_cards.specs.Cards.{is_card_set};
+ghost use Rattle.clr_generations.specs.Laws.{BrickLaw, CardLaw};
+ghost use Rattle.clr_generations.specs.Tables.{AreCardsOf};
+ghost use Rattle.clr_heap.specs.Parts.{item_at};
+ghost use Rattle.clr_heap.specs.View.{first_of, frame, HasItem, heap_items, last_of, word_of};
+ghost use Rattle.clr_model.specs.Reach.{SlotNames};
+ghost use Rattle.clr_types.specs.Rising.{IsIn};
+ghost use Rattle.clr_view.specs.View.{is_object, IsHeld, objects_in};
+ghost use Rattle.clr_evacuate.specs.Forwards.{HasForwards};
+ghost use Rattle.clr_evacuate.specs.Forwarding.{AreForwardable, CanForward, forwarded_object, HaveStayed, IsBetween};
+ghost use Rattle.clr_evacuate.specs.Forwarding.{IsForwarded, IsOffsetOf, LeadsBy};
+ghost use Rattle.clr_mark.specs.Markings.{item_references};
+
+use crate::forwarding::forward;
+use clr_cards::Cards;
+use clr_generations::set_reference;
+use clr_heap::{Heap, Item};
+use clr_types::{FIRST_OFFSET, Slot, Types};
+
+/// Lets each reference of each object, dead ones too, go where what it names went. Afterwards each slot that names an
+/// object of a lower generation has its card set, whatever was set before.
+///
+/// Free items keep their forwards, and all else stays.
+pub fn forward_slots(heap: &mut Heap, types: &Types, cards: &mut Cards)
+    requires held { IsHeld types.now heap.old }
+    requires named { (x y : ℕ) → SlotNames (objects_in types.now heap.old) x y → CanForward types.now heap.old y }
+    requires cards { AreCardsOf (frame heap.old) cards.old }
+    ensures objects { (go : ℕ → ℕ) → LeadsBy types.now heap.old go
+        → objects_in types.now heap.new ≡ map (forwarded_object go) (objects_in types.now heap.old) }
+    ensures stayed { HaveStayed types.now heap.old heap.new }
+    ensures forwards { (go : ℕ → ℕ) → HasForwards types.now heap.old go → HasForwards types.now heap.new go }
+    ensures cards { AreCardsOf (frame heap.new) cards.new }
+    ensures card_law { CardLaw types.now (frame heap.new) (objects_in types.now heap.new) (is_card_set cards.new) }
+    ensures brick_law { (entry : ℕ → ℤ) → BrickLaw types.now (frame heap.old) (objects_in types.now heap.old) entry
+        → BrickLaw types.now (frame heap.new) (objects_in types.now heap.new) entry }
+{
+    let count = heap.segments();
+    for k in 0..count {
+        forward_segment(heap, types, cards, k);
+    }
+}
+
+// The same for the references of segment `k`.
+fn forward_segment(heap: &mut Heap, types: &Types, cards: &mut Cards, k: usize)
+    requires held { IsHeld types.now heap.old }
+    requires in_range { k < length heap.old.segments }
+    requires named { AreForwardable types.now heap.old (λ a. IsBetween (first_of heap.old k) (last_of heap.old k) a) }
+    requires cards { AreCardsOf (frame heap.old) cards.old }
+    ensures { IsForwarded types.now heap.old heap.new cards.old cards.new
+        (λ a. IsBetween (first_of heap.old k) (last_of heap.old k) a) }
+{
+    heap.lawful();
+    let segment = heap.info(k);
+    let mut place = segment.base + FIRST_OFFSET;
+    while place < segment.end {
+        match heap.hole_end(k, place) {
+            Some(hole_end) => place = hole_end,
+            None => place += forward_item(heap, types, cards, place),
+        }
+    }
+}
+
+// The same for those of the item at `place`, of which it answers the size.
+fn forward_item(heap: &mut Heap, types: &Types, cards: &mut Cards, place: u64) -> u64
+    requires held { IsHeld types.now heap.old }
+    requires head { HasItem types.now heap.old place }
+    requires listed { IsIn (item_at types.now (word_of heap.old) place) (heap_items types.now heap.old) }
+    requires named { AreForwardable types.now heap.old
+        (λ a. IsBetween place (place + (item_at types.now (word_of heap.old) place).size) a) }
+    requires cards { AreCardsOf (frame heap.old) cards.old }
+    ensures size { result ≡ (item_at types.now (word_of heap.old) place).size }
+    ensures forwarded { IsForwarded types.now heap.old heap.new cards.old cards.new
+        (λ a. IsBetween place (place + (item_at types.now (word_of heap.old) place).size) a) }
+{
+    heap.lawful();
+    let found = heap.item(types, place);
+    if found.type_id.0 != 0 {
+        forward_object(heap, types, cards, &found);
+    }
+    found.size
+}
+
+// The same for those of an object.
+fn forward_object(heap: &mut Heap, types: &Types, cards: &mut Cards, found: &Item)
+    requires held { IsHeld types.now heap.old }
+    requires listed { IsIn found.now (heap_items types.now heap.old) }
+    requires object { is_object found.now ≡ true }
+    requires named { AreForwardable types.now heap.old
+        (λ a. IsOffsetOf found.now.place (item_references types.now found.now) a) }
+    requires cards { AreCardsOf (frame heap.old) cards.old }
+    ensures { IsForwarded types.now heap.old heap.new cards.old cards.new
+        (λ a. IsOffsetOf found.now.place (item_references types.now found.now) a) }
+{
+    heap.lawful();
+    for offset in types.slots(found.type_id, found.len) {
+        forward_slot(heap, types, cards, found, offset);
+    }
+}
+
+// The same for the one at an offset.
+fn forward_slot(heap: &mut Heap, types: &Types, cards: &mut Cards, found: &Item, offset: u64)
+    requires held { IsHeld types.now heap.old }
+    requires listed { IsIn found.now (heap_items types.now heap.old) }
+    requires object { is_object found.now ≡ true }
+    requires reference { IsIn offset (item_references types.now found.now) }
+    requires named { CanForward types.now heap.old (word_of heap.old (found.now.place + offset)) }
+    requires cards { AreCardsOf (frame heap.old) cards.old }
+    ensures { IsForwarded types.now heap.old heap.new cards.old cards.new (λ a. a ≡ found.now.place + offset) }
+{
+    heap.lawful();
+    let named = heap.word(found.place + offset);
+    let target = forward(heap, types, named);
+    let slot = Slot {
+        offset,
+        reference: true,
+    };
+    set_reference(heap, types, cards, found, slot, target);
+}

@@ -137,6 +137,7 @@ module _ (rows : List TypeRow) (h : HeapView) (k : ℕ) where
         record {
           plugs = passed-over p e q before ∙ ap fitting_plugs plugs
               ∙ ap (λ (n : ℕ). fitting_plug (segment_at h k).base range ∷ fitting_between rows h k n e) (sym ends);
+          before = before;
           scan = before.scan;
           objects = subst (ArePassed rows h k q e true) (sym ends) run;
           above = low;

@@ -1,6 +1,7 @@
 -- What is written behind a walk doesn't matter to it: the run that it finds in the heap as it is now is that of the
 -- heap as it was.
-use Rattle.std.proofs.Common.{◌≡◌, ℕ, ◌+◌, ◌-◌, ◌%◌, ◌<◌, ◌≤◌, true, List, ◌∷◌, ◌++◌, not, ◌&&◌, ◌==◌, sym, ap, ap₂}
+use Rattle.std.proofs.Common.{◌≡◌, ℕ, ◌+◌, ◌-◌, ◌%◌, ◌<◌, ◌≤◌, Bool, true}
+use Rattle.std.proofs.Common.{false, List, ◌∷◌, ◌++◌, not, ◌&&◌, ◌==◌, sym, ap, ap₂}
 use Rattle.std.proofs.Common.{◌∙◌, subst, arith}
 use Rattle.clr_types.specs.Bits.{has_pin}
 use Rattle.clr_types.specs.Ranges.{Piece, piece_end}
@@ -55,9 +56,9 @@ module _ (rows : List TypeRow) (old now : HeapView) (k p e : ℕ) (shape : SameS
       λ j. ((is_object i && has_mark (mark j)) && (age j == 1)) && not (has_pin (header j))
 
   -- what is passed in one heap is passed in the other
-  pub passed-same : (q : ℕ) → CanScan rows old k p e → ArePassed rows old k p e true q
-      → ArePassed rows now k p e true q
-  passed-same q s are =
+  pub passed-same : (may : Bool) (q : ℕ) → CanScan rows old k p e → ArePassed rows old k p e may q
+      → ArePassed rows now k p e may q
+  passed-same may q s are =
       let up = side-up p q are.passed are.side_by_side in
       record {
         passed = are.passed;
@@ -65,9 +66,9 @@ module _ (rows : List TypeRow) (old now : HeapView) (k p e : ℕ) (shape : SameS
             ∙ are.items
             ∙ ap (λ (is : List Item). are.passed ++ is)
             (sym (items-same rows old now k q e shape (ahead-on old now p q e up same) are.scan));
-        alike = all_members (λ (i : Item). may_fit now i ≡ true) are.passed (λ i n.
+        alike = all_members (λ (i : Item). may_fit now i ≡ may) are.passed (λ i n.
             may-same i s (subst (IsIn i) (sym are.items) (append_left (items_between (sight rows old k) q e) n))
-            ∙ all_at (λ (j : Item). may_fit old j ≡ true) n are.alike);
+            ∙ all_at (λ (j : Item). may_fit old j ≡ may) n are.alike);
         side_by_side = are.side_by_side;
         scan = scans-on rows old now k q e shape (ahead-on old now p q e up same) are.scan;
         within = are.within;
@@ -91,8 +92,10 @@ found-before rows old now k p e found shape same s has =
           ∙ ap₂ (λ (b : ℕ) (ps : List Plug). fitting_plug b found ∷ ps)
           (ap (λ (h : HeapView). (segment_at h k).base) shape.others)
           (sym (ap fitting_plugs (plugs-same rows now old k end e back behind has.objects.scan)));
+      before = passed-same rows now old k p e back (ahead-back old now p e same) false found.place
+          (scans-on rows old now k p e shape same s) has.before;
       scan = scans-on rows now old k found.place e back here has.scan;
-      objects = passed-same rows now old k found.place e back here end has.scan has.objects;
+      objects = passed-same rows now old k found.place e back here true end has.scan has.objects;
       above = has.above;
       least = has.least;
       within = has.within;

@@ -25,3 +25,9 @@ pub mod FirstFitting
 pub mod FittingPlugs
 pub mod FittingAhead
 pub mod HintFacts
+pub mod CarriedRuns
+pub mod CarryingRuns
+pub mod FittedRuns
+pub mod FittedAll
+pub mod FittedInTurn
+pub mod GoingOn

@@ -43,6 +43,7 @@ fitting_plug base p =
 pub record HasFitting (rows : List TypeRow) (h : HeapView) (k p e : ℕ) (found : Piece) : Type 0 where
   pub plugs : fitting_between rows h k p e
       ≡ fitting_plug (segment_at h k).base found ∷ fitting_between rows h k (piece_end found) e
+  pub before : ArePassed rows h k p e false found.place
   pub scan : CanScan rows h k found.place e
   pub objects : ArePassed rows h k found.place e true (piece_end found)
   pub above : p ≤ found.place

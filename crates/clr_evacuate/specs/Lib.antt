@@ -5,3 +5,6 @@ pub mod Forwarding
 pub mod Searching
 pub mod Fittings
 pub mod Hints
+pub mod CarriedRun
+pub mod FittedRun
+pub mod FittedAll

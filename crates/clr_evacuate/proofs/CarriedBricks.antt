@@ -168,7 +168,7 @@ module _ (rows : List TypeRow) (h : HeapView) (i : Item) (item : Piece) (heap : 
         base = lawful.base;
         reserved = lawful.reserved;
         inside = subst (λ p. stands_in home.home p ≡ true) (sym there_place) home.inside;
-        old = home.old;
+        old = λ p stands up. (let at = there_place in home.old p stands (omega (arith, up, at)));
       }
 
   pub newborn_size : object_size rows there ≡ i.size

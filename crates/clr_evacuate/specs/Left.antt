@@ -33,7 +33,7 @@ pub record IsOldHome (layout : Layout) (place : ℕ) : Type 0 where
   pub home : SegInfo
   pub listed : IsIn home layout.segments
   pub inside : stands_in home place ≡ true
-  pub old : (p : ℕ) → stands_in home p ≡ true → 0 < generation layout p
+  pub old : (p : ℕ) → stands_in home p ≡ true → p ≤ place → 0 < generation layout p
 
 -- no object may be named by the brick that starts in it
 abbrev pub HasNoLeader : Layout → List Object → ℕ → Type 0

@@ -126,7 +126,7 @@ module _ (rows : List TypeRow) (old new : HeapView) (place t n : ℕ) (f : HasOn
         base = lawful.base;
         reserved = lawful.reserved;
         inside = home.inside;
-        old = λ p stands. old-away (frame old) p
+        old = λ p stands up. old-away (frame old) p
             (large_away old home.segment p f.before home.listed home.kind stands);
       }
 

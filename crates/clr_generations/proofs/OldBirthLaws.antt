@@ -91,8 +91,8 @@ module _ (rows : List TypeRow) (before after : Layout) (objects now : List Objec
       let reserved = b.reserved in
       between-stands b.home p (omega arith) (omega arith)
 
-  may-here : (p : ℕ) → p / 4096 ≡ own → may_lead before p ≡ true
-  may-here p at = old-may_lead before p (b.old p (here p at))
+  may-here : (p : ℕ) → p / 4096 ≡ own → p ≤ newborn.place → may_lead before p ≡ true
+  may-here p at up = old-may_lead before p (b.old p (here p at) up)
 
   own-of-home : IsBrickOf b.home own
   own-of-home = brick-of b.home newborn.place (record { base = b.base; reserved = b.reserved }) b.inside
@@ -157,13 +157,16 @@ module _ (rows : List TypeRow) (before after : Layout) (objects now : List Objec
 
     -- where the brick is to name it, the others of its brick stand above
     others-above : is_later ≡ true → (o : Object) → IsIn o objects → o.place / 4096 ≡ own → newborn.place ≤ o.place
-    others-above yes_later o i at =
-        let told = law b.home b.listed in
-        let root = told.starts o.place (o, i, refl) (here o.place at) (may-here o.place at) in
-        let same : entry own ≡ root_entry root.0 = ap entry (sym at) ∙ root.1 in
-        let above = later-above (newborn.place % 4096) (entry own) root.0 yes_later same in
-        let least = (told.named own root.0 own-of-home same).first o.place (o, i, refl) at in
-        omega arith
+    others-above yes_later o i at = elim (cases_lt o.place newborn.place) [
+      | inl under ↦
+          let told = law b.home b.listed in
+          let root = told.starts o.place (o, i, refl) (here o.place at) (may-here o.place at (omega arith)) in
+          let same : entry own ≡ root_entry root.0 = ap entry (sym at) ∙ root.1 in
+          let above = later-above (newborn.place % 4096) (entry own) root.0 yes_later same in
+          let least = (told.named own root.0 own-of-home same).first o.place (o, i, refl) at in
+          omega arith
+      | inr over ↦ over
+    ]
 
     leads-now : is_later ≡ true → LeadsBrick after now own newborn.place
     leads-now yes_later = record {
@@ -179,7 +182,7 @@ module _ (rows : List TypeRow) (before after : Layout) (objects now : List Objec
                 let up = others-above yes_later s.0 was (ap (λ (n : ℕ). n / 4096) at ∙ in_brick) in
                 omega arith
           ];
-      may = may-same before after bounds newborn.place ∙ may-here newborn.place refl;
+      may = may-same before after bounds newborn.place ∙ may-here newborn.place refl (omega arith);
     }
 
     is-named : IsNamed

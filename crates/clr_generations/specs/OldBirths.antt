@@ -8,7 +8,7 @@ use Rattle.clr_bricks.specs.Bricks.{IsRoot}
 use Rattle.clr_model.specs.Lookups.{object_size}
 use Rattle.clr_model.specs.Machine.{Object}
 
--- The objects and one more, the newborn, in a segment all of whose places are of generation 1 or 2. It shares no byte
+-- The objects and one more, the newborn, in a segment whose places up to it are of generation 1 or 2. It shares no byte
 -- with the others. Segments differ from those before in their ends alone, and generations begin where they did.
 pub record HasOldNewborn (rows : List TypeRow) (before after : Layout) (objects now : List Object) (newborn : Object)
     : Type 0 where
@@ -25,7 +25,7 @@ pub record HasOldNewborn (rows : List TypeRow) (before after : Layout) (objects 
   pub base : home.base % 4096 ≡ 0
   pub reserved : home.reserved % 4096 ≡ 0
   pub inside : stands_in home newborn.place ≡ true
-  pub old : (p : ℕ) → stands_in home p ≡ true → 0 < generation before p
+  pub old : (p : ℕ) → stands_in home p ≡ true → p ≤ newborn.place → 0 < generation before p
 
 -- Of the bricks above that of the place, those below `to` are all that an object of this size there reaches into, but
 -- for the last one where that names an offset.

@@ -124,7 +124,7 @@ module _ (group : SegKind) (is_old : IsOldKind group) (rows : List TypeRow) (old
         base = lawful.base;
         reserved = lawful.reserved;
         inside = home.inside;
-        old = λ p stands. old-away (frame old) p
+        old = λ p stands up. old-away (frame old) p
             (kind_away group is_old old home.segment p f.before home.listed home.kind stands);
       }
 

@@ -75,7 +75,7 @@ row-plain [] t all array = refl
 row-plain (row ∷ rows) zero all array = array-plain row.form row.finalizer array all.0.form
 row-plain (row ∷ rows) (suc t) all array = row-plain rows t all.1 array
 
-type-plain : (rows : List TypeRow) (type : ℕ) → AllByRecursion IsLawfulRow rows → is_array (form_at rows type) ≡ true
+pub type-plain : (rows : List TypeRow) (type : ℕ) → AllByRecursion IsLawfulRow rows → is_array (form_at rows type) ≡ true
     → has_finalizer (type_row rows type) ≡ false
 type-plain rows zero all array = refl
 type-plain rows (suc t) all array = row-plain rows t all array

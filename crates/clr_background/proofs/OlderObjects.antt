@@ -22,7 +22,8 @@ use Rattle.clr_model.specs.Lawful.{IsLaid, IsLawful}
 use Rattle.clr_model.specs.Laws.{IsUsual}
 use Rattle.clr_model.proofs.CollectedObjects.{found_by}
 use Rattle.clr_model.proofs.FitCompacted.{compaction, fit_machine, twice}
-use Rattle.clr_model.proofs.FitLaid.{fit_laid, going, moved-covers, unmoved-still}
+use Rattle.clr_model.proofs.FitFillings.{going, moved-covers, unmoved-still}
+use Rattle.clr_model.proofs.FitLaid.{fit_laid}
 use Rattle.clr_model.proofs.FitLawful.{never}
 use Rattle.clr_model.proofs.GivenUp.{given_up_laid, no_rests}
 use Rattle.clr_model.proofs.Landings.{covered_by}

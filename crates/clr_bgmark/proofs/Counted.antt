@@ -205,7 +205,8 @@ module _ (rows : List TypeRow) (h : HeapView) (heap : IsHeap h) (held : IsHeld r
 
     pub followed_counted : IsCounted objects v → IsCounted objects (followed rows h v x)
     followed_counted c =
-        let one = one_passes (is_gray_place now) (is_gray_place mid.shades) ns (names_distinct rows h heap held) x x_named
-        after before others in
+        let one =
+        one_passes (is_gray_place now) (is_gray_place mid.shades) ns (names_distinct rows h heap held) x x_named after
+        before others in
         let counted = all_counted x (references_at rows h x) v all c there in
         omega (arith, one, counted)

@@ -36,7 +36,8 @@ pub few_objects : (rows : List TypeRow) (h : HeapView) → IsHeap h → IsHeld r
     → length (objects_in rows h) < 2 ^ 63
 few_objects rows h heap held =
     let sizes = listings-all rows h held.walkable (λ (i : Item). 24 ≤ i.size) 0 (length h.segments) (λ j low high.
-    all_imply (IsItem rows (first_of h j) (last_of h j)) (λ (i : Item). 24 ≤ i.size) (listing rows h j) (λ i is. is.least)
+    all_imply (IsItem rows (first_of h j) (last_of h j)) (λ (i : Item). 24 ≤ i.size) (listing rows h j)
+    (λ i is. is.least)
     (listing-are rows h held.walkable j (omega (arith, high)))) in
     let items = fewer_than_bytes (heap_items rows h) sizes in
     let some = few_pass is_object (heap_items rows h) in

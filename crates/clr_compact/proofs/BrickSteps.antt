@@ -1,75 +1,22 @@
 -- A walk that enters the bricks of a segment: what holds as far as it has come.
-use Rattle.std.proofs.Common.{◌≡◌, ◌≢◌, ◌⊎◌, inl, inr, ℕ, zero, suc, ◌+◌, ◌-◌, ◌*◌, ◌/◌, ◌%◌, ◌<◌, ◌≤◌, true}
+use Rattle.std.proofs.Common.{◌≡◌, ◌≢◌, ◌⊎◌, inl, inr, ℕ, ◌+◌, ◌-◌, ◌*◌, ◌/◌, ◌%◌, ◌<◌, ◌≤◌, true}
 use Rattle.std.proofs.Common.{List, refl, ap, sym, ◌∙◌, subst, arith, ℤ}
 use Rattle.std.proofs.lemmas.Bool.{cases_eq, cases_lt}
-use Rattle.std.proofs.lemmas.Bool.{le-leb, le-ltb, lt-leb, lt-ltb}
 use Rattle.clr_types.specs.Rising.{IsIn}
 use Rattle.clr_types.specs.Segments.{ephemeral, first_place, generation, Layout, reserved_end, stands_in}
 use Rattle.clr_types.specs.Types.{TypeRow}
 use Rattle.clr_types.specs.declared.segment.SegInfo.{SegInfo}
-use Rattle.clr_bricks.specs.Bricks.{back_entry, IsRoot, LeadsBack, root_entry}
+use Rattle.clr_bricks.specs.Bricks.{IsRoot, LeadsBack, root_entry}
 use Rattle.clr_model.specs.Lookups.{object_size}
 use Rattle.clr_model.specs.Machine.{Object}
 use Rattle.clr_compact.specs.Entered.{AreEnteredBelow}
 use Rattle.clr_compact.specs.Entering.{hop, led_back}
 use Rattle.clr_generations.specs.Laws.{AreEntered, IsBrickOf, LeadsBrick, LeadsToNearest, may_lead, ReachesInto, Stands}
 use Rattle.clr_generations.proofs.Alike.{path-down, path-same}
+use Rattle.clr_generations.proofs.BrickSteps.{hops, Leads, leads-on, led-inside, no_root}
+pub use Rattle.clr_generations.proofs.BrickSteps.{led-above, led-below}
 use Rattle.clr_generations.proofs.Homes.{brick-of, HasWholeBricks, HaveHomes, old-may_lead, stands-home}
 use Rattle.clr_compact.proofs.BrickPlaces.{may_lead-lower}
-
--- ---- back entries that are written
-
--- entries lead back from one brick to another, however many
-abbrev Leads : (ℕ → ℤ) → ℕ → ℕ → Type 0
-Leads entry from to = (count : ℕ) × LeadsBack entry 0 from to count
-
-leads-on : {entry : ℕ → ℤ} {a b c n : ℕ} → LeadsBack entry 0 a b n → Leads entry b c → Leads entry a c
-leads-on LeadsBack.here more = more
-leads-on (LeadsBack.back k e l rest) more =
-    let on = leads-on rest more in
-    (suc on.0, LeadsBack.back {n = on.0} k e l on.1)
-
-led-inside : (entry : ℕ → ℤ) (next to brick : ℕ) → next ≤ brick → brick < to
-    → led_back entry next to brick ≡ back_entry (hop (brick + 1 - next))
-led-inside entry next to brick low high = rw (le-leb next brick low, lt-ltb brick to high) refl
-
-pub led-below : (entry : ℕ → ℤ) (next to brick : ℕ) → brick < next → led_back entry next to brick ≡ entry brick
-led-below entry next to brick low = rw (lt-leb next brick low) refl
-
-pub led-above : (entry : ℕ → ℤ) (next to brick : ℕ) → to ≤ brick → led_back entry next to brick ≡ entry brick
-led-above entry next to brick high = elim (cases_lt brick next) [
-  | inl low ↦ led-below entry next to brick low
-  | inr up ↦ rw (le-leb next brick up, le-ltb brick to high) refl
-]
-
-hop-bounds : (far : ℕ) → 1 ≤ far → (1 ≤ hop far) × (hop far ≤ far) × (hop far ≤ 32767)
-hop-bounds far some = elim (cases_lt far 32767) [
-  | inl near ↦ rw (lt-ltb far 32767 near) (some, omega arith, omega arith)
-  | inr more ↦ rw (le-ltb far 32767 more) (omega arith, more, omega arith)
-]
-
--- from each of these bricks they lead to the brick below the first one
-hops : (entry : ℕ → ℤ) (next to fuel brick : ℕ) → 1 ≤ next → next ≤ brick + 1 → brick + 1 ≤ next + fuel → brick < to
-    → Leads (led_back entry next to) brick (next - 1)
-hops entry next to zero brick some low high under =
-    let at : brick ≡ next - 1 = omega arith in
-    (0, subst (λ (b : ℕ). LeadsBack (led_back entry next to) 0 brick b 0) at LeadsBack.here)
-hops entry next to (suc fuel) brick some low high under = elim (cases_lt brick next) [
-  | inl below ↦
-      let at : brick ≡ next - 1 = omega arith in
-      (0, subst (λ (b : ℕ). LeadsBack (led_back entry next to) 0 brick b 0) at LeadsBack.here)
-  | inr above ↦
-      let bounds = hop-bounds (brick + 1 - next) (omega arith) in
-      let one = bounds.0 in
-      let most = bounds.1 in
-      let k = hop (brick + 1 - next) - 1 in
-      let rest = hops entry next to fuel (brick - suc k) some (omega arith) (omega arith) (omega arith) in
-      (suc rest.0, LeadsBack.back {n = rest.0} k (led-inside entry next to brick above under) (omega arith) rest.1)
-]
-
--- what leads back is no root
-no_root : {A : Type 0} (back offset : ℕ) → back_entry back ≡ root_entry offset → A
-no_root back offset e = absurd cc
 
 -- ---- as far as the walk has come
 

@@ -1,44 +1,15 @@
 -- Bricks of one segment, and those of the others.
-use Rattle.std.proofs.Common.{◌≡◌, ◌≢◌, inl, inr, ℕ, suc, ◌*◌, ◌/◌, ◌<◌, ◌||◌, List, [], ◌∷◌}
-use Rattle.std.proofs.Common.{length, get_or, refl, ap, subst, arith, leb, ltb, cond, ℤ}
-use Rattle.std.proofs.lemmas.Bool.{cases_order}
-use Rattle.clr_types.specs.Rising.{first, IsIn, later}
-use Rattle.clr_types.specs.Segments.{empty_segment, reserved_end}
+use Rattle.std.proofs.Common.{◌≡◌, ℕ, ◌*◌, ◌/◌, ◌<◌, ◌||◌, List}
+use Rattle.std.proofs.Common.{length, ap, subst, leb, ltb, cond, ℤ}
+use Rattle.clr_types.specs.Segments.{reserved_end}
 use Rattle.clr_types.specs.Types.{TypeRow}
-use Rattle.clr_types.specs.declared.segment.SegInfo.{SegInfo}
 use Rattle.clr_heap.specs.View.{frame, HeapView, IsHeap, segment_at}
-use Rattle.clr_heap.proofs.Staying.{segment_order}
 use Rattle.clr_view.specs.View.{IsHeld, objects_in}
 use Rattle.clr_compact.specs.Entered.{forgotten, kept_below}
 use Rattle.clr_generations.specs.Laws.{AreEntered, BrickLaw, IsBrickOf}
 use Rattle.clr_generations.proofs.Alike.{alike-self, entered_alike}
-use Rattle.clr_generations.proofs.HeapHomes.{heap_homes, whole_bricks}
-
--- a segment among others has a number
-pub number-of : (ss : List SegInfo) (s : SegInfo) → IsIn s ss
-    → (k : ℕ) × (k < length ss) × (get_or ss k empty_segment ≡ s)
-number-of [] s i = elim i [ ]
-number-of (r ∷ ss) s first = (0, omega arith, refl)
-number-of (r ∷ ss) s (later i) =
-    let found = number-of ss s i in
-    let l = found.1 in
-    (suc found.0, omega arith, found.2)
-
--- no brick belongs to two segments
-pub bricks-apart : (h : HeapView) (j k brick : ℕ) → IsHeap h → j < length h.segments → k < length h.segments → j ≢ k
-    → IsBrickOf (segment_at h j) brick → IsBrickOf (segment_at h k) brick → ⊥
-bricks-apart h j k brick heap in_j in_k ne of_j of_k =
-    let base_j = (whole_bricks h j heap in_j).base in
-    let base_k = (whole_bricks h k heap in_k).base in
-    let low_j = of_j.0 in
-    let high_j = of_j.1 in
-    let low_k = of_k.0 in
-    let high_k = of_k.1 in
-    elim (cases_order j k) [
-      | inl same ↦ ne same
-      | inr (inl less) ↦ let order = segment_order h j k heap less in_k in omega arith
-      | inr (inr more) ↦ let order = segment_order h k j heap more in_j in omega arith
-    ]
+pub use Rattle.clr_generations.proofs.AllBricks.{bricks-apart, number-of}
+use Rattle.clr_generations.proofs.HeapHomes.{heap_homes}
 
 -- ---- entries taken away
 

@@ -17,7 +17,7 @@ use Rattle.clr_model.specs.Compaction.{Move, moved_by}
 use Rattle.clr_model.specs.Slide.{slid_object}
 use Rattle.clr_model.proofs.CondemnedParts.{start-ephemeral, young-only}
 use Rattle.clr_model.proofs.FitItems.{filling_pieces, IsFilling}
-use Rattle.clr_model.proofs.FitLaid.{fillings, going, item-below}
+use Rattle.clr_model.proofs.FitFillings.{fillings, going, item-below}
 use Rattle.clr_model.proofs.LawfulPieces.{places-distinct}
 use Rattle.clr_model.proofs.LawfulSurvivors.{IsPlugOf, plug-is}
 use Rattle.clr_model.proofs.MovedPlaces.{moved-is}

@@ -21,7 +21,7 @@ use Rattle.clr_model.specs.Lawful.{IsLaid}
 use Rattle.clr_model.specs.Compaction.{Move, moved_by, plug_end}
 use Rattle.clr_model.specs.Fitting.{is_moved}
 use Rattle.clr_model.specs.Slide.{slid_object}
-use Rattle.clr_model.proofs.FitLaid.{going, moved-covers}
+use Rattle.clr_model.proofs.FitFillings.{going, moved-covers}
 use Rattle.clr_model.proofs.Landings.{fills}
 use Rattle.clr_model.proofs.LawfulPieces.{places-distinct}
 use Rattle.clr_fitting.specs.Steps.{fit_in, fitted, fitted_bytes, finds_room}

@@ -1,29 +1,18 @@
 -- Moves that are made one after the other, and a plug that goes in two parts.
-use Rattle.std.proofs.Common.{◌≡◌, ℕ, ◌+◌, ◌-◌, ◌<◌, ◌≤◌, ◌⊎◌, inl, inr, List, [], ◌∷◌, ◌++◌, refl, sym, ap, ◌∙◌, arith}
-use Rattle.std.proofs.Common.{Bool, true, false, if◌then◌else◌, ◌&&◌, ◌||◌, nat_le, nat_lt}
+use Rattle.std.proofs.Common.{◌≡◌, ℕ, ◌+◌, ◌-◌, ◌<◌, ◌≤◌, ◌⊎◌, inl, inr, List, ◌∷◌, ◌++◌, refl, sym, ap, ◌∙◌, arith}
+use Rattle.std.proofs.Common.{Bool, true, false, if◌then◌else◌, ◌&&◌, nat_le, nat_lt}
 use Rattle.std.proofs.lemmas.Bool.{and_from, cases_Bool, cases_lt, le-leb, le-ltb, lt-leb, lt-ltb}
 use Rattle.clr_types.specs.Rising.{IsIn}
 use Rattle.clr_model.specs.Compaction.{Move, moved_by}
 use Rattle.clr_model.specs.Fitting.{is_moved}
-use Rattle.clr_model.proofs.FitLaid.{moved-covers, unmoved-still}
+use Rattle.clr_model.proofs.FitCompacted.{moved-append}
+use Rattle.clr_model.proofs.FitFillings.{moved-covers, unmoved-still}
 use Rattle.clr_model.proofs.MovedPlaces.{moved-is}
-
--- where a place goes by these moves and then by others
-appended : (vs ws : List Move) (x : ℕ)
-    → moved_by (vs ++ ws) x ≡ (if is_moved vs x then moved_by vs x else moved_by ws x)
-appended [] ws x = refl
-appended (v ∷ vs) ws x = go (nat_le v.start x && nat_lt x (v.start + v.size)) (appended vs ws x)
-  where
-    go : (b : Bool) → moved_by (vs ++ ws) x ≡ (if is_moved vs x then moved_by vs x else moved_by ws x)
-        → (if b then v.to + (x - v.start) else moved_by (vs ++ ws) x)
-        ≡ (if b || is_moved vs x then (if b then v.to + (x - v.start) else moved_by vs x) else moved_by ws x)
-    go true e = refl
-    go false e = e
 
 -- moves that land below where others start can be made before them
 pub in_turn : (bound : ℕ) (vs ws : List Move) → ((v : Move) → IsIn v vs → v.to + v.size ≤ bound)
     → ((w : Move) → IsIn w ws → bound ≤ w.start) → (x : ℕ) → moved_by (vs ++ ws) x ≡ moved_by ws (moved_by vs x)
-in_turn bound vs ws land start x = appended vs ws x ∙ by (cases_Bool (is_moved vs x))
+in_turn bound vs ws land start x = moved-append vs ws x ∙ by (cases_Bool (is_moved vs x))
   where
     still : (y : ℕ) → y < bound → moved_by ws y ≡ y
     still y l = elim (moved-is ws y) [

@@ -29,7 +29,7 @@ use Rattle.clr_model.specs.Fitting.{Fit, fit, fit_into, is_moved, is_older_item,
 use Rattle.clr_model.proofs.CollectedFree.{from_part}
 use Rattle.clr_model.proofs.FitCompacted.{old-below}
 use Rattle.clr_model.proofs.FitItems as filled
-use Rattle.clr_model.proofs.FitLaid.{item-below}
+use Rattle.clr_model.proofs.FitFillings.{item-below}
 use Rattle.clr_model.proofs.LawfulPieces.{free-in-pieces, HasHome, piece-home, piece-tile, pieces-apart}
 use Rattle.clr_model.proofs.PlugsApart.{piece_of_move}
 use Rattle.clr_fitting.specs.Laws.{AreItems}

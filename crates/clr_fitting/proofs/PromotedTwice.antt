@@ -13,7 +13,7 @@ use Rattle.clr_model.specs.Collection.{bytes_promoted}
 use Rattle.clr_model.specs.Compaction.{Move, moved_by}
 use Rattle.clr_model.specs.Slide.{slid_object}
 use Rattle.clr_model.proofs.FitCompacted.{fitted_ages}
-use Rattle.clr_model.proofs.FitLaid.{unmoved-still}
+use Rattle.clr_model.proofs.FitFillings.{unmoved-still}
 use Rattle.clr_fitting.specs.Laws.{Compacts, IsPromotedTwice}
 use Rattle.clr_fitting.specs.Steps.{fit_in, fitted, fitted_bytes, finds_room, IsFittedObject}
 use Rattle.clr_fitting.proofs.TwoSteps.{fitted_object, goes_twice, two_steps}

@@ -11,7 +11,8 @@ use Rattle.clr_model.specs.Sweep.{survivors}
 use Rattle.clr_model.specs.Compaction.{IsCompacted, Move, moved_by, plugs_of, survivors_in}
 use Rattle.clr_model.specs.Fitting.{IsFitted, unfitted}
 use Rattle.clr_model.proofs.FitCompacted.{gone_below, left_survivors, old-below, twice}
-use Rattle.clr_model.proofs.FitLaid.{fit_laid, going, moved-covers}
+use Rattle.clr_model.proofs.FitFillings.{going, moved-covers}
+use Rattle.clr_model.proofs.FitLaid.{fit_laid}
 use Rattle.clr_model.proofs.Landings.{covered_by}
 use Rattle.clr_fitting.specs.Laws.{Compacts}
 use Rattle.clr_fitting.specs.Steps.{fit_in, fitted, finds_room, IsFittedObject}

@@ -23,7 +23,7 @@ use Rattle.clr_generations.proofs.Homes.{brick-of, HaveHomes, old-may_lead, stan
 abbrev pub Leads : (ℕ → ℤ) → ℕ → ℕ → Type 0
 Leads entry from to = (count : ℕ) × LeadsBack entry 0 from to count
 
-leads-on : {entry : ℕ → ℤ} {a b c n : ℕ} → LeadsBack entry 0 a b n → Leads entry b c → Leads entry a c
+pub leads-on : {entry : ℕ → ℤ} {a b c n : ℕ} → LeadsBack entry 0 a b n → Leads entry b c → Leads entry a c
 leads-on LeadsBack.here more = more
 leads-on (LeadsBack.back k e l rest) more =
     let on = leads-on rest more in

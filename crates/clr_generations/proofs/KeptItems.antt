@@ -26,7 +26,8 @@ use Rattle.clr_view.proofs.Standing.{standing}
 -- where no thread has a context, none has a rest
 pub no_rest : (h : HeapView) → h.rests ≡ no_rests → (i : ℕ) (r : Piece) → get_or h.rests i None ≡ Some r → ⊥
 no_rest h none i r e =
-    let clear : get_or h.rests i None ≡ None = ap (λ (rs : List (Option Piece)). get_or rs i None) none ∙ none-at 16 i in
+    let clear : get_or h.rests i None ≡ None =
+    ap (λ (rs : List (Option Piece)). get_or rs i None) none ∙ none-at 16 i in
     cc
 
 -- all items are still there, and so are the words of their cells

@@ -43,8 +43,8 @@ impl ObjectKind {
 
 impl Heap {
     /// The item that starts at `a`, as `item` tells it. Where it is of the kind that is known, no table is waited for.
-    /// Its kind becomes known where it is an object without a length; else what is known stays. That is for speed alone,
-    /// so the clauses say only that what is known is so.
+    /// Its kind becomes known where it is an object without a length; else what is known stays. That is for speed
+    /// alone, so the clauses say only that what is known is so.
     #[inline(always)]
     pub fn item_like(&self, types: &Types, a: u64, known: &mut ObjectKind) -> Item
         requires item { HasItem types.now self.now a }

@@ -102,15 +102,16 @@ module _ (group : SegKind) (rows : List TypeRow) (h : HeapView) (size : ℕ) (he
         both e f = λ i. e i || f i
 
         items : list_any (λ p. stands_in_kind group layout p.place && fits size p.size) layout.free ≡ false
-        items = elim (cases_Bool (list_any (λ p. stands_in_kind group layout p.place && fits size p.size) layout.free)) [
-          | inl some ↦
-              let (q, i, passes) = any-in (λ (p : Piece). stands_in_kind group layout p.place && fits size p.size)
-              layout.free some in
-              let (stands, f) = and_parts (stands_in_kind group layout q.place) (fits size q.size) passes in
-              absurd (none_found (λ p. fits size p.size) (kind_items group layout) q (sym first_item ∙ no_item)
-              (listed q (i, stands, f)) f)
-          | inr none ↦ none
-        ]
+        items = elim
+            (cases_Bool (list_any (λ p. stands_in_kind group layout p.place && fits size p.size) layout.free)) [
+              | inl some ↦
+                  let (q, i, passes) = any-in (λ (p : Piece). stands_in_kind group layout p.place && fits size p.size)
+                  layout.free some in
+                  let (stands, f) = and_parts (stands_in_kind group layout q.place) (fits size q.size) passes in
+                  absurd (none_found (λ p. fits size p.size) (kind_items group layout) q (sym first_item ∙ no_item)
+                  (listed q (i, stands, f)) f)
+              | inr none ↦ none
+            ]
 
         tails : list_any (λ s. fits_in_tail s size) (segments_of group layout) ≡ false
         tails = elim (cases_Bool (list_any (λ s. fits_in_tail s size) (segments_of group layout))) [

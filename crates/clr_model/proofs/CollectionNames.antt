@@ -152,8 +152,8 @@ module _ (m : Machine) (h : IsLawful m) (idle : lowest_in_step m ≡ None) (how 
             let lawful_left : IsLawful left = mid_lawful m h idle how plain answer left collected in
             let bare_left : rest_pieces left.layout.rests ≡ [] = mid_bare m h idle how plain answer left collected in
             let lawful_mid : IsLawful mid = mid_lawful (picture m) lawful-seen idle-seen how plain answer mid d in
-            let bare_mid : rest_pieces mid.layout.rests ≡ [] = mid_bare (picture m) lawful-seen idle-seen how plain answer mid d
-            in
+            let bare_mid : rest_pieces mid.layout.rests ≡ [] =
+            mid_bare (picture m) lawful-seen idle-seen how plain answer mid d in
             let (next, slides, shown) =
             slides_alike left mid lawful_left lawful_mid bare_left bare_mid alike moves slid s in
             let named_next : AreNamed next =

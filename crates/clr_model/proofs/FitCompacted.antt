@@ -34,11 +34,11 @@ use Rattle.clr_model.proofs.CompactedSmall.{part_raised, start1-is}
 use Rattle.clr_model.proofs.CondemnedParts.{start-ephemeral}
 use Rattle.clr_model.proofs.Landings.{covered_by, none_higher, pinned_still}
 use Rattle.clr_model.proofs.SlidLawful.{named-slid}
-use Rattle.clr_model.proofs.FitLaid.{fit_laid, going, lands-in, item-below, moved-covers}
-use Rattle.clr_model.proofs.FitLaid.{unmoved-still}
+use Rattle.clr_model.proofs.FitFillings.{going, lands-in, item-below, moved-covers, unmoved-still}
+use Rattle.clr_model.proofs.FitLaid.{fit_laid}
 
 -- where a place goes by these moves and then by others
-moved-append : (vs ws : List Move) (x : ℕ)
+pub moved-append : (vs ws : List Move) (x : ℕ)
     → moved_by (vs ++ ws) x ≡ (if is_moved vs x then moved_by vs x else moved_by ws x)
 moved-append [] ws x = refl
 moved-append (v ∷ vs) ws x = go (nat_le v.start x && nat_lt x (v.start + v.size)) (moved-append vs ws x)

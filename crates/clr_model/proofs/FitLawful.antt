@@ -42,7 +42,8 @@ use Rattle.clr_model.proofs.CollectedPieces.{IsSmallPhase, small_phase}
 use Rattle.clr_model.proofs.CollectedPresent.{collected_machine}
 use Rattle.clr_model.proofs.FitCompacted.{compaction, fit_machine, fitted-apart, fitting_laid, old-kept, same_objects}
 use Rattle.clr_model.proofs.FitCompacted.{twice, fitted_places, fitted_age}
-use Rattle.clr_model.proofs.FitLaid.{fit_laid, going, lands-in, moved-covers, unmoved-still}
+use Rattle.clr_model.proofs.FitFillings.{going, lands-in, moved-covers, unmoved-still}
+use Rattle.clr_model.proofs.FitLaid.{fit_laid}
 use Rattle.clr_model.proofs.GivenUp.{given_up_laid, no_rests}
 use Rattle.clr_model.proofs.Landings.{covered_by}
 use Rattle.clr_model.proofs.LawfulPieces.{free-in-pieces, HasHome, piece-home, piece-tile}
@@ -140,15 +141,16 @@ module _ (m : Machine) (h : IsLawful m) (answer : Collected) (mid : Machine)
             let (in_small, two) = and_parts
             (list_any (λ s. is_small_or_ephemeral s.kind && stands_in s is.item.place) m.layout.segments)
             (generation m.layout is.item.place == 2) older in
-            let (s, known, at) = any-in (λ s. is_small_or_ephemeral s.kind && stands_in s is.item.place) m.layout.segments
-            in_small in
+            let (s, known, at) =
+            any-in (λ s. is_small_or_ephemeral s.kind && stands_in s is.item.place) m.layout.segments in_small in
             let (kind, stands) = and_parts (is_small_or_ephemeral s.kind) (stands_in s is.item.place) at in
             let p : IsIn is.item (pieces (begun m)) = free-in-pieces (begun m) laid is.item free in
             let n' : HasHome (begun m).layout is.item.place = piece-home (begun m) laid is.item p in
             let tile : IsTile (first_place n'.home) n'.home.end is.item = piece-tile (begun m) laid is.item p n' in
-            let same : n'.home ≡ s = one_home (begun m).layout laid.layout n'.home s is.item.place n'.among known n'.stands stands
-            in
-            let end : n'.home.end ≤ reserved_end n'.home = (lawful_segment (begun m).layout laid.layout n'.home n'.among).high in
+            let same : n'.home ≡ s =
+            one_home (begun m).layout laid.layout n'.home s is.item.place n'.among known n'.stands stands in
+            let end : n'.home.end ≤ reserved_end n'.home =
+            (lawful_segment (begun m).layout laid.layout n'.home n'.among).high in
             let low = is.low in let high = is.high in let tile_end = tile.high_end in let low_item = n'.low in
             let (z, z') = is.size in
             let there : stands_in n'.home (moved_by F q.place) ≡ true =

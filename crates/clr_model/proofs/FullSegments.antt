@@ -129,8 +129,8 @@ module _ (m : Machine) (h : IsLaid m) (bare : rest_pieces m.layout.rests ≡ [])
 
   out-of-large : (s : SegInfo) → IsIn s large → (is_large_or_pinned s.kind ≡ true) × IsIn s m.layout.segments
   out-of-large s i =
-      let (e, j) = out_of_filter (λ (s : SegInfo). is_large_or_pinned s.kind && has_condemned_part 2 s) s small.segments i
-      in
+      let (e, j) =
+      out_of_filter (λ (s : SegInfo). is_large_or_pinned s.kind && has_condemned_part 2 s) s small.segments i in
       let (kind, part) = and_parts (is_large_or_pinned s.kind) (has_condemned_part 2 s) e in
       (kind, large-known m h 2 two keeps moves small compacting laid s j kind)
 

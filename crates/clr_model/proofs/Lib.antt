@@ -49,6 +49,8 @@ pub mod SlidLawful
 pub mod SlidPlaces
 pub mod SlidNames
 pub mod FitItems
+pub mod FitFillings
+pub mod FitAfter
 pub mod FitLaid
 pub mod FitCompacted
 pub mod GivenUp

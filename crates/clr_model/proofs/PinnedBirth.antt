@@ -75,8 +75,8 @@ row-plain [] t all array = refl
 row-plain (row ∷ rows) zero all array = array-plain row.form row.finalizer array all.0.form
 row-plain (row ∷ rows) (suc t) all array = row-plain rows t all.1 array
 
-pub type-plain : (rows : List TypeRow) (type : ℕ) → AllByRecursion IsLawfulRow rows → is_array (form_at rows type) ≡ true
-    → has_finalizer (type_row rows type) ≡ false
+pub type-plain : (rows : List TypeRow) (type : ℕ) → AllByRecursion IsLawfulRow rows
+    → is_array (form_at rows type) ≡ true → has_finalizer (type_row rows type) ≡ false
 type-plain rows zero all array = refl
 type-plain rows (suc t) all array = row-plain rows t all array
 
@@ -169,7 +169,8 @@ module _ (m : Machine) (t k : ℕ) (name : List ℕ) (len type : ℕ) (h : MayBe
       let array = found (λ n. is_array (form_at m.types n) ≡ true) h.array in
       let plain = found (λ n. is_array_with_references (form_at m.types n) ≡ false) h.plain in
       let local = lt-leb 64 k h.local in
-      let small = found (λ n. nat_lt 1073741824 (born_size m n len) ≡ false) (le-ltb 1073741824 (born_size m type len) h.most) in
+      let small = found (λ n. nat_lt 1073741824 (born_size m n len) ≡ false)
+      (le-ltb 1073741824 (born_size m type len) h.most) in
       (λ i. checks_by t (thread i) m.holder (idle i) (h.known i) (array i) (plain i) (local i) (small i))
       ∙ ap (λ held. checks_behind true held false (Some type) true false false false)
       (unheld_passes m.holder t h.run.unheld)

@@ -229,7 +229,8 @@ module _ (s : Machine) (t size : ℕ) where
           (λ m stands.
           let still : lowest_in_step m ≡ None =
           sym (lowest_in_step-picture m) ∙ of_picture (λ w. lowest_in_step w ≡ None) s m stands idle in
-          let (answer, mid, done, left) = collection_left s (generation_to_collect s) Decide s1 (which_least s) first m stands still in
+          let (answer, mid, done, left) =
+          collection_left s (generation_to_collect s) Decide s1 (which_least s) first m stands still in
           let (ready, made, shown) = more mid left in (
             ready,
             makes_collection t size attempt ready m (own_of m stands) (spare_of m stands) still (

@@ -11,32 +11,16 @@ use Rattle.clr_types.specs.declared.segment.SegKind.TheVariants.{Small, Ephemera
 use Rattle.clr_types.specs.Segments.{Layout, first_place, reserved_end, same_kind, stands_in, ended_at}
 use Rattle.clr_types.specs.Segments.{segment_or_empty, segments_of, segment_of, ephemeral, reserved_sum, generation}
 use Rattle.clr_types.specs.Segments.{with_end}
-use Rattle.clr_types.specs.LawfulLayout.{AreDisjoint, IsLawfulSegment, IsLawfulLayout, IsBoundedSegment}
+use Rattle.clr_types.specs.LawfulLayout.{IsLawfulSegment, IsLawfulLayout, IsBoundedSegment}
 use Rattle.clr_types.proofs.ChangedLists.{all-changed_by, all-changed_same, length-changed_by, sum_by-changed_by}
 use Rattle.clr_types.proofs.ChangedLists.{filter-changed_by, find-changed_by}
 use Rattle.clr_types.proofs.SegmentFacts.{ephemerals-are, ephemeral-in, lawful_segment, one_base, segment_of-home}
 use Rattle.clr_types.proofs.SegmentFacts.{between-stands}
+use Rattle.clr_types.proofs.TailTaken.{disjoint-ended}
 
 -- a segment after this one gave so many bytes from its tail
 abbrev pub raised_segment : SegInfo → ℕ → SegInfo → SegInfo
 raised_segment s size u = if u.base == s.base then ended_at (s.end + size) u else u
-
--- new ends leave segments apart
-disjoint-ended : (base high : ℕ) (ss : List SegInfo) → AreDisjoint ss
-    → AreDisjoint (changed_by (λ s. s.base) base (ended_at high) ss)
-disjoint-ended base high [] d = tt
-disjoint-ended base high (s ∷ ss) d = (
-  go (s.base == base) (all-changed_same (λ (r : SegInfo). r.base) base (ended_at high)
-      (λ (r : SegInfo). reserved_end s ≤ r.base) (λ r l. l) ss d.0),
-  disjoint-ended base high ss d.1,
-)
-  where
-    go : (b : Bool) → AllByRecursion (λ (r : SegInfo). reserved_end s ≤ r.base)
-        (changed_by (λ s. s.base) base (ended_at high) ss)
-        → AllByRecursion (λ (r : SegInfo). reserved_end (if b then ended_at high s else s) ≤ r.base)
-        (changed_by (λ s. s.base) base (ended_at high) ss)
-    go true all = all
-    go false all = all
 
 module _ (layout : Layout) (h : IsLawfulLayout layout) (s : SegInfo) (among : IsIn s layout.segments) (size : ℕ) where
   abbrev end : ℕ

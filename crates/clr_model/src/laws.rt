@@ -248,8 +248,8 @@ pub fn pinned_births_are_lawful()
         → IsBirthNamed (born_at (with_layout m layout) t local place type len) }
 {}
 
-/// What stands in a pinned segment keeps its place in every collection, a slide of the large heap and the last pause of a
-/// background collection included.
+/// What stands in a pinned segment keeps its place in every collection, a slide of the large heap and the last pause of
+/// a background collection included.
 pub fn pinned_heap_stays()
     ensures collections { PinnedHeapStaysLaw }
     ensures background { BackgroundPinnedHeapLaw }

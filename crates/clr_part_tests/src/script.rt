@@ -80,7 +80,8 @@ const LINES: [(&str, &str); 39] = [
     ("t1 finalizer l2", "Finalizer { t: 1, to: 2 }"),
     (
         "dumpheap",
-        "DumpHeap { filter: Filter { mode: Full, life: Any, mt: None, name: None, min: 0, max: 18446744073709551615 } }",
+        "DumpHeap { filter: Filter { mode: Full, life: Any, mt: None, name: None, min: 0, \
+         max: 18446744073709551615 } }",
     ),
     (
         "dumpheap -stat -live -type N -min 2 -max 3",
@@ -88,7 +89,8 @@ const LINES: [(&str, &str); 39] = [
     ),
     (
         "dumpheap -short -dead -mt 00000000000000ff",
-        "DumpHeap { filter: Filter { mode: Short, life: Dead, mt: Some(255), name: None, min: 0, max: 18446744073709551615 } }",
+        "DumpHeap { filter: Filter { mode: Short, life: Dead, mt: Some(255), name: None, min: 0, \
+         max: 18446744073709551615 } }",
     ),
     ("dumpobj 00000000000000ff", "DumpObj { a: 255 }"),
     ("gcroot 00000000000000ff", "GcRoot { a: 255 }"),

@@ -1,278 +1,84 @@
 -- The part of the ephemeral segment: its older plugs, and those of generation 0 behind them.
-use Rattle.std.proofs.lemmas.List.{append-nil}
+use Rattle.std.proofs.lemmas.List.{append-nil, map-append}
 use Rattle.std.proofs.Common.{◌≡◌, ◌≢◌, ◌⊎◌, inl, inr, ℕ, suc, ◌+◌, ◌-◌, ◌*◌, ◌/◌, ◌%◌, ◌<◌, ◌≤◌, max, List, [], ◌∷◌}
-use Rattle.std.proofs.Common.{◌++◌, map, refl, sym, ap, ap₂, subst, ◌∙◌, arith, pos, Bool, true, false}
-use Rattle.std.proofs.Common.{if◌then◌else◌, ◌==◌, append_assoc, nat_lt}
+use Rattle.std.proofs.Common.{◌++◌, map, refl, sym, ap, ap₂, subst, ◌∙◌, arith, pos, Bool, true, false, if◌then◌else◌}
+use Rattle.std.proofs.Common.{◌==◌, append_assoc}
 use Rattle.std.proofs.lemmas.Bool.{eqb-true, ne_eqb}
-use Rattle.std.proofs.lemmas.List.{map-append}
 use Rattle.clr_types.specs.Rising.{IsIn}
-use Rattle.clr_types.specs.Types.{TypeRow}
-use Rattle.clr_types.specs.Segments.{ephemeral, generation, reserved_end, stands_in}
-use Rattle.clr_types.specs.declared.segment.SegInfo.{SegInfo}
 use Rattle.clr_covers.specs.Covers.{spans, with_value}
 use Rattle.clr_covers.proofs.Values.{spans-with_value}
 use Rattle.clr_bricks.specs.Bricks.{entry_at}
-use Rattle.clr_heap.specs.View.{first_of, frame, HeapView, IsHeap, last_of, SameShape, segment_at, word_of}
-use Rattle.clr_heap.proofs.Framing.{bounded_at, lawful_at}
-use Rattle.clr_view.specs.View.{layout_in}
-use Rattle.clr_model.specs.Compaction.{first_pointer, Move, Placed, Plug, plug_end, raised_past_pins}
+use Rattle.clr_heap.specs.View.{first_of, HeapView, last_of, SameShape, segment_at, word_of}
+use Rattle.clr_heap.proofs.Framing.{lawful_at}
+use Rattle.clr_model.specs.Compaction.{Move, Placed, Plug, plug_end, raised_past_pins}
 use Rattle.clr_model.proofs.PlacedPlugs.{placed_up}
-use Rattle.clr_pinq.specs.Queue.{last_end, QueueView}
-use Rattle.clr_plugs.specs.BrickEntries.{BricksView, IsCovered}
+use Rattle.clr_pinq.specs.Queue.{last_end}
+use Rattle.clr_plugs.specs.BrickEntries.{BricksView}
 use Rattle.clr_plugs.specs.Builders.{IsNoChildren}
 use Rattle.clr_plugs.specs.Planning.{CanAdvance, IsWriting, WriterView}
-use Rattle.clr_plugs.specs.Plans.{IsBrickOf, IsPart, IsPlanned, PlannedPart, PlannedPlug, plug_starts}
+use Rattle.clr_plugs.specs.Plans.{IsPlanned, PlannedPart, PlannedPlug, plug_starts}
 use Rattle.clr_plugs.proofs.Entries.{entry_kept}
 use Rattle.clr_plugs.proofs.Starts.{all_from, in_brick}
 use Rattle.clr_moves.specs.Moves.{part_of}
-use Rattle.clr_plan.specs.Heaps.{CanLayEphemeral, HasLaidHeap, IsBetweenIn, IsLaidBelow, opened_below}
-use Rattle.clr_plan.specs.Heaps.{part_plan, part_plugs, plugs_below}
-use Rattle.clr_plan.specs.LaidParts.{CanLay, end_behind, HasLaid, opened_by, planned_plugs, pushes_for}
-use Rattle.clr_plan.specs.LaidParts.{written, Written}
+use Rattle.clr_plan.specs.Heaps.{HasLaidHeap, IsBetweenIn, IsLaidBelow, part_plan, part_plugs, plugs_below}
+use Rattle.clr_plan.specs.LaidParts.{CanLay, end_behind, HasLaid, opened_by, planned_plugs, pushes_for, written}
+use Rattle.clr_plan.specs.LaidParts.{Written}
 use Rattle.clr_plan.specs.PartLists.{AreFor}
 use Rattle.clr_plan.specs.Parts.{Around, CanPlan, HasPlacedPart, plugs_around}
 use Rattle.clr_plan.specs.Planned.{pinned_count}
-use Rattle.clr_plan.specs.Plans.{CanPlanHeap, condemned_plugs, HasReached, IsRaisedTo}
-use Rattle.clr_plan.specs.Plans.{old_part, older_plugs, parts_in, small_plugs, young_plugs}
+use Rattle.clr_plan.specs.Plans.{CanPlanHeap, condemned_plugs, HasReached, IsRaisedTo, old_part, older_plugs, parts_in}
+use Rattle.clr_plan.specs.Plans.{small_plugs, young_plugs}
 use Rattle.clr_plan.specs.Raises.{CanRaise, HasRaised}
-use Rattle.clr_plan.specs.Scans.{plugs_between, survivors_between}
+use Rattle.clr_plan.specs.Scans.{survivors_between}
 use Rattle.clr_plan.specs.Writes.{AreSavedAt, HasWritten, opened}
 use Rattle.clr_plan.specs.declared.pointer.Pointer.{Pointer}
-use Rattle.clr_plan.proofs.Ages.{older-one, plugs-are-of, start-order, young-zero}
-use Rattle.clr_plan.proofs.Beginning.{among-at, plugs-lie, start-is, young-small}
-use Rattle.clr_plan.proofs.Covering.{brick-there}
+use Rattle.clr_plan.proofs.Ages.{plugs-are-of, young-zero}
+use Rattle.clr_plan.proofs.Beginning.{plugs-lie}
 use Rattle.clr_plan.proofs.Fitting.{for-append, placed-for, planned-append}
 use Rattle.clr_plan.proofs.LaidBelow.{laid-more}
-use Rattle.clr_plan.proofs.PushCount.{pinned-append, pushes-aged}
-use Rattle.clr_plan.proofs.Reaching.{around, can-plan, part-reached}
+use Rattle.clr_plan.proofs.PushCount.{pushes-aged}
+use Rattle.clr_plan.proofs.Reaching.{part-reached}
 use Rattle.clr_plan.proofs.Takes.{older-is, part-lower, plugs-young, takes-young}
 use Rattle.clr_plan.proofs.Writing.{shape-on, written-children, written-raised}
 use Rattle.clr_plan.proofs.YoungPlan.{around_all, ready, young_around, young_can}
 use Rattle.clr_moves.specs.declared.parts.Parts.TheVariants.{Generations}
+use Rattle.clr_plan.proofs.EphemeralPart
+use Rattle.clr_plan.proofs.EphemeralPart.{Setting, older-same, young-same, order, low-covered, older-plan, room}
+use Rattle.clr_plan.proofs.EphemeralPart.{older-few}
 
+-- the items that one list of plugs opens, and then another
 opened-append : (free : List ℕ) (begin below : ℕ) (ps qs : List Plug) → opened_by free begin below (ps ++ qs)
     ≡ opened_by (opened_by free begin below ps) begin (end_behind below ps) qs
 opened-append free begin below [] qs = refl
 opened-append free begin below (p ∷ ps) qs = opened-append (opened free begin below p.start) begin (plug_end p) ps qs
 
-age-most : (h : HeapView) (x : ℕ) → generation (frame h) x ≤ 2
-age-most h x = go (stands_in (ephemeral (frame h)) x) (nat_lt x h.start1) (nat_lt x h.start0)
-  where
-    go : (a b c : Bool) → (if a then (if b then 2 else (if c then 1 else 0)) else 2) ≤ 2
-    go false b c = omega arith
-    go true true c = omega arith
-    go true false true = omega arith
-    go true false false = omega arith
-
--- The parts below that of the ephemeral segment are laid, and this one goes from `low` by `start0` to `end`.
-pub record Setting : Type 0 where
-  pub rows : List TypeRow
-  pub old : HeapView
-  pub now : HeapView
-  pub bricks0 : BricksView
-  pub bricks : BricksView
-  pub queue0 : QueueView
-  pub queue : QueueView
-  pub g : ℕ
-  pub e : ℕ
-  pub low : ℕ
-  pub start0 : ℕ
-  pub end : ℕ
-  pub from : Pointer
-  pub s : CanLayEphemeral rows old now bricks0 bricks queue0 queue g e low from
-  pub heap : IsHeap now
-  pub zero-is : start0 ≡ old.start0
-  pub end-is : end ≡ last_of old e
-
--- as the heap tells the boundaries and the segment
-abbrev pub setting_of : (rows : List TypeRow) (old now : HeapView) (bricks0 bricks : BricksView)
-    (queue0 queue : QueueView) (g e low : ℕ) (from : Pointer)
-    → CanLayEphemeral rows old now bricks0 bricks queue0 queue g e low from → IsHeap now → (bounds : ℕ × ℕ)
-    → bounds ≡ (now.start1, now.start0) → (info : SegInfo) → info ≡ segment_at now e → Setting
-setting_of rows old now bricks0 bricks queue0 queue g e low from s heap bounds same info is = record {
-  rows = rows;
-  old = old;
-  now = now;
-  bricks0 = bricks0;
-  bricks = bricks;
-  queue0 = queue0;
-  queue = queue;
-  g = g;
-  e = e;
-  low = low;
-  start0 = bounds.1;
-  end = info.end;
-  from = from;
-  s = s;
-  heap = heap;
-  zero-is = ap (λ (b : ℕ × ℕ). b.1) same ∙ ap (λ (h : HeapView). h.start0) s.laid.words.shape.others;
-  end-is = ap (λ (t : SegInfo). t.end) is ∙ ap (λ (h : HeapView). last_of h e) s.laid.words.shape.others;
-}
-
 module _ (setting : Setting) where
   open setting use {rows, old, now, bricks0, bricks, queue0, queue, g, e, low, start0, end, from, s, heap, zero-is}
   open setting use {end-is}
 
-  abbrev pub can : CanPlanHeap rows old g e
+  abbrev can : CanPlanHeap rows old g e
   can = s.can
 
-  abbrev pub starts : List ℕ
-  starts = map (λ q. q.start) (plugs_below rows old g e e)
+  abbrev starts : List ℕ
+  starts = EphemeralPart.starts setting
 
-  abbrev pub free : List ℕ
-  free = opened_below rows old g e e
+  abbrev free : List ℕ
+  free = EphemeralPart.free setting
 
   abbrev pointer : ℕ
-  pointer = first_pointer (layout_in rows old) g (parts_in rows old g)
+  pointer = EphemeralPart.pointer setting
 
   abbrev older : List Plug
-  older = plugs_between rows old e low start0
+  older = EphemeralPart.older setting
 
   abbrev young : List Plug
-  young = plugs_between rows old e start0 end
+  young = EphemeralPart.young setting
 
-  older-same : old_part rows old g e ≡ older
-  older-same = ap₂ (plugs_between rows old e) (sym s.low_is) (sym zero-is)
+  abbrev older_around : Around
+  older_around = EphemeralPart.older_around setting
 
-  young-same : young_plugs rows old e ≡ young
-  young-same = ap₂ (plugs_between rows old e) (sym zero-is) (sym end-is)
-
-  -- ---- places
-
-  pub record Order : Type 0 where
-    pub first : first_of old e ≤ low
-    pub middle : low ≤ start0
-    pub last : start0 ≤ end
-    pub high : end ≤ reserved_end (segment_at old e)
-    pub base : (segment_at old e).base % 4096 ≡ 0
-    pub lowest : 0x10000000 ≤ (segment_at old e).base
-    pub most : (segment_at old e).reserved ≤ 67108864
-
-  pub order : Order
-  order =
-      let (a, b, c) = start-order rows old g e can in
-      let lawful = lawful_at old e can.heap can.inside in
-      go (g == 0) (g == 1) (start-is rows old g e can) a b c lawful.high lawful.base lawful.lowest
-      (bounded_at old e can.laid.bounded can.inside (young-small rows old g e can))
-    where
-      go : (x y : Bool)
-          → part_of old (Generations g) e ≡ (if x then old.start0 else (if y then old.start1 else first_of old e))
-          → first_of old e ≤ old.start1 → old.start1 ≤ old.start0 → old.start0 ≤ last_of old e
-          → last_of old e ≤ reserved_end (segment_at old e)
-          → (segment_at old e).base % 4096 ≡ 0 → 0x10000000 ≤ (segment_at old e).base
-          → (segment_at old e).reserved ≤ 67108864 → Order
-      go true y q a b c d base lowest most = let l = s.low_is in
-          record {
-            first = omega (arith, q, l, a, b);
-            middle = omega (arith, q, l, zero-is);
-            last = omega (arith, zero-is, end-is, c);
-            high = omega (arith, end-is, d);
-            base = base;
-            lowest = lowest;
-            most = most;
-          }
-      go false true q a b c d base lowest most = let l = s.low_is in
-          record {
-            first = omega (arith, q, l, a, b);
-            middle = omega (arith, q, l, zero-is, b);
-            last = omega (arith, zero-is, end-is, c);
-            high = omega (arith, end-is, d);
-            base = base;
-            lowest = lowest;
-            most = most;
-          }
-      go false false q a b c d base lowest most = let l = s.low_is in
-          record {
-            first = omega (arith, q, l);
-            middle = omega (arith, q, l, zero-is, a, b);
-            last = omega (arith, zero-is, end-is, c);
-            high = omega (arith, end-is, d);
-            base = base;
-            lowest = lowest;
-            most = most;
-          }
-
-  pub low-covered : IsCovered bricks (low / 4096 - 1)
-  low-covered =
-      let o = order in
-      let a = o.first in
-      let b = o.middle in
-      let c = o.last in
-      let d = o.high in
-      let base = o.base in
-      let lowest = o.lowest in
-      brick-there old e can.heap can.inside bricks0 bricks s.bricks_of s.laid.spans_are (low / 4096 - 1)
-      (omega (arith, a, base, lowest)) (omega (arith, a, b, c, d, base, lowest))
-
-  -- ---- the older plugs
-
-  abbrev pub older_around : Around
-  older_around = around rows old (parts_in rows old g) (condemned_plugs rows old g e) (plugs-lie rows old g e can)
-      queue.entries pointer [] (plugs_below rows old g e e) s.moves from e (part_of old (Generations g) e) old.start0
-      (young_plugs rows old e) s.reached
-
-  older-plan : CanPlan older_around rows old queue.entries from e low start0
-  older-plan =
-      subst (λ n. CanPlan older_around rows old queue.entries from e n start0) (sym s.low_is)
-      (subst (λ n. CanPlan older_around rows old queue.entries from e (part_of old (Generations g) e) n) (sym zero-is)
-      (can-plan rows old (parts_in rows old g) (condemned_plugs rows old g e) (plugs-lie rows old g e can)
-      queue.entries pointer [] (plugs_below rows old g e e) s.moves from e (part_of old (Generations g) e) old.start0
-      (young_plugs rows old e) s.reached
-      (among-at rows old g e can from e (omega arith) (young-small rows old g e can) s.order s.reached.high s.either)
-      can.older_scan))
-
-  older-split : condemned_plugs rows old g e ≡ plugs_around older_around older
-  older-split = s.reached.split ∙ ap (λ ps. plugs_below rows old g e e ++ (ps ++ young_plugs rows old e)) older-same
-
-  -- what is left serves for all pins
-  room : pinned_count older + pinned_count young + 4 ≤ queue.spare
-  room =
-      let all = ap pinned_count older-split ∙ pinned-append (plugs_below rows old g e e)
-      (older ++ young_plugs rows old e) in
-      let two = pinned-append older (young_plugs rows old e) in
-      let same = ap pinned_count young-same in
-      let left = s.left in
-      let spare = s.spare in
-      omega (arith, all, two, same, left, spare)
-
-  older-few : (last : ℕ) → pushes_for last (first_of old e) low older ≤ pinned_count older + 2
-  older-few last =
-      let o = order in
-      let a = o.first in
-      let n = pushes-aged (segment_at old e).base 1 2 last (first_of old e) low
-      (survivors_between rows old e low start0) (omega arith)
-      (plugs-are-of rows old g e can older_around queue.entries from e low start0 older-plan older-split 1 2
-      (λ x l u. (older-one rows old g e can x (omega (arith, a, l)) (omega (arith, u, zero-is)), age-most old x)))
-      in
-      omega (arith, n)
-
-  abbrev pub part : PlannedPart
-  part = record { segment = e; low = low; high = end; plugs = [] }
-
-  pub part-lies : IsPart now part
-  part-lies =
-      let o = order in
-      let a = o.first in
-      let d = o.high in
-      let same : IsPart (record old { memories = now.memories }) part = record {
-        segment = can.inside;
-        low = a;
-        high = d;
-        spaced = tt;
-        places = λ x i. elim i [ ];
-      } in
-      subst (λ v. IsPart v part) (sym s.laid.words.shape.others) same
-
-  pub part-covered : (brick : ℕ) → IsBrickOf part brick → IsCovered bricks brick
-  part-covered brick is =
-      let o = order in
-      let a = o.first in
-      let d = o.high in
-      let base = o.base in
-      let u = is.0 in
-      let l = is.1 in
-      brick-there old e can.heap can.inside bricks0 bricks s.bricks_of s.laid.spans_are brick
-      (omega (arith, a, base, u)) (omega (arith, d, l))
+  abbrev part : PlannedPart
+  part = EphemeralPart.part setting
 
   module _ (bricks2 : BricksView) (writer : WriterView) (set : bricks2 ≡ with_value bricks (low / 4096 - 1) (pos 0))
       (value : writer ≡ record { builder = record { brick = low / 4096; plugs = [] }; last = 0 })
@@ -285,14 +91,14 @@ module _ (setting : Setting) where
 
     pub older-lays : CanLay older_around rows old begin from starts free part e low start0 low
     older-lays =
-        let o = order in
+        let o = order setting in
         let a = o.first in
         let c = o.last in
         let d = o.high in
         let most = o.most in
         let behind = s.laid.behind e (omega arith) can.inside in
         record {
-          plan = older-plan;
+          plan = older-plan setting;
           laying = record {
             heap = heap;
             words = written-raised old now queue.entries starts free s.laid.low low (omega (arith, behind, a))
@@ -306,7 +112,7 @@ module _ (setting : Setting) where
           };
           start = omega arith;
           high = c;
-          spare = let n = older-few (last_end 0 queue.entries) in let r = room in omega (arith, n, r);
+          spare = let n = older-few setting (last_end 0 queue.entries) in let r = room setting in omega (arith, n, r);
         }
 
     module _ (mid : Written) (ending : ℕ) (at : Pointer) (laid : HasLaid older_around rows old begin mid from starts
@@ -320,10 +126,10 @@ module _ (setting : Setting) where
           let reached : HasReached old (parts_in rows old g) (condemned_plugs rows old g e) queue.entries pointer []
           (plugs_below rows old g e e) (older ++ young_plugs rows old e) s.moves from =
           subst (λ ps. HasReached old (parts_in rows old g) (condemned_plugs rows old g e) queue.entries pointer []
-          (plugs_below rows old g e e) (ps ++ young_plugs rows old e) s.moves from) older-same s.reached in
+          (plugs_below rows old g e e) (ps ++ young_plugs rows old e) s.moves from) (older-same setting) s.reached in
           subst (λ ps. HasReached old (parts_in rows old g) (condemned_plugs rows old g e) mid.queue.entries pointer
           [] ps (young_plugs rows old e) (s.moves ++ m1) at) (ap (λ ps. plugs_below rows old g e e ++ ps)
-          (sym older-same) ∙ sym (older-is rows old g e can))
+          (sym (older-same setting)) ∙ sym (older-is rows old g e can))
           (part-reached rows old (parts_in rows old g) (condemned_plugs rows old g e) (plugs-lie rows old g e can)
           queue.entries pointer [] (plugs_below rows old g e e) s.moves from e low start0 (young_plugs rows old e)
           reached mid.queue.entries at laid.planned)
@@ -351,7 +157,7 @@ module _ (setting : Setting) where
             (young_can rows old g e can mid.queue.entries middle raised.between raised.segment))
 
         young-split : condemned_plugs rows old g e ≡ plugs_around around2 young
-        young-split = ap (λ ps. older_plugs rows old g e ++ ps) young-same
+        young-split = ap (λ ps. older_plugs rows old g e ++ ps) (young-same setting)
             ∙ sym (ap₂ (λ xs ys. xs ++ ys) (append-nil (older_plugs rows old g e)) (append-nil young))
 
         young-few : (last below : ℕ) → pushes_for last (first_of old e) below young ≤ pinned_count young + 1
@@ -377,14 +183,15 @@ module _ (setting : Setting) where
 
         pub young-lays : CanLay around2 rows old mid middle starts2 free2 part2 e start0 end ending
         young-lays =
-            let o = order in
+            let o = order setting in
             record {
               plan = young-plan;
               laying = laid.laying;
               start = laid.within o.middle;
               high = omega arith;
-              spare = let n = older-few (last_end 0 queue.entries) in let m = young-few (last_end 0 mid.queue.entries)
-                  ending in let r = room in let u = laid.spare in omega (arith, n, m, r, u);
+              spare = let n = older-few setting (last_end 0 queue.entries) in
+                  let m = young-few (last_end 0 mid.queue.entries) ending in
+                  let r = room setting in let u = laid.spare in omega (arith, n, m, r, u);
             }
 
         module _ (next : Written) (ending2 : ℕ) (placed : Pointer) (laid2 : HasLaid around2 rows old mid next middle
@@ -396,7 +203,7 @@ module _ (setting : Setting) where
           part3 = record part { plugs = ([] ++ planned_plugs low older m1) ++ planned_plugs ending young m2 }
 
           within2 : ending2 ≤ end
-          within2 = let o = order in let a = laid.within o.middle in let c = o.last in
+          within2 = let o = order setting in let a = laid.within o.middle in let c = o.last in
               laid2.within (omega (arith, a, c))
 
           pub part-ends : CanAdvance next.heap next.bricks next.writer ((end + 4095) / 4096)
@@ -428,7 +235,7 @@ module _ (setting : Setting) where
                   (subst In laid2.laying.writing.planning.held i)).0
 
               here : part_plugs rows old g e e ≡ older ++ young
-              here = plugs-young rows old g e can ∙ ap₂ (λ xs ys. xs ++ ys) older-same young-same
+              here = plugs-young rows old g e can ∙ ap₂ (λ xs ys. xs ++ ys) (older-same setting) (young-same setting)
 
               fit1 : AreFor older m1
               fit1 = placed-for older_around.segments (plugs_around older_around older) from.place older m1 at.place
@@ -504,7 +311,7 @@ module _ (setting : Setting) where
 
               outside-here : (b : ℕ) → b % 8 ≡ 0 → b + 32 < first_of old e → word_of now5 b ≡ word_of now b
               outside-here b z u =
-                  let o = order in
+                  let o = order setting in
                   let a = o.first in
                   words b z (all_from (λ x. b + 16 ≢ x) next.writer.builder.plugs
                   (λ x i. (let low_is = (laid2.laying.writing.planning.plan.lies.places x (kids x i)).low in
@@ -514,7 +321,7 @@ module _ (setting : Setting) where
               entries-here : (i : ℕ) → (i + 1 < part_of old (Generations g) e / 4096) ⊎ (last_of old e ≤ i * 4096)
                   → entry_at bricks5 i ≡ entry_at bricks i
               entries-here i out =
-                  let o = order in
+                  let o = order setting in
                   let c = o.last in
                   let m = o.middle in
                   let l = s.low_is in
@@ -536,7 +343,7 @@ module _ (setting : Setting) where
                         inr (omega (arith, u, end-is, c))
                   ])
                   ∙ ap (λ (v : BricksView). entry_at v i) set
-                  ∙ entry_kept bricks (low / 4096 - 1) i (pos 0) low-covered
+                  ∙ entry_kept bricks (low / 4096 - 1) i (pos 0) (low-covered setting)
                   (elim out [
                     | inl u ↦ (λ same. omega (arith, same, u, l))
                     | inr u ↦ (λ same. let a = o.first in
@@ -546,7 +353,7 @@ module _ (setting : Setting) where
               laid-all : IsLaidBelow rows old now5 bricks0 bricks5 queue0 next.queue g e (suc e)
                   (s.moves ++ (m1 ++ m2))
               laid-all =
-                  let o = order in
+                  let o = order setting in
                   let a = o.first in
                   let l = s.low_is in
                   let w = within2 in
@@ -620,7 +427,7 @@ module _ (setting : Setting) where
                       placed0 = subst (λ n. Placed (parts_in rows old g) (condemned_plugs rows old g e) n
                           (young_plugs rows old e) m2 placed.place) (pointer-is start1 is)
                           (subst (λ ps. Placed (parts_in rows old g) (condemned_plugs rows old g e) middle.place ps m2
-                          placed.place) (sym young-same)
+                          placed.place) (sym (young-same setting))
                           (subst (λ ps. Placed (parts_in rows old g) ps middle.place young m2 placed.place)
                           (sym young-split) laid2.planned.placed));
                       start0_is = (raise (around_all rows old g e can mid.queue.entries middle raised.between

@@ -42,6 +42,7 @@ mod LaidBelow
 mod WholeLaid
 mod SmallWholes
 mod Lower
+mod EphemeralPart
 mod EphemeralLaid
 mod Homes
 mod GenerationHomes

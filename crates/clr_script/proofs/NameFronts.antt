@@ -28,8 +28,8 @@ all_pass p xs e =
 pub all_pass_to : (p : ℕ → Bool) (xs : List ℕ) (at : ℕ) → position (λ x. not (p x)) xs ≡ Some at
     → (at ≤ length xs) × (list_all p (take at xs) ≡ true)
 all_pass_to p xs at e =
-    let h = cond_some (nat_lt (position_or_len (λ x. not (p x)) xs) (length xs)) (position_or_len (λ x. not (p x)) xs) at
-    e in (
+    let h = cond_some (nat_lt (position_or_len (λ x. not (p x)) xs) (length xs)) (position_or_len (λ x. not (p x)) xs)
+    at e in (
       subst (λ (n : ℕ). n ≤ length xs) h.1 (prefix_len-le-length (λ x. not (not (p x))) xs),
       subst (λ (n : ℕ). list_all p (take n xs) ≡ true) h.1 (all_before p xs),
     )

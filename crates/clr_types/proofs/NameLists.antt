@@ -134,8 +134,8 @@ number-has_name names i name found =
     (omega (arith, below), ap (λ (k : ℕ). get_or names k []) at ∙ has.2)
 
 -- the key at the number that is found has the name
-pub key_named : (names : List (List ℕ)) (keys slice : List (Vec ℕ Global)) (known : Vec ℕ Global) (name : List ℕ) (i : ℕ)
-    → map bytes_of keys ≡ names → slice ≡ keys → true ≡ ltb i (length slice) → known ≡ get_or slice i known
+pub key_named : (names : List (List ℕ)) (keys slice : List (Vec ℕ Global)) (known : Vec ℕ Global) (name : List ℕ)
+    (i : ℕ) → map bytes_of keys ≡ names → slice ≡ keys → true ≡ ltb i (length slice) → known ≡ get_or slice i known
     → name_number 0 names name ≡ Some i → known.items ≡ name
 key_named names keys slice known name i seen told below found number =
     let within : i < length keys = rw told at (ltb-true i (length slice) (sym below)) in

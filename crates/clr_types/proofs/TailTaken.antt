@@ -47,7 +47,7 @@ pub tiles-push : (low high : ℕ) (ps : List Piece) (p : Piece) → Tiles low hi
 tiles-push low high ps p t at size = tiles-append low high (piece_end p) ps (p ∷ []) t (at, size, refl)
 
 -- new ends leave segments apart
-disjoint-ended : (base high : ℕ) (ss : List SegInfo) → AreDisjoint ss
+pub disjoint-ended : (base high : ℕ) (ss : List SegInfo) → AreDisjoint ss
     → AreDisjoint (changed_by (λ s. s.base) base (ended_at high) ss)
 disjoint-ended base high [] d = tt
 disjoint-ended base high (s ∷ ss) d = (

@@ -1,8 +1,8 @@
 // A heap that is built segment by segment.
 ghost use Rattle.std.specs.Prelude.{◌≡◌, ℕ, ◌+◌, ◌<◌, ◌≤◌, ◌^◌, length, find, if◌then◌else◌, IfOk, OnErr, OnOk};
 ghost use Rattle.std.specs.List.{AllByRecursion};
-ghost use Rattle.clr_types.specs.Segments.{empty_segment, ephemeral, first_place, reserved_end, reserved_sum, same_kind};
-ghost use Rattle.clr_types.specs.Segments.{segments_of};
+ghost use Rattle.clr_types.specs.Segments.{empty_segment, ephemeral, first_place, reserved_end, reserved_sum};
+ghost use Rattle.clr_types.specs.Segments.{same_kind, segments_of};
 ghost use Rattle.clr_types.specs.declared.segment.SegInfo.{SegInfo as Segment};
 ghost use Rattle.clr_heap.specs.Drafts.{drafted, empty_heap, has_kind, is_young, IsNextHead};
 ghost use Rattle.clr_heap.specs.Memories.{shape_of};
@@ -16,8 +16,8 @@ use std::marker::Model;
 
 /// A segment, and the boundaries of the generations where it is the ephemeral one.
 ///
-/// The boundaries are places of it: those from `start0` on are generation 0, and those from `start1` up to it generation 1.
-/// They tell nothing where the segment isn't ephemeral.
+/// The boundaries are places of it: those from `start0` on are generation 0, and those from `start1` up to it
+/// generation 1. They tell nothing where the segment isn't ephemeral.
 #[derive(Clone, Copy, Debug, PartialEq, Eq)]
 pub struct SegmentHead {
     pub info: SegInfo,

@@ -1,6 +1,6 @@
 // Segments that are acquired and released.
-ghost use Rattle.std.specs.Prelude.{◌≡◌, ◌≢◌, ◌↔◌, ℕ, ◌+◌, ◌%◌, ◌<◌, ◌≤◌, ◌^◌, [], ◌∷◌, ◌++◌, length, map, nat_le, sum_by};
-ghost use Rattle.std.specs.Prelude.{vec_len, vec_capacity, IfOk, OnOk, OnErr, drop, take};
+ghost use Rattle.std.specs.Prelude.{◌≡◌, ◌≢◌, ◌↔◌, ℕ, ◌+◌, ◌%◌, ◌<◌, ◌≤◌, ◌^◌, [], ◌∷◌, ◌++◌, length, map, nat_le};
+ghost use Rattle.std.specs.Prelude.{sum_by, vec_len, vec_capacity, IfOk, OnOk, OnErr, drop, take};
 ghost use Rattle.std.specs.List.{remove};
 ghost use Rattle.clr_types.specs.Segments.{reserved_sum, sealed_segment};
 

@@ -204,8 +204,8 @@ fn word_in_memory(memories: &Vec<Mem>, k: usize, a: u64) -> u64
     memory.word(a)
 }
 
-// Of the `n` words from `a` on in memory `k`, the number of the first one that is one of the numbers from `low` to below
-// `high`, and `n` where none is.
+// Of the `n` words from `a` on in memory `k`, the number of the first one that is one of the numbers from `low` to
+// below `high`, and `n` where none is.
 #[inline(always)]
 fn first_in_memory(memories: &Vec<Mem>, k: usize, a: u64, n: u64, low: u64, high: u64) -> u64
     requires words { (j : ℕ) → j < n → HasWord memories.now.items (a + 8 * j) }

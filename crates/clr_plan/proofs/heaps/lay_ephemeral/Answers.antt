@@ -2,9 +2,10 @@ use Rattle.std.proofs.Common.{◌≡◌, ◌∙◌, ℕ, ap, refl, sym, Bool, if
 use Rattle.std.proofs.lemmas.Bool.{eq-eqb, ne_eqb}
 use Rattle.clr_heap.specs.View.{HeapView}
 use Rattle.clr_plan.specs.LaidParts.{written, Written}
-use Rattle.clr_plan.proofs.EphemeralLaid.{all-laid, around2, between, free, free2, low-covered, older_around}
-use Rattle.clr_plan.proofs.EphemeralLaid.{older-lays, part, part2, part-covered, part-ends, part-lies, setting_of}
-use Rattle.clr_plan.proofs.EphemeralLaid.{starts, starts2, young-lays}
+use Rattle.clr_plan.proofs.EphemeralLaid.{all-laid, around2, between, free2, older-lays, part2, part-ends, starts2}
+use Rattle.clr_plan.proofs.EphemeralLaid.{young-lays}
+use Rattle.clr_plan.proofs.EphemeralPart.{free, low-covered, older_around, part, part-covered, part-lies, setting_of}
+use Rattle.clr_plan.proofs.EphemeralPart.{starts}
 use Rattle.clr_plan.proofs.heaps.lay_ephemeral.Goals as goal
 use Rattle.clr_plan.proofs.heaps.lay_ephemeral.Goals.{then-g-eq0, else-g-eq0}
 

@@ -9,8 +9,10 @@ first_between-requires-clause-words c =
     let m = c.index-memory.result.now in
     let n = c.args.n in
     let some = c.if-n-eq0.false in
-    let low = run-bounds ms m c.args.k c.args.a n c.requires.words c.requires.segment c.index-memory.ensures 0 (omega arith) in
-    let high = run-bounds ms m c.args.k c.args.a n c.requires.words c.requires.segment c.index-memory.ensures (n - 1) (omega arith) in
+    let low = run-bounds ms m c.args.k c.args.a n c.requires.words c.requires.segment c.index-memory.ensures 0
+    (omega arith) in
+    let high = run-bounds ms m c.args.k c.args.a n c.requires.words c.requires.segment c.index-memory.ensures (n - 1)
+    (omega arith) in
     let above = low.0 in
     let below = high.1 in
     let base = c.len.ensures.aligned in

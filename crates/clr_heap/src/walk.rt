@@ -59,6 +59,7 @@ impl<'a> Iterator for Walk<'a> {
 
     ghost remaining = { item_count (λ items. items) };
 
+    #[inline(always)]
     fn next(&mut self) -> Option<Item> {
         let now = self.cursor;
         let spot = Spot {

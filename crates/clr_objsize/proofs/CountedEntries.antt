@@ -1,7 +1,7 @@
 -- The objects that a search has found, counted entry by entry.
 use Rattle.std.proofs.Common.{◌≡◌, ◌≢◌, ◌↔◌, ℕ, zero, suc, ◌+◌, ◌<◌, ◌≤◌, Bool, false, ◌||◌, List, [], ◌∷◌}
 use Rattle.std.proofs.Common.{length, take}
-use Rattle.std.proofs.Common.{filter, sum_by, count_by, nat_eq, Some, refl, sym, ap, ap₂, ◌∙◌, subst, arith}
+use Rattle.std.proofs.Common.{filter, sum_by, count_by, nat_eq, refl, sym, ap, ap₂, ◌∙◌, subst, arith}
 use Rattle.std.proofs.lemmas.Bool.{ne_eqb}
 use Rattle.std.proofs.lemmas.List.{get_or-take, length-take-le, take_more}
 use Rattle.std.proofs.lemmas.List.Folds.{list_any-append}
@@ -13,12 +13,11 @@ use Rattle.clr_types.specs.declared.item.Item.{Item}
 use Rattle.clr_types.proofs.ChangedLists.{into_filter, IsIn-map}
 use Rattle.clr_types.proofs.ListSums.{counted, sum-filter_below, sum-filtered}
 use Rattle.clr_heap.specs.Parts.{item_at}
-use Rattle.clr_heap.specs.View.{heap_items, HeapView, IsHeap, item_with_place, only_object, word_of}
+use Rattle.clr_heap.specs.View.{heap_items, IsHeap, word_of}
 use Rattle.clr_model.specs.Lookups.{object_size}
 use Rattle.clr_model.specs.Machine.{Machine, Object}
-use Rattle.clr_model.proofs.CollectedObjects.{found_by}
 use Rattle.clr_model.specs.Reach.{Reach, SlotNames}
-use Rattle.clr_view.specs.SlotValues.{IsObjectAt, StandsAt}
+use Rattle.clr_view.specs.SlotValues.{IsObjectAt}
 use Rattle.clr_view.specs.View.{IsHeld, is_object, object_in, objects_in}
 use Rattle.clr_view.proofs.HeldBytes.{objects_bytes_bounded}
 use Rattle.clr_view.proofs.Listed.{listed-sized}
@@ -29,7 +28,6 @@ use Rattle.clr_sos.specs.Reaching.{entry_of, HasGrown, is_listed, IsListed, IsSe
 use Rattle.clr_sos.specs.Views.{IsViewOf}
 use Rattle.clr_sos.specs.declared.reach.Entry.{Entry}
 use Rattle.clr_sos.specs.declared.view.View.{View}
-use Rattle.clr_sos.proofs.ObjectsByPlace.{object-with_place}
 use Rattle.clr_sos.proofs.ReachedAll.{listed-told, unlisted}
 use Rattle.clr_objsize.specs.Sizes.{HasTotal, IsSizeOf}
 use Rattle.clr_objsize.specs.declared.sizes.Total.{Total}
@@ -181,11 +179,3 @@ size-told v a total t m is =
     × (total.bytes ≡ sum_by (object_size rows) (filter (λ (o : Object). reached o.name) os)) in
     subst (λ (rows : List TypeRow). P rows m.objects) (sym is.types)
     (subst (λ (os : List Object). P v.types.now os) (sym is.objects) t)
-
--- an item that a look-up by its place finds is an object that stands there
-pub stands-there : (rows : List TypeRow) (h : HeapView) → IsHeap h → IsHeld rows h → (a : ℕ) (i : Item)
-    → Some i ≡ only_object (item_with_place (heap_items rows h) a) → StandsAt rows h a
-stands-there rows h heap held a i some =
-    let is = object-with_place rows h heap held a i some in
-    let (o, at) = found_by (λ (o : Object). o.place) a (objects_in rows h) (object_in rows (word_of h) i) is.told in
-    (object_in rows (word_of h) i, o, at)

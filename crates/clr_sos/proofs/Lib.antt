@@ -2,6 +2,7 @@ pub mod ObjectsByPlace
 pub mod ObjectTexts
 pub mod PlaceSegments
 pub mod LineParts
+pub mod WrittenFronts
 pub mod ContextLines
 pub mod NumberedEntries
 pub mod QueuedObjects

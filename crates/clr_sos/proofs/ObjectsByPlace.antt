@@ -9,6 +9,8 @@ use Rattle.clr_types.specs.declared.item.Item.{Item}
 use Rattle.clr_heap.specs.View.{heap_items, HeapView, IsHeap, item_with_place, only_object, word_of}
 use Rattle.clr_model.specs.Lookups.{object_at}
 use Rattle.clr_model.specs.Machine.{Machine, Object}
+use Rattle.clr_model.proofs.CollectedObjects.{found_by}
+use Rattle.clr_view.specs.SlotValues.{StandsAt}
 use Rattle.clr_view.specs.View.{is_object, IsHeld, object_in, objects_among, objects_in}
 use Rattle.clr_view.proofs.Listings.{heap-rise}
 
@@ -85,6 +87,13 @@ module _ (rows : List TypeRow) (h : HeapView) (heap : IsHeap h) (held : IsHeld r
       → IsObjectWith rows (word_of h) a (heap_items rows h) (objects_in rows h) i
   object-with_place i some =
       subst (IsTold rows (word_of h) a (heap_items rows h) (objects_in rows h)) (sym some) told
+
+  -- which stands there
+  pub stands-there : (i : Item) → Some i ≡ only_object (item_with_place (heap_items rows h) a) → StandsAt rows h a
+  stands-there i some =
+      let is = object-with_place i some in
+      let (o, at) = found_by (λ (o : Object). o.place) a (objects_in rows h) (object_in rows (word_of h) i) is.told in
+      (object_in rows (word_of h) i, o, at)
 
   -- the same of a machine with the heap's objects
   module _ (m : Machine) (objects : m.objects ≡ objects_in rows h) where

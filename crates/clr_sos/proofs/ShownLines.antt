@@ -21,6 +21,12 @@ pub item_parts : (text a b d n : List ℕ) → (((((((text ++ a) ++ (32 ∷ []))
     ++ (10 ∷ []) ≡ text ++ ((a ++ (32 ∷ (b ++ (32 ∷ (d ++ (32 ∷ n)))))) ++ (10 ∷ []))
 item_parts text a b d n = simp append_assoc
 
+-- the same, where the first three were put at once
+pub head_parts : (text a b d n : List ℕ)
+    → ((text ++ ((a ++ (32 ∷ [])) ++ ((b ++ (32 ∷ [])) ++ (d ++ (32 ∷ []))))) ++ n) ++ (10 ∷ [])
+    ≡ text ++ ((a ++ (32 ∷ (b ++ (32 ∷ (d ++ (32 ∷ n)))))) ++ (10 ∷ []))
+head_parts text a b d n = simp append_assoc
+
 -- a text grew by what is said of each item that a test passes
 abbrev pub Says : (Item → List ℕ) → (Item → Bool) → List ℕ → List ℕ → List Item → Type 0
 Says says test before text items = text ≡ before ++ flat_map says (filter test items)

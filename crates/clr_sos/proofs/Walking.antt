@@ -72,10 +72,12 @@ pub yields-first : (found : Option Item) (old new : List Item) → found_first f
 yields-first None old new e none = (sym e ∙ none refl, none refl)
 yields-first (Some i) old new e none = sym e
 
-pub goes-on : (found : Option Item) (old new : List Item) → found_first found new ≡ old → is_some found ≡ true
+-- what yields the first item makes progress
+pub goes-on : (found : Option Item) (old new : List Item)
+    → MatchOption found ((old ≡ []) × (new ≡ [])) (λ x. old ≡ x ∷ new)
     → MakesProgress (λ (items : List Item). Unit {0}) (item_count (λ (items : List Item). items)) old found new
-goes-on None old new e some = absurd (both_ways false refl some)
-goes-on (Some i) old new e some =
-    let longer : length old ≡ suc (length new) = ap length (sym e) in
+goes-on None old new given = record { on = λ finite. tt; keeps = tt; rests = λ finite. tt }
+goes-on (Some i) old new given =
+    let longer : length old ≡ suc (length new) = ap length given in
     let fewer : length new < length old = omega arith in
     record { on = λ finite. (tt, search rules, fewer); keeps = tt; rests = λ finite. tt }

@@ -1,5 +1,7 @@
 // A walk over the whole heap.
-ghost use Rattle.std.specs.Prelude.{◌≡◌};
+ghost use Rattle.std.specs.Prelude.{◌≡◌, List};
+ghost use Rattle.std.specs.Iterator.{YieldsFirst};
+ghost use Rattle.clr_types.specs.declared.item.Item.{Item};
 ghost use Rattle.clr_heap.specs.View.{AreWalkable, heap_items};
 
 use clr_heap::{Heap, Walk};
@@ -38,8 +40,21 @@ impl<'a> Iterator for HeapItems<'a> {
 
     ghost remaining = { item_count (λ items. items) };
 
-    #[inline]
+    #[inline(always)]
     fn next(&mut self) -> Option<Item> {
+        match self.walk.next() {
+            Some(item) => Some(item),
+            None => self.next_behind(),
+        }
+    }
+}
+
+impl<'a> HeapItems<'a> {
+    // The same, where nothing may be left of a segment. It stands apart, so that `next` is short.
+    #[inline(never)]
+    fn next_behind(&mut self) -> Option<Item>
+        ensures { YieldsFirst (λ (items : List Item). items) self.old result self.new }
+    {
         let mut found = self.walk.next();
         while found.is_none() && self.next < self.count {
             self.walk = self.heap.walk(self.types, self.next);

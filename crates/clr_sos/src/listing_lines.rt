@@ -6,7 +6,7 @@ ghost use Rattle.clr_sos.specs.Dumping.{AreListed, counted, totals_line};
 ghost use Rattle.clr_sos.specs.Wants.{AnswersFor, is_wanted, MayAskOf};
 
 use crate::heap_items::HeapItems;
-use crate::text::{put_address, put_number};
+use crate::text::{put_address, put_head, put_number};
 use crate::wanted::Wanted;
 use clr_types::{Item, Types};
 use std::alloc::AllocError;
@@ -115,12 +115,7 @@ fn put_item(text: &mut Vec<u8>, types: &Types, item: &Item) -> Result<(), AllocE
     requires { item.now.type_id.0 ≤ length types.now }
     ensures { OnOk result (text.new.items ≡ text.old.items ++ item_line types.now item.now) }
 {
-    put_address(text, item.place)?;
-    text.extend_from_slice(b" ")?;
-    put_address(text, types.mt(item.type_id))?;
-    text.extend_from_slice(b" ")?;
-    put_number(text, item.size)?;
-    text.extend_from_slice(b" ")?;
+    put_head(text, item.place, types.mt(item.type_id), item.size)?;
     text.extend_from_slice(types.name(item.type_id))?;
     text.extend_from_slice(b"\n")?;
     Ok(())

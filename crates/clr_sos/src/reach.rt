@@ -1,5 +1,5 @@
 // What the roots reach: a search beside the heap, breadth first.
-ghost use Rattle.std.specs.Prelude.{◌≡◌, ◌≢◌, ℕ, ◌<◌, false, [], length, IfOk, IfSome, IfNone, OnOk};
+ghost use Rattle.std.specs.Prelude.{◌≡◌, ◌≢◌, ℕ, ◌+◌, ◌<◌, false, [], length, IfOk, IfSome, IfNone, OnOk};
 ghost use Rattle.clr_types.specs.Descriptors.{offsets_from};
 ghost use Rattle.clr_types.specs.Rising.{Tests};
 ghost use Rattle.clr_heap.specs.Memories.{HasWord, memory_index};
@@ -10,6 +10,7 @@ ghost use Rattle.clr_mark.specs.Markings.{item_references};
 ghost use Rattle.clr_mark.specs.Roots.{IsRoot};
 ghost use Rattle.clr_mark.specs.Ties.{IsTarget};
 ghost use Rattle.clr_sos.specs.Reaching.{AreTies, HasAdded, HasFollowed, HasGrown, HasRoom, is_listed, is_seen};
+ghost use Rattle.clr_sos.specs.Reaching.{IsFollowed, IsRootOf};
 ghost use Rattle.clr_sos.specs.Reaching.{IsItemOf, IsListed, IsObjectOf, IsOrigin, IsSearch, IsSound, place_at};
 ghost use Rattle.clr_sos.specs.Views.{IsViewOf};
 
@@ -65,14 +66,31 @@ pub(crate) fn reach(alloc: Global, view: &View<'_>) -> Result<Reached, AllocErro
         → is_seen view.now.heap.now r.seen.items x ≡ is_listed r.entries.items x) }
 {
     let ties = ties_of(alloc, view.handles)?;
-    let mut reached = Reached::new(alloc, view.heap)?;
-    reached.add_locals(view)?;
-    reached.add_targets(view)?;
-    reached.add_ready(view)?;
+    let mut reached = Reached::from_roots(alloc, view)?;
     let mut next = 0;
     while next < reached.entries.len() {
-        let _ = reached.follow_slots(view, next)?;
-        reached.follow_ties(view, &ties, next)?;
+        reached.follow(view, &ties, next)?;
+        next += 1;
+    }
+    Ok(reached)
+}
+
+/// The same search up to where the object with the place `a` is found: all that the roots reach where it isn't.
+pub(crate) fn reach_to(alloc: Global, view: &View<'_>, a: u64) -> Result<Reached, AllocError>
+    requires sound { IsSound view.now }
+    requires stands { IsObjectOf view.now a }
+    ensures search { IfOk result (λ r. IsSearch view.now r.seen.items r.entries.items) }
+    ensures exact { IfOk result (λ r. is_listed r.entries.items a ≡ false → (m : Machine) → IsViewOf view.now m
+        → Tests (is_listed r.entries.items) (Live m)) }
+{
+    let ties = ties_of(alloc, view.handles)?;
+    let mut reached = Reached::from_roots(alloc, view)?;
+    let mut next = 0;
+    while next < reached.entries.len() {
+        if reached.has(view.heap, a) {
+            return Ok(reached);
+        }
+        reached.follow(view, &ties, next)?;
         next += 1;
     }
     Ok(reached)
@@ -86,6 +104,19 @@ impl Reached {
     {
         let mut reached = Reached::new(alloc, view.heap)?;
         reached.add_locals(view)?;
+        Ok(reached)
+    }
+
+    // What the roots name, and nothing else yet.
+    fn from_roots(alloc: Global, view: &View<'_>) -> Result<Reached, AllocError>
+        requires { IsSound view.now }
+        ensures search { IfOk result (λ r. IsSearch view.now r.seen.items r.entries.items) }
+        ensures roots { IfOk result (λ r. (x : ℕ) → IsRootOf view.now x → IsListed r.entries.items x) }
+    {
+        let mut reached = Reached::new(alloc, view.heap)?;
+        reached.add_locals(view)?;
+        reached.add_targets(view)?;
+        reached.add_ready(view)?;
         Ok(reached)
     }
 
@@ -248,6 +279,23 @@ impl Reached {
                 self.meet(view, place, Origin::Ready(i))?;
             }
         }
+        Ok(())
+    }
+
+    // Adds what the slots of entry `i` name, and what dependent handles tie to it.
+    #[inline(always)]
+    fn follow(&mut self, view: &View<'_>, ties: &[Tie], i: usize) -> Result<(), AllocError>
+        requires sound { IsSound view.now }
+        requires search { IsSearch view.now self.old.seen.items self.old.entries.items }
+        requires ties { AreTies view.now.handles.now ties.now }
+        requires below { i < length self.old.entries.items }
+        requires followed { IsFollowed view.now self.old.entries.items i }
+        ensures search { OnOk result (IsSearch view.now self.new.seen.items self.new.entries.items) }
+        ensures grown { OnOk result (HasGrown self.old.entries.items self.new.entries.items) }
+        ensures followed { OnOk result (IsFollowed view.now self.new.entries.items (i + 1)) }
+    {
+        let _ = self.follow_slots(view, i)?;
+        self.follow_ties(view, ties, i)?;
         Ok(())
     }
 

@@ -9,7 +9,7 @@ ghost use Rattle.clr_sos.specs.Reaching.{entry_of, IsObjectOf, place_at};
 ghost use Rattle.clr_sos.specs.RootTexts.{AreBehind, IsRootOrigin, IsTrail, origin_line, place_line, TellsRoot};
 ghost use Rattle.clr_sos.specs.Views.{IsLawfulView, IsViewOf};
 
-use crate::reach::{Entry, Origin, reach};
+use crate::reach::{Entry, Origin, reach_to};
 use crate::text::{put_address, put_number};
 use crate::{SosFault, View};
 use clr_generations::object_at;
@@ -32,7 +32,8 @@ use std::alloc::{AllocError, Global};
 /// roots don't reach the object, the only line is `none`.
 ///
 /// `NoObject` comes exactly where no object has the place, and `NoMemory` only where there is no memory for the search
-/// or for the text. The search leaves the heap as it is. It follows all that the roots reach once.
+/// or for the text. The search leaves the heap as it is. It follows what the roots reach once, up to where it has found
+/// the object.
 pub fn gcroot(alloc: Global, view: &View<'_>, a: u64) -> Result<Vec<u8>, SosFault>
     requires lawful { IsLawfulView view.now }
     ensures text { IfOk result (λ text. (m : Machine) → IsViewOf view.now m → TellsRoot m a text.items) }
@@ -51,10 +52,11 @@ pub fn gcroot(alloc: Global, view: &View<'_>, a: u64) -> Result<Vec<u8>, SosFaul
 // What is told of the roots of an object.
 fn text_of(alloc: Global, view: &View<'_>, a: u64) -> Result<Vec<u8>, AllocError>
     requires lawful { IsLawfulView view.now }
+    requires stands { IsObjectOf view.now a }
     ensures { IfOk result (λ text. (m : Machine) → IsViewOf view.now m → TellsRoot m a text.items) }
 {
     view.heap.lawful();
-    let reached = reach(alloc, view)?;
+    let reached = reach_to(alloc, view, a)?;
     let mut text = Vec::new(alloc);
     let Some(last) = reached.find(a) else {
         text.extend_from_slice(b"none\n")?;

@@ -1,7 +1,8 @@
 // Text that grows at its end.
-ghost use Rattle.std.specs.Prelude.{◌≡◌, ◌++◌, OnOk, decimal};
+ghost use Rattle.std.specs.Prelude.{◌≡◌, ◌+◌, ◌≤◌, ◌<◌, ◌++◌, ◌∷◌, [], OnOk, decimal, drop, length, take};
 ghost use Rattle.clr_nums.specs.Numbers.{hex16};
 ghost use Rattle.clr_model.specs.ReplyText.{place_text};
+ghost use Rattle.clr_sos.specs.TextPieces.{head_words};
 
 use clr_nums::{put_dec, put_hex16};
 use std::alloc::AllocError;
@@ -35,4 +36,107 @@ pub(crate) fn put_place(text: &mut Vec<u8>, place: u64) -> Result<(), AllocError
         return Ok(());
     }
     put_address(text, place)
+}
+
+/// Puts a place, a method table word and a size at the end, and a space behind each. They are written side by side
+/// first, so that the text grows once.
+pub(crate) fn put_head(text: &mut Vec<u8>, place: u64, mt: u64, size: u64) -> Result<(), AllocError>
+    ensures { OnOk result (text.new.items ≡ text.old.items ++ head_words place mt size) }
+{
+    let mut head = [0; 56];
+    let end = write_head(&mut head, place, mt, size);
+    text.extend_from_slice(&head[..end])?;
+    Ok(())
+}
+
+// Writes them at the front, and gives where the last space ends.
+#[inline(always)]
+fn write_head(into: &mut [u8; 56], place: u64, mt: u64, size: u64) -> usize
+    ensures end { result ≤ 56 }
+    ensures text { take result into.new ≡ head_words place mt size }
+{
+    let at = append_address(into, 0, place);
+    let at = append_address(into, at, mt);
+    append_number(into, at, size)
+}
+
+// Writes 16 hexadecimal digits and a space behind the first `at` bytes, and gives where the space ends.
+#[inline(always)]
+fn append_address(into: &mut [u8; 56], at: usize, v: u64) -> usize
+    requires { at ≤ 17 }
+    ensures end { result ≡ at + 17 }
+    ensures text { take result into.new ≡ take at into.old ++ (hex16 v ++ (32 ∷ [])) }
+{
+    let at = append_hex(into, at, v);
+    append_space(into, at)
+}
+
+// Writes decimal digits and a space behind the first `at` bytes, and gives where the space ends.
+#[inline(always)]
+fn append_number(into: &mut [u8; 56], at: usize, v: u64) -> usize
+    requires { at ≤ 34 }
+    ensures end { result ≤ at + 21 }
+    ensures text { take result into.new ≡ take at into.old ++ (decimal v ++ (32 ∷ [])) }
+{
+    let at = append_decimal(into, at, v);
+    append_space(into, at)
+}
+
+// Writes 16 hexadecimal digits behind the first `at` bytes, and gives where they end.
+#[inline(always)]
+fn append_hex(into: &mut [u8; 56], at: usize, v: u64) -> usize
+    requires { at ≤ 40 }
+    ensures end { result ≡ at + 16 }
+    ensures text { take result into.new ≡ take at into.old ++ hex16 v }
+{
+    put_hex_digits(v, &mut into[at..]);
+    at + 16
+}
+
+// Writes decimal digits behind the first `at` bytes, and gives where they end.
+#[inline(always)]
+fn append_decimal(into: &mut [u8; 56], at: usize, v: u64) -> usize
+    requires { at ≤ 36 }
+    ensures end { result ≤ at + 20 }
+    ensures text { take result into.new ≡ take at into.old ++ decimal v }
+{
+    let count = put_digits(v, &mut into[at..]);
+    at + count
+}
+
+// Writes a space behind the first `at` bytes, and gives where it ends.
+#[inline(always)]
+fn append_space(into: &mut [u8; 56], at: usize) -> usize
+    requires { at < 56 }
+    ensures end { result ≡ at + 1 }
+    ensures text { take result into.new ≡ take at into.old ++ (32 ∷ []) }
+{
+    let end = at + 1;
+    into[at..end].copy_from_slice(b" ");
+    end
+}
+
+// Writes 16 hexadecimal digits at the front. The bytes behind them stay.
+#[inline(always)]
+fn put_hex_digits(v: u64, into: &mut [u8])
+    requires { 16 ≤ length into.old }
+    ensures { into.new ≡ hex16 v ++ drop 16 into.old }
+{
+    if let Some(digits) = into.first_chunk_mut::<16>() {
+        put_hex16(v, digits);
+    }
+}
+
+// Writes decimal digits at the front, and gives their count.
+#[inline(always)]
+fn put_digits(v: u64, into: &mut [u8]) -> usize
+    requires { 20 ≤ length into.old }
+    ensures fits { result ≤ 20 }
+    ensures within { result ≤ length into.new }
+    ensures text { take result into.new ≡ decimal v }
+{
+    match into.first_chunk_mut::<20>() {
+        Some(digits) => put_dec(v, digits),
+        None => 0,
+    }
 }

@@ -1,6 +1,7 @@
-use Rattle.std.proofs.Common.{◌≡◌, ◌-◌}
+use Rattle.std.proofs.Common.{◌≡◌, ℕ, ◌-◌, ◌<◌, ◌≤◌, None}
 use Rattle.clr_heap.specs.ObjectKinds.{IsObjectKind}
-use Rattle.clr_heap.specs.View.{CanWalk, item_with_place, items_between, sight}
+use Rattle.clr_heap.specs.Parts.{hole_from}
+use Rattle.clr_heap.specs.View.{CanWalk, holes_of, item_with_place, items_between, sight}
 use Rattle.clr_generations.proofs.finding.item_from.Given as goal
 
 abbrev pub invariant-loop-place : goal.invariant-loop-place
@@ -8,6 +9,7 @@ invariant-loop-place l = record {
   walk : CanWalk (sight l.types l.heap l.k) l.heap.memories l.place l.end;
   found : item_with_place (items_between (sight l.types l.heap l.k) l.place l.end) l.a
       ≡ item_with_place (items_between (sight l.types l.heap l.k) l.start l.end) l.a;
+  clear : (q : ℕ) → l.place ≤ q → q < l.next_hole → hole_from (holes_of l.heap l.k) q ≡ None;
   known : IsObjectKind l.types l.known;
 }
 

@@ -1,19 +1,14 @@
--- The words come one by one.
-use Rattle.clr_sos.proofs.ShownLines.{item_parts}
+-- The words come one by one, the first three at once.
+use Rattle.clr_sos.proofs.ShownLines.{head_parts}
 use Rattle.clr_sos.proofs.listing_lines.put_item.Goals as goal
 
 pub returns : goal.returns
 returns c =
     rw (
-      c.in_ok-extend_from_slice-5.ensures.items,
-      c.in_ok-extend_from_slice-4.ensures.items,
-      c.in_ok-extend_from_slice-3.ensures.items,
-      c.in_ok-put_number.ensures,
       c.in_ok-extend_from_slice-2.ensures.items,
-      c.in_ok-put_address-2.ensures,
       c.in_ok-extend_from_slice.ensures.items,
-      c.in_ok-put_address.ensures,
+      c.in_ok-put_head.ensures,
       c.mt.ensures,
       c.name.ensures,
     )
-    (item_parts _ _ _ _ _)
+    (head_parts _ _ _ _ _)

@@ -1,8 +1,13 @@
 -- The object that was found by its place has its text.
 use Rattle.std.proofs.Common.{◌∙◌, refl, sym}
 use Rattle.std.proofs.lemmas.Result.{err_from_is_err_and}
-use Rattle.clr_sos.proofs.ObjectsByPlace.{found-not_none, none-in_machine, some-in_machine}
+use Rattle.clr_sos.proofs.ObjectsByPlace.{found-not_none, none-in_machine, some-in_machine, stands-there}
 use Rattle.clr_sos.proofs.roots.gcroot.Goals as goal
+
+pub text_of-requires-clause-stands : goal.text_of-requires-clause-stands
+text_of-requires-clause-stands c =
+    stands-there c.args.view.now.types.now c.args.view.now.heap.now c.lawful.ensures c.requires.lawful.held c.args.a
+    c.in-Some.field-0 (sym c.in-Some.is ∙ c.object_at.ensures)
 
 pub returns-in_default-clause-no_object : goal.returns-in_default-clause-no_object
 returns-in_default-clause-no_object c = λ m shown. (

@@ -9,8 +9,8 @@ use Rattle.clr_sos.proofs.Trails.{chain-stands, chain-told, root-told}
 use Rattle.clr_sos.proofs.ViewNames.{count_locals, sound_view}
 use Rattle.clr_sos.proofs.roots.text_of.Goals as goal
 
-pub reach-requires : goal.reach-requires
-reach-requires c = record { sound = sound_view c.args.view.now c.lawful.ensures c.requires.lawful }
+pub reach_to-requires-clause-sound : goal.reach_to-requires-clause-sound
+reach_to-requires-clause-sound c = sound_view c.args.view.now c.lawful.ensures c.requires.lawful
 
 pub put_places-requires-clause-stand : goal.put_places-requires-clause-stand
 put_places-requires-clause-stand c =

@@ -2,7 +2,7 @@ use Rattle.std.proofs.Common.{◌≡◌, ◌-◌, []}
 use Rattle.std.specs.Prelude.{None}
 use Rattle.clr_sos.specs.Walks.{ahead, AreAhead}
 use Rattle.clr_sos.proofs.Walking.{found_first}
-use Rattle.clr_sos.proofs.heap_items.HeapItemsIterator.next.Given as goal
+use Rattle.clr_sos.proofs.heap_items.HeapItems.next_behind.Given as goal
 
 abbrev pub invariant-loop-found : goal.invariant-loop-found
 invariant-loop-found l = record {

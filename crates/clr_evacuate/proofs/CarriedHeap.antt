@@ -18,24 +18,23 @@ use Rattle.clr_heap.proofs.Framing.{SameShape-trans}
 use Rattle.clr_model.specs.Allocation.{taken_from}
 use Rattle.clr_model.specs.Compaction.{moved_by}
 use Rattle.clr_model.specs.Machine.{Object}
-use Rattle.clr_view.specs.Clean.{AreClean, HasCleanWords}
 use Rattle.clr_view.specs.SlotValues.{StandsAt}
 use Rattle.clr_view.specs.Memory.{is_marked}
 use Rattle.clr_view.specs.View.{free_in, is_free, IsHeld, is_object, layout_in, object_in, objects_in}
 use Rattle.clr_view.proofs.Bearing.{fits-is}
 use Rattle.clr_view.proofs.Listed.{listed-above, listed-item}
 use Rattle.clr_view.proofs.Listings.{heap-rise}
-use Rattle.clr_view.proofs.Padding.{clean-moved, clean-stays}
 use Rattle.clr_view.proofs.Rises.{objects-rise}
 use Rattle.clr_moves.specs.Objects.{moved_object}
-use Rattle.clr_evacuate.specs.Carried.{CanCarry, carry_of, going_there, HasCarried, HasCopied, HasVacated}
-use Rattle.clr_evacuate.specs.Carried.{IsUnmovedIn}
+use Rattle.clr_evacuate.specs.Carried.{ArePadded, CanCarry, carry_of, going_there, HasCarried, HasCopied}
+use Rattle.clr_evacuate.specs.Carried.{HasVacated, IsUnmovedIn}
 use Rattle.clr_evacuate.specs.Forwards.{forward_of, HasForwards}
 use Rattle.clr_evacuate.proofs.Copied.{Carries, copied_apart, copied_free, copied_is_object, copied_item}
 use Rattle.clr_evacuate.proofs.Copied.{copied_object}
 use Rattle.clr_evacuate.proofs.Copied.{copied_one, copied_only, copied_parts, copied_replaces, copied_unmarked, copy}
 use Rattle.clr_evacuate.proofs.Copied.{left_at}
 use Rattle.clr_evacuate.proofs.Copying.{free_item_of, not_free}
+use Rattle.clr_evacuate.proofs.Padded.{IsPadded, padding-moves, padding-stays}
 use Rattle.clr_evacuate.proofs.Replacing.{IsApart, item_now, item_stays, object_born, object_now, object_stays}
 use Rattle.clr_evacuate.proofs.Replacing.{replaced_heap, replaced_held, replaced_rests, Replaces, whole_size}
 use Rattle.clr_evacuate.proofs.Vacated.{vacated_free, vacated_parts, vacated_replaces, Vacates}
@@ -140,6 +139,17 @@ module _ (rows : List TypeRow) (h mid new : HeapView) (i x : Item) (f : Carries 
   cell_same j out_x out_i q z lo hi =
       outside q z (elim out_x [ inl l ↦ inl (omega (arith, l, hi)) | inr l ↦ inr (omega (arith, l, lo)) ])
       (elim out_i [ inl l ↦ inl (omega (arith, l, hi)) | inr l ↦ inr (omega (arith, l, lo)) ])
+
+  -- the cell of an item that is neither the object's nor the free one stays
+  stays_word : (j : Item) → IsIn j (heap_items rows h) → j.place ≢ i.place → j.place ≢ x.place → (q : ℕ)
+      → q % 8 ≡ 0 → j.place ≤ q + 8 → q + 8 < j.place + j.size → word_of new q ≡ word_of h q
+  stays_word j was off_i off_x = elim (item_stays rows h mid x ns a j was) [
+    | inl same ↦ absurd (off_x (ap (λ (k : Item). k.place) same))
+    | inr (in_mid, out_x) ↦ elim (item_stays rows mid new i qs b j in_mid) [
+      | inl same ↦ absurd (off_i (ap (λ (k : Item). k.place) same))
+      | inr (in_new, out_i) ↦ cell_same j out_x out_i
+    ]
+  ]
 
   -- the words at the item's front are those of the copy
   front_word : (q : ℕ) → q % 8 ≡ 0 → q + 8 < x.place + x.size → word_of new q ≡ word_of mid q
@@ -300,51 +310,72 @@ module _ (rows : List TypeRow) (h mid new : HeapView) (i x : Item) (f : Carries 
         (omega arith) (omega (arith, n)))
         ∙ ap (λ n. has_mark (word_of h n)) (sym at))
   ]
-    where
-      stays_word : (j : Item) → IsIn j (heap_items rows h) → j.place ≢ i.place → j.place ≢ x.place → (q : ℕ)
-          → q % 8 ≡ 0 → j.place ≤ q + 8 → q + 8 < j.place + j.size → word_of new q ≡ word_of h q
-      stays_word j was off_i off_x = elim (item_stays rows h mid x ns a j was) [
-        | inl same ↦ absurd (off_x (ap (λ (k : Item). k.place) same))
-        | inr (in_mid, out_x) ↦ elim (item_stays rows mid new i qs b j in_mid) [
-          | inl same ↦ absurd (off_i (ap (λ (k : Item). k.place) same))
-          | inr (in_new, out_i) ↦ cell_same j out_x out_i
-        ]
-      ]
 
-  -- ---- clean words
+  -- ---- headers
 
-  copy_clean : HasCleanWords rows (word_of h) i → HasCleanWords rows (word_of new) (copy rows h mid i x f c)
-  copy_clean clean =
+  -- the header of each object is at its new place what it was at its old one
+  pub carried_headers : (o : Object) → IsIn o (objects_in rows h)
+      → word_of new ((go o).place - 8) ≡ word_of h (o.place - 8)
+  carried_headers o mine = elim (cases_eq o.place i.place) [
+    | inl same ↦
+        let zx = (listed-item rows h x heap held there).aligned in
+        let up = listed-above rows h x heap held there in
+        let back : x.place - 8 + (i.place - x.place) ≡ i.place - 8 = omega (arith, up, lower) in
+        let to = ap (moved_by (carry_of i x.place)) same ∙ carried_here i x.place least in
+        ap (λ n. word_of new (n - 8)) to
+        ∙ front_word (x.place - 8) (omega (arith, zx, up)) (omega (arith, up, least_x))
+        ∙ c.cells (x.place - 8) (omega (arith, zx, up)) (omega (arith, up)) (omega (arith, up, least))
+        (λ e. omega (arith, e, up))
+        ∙ ap (word_of h) back ∙ ap (λ n. word_of h (n - 8)) (sym same)
+    | inr other ↦
+        let (j, same, object, was) = item_of o mine in
+        let at : o.place ≡ j.place = ap (λ (p : Object). p.place) same in
+        let z = (listed-item rows h j heap held was).aligned in
+        let n = (listed-item rows h j heap held was).least in
+        let up = listed-above rows h j heap held was in
+        let to = carried_past i x.place o.place (stays o mine other).1 in
+        ap (λ n. word_of new (n - 8)) (to ∙ at)
+        ∙ stays_word j was (λ e. other (at ∙ e)) (λ e. off_item o mine (at ∙ e)) (j.place - 8)
+        (omega (arith, z, up)) (omega (arith, up)) (omega (arith, up, n))
+        ∙ ap (λ n. word_of h (n - 8)) (sym at)
+  ]
+
+  -- ---- padding
+
+  -- the padding of the copy is zero where the object's was
+  copy_padded : IsPadded rows (word_of h) i → IsPadded rows (word_of new) (copy rows h mid i x f c)
+  copy_padded =
       let is_i = listed-item rows h i heap held listed in
       let zx = (listed-item rows h x heap held there).aligned in
       let up = listed-above rows h x heap held there in
       let above = listed-above rows h i heap held listed in
       let fit = within in
-      clean-moved rows (word_of h) (word_of new) i (copy rows h mid i x f c) x.place (x.place + i.size) above
+      padding-moves rows (word_of h) (word_of new) i (copy rows h mid i x f c) x.place (x.place + i.size) above
       is_i.aligned up (copied_item rows h mid i x f c) refl refl refl
       (λ d z l ne.
       let at : x.place - 8 + d + (i.place - x.place) ≡ i.place - 8 + d = omega (arith, up, lower) in
       front_word (x.place - 8 + d) (omega (arith, zx, z, up)) (omega (arith, up, l, fit))
       ∙ c.cells (x.place - 8 + d) (omega (arith, zx, z, up)) (omega (arith, up)) (omega (arith, up, l))
       (λ e. omega (arith, e, up, ne))
-      ∙ ap (word_of h) at) clean
+      ∙ ap (word_of h) at)
     where
       within : i.size ≤ x.size
       within = elim (fits-is i.size x.size f.within)
           [ inl l ↦ omega arith | inr l ↦ omega arith ]
 
-  pub carried_clean : AreClean rows h → AreClean rows new
-  carried_clean clean j now object = elim (was_item j now) [
+  -- the padding of each object stays zero
+  pub carried_padded : ArePadded rows h → ArePadded rows new
+  carried_padded padded j now object = elim (was_item j now) [
     | is_vacated here ↦ absurd (elim (in_cons here) [
       | inl is ↦ true≢false (sym object ∙ ap is_object is)
       | inr none ↦ elim none [ ]
     ])
     | is_copied here out_i ↦
         let is = copied_only rows h mid i x f c j here object in
-        subst (HasCleanWords rows (word_of new)) (sym is) (copy_clean (clean i listed f.object))
+        subst (IsPadded rows (word_of new)) (sym is) (copy_padded (padded i listed f.object))
     | was_there was out_x out_i ↦
-        clean-stays rows (word_of h) (word_of new) j j.place (j.place + j.size) (listed-above rows h j heap held was)
-        (listed-item rows h j heap held was) (λ q z lo hi ne. cell_same j out_x out_i q z lo hi) (clean j was object)
+        padding-stays rows (word_of h) (word_of new) j j.place (j.place + j.size) (listed-above rows h j heap held was)
+        (listed-item rows h j heap held was) (λ q z lo hi ne. cell_same j out_x out_i q z lo hi) (padded j was object)
   ]
 
   -- ---- forwards
@@ -452,7 +483,8 @@ module _ (rows : List TypeRow) (h mid new : HeapView) (i x : Item) (f : Carries 
     layout = carried_layout;
     marks = carried_marks;
     words = outside;
-    clean = carried_clean;
+    headers = carried_headers;
+    padding = carried_padded;
     forwards = carried_forwards;
     shape = carried_shape;
     held = carried_held;

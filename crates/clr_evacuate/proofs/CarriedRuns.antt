@@ -350,7 +350,8 @@ module _ (rows : List TypeRow) (h mid : HeapView) (i : Item) (item : Piece) (s :
     layout = carried.layout;
     marks = step_marks;
     words = carried.words;
-    clean = carried.clean;
+    headers = carried.headers;
+    padding = carried.padding;
     forwards = step_forwards;
     shape = carried.shape;
     held = carried.held;
@@ -451,6 +452,15 @@ module _ (rows : List TypeRow) (h mid new : HeapView) (i : Item) (is : List Item
       (first_one.marks o mine)
       ∙ unmarked_in_turn i.place i.size b to below (is_marked h o) o.place
 
+  -- headers are what they were, at places that go twice
+  two_headers : (o : Object) → IsIn o (objects_in rows h) → word_of new ((f o).place - 8) ≡ word_of h (o.place - 8)
+  two_headers o mine =
+      let there : IsIn (f1 o) (objects_in rows mid) =
+      subst (IsIn (f1 o)) (sym first_one.objects)
+      (into_sorted_by name (f1 o) (map f1 (objects_in rows h)) (IsIn-map f1 mine)) in
+      ap (λ (p : Object). word_of new (p.place - 8)) (sym (moved_twice o))
+      ∙ others.headers (f1 o) there ∙ first_one.headers o mine
+
   two_forwards : (go : ℕ → ℕ) → HasForwards rows h go → IsUnmovedIn go (part to (high - to))
       → HasForwards rows new (going_along go whole to)
   two_forwards go has unmoved =
@@ -474,7 +484,8 @@ module _ (rows : List TypeRow) (h mid new : HeapView) (i : Item) (is : List Item
         (elim out_plug [ inl l ↦ inl (omega (arith, l)) | inr l ↦ inr (omega (arith, l)) ])
         ∙ first_one.words q z out_item
         (elim out_plug [ inl l ↦ inl l | inr l ↦ inr (omega (arith, l)) ]);
-    clean = λ c. others.clean (first_one.clean c);
+    headers = two_headers;
+    padding = λ p. others.padding (first_one.padding p);
     forwards = two_forwards;
     shape = SameShape-trans h mid new first_one.shape others.shape;
     held = others.held;

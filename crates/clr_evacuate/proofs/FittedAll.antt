@@ -273,6 +273,16 @@ module _ (rows : List TypeRow) (h mid new : HeapView) (run gone : List Item) (pl
       go true = twice (is_moved f.moves (item.place + (o.place - plug.place)))
       go false = refl
 
+  -- headers are what they were, at places that go with the run and then with the others
+  all_headers : (o : Object) → IsIn o (objects_in rows h)
+      → word_of new ((both o).place - 8) ≡ word_of h (o.place - 8)
+  all_headers o mine =
+      let in_mid : IsIn (f1 o) (objects_in rows mid) =
+      subst (IsIn (f1 o)) (sym c.objects)
+      (into_sorted_by name (f1 o) (map f1 (objects_in rows h)) (IsIn-map f1 mine)) in
+      ap (λ (p : Object). word_of new (p.place - 8)) (sym (moved_twice o))
+      ∙ others.headers (f1 o) in_mid ∙ c.headers o mine
+
   all_from : (w : Move) → IsIn w (v ∷ f.moves) → plug.place ≤ w.start
   all_from w m = elim (in_cons m) [
     | inl e ↦ (let at = ap (λ (u : Move). u.start) e in omega (arith, at))
@@ -335,7 +345,8 @@ module _ (rows : List TypeRow) (h mid new : HeapView) (run gone : List Item) (pl
         λ k. record (c.layout k) { free = free k });
     marks = all_marks;
     from = all_from;
-    clean = λ x. others.clean (c.clean x);
+    headers = all_headers;
+    padding = λ p. others.padding (c.padding p);
     forwards = all_forwards;
     shape = SameShape-trans h mid new c.shape others.shape;
     held = others.held;

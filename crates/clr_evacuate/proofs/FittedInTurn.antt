@@ -25,6 +25,7 @@ use Rattle.clr_evacuate.specs.FittedAll.{AreInOrder, HasCarriedAll, HasMade, Hav
 use Rattle.clr_evacuate.specs.FittedRun.{HasFitted}
 use Rattle.clr_evacuate.proofs.FittedAll.{run_and_others}
 use Rattle.clr_evacuate.proofs.FittedRuns.{lowest_is}
+use Rattle.clr_evacuate.proofs.GoneItems.{all_moved, none_moved}
 
 -- ---- where there is no plug
 
@@ -56,7 +57,8 @@ none_gone rows h low heap held = record {
   layout = λ k. record (layout_in rows h) { free = frees k };
   marks = λ o n. refl;
   from = λ v n. absurd (elim n [ ]);
-  clean = λ c. c;
+  headers = λ o n. refl;
+  padding = λ p. p;
   forwards = λ go has unmoved. has;
   shape = SameShape-refl h;
   held = held;
@@ -92,7 +94,8 @@ lower-from rows h new low high f gone l c = record {
   layout = c.layout;
   marks = c.marks;
   from = λ v n. let up = c.from v n in omega (arith, up, l);
-  clean = c.clean;
+  headers = c.headers;
+  padding = c.padding;
   forwards = c.forwards;
   shape = c.shape;
   held = c.held;
@@ -108,6 +111,7 @@ plugs_passed rows h new low [] bytes heap held last order (same, none) = record 
   gone = [];
   carried = subst (λ (g : HeapView). HasCarriedAll rows h g low
       (record { moves = []; left = older_items (layout_in rows h) }) []) same (none_gone rows h low heap held);
+  gone_are = none_moved rows h;
   counted = none;
 }
 plugs_passed rows h new low (p ∷ ps) bytes heap held last order (mid, some, more, step, steps, sum) =
@@ -129,6 +133,7 @@ plugs_passed rows h new low (p ∷ ps) bytes heap held last order (mid, some, mo
           carried = lower-from rows h new low (p.start + p.size) (fit ps (older_items
               (layout_in rows h))) now.gone (omega (arith, up))
               now.carried;
+          gone_are = now.gone_are;
           counted = sum ∙ (let none : some + more ≡ more = omega (arith, zero) in none) ∙ now.counted;
         }
     go (Some item) e (gone, size) others =
@@ -146,6 +151,9 @@ plugs_passed rows h new low (p ∷ ps) bytes heap held last order (mid, some, mo
               (fit ps (taken_from item.place p.size (older_items
               (layout_in rows h)))) heap held last step.older step.is there enough gone.carried
               now.carried);
+          gone_are = all_moved rows h mid step.run now.gone (record { place = p.start; size = p.size }) item
+              (fit ps (taken_from item.place p.size (older_items (layout_in rows h)))).moves heap held step.older
+              step.is there enough gone.carried.objects now.carried.from now.gone_are;
           counted = sum ∙ (λ k. size k + now.counted k)
               ∙ sym (sum_by-cons (λ (v : Move). v.size) (record { start = p.start; size = p.size; to = item.place })
               (fit ps (taken_from item.place p.size (older_items (layout_in rows h)))).moves);

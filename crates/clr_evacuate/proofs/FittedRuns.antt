@@ -1,12 +1,12 @@
 -- What older items become when a run goes into one of them.
 use Rattle.std.proofs.Common.{◌≡◌, inl, inr, ℕ, ◌+◌, ◌-◌, ◌<◌, ◌≤◌, true, false, Bool, List, [], ◌∷◌, ◌++◌}
-use Rattle.std.proofs.Common.{refl, ap, sym, ◌∙◌, subst, arith, map, filter, if◌then◌else◌, ◌==◌, nat_lt, Option}
+use Rattle.std.proofs.Common.{refl, ap, sym, ◌∙◌, subst, arith, map, filter, if◌then◌else◌, ◌==◌, nat_lt}
 use Rattle.std.proofs.Common.{Some, true≢false}
 use Rattle.std.specs.List.{AllByRecursion}
 use Rattle.std.proofs.lemmas.Bool.{cases_eq, cases_lt, eq-eqb, le-ltb, ne_eqb}
 use Rattle.std.proofs.lemmas.List.{append-nil}
 use Rattle.std.proofs.lemmas.List.Elements.{filter-append}
-use Rattle.clr_types.specs.Ranges.{by_place, fits, Piece, piece_end, range_piece}
+use Rattle.clr_types.specs.Ranges.{by_place, Piece, piece_end, range_piece}
 use Rattle.clr_types.specs.Rising.{first, IsIn, IsRisingBy, later}
 use Rattle.clr_types.specs.Segments.{Layout}
 use Rattle.clr_types.specs.Types.{TypeRow}
@@ -41,6 +41,8 @@ use Rattle.clr_evacuate.specs.Hints.{AreHints}
 use Rattle.clr_evacuate.specs.declared.hints.Hint.{Hint}
 use Rattle.clr_evacuate.proofs.Copying.{free_item_of, stands_below}
 use Rattle.clr_evacuate.proofs.HintFacts.{hints-stay}
+pub use Rattle.clr_evacuate.proofs.HintFacts.{lowest_is}
+use Rattle.clr_evacuate.proofs.SearchStarts.{search_stays}
 
 -- ---- lists
 
@@ -146,24 +148,6 @@ taken-inside at n (j ∷ ps) x m = elim (in_append (left_of at n j) m) [
       )
       | inr none ↦ absurd (elim none [ ])
     ]
-
--- the lowest item is one of them, and has room
-pub lowest_is : (size : ℕ) (items : List Piece) (item : Piece) → lowest_item size items ≡ Some item
-    → IsIn item items × (fits size item.size ≡ true)
-lowest_is size [] item e = absurd cc
-lowest_is size (j ∷ items) item e = go (fits size j.size) refl e (λ f. lowest_is size items item f)
-  where
-    same : {x y : Piece} → ◌≡◌ {A = Option Piece} (Some x) (Some y) → x ≡ y
-    same e = cc
-
-    go : (b : Bool) → fits size j.size ≡ b → (if b then Some j else lowest_item size items) ≡ Some item
-        → (lowest_item size items ≡ Some item → IsIn item items × (fits size item.size ≡ true))
-        → IsIn item (j ∷ items) × (fits size item.size ≡ true)
-    go true on is more = (
-      subst (λ (p : Piece). IsIn p (j ∷ items)) (same is) first,
-      subst (λ (p : Piece). fits size p.size ≡ true) (same is) on,
-    )
-    go false off is more = let (there, on) = more is in (later there, on)
 
 -- ---- the older items
 
@@ -272,9 +256,10 @@ module _ (rows : List TypeRow) (old new : HeapView) (run : List Item) (plug item
         omega (arith, up, end, same);
   }
 
-  pub hints_after : (hints : List Hint) → AreHints (layout_in rows old) hints → AreHints (layout_in rows new) hints
-  hints_after hints = hints-stay (layout_in rows old)
-      (layout_in rows new) item.place plug.size hints is.least older_after
+  pub hints_after : IsHeap new → old.start1 ≤ old.start0 → CanCarryRun rows old run plug item → (hints : List Hint)
+      → AreHints rows old hints → AreHints rows new hints
+  hints_after next order can hints = hints-stay rows old new item.place plug.size hints is.least older_after
+      (search_stays rows old new run plug item heap held next can c order)
 
 -- ---- what stands behind a run
 

@@ -1,12 +1,13 @@
 -- The loop over the runs of a stretch that may go into older items.
 use Rattle.std.proofs.Common.{◌≡◌, inr, ℕ, ◌+◌, ◌-◌, ◌≤◌, true, false, List, [], refl}
-use Rattle.std.proofs.Common.{ap, sym, ◌∙◌, subst, arith, None, Option, Some, ◌&&◌, ◌==◌, not}
+use Rattle.std.proofs.Common.{ap, sym, ◌∙◌, subst, arith, None, Option, Some, ◌&&◌, ◌==◌, not, Bool, nat_lt}
+use Rattle.std.proofs.Common.{if◌then◌else◌}
 use Rattle.std.specs.List.{list_any}
 use Rattle.std.proofs.lemmas.Bool.{and_parts, and_right, eqb-true, ne_eqb}
 use Rattle.clr_types.specs.Bits.{has_pin}
 use Rattle.clr_types.specs.Ranges.{Piece, piece_end}
 use Rattle.clr_types.specs.Rising.{IsIn}
-use Rattle.clr_types.specs.Segments.{generation, is_small_or_ephemeral, stands_in}
+use Rattle.clr_types.specs.Segments.{ephemeral, generation, is_small_or_ephemeral, Layout, stands_in}
 use Rattle.clr_types.specs.Types.{TypeRow}
 use Rattle.clr_types.specs.declared.item.Item.{Item}
 use Rattle.clr_types.proofs.ChangedLists.{all_members, append_left}
@@ -40,19 +41,20 @@ pub record IsGoingOn (rows : List TypeRow) (h now : HeapView) (k from e place by
     pub held : IsHeld rows now
     pub shape : SameShape h now
     pub older : AreOlder (layout_in rows now)
-    pub hints : AreHints (layout_in rows now) guesses
+    pub hints : AreHints rows now guesses
     pub same : SameAhead h now place e
     pub scan : CanScan rows h k place e
     pub listed : (i : Item) → IsIn i (items_between (sight rows h k) place e) → is_object i ≡ true
         → IsIn i (heap_items rows now)
     pub above : h.start1 ≤ place
+    pub low : e ≤ h.start0
     pub count : bytes + from ≤ place
     pub order : AreInOrder place (fitting_between rows h k place e) → AreInOrder from (fitting_between rows h k from e)
     pub steps : (final : HeapView) (more : ℕ) → HavePassed rows now final (fitting_between rows h k place e) more
         → HavePassed rows h final (fitting_between rows h k from e) (bytes + more)
 
 pub going_starts : (rows : List TypeRow) (h : HeapView) (k from e : ℕ) (hints : List Hint) → IsHeap h → IsHeld rows h
-    → CanCarryBetween rows h k from e → AreHints (layout_in rows h) hints
+    → CanCarryBetween rows h k from e → AreHints rows h hints
     → IsGoingOn rows h h k from e from 0 hints
 going_starts rows h k from e hints heap held can are = record {
   heap = heap;
@@ -64,6 +66,7 @@ going_starts rows h k from e hints heap held can are = record {
   scan = can.scan;
   listed = λ i n object. can.listed i n;
   above = can.above;
+  low = can.low;
   count = omega arith;
   order = λ o. o;
   steps = λ final more s.
@@ -92,6 +95,26 @@ may_young rows h now i shape e =
     (generation (frame now) i.place == 2)
     (ne_eqb (generation (frame now) i.place) 2 (λ two. absurd (omega (arith, two, age, one))))
 
+-- what is of generation 1 stands in the ephemeral segment
+young-inside : (layout : Layout) (p : ℕ) → generation layout p ≡ 1 → stands_in (ephemeral layout) p ≡ true
+young-inside layout p e =
+    go (stands_in (ephemeral layout) p)
+    (if nat_lt p layout.start1 then 2 else (if nat_lt p layout.start0 then 1 else 0)) e
+  where
+    go : (b : Bool) (n : ℕ) → (if b then n else 2) ≡ 1 → b ≡ true
+    go true n one = refl
+    go false n one = absurd (omega (arith, one))
+
+may_inside : (h now : HeapView) (i : Item) → SameShape h now → may_fit h i ≡ true
+    → stands_in (ephemeral (frame now)) i.place ≡ true
+may_inside h now i shape e =
+    let (kept, free) = and_parts (stays (word_of h) i && (generation (frame h) i.place == 1))
+    (not (has_pin (word_of h (i.place - 8)))) e in
+    let (stay, young) = and_parts (stays (word_of h) i) (generation (frame h) i.place == 1) kept in
+    young-inside (frame now) i.place
+    (ap (λ (g : HeapView). generation (frame g) i.place) shape.others
+    ∙ eqb-true (generation (frame h) i.place) 1 young)
+
 module _ (rows : List TypeRow) (h now : HeapView) (k from e place bytes : ℕ) (hints : List Hint)
     (c : IsGoingOn rows h now k from e place bytes hints) where
   pub scan_now : CanScan rows now k place e
@@ -99,6 +122,9 @@ module _ (rows : List TypeRow) (h now : HeapView) (k from e place bytes : ℕ) (
 
   bound : now.start1 ≡ h.start1
   bound = ap (λ (g : HeapView). g.start1) c.shape.others
+
+  upper : now.start0 ≡ h.start0
+  upper = ap (λ (g : HeapView). g.start0) c.shape.others
 
   module _ (found : Piece) (has_now : HasFitting rows now k place e found) where
     abbrev pub has : HasFitting rows h k place e found
@@ -134,6 +160,11 @@ module _ (rows : List TypeRow) (h now : HeapView) (k from e place bytes : ℕ) (
           least = least;
           small = omega (arith, within, high, up, above, least);
           above = omega (arith, above, start, same);
+          inside = all_members (λ (i : Item). stands_in (ephemeral (frame now)) i.place ≡ true) has.objects.passed
+              (λ i n.
+              may_inside h now i c.shape (all_at (λ (j : Item). may_fit h j ≡ true) n has.objects.alike));
+          below = (let high = c.low in
+              let top = upper in omega (arith, within, high, top));
         }
 
     pub fewer : (mid : HeapView) (n : ℕ) (o : Option Piece) → HasFitted rows now mid has.objects.passed found n o
@@ -167,7 +198,7 @@ module _ (rows : List TypeRow) (h now : HeapView) (k from e place bytes : ℕ) (
       pub going_on : (n : ℕ)
           → ((is : List Item) → IsYoungRun rows now is found
           → HasFitted rows now mid is found n (lowest_item found.size (older_items (layout_in rows now))))
-          → AreOlder (layout_in rows mid) → (then_hints : List Hint) → AreHints (layout_in rows mid) then_hints
+          → AreOlder (layout_in rows mid) → (then_hints : List Hint) → AreHints rows mid then_hints
           → IsGoingOn rows h mid k from e (piece_end found) (bytes + n) then_hints
       going_on n fitted older then_hints are =
           let gone = fitted has.objects.passed young_run in
@@ -190,6 +221,7 @@ module _ (rows : List TypeRow) (h now : HeapView) (k from e place bytes : ℕ) (
                 (append_right has.objects.passed n)) in
                 stay i (c.listed i there object) object (ends i n);
             above = omega (arith, up, start);
+            low = c.low;
             count = omega (arith, count, few, up);
             order = λ o. c.order (subst (AreInOrder place) (sym has.plugs) (up, o));
             steps = λ final more s.

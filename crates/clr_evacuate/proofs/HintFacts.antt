@@ -1,28 +1,29 @@
--- Hints where older items have no room: right at first, by what a search finds, and while plugs go into items.
+-- Hints where searches may begin: right at first, by what a search finds, and while plugs go into items.
 use Rattle.std.proofs.Common.{◌≡◌, ℕ, ◌+◌, ◌-◌, ◌<◌, ◌≤◌, inl, inr, true, false, Bool, List, []}
 use Rattle.std.proofs.Common.{◌∷◌, ◌++◌, filter}
 use Rattle.std.proofs.Common.{refl, sym, ap, subst, ◌∙◌, arith, None, Option, Some, IfSome, nat_lt}
-use Rattle.std.proofs.Common.{if◌then◌else◌, ◌==◌}
+use Rattle.std.proofs.Common.{if◌then◌else◌, ◌==◌, MatchOption, replicate, suc, zero}
 use Rattle.std.proofs.lemmas.Bool.{both_ways, cases_Bool, ltb-true}
 use Rattle.clr_types.specs.Ranges.{fits, Piece, piece_end, range_piece}
 use Rattle.clr_types.specs.Rising.{first, IsIn, IsRisingBy, later}
-use Rattle.clr_types.specs.Segments.{Layout}
 use Rattle.clr_types.specs.Types.{TypeRow}
 use Rattle.clr_types.specs.declared.item.Item.{Item}
-use Rattle.clr_types.proofs.ChangedLists.{all_imply}
+use Rattle.clr_types.proofs.ChangedLists.{all_imply, out_of_filter}
 use Rattle.clr_types.proofs.ListMembers.{filter-rises, in_append}
 use Rattle.clr_types.proofs.RisingLists.{in_cons}
 use Rattle.clr_heap.specs.View.{heap_items, HeapView, IsHeap}
 use Rattle.clr_model.specs.Fitting.{is_older_item, lowest_item, older_items, taken_from}
 use Rattle.clr_model.proofs.ItemContext.{fits-more}
 use Rattle.clr_model.proofs.SplitPieces.{fits-is}
-use Rattle.clr_view.specs.View.{free_among, IsHeld, is_free, layout_in}
+use Rattle.clr_view.specs.View.{free_among, free_in, IsHeld, is_free, layout_in}
 use Rattle.clr_view.proofs.Listings.{heap-rise}
 use Rattle.clr_sweep.proofs.LayoutSwept.{free-rise}
 use Rattle.clr_items.proofs.FoundItems.{found_lowest, none_found}
-use Rattle.clr_evacuate.specs.Hints.{AreHints}
-use Rattle.clr_evacuate.specs.Searching.{HasNoRoomBelow}
+use Rattle.clr_evacuate.specs.Hints.{AreHints, IsStartFor}
+use Rattle.clr_evacuate.specs.Searching.{CanSearchFrom, HasNoRoomBelow}
 use Rattle.clr_evacuate.specs.declared.hints.Hint.{Hint}
+use Rattle.clr_evacuate.proofs.Copying.{free_item_of}
+use Rattle.clr_evacuate.proofs.SearchStarts.{begins-at, begins-behind}
 
 -- ---- what a search finds
 
@@ -51,6 +52,58 @@ module _ (rows : List TypeRow) (h : HeapView) (heap : IsHeap h) (held : IsHeld r
       go (Some p) e at on =
           let least = found_lowest (λ p. fits size p.size) items p i older-rise (sym e) n on in
           absurd (omega (arith, least, at, low))
+
+-- the lowest item is one of them, and has room
+pub lowest_is : (size : ℕ) (items : List Piece) (item : Piece) → lowest_item size items ≡ Some item
+    → IsIn item items × (fits size item.size ≡ true)
+lowest_is size [] item e = absurd cc
+lowest_is size (j ∷ items) item e = go (fits size j.size) refl e (λ f. lowest_is size items item f)
+  where
+    same : {x y : Piece} → ◌≡◌ {A = Option Piece} (Some x) (Some y) → x ≡ y
+    same e = cc
+
+    go : (b : Bool) → fits size j.size ≡ b → (if b then Some j else lowest_item size items) ≡ Some item
+        → (lowest_item size items ≡ Some item → IsIn item items × (fits size item.size ≡ true))
+        → IsIn item (j ∷ items) × (fits size item.size ≡ true)
+    go true on is more = (
+      subst (λ (p : Piece). IsIn p (j ∷ items)) (same is) first,
+      subst (λ (p : Piece). fits size p.size ≡ true) (same is) on,
+    )
+    go false off is more = let (there, on) = more is in (later there, on)
+
+module _ (rows : List TypeRow) (h : HeapView) (heap : IsHeap h) (held : IsHeld rows h) (order : h.start1 ≤ h.start0)
+  where
+    -- WHAT A SEARCH FINDS tells where the next one for the size may begin
+    pub starts-found : (size : ℕ) (found : Option Piece) → found ≡ lowest_item size (older_items (layout_in rows h))
+        → MatchOption found (IsStartFor rows h size 18446744073709551615) (λ i. IsStartFor rows h size i.place)
+    starts-found size None is = record {
+      begins = begins-behind rows h heap held order;
+      none_below = none-below rows h heap held size 18446744073709551615 None is tt;
+    }
+    starts-found size (Some i) is =
+        let (there, room) = lowest_is size (older_items (layout_in rows h)) i (sym is) in
+        let (older, free) = out_of_filter (is_older_item (layout_in rows h)) i (free_in rows h) there in
+        let (x, is_x) = free_item_of rows h i free in
+        record {
+          begins = subst (CanSearchFrom rows h) (sym (ap (λ (p : Piece). p.place) is_x.is))
+              (begins-at rows h heap held order x is_x.listed);
+          none_below = none-below rows h heap held size i.place (Some i) is refl;
+        }
+
+-- ---- at first
+
+-- a search for any size may begin at place 0
+starts-low : (rows : List TypeRow) (h : HeapView) (size : ℕ) → IsStartFor rows h size 0
+starts-low rows h size = record {
+  begins = λ k inside above below. absurd (omega (arith, above));
+  none_below = λ i n low. absurd (omega (arith, low));
+}
+
+-- so hints of an empty table are right
+pub hints-begin : (rows : List TypeRow) (h : HeapView) (n : ℕ)
+    → AreHints rows h (replicate n (record { size = 0; place = 0 }))
+hints-begin rows h zero = tt
+hints-begin rows h (suc n) = (starts-low rows h 0, hints-begin rows h n)
 
 -- ---- while plugs go into items
 
@@ -103,10 +156,16 @@ stays-without size low place taken (j ∷ is) least none i n under =
     ]
     by false m more = elim (in_append (j ∷ []) m) [ inl here ↦ whole here | inr there ↦ more there ]
 
--- HINTS STAY RIGHT when a plug goes to the front of an item
-pub hints-stay : (old new : Layout) (place taken : ℕ) (hints : List Hint) → 24 ≤ taken
-    → older_items new ≡ taken_from place taken (older_items old) → AreHints old hints → AreHints new hints
-hints-stay old new place taken hints least is are =
-    all_imply (λ (e : Hint). HasNoRoomBelow e.size e.place old) (λ (e : Hint). HasNoRoomBelow e.size e.place new) hints
-    (λ e none i n low. stays-without e.size e.place place taken (older_items old) least none i
-    (subst (IsIn i) is n) low) are
+-- HINTS STAY RIGHT when a plug goes to the front of an item, where searches may begin at their places
+pub hints-stay : (rows : List TypeRow) (old new : HeapView) (place taken : ℕ) (hints : List Hint) → 24 ≤ taken
+    → older_items (layout_in rows new) ≡ taken_from place taken (older_items (layout_in rows old))
+    → ((p : ℕ) → CanSearchFrom rows old p → CanSearchFrom rows new p) → AreHints rows old hints
+    → AreHints rows new hints
+hints-stay rows old new place taken hints least is begin are =
+    all_imply (λ (e : Hint). IsStartFor rows old e.size e.place) (λ (e : Hint). IsStartFor rows new e.size e.place)
+    hints (λ e start. record {
+      begins = begin e.place start.begins;
+      none_below = λ i n low.
+          stays-without e.size e.place place taken (older_items (layout_in rows old)) least start.none_below i
+          (subst (IsIn i) is n) low;
+    }) are

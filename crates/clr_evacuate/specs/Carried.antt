@@ -3,18 +3,26 @@ use Rattle.std.specs.Prelude.{◌≡◌, ◌≢◌, ◌⊎◌, ℕ, ◌+◌, ◌
 use Rattle.std.specs.Prelude.{[], ◌∷◌, ◌++◌, map}
 use Rattle.clr_types.specs.Ranges.{by_place, fits, Piece, piece_end}
 use Rattle.clr_types.specs.Rising.{IsIn, sorted_by}
-use Rattle.clr_types.specs.Types.{mt_of, TypeRow}
+use Rattle.clr_types.specs.Types.{form_at, mt_of, TypeRow}
 use Rattle.clr_types.specs.declared.item.Item.{Item}
 use Rattle.clr_heap.specs.Parts.{item_piece, unmarked}
 use Rattle.clr_heap.specs.View.{heap_items, HeapView, SameShape, word_of}
 use Rattle.clr_model.specs.Allocation.{taken_from}
 use Rattle.clr_model.specs.Compaction.{Move}
 use Rattle.clr_model.specs.Machine.{Object}
-use Rattle.clr_view.specs.Clean.{AreClean}
+use Rattle.clr_view.specs.Clean.{AreZero, slots_end}
 use Rattle.clr_view.specs.Memory.{is_marked}
 use Rattle.clr_view.specs.View.{free_in, IsFreeHead, IsHeld, is_object, layout_in, objects_in}
 use Rattle.clr_moves.specs.Objects.{moved_object}
 use Rattle.clr_evacuate.specs.Forwards.{HasForwards}
+
+-- ---- padding
+
+-- the padding of each object of the heap is zero, to the end of its cell
+abbrev pub ArePadded : List TypeRow → HeapView → Type 0
+ArePadded rows h =
+    (i : Item) → IsIn i (heap_items rows h) → is_object i ≡ true
+    → AreZero (word_of h) (i.place + slots_end (form_at rows i.type_id.0) i.len) (i.place + i.size - 8)
 
 -- ---- what may be carried
 
@@ -62,9 +70,9 @@ going_there go from to x = if x == from then to else go x
 abbrev pub IsUnmovedIn : (ℕ → ℕ) → Piece → Type 0
 IsUnmovedIn go item = (x : ℕ) → item.place ≤ x → x < piece_end item → go x ≡ x
 
--- The old heap with the object at the item's front. Its slots, and all other objects, are as they were. What it leaves
--- of the item is free, and so is the range where it stood, which says where it went. It isn't marked any more, and all
--- others are as they were.
+-- The old heap with the object at the item's front. Its slots, and all other objects, are as they were, and so are all
+-- headers of objects. What it leaves of the item is free, and so is the range where it stood, which says where it went.
+-- It isn't marked any more, and all others are as they were. Padding stays zero.
 pub record HasCarried (rows : List TypeRow) (old new : HeapView) (carried : Item) (item : Piece) : Type 0 where
   pub objects : objects_in rows new
       ≡ sorted_by (λ o. o.name) (map (moved_object (carry_of carried item.place)) (objects_in rows old))
@@ -77,7 +85,9 @@ pub record HasCarried (rows : List TypeRow) (old new : HeapView) (carried : Item
       ≡ (if o.place == carried.place then false else is_marked old o)
   pub words : (b : ℕ) → b % 8 ≡ 0 → (b + 8 < item.place) ⊎ (piece_end item ≤ b + 8)
       → (b + 8 < carried.place) ⊎ (carried.place + carried.size ≤ b + 8) → word_of new b ≡ word_of old b
-  pub clean : AreClean rows old → AreClean rows new
+  pub headers : (o : Object) → IsIn o (objects_in rows old)
+      → word_of new ((moved_object (carry_of carried item.place) o).place - 8) ≡ word_of old (o.place - 8)
+  pub padding : ArePadded rows old → ArePadded rows new
   pub forwards : (go : ℕ → ℕ) → HasForwards rows old go → IsUnmovedIn go item
       → HasForwards rows new (going_there go carried.place item.place)
   pub shape : SameShape old new

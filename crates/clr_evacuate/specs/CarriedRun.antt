@@ -11,11 +11,10 @@ use Rattle.clr_heap.specs.View.{heap_items, HeapView, SameShape, word_of}
 use Rattle.clr_model.specs.Allocation.{taken_from}
 use Rattle.clr_model.specs.Compaction.{Move}
 use Rattle.clr_model.specs.Machine.{Object}
-use Rattle.clr_view.specs.Clean.{AreClean}
 use Rattle.clr_view.specs.Memory.{is_marked}
 use Rattle.clr_view.specs.View.{free_in, IsHeld, is_object, layout_in, objects_in}
 use Rattle.clr_moves.specs.Objects.{moved_object}
-use Rattle.clr_evacuate.specs.Carried.{IsUnmovedIn}
+use Rattle.clr_evacuate.specs.Carried.{ArePadded, IsUnmovedIn}
 use Rattle.clr_evacuate.specs.Fittings.{AreSideBySide}
 use Rattle.clr_evacuate.specs.Forwards.{HasForwards}
 
@@ -41,9 +40,9 @@ run_of plug to = record { start = plug.place; size = plug.size; to = to } ∷ []
 abbrev pub going_along : (ℕ → ℕ) → Piece → ℕ → ℕ → ℕ
 going_along go plug to x = if is_within plug x then to + (x - plug.place) else go x
 
--- The old heap with the run at the item's front. Slots, and all other objects, are as they were. What is left of the
--- item is free, and so is where each object stood, which says where it went. None of them is marked any more, and all
--- others are as they were.
+-- The old heap with the run at the item's front. Slots, headers, and all other objects, are as they were. What is left
+-- of the item is free, and so is where each object stood, which says where it went. None of them is marked any more,
+-- and all others are as they were. Padding stays zero.
 pub record HasCarriedRun (rows : List TypeRow) (old new : HeapView) (run : List Item) (plug item : Piece) : Type 0 where
   pub objects : objects_in rows new
       ≡ sorted_by (λ o. o.name) (map (moved_object (run_of plug item.place)) (objects_in rows old))
@@ -56,7 +55,9 @@ pub record HasCarriedRun (rows : List TypeRow) (old new : HeapView) (run : List 
       ≡ (if is_within plug o.place then false else is_marked old o)
   pub words : (b : ℕ) → b % 8 ≡ 0 → (b + 8 < item.place) ⊎ (piece_end item ≤ b + 8)
       → (b + 8 < plug.place) ⊎ (piece_end plug ≤ b + 8) → word_of new b ≡ word_of old b
-  pub clean : AreClean rows old → AreClean rows new
+  pub headers : (o : Object) → IsIn o (objects_in rows old)
+      → word_of new ((moved_object (run_of plug item.place) o).place - 8) ≡ word_of old (o.place - 8)
+  pub padding : ArePadded rows old → ArePadded rows new
   pub forwards : (go : ℕ → ℕ) → HasForwards rows old go → IsUnmovedIn go item
       → HasForwards rows new (going_along go plug item.place)
   pub shape : SameShape old new

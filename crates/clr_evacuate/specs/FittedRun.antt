@@ -3,11 +3,11 @@ use Rattle.std.specs.Prelude.{◌≡◌, ℕ, ◌<◌, ◌≤◌, ◌^◌, true,
 use Rattle.std.specs.List.{AllByRecursion}
 use Rattle.clr_types.specs.Ranges.{Piece, piece_end}
 use Rattle.clr_types.specs.Rising.{IsIn}
-use Rattle.clr_types.specs.Segments.{Layout}
+use Rattle.clr_types.specs.Segments.{ephemeral, Layout, stands_in}
 use Rattle.clr_types.specs.Types.{TypeRow}
 use Rattle.clr_types.specs.declared.item.Item.{Item}
 use Rattle.clr_heap.specs.Parts.{item_piece}
-use Rattle.clr_heap.specs.View.{heap_items, HeapView}
+use Rattle.clr_heap.specs.View.{frame, heap_items, HeapView}
 use Rattle.clr_model.specs.Fitting.{is_older_item, older_items, taken_from}
 use Rattle.clr_view.specs.View.{is_object, layout_in}
 use Rattle.clr_evacuate.specs.CarriedRun.{HasCarriedRun}
@@ -19,7 +19,7 @@ pub record AreOlder (layout : Layout) : Type 0 where
       → is_older_item layout q ≡ true
   pub below : (p : Piece) → IsIn p (older_items layout) → piece_end p ≤ layout.start1
 
--- objects side by side, from the first boundary on, none of which stands where older items do
+-- objects side by side in generation 1 of the ephemeral segment, none of which stands where older items do
 pub record IsYoungRun (rows : List TypeRow) (h : HeapView) (run : List Item) (plug : Piece) : Type 0 where
   pub listed : AllByRecursion (λ (i : Item). IsIn i (heap_items rows h)) run
   pub objects : AllByRecursion (λ (i : Item). is_object i ≡ true) run
@@ -28,6 +28,8 @@ pub record IsYoungRun (rows : List TypeRow) (h : HeapView) (run : List Item) (pl
   pub least : 24 ≤ plug.size
   pub small : plug.size < 2 ^ 62
   pub above : h.start1 ≤ plug.place
+  pub inside : AllByRecursion (λ (i : Item). stands_in (ephemeral (frame h)) i.place ≡ true) run
+  pub below : piece_end plug ≤ h.start0
 
 -- the run is at the item's front, and the older items are the others and what is left of this one
 pub record HasGoneInto (rows : List TypeRow) (old new : HeapView) (run : List Item) (plug item : Piece) : Type 0 where

@@ -8,3 +8,4 @@ pub mod Hints
 pub mod CarriedRun
 pub mod FittedRun
 pub mod FittedAll
+pub mod Evacuated

@@ -1,5 +1,5 @@
 -- The older free items, all of them and segment by segment.
-use Rattle.std.specs.Prelude.{◌≡◌, ℕ, ◌<◌, false, ◌&&◌, List, filter, nat_le, nat_lt}
+use Rattle.std.specs.Prelude.{◌≡◌, ℕ, ◌<◌, false, ◌&&◌, List, filter, length, nat_le, nat_lt}
 use Rattle.clr_types.specs.Rising.{IsIn}
 use Rattle.clr_types.specs.Types.{TypeRow}
 use Rattle.clr_types.specs.Ranges.{fits, Piece}
@@ -7,7 +7,7 @@ use Rattle.clr_types.specs.Segments.{Layout}
 use Rattle.clr_types.specs.declared.item.Item.{Item}
 use Rattle.clr_types.specs.declared.segment.SegKind.{SegKind}
 use Rattle.clr_types.specs.declared.segment.SegKind.TheVariants.{Ephemeral, Large, Pinned, Small}
-use Rattle.clr_heap.specs.View.{HeapView, last_of, listing, segment_at}
+use Rattle.clr_heap.specs.View.{first_of, HeapView, last_of, listing, segment_at}
 use Rattle.clr_model.specs.Fitting.{older_items}
 use Rattle.clr_view.specs.View.{free_among}
 
@@ -41,3 +41,12 @@ free_between low high items = filter (λ p. nat_lt p.place high && nat_le low p.
 -- the older items of segment k from a place on
 abbrev pub older_in : List TypeRow → HeapView → ℕ → ℕ → List Piece
 older_in rows h k low = free_between low (older_end h k) (listing rows h k)
+
+-- ---- where a search may begin
+
+-- A search may begin at the place: where it is one of generation 2 in a segment of the small heap, and not below all
+-- items of it, an item begins there.
+abbrev pub CanSearchFrom : List TypeRow → HeapView → ℕ → Type 0
+CanSearchFrom rows h from =
+    (k : ℕ) → k < length h.segments → first_of h k < from → from < older_end h k
+    → (i : Item) × IsIn i (listing rows h k) × (i.place ≡ from)

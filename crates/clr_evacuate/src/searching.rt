@@ -1,9 +1,11 @@
 // The lowest older free item in which a size fits.
 ghost use Rattle.std.specs.Prelude.{◌≡◌, ℕ, ◌+◌, ◌<◌, ◌≤◌, ◌^◌, length};
-ghost use Rattle.clr_heap.specs.View.{listing};
+ghost use Rattle.clr_heap.specs.View.{last_of, listing, no_rests};
 ghost use Rattle.clr_model.specs.Fitting.{lowest_item, older_items};
 ghost use Rattle.clr_view.specs.View.{IsHeld, layout_in};
-ghost use Rattle.clr_evacuate.specs.Searching.{free_between, HasNoRoomBelow, older_end, older_from, older_in};
+ghost use Rattle.clr_generations.specs.Renewing.{CanBegin};
+ghost use Rattle.clr_evacuate.specs.Searching.{CanSearchFrom, free_between, HasNoRoomBelow, older_end, older_from};
+ghost use Rattle.clr_evacuate.specs.Searching.{older_in};
 
 use clr_heap::{Heap, SegKind};
 use clr_items::fits_in;
@@ -12,9 +14,12 @@ use clr_types::{Span, Types};
 /// The lowest free item of generation 2 of the small heap at `from` or above it in which a size fits: `None` where it
 /// fits in none. Where it fits in none below `from`, that is the lowest of all.
 ///
-/// It reads no item of a generation below 2 but the first one.
+/// It reads no item below `from`, and none of a generation below 2. Where `from` is the place of one of generation 2
+/// in a segment, an item begins there.
 pub fn find_item(heap: &Heap, types: &Types, size: u64, from: u64) -> Option<Span>
     requires held { IsHeld types.now heap.now }
+    requires no_contexts { heap.now.rests ≡ no_rests }
+    requires begins { CanSearchFrom types.now heap.now from }
     requires small { size < 2 ^ 62 }
     ensures from_there { result ≡ lowest_item size (older_from from (layout_in types.now heap.now)) }
     ensures lowest { HasNoRoomBelow size from (layout_in types.now heap.now)
@@ -33,13 +38,18 @@ pub fn find_item(heap: &Heap, types: &Types, size: u64, from: u64) -> Option<Spa
 // The lowest of those that segment `k` has.
 fn find_in(heap: &Heap, types: &Types, k: usize, size: u64, from: u64) -> Option<Span>
     requires held { IsHeld types.now heap.now }
+    requires no_contexts { heap.now.rests ≡ no_rests }
+    requires begins { CanSearchFrom types.now heap.now from }
     requires in_range { k < length heap.now.segments }
     requires small { size < 2 ^ 62 }
     ensures { result ≡ lowest_item size (older_in types.now heap.now k from) }
 {
-    let end = older_end(heap, k);
+    let segment = heap.info(k);
+    // no item stands above the segment's end, wherever the boundary is
+    let end = older_end(heap, k).min(segment.end);
+    let start = from.max(segment.first_place());
     if from < end {
-        first_between(heap, types, k, from, end, size)
+        first_between(heap, types, k, start, end, size)
     } else {
         None
     }
@@ -58,28 +68,31 @@ fn older_end(heap: &Heap, k: usize) -> u64
     }
 }
 
-// The first free item of segment `k` in which a size fits, from one place on and below another.
+// The first free item of segment `k` in which a size fits, from a place on where a walk can begin, and below another.
 fn first_between(
     heap: &Heap,
     types: &Types,
     k: usize,
-    from: u64,
+    start: u64,
     end: u64,
     size: u64,
 ) -> Option<Span>
     requires held { IsHeld types.now heap.now }
+    requires no_contexts { heap.now.rests ≡ no_rests }
     requires in_range { k < length heap.now.segments }
+    requires begins { start < last_of heap.now k → CanBegin types.now heap.now k start }
+    requires within { end ≤ last_of heap.now k }
     requires small { size < 2 ^ 62 }
-    ensures { result ≡ lowest_item size (free_between from end (listing types.now heap.now k)) }
+    ensures { result ≡ lowest_item size (free_between start end (listing types.now heap.now k)) }
 {
     heap.lawful();
-    for found in heap.walk(types, k) {
-        if found.place >= end {
-            return None;
+    let mut place = start;
+    while place < end {
+        let found = heap.item_of_word(types, k, place, heap.word_at(k, place));
+        if found.type_id.0 == 0 && fits_in(size, found.size) {
+            return Some(Span::between(place, place + found.size));
         }
-        if found.type_id.0 == 0 && found.place >= from && fits_in(size, found.size) {
-            return Some(Span::between(found.place, found.place + found.size));
-        }
+        place += found.size;
     }
     None
 }

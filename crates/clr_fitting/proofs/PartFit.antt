@@ -179,10 +179,10 @@ module _ (m : Machine) (h : IsLaid m) where
   older_are_items = from_items (older_items m.layout) older-are
 
   module _ (bare : rest_pieces m.layout.rests ≡ []) (kept : ℕ → Bool) where
-    -- a piece inside an older item is of generation 2, too, and of the small heap
-    inside-older : (i x : Piece) → IsIn i (older_items m.layout) → i.place ≤ x.place → piece_end x ≤ piece_end i
-        → 24 ≤ x.size → is_older_item m.layout x ≡ true
-    inside-older i x n low high least =
+    -- a place inside an older item is of generation 2, too, and of the small heap
+    pub inside-older : (i x : Piece) → IsIn i (older_items m.layout) → i.place ≤ x.place → x.place < piece_end i
+        → is_older_item m.layout x ≡ true
+    inside-older i x n low high =
         let (older, among) = item-free i n in
         let (home, age) = and_parts
         (list_any (λ s. is_small_or_ephemeral s.kind && stands_in s i.place) m.layout.segments)
@@ -218,9 +218,9 @@ module _ (m : Machine) (h : IsLaid m) where
           let at : IsTile g.item.place (piece_end g.item) l =
           tile g.item.place (piece_end g.item) (filled.filling_pieces g) l (all_at filled.IsFilling n fills.filled)
           (append_right (map piece_of_move g.moves) k) in
-          let gap = at.low_gap in let (a, b) = at.size in
+          let gap = at.low_gap in let (a, b) = at.size in let end = at.high_end in
           inside-older g.item l (subst (IsIn g.item) fills.items_are (IsIn-map (λ f. f.item) n)) (omega arith)
-          at.high_end a
+          (omega arith)
 
       vacated-younger : (x : Piece)
           → IsIn x (map survivor_piece (filter (λ k. is_moved f.moves k.place) (survivors m 1 kept)))

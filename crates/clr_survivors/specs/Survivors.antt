@@ -1,6 +1,6 @@
 -- What a compacting collection moves: what it leaves, and all that names it.
 use Rattle.std.specs.Prelude.{◌≡◌, ℕ, ◌+◌, ◌-◌, ◌^◌, min, ◌<◌, ◌≤◌, ◌⊎◌, Bool, true, false, ◌&&◌, ◌==◌, List, map}
-use Rattle.std.specs.Prelude.{filter}
+use Rattle.std.specs.Prelude.{filter, MatchBool}
 use Rattle.std.specs.Prelude.{if◌then◌else◌, slice_get, Some}
 use Rattle.std.specs.List.{list_any}
 use Rattle.std.specs.FinMap as finmap
@@ -19,8 +19,9 @@ use Rattle.clr_handles.specs.Laws.{relocated}
 use Rattle.clr_heap.specs.View.{HeapView}
 use Rattle.clr_model.specs.Collection.{bytes_promoted}
 use Rattle.clr_model.specs.Compaction.{IsCompacted, Move, moved_by}
+use Rattle.clr_model.specs.Fitting.{IsFitted}
 use Rattle.clr_model.specs.Machine.{Machine, Object, ref}
-use Rattle.clr_model.specs.Sweep.{survivors, swept_others}
+use Rattle.clr_model.specs.Sweep.{Survivor, survivors, swept_others}
 use Rattle.clr_view.specs.Memory.{is_left, IsLeft}
 use Rattle.clr_view.specs.View.{layout_in, objects_in}
 use Rattle.clr_view.specs.World.{World}
@@ -76,13 +77,19 @@ abbrev pub left_objects : List TypeRow → HeapView → ℕ → List Move → Li
 left_objects rows h g vs =
     map (λ o. moved_object vs (relocated_object vs o)) (filter (is_left h g) (objects_in rows h))
 
--- The old world after a compacting collection of generation g of a machine whose memory its heap is: the marked objects
--- of the small heap went where these moves take them, and all names went along. Large objects stay or are swept.
-pub record HaveMoved (old new : World) (g : ℕ) (n : Machine) (kept : ℕ → Bool) (promoted1 promoted2 : ℕ)
-    (slides_before slides_after : ℕ) : Type 0 where
+-- these moves compact the survivors, or fit those of generation 1 into older items and compact the others
+abbrev pub GoBy : Bool → Layout → ℕ → List Survivor → List Move → Layout → Type 0
+GoBy fitted layout g kept moves after =
+    MatchBool fitted (IsFitted layout kept moves after) (IsCompacted layout g kept moves after)
+
+-- The old world after a compacting collection of generation g of a machine whose memory its heap is, with a fit or
+-- without one: the marked objects of the small heap went where these moves take them, and all names went along. Large
+-- objects stay or are swept.
+pub record HaveMoved (fitted : Bool) (old new : World) (g : ℕ) (n : Machine) (kept : ℕ
+    → Bool) (promoted1 promoted2 slides_before slides_after : ℕ) : Type 0 where
   pub moves : List Move
   pub after : Layout
-  pub compacted : IsCompacted n.layout g (survivors n g kept) moves after
+  pub compacted : GoBy fitted n.layout g (survivors n g kept) moves after
   pub null : moved_by moves 0 ≡ 0
   pub objects : objects_in new.rows new.heap ≡ sorted_by (λ o. o.name) (left_objects old.rows old.heap g moves)
   pub layout : layout_in new.rows new.heap

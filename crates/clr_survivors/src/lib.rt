@@ -7,6 +7,7 @@
 
 pub use crate::large::slide_large_heap;
 pub use crate::moving::move_survivors;
+pub use crate::pins::set_pins;
 
 mod condemned;
 mod large;

@@ -1,5 +1,5 @@
 // What survives a compacting collection goes where its plan takes it.
-ghost use Rattle.std.specs.Prelude.{◌≡◌, ℕ, ◌+◌, ◌-◌, ◌≤◌, ◌^◌, Bool, [], length, min, true};
+ghost use Rattle.std.specs.Prelude.{◌≡◌, ℕ, ◌+◌, ◌-◌, ◌≤◌, ◌^◌, Bool, [], false, length, min, true};
 ghost use Rattle.clr_handles.specs.Tops.{pinned_in};
 ghost use Rattle.clr_heap.specs.View.{no_rests};
 ghost use Rattle.clr_model.specs.Lawful.{IsLaid};
@@ -82,7 +82,7 @@ pub fn move_survivors(
     requires room { pinned_in handles.old + 4 ≤ pins.old.spare }
     ensures moved { (n : Machine) (kept : ℕ → Bool) → IsMemoryOf types.now heap.old n → IsLaid n
         → n.handles ≡ handles.old → TestsMarks types.now heap.old g kept
-        → HaveMoved (world_with types.now heap.old locals.old handles.old finals.old)
+        → HaveMoved false (world_with types.now heap.old locals.old handles.old finals.old)
         (world_with types.now heap.new locals.new handles.new finals.new) g n kept result.to1 result.to2
         slides.old slides.new }
     ensures held { IsHeld types.now heap.new }

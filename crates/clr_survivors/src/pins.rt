@@ -9,9 +9,11 @@ use clr_handles::Handles;
 use clr_heap::Heap;
 use clr_types::{Handle, Types, header};
 
-// Says in the headers of all targets of pinned handles, as far as they stand at `low` or above it, whether they are
-// pinned.
-pub(crate) fn set_pins(heap: &mut Heap, types: &Types, handles: &Handles, low: u64, on: bool)
+/// Says in the headers of all targets of pinned handles, as far as they stand at `low` or above it, whether they are
+/// pinned. Null pins nothing. All else stays.
+///
+/// The targets of pinned handles are objects of the heap.
+pub fn set_pins(heap: &mut Heap, types: &Types, handles: &Handles, low: u64, on: bool)
     requires held { IsHeld types.now heap.old }
     requires stand { PinsStand types.now heap.old handles.now }
     ensures { HasPins types.now heap.old heap.new handles.now low 65536 on }

@@ -1,17 +1,20 @@
 use Rattle.std.proofs.Common.{◌∙◌}
-use Rattle.clr_view.specs.View.{layout_in}
-use Rattle.clr_evacuate.proofs.HintFacts.{none-below}
+use Rattle.clr_evacuate.proofs.HintFacts.{starts-found}
 use Rattle.clr_evacuate.proofs.hints.find_lowest.Goals as goal
+
+pub find_item-found-requires-clause-begins : goal.find_item-found-requires-clause-begins
+find_item-found-requires-clause-begins c =
+    (c.start_for-from.ensures c.args.types.now c.args.heap.now c.requires.hints).begins
 
 pub returns-clause-lowest : goal.returns-clause-lowest
 returns-clause-lowest c =
-    let layout = layout_in c.args.types.now c.args.heap.now in
     c.learned.ensures.same
-    ∙ c.find_item-found.ensures.lowest (c.start_for-from.ensures layout c.requires.hints)
+    ∙ c.find_item-found.ensures.lowest
+    (c.start_for-from.ensures c.args.types.now c.args.heap.now c.requires.hints).none_below
 
 pub returns-clause-hints : goal.returns-clause-hints
 returns-clause-hints c =
-    let layout = layout_in c.args.types.now c.args.heap.now in
-    c.learned.ensures.hints layout c.requires.hints (λ place at.
-    none-below c.args.types.now c.args.heap.now c.lawful.ensures c.requires.held c.args.size place
-    c.find_item-found.result (c.find_item-found.ensures.lowest (c.start_for-from.ensures layout c.requires.hints)) at)
+    let start = c.start_for-from.ensures c.args.types.now c.args.heap.now c.requires.hints in
+    c.learned.ensures.hints c.args.types.now c.args.heap.now c.requires.hints
+    (starts-found c.args.types.now c.args.heap.now c.lawful.ensures c.requires.held c.requires.order c.args.size
+    c.find_item-found.result (c.find_item-found.ensures.lowest start.none_below))

@@ -3,6 +3,7 @@ use Rattle.clr_model.specs.Fitting.{lowest_item, older_items}
 use Rattle.clr_view.specs.View.{layout_in}
 use Rattle.clr_evacuate.specs.FittedRun.{HasFitted}
 use Rattle.clr_evacuate.proofs.FittedRuns.{can_go, hints_after, lowest_is, older_after, still_older}
+use Rattle.clr_evacuate.proofs.OldHomes.{older_home, run_inside}
 use Rattle.clr_evacuate.proofs.plugs.carry_fitting.Goals as goal
 
 pub carry_plug-requires-clause-can : goal.carry_plug-requires-clause-can
@@ -14,6 +15,30 @@ carry_plug-requires-clause-can c =
     ∙ sym c.find_lowest-found.ensures.lowest ∙ c.in-Some.is in
     (c.requires.run.0, can_go rows h c.requires.run.0 c.args.plug c.in-Some.item c.requires.older c.requires.run.1 e)
 
+pub carry_plug-requires-clause-inside : goal.carry_plug-requires-clause-inside
+carry_plug-requires-clause-inside c =
+    run_inside c.args.types.now c.args.heap.now c.lawful.ensures c.requires.held c.requires.run.0 c.args.plug
+    c.requires.run.1
+
+pub carry_plug-requires-clause-below : goal.carry_plug-requires-clause-below
+carry_plug-requires-clause-below c = c.requires.run.1.below
+
+pub carry_plug-requires-clause-home : goal.carry_plug-requires-clause-home
+carry_plug-requires-clause-home c =
+    let rows = c.args.types.now in
+    let h = c.args.heap.now in
+    let e : lowest_item c.args.plug.size (older_items (layout_in rows h)) ≡ Some c.in-Some.item =
+    ap (λ (n : ℕ). lowest_item n (older_items (layout_in rows h))) (sym c.size.ensures.value)
+    ∙ sym c.find_lowest-found.ensures.lowest ∙ c.in-Some.is in
+    older_home rows h c.in-Some.item c.requires.older
+    (lowest_is c.args.plug.size (older_items (layout_in rows h)) c.in-Some.item e).0
+
+pub returns-in-Some-clause-bricks : goal.returns-in-Some-clause-bricks
+returns-in-Some-clause-bricks c = c.carry_plug.ensures.bricks
+
+pub returns-in-Some-clause-spans : goal.returns-in-Some-clause-spans
+returns-in-Some-clause-spans c = c.carry_plug.ensures.spans
+
 pub returns-in-Some-clause-fitted : goal.returns-in-Some-clause-fitted
 returns-in-Some-clause-fitted c run is =
     let rows = c.args.types.now in
@@ -23,7 +48,7 @@ returns-in-Some-clause-fitted c run is =
     ap (λ (n : ℕ). lowest_item n (older_items (layout_in rows h))) (sym c.size.ensures.value)
     ∙ sym c.find_lowest-found.ensures.lowest ∙ c.in-Some.is in
     let there = (lowest_is c.args.plug.size (older_items (layout_in rows h)) c.in-Some.item e).0 in
-    let carried = c.carry_plug.ensures run
+    let carried = c.carry_plug.ensures.carried run
     (can_go rows h run c.args.plug c.in-Some.item c.requires.older is e) in
     subst (HasFitted rows h new run c.args.plug c.size-in-Some.result) (sym e) (
       record {
@@ -44,7 +69,7 @@ returns-in-Some-clause-older c =
     let there = (lowest_is c.args.plug.size (older_items (layout_in rows h)) c.in-Some.item e).0 in
     still_older rows h c.carry_plug.new.heap c.requires.run.0 c.args.plug c.in-Some.item c.lawful.ensures
     c.requires.held c.requires.older c.requires.run.1 there
-    (c.carry_plug.ensures c.requires.run.0
+    (c.carry_plug.ensures.carried c.requires.run.0
     (can_go rows h c.requires.run.0 c.args.plug c.in-Some.item c.requires.older c.requires.run.1 e))
 
 pub returns-in-Some-clause-hints : goal.returns-in-Some-clause-hints
@@ -55,8 +80,8 @@ returns-in-Some-clause-hints c =
     ap (λ (n : ℕ). lowest_item n (older_items (layout_in rows h))) (sym c.size.ensures.value)
     ∙ sym c.find_lowest-found.ensures.lowest ∙ c.in-Some.is in
     let there = (lowest_is c.args.plug.size (older_items (layout_in rows h)) c.in-Some.item e).0 in
+    let can = can_go rows h c.requires.run.0 c.args.plug c.in-Some.item c.requires.older c.requires.run.1 e in
     hints_after rows h c.carry_plug.new.heap c.requires.run.0 c.args.plug c.in-Some.item c.lawful.ensures
-    c.requires.held c.requires.older c.requires.run.1 there
-    (c.carry_plug.ensures c.requires.run.0
-    (can_go rows h c.requires.run.0 c.args.plug c.in-Some.item c.requires.older c.requires.run.1 e))
-    c.find_lowest-found.new.hints.hints c.find_lowest-found.ensures.hints
+    c.requires.held c.requires.older c.requires.run.1 there (c.carry_plug.ensures.carried c.requires.run.0 can)
+    c.lawful-in-Some.ensures c.requires.order can c.find_lowest-found.new.hints.hints
+    c.find_lowest-found.ensures.hints

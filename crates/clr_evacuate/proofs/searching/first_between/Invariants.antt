@@ -1,5 +1,9 @@
-use Rattle.clr_evacuate.proofs.FirstBetween.{IsWalking}
+use Rattle.std.proofs.Common.{◌-◌}
+use Rattle.clr_evacuate.proofs.Searches.{IsSearching}
 use Rattle.clr_evacuate.proofs.searching.first_between.Given as goal
 
-abbrev pub invariant-loop-found : goal.invariant-loop-found
-invariant-loop-found l = IsWalking l.from l.end l.size l.initial.found-iterator l.found-iterator
+abbrev pub invariant-loop-place : goal.invariant-loop-place
+invariant-loop-place l = IsSearching l.types l.heap l.k l.start l.size l.place
+
+abbrev pub decreases-loop-place : goal.decreases-loop-place
+decreases-loop-place l = l.end - l.place

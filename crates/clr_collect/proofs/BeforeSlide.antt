@@ -6,13 +6,16 @@ use Rattle.std.proofs.lemmas.Bool.{eqb-true}
 use Rattle.clr_types.specs.Segments.{rest_pieces}
 use Rattle.clr_model.specs.declared.Collected.{Collected}
 use Rattle.clr_model.specs.declared.How.{How}
+use Rattle.clr_model.specs.declared.How.TheVariants.{Compact, Decide, Fit, Sweep}
 use Rattle.clr_model.specs.Collection.{begun, Collects, ended, IsCollected, is_fit, released, SlidesIf}
 use Rattle.clr_model.specs.Lawful.{IsLawful, IsPlaceNamed}
+use Rattle.clr_model.specs.Laws.{IsUsual}
 use Rattle.clr_model.specs.Lookups.{lowest_in_step}
 use Rattle.clr_model.specs.Machine.{Machine}
 use Rattle.clr_model.specs.Picture.{picture}
 use Rattle.clr_model.specs.Reach.{StartOf}
 use Rattle.clr_model.proofs.CollectedLawful.{mid_bare, mid_lawful, plain_lawful, plain_rests}
+use Rattle.clr_model.proofs.FitLawful.{fit_bare, fit_lawful}
 use Rattle.clr_model.proofs.PlainCollections.{plain_from, PlainlyCollects}
 use Rattle.clr_model.proofs.SeenSound.{picture_sound}
 use Rattle.clr_model.proofs.SeenStands.{picture_still}
@@ -34,28 +37,58 @@ Ends slides g gone new =
     (n : Machine) → IsWorldOf gone n → IsPlaceNamed n
     → (slid : Machine) × SlidesIf slides n slid × IsWorldOf new (ended g (picture slid))
 
-module _ (m : Machine) (named : IsPlaceNamed m) (idle : lowest_in_step m ≡ None) (g : ℕ) (least : g ≤ 2) (how : How)
-    (plain : is_fit how ≡ false) (answer : Collected) (mid : Machine)
+-- ---- it is lawful
+
+-- lawful, and without contexts
+abbrev pub IsLeft : Machine → Type 0
+IsLeft w = IsLawful w × (rest_pieces w.layout.rests ≡ [])
+
+-- where no survivors went into older items
+plain_comes : (m : Machine) → IsLawful m → lowest_in_step m ≡ None → (g : ℕ) → g ≤ 2 → (how : How)
+    → is_fit how ≡ false → (answer : Collected) (mid : Machine)
+    → IsCollected (begun m) g how false (StartOf (begun m) g) answer mid → IsLeft mid
+plain_comes m h idle g least how plain answer mid d = go (g == 2) refl
+  where
+    go : (b : Bool) → (g == 2) ≡ b → IsLeft mid
+    go true e =
+        let full : IsCollected (begun m) 2 how false (StartOf (begun m) 2) answer mid =
+        subst (λ n. IsCollected (begun m) n how false (StartOf (begun m) n) answer mid) (eqb-true g 2 e) d in (
+          mid_lawful m h idle how plain answer mid full,
+          mid_bare m h idle how plain answer mid full,
+        )
+    go false e =
+        let p : PlainlyCollects m g how answer mid =
+        plain_from (begun m) g how false (StartOf (begun m) g) answer plain mid mid d
+        (ap (λ (b : Bool). record mid { layout = if b then released mid.layout mid.objects else mid.layout })
+        (sym e)) in (
+          plain_lawful m h idle g least how answer mid p (λ x s. s),
+          plain_rests m h idle g least how answer mid p (λ x s. s),
+        )
+
+-- and where they did
+fit_comes : (m : Machine) → IsLawful m → lowest_in_step m ≡ None → (answer : Collected) (mid : Machine)
+    → IsCollected (begun m) 1 Fit false (StartOf (begun m) 1) answer mid → IsLeft mid
+fit_comes m h idle answer mid d = (fit_lawful m h answer mid d idle, fit_bare m h answer mid d)
+
+-- so in every collection of a usual kind
+kind_comes : (m : Machine) → IsLawful m → lowest_in_step m ≡ None → (g : ℕ) (how : How) → IsUsual g how
+    → (answer : Collected) (mid : Machine)
+    → IsCollected (begun m) g how false (StartOf (begun m) g) answer mid → IsLeft mid
+kind_comes m h idle g Decide usual answer mid d = plain_comes m h idle g usual Decide refl answer mid d
+kind_comes m h idle g Compact usual answer mid d = plain_comes m h idle g usual Compact refl answer mid d
+kind_comes m h idle g Sweep usual answer mid d = plain_comes m h idle g usual Sweep refl answer mid d
+kind_comes m h idle g Fit usual answer mid d =
+    fit_comes m h idle answer mid
+    (subst (λ n. IsCollected (begun m) n Fit false (StartOf (begun m) n) answer mid) usual d)
+
+-- ---- it is the whole
+
+module _ (m : Machine) (named : IsPlaceNamed m) (idle : lowest_in_step m ≡ None) (g : ℕ) (how : How)
+    (usual : IsUsual g how) (answer : Collected) (mid : Machine)
     (d : IsCollected (begun m) g how false (StartOf (begun m) g) answer mid) where
   -- lawful, and without contexts
-  pub comes_lawful : IsLawful mid × (rest_pieces mid.layout.rests ≡ [])
-  comes_lawful = go (g == 2) refl
-    where
-      go : (b : Bool) → (g == 2) ≡ b → IsLawful mid × (rest_pieces mid.layout.rests ≡ [])
-      go true e =
-          let full : IsCollected (begun m) 2 how false (StartOf (begun m) 2) answer mid =
-          subst (λ n. IsCollected (begun m) n how false (StartOf (begun m) n) answer mid) (eqb-true g 2 e) d in (
-            mid_lawful m named.lawful idle how plain answer mid full,
-            mid_bare m named.lawful idle how plain answer mid full,
-          )
-      go false e =
-          let p : PlainlyCollects m g how answer mid =
-          plain_from (begun m) g how false (StartOf (begun m) g) answer plain mid mid d
-          (ap (λ (b : Bool). record mid { layout = if b then released mid.layout mid.objects else mid.layout })
-          (sym e)) in (
-            plain_lawful m named.lawful idle g least how answer mid p (λ x s. s),
-            plain_rests m named.lawful idle g least how answer mid p (λ x s. s),
-          )
+  pub comes_lawful : IsLeft mid
+  comes_lawful = kind_comes m named.lawful idle g how usual answer mid d
 
   -- named by places when it is seen
   pub comes_seen : IsPlaceNamed (picture mid)
@@ -100,16 +133,16 @@ module _ (m : Machine) (named : IsPlaceNamed m) (idle : lowest_in_step m ≡ Non
       )
 
 -- THE WHOLE COLLECTION of every machine whose world it is
-pub whole_collection : (w : World) (g : ℕ) → g ≤ 2 → (how : How) → is_fit how ≡ false → (threshold : ℕ)
+pub whole_collection : (w : World) (g : ℕ) (how : How) → IsUsual g how → (threshold : ℕ)
     (answer : Collected) (gone new : World) (slides slides_after : ℕ) (flag : Bool)
     → ComesTo w g how threshold answer gone slides slides_after → Ends (flag && (g == 2)) g gone new
     → (m : Machine) → IsWorldOf w m → IsPlaceNamed m → lowest_in_step m ≡ None → m.compacts_large ≡ flag
     → m.options.compact ≡ threshold
     → (after : Machine) × (c : Collects m g how answer after) × IsWorldOf new (picture after)
     × CountsSlides c.collects.moves answer slides slides_after
-whole_collection w g least how plain threshold answer gone new slides slides_after flag comes ends m is named idle same
+whole_collection w g how usual threshold answer gone new slides slides_after flag comes ends m is named idle same
     option =
     let (mid, d, seen, counts) = comes m is named idle option in
-    let (slid, s, world) = ends (picture mid) seen (comes_seen m named idle g least how plain answer mid d) in
-    comes_whole m named idle g least how plain answer mid d new slid
+    let (slid, s, world) = ends (picture mid) seen (comes_seen m named idle g how usual answer mid d) in
+    comes_whole m named idle g how usual answer mid d new slid
     (subst (λ (b : Bool). SlidesIf (b && (g == 2)) (picture mid) slid) (sym same) s) world slides slides_after counts

@@ -1,6 +1,7 @@
 -- A collection that compacts, for every generation and every machine: from tests of what it keeps, and the moves.
 use Rattle.std.proofs.Common.{◌≡◌, ℕ, ◌+◌, ◌==◌, ◌&&◌, Bool, true, false, not, if◌then◌else◌}
-use Rattle.std.proofs.Common.{List, [], ◌++◌, filter, map, count_by, sum_by, refl, ap, sym, ◌∙◌, subst}
+use Rattle.std.proofs.Common.{List, [], ◌++◌, filter, map, count_by, sum_by, refl, ap, ap₂, sym, ◌∙◌, subst}
+use Rattle.std.specs.Prelude.{MatchBool}
 use Rattle.std.specs.FinMap as finmap
 use Rattle.std.specs.List.{list_any}
 use Rattle.clr_types.specs.Rising.{sorted_by}
@@ -14,16 +15,17 @@ use Rattle.clr_types.proofs.ListMembers.{any-map, any-on, filter-map, map-map, m
 use Rattle.clr_types.proofs.MapValues.{values-map_values}
 use Rattle.clr_model.specs.declared.Collected.{Collected}
 use Rattle.clr_model.specs.declared.How.{How}
-use Rattle.clr_model.specs.Collection.{bytes_promoted, compacts, decides_to_compact, IsSmallLaid, marking_after}
-use Rattle.clr_model.specs.Collection.{kept_or_null}
-use Rattle.clr_model.specs.Collection.{object_after, objects_after, released, row_after, row_of_kind, sums_after}
-use Rattle.clr_model.specs.Compaction.{IsCompacted, Move, moved_by}
+use Rattle.clr_model.specs.Collection.{bytes_promoted, compacts, decides_to_compact, is_fit, IsCollected, IsSmallLaid}
+use Rattle.clr_model.specs.Collection.{kept_or_null, marking_after}
+use Rattle.clr_model.specs.Collection.{object_after, objects_after, row_after, row_of_kind, sums_after}
+use Rattle.clr_model.specs.Compaction.{Move, moved_by}
+use Rattle.clr_model.specs.Fitting.{IsFitted}
 use Rattle.clr_model.specs.Lookups.{is_pinned, object_size}
 use Rattle.clr_model.specs.Machine.{Machine, Object}
 use Rattle.clr_model.specs.Reach.{StartOf, woken}
 use Rattle.clr_model.specs.Sweep.{is_condemned, Survivor, survivor, survivors, swept_others}
 use Rattle.clr_collect.specs.Collecting.{objects_unflagged, TestsKept}
-use Rattle.clr_model.proofs.PlainCollections.{IsPlainlyCollected}
+use Rattle.clr_survivors.specs.Survivors.{GoBy}
 
 -- ---- pins
 
@@ -101,9 +103,10 @@ module _ (m : Machine) (g : ℕ) (first kept : ℕ → Bool) where
 
   -- ---- the collection
 
-  module _ (tests : TestsKept m (StartOf m g) first kept) (how : How) (moves : List Move) (small : Layout)
+  module _ (tests : TestsKept m (StartOf m g) first kept) (how : How) (fitted : Bool) (same : is_fit how ≡ fitted)
+      (moves : List Move) (small : Layout)
       (decided : compacts how (decides_to_compact m g (survivors m g kept)) ≡ true)
-      (compacted : IsCompacted m.layout g (survivors m g kept) moves small) where
+      (went : GoBy fitted m.layout g (survivors m g kept) moves small) where
     abbrev pub laid : Layout
     laid = if g == 2 then swept_others small 2 (survivors m g kept) else small
 
@@ -114,24 +117,27 @@ module _ (m : Machine) (g : ℕ) (first kept : ℕ → Bool) where
       handles = map_values (row_after first kept) m.handles;
       entries = filter first m.entries;
       ready = m.ready ++ woken m first;
-      layout = if g == 2 then released laid (objects_after m first kept moves) else laid;
+      layout = laid;
       sums = sums_after m g answer.promoted1 answer.promoted2;
       background = marking_after (g == 2) m.background;
     }
 
+    -- what counted so, and compacts or doesn't, with a fit or without one
+    abbrev pub moved_answer : Bool → Bool → Collected
+    moved_answer compacting fitting = record {
+      generation = g;
+      compacted = compacting;
+      fitted = fitting;
+      background = false;
+      kept = count_by (λ o. is_condemned m g o && kept o.name) m.objects;
+      freed = count_by (λ o. is_condemned m g o && not (kept o.name)) m.objects;
+      promoted1 = bytes_promoted m laid kept moves 0;
+      promoted2 = bytes_promoted m laid kept moves 1;
+    }
+
     -- THE COLLECTION: with these tests and moves, and what was counted
-    pub compaction_collects : (answer : Collected)
-        → answer ≡ record {
-          generation = g;
-          compacted = true;
-          fitted = false;
-          background = false;
-          kept = count_by (λ o. is_condemned m g o && kept o.name) m.objects;
-          freed = count_by (λ o. is_condemned m g o && not (kept o.name)) m.objects;
-          promoted1 = bytes_promoted m laid kept moves 0;
-          promoted2 = bytes_promoted m laid kept moves 1;
-        }
-        → IsPlainlyCollected m g how false (StartOf m g) answer (moved_machine answer)
+    pub compaction_collects : (answer : Collected) → answer ≡ moved_answer true fitted
+        → IsCollected m g how false (StartOf m g) answer (moved_machine answer)
     compaction_collects answer is = record {
       first = first;
       kept = kept;
@@ -142,51 +148,18 @@ module _ (m : Machine) (g : ℕ) (first kept : ℕ → Bool) where
       small = small;
       moves = moves;
       small_laid =
-          subst (λ (b : Bool). IsSmallLaid b m.layout g (survivors m g kept) moves small) (sym decided) compacted;
+          subst (λ (b : Bool). MatchBool b (IsFitted m.layout (survivors m g kept) moves small)
+          (IsSmallLaid (compacts how (decides_to_compact m g (survivors m g kept))) m.layout g (survivors m g kept)
+          moves small)) (sym same)
+          (subst (λ (b : Bool). MatchBool fitted (IsFitted m.layout (survivors m g kept) moves small)
+          (IsSmallLaid b m.layout g (survivors m g kept) moves small)) (sym decided) went);
       laid = laid;
       large_laid = refl;
-      answered =
-          is
-          ∙ ap (λ (b : Bool). record {
-            generation = g;
-            compacted = b;
-            fitted = false;
-            background = false;
-            kept = count_by (λ o. is_condemned m g o && kept o.name) m.objects;
-            freed = count_by (λ o. is_condemned m g o && not (kept o.name)) m.objects;
-            promoted1 = bytes_promoted m laid kept moves 0;
-            promoted2 = bytes_promoted m laid kept moves 1;
-          }) (sym decided);
+      answered = is ∙ sym (ap₂ moved_answer decided same);
       state = refl;
     }
 
-    pub compaction_moves : (answer : Collected)
-        (is : answer ≡ record {
-          generation = g;
-          compacted = true;
-          fitted = false;
-          background = false;
-          kept = count_by (λ o. is_condemned m g o && kept o.name) m.objects;
-          freed = count_by (λ o. is_condemned m g o && not (kept o.name)) m.objects;
-          promoted1 = bytes_promoted m laid kept moves 0;
-          promoted2 = bytes_promoted m laid kept moves 1;
-        })
+    pub compaction_moves : (answer : Collected) (is : answer ≡ moved_answer true fitted)
         → (compaction_collects answer is).moves ≡ moves
     unfolding compaction_collects
     compaction_moves answer is = refl
-
-    -- in its layout segments aren't released yet
-    pub compaction_laid : (answer : Collected)
-        (is : answer ≡ record {
-          generation = g;
-          compacted = true;
-          fitted = false;
-          background = false;
-          kept = count_by (λ o. is_condemned m g o && kept o.name) m.objects;
-          freed = count_by (λ o. is_condemned m g o && not (kept o.name)) m.objects;
-          promoted1 = bytes_promoted m laid kept moves 0;
-          promoted2 = bytes_promoted m laid kept moves 1;
-        })
-        → (compaction_collects answer is).laid ≡ laid
-    unfolding compaction_collects
-    compaction_laid answer is = refl

@@ -11,11 +11,12 @@ use Rattle.clr_final.specs.Queues.{Queues}
 use Rattle.clr_heap.specs.View.{HeapView}
 use Rattle.clr_model.specs.declared.Collected.{Collected}
 use Rattle.clr_model.specs.declared.How.{How}
-use Rattle.clr_model.specs.declared.How.TheVariants.{Compact}
-use Rattle.clr_model.specs.Collection.{begun, compacts, decides_to_compact, IsCollected}
+use Rattle.clr_model.specs.declared.How.TheVariants.{Compact, Decide, Fit, Sweep}
+use Rattle.clr_model.specs.Collection.{begun, compacts, decides_to_compact, is_fit, IsCollected}
 use Rattle.clr_model.specs.Compaction.{Move}
 use Rattle.clr_moves.specs.Moves.{moved_bytes}
 use Rattle.clr_model.specs.Lawful.{IsLaid, IsPlaceNamed}
+use Rattle.clr_model.specs.Laws.{IsUsual}
 use Rattle.clr_model.specs.Lookups.{lowest_in_step}
 use Rattle.clr_model.specs.Machine.{Machine}
 use Rattle.clr_model.specs.Picture.{picture}
@@ -31,22 +32,20 @@ use Rattle.clr_collect.proofs.BeforeSlide.{comes_seen, ComesTo}
 use Rattle.clr_collect.proofs.SweepCollects.{counted, freed-is, kept-is, survive-plain}
 use Rattle.clr_collect.proofs.WholeCollection.{begun_laid, due, due_laid, due_memory, older_kept}
 use Rattle.clr_collect.proofs.WholeMoved.{left, move_comes, ready_laid, ready_machine, ready_memory}
-use Rattle.clr_model.specs.Collection.{is_fit}
 
 module _ (w : World) (marked : HeapView) (handles : FinMap nat_cmp Handle) (queues : Queues)
     (g : ℕ) (least : g ≤ 2) (k : HasMarkedKept w (BlockingStart g) marked handles queues g) (gone : HeapView)
     (locals : List ℕ) (table : FinMap nat_cmp Handle) (after_queues : Queues)
-    (promoted1 promoted2 before_count after_count : ℕ)
+    (promoted1 promoted2 before_count after_count : ℕ) (fitted : Bool)
     (moves : (n : Machine) (kept : ℕ → Bool) → IsMemoryOf w.rows marked n → IsLaid n → n.handles ≡ handles
     → TestsMarks w.rows marked g kept
-    → HaveMoved (world_with w.rows marked w.locals handles queues) (world_with w.rows gone locals table after_queues)
-    g n
-    kept promoted1 promoted2 before_count after_count)
+    → HaveMoved fitted (world_with w.rows marked w.locals handles queues)
+    (world_with w.rows gone locals table after_queues) g n kept promoted1 promoted2 before_count after_count)
     (tally : Tally) (counts : tally ≡ tally_of w.rows marked g) (answer : Collected)
     (told : answer ≡ record {
       generation = g;
       compacted = true;
-      fitted = false;
+      fitted = fitted;
       background = false;
       kept = tally.kept;
       freed = tally.freed;
@@ -57,7 +56,7 @@ module _ (w : World) (marked : HeapView) (handles : FinMap nat_cmp Handle) (queu
   world = world_with w.rows gone locals table after_queues
 
   module _ (m : Machine) (is : IsWorldOf w m) (named : IsPlaceNamed m) where
-    moved : HaveMoved (world_with w.rows marked w.locals handles queues)
+    moved : HaveMoved fitted (world_with w.rows marked w.locals handles queues)
         (world_with w.rows gone locals table after_queues) g (ready_machine w marked handles queues g least k m)
         (left w marked handles queues g least k) promoted1 promoted2 before_count after_count
     moved =
@@ -68,7 +67,7 @@ module _ (w : World) (marked : HeapView) (handles : FinMap nat_cmp Handle) (queu
     answered : answer ≡ record {
       generation = g;
       compacted = true;
-      fitted = false;
+      fitted = fitted;
       background = false;
       kept = count_by (λ o. is_condemned (begun m) g o && left w marked handles queues g least k o.name) m.objects;
       freed = count_by (λ o. is_condemned (begun m) g o && not (left w marked handles queues g least k o.name))
@@ -81,7 +80,7 @@ module _ (w : World) (marked : HeapView) (handles : FinMap nat_cmp Handle) (queu
         ∙ ap (λ (t : Tally). record {
           generation = g;
           compacted = true;
-          fitted = false;
+          fitted = fitted;
           background = false;
           kept = t.kept;
           freed = t.freed;
@@ -91,7 +90,7 @@ module _ (w : World) (marked : HeapView) (handles : FinMap nat_cmp Handle) (queu
         ∙ (λ t. record {
           generation = g;
           compacted = true;
-          fitted = false;
+          fitted = fitted;
           background = false;
           kept =
               counted (begun m) (begun_laid w marked handles queues g least k m named) g least k.first
@@ -119,23 +118,23 @@ module _ (w : World) (marked : HeapView) (handles : FinMap nat_cmp Handle) (queu
         })
 
     -- of one machine
-    one_comes : (how : How) → is_fit how ≡ false
+    one_comes : (how : How) → IsUsual g how → is_fit how ≡ fitted
         → compacts how (decides_to_compact (begun m) g (survivors (begun m) g (left w marked handles queues g least k)))
         ≡ true
         → lowest_in_step m ≡ None
         → (mid : Machine) × (d : IsCollected (begun m) g how false (StartOf (begun m) g) answer mid)
         × IsWorldOf world (picture mid) × (d.moves ≡ moved.moves)
-    one_comes how unfitted decided idle =
+    one_comes how usual same decided idle =
         move_comes w marked handles queues g least k gone locals table after_queues m is named promoted1 promoted2
-        before_count after_count moved how unfitted decided answer answered idle
+        before_count after_count fitted moved how usual same decided answer answered idle
 
   -- WHAT IT COMES TO
-  pub moved_comes : (how : How) → is_fit how ≡ false → (threshold : ℕ)
+  pub moved_comes : (how : How) → IsUsual g how → is_fit how ≡ fitted → (threshold : ℕ)
       → ((m : Machine) (kept : ℕ → Bool) → IsMemoryOf w.rows marked m → IsLaid m
       → TestsMarks w.rows marked g kept → m.options.compact ≡ threshold
       → true ≡ compacts how (decides_to_compact m g (survivors m g kept)))
       → ComesTo w g how threshold answer world before_count after_count
-  moved_comes how unfitted threshold decides m is named idle option =
+  moved_comes how usual fits threshold decides m is named idle option =
       let decided : compacts how (decides_to_compact (begun m) g
       (survivors (begun m) g (left w marked handles queues g least k))) ≡ true =
       ap (λ (ss : List Survivor). compacts how (decides_to_compact (begun m) g ss))
@@ -144,7 +143,7 @@ module _ (w : World) (marked : HeapView) (handles : FinMap nat_cmp Handle) (queu
       ∙ sym (decides (due w marked handles queues g least k m) (left w marked handles queues g least k)
       (due_memory w marked handles queues g least k m is named) (due_laid w marked handles queues g least k m named)
       k.marks option) in
-      let (mid, d, seen, same) = one_comes m is named how unfitted decided idle in (
+      let (mid, d, seen, same) = one_comes m is named how usual fits decided idle in (
         mid,
         d,
         seen,
@@ -156,9 +155,19 @@ module _ (w : World) (marked : HeapView) (handles : FinMap nat_cmp Handle) (queu
             ∙ ap (λ (vs : List Move). min (2 ^ 64 - 1) (before_count + (1 + moved_bytes vs))) (sym same)),
       )
 
-  -- THE WORLD of what is left
-  pub known_moved : (m : Machine) × IsWorldOf w m × IsPlaceNamed m × (lowest_in_step m ≡ None)
+  -- what is left of one machine, by a kind that always compacts
+  one_left : (m : Machine) → IsWorldOf w m → IsPlaceNamed m → lowest_in_step m ≡ None → (how : How) → IsUsual g how
+      → is_fit how ≡ fitted
+      → ((decision : Bool) → compacts how decision ≡ true) → (n : Machine) × IsWorldOf world n × IsPlaceNamed n
+  one_left m is named idle how usual fits always =
+      let (mid, d, seen, same) = one_comes m is named how usual fits (always _) idle in
+      (picture mid, seen, comes_seen m named idle g how usual answer mid d)
+
+  -- THE WORLD of what is left, whatever its kind: it is that of a compaction, or of a fit
+  pub known_moved : (how : How) → IsUsual g how → is_fit how ≡ fitted
+      → (m : Machine) × IsWorldOf w m × IsPlaceNamed m × (lowest_in_step m ≡ None)
       → (n : Machine) × IsWorldOf world n × IsPlaceNamed n
-  known_moved (m, is, named, idle) =
-      let (mid, d, seen, same) = one_comes m is named Compact refl refl idle in
-      (picture mid, seen, comes_seen m named idle g least Compact refl answer mid d)
+  known_moved Decide usual fits (m, is, named, idle) = one_left m is named idle Compact usual fits (λ d. refl)
+  known_moved Compact usual fits (m, is, named, idle) = one_left m is named idle Compact usual fits (λ d. refl)
+  known_moved Sweep usual fits (m, is, named, idle) = one_left m is named idle Compact usual fits (λ d. refl)
+  known_moved Fit usual fits (m, is, named, idle) = one_left m is named idle Fit usual fits (λ d. refl)

@@ -13,10 +13,11 @@ use Rattle.clr_final.specs.Queues.{Queues}
 use Rattle.clr_heap.specs.View.{HeapView}
 use Rattle.clr_model.specs.declared.Collected.{Collected}
 use Rattle.clr_model.specs.declared.How.{How}
-use Rattle.clr_model.specs.declared.How.TheVariants.{Sweep}
+use Rattle.clr_model.specs.declared.How.TheVariants.{Compact, Decide, Fit, Sweep}
 use Rattle.clr_model.specs.Collection.{begun, compacts, decides_to_compact, is_fit, IsCollected, object_after}
 use Rattle.clr_model.specs.Collection.{objects_after}
 use Rattle.clr_model.specs.Lawful.{IsLaid, IsLawful, IsPlaceNamed}
+use Rattle.clr_model.specs.Laws.{IsUsual}
 use Rattle.clr_model.specs.Lookups.{lowest_in_step}
 use Rattle.clr_model.specs.Machine.{Machine, Object}
 use Rattle.clr_model.specs.Picture.{picture}
@@ -37,6 +38,13 @@ use Rattle.clr_collect.proofs.SweepCollects.{sweep_laid, swept_full, swept_machi
 use Rattle.clr_collect.proofs.SweptLayouts.{unreleased_tail}
 use Rattle.clr_collect.proofs.WholeCollection.{begun_laid, due, due_laid, due_memory, left, older_kept}
 use Rattle.clr_survivors.specs.Survivors.{HasObjects}
+
+-- what doesn't compact is no fit
+swept_plain : (how : How) (decision : Bool) → compacts how decision ≡ false → is_fit how ≡ false
+swept_plain Decide decision swept = refl
+swept_plain Compact decision swept = refl
+swept_plain Sweep decision swept = refl
+swept_plain Fit decision swept = absurd cc
 
 module _ (w : World) (marked : HeapView) (handles : FinMap nat_cmp Handle) (queues : Queues)
     (g : ℕ) (least : g ≤ 2) (k : HasMarkedKept w (BlockingStart g) marked handles queues g) (swept : HeapView)
@@ -77,7 +85,7 @@ module _ (w : World) (marked : HeapView) (handles : FinMap nat_cmp Handle) (queu
         (left w marked handles queues g least k) []
         ∙ sym (ap (λ (l : Layout). (ephemeral l).end) layout-is)
 
-    module _ (how : How) (plain : is_fit how ≡ false)
+    module _ (how : How) (usual : IsUsual g how) (plain : is_fit how ≡ false)
         (decided : compacts how (decides_to_compact (begun m) g (survivors (begun m) g
         (left w marked handles queues g least k))) ≡ false)
         (answer : Collected)
@@ -139,7 +147,7 @@ module _ (w : World) (marked : HeapView) (handles : FinMap nat_cmp Handle) (queu
       module _ (idle : lowest_in_step m ≡ None) where
         sound : IsPlaceNamed kept
         sound = record {
-          lawful = subst IsLawful mid-is (comes_lawful m named idle g least how plain answer mid collected).0;
+          lawful = subst IsLawful mid-is (comes_lawful m named idle g how usual answer mid collected).0;
           places = all_members (λ (o : Object). o.name ≡ o.place)
               (objects_after (begun m) k.first (left w marked handles queues g least k) []) (λ o i.
               let (q, e, j) = from-map (object_after (begun m) k.first []) o
@@ -162,7 +170,7 @@ module _ (w : World) (marked : HeapView) (handles : FinMap nat_cmp Handle) (queu
         )
 
   -- WHAT IT COMES TO, of every machine whose world it began with
-  pub swept_comes : (how : How) → is_fit how ≡ false → (threshold : ℕ)
+  pub swept_comes : (how : How) → IsUsual g how → (threshold : ℕ)
       → ((m : Machine) (kept : ℕ → Bool) → IsMemoryOf w.rows marked m → IsLaid m → TestsMarks w.rows marked g kept
       → m.options.compact ≡ threshold → false ≡ compacts how (decides_to_compact m g (survivors m g kept)))
       → (tally : Tally) → tally ≡ tally_of w.rows marked g → (answer : Collected)
@@ -177,7 +185,7 @@ module _ (w : World) (marked : HeapView) (handles : FinMap nat_cmp Handle) (queu
         promoted2 = tally.promoted2;
       }
       → (slides : ℕ) → ComesTo w g how threshold answer world slides slides
-  swept_comes how plain threshold decides tally counts answer same slides m is named idle option =
+  swept_comes how usual threshold decides tally counts answer same slides m is named idle option =
       let decided : compacts how (decides_to_compact (begun m) g (survivors (begun m) g
       (left w marked handles queues g least k))) ≡ false =
       ap (λ (ss : List Survivor). compacts how (decides_to_compact (begun m) g ss))
@@ -187,7 +195,7 @@ module _ (w : World) (marked : HeapView) (handles : FinMap nat_cmp Handle) (queu
       (due_memory w marked handles queues g least k m is named) (due_laid w marked handles queues g least k m named)
       k.marks option) in
       let (mid, d, seen) =
-      sweep_comes m is named how plain decided answer
+      sweep_comes m is named how usual (swept_plain how _ decided) decided answer
       (same ∙ ap (told (begun m) (begun_laid w marked handles queues g least k m named) g least k.first
       (left w marked handles queues g least k) (older_kept w marked handles queues g least k m is named) false)
       counts) idle in (
@@ -205,5 +213,5 @@ module _ (w : World) (marked : HeapView) (handles : FinMap nat_cmp Handle) (queu
       let answer : Collected = told (begun m) (begun_laid w marked handles queues g least k m named) g least k.first
       (left w marked handles queues g least k) (older_kept w marked handles queues g least k m is named) false
       (tally_of w.rows marked g) in
-      let (mid, d, seen) = sweep_comes m is named Sweep refl refl answer refl idle in
-      (picture mid, seen, comes_seen m named idle g least Sweep refl answer mid d)
+      let (mid, d, seen) = sweep_comes m is named Sweep least refl refl answer refl idle in
+      (picture mid, seen, comes_seen m named idle g Sweep least answer mid d)

@@ -14,9 +14,11 @@ use Rattle.clr_final.specs.Queues.{Queues}
 use Rattle.clr_heap.specs.View.{HeapView}
 use Rattle.clr_model.specs.declared.Collected.{Collected}
 use Rattle.clr_model.specs.declared.How.{How}
-use Rattle.clr_model.specs.Collection.{begun, bytes_promoted, compacts, decides_to_compact, IsCollected, object_after}
-use Rattle.clr_model.specs.Compaction.{IsCompacted, moved_by}
+use Rattle.clr_model.specs.Collection.{begun, bytes_promoted, compacts, decides_to_compact, is_fit, IsCollected}
+use Rattle.clr_model.specs.Collection.{object_after}
+use Rattle.clr_model.specs.Compaction.{moved_by}
 use Rattle.clr_model.specs.Lawful.{IsLaid, IsPlaceNamed}
+use Rattle.clr_model.specs.Laws.{IsUsual}
 use Rattle.clr_model.specs.Lookups.{lowest_in_step}
 use Rattle.clr_model.specs.Machine.{Machine, Object}
 use Rattle.clr_model.specs.Picture.{picture}
@@ -28,18 +30,14 @@ use Rattle.clr_view.specs.View.{layout_in, objects_in}
 use Rattle.clr_view.specs.World.{IsWorldOf, World}
 use Rattle.clr_handles.specs.Laws.{relocated}
 use Rattle.clr_moves.specs.Objects.{moved_object, relocated_object}
-use Rattle.clr_survivors.specs.Survivors.{HaveMoved}
+use Rattle.clr_survivors.specs.Survivors.{GoBy, HaveMoved}
 use Rattle.clr_collect.specs.Collecting.{BlockingStart, HasMarkedKept, LeavesKept, world_with}
 use Rattle.clr_collect.proofs.BeforeSlide.{comes_lawful}
-use Rattle.clr_collect.proofs.MovedCollects.{compaction_collects, compaction_laid, compaction_moves, moved_machine}
-use Rattle.clr_collect.proofs.MovedCollects.{promoted-turned}
-use Rattle.clr_collect.proofs.MovedCollects.{survive-turned}
-use Rattle.clr_collect.proofs.MovedCollects.{turned}
+use Rattle.clr_collect.proofs.MovedCollects.{compaction_collects, compaction_moves, moved_answer, moved_machine}
+use Rattle.clr_collect.proofs.MovedCollects.{promoted-turned, survive-turned, turned}
 use Rattle.clr_collect.proofs.MovedNames.{names-go, objects-go, rows-go}
 use Rattle.clr_collect.proofs.SweepCollects.{left-is}
 use Rattle.clr_collect.proofs.WholeCollection.{begun_laid, due_laid, due_memory, older_kept}
-use Rattle.clr_model.specs.Collection.{is_fit}
-use Rattle.clr_model.proofs.PlainCollections.{before_release, plain_back, PlainlyCollects}
 
 -- The heap of a world before its collection, and when what is kept is marked.
 module _ (w : World) (marked : HeapView) (handles : FinMap nat_cmp Handle) (queues : Queues)
@@ -70,10 +68,10 @@ module _ (w : World) (marked : HeapView) (handles : FinMap nat_cmp Handle) (queu
 
     module _ (m : Machine) (is : IsWorldOf w m) (named : IsPlaceNamed m)
         (promoted1 promoted2 before_count after_count : ℕ)
-        (moved : HaveMoved (world_with w.rows marked w.locals handles queues)
+        (fitted : Bool) (moved : HaveMoved fitted (world_with w.rows marked w.locals handles queues)
         (world_with w.rows gone locals table after_queues) g (ready_machine m) left promoted1 promoted2
         before_count after_count)
-        (how : How) (unfitted : is_fit how ≡ false)
+        (how : How) (usual : IsUsual g how) (same : is_fit how ≡ fitted)
         (decided : compacts how (decides_to_compact (begun m) g (survivors (begun m) g left)) ≡ true) where
       abbrev leaves : LeavesKept (begun m) (StartOf (begun m) g) k.first left (objects_in w.rows marked) handles queues
       leaves = k.leaves m is named
@@ -81,13 +79,14 @@ module _ (w : World) (marked : HeapView) (handles : FinMap nat_cmp Handle) (queu
       pub survive : survivors (ready_machine m) g left ≡ survivors (begun m) g left
       survive = survive-turned (begun m) g k.first left
 
-      pub went : IsCompacted (begun m).layout g (survivors (begun m) g left) moved.moves moved.after
+      pub went : GoBy fitted (begun m).layout g (survivors (begun m) g left) moved.moves moved.after
       went =
-          subst (λ (ss : List Survivor). IsCompacted (begun m).layout g ss moved.moves moved.after) survive
+          subst (λ (ss : List Survivor). GoBy fitted (begun m).layout g ss moved.moves moved.after) survive
           moved.compacted
 
       abbrev pub next : Collected → Machine
-      next = moved_machine (begun m) g k.first left leaves.tests how moved.moves moved.after decided went
+      next =
+          moved_machine (begun m) g k.first left leaves.tests how fitted same moved.moves moved.after decided went
 
       -- ---- the answer
 
@@ -105,76 +104,48 @@ module _ (w : World) (marked : HeapView) (handles : FinMap nat_cmp Handle) (queu
           promoted-turned (begun m) g k.first left (layout_in w.rows gone) moved.moves e
           ∙ ap (λ (l : Layout). bytes_promoted (begun m) l left moved.moves e) laid-is
 
-      pub collects : (answer : Collected)
-          → answer ≡ record {
-            generation = g;
-            compacted = true;
-            fitted = false;
-            background = false;
-            kept = count_by (λ o. is_condemned (begun m) g o && left o.name) m.objects;
-            freed = count_by (λ o. is_condemned (begun m) g o && not (left o.name)) m.objects;
-            promoted1 = promoted1;
-            promoted2 = promoted2;
-          }
-          → PlainlyCollects m g how answer (next answer)
-      collects answer same =
-          compaction_collects (begun m) g k.first left leaves.tests how moved.moves moved.after decided went answer
-          (same
-          ∙ (λ t. record {
-            generation = g;
-            compacted = true;
-            fitted = false;
-            background = false;
-            kept = count_by (λ o. is_condemned (begun m) g o && left o.name) m.objects;
-            freed = count_by (λ o. is_condemned (begun m) g o && not (left o.name)) m.objects;
-            promoted1 = (moved.promoted1_is ∙ promoted-is 0) t;
-            promoted2 = (moved.promoted2_is ∙ promoted-is 1) t;
-          }))
+      -- what is answered
+      abbrev told : Collected
+      told = record {
+        generation = g;
+        compacted = true;
+        fitted = fitted;
+        background = false;
+        kept = count_by (λ o. is_condemned (begun m) g o && left o.name) m.objects;
+        freed = count_by (λ o. is_condemned (begun m) g o && not (left o.name)) m.objects;
+        promoted1 = promoted1;
+        promoted2 = promoted2;
+      }
 
-      module _ (answer : Collected)
-          (same : answer ≡ record {
-            generation = g;
-            compacted = true;
-            fitted = false;
-            background = false;
-            kept = count_by (λ o. is_condemned (begun m) g o && left o.name) m.objects;
-            freed = count_by (λ o. is_condemned (begun m) g o && not (left o.name)) m.objects;
-            promoted1 = promoted1;
-            promoted2 = promoted2;
-          }) where
-        moves-are : (collects answer same).moves ≡ moved.moves
+      told-is : told
+          ≡ moved_answer (begun m) g k.first left leaves.tests how fitted same moved.moves moved.after decided went true
+          fitted
+      told-is t = record told {
+        promoted1 = (moved.promoted1_is ∙ promoted-is 0) t;
+        promoted2 = (moved.promoted2_is ∙ promoted-is 1) t;
+      }
+
+      pub collects : (answer : Collected) → answer ≡ told
+          → IsCollected (begun m) g how false (StartOf (begun m) g) answer (next answer)
+      collects answer is =
+          compaction_collects (begun m) g k.first left leaves.tests how fitted same moved.moves moved.after decided went
+          answer (is ∙ told-is)
+
+      module _ (answer : Collected) (is_told : answer ≡ told) where
+        moves-are : (collects answer is_told).moves ≡ moved.moves
         unfolding collects
         moves-are =
-            compaction_moves (begun m) g k.first left leaves.tests how moved.moves moved.after decided went answer _
+            compaction_moves (begun m) g k.first left leaves.tests how fitted same moved.moves moved.after decided went
+            answer _
 
-        laid-are : (collects answer same).laid ≡ whole
-        unfolding collects
-        laid-are =
-            compaction_laid (begun m) g k.first left leaves.tests how moved.moves moved.after decided went answer _
-
-        -- the machine before segments are released
         abbrev mid : Machine
-        mid = before_release (begun m) g how false (StartOf (begun m) g) answer unfitted (next answer)
-            (collects answer same)
-
-        collected : IsCollected (begun m) g how false (StartOf (begun m) g) answer mid
-        collected = (plain_back (begun m) g how false (StartOf (begun m) g) answer unfitted (next answer)
-            (collects answer same)).1
-
-        abbrev kept : Machine
-        kept = record (next answer) { layout = whole }
-
-        mid-is : mid ≡ kept
-        mid-is =
-            ap (λ (n : Machine). record n { layout = (collects answer same).laid }) (sym (collects answer same).state)
-            ∙ ap (λ (l : Layout). record (next answer) { layout = l }) laid-are
+        mid = next answer
 
         -- ---- names
 
         module _ (idle : lowest_in_step m ≡ None) where
-          sound : AreNamed kept
-          sound = subst AreNamed mid-is
-              (lawful-named mid (comes_lawful m named idle g least how unfitted answer mid collected).0)
+          sound : AreNamed mid
+          sound = lawful-named mid (comes_lawful m named idle g how usual answer mid (collects answer is_told)).0
 
           placed : (o : Object) → IsIn o m.objects → o.name ≡ o.place
           placed o i = all_at (λ (q : Object). q.name ≡ q.place) i named.places
@@ -191,29 +162,29 @@ module _ (w : World) (marked : HeapView) (handles : FinMap nat_cmp Handle) (queu
               (older_kept w marked handles queues g least k m is named) w.rows marked
               (due_memory w marked handles queues g least k m is named) k.marks))
 
-          objects-are : (picture kept).objects ≡ objects_in w.rows gone
+          objects-are : (picture mid).objects ≡ objects_in w.rows gone
           objects-are =
               ap (sorted_by (λ (o : Object). o.name))
-              (objects-go (begun m) placed k.first left moved.moves kept refl sound moved.null
+              (objects-go (begun m) placed k.first left moved.moves mid refl sound moved.null
               ∙ ap (map (λ o. moved_object moved.moves (relocated_object moved.moves o))) (sym filtered))
               ∙ sym moved.objects
 
           -- THE WORLD of what comes after
-          world-is : IsWorldOf world (picture kept)
+          world-is : IsWorldOf world (picture mid)
           world-is = record {
             memory = record { types = is.memory.types; objects = objects-are; layout = sym laid-is };
             locals =
-                names-go (begun m) placed k.first left moved.moves kept refl sound moved.null m.locals sound.locals
+                names-go (begun m) placed k.first left moved.moves mid refl sound moved.null m.locals sound.locals
                 ∙ ap (map (moved_by moved.moves)) is.locals ∙ sym moved.locals;
             handles =
-                rows-go (begun m) placed k.first left moved.moves kept refl sound moved.null kept.handles sound.handles
+                rows-go (begun m) placed k.first left moved.moves mid refl sound moved.null mid.handles sound.handles
                 ∙ ap (map_values (relocated (moved_by moved.moves))) (sym leaves.handles) ∙ sym moved.handles;
             entries =
-                names-go (begun m) placed k.first left moved.moves kept refl sound moved.null kept.entries
+                names-go (begun m) placed k.first left moved.moves mid refl sound moved.null mid.entries
                 (λ x i. inr (sound.entries x i))
                 ∙ ap (map (moved_by moved.moves)) (sym leaves.entries) ∙ sym moved.entries;
             ready =
-                names-go (begun m) placed k.first left moved.moves kept refl sound moved.null kept.ready sound.ready
+                names-go (begun m) placed k.first left moved.moves mid refl sound moved.null mid.ready sound.ready
                 ∙ ap (map (moved_by moved.moves)) (sym leaves.ready) ∙ sym moved.ready;
           }
 
@@ -221,10 +192,4 @@ module _ (w : World) (marked : HeapView) (handles : FinMap nat_cmp Handle) (queu
           pub move_comes : (mid : Machine)
               × (d : IsCollected (begun m) g how false (StartOf (begun m) g) answer mid)
               × IsWorldOf world (picture mid) × (d.moves ≡ moved.moves)
-          unfolding collected collects
-          move_comes = (
-            mid,
-            collected,
-            subst (λ (n : Machine). IsWorldOf world (picture n)) (sym mid-is) world-is,
-            moves-are,
-          )
+          move_comes = (mid, collects answer is_told, world-is, moves-are)

@@ -1,20 +1,28 @@
 // A collection of a generation and of all younger ones.
-ghost use Rattle.std.specs.Prelude.{◌≡◌, ℕ, ◌+◌, ◌≤◌, ◌==◌, ◌&&◌, not, [], length, None, Some, MatchBool, true, false};
-ghost use Rattle.clr_model.specs.Collection.{Collects, is_fit};
-ghost use Rattle.clr_model.specs.Lawful.{IsPlaceNamed};
+ghost use Rattle.std.specs.Prelude.{◌≡◌, ℕ, ◌+◌, ◌≤◌, ◌==◌, ◌&&◌, not, [], length, None, Some, Bool, MatchBool, true};
+ghost use Rattle.std.specs.Prelude.{false};
+ghost use Rattle.clr_model.specs.Collection.{Collects};
+ghost use Rattle.clr_model.specs.Collection as collection;
+ghost use Rattle.clr_model.specs.Laws.{IsUsual};
+ghost use Rattle.clr_model.specs.Lawful.{IsLaid, IsPlaceNamed};
 ghost use Rattle.clr_model.specs.Lookups.{lowest_in_step};
 ghost use Rattle.clr_model.specs.Machine.{Machine};
 ghost use Rattle.clr_model.specs.Picture.{picture};
+ghost use Rattle.clr_model.specs.Reach.{SlotNames};
 ghost use Rattle.clr_heap.specs.View.{no_rests};
 ghost use Rattle.clr_view.specs.Clean.{AreClean};
-ghost use Rattle.clr_view.specs.Marks.{IsUnmarked};
-ghost use Rattle.clr_view.specs.View.{AreFreeHeads, IsHeld};
+ghost use Rattle.clr_view.specs.Marks.{IsUnmarked, Marked};
+ghost use Rattle.clr_view.specs.Memory.{IsMemoryOf, TestsMarks};
+ghost use Rattle.clr_view.specs.SlotValues.{StandsAt};
+ghost use Rattle.clr_view.specs.View.{AreFreeHeads, IsHeld, objects_in};
 ghost use Rattle.clr_view.specs.World.{IsWorldOf};
 ghost use Rattle.clr_cards.specs.Cards.{is_card_set};
 ghost use Rattle.clr_ctx.specs.Contexts.{IsIndex};
 ghost use Rattle.clr_generations.specs.Tables.{AreTablesOf};
+ghost use Rattle.clr_mark.specs.Marks.{is_condemned_place};
 ghost use Rattle.clr_mark.specs.Waiting.{IsGray};
 ghost use Rattle.clr_handles.specs.Tops.{pinned_in};
+ghost use Rattle.clr_survivors.specs.Survivors.{AreClosed, HasObjects, HaveMoved, NameLeft};
 ghost use Rattle.clr_collect.specs.Collecting.{BlockingStart, CountsSlides, HasMarkedAlive, HasMarkedKept, world_with};
 ghost use Rattle.clr_collect.specs.Released.{HasReleased};
 
@@ -26,11 +34,13 @@ use clr_bricks::Bricks;
 use clr_cards::Cards;
 use clr_compact::Slides;
 use clr_ctx::Contexts;
+use clr_evacuate::fit_and_move;
 use clr_final::Finals;
 use clr_handles::Handles;
 use clr_heap::Heap;
 use clr_mark::Marker;
 use clr_model::{Collected, How};
+use clr_moves::Promoted;
 use clr_pinq::PinQueue;
 use clr_scan::mark_from;
 use clr_survivors::move_survivors;
@@ -47,6 +57,10 @@ use clr_types::Types;
 /// bytes of these generations in the small heap would be free. After a collection of all generations, segments in
 /// which nothing stands any more are given back with their cards and bricks, but for the ephemeral one and the first
 /// large one.
+///
+/// `How::Fit` is of generation 1 alone, and compacts. Before that, what survives generation 1 goes, plug by plug and
+/// low to high, to the front of the lowest free item of generation 2 of the small heap in which the plug then fits.
+/// What finds no room there goes where the compaction of the rest takes it. `slides` counts both as one compaction.
 ///
 /// An entry whose object nothing but entries reaches is woken, and goes behind the f-reachable queue, or is dropped,
 /// where the object's finaliser is suppressed, which its header then says no more. A short weak handle loses a target
@@ -84,7 +98,7 @@ pub fn collect(
 ) -> Collected
     requires generation { g ≤ 2 }
     requires threshold { threshold ≤ 100 }
-    requires unfitted { is_fit how ≡ false }
+    requires usual { IsUsual g how }
     requires held { IsHeld types.now heap.old }
     requires unmarked { IsUnmarked types.now heap.old }
     requires free_heads { AreFreeHeads types.now heap.old }
@@ -136,10 +150,10 @@ pub fn collect(
             compacts_large,
         );
         contexts.forget();
-        return answer(g, false, swept);
+        return answer(g, false, false, swept);
     };
-    let promoted = move_survivors(
-        types, heap, cards, bricks, handles, finals, locals, pins, slides, g,
+    let promoted = move_kept(
+        types, heap, cards, bricks, handles, finals, locals, pins, slides, g, how,
     );
     heap.lawful();
     slide_and_release(
@@ -158,6 +172,7 @@ pub fn collect(
     answer(
         g,
         true,
+        is_fit(how),
         Tally {
             promoted1: promoted.to1,
             promoted2: promoted.to2,
@@ -166,12 +181,79 @@ pub fn collect(
     )
 }
 
+// Moves what is marked in a collection of generation `g`: by a compaction, which a fit precedes where `how` says so.
+fn move_kept(
+    types: &Types,
+    heap: &mut Heap,
+    cards: &mut Cards,
+    bricks: &mut Bricks,
+    handles: &mut Handles,
+    finals: &mut Finals,
+    locals: &mut [u64],
+    pins: &mut PinQueue,
+    slides: &mut Slides,
+    g: u8,
+    how: How,
+) -> Promoted
+    requires generation { g ≤ 2 }
+    requires usual { IsUsual g how }
+    requires held { IsHeld types.now heap.old }
+    requires no_contexts { heap.old.rests ≡ no_rests }
+    requires laid { (n : Machine) × IsMemoryOf types.now heap.old n × IsLaid n }
+    requires clean { AreClean types.now heap.old }
+    requires free_heads { AreFreeHeads types.now heap.old }
+    requires young { (x : ℕ) → Marked types.now heap.old x → is_condemned_place heap.old g x ≡ true }
+    requires closed { AreClosed types.now heap.old g }
+    requires stands { (x y : ℕ) → SlotNames (objects_in types.now heap.old) x y → StandsAt types.now heap.old y }
+    requires named { NameLeft (world_with types.now heap.old locals.old handles.old finals.old) g }
+    requires tables { AreTablesOf types.now heap.old cards.old bricks.old }
+    requires empty { pins.old.entries ≡ [] }
+    requires room { pinned_in handles.old + 4 ≤ pins.old.spare }
+    ensures moved { (n : Machine) (kept : ℕ → Bool) → IsMemoryOf types.now heap.old n → IsLaid n
+        → n.handles ≡ handles.old → TestsMarks types.now heap.old g kept
+        → HaveMoved (collection.is_fit how) (world_with types.now heap.old locals.old handles.old finals.old)
+        (world_with types.now heap.new locals.new handles.new finals.new) g n kept result.to1 result.to2
+        slides.old slides.new }
+    ensures held { IsHeld types.now heap.new }
+    ensures unmarked { IsUnmarked types.now heap.new }
+    ensures no_contexts { heap.new.rests ≡ no_rests }
+    ensures clean { AreClean types.now heap.new }
+    ensures free_heads { AreFreeHeads types.now heap.new }
+    ensures tables { AreTablesOf types.now heap.new cards.new bricks.new }
+    ensures occupied { g ≡ 2 → HasObjects types.now heap.new }
+    ensures limit { heap.new.limit ≡ heap.old.limit }
+    ensures empty { pins.new.entries ≡ [] }
+    ensures room { pins.new.spare ≡ pins.old.spare }
+    ensures pinned { pinned_in handles.new ≡ pinned_in handles.old }
+    ensures spare { finals.new.spare ≡ finals.old.spare }
+    ensures entries { length finals.new.entries ≡ length finals.old.entries }
+{
+    if is_fit(how) {
+        return fit_and_move(
+            types, heap, cards, bricks, handles, finals, locals, pins, slides,
+        );
+    }
+    move_survivors(
+        types, heap, cards, bricks, handles, finals, locals, pins, slides, g,
+    )
+}
+
+// Whether survivors are to go into older free items first.
+fn is_fit(how: How) -> bool
+    ensures { result ≡ collection.is_fit how }
+{
+    match how {
+        How::Fit => true,
+        How::Decide | How::Compact | How::Sweep => false,
+    }
+}
+
 // What a collection of generation `g` answers that counted so.
-pub(crate) fn answer(g: u8, compacted: bool, tally: Tally) -> Collected
+pub(crate) fn answer(g: u8, compacted: bool, fitted: bool, tally: Tally) -> Collected
     ensures { result ≡ record {
       generation = g;
       compacted = compacted;
-      fitted = false;
+      fitted = fitted;
       background = false;
       kept = tally.kept;
       freed = tally.freed;
@@ -182,7 +264,7 @@ pub(crate) fn answer(g: u8, compacted: bool, tally: Tally) -> Collected
     Collected {
         generation: g,
         compacted,
-        fitted: false,
+        fitted,
         background: false,
         kept: tally.kept,
         freed: tally.freed,

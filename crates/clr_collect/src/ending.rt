@@ -102,7 +102,7 @@ pub fn end_background(
     contexts.forget();
     Collected {
         background: true,
-        ..answer(2, false, swept)
+        ..answer(2, false, false, swept)
     }
 }
 

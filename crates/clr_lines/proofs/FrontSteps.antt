@@ -45,6 +45,6 @@ window_answered old new text window rest reply read front count done =
       unfed = done.front.unfed;
       outcome = done.outcome;
       follows = line_follows old new line done.instruction done.outcome fits
-          (record { formed = done.front.formed; spelled = refl }) done.built done.follows;
+          (record { formed = done.front.formed; spelled = refl }) done.follows;
       told = done.told;
     }

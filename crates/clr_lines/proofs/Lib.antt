@@ -1,4 +1,3 @@
-pub mod Built
 pub mod LineSteps
 pub mod FrontSteps
 pub mod TopGrows

@@ -1,16 +1,15 @@
 -- Lines in front of a text that were done, and how they are answered.
-use Rattle.std.specs.Prelude.{◌≡◌, ℕ, ◌+◌, List, ◌∷◌, ◌++◌, length, true}
+use Rattle.std.specs.Prelude.{◌≡◌, ℕ, ◌+◌, List, ◌∷◌, ◌++◌, length}
 use Rattle.clr_model.specs.Instructions.{Instruction}
 use Rattle.clr_model.specs.Machine.{Machine}
 use Rattle.clr_model.specs.Outcomes.{Outcome, outcome_text}
 use Rattle.clr_model.specs.Run.{Follows}
 use Rattle.clr_script.specs.Fronts.{IsInFront, IsUnfed}
-use Rattle.clr_lines.specs.Lines.{FollowsLine, is_built}
+use Rattle.clr_lines.specs.Lines.{FollowsLine}
 
 -- what the line in front of a text says was done, and this is the reply
 pub record IsDone (old : Machine) (text rest reply : List ℕ) (new : Machine) : Type 0 where
   pub instruction : Instruction
-  pub built : is_built instruction ≡ true
   pub front : IsInFront instruction text rest
   pub outcome : Outcome
   pub follows : Follows old instruction outcome new

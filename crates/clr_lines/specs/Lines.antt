@@ -1,24 +1,17 @@
 -- Lines of bytes: which instruction one says, and what it does.
-use Rattle.std.specs.Prelude.{◌≡◌, ℕ, ◌<◌, ◌≤◌, List, length, Bool, true, not}
+use Rattle.std.specs.Prelude.{◌≡◌, ℕ, ◌<◌, ◌≤◌, List, length}
 use Rattle.clr_model.specs.declared.Refusal.TheVariants as refusal
 use Rattle.clr_model.specs.Machine.{Machine}
-use Rattle.clr_model.specs.Collection.{is_fit}
-use Rattle.clr_model.specs.Instructions.{Instruction, collect_heap}
+use Rattle.clr_model.specs.Instructions.{Instruction}
 use Rattle.clr_model.specs.LineGrammar.{IsLine}
 use Rattle.clr_model.specs.Outcomes.{Outcome, refused}
 use Rattle.clr_model.specs.Run.{StandsFor}
 use Rattle.clr_model.specs.Step.{Obeys}
 
--- Whether a line of this instruction is obeyed. The others are lines of the grammar that are refused for their syntax.
-abbrev pub is_built : Instruction → Bool
-is_built (collect_heap t g how) = not (is_fit how)
-is_built _ = true
-
--- the bytes are the line of this instruction, which is obeyed
+-- the bytes are the line of this instruction
 pub record Reads (bytes : List ℕ) (i : Instruction) : Type 0 where
   pub short : length bytes ≤ 4096
   pub line : IsLine bytes i
-  pub built : is_built i ≡ true
 
 -- One line of bytes is refused for its length, or for its syntax where it says nothing, or it is obeyed.
 pub data Step (m : Machine) (bytes : List ℕ) (outcome : Outcome) (new : Machine) : Type 0 where

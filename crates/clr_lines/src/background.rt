@@ -15,7 +15,6 @@ pub fn obey_background(runtime: &mut Runtime, command: Command<'_>) -> Outcome
     requires background { is_in_background command ≡ true }
     ensures follows { Follows runtime.old.machine (instruction_of command.entry)
         (outcome_of result) runtime.new.machine }
-    ensures background { is_in_background command.entry ≡ true }
     ensures shows { CanShow result }
 {
     match command {

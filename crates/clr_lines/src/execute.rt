@@ -1,6 +1,5 @@
 //! What a line of bytes does: it is read, and its command is obeyed.
 ghost use Rattle.std.specs.Prelude.{◌≡◌, ◌+◌, ◌^◌, ◌≤◌, length};
-ghost use Rattle.clr_model.specs.Collection as collection;
 ghost use Rattle.clr_lines.specs.Lines.{FollowsLine};
 ghost use Rattle.clr_script.specs.Readings.{IsReadAs};
 ghost use Rattle.clr_lines.specs.Outcomes.{outcome_of, CanShow};
@@ -12,7 +11,7 @@ use crate::looks::obey_look;
 use crate::outcome::{Outcome, told_collected, told_mt, told_place};
 use crate::slots::obey_slot;
 use crate::threads::obey_thread;
-use clr_model::{Command, How, Refusal};
+use clr_model::Command;
 use clr_runtime::Runtime;
 use clr_script::{read_line, read_quick};
 use std::alloc::Global;
@@ -68,12 +67,7 @@ fn obey(runtime: &mut Runtime, alloc: Global, line: &[u8], command: Command<'_>)
             name,
             len,
         } => told_place(runtime.new_object(t, local, name, len)),
-        Command::Collect { t, g, how } => {
-            if is_fit(how) {
-                return Outcome::Refused(Refusal::Syntax);
-            }
-            told_collected(runtime.collect(t, g, how))
-        }
+        Command::Collect { t, g, how } => told_collected(runtime.collect(t, g, how)),
         Command::Get { .. }
         | Command::Set { .. }
         | Command::Put { .. }
@@ -105,15 +99,5 @@ fn obey(runtime: &mut Runtime, alloc: Global, line: &[u8], command: Command<'_>)
         Command::BackgroundBegin { .. }
         | Command::BackgroundStep { .. }
         | Command::BackgroundEnd { .. } => obey_background(runtime, command),
-    }
-}
-
-// Whether a collection of this kind fits survivors into older free items.
-fn is_fit(how: How) -> bool
-    ensures { result ≡ collection.is_fit how }
-{
-    match how {
-        How::Fit => true,
-        How::Decide | How::Compact | How::Sweep => false,
     }
 }

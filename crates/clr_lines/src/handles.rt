@@ -16,7 +16,6 @@ pub fn obey_handle(runtime: &mut Runtime, command: Command<'_>) -> Outcome
     requires formed { IsWellFormed (instruction_of command) }
     ensures follows { Follows runtime.old.machine (instruction_of command.entry)
         (outcome_of result) runtime.new.machine }
-    ensures handles { is_on_handles command.entry ≡ true }
     ensures shows { CanShow result }
 {
     match command {

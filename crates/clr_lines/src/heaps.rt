@@ -16,7 +16,6 @@ pub fn obey_heap(runtime: &mut Runtime, command: Command<'_>) -> Outcome
     requires heaps { is_on_heaps command ≡ true }
     ensures follows { Follows runtime.old.machine (instruction_of command.entry)
         (outcome_of result) runtime.new.machine }
-    ensures heaps { is_on_heaps command.entry ≡ true }
     ensures shows { CanShow result }
 {
     match command {

@@ -23,7 +23,6 @@ pub fn obey_look(runtime: &Runtime, alloc: Global, command: Command<'_>) -> Outc
     requires looks { is_look command ≡ true }
     ensures follows { Follows runtime.now.machine (instruction_of command.entry)
         (outcome_of result) runtime.now.machine }
-    ensures looks { is_look command.entry ≡ true }
     ensures shows { CanShow result }
 {
     let view = view_of(runtime);

@@ -14,7 +14,6 @@ pub fn obey_slot(runtime: &mut Runtime, command: Command<'_>) -> Outcome
     requires slots { is_on_slots command ≡ true }
     ensures follows { Follows runtime.old.machine (instruction_of command.entry)
         (outcome_of result) runtime.new.machine }
-    ensures slots { is_on_slots command.entry ≡ true }
     ensures shows { CanShow result }
 {
     match command {

@@ -16,7 +16,6 @@ pub fn obey_thread(runtime: &mut Runtime, command: Command<'_>) -> Outcome
     requires threads { is_on_threads command ≡ true }
     ensures follows { Follows runtime.old.machine (instruction_of command.entry)
         (outcome_of result) runtime.new.machine }
-    ensures threads { is_on_threads command.entry ≡ true }
     ensures shows { CanShow result }
 {
     match command {

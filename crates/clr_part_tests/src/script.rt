@@ -289,6 +289,19 @@ fn shows_replies_and_refusals(rt: HostRuntime) {
             }),
             "collected 1 compact kept 2 freed 3\n",
         ),
+        (
+            Reply::Collected(Collected {
+                generation: 1,
+                compacted: true,
+                fitted: true,
+                background: false,
+                kept: 2,
+                freed: 3,
+                promoted1: 4,
+                promoted2: 5,
+            }),
+            "collected 1 fit kept 2 freed 3\n",
+        ),
         (Reply::Clean, "clean\n"),
     ] {
         let len = put_reply(&reply, &mut line);

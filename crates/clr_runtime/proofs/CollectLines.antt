@@ -18,9 +18,8 @@ use Rattle.clr_model.specs.declared.Collected.{Collected}
 use Rattle.clr_model.specs.declared.How.{How}
 use Rattle.clr_model.specs.declared.Refusal.TheVariants as refusal
 use Rattle.clr_model.specs.declared.Reply.TheVariants as reply
-use Rattle.clr_model.specs.Collection.{Collects, is_fit, marking_after, sums_after}
+use Rattle.clr_model.specs.Collection.{Collects, marking_after, sums_after}
 use Rattle.clr_model.proofs.CollectionKeeps.{collects_keeps}
-use Rattle.clr_model.proofs.PlainCollections.{is_usual}
 use Rattle.clr_model.specs.Instructions.{collect_heap}
 use Rattle.clr_model.specs.Lawful.{IsLawful, IsPlaceNamed}
 use Rattle.clr_model.specs.Laws.{IsUsual}
@@ -115,14 +114,13 @@ none_rest (Some p ∷ rests) none = absurd cc
 -- ---- the line
 
 -- the collection is done
-pub collect_done : (s : Machine) (t g : ℕ) (how : How) → MayRun s t → lowest_in_step s ≡ None → g ≤ 2
-    → is_fit how ≡ false
-    → (answer : Collected) (new : Machine)
+pub collect_done : (s : Machine) (t g : ℕ) (how : How) → MayRun s t → lowest_in_step s ≡ None
+    → IsUsual g how → (answer : Collected) (new : Machine)
     → ((after : Machine) × Collects s g how answer after × (new ≡ picture after))
     → Follows s (collect_heap t g how) (answered (reply.Collected answer)) new
-collect_done s t g how run idle least unfitted answer new (after, collects, is) =
+collect_done s t g how run idle usual answer new (after, collects, is) =
     subst (Follows s (collect_heap t g how) (answered (reply.Collected answer))) (sym is)
-    (collect_follows s t g how answer after (is_usual g how least unfitted) run idle collects)
+    (collect_follows s t g how answer after usual run idle collects)
 
 -- a thread is waited for, which is in mid-step
 pub collect_waits : (s : Machine) (t g : ℕ) (how : How) → MayRun s t → (k : ℕ) → lowest_in_step s ≡ Some k
@@ -168,27 +166,25 @@ some_thread s lawful idle = go s.holder refl lawful.holder
     )
 
 -- a collection of a younger generation is one that some thread's line makes
-pub collected_marked : (s : Machine) → IsPlaceNamed s → lowest_in_step s ≡ None → (g : ℕ) → g ≤ 2 → (how : How)
-    → is_fit how ≡ false → (answer : Collected) (new : Machine)
+pub collected_marked : (s : Machine) → IsPlaceNamed s → lowest_in_step s ≡ None → (g : ℕ) (how : How)
+    → IsUsual g how → (answer : Collected) (new : Machine)
     → ((after : Machine) × Collects s g how answer after × (new ≡ picture after)) → (v : BackgroundView)
     → s.background ≡ marking_of v → new.background ≡ marking_of v → (v.running ≡ true → IsMarkedSoFar s v)
     → v.running ≡ true → IsMarkedSoFar new v
-collected_marked s sound idle g least how unfitted answer new collected v =
+collected_marked s sound idle g how usual answer new collected v =
     let (t, run) = some_thread s sound.lawful idle in
-    storeless_marked s (collect_heap t g how) (answered (reply.Collected answer)) new sound
-    (is_usual g how least unfitted) (collect_done s t g how run idle least unfitted answer new collected) v
+    storeless_marked s (collect_heap t g how) (answered (reply.Collected answer)) new sound usual
+    (collect_done s t g how run idle usual answer new collected) v
     (λ m seen name slot c. c)
 
 -- what is seen after a collection is sound
-collected-sound : (s : Machine) → IsPlaceNamed s → lowest_in_step s ≡ None → (g : ℕ) → g ≤ 2 → (how : How)
-    → is_fit how ≡ false
-    → (new : Machine) → HasCollected s g how new → IsPlaceNamed new
-collected-sound s sound idle g least how unfitted new collected =
+collected-sound : (s : Machine) → IsPlaceNamed s → lowest_in_step s ≡ None → (g : ℕ) (how : How)
+    → IsUsual g how → (new : Machine) → HasCollected s g how new → IsPlaceNamed new
+collected-sound s sound idle g how usual new collected =
     let (m, stands) = sound_stands s sound in
     let still : lowest_in_step m ≡ None =
     sym (lowest_in_step-picture m) ∙ ap lowest_in_step stands.seen_is ∙ idle in
-    let (answer, mid, done, left) = collection_left s g how new (is_usual g how least unfitted) collected m stands still
-    in
+    let (answer, mid, done, left) = collection_left s g how new usual collected m stands still in
     seen_sound new mid left.stands
 
 -- ---- the parts of a runtime
@@ -273,13 +269,10 @@ marking_left v full = go full v.running
 module _ {w : World} {sums : Sums} {options : Options} {threads : Threads} {ahead : Ahead}
     (is : IsShown w sums options threads ahead)
     (idle : lowest_step_from 1 (steps_of threads) ≡ None) (g : ℕ) (least : g ≤ 2) (how : How)
-    (unfitted : is_fit how ≡ false) (new : World)
+    (usual : IsUsual g how) (new : World)
     (answer : Collected) (told : Told w sums options threads ahead g how new answer) where
   abbrev s : Machine
   s = shown w sums options threads ahead
-
-  usual : IsUsual g how
-  usual = is_usual g how least unfitted
 
   -- the sums afterwards
   abbrev after_sums : Sums
@@ -302,7 +295,7 @@ module _ {w : World} {sums : Sums} {options : Options} {threads : Threads} {ahea
   sound-after : IsPlaceNamed (shown new after_sums options threads (ahead_after ahead g))
   sound-after =
       let (after, collects, is_seen) = has_collected in
-      collected-sound s is.sound idle g least how unfitted (shown new after_sums options threads (ahead_after ahead g))
+      collected-sound s is.sound idle g how usual (shown new after_sums options threads (ahead_after ahead g))
       (answer, after, collects, is_seen)
 
   bounded-after : HaveSmallSums after_sums
@@ -349,7 +342,7 @@ module _ {w : World} {sums : Sums} {options : Options} {threads : Threads} {ahea
           → IsMarkedSoFar (left b) (if b then none_running else ahead.background)
       go true e running = absurd (false≢true running)
       go false e running =
-          collected_marked s is.sound idle g least how unfitted answer (left false)
+          collected_marked s is.sound idle g how usual answer (left false)
           (subst (λ (b : Bool). (after : Machine) × Collects s g how answer after × (left b ≡ picture after)) e
           has_collected) ahead.background refl refl is.marked running
 

@@ -1,7 +1,8 @@
 //! The line that collects, and the collections that it and allocations make.
 ghost use Rattle.std.specs.Prelude.{◌≡◌, ◌+◌, ◌≤◌, ◌==◌, IfOk, if◌then◌else◌, length, MatchBool, None, Some, [], false};
 ghost use Rattle.clr_heap.specs.View.{no_rests};
-ghost use Rattle.clr_model.specs.Collection.{Collects, is_fit};
+ghost use Rattle.clr_model.specs.Collection.{Collects};
+ghost use Rattle.clr_model.specs.Laws.{IsUsual};
 ghost use Rattle.clr_model.specs.Lookups.{lowest_in_step};
 ghost use Rattle.clr_model.specs.Machine.{Machine};
 ghost use Rattle.clr_model.specs.Picture.{picture};
@@ -20,22 +21,24 @@ impl Runtime {
     ghost use Rattle.clr_model.specs.Run.{Follows};
     ghost use Rattle.clr_runtime.specs.Outcomes.{collected_outcome};
 
-    /// Collects generation `g`, 0 to 2, and all younger ones, as `how` says: by a sweep, by a compaction, or by what
-    /// the option `compact` decides. Gives how many of these objects were kept and how many freed, and the bytes that
-    /// went to generations 1 and 2.
+    /// Collects generation `g`, 0 to 2, and all younger ones, as `how` says: by a sweep, by a compaction, by what the
+    /// option `compact` decides, or by a fit, which is for generation 1 alone. Gives how many of these objects were
+    /// kept and how many freed, and the bytes that went to generations 1 and 2.
     ///
     /// The contexts of all threads are given up. Exactly the objects stay that older objects, locals, strong and
     /// pinned handles, the f-reachable queue and woken entries reach, by slots and by dependent handles. A sweep
     /// leaves them where they are, and each is one generation older, up to 2; a compaction takes those of the small
-    /// heap down to where they fit, but for what pinned handles name. Entries of objects that only finalisation would
-    /// reach are woken, or dropped where the finaliser is suppressed, and weak and dependent handles lose what goes.
+    /// heap down to where they fit, but for what pinned handles name. `How::Fit` first puts those of generation 1 that
+    /// touch, together, to the front of the lowest free item of generation 2 of the small heap in which they then fit,
+    /// where there is one, and compacts the others. Entries of objects that only finalisation would reach are woken,
+    /// or dropped where the finaliser is suppressed, and weak and dependent handles lose what goes.
     ///
     /// It is refused for an unknown thread, with `Blocked` where another thread holds all others, with `MidStep` where
     /// the thread is in mid-step itself, and with `Wait` for the lowest other thread in mid-step, in this order. It
-    /// takes no memory. `slides` counts a compaction, and no sweep.
+    /// takes no memory. `slides` counts a compaction and a fit, and no sweep.
     pub fn collect(&mut self, t: u64, g: u8, how: How) -> Result<Collected, Refusal>
         requires generation { g ≤ 2 }
-        requires unfitted { is_fit how ≡ false }
+        requires usual { IsUsual g how }
         ensures follows { Follows self.old.machine (collect_heap t g how) (collected_outcome result) self.new.machine }
         ensures counted { IfOk result (λ c. CountsCollection c.compacted self.old.slides self.new.slides) }
     {
@@ -48,8 +51,8 @@ impl Runtime {
         Ok(collect_parts(&mut self.parts, g, how))
     }
 
-    /// How many compactions there were, and how many bytes they moved, together. It stays at the last value of a `u64`
-    /// where it would pass it.
+    /// How many compactions and fits there were, and how many bytes they moved, together. It stays at the last value of
+    /// a `u64` where it would pass it.
     pub fn slides(&self) -> u64
         ensures { result ≡ self.now.slides }
     {
@@ -64,7 +67,7 @@ impl Runtime {
 // contexts; each is made anew where room is next wanted there.
 pub(crate) fn collect_parts(parts: &mut Parts, g: u8, how: How) -> Collected
     requires generation { g ≤ 2 }
-    requires unfitted { is_fit how ≡ false }
+    requires usual { IsUsual g how }
     requires runtime { IsRuntime parts.old }
     requires idle { lowest_in_step (seen parts.old) ≡ None }
     ensures collected { (after : Machine) × Collects (seen parts.old) g how result after

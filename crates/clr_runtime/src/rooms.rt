@@ -2,7 +2,8 @@
 ghost use Rattle.std.specs.Prelude.{◌≡◌, ◌%◌, ◌<◌, ◌≤◌, None, OnOk, false, true};
 ghost use Rattle.clr_heap.specs.View.{no_rests};
 ghost use Rattle.clr_model.specs.Allocation.{own_fits};
-ghost use Rattle.clr_model.specs.Collection.{Collects, generation_to_collect, is_fit};
+ghost use Rattle.clr_model.specs.Collection.{Collects, generation_to_collect};
+ghost use Rattle.clr_model.specs.Laws.{IsUsual};
 ghost use Rattle.clr_model.specs.Lookups.{is_step, lowest_in_step, step_of};
 ghost use Rattle.clr_model.specs.Machine.{Machine};
 ghost use Rattle.clr_model.specs.Picture.{picture};
@@ -113,7 +114,7 @@ fn renew_index(parts: &mut Parts)
 // Collects as `collect_parts` does, and makes the index of the contexts anew.
 fn collect_for_room(parts: &mut Parts, g: u8, how: How) -> Collected
     requires generation { g ≤ 2 }
-    requires unfitted { is_fit how ≡ false }
+    requires usual { IsUsual g how }
     requires runtime { IsRuntime parts.old }
     requires idle { lowest_in_step (seen parts.old) ≡ None }
     ensures collected { (after : Machine) × Collects (seen parts.old) g how result after

@@ -1,6 +1,6 @@
-// Collections of many objects, whatever room the mark stack has.
-ghost use Rattle.std.specs.Prelude.{◌≡◌, ◌≤◌, false};
-ghost use Rattle.clr_model.specs.Collection.{is_fit};
+// Collections of many objects, whatever room the mark stack has, and one that fits.
+ghost use Rattle.std.specs.Prelude.{◌≤◌};
+ghost use Rattle.clr_model.specs.Laws.{IsUsual};
 
 use super::{define, runtime_where};
 use clr_model::{Collected, How, Refusal};
@@ -82,7 +82,7 @@ fn halve_table(runtime: &mut Runtime, pairs: u64) -> Result<(), Refusal> {
 // A full collection answers these numbers of objects that are kept and freed, and of bytes that went to generation 1
 // and 2.
 fn expect_collected(rt: &impl Abort, runtime: &mut Runtime, how: How, want: [u64; 4])
-    requires { is_fit how ≡ false }
+    requires { IsUsual 2 how }
 {
     let told = runtime.collect(16, 2, how);
     let want = Collected {
@@ -100,7 +100,7 @@ fn expect_collected(rt: &impl Abort, runtime: &mut Runtime, how: How, want: [u64
 
 // Collects a table of 10,000 pairs with all of them, with half of them, and without it.
 fn collect_table(rt: &impl Abort, runtime: &mut Runtime, how: How)
-    requires { is_fit how ≡ false }
+    requires { IsUsual 2 how }
 {
     assert_eq!(rt; make_table(runtime, 10_000), Ok(()));
     expect_collected(rt, runtime, how, [20_001, 0, 560_024, 0]);
@@ -134,6 +134,54 @@ fn a_long_list_is_kept(rt: HostRuntime) -> Result<(), Fail> {
     assert_eq!(rt; make_list(&mut runtime, 200_000), Ok(()));
     expect_collected(&rt, &mut runtime, How::Sweep, [200_000, 0, 4_800_000, 0]);
     expect_collected(&rt, &mut runtime, How::Compact, [200_000, 0, 0, 4_800_000]);
+    drop(runtime);
+    Ok(())
+}
+
+// Makes two objects of generation 2, which locals 0 and 2 hold, with a free item of 24 bytes between them, and two of
+// generation 1 above, of which local 4 holds the higher one, and nothing the other.
+fn make_gap(runtime: &mut Runtime) -> Result<(), Refusal> {
+    for local in 0..3 {
+        let _ = runtime.new_object(1, local, b"Link", None)?;
+    }
+    sweep_twice(runtime)?;
+    runtime.clear(1, 1)?;
+    let _ = runtime.collect(1, 2, How::Sweep)?;
+    let _ = runtime.new_object(1, 3, b"Link", None)?;
+    let _ = runtime.new_object(1, 4, b"Link", None)?;
+    let _ = runtime.collect(1, 0, How::Sweep)?;
+    runtime.clear(1, 3)
+}
+
+// All objects are of generation 2 afterwards.
+fn sweep_twice(runtime: &mut Runtime) -> Result<(), Refusal> {
+    let _ = runtime.collect(1, 1, How::Sweep)?;
+    let _ = runtime.collect(1, 1, How::Sweep)?;
+    Ok(())
+}
+
+// Of these a collection that fits keeps one, which goes between those of generation 2.
+fn expect_fitted(rt: &impl Abort, runtime: &mut Runtime) {
+    let told = runtime.collect(1, 1, How::Fit);
+    let want = Collected {
+        generation: 1,
+        compacted: true,
+        fitted: true,
+        background: false,
+        kept: 1,
+        freed: 1,
+        promoted1: 0,
+        promoted2: 24,
+    };
+    assert_eq!(rt; told, Ok(want));
+    assert_eq!(rt; runtime.copy(1, 5, 4), Ok(0x1000_1018));
+}
+
+#[test]
+fn a_survivor_goes_between_older_objects(rt: HostRuntime) -> Result<(), Fail> {
+    let mut runtime = runtime_with_stack(rt.alloc(), 1)?;
+    assert_eq!(rt; make_gap(&mut runtime), Ok(()));
+    expect_fitted(&rt, &mut runtime);
     drop(runtime);
     Ok(())
 }

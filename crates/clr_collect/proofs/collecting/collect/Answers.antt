@@ -3,6 +3,7 @@ use Rattle.std.proofs.Common.{◌∙◌, ap, is_some, refl, sym, arith, false, t
 use Rattle.std.proofs.Common.{◌≡◌, [], Bool, MatchBool, None, Some, subst}
 use Rattle.clr_ctx.specs.Contexts.{IsIndex}
 use Rattle.clr_model.specs.declared.Collected.{Collected}
+use Rattle.clr_model.specs.Collection.{is_fit}
 use Rattle.clr_collect.specs.Collecting.{world_with}
 use Rattle.clr_collect.proofs.BeforeSlide.{whole_collection}
 use Rattle.clr_collect.proofs.MovedWorld.{known_moved, moved_comes}
@@ -28,8 +29,8 @@ sweep-swept-requires-clause-laid c =
     c.mark_kept.new.heap c.mark_kept.new.handles c.mark_kept.new.finals c.args.g c.requires.generation
     c.mark_kept.ensures.kept c.requires.world
 
-pub move_survivors-promoted-requires-clause-laid : goal.move_survivors-promoted-requires-clause-laid
-move_survivors-promoted-requires-clause-laid c =
+pub move_kept-promoted-requires-clause-laid : goal.move_kept-promoted-requires-clause-laid
+move_kept-promoted-requires-clause-laid c =
     memory_laid
     (world_with c.args.types.now c.args.heap.now c.args.locals.now c.args.handles.now c.args.finals.now)
     c.mark_kept.new.heap c.mark_kept.new.handles c.mark_kept.new.finals c.args.g c.requires.generation
@@ -103,8 +104,8 @@ pub returns-in_default-clause-collected : goal.returns-in_default-clause-collect
 returns-in_default-clause-collected c =
     let old = c.args in
     whole_collection
-    (world_with old.types.now old.heap.now old.locals.now old.handles.now old.finals.now) old.g c.requires.generation
-    old.how c.requires.unfitted old.threshold c.answer.result
+    (world_with old.types.now old.heap.now old.locals.now old.handles.now old.finals.now) old.g old.how
+    c.requires.usual old.threshold c.answer.result
     (world_with old.types.now c.sweep-swept.new.heap old.locals.now c.mark_kept.new.handles c.mark_kept.new.finals)
     (world_with old.types.now c.slide_and_release.new.heap c.slide_and_release.new.locals
     c.slide_and_release.new.handles c.slide_and_release.new.finals) old.slides.now old.slides.now
@@ -113,7 +114,7 @@ returns-in_default-clause-collected c =
     (world_with c.args.types.now c.args.heap.now c.args.locals.now c.args.handles.now c.args.finals.now)
     c.mark_kept.new.heap c.mark_kept.new.handles c.mark_kept.new.finals c.args.g c.requires.generation
     c.mark_kept.ensures.kept c.sweep-swept.new.heap c.sweep-swept.ensures.swept
-    old.how c.requires.unfitted old.threshold
+    old.how c.requires.usual old.threshold
     (λ n kept memory laid marks same. sym (ap is_some c.in_default.is)
     ∙ c.counted_to_compact.ensures.decides n kept memory laid marks same)
     c.sweep-swept.result c.sweep-swept.ensures.tally c.answer.result c.answer.ensures old.slides.now)
@@ -160,29 +161,29 @@ returns-in_default-clause-none_added c =
 
 -- ---- it compacted
 
-pub move_survivors-promoted-requires-clause-closed : goal.move_survivors-promoted-requires-clause-closed
-move_survivors-promoted-requires-clause-closed c =
+pub move_kept-promoted-requires-clause-closed : goal.move_kept-promoted-requires-clause-closed
+move_kept-promoted-requires-clause-closed c =
     closed_kept
     (world_with c.args.types.now c.args.heap.now c.args.locals.now c.args.handles.now c.args.finals.now)
     c.mark_kept.new.heap c.mark_kept.new.handles c.mark_kept.new.finals c.args.g c.requires.generation
     c.mark_kept.ensures.kept c.requires.world
 
-pub move_survivors-promoted-requires-clause-stands : goal.move_survivors-promoted-requires-clause-stands
-move_survivors-promoted-requires-clause-stands c =
+pub move_kept-promoted-requires-clause-stands : goal.move_kept-promoted-requires-clause-stands
+move_kept-promoted-requires-clause-stands c =
     slots_kept
     (world_with c.args.types.now c.args.heap.now c.args.locals.now c.args.handles.now c.args.finals.now)
     c.mark_kept.new.heap c.mark_kept.new.handles c.mark_kept.new.finals c.args.g c.requires.generation
     c.mark_kept.ensures.kept c.requires.world
 
-pub move_survivors-promoted-requires-clause-named : goal.move_survivors-promoted-requires-clause-named
-move_survivors-promoted-requires-clause-named c =
+pub move_kept-promoted-requires-clause-named : goal.move_kept-promoted-requires-clause-named
+move_kept-promoted-requires-clause-named c =
     named_kept
     (world_with c.args.types.now c.args.heap.now c.args.locals.now c.args.handles.now c.args.finals.now)
     c.mark_kept.new.heap c.mark_kept.new.handles c.mark_kept.new.finals c.args.g c.requires.generation
     c.mark_kept.ensures.kept c.requires.world
 
-pub move_survivors-promoted-requires-clause-room : goal.move_survivors-promoted-requires-clause-room
-move_survivors-promoted-requires-clause-room c =
+pub move_kept-promoted-requires-clause-room : goal.move_kept-promoted-requires-clause-room
+move_kept-promoted-requires-clause-room c =
     let same =
     pinned_kept
     (world_with c.args.types.now c.args.heap.now c.args.locals.now c.args.handles.now c.args.finals.now)
@@ -197,20 +198,20 @@ slide_and_release-requires-2-clause-world c =
     (world_with c.args.types.now c.args.heap.now c.args.locals.now c.args.handles.now c.args.finals.now)
     c.mark_kept.new.heap c.mark_kept.new.handles c.mark_kept.new.finals c.args.g c.requires.generation
     c.mark_kept.ensures.kept
-    c.move_survivors-promoted.new.heap c.move_survivors-promoted.new.locals c.move_survivors-promoted.new.handles
-    c.move_survivors-promoted.new.finals c.move_survivors-promoted.result.to1 c.move_survivors-promoted.result.to2
-    c.args.slides.now c.move_survivors-promoted.new.slides c.move_survivors-promoted.ensures.moved c.in-Some.tally
-    c.in-Some.ensures.counted
+    c.move_kept-promoted.new.heap c.move_kept-promoted.new.locals c.move_kept-promoted.new.handles
+    c.move_kept-promoted.new.finals c.move_kept-promoted.result.to1 c.move_kept-promoted.result.to2
+    c.args.slides.now c.move_kept-promoted.new.slides (is_fit c.args.how) c.move_kept-promoted.ensures.moved
+    c.in-Some.tally c.in-Some.ensures.counted
     (record {
       generation = c.args.g;
       compacted = true;
-      fitted = false;
+      fitted = is_fit c.args.how;
       background = false;
       kept = c.in-Some.tally.kept;
       freed = c.in-Some.tally.freed;
-      promoted1 = c.move_survivors-promoted.result.to1;
-      promoted2 = c.move_survivors-promoted.result.to2;
-    }) refl c.requires.world
+      promoted1 = c.move_kept-promoted.result.to1;
+      promoted2 = c.move_kept-promoted.result.to2;
+    }) refl c.args.how c.requires.usual refl c.requires.world
 
 pub slide_and_release-requires-2-clause-room : goal.slide_and_release-requires-2-clause-room
 slide_and_release-requires-2-clause-room c =
@@ -219,8 +220,8 @@ slide_and_release-requires-2-clause-room c =
     (world_with c.args.types.now c.args.heap.now c.args.locals.now c.args.handles.now c.args.finals.now)
     c.mark_kept.new.heap c.mark_kept.new.handles c.mark_kept.new.finals c.args.g c.requires.generation
     c.mark_kept.ensures.kept c.requires.world in
-    let still = c.move_survivors-promoted.ensures.pinned in
-    let more = c.move_survivors-promoted.ensures.room in
+    let still = c.move_kept-promoted.ensures.pinned in
+    let more = c.move_kept-promoted.ensures.room in
     let room = c.requires.room in
     omega (arith, same, still, more, room)
 
@@ -228,28 +229,39 @@ pub returns-clause-collected : goal.returns-clause-collected
 returns-clause-collected c =
     let old = c.args in
     whole_collection
-    (world_with old.types.now old.heap.now old.locals.now old.handles.now old.finals.now) old.g c.requires.generation
-    old.how c.requires.unfitted old.threshold c.answer-2.result
-    (world_with old.types.now c.move_survivors-promoted.new.heap c.move_survivors-promoted.new.locals
-    c.move_survivors-promoted.new.handles c.move_survivors-promoted.new.finals)
+    (world_with old.types.now old.heap.now old.locals.now old.handles.now old.finals.now) old.g old.how
+    c.requires.usual old.threshold c.answer-2.result
+    (world_with old.types.now c.move_kept-promoted.new.heap c.move_kept-promoted.new.locals
+    c.move_kept-promoted.new.handles c.move_kept-promoted.new.finals)
     (world_with old.types.now c.slide_and_release-2.new.heap c.slide_and_release-2.new.locals
     c.slide_and_release-2.new.handles c.slide_and_release-2.new.finals) old.slides.now
-    c.move_survivors-promoted.new.slides old.compacts_large.now
+    c.move_kept-promoted.new.slides old.compacts_large.now
     (moved_comes
     (world_with c.args.types.now c.args.heap.now c.args.locals.now c.args.handles.now c.args.finals.now)
     c.mark_kept.new.heap c.mark_kept.new.handles c.mark_kept.new.finals c.args.g c.requires.generation
     c.mark_kept.ensures.kept
-    c.move_survivors-promoted.new.heap c.move_survivors-promoted.new.locals c.move_survivors-promoted.new.handles
-    c.move_survivors-promoted.new.finals c.move_survivors-promoted.result.to1 c.move_survivors-promoted.result.to2
-    old.slides.now c.move_survivors-promoted.new.slides c.move_survivors-promoted.ensures.moved c.in-Some.tally
-    c.in-Some.ensures.counted c.answer-2.result c.answer-2.ensures old.how c.requires.unfitted old.threshold
+    c.move_kept-promoted.new.heap c.move_kept-promoted.new.locals c.move_kept-promoted.new.handles
+    c.move_kept-promoted.new.finals c.move_kept-promoted.result.to1 c.move_kept-promoted.result.to2
+    old.slides.now c.move_kept-promoted.new.slides (is_fit old.how) c.move_kept-promoted.ensures.moved c.in-Some.tally
+    c.in-Some.ensures.counted c.answer-2.result
+    (c.answer-2.ensures
+    ∙ ap (λ (b : Bool). record {
+      generation = old.g;
+      compacted = true;
+      fitted = b;
+      background = false;
+      kept = c.in-Some.tally.kept;
+      freed = c.in-Some.tally.freed;
+      promoted1 = c.move_kept-promoted.result.to1;
+      promoted2 = c.move_kept-promoted.result.to2;
+    }) c.is_fit.ensures) old.how c.requires.usual refl old.threshold
     (λ n kept memory laid marks same. sym (ap is_some c.in-Some.is)
     ∙ c.counted_to_compact.ensures.decides n kept memory laid marks same))
     c.slide_and_release-2.ensures.ended
 
 pub returns-clause-limit : goal.returns-clause-limit
 returns-clause-limit c =
-    c.slide_and_release-2.ensures.limit ∙ c.move_survivors-promoted.ensures.limit ∙ c.mark_kept.ensures.kept.limit
+    c.slide_and_release-2.ensures.limit ∙ c.move_kept-promoted.ensures.limit ∙ c.mark_kept.ensures.kept.limit
 
 pub returns-clause-room : goal.returns-clause-room
 returns-clause-room c =
@@ -258,8 +270,8 @@ returns-clause-room c =
     (world_with c.args.types.now c.args.heap.now c.args.locals.now c.args.handles.now c.args.finals.now)
     c.mark_kept.new.heap c.mark_kept.new.handles c.mark_kept.new.finals c.args.g c.requires.generation
     c.mark_kept.ensures.kept c.requires.world in
-    let still = c.move_survivors-promoted.ensures.pinned in
-    let more = c.move_survivors-promoted.ensures.room in
+    let still = c.move_kept-promoted.ensures.pinned in
+    let more = c.move_kept-promoted.ensures.room in
     let then_still = c.slide_and_release-2.ensures.pinned in
     let then_more = c.slide_and_release-2.ensures.room in
     let room = c.requires.room in
@@ -268,15 +280,15 @@ returns-clause-room c =
 pub returns-clause-spare : goal.returns-clause-spare
 returns-clause-spare c =
     let kept = c.mark_kept.ensures.spare in
-    let moved = c.move_survivors-promoted.ensures.spare in
+    let moved = c.move_kept-promoted.ensures.spare in
     let still = c.slide_and_release-2.ensures.spare in
     omega (arith, kept, moved, still)
 
 pub returns-clause-none_added : goal.returns-clause-none_added
 returns-clause-none_added c =
     let kept = c.mark_kept.ensures.none_added in
-    let moved = c.move_survivors-promoted.ensures.spare in
-    let many = c.move_survivors-promoted.ensures.entries in
+    let moved = c.move_kept-promoted.ensures.spare in
+    let many = c.move_kept-promoted.ensures.entries in
     let still = c.slide_and_release-2.ensures.spare in
     let as_many = c.slide_and_release-2.ensures.entries in
     omega (arith, kept, moved, many, still, as_many)

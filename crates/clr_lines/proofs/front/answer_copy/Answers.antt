@@ -8,7 +8,6 @@ returns-clause-done c =
     let w = c.in_ok-to in
     record {
       instruction = copy_local c.args.t w.to w.from;
-      built = refl;
       front = w.ensures c.args.t c.ranges.t.fits;
       outcome = _;
       follows = c.copy.ensures;

@@ -8,7 +8,6 @@ returns-clause-done c =
     let w = c.in_ok-local in
     record {
       instruction = new_object c.args.t w.local w.name.now w.len;
-      built = refl;
       front = w.ensures c.args.t c.ranges.t.fits;
       outcome = _;
       follows = c.new_object.ensures.follows;

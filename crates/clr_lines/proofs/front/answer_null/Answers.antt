@@ -8,7 +8,6 @@ returns-clause-done c =
     let w = c.in_ok-local in
     record {
       instruction = clear_local c.args.t w.local;
-      built = refl;
       front = w.ensures c.args.t c.ranges.t.fits;
       outcome = _;
       follows = c.clear.ensures;

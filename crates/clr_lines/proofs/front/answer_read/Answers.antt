@@ -8,7 +8,6 @@ returns-clause-done c =
     let w = c.in_ok-from in
     record {
       instruction = read_number c.args.t w.from w.index;
-      built = refl;
       front = w.ensures c.args.t c.ranges.t.fits;
       outcome = _;
       follows = c.read.ensures;

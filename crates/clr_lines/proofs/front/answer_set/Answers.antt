@@ -8,7 +8,6 @@ returns-clause-done c =
     let w = c.in_ok-object in
     record {
       instruction = set_slot c.args.t w.object w.index w.from;
-      built = refl;
       front = w.ensures c.args.t c.ranges.t.fits;
       outcome = _;
       follows = c.set.ensures;

@@ -45,7 +45,7 @@ same_locals : (c : After-collect-collected)
 same_locals c =
     let p = c.args.parts.now in
     with_items_is p.locals c.collect-collected.new.locals
-    (locals-after c.requires.runtime.shown c.requires.idle c.args.g c.requires.generation c.args.how c.requires.unfitted
+    (locals-after c.requires.runtime.shown c.requires.idle c.args.g c.requires.generation c.args.how c.requires.usual
     (left_world c)
     c.collect-collected.result (left c) ∙ sym c.requires.runtime.shown.locals ∙ sym p.locals.ok.0)
 
@@ -75,14 +75,14 @@ collect-collected-requires-clause-free_heads c = c.requires.runtime.shown.free_h
 pub collected-parts-requires-clause-first : goal.collected-parts-requires-clause-first
 collected-parts-requires-clause-first c =
     let before = (goal.at.collected-parts-requires-clause-first c).After-collect-collected in
-    first_fits c.requires.runtime.shown c.requires.idle c.args.g c.requires.generation c.args.how c.requires.unfitted
+    first_fits c.requires.runtime.shown c.requires.idle c.args.g c.requires.generation c.args.how c.requires.usual
     (new_world before)
     c.collect-collected.result (told before)
 
 pub collected-parts-requires-clause-second : goal.collected-parts-requires-clause-second
 collected-parts-requires-clause-second c =
     let before = (goal.at.collected-parts-requires-clause-second c).After-collect-collected in
-    second_fits c.requires.runtime.shown c.requires.idle c.args.g c.requires.generation c.args.how c.requires.unfitted
+    second_fits c.requires.runtime.shown c.requires.idle c.args.g c.requires.generation c.args.how c.requires.usual
     (new_world before)
     c.collect-collected.result (told before)
 
@@ -93,14 +93,14 @@ returns-clause-collected c =
     (rw c.stop_after.ensures
     (rw c.collect-collected.ensures.flag
     (has_collected c.requires.runtime.shown c.requires.idle c.args.g c.requires.generation c.args.how
-    c.requires.unfitted (new_world before)
+    c.requires.usual (new_world before)
     c.collect-collected.result (told before))))
 
 pub returns-clause-no_contexts : goal.returns-clause-no_contexts
 returns-clause-no_contexts c =
     let before = (goal.at.returns-clause-no_contexts c).After-collect-collected in
     no_contexts-after c.requires.runtime.shown c.requires.idle c.args.g c.requires.generation c.args.how
-    c.requires.unfitted
+    c.requires.usual
     (new_world before)
     c.collect-collected.result (told before)
 
@@ -114,7 +114,7 @@ returns-clause-runtime c =
           (rw c.stop_after.ensures
           (rw done.ensures.flag
           (collect_kept c.requires.runtime.shown c.requires.idle c.args.g c.requires.generation c.args.how
-          c.requires.unfitted
+          c.requires.usual
           (new_world before)
           done.result
           (told before) done.ensures.held done.ensures.unmarked done.ensures.free_heads done.ensures.clean)));

@@ -25,8 +25,7 @@ returns-clause-follows c =
     let passed = rw (← c.self.view_is) at (sym c.refused_thread.ensures.value ∙ c.in_default.is) in
     rw (← c.self.view_is)
     (collect_done s c.args.t c.args.g c.args.how (may_run s c.args.t passed) c.in_default-all_safe.ensures.safe
-    c.requires.generation c.requires.unfitted
-    c.collect_parts.result (seen c.collect_parts.new.parts) c.collect_parts.ensures.collected)
+    c.requires.usual c.collect_parts.result (seen c.collect_parts.new.parts) c.collect_parts.ensures.collected)
 
 pub returns-clause-counted : goal.returns-clause-counted
 returns-clause-counted c = rw (← c.self.view_is) c.collect_parts.ensures.slides

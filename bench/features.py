@@ -10,6 +10,8 @@ least times is the time of these lines.
 - `background`: a background collection of 200,000 old objects by steps of 1,000, and by its last pause alone beside its
   other parts; and a blocking sweep of them.
 - `stores`: 1,000,000 stores into old objects while no background collection runs, and while one does.
+- `fit`: a fitting of 10,000 plugs over 100,000 free items of generation 2, all of one size, and of two and four times
+  as many.
 
 Usage: features.py PROGRAM [OTHER]
 """
@@ -42,6 +44,33 @@ def graph():
             script += ["t1 new l2 Node", f"t1 set l1 {i} l2", "t1 set l2 0 l3", "t1 copy l3 l2"]
     script += ["t1 null l1", "t1 null l2", "t1 null l3", "t1 collect 1 compacting", "t1 collect 1 compacting"]
     return script
+
+
+def gaps(count, plugs):
+    """The script of so many free items of generation 2, and of so many plugs of generation 1 of their size."""
+    script = ["type Table refs", "type Node class rrn", "t1 new l0 Table 100", "t1 new l5 Table 100"]
+    script += rows("l0", count, "t1 collect 1 compacting") + ["t1 collect 1 compacting"] + halved("l0", count)
+    script += ["t1 collect 2 sweeping"] + rows("l5", plugs, "t1 collect 0 compacting") + halved("l5", plugs)
+    return script
+
+
+def rows(table, count, collect):
+    """Lines that make two objects for each of `count`, in rows of the table, and collect."""
+    script = []
+    for row in range(2 * count // ROW):
+        script += [f"t1 new l1 Table {ROW}", f"t1 set {table} {row} l1"]
+        for i in range(ROW):
+            script += ["t1 new l2 Node", f"t1 set l1 {i} l2"]
+    return script + ["t1 null l1", "t1 null l2", collect]
+
+
+def halved(table, count):
+    """Lines that drop every second of these objects."""
+    script = []
+    for row in range(2 * count // ROW):
+        script.append(f"t1 get l1 {table} {row}")
+        script += [f"t1 set l1 {i} l3" for i in range(0, ROW, 2)]
+    return script + ["t1 null l1"]
 
 
 def timed(programs, folder, before, lines):
@@ -89,6 +118,9 @@ def main():
         stores = ["t1 get l1 l0 3", "t1 get l2 l1 7"] + ["t1 set l1 9 l2"] * STORES
         show("a store", timed(programs, folder, old, stores), "ns", STORES)
         show("a store while one runs", timed(programs, folder, old + begun, stores), "ns", STORES)
+        for count in (100_000, 200_000, 400_000):
+            fitted = timed(programs, folder, gaps(count, count // 10), ["t1 collect 1 fitting"])
+            show(f"a fitting of {count // 10} plugs over {count} free items", fitted, "ms", 1)
 
 
 def write(folder, lines):

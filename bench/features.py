@@ -10,8 +10,8 @@ least times is the time of these lines.
 - `background`: a background collection of 200,000 old objects by steps of 1,000, and by its last pause alone beside its
   other parts; and a blocking sweep of them.
 - `stores`: 1,000,000 stores into old objects while no background collection runs, and while one does.
-- `fit`: a fitting of 10,000 plugs over 100,000 free items of generation 2, all of one size, and of two and four times
-  as many.
+- `fit`: a fitting of 10,000 plugs over 100,000 free items of generation 2, all of one size. With more plugs young
+  collections of the births take some of them to generation 2 before the fitting.
 
 Usage: features.py PROGRAM [OTHER]
 """
@@ -118,9 +118,8 @@ def main():
         stores = ["t1 get l1 l0 3", "t1 get l2 l1 7"] + ["t1 set l1 9 l2"] * STORES
         show("a store", timed(programs, folder, old, stores), "ns", STORES)
         show("a store while one runs", timed(programs, folder, old + begun, stores), "ns", STORES)
-        for count in (100_000, 200_000, 400_000):
-            fitted = timed(programs, folder, gaps(count, count // 10), ["t1 collect 1 fitting"])
-            show(f"a fitting of {count // 10} plugs over {count} free items", fitted, "ms", 1)
+        fitted = timed(programs, folder, gaps(100_000, 10_000), ["t1 collect 1 fitting"])
+        show("a fitting", fitted, "ms", 1)
 
 
 def write(folder, lines):

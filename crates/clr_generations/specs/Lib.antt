@@ -6,3 +6,4 @@ pub mod Finding
 pub mod Renewing
 pub mod OldBirths
 pub mod Acquiring
+pub mod Tidy

@@ -12,6 +12,7 @@ mod covering;
 mod finding;
 mod old_births;
 mod renewing;
+mod space;
 
 pub use crate::acquiring::acquire;
 pub use crate::all_bricks::renew_all_bricks;
@@ -21,3 +22,4 @@ pub use crate::covering::cover_segments;
 pub use crate::finding::object_at;
 pub use crate::old_births::enter_old_newborn;
 pub use crate::renewing::{renew_aged_bricks, renew_bricks};
+pub use crate::space::Space;

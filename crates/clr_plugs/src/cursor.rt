@@ -100,7 +100,7 @@ impl PlugCursor {
         let _ = heap.segments();
         let brick = self.brick;
         let base = brick * BRICK;
-        let (root, _) = lead(bricks, brick);
+        let (root, _) = lead(bricks, near, brick);
         let below = children_in(heap, near, base, root);
         let count = gather(
             heap,

@@ -17,6 +17,7 @@ ghost use Rattle.clr_scan.specs.SetCards.{AreCleared};
 use crate::cards::scan_cards;
 use clr_bricks::Bricks;
 use clr_cards::Cards;
+use clr_generations::Space;
 use clr_handles::Handles;
 use clr_heap::Heap;
 use clr_mark::Marker;
@@ -33,41 +34,46 @@ use clr_types::Types;
 /// All contexts are given up, no item reaches over a boundary of generations, and cards and bricks obey their laws.
 pub fn mark_from(
     marker: &mut Marker,
-    heap: &mut Heap,
+    space: &mut Space,
     types: &Types,
     g: u8,
     handles: &Handles,
     locals: &[u64],
     ready: &[u64],
-    cards: &mut Cards,
-    bricks: &Bricks,
 )
     requires known { g ≤ 2 }
-    requires closed { IsClosed types.now heap.old }
-    requires clear { (x : ℕ) → Marked types.now heap.old x → ⊥ }
-    requires handles { HandlesStand types.now heap.old handles.now }
-    requires locals { AreObjects types.now heap.old locals.now }
-    requires ready { AreObjects types.now heap.old ready.now }
-    requires no_contexts { heap.old.rests ≡ no_rests }
-    requires parts { g ≤ 1 → HaveOldParts types.now heap.old g }
-    requires tables { AreTablesOf types.now heap.old cards.old bricks.now }
+    requires closed { IsClosed types.now space.old.heap }
+    requires clear { (x : ℕ) → Marked types.now space.old.heap x → ⊥ }
+    requires handles { HandlesStand types.now space.old.heap handles.now }
+    requires locals { AreObjects types.now space.old.heap locals.now }
+    requires ready { AreObjects types.now space.old.heap ready.now }
+    requires no_contexts { space.old.heap.rests ≡ no_rests }
+    requires parts { g ≤ 1 → HaveOldParts types.now space.old.heap g }
+    requires tables { AreTablesOf types.now space.old.heap space.old.cards space.old.bricks }
     ensures marker { marker.new ≡ record marker.old { stack = []; range = None; oldest = g } }
-    ensures gray { IsGray types.now heap.new marker.new }
-    ensures words { IsRemarked types.now heap.old heap.new }
-    ensures marked { (x : ℕ) → Marked types.now heap.new x
-        ↔ Reach (Draws types.now heap.old handles.now g)
-        (λ y. IsCondemnedStart types.now heap.old handles.now g locals.now ready.now y
-        ⊎ IsNamedByOlder types.now heap.old g y) x }
-    ensures tables { AreTablesOf types.now heap.new cards.new bricks.now }
-    ensures kept { (i : ℕ) → is_card_set cards.new i ≡ true → is_card_set cards.old i ≡ true }
-    ensures cleared { g ≤ 1 → (k : ℕ) → k < length heap.old.segments → AreCleared types.now heap.old
-        (is_card_set cards.new) k (first_of heap.old k) (old_end heap.old g k) }
+    ensures gray { IsGray types.now space.new.heap marker.new }
+    ensures words { IsRemarked types.now space.old.heap space.new.heap }
+    ensures marked { (x : ℕ) → Marked types.now space.new.heap x
+        ↔ Reach (Draws types.now space.old.heap handles.now g)
+        (λ y. IsCondemnedStart types.now space.old.heap handles.now g locals.now ready.now y
+        ⊎ IsNamedByOlder types.now space.old.heap g y) x }
+    ensures tables { AreTablesOf types.now space.new.heap space.new.cards space.new.bricks }
+    ensures bricks { space.new.bricks ≡ space.old.bricks }
+    ensures kept { (i : ℕ) → is_card_set space.new.cards i ≡ true → is_card_set space.old.cards i ≡ true }
+    ensures cleared { g ≤ 1 → (k : ℕ) → k < length space.old.heap.segments → AreCleared types.now space.old.heap
+        (is_card_set space.new.cards) k (first_of space.old.heap k) (old_end space.old.heap g k) }
 {
     marker.begin(g);
-    marker.roots(heap, types, locals);
-    marker.handle_roots(heap, types, handles);
-    mark_from_older(marker, heap, types, cards, bricks);
-    marker.mark_more(heap, types, handles, ready);
+    marker.roots(&mut space.heap, types, locals);
+    marker.handle_roots(&mut space.heap, types, handles);
+    mark_from_older(
+        marker,
+        &mut space.heap,
+        types,
+        &mut space.cards,
+        &space.bricks,
+    );
+    marker.mark_more(&mut space.heap, types, handles, ready);
 }
 
 // Marks the condemned objects that slots of older ones name, and what they and the marked objects reach over condemned

@@ -20,55 +20,54 @@ use clr_heap::{Heap, Item};
 use clr_mark::Marker;
 use clr_types::{ReferenceRun, Types};
 
-// Marks what the slots of an older object name that stand on `[lo, hi)`: `found` in segment `k`, of generation `age`.
-// It answers whether one of them names an object of a lower generation.
+// An older object: its item, the number of the segment in which it stands, and its generation.
+#[derive(Clone, Copy)]
+pub(crate) struct Older {
+    pub(crate) item: Item,
+    pub(crate) segment: usize,
+    pub(crate) age: u8,
+}
+
+// Marks what the slots of an older object name that stand on `[lo, hi)`. It answers whether one of them names an object
+// of a lower generation.
 pub(crate) fn scan_slots(
     marker: &mut Marker,
     heap: &mut Heap,
     types: &Types,
-    k: usize,
-    found: Item,
-    age: u8,
+    older: Older,
     lo: u64,
     hi: u64,
 ) -> bool
     requires gray { IsGray types.now heap.old marker.old }
-    requires listed { IsIn found (heap_items types.now heap.old) }
-    requires object { is_object found ≡ true }
+    requires listed { IsIn older.item (heap_items types.now heap.old) }
+    requires object { is_object older.item ≡ true }
     requires order { lo ≤ hi }
     requires high { hi ≤ 2 ^ 62 }
-    requires segment { k ≡ memory_index heap.old.memories found.place }
-    requires age { age ≡ generation (frame heap.old) found.place }
-    requires older { is_condemned_place heap.old marker.old.oldest found.place ≡ false }
+    requires segment { older.segment ≡ memory_index heap.old.memories older.item.place }
+    requires age { older.age ≡ generation (frame heap.old) older.item.place }
+    requires older { is_condemned_place heap.old marker.old.oldest older.item.place ≡ false }
     ensures gray { IsGray types.now heap.new marker.new }
     ensures scanned { HasScanned types.now heap.old heap.new marker.old marker.new }
-    ensures traced { (a : ℕ) → IsReferenceOf types.now found a → lo ≤ a → a < hi
+    ensures traced { (a : ℕ) → IsReferenceOf types.now older.item a → lo ≤ a → a < hi
         → IsTraced heap.old types.now heap.new marker.old.oldest a }
-    ensures silent { ((a : ℕ) → IsReferenceOf types.now found a → lo ≤ a → a < hi → IsQuiet heap.old age a)
+    ensures silent { ((a : ℕ) → IsReferenceOf types.now older.item a → lo ≤ a → a < hi → IsQuiet heap.old older.age a)
         → result ≡ false }
-    ensures clear { result ≡ false → (a : ℕ) → IsReferenceOf types.now found a → lo ≤ a → a < hi
-        → IsQuiet heap.old age a }
+    ensures clear { result ≡ false → (a : ℕ) → IsReferenceOf types.now older.item a → lo ≤ a → a < hi
+        → IsQuiet heap.old older.age a }
 {
+    let found = older.item;
     if types.series(found.type_id).is_empty() {
         return false;
     }
     if let Some(run) = types.reference_run(found.type_id, found.len) {
-        return scan_words(marker, heap, types, k, found, age, lo, hi, run);
+        return scan_words(marker, heap, types, older, lo, hi, run);
     }
     let (from, to) = slots_on(types, found, lo, hi);
     let mut younger = false;
     for j in from..to {
         let slot = types.slot(found.type_id, found.len, j);
         if slot.reference {
-            let below = scan_slot(
-                marker,
-                heap,
-                types,
-                k,
-                found,
-                age,
-                found.place + slot.offset,
-            );
+            let below = scan_slot(marker, heap, types, older, found.place + slot.offset);
             younger |= below;
         }
     }
@@ -82,46 +81,44 @@ fn scan_words(
     marker: &mut Marker,
     heap: &mut Heap,
     types: &Types,
-    k: usize,
-    found: Item,
-    age: u8,
+    older: Older,
     lo: u64,
     hi: u64,
     run: ReferenceRun,
 ) -> bool
-    requires run { item_references types.now found ≡ offsets_from run.offset run.count }
+    requires run { item_references types.now older.item ≡ offsets_from run.offset run.count }
     requires gray { IsGray types.now heap.old marker.old }
-    requires listed { IsIn found (heap_items types.now heap.old) }
-    requires object { is_object found ≡ true }
+    requires listed { IsIn older.item (heap_items types.now heap.old) }
+    requires object { is_object older.item ≡ true }
     requires order { lo ≤ hi }
     requires high { hi ≤ 2 ^ 62 }
-    requires segment { k ≡ memory_index heap.old.memories found.place }
-    requires age { age ≡ generation (frame heap.old) found.place }
-    requires older { is_condemned_place heap.old marker.old.oldest found.place ≡ false }
+    requires segment { older.segment ≡ memory_index heap.old.memories older.item.place }
+    requires age { older.age ≡ generation (frame heap.old) older.item.place }
+    requires older { is_condemned_place heap.old marker.old.oldest older.item.place ≡ false }
     ensures gray { IsGray types.now heap.new marker.new }
     ensures scanned { HasScanned types.now heap.old heap.new marker.old marker.new }
-    ensures traced { (a : ℕ) → IsReferenceOf types.now found a → lo ≤ a → a < hi
+    ensures traced { (a : ℕ) → IsReferenceOf types.now older.item a → lo ≤ a → a < hi
         → IsTraced heap.old types.now heap.new marker.old.oldest a }
-    ensures silent { ((a : ℕ) → IsReferenceOf types.now found a → lo ≤ a → a < hi → IsQuiet heap.old age a)
+    ensures silent { ((a : ℕ) → IsReferenceOf types.now older.item a → lo ≤ a → a < hi → IsQuiet heap.old older.age a)
         → result ≡ false }
-    ensures clear { result ≡ false → (a : ℕ) → IsReferenceOf types.now found a → lo ≤ a → a < hi
-        → IsQuiet heap.old age a }
+    ensures clear { result ≡ false → (a : ℕ) → IsReferenceOf types.now older.item a → lo ≤ a → a < hi
+        → IsQuiet heap.old older.age a }
 {
     if run.count == 0 {
         return false;
     }
-    let first = found.place + run.offset;
+    let first = older.item.place + run.offset;
     let to = words_to(first, hi).min(run.count);
     let from = words_to(first, lo).min(to);
     let mut younger = false;
     let mut at = from;
     while at < to {
-        let bound = looked_for(younger, age, marker.oldest());
-        let met = pass_words(heap, k, first, at, to, bound);
+        let bound = looked_for(younger, older.age, marker.oldest());
+        let met = pass_words(heap, older.segment, first, at, to, bound);
         if met == to {
             return younger;
         }
-        let below = scan_slot(marker, heap, types, k, found, age, first + 8 * met);
+        let below = scan_slot(marker, heap, types, older, first + 8 * met);
         younger |= below;
         at = met + 1;
     }
@@ -180,30 +177,22 @@ fn lowest_below(heap: &Heap, age: u8) -> u64
 // Marks what the reference at `a` of an older object names, where that is condemned. It answers whether that is of a
 // lower generation.
 #[inline]
-fn scan_slot(
-    marker: &mut Marker,
-    heap: &mut Heap,
-    types: &Types,
-    k: usize,
-    found: Item,
-    age: u8,
-    a: u64,
-) -> bool
+fn scan_slot(marker: &mut Marker, heap: &mut Heap, types: &Types, older: Older, a: u64) -> bool
     requires gray { IsGray types.now heap.old marker.old }
-    requires listed { IsIn found (heap_items types.now heap.old) }
-    requires reference { IsReferenceOf types.now found a }
-    requires segment { k ≡ memory_index heap.old.memories found.place }
-    requires age { age ≡ generation (frame heap.old) found.place }
-    requires older { is_condemned_place heap.old marker.old.oldest found.place ≡ false }
+    requires listed { IsIn older.item (heap_items types.now heap.old) }
+    requires reference { IsReferenceOf types.now older.item a }
+    requires segment { older.segment ≡ memory_index heap.old.memories older.item.place }
+    requires age { older.age ≡ generation (frame heap.old) older.item.place }
+    requires older { is_condemned_place heap.old marker.old.oldest older.item.place ≡ false }
     ensures gray { IsGray types.now heap.new marker.new }
     ensures scanned { HasScanned types.now heap.old heap.new marker.old marker.new }
     ensures traced { IsTraced heap.old types.now heap.new marker.old.oldest a }
     ensures younger { result ≡ (not (word_of heap.old a == 0) && nat_lt
-        (generation (frame heap.old) (word_of heap.old a)) age) }
+        (generation (frame heap.old) (word_of heap.old a)) older.age) }
 {
-    let target = heap.word_at(k, a);
+    let target = heap.word_at(older.segment, a);
     let generation = heap.gen_of(target);
-    if generation >= age {
+    if generation >= older.age {
         return false;
     }
     if target == 0 {

@@ -10,7 +10,7 @@ ghost use Rattle.clr_scan.specs.OldParts.{AreOlder};
 ghost use Rattle.clr_scan.specs.References.{AreQuiet, IsQuiet, IsReferenceOf};
 ghost use Rattle.clr_scan.specs.Scans.{AreTraced, HasScanned, IsCursor, IsTraced};
 
-use crate::slots::scan_slots;
+use crate::slots::{Older, scan_slots};
 use clr_heap::Heap;
 use clr_mark::Marker;
 use clr_types::Types;
@@ -86,7 +86,11 @@ fn scan_item(
     if found.type_id.0 == 0 || place + found.size <= lo {
         return (found.size, false);
     }
-    let age = heap.gen_of(place);
-    let younger = scan_slots(marker, heap, types, k, found, age, lo, hi);
+    let older = Older {
+        item: found,
+        segment: k,
+        age: heap.gen_of(place),
+    };
+    let younger = scan_slots(marker, heap, types, older, lo, hi);
     (found.size, younger)
 }

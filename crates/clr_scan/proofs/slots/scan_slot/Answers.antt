@@ -11,26 +11,26 @@ use Rattle.clr_scan.proofs.slots.scan_slot.Goals as goal
 
 pub word_at-target-requires-clause-word : goal.word_at-target-requires-clause-word
 word_at-target-requires-clause-word c =
-    ref_has c.args.types.now c.args.heap.now c.requires.gray.closed c.args.found c.requires.listed c.args.a
+    ref_has c.args.types.now c.args.heap.now c.requires.gray.closed c.args.older.item c.requires.listed c.args.a
     c.requires.reference
 
 pub word_at-target-requires-clause-segment : goal.word_at-target-requires-clause-segment
 word_at-target-requires-clause-segment c = c.requires.segment
-    ∙ ref_index c.args.types.now c.args.heap.now c.requires.gray.closed c.args.found c.requires.listed c.args.a
+    ∙ ref_index c.args.types.now c.args.heap.now c.requires.gray.closed c.args.older.item c.requires.listed c.args.a
     c.requires.reference
 
-pub returns-then-generation-age-clause-scanned : goal.returns-then-generation-age-clause-scanned
-returns-then-generation-age-clause-scanned c = scanned-refl c.args.types.now c.args.heap.now c.args.marker.now
+pub returns-then-generation-older-clause-scanned : goal.returns-then-generation-older-clause-scanned
+returns-then-generation-older-clause-scanned c = scanned-refl c.args.types.now c.args.heap.now c.args.marker.now
 
-pub returns-then-generation-age-clause-traced : goal.returns-then-generation-age-clause-traced
-returns-then-generation-age-clause-traced c ne near =
+pub returns-then-generation-older-clause-traced : goal.returns-then-generation-older-clause-traced
+returns-then-generation-older-clause-traced c ne near =
     let h = c.args.heap.now in
     let most = condemned-most h c.args.marker.now.oldest (word_of h c.args.a) near in
-    let above = older-above h c.args.marker.now.oldest c.args.found.place c.requires.older in
+    let above = older-above h c.args.marker.now.oldest c.args.older.item.place c.requires.older in
     let age = c.requires.age in
     let word = ap (generation (frame h)) c.word_at-target.ensures in
     let of = c.gen_of-generation.ensures in
-    let l = c.if-generation-age.true in
+    let l = c.if-generation-older.true in
     absurd (omega (arith, most, above, age, word, of, l))
 
 pub returns-then-target-eq0-clause-scanned : goal.returns-then-target-eq0-clause-scanned
@@ -52,7 +52,7 @@ returns-then-generation-oldest-clause-traced c ne near =
 pub mark_target-requires-clause-object : goal.mark_target-requires-clause-object
 mark_target-requires-clause-object c =
     subst (StandsAt c.args.types.now c.args.heap.now) (sym c.word_at-target.ensures)
-    (ref_stands c.args.types.now c.args.heap.now c.requires.gray.closed c.args.found c.requires.listed c.args.a
+    (ref_stands c.args.types.now c.args.heap.now c.requires.gray.closed c.args.older.item c.requires.listed c.args.a
     c.requires.reference (λ e. c.if-target-eq0.false (c.word_at-target.ensures ∙ e)))
 
 pub mark_target-requires-clause-named : goal.mark_target-requires-clause-named
@@ -62,7 +62,7 @@ mark_target-requires-clause-named c =
     let m = c.args.marker.now in
     let word = c.word_at-target.ensures in
     let P : ℕ → Type 0 = λ y. is_condemned_place h m.oldest y ≡ true → IsNamedByOlder rows h m.oldest y in
-    subst P (sym word) (ref_older rows h c.requires.gray.closed c.args.found c.requires.listed c.args.a
+    subst P (sym word) (ref_older rows h c.requires.gray.closed c.args.older.item c.requires.listed c.args.a
     c.requires.reference m.oldest c.requires.older (λ e. c.if-target-eq0.false (word ∙ e)))
 
 pub returns-clause-traced : goal.returns-clause-traced

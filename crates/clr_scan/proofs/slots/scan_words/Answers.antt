@@ -17,33 +17,33 @@ returns-then-run-eq0-clause-scanned c = scanned-refl c.args.types.now c.args.hea
 
 pub returns-then-run-eq0-clause-traced : goal.returns-then-run-eq0-clause-traced
 returns-then-run-eq0-clause-traced c a r low high ne near =
-    absurd (no_words c.args.types.now c.args.found c.args.run.offset c.args.run.count a c.requires.run
+    absurd (no_words c.args.types.now c.args.older.item c.args.run.offset c.args.run.count a c.requires.run
     c.if-run-eq0.true r)
 
 pub returns-then-run-eq0-clause-clear : goal.returns-then-run-eq0-clause-clear
 returns-then-run-eq0-clause-clear c e a r low high ne less =
-    absurd (no_words c.args.types.now c.args.found c.args.run.offset c.args.run.count a c.requires.run
+    absurd (no_words c.args.types.now c.args.older.item c.args.run.offset c.args.run.count a c.requires.run
     c.if-run-eq0.true r)
 
 pub overflow_add-first : goal.overflow_add-first
 overflow_add-first c =
-    let r = word_reference c.args.types.now c.args.found c.args.run.offset c.args.run.count 0 c.requires.object
+    let r = word_reference c.args.types.now c.args.older.item c.args.run.offset c.args.run.count 0 c.requires.object
     c.requires.run (let some = c.if-run-eq0.false in omega (arith, some)) in
-    let low = ref_low c.args.types.now c.args.heap.now c.requires.gray.closed c.args.found c.requires.listed
-    (c.args.found.place + c.args.run.offset + 8 * 0) r in
+    let low = ref_low c.args.types.now c.args.heap.now c.requires.gray.closed c.args.older.item c.requires.listed
+    (c.args.older.item.place + c.args.run.offset + 8 * 0) r in
     omega (arith, low)
 
 pub loop-at-init : goal.loop-at-init
 loop-at-init c = (
-  word_scan_starts c.args.types.now c.args.heap.now c.args.marker.now (c.args.found.place + c.args.run.offset)
-      c.args.age c.min-from.result c.requires.gray,
+  word_scan_starts c.args.types.now c.args.heap.now c.args.marker.now (c.args.older.item.place + c.args.run.offset)
+      c.args.older.age c.min-from.result c.requires.gray,
   omega arith,
   let from = c.min-from.ensures in omega (arith, from),
 )
 
 pub looked_for-bound-requires : goal.looked_for-bound-requires
 looked_for-bound-requires c =
-    let above = older-above c.args.heap.now c.args.marker.now.oldest c.args.found.place c.requires.older in
+    let above = older-above c.args.heap.now c.args.marker.now.oldest c.args.older.item.place c.requires.older in
     let oldest = c.loop-at.invariant.0.scanned.oldest in
     let read = c.oldest.ensures in
     let age = c.requires.age in
@@ -54,7 +54,7 @@ pass_words-met-requires-clause-some c = let above = c.looked_for-bound.ensures.a
 
 pub pass_words-met-requires-clause-most : goal.pass_words-met-requires-clause-most
 pass_words-met-requires-clause-most c =
-    let most = generation-most (frame c.args.heap.now) c.args.found.place in
+    let most = generation-most (frame c.args.heap.now) c.args.older.item.place in
     let age = c.requires.age in
     let below = c.looked_for-bound.ensures.most in
     omega (arith, most, age, below)
@@ -62,15 +62,15 @@ pass_words-met-requires-clause-most c =
 pub pass_words-met-requires-clause-fits : goal.pass_words-met-requires-clause-fits
 pass_words-met-requires-clause-fits c j l =
     let top = c.min-to.ensures in
-    word_low c.args.types.now c.args.heap.now c.requires.gray.closed c.args.found c.requires.listed c.args.run.offset
-    c.args.run.count c.requires.object c.requires.run j (omega (arith, top, l))
+    word_low c.args.types.now c.args.heap.now c.requires.gray.closed c.args.older.item c.requires.listed
+    c.args.run.offset c.args.run.count c.requires.object c.requires.run j (omega (arith, top, l))
 
 pub pass_words-met-requires-clause-words : goal.pass_words-met-requires-clause-words
 pass_words-met-requires-clause-words c j l =
     let inv = c.loop-at.invariant.0 in
     let top = c.min-to.ensures in
-    word_has c.args.types.now c.loop-at.heap inv.gray.closed c.args.found
-    (listed-on c.args.types.now c.args.heap.now c.loop-at.heap c.args.found c.requires.gray.closed.heap
+    word_has c.args.types.now c.loop-at.heap inv.gray.closed c.args.older.item
+    (listed-on c.args.types.now c.args.heap.now c.loop-at.heap c.args.older.item c.requires.gray.closed.heap
     c.requires.gray.closed.held inv.scanned.remarked c.requires.listed)
     c.args.run.offset c.args.run.count c.requires.object c.requires.run j (omega (arith, top, l))
 
@@ -79,10 +79,10 @@ pass_words-met-requires-clause-segment c j l =
     let inv = c.loop-at.invariant.0 in
     let top = c.min-to.ensures in
     c.requires.segment
-    ∙ sym (memory_index-shapes c.loop-at.heap.memories c.args.heap.now.memories c.args.found.place
+    ∙ sym (memory_index-shapes c.loop-at.heap.memories c.args.heap.now.memories c.args.older.item.place
     inv.scanned.remarked.shape.memories)
-    ∙ word_index c.args.types.now c.loop-at.heap inv.gray.closed c.args.found
-    (listed-on c.args.types.now c.args.heap.now c.loop-at.heap c.args.found c.requires.gray.closed.heap
+    ∙ word_index c.args.types.now c.loop-at.heap inv.gray.closed c.args.older.item
+    (listed-on c.args.types.now c.args.heap.now c.loop-at.heap c.args.older.item c.requires.gray.closed.heap
     c.requires.gray.closed.held inv.scanned.remarked c.requires.listed)
     c.args.run.offset c.args.run.count c.requires.object c.requires.run j (omega (arith, top, l))
 
@@ -91,71 +91,72 @@ overflow_mul-met c =
     let top = c.min-to.ensures in
     let within = c.pass_words-met.ensures.within in
     let ne = c.if-met-to.false in
-    let low = word_low c.args.types.now c.args.heap.now c.requires.gray.closed c.args.found c.requires.listed
+    let low = word_low c.args.types.now c.args.heap.now c.requires.gray.closed c.args.older.item c.requires.listed
     c.args.run.offset c.args.run.count c.requires.object c.requires.run c.pass_words-met.result
     (omega (arith, top, within, ne)) in
     omega (arith, low)
 
 pub scan_slot-below-requires-clause-listed : goal.scan_slot-below-requires-clause-listed
 scan_slot-below-requires-clause-listed c =
-    listed-on c.args.types.now c.args.heap.now c.loop-at.heap c.args.found c.requires.gray.closed.heap
+    listed-on c.args.types.now c.args.heap.now c.loop-at.heap c.args.older.item c.requires.gray.closed.heap
     c.requires.gray.closed.held c.loop-at.invariant.0.scanned.remarked c.requires.listed
 
 pub scan_slot-below-requires-clause-reference : goal.scan_slot-below-requires-clause-reference
 scan_slot-below-requires-clause-reference c =
-    word_reference c.args.types.now c.args.found c.args.run.offset c.args.run.count c.pass_words-met.result
+    word_reference c.args.types.now c.args.older.item c.args.run.offset c.args.run.count c.pass_words-met.result
     c.requires.object c.requires.run
     (let top = c.min-to.ensures in let within = c.pass_words-met.ensures.within in let ne = c.if-met-to.false in
     omega (arith, top, within, ne))
 
 pub scan_slot-below-requires-clause-segment : goal.scan_slot-below-requires-clause-segment
 scan_slot-below-requires-clause-segment c = c.requires.segment
-    ∙ sym (memory_index-shapes c.loop-at.heap.memories c.args.heap.now.memories c.args.found.place
+    ∙ sym (memory_index-shapes c.loop-at.heap.memories c.args.heap.now.memories c.args.older.item.place
     c.loop-at.invariant.0.scanned.remarked.shape.memories)
 
 pub scan_slot-below-requires-clause-older : goal.scan_slot-below-requires-clause-older
 scan_slot-below-requires-clause-older c =
-    ap (λ (g : ℕ). is_condemned_place c.loop-at.heap g c.args.found.place) c.loop-at.invariant.0.scanned.oldest
-    ∙ same_condemned c.args.types.now c.args.heap.now c.loop-at.heap c.args.marker.now.oldest c.args.found.place
+    ap (λ (g : ℕ). is_condemned_place c.loop-at.heap g c.args.older.item.place) c.loop-at.invariant.0.scanned.oldest
+    ∙ same_condemned c.args.types.now c.args.heap.now c.loop-at.heap c.args.marker.now.oldest c.args.older.item.place
     c.loop-at.invariant.0.scanned.remarked ∙ c.requires.older
 
 -- the words before the one that was met are passed
 met_scan : (c : goal.After-scan_slot-below)
     → IsWordScan c.args.types.now c.args.heap.now c.loop-at.heap c.args.marker.now c.loop-at.marker
-    (c.args.found.place + c.args.run.offset) c.args.age c.min-from.result c.pass_words-met.result
+    (c.args.older.item.place + c.args.run.offset) c.args.older.age c.min-from.result c.pass_words-met.result
     c.loop-at.younger
 met_scan c =
-    words_passed c.args.types.now c.args.heap.now c.loop-at.heap c.args.marker.now c.loop-at.marker c.args.found
-    (c.args.found.place + c.args.run.offset) c.args.age c.min-from.result c.loop-at.at c.loop-at.younger
+    words_passed c.args.types.now c.args.heap.now c.loop-at.heap c.args.marker.now c.loop-at.marker c.args.older.item
+    (c.args.older.item.place + c.args.run.offset) c.args.older.age c.min-from.result c.loop-at.at c.loop-at.younger
     c.requires.gray.closed c.requires.listed c.loop-at.invariant.0 c.pass_words-met.result c.min-to.result
     c.looked_for-bound.result (c.looked_for-bound.ensures.bound
-    ∙ ap (λ (g : ℕ). if c.loop-at.younger then g + 1 else c.args.age) c.oldest.ensures)
+    ∙ ap (λ (g : ℕ). if c.loop-at.younger then g + 1 else c.args.older.age) c.oldest.ensures)
     (let above = c.looked_for-bound.ensures.above in let oldest = c.oldest.ensures in omega (arith, above, oldest))
-    (λ t here below. word_reference c.args.types.now c.args.found c.args.run.offset c.args.run.count t
+    (λ t here below. word_reference c.args.types.now c.args.older.item c.args.run.offset c.args.run.count t
     c.requires.object c.requires.run (let top = c.min-to.ensures in omega (arith, top, below)))
     c.pass_words-met.ensures.quiet c.pass_words-met.ensures.from c.pass_words-met.ensures.within
 
 pub loop-at-preserved : goal.loop-at-preserved
 loop-at-preserved c =
     let scan = c.scan_slot-below.ensures in
-    let a = c.args.found.place + c.args.run.offset + 8 * c.pass_words-met.result in
+    let a = c.args.older.item.place + c.args.run.offset + 8 * c.pass_words-met.result in
     let word = word_of c.loop-at.heap a in
     let low = c.loop-at.invariant.1 in
     let from = c.pass_words-met.ensures.from in
     let within = c.pass_words-met.ensures.within in
     let ne = c.if-met-to.false in (
-      word_followed c.args.types.now c.args.heap.now c.loop-at.heap c.args.marker.now c.loop-at.marker c.args.found
-          (c.args.found.place + c.args.run.offset) c.args.age c.min-from.result c.pass_words-met.result
+      word_followed c.args.types.now c.args.heap.now c.loop-at.heap c.args.marker.now c.loop-at.marker c.args.older.item
+          (c.args.older.item.place + c.args.run.offset) c.args.older.age c.min-from.result c.pass_words-met.result
           c.loop-at.younger c.requires.gray.closed c.requires.listed (met_scan c)
-          (word_reference c.args.types.now c.args.found c.args.run.offset c.args.run.count c.pass_words-met.result
+          (word_reference c.args.types.now c.args.older.item c.args.run.offset c.args.run.count c.pass_words-met.result
           c.requires.object c.requires.run
           (let top = c.min-to.ensures in let within = c.pass_words-met.ensures.within in let ne = c.if-met-to.false in
           omega (arith, top, within, ne)))
           c.scan_slot-below.new.heap c.scan_slot-below.new.marker c.scan_slot-below.result
           (c.loop-at.younger || c.scan_slot-below.result) scan.gray scan.scanned scan.traced
-          (slot_clear word c.args.age (generation (frame c.loop-at.heap) word) c.scan_slot-below.result scan.younger)
-          (slot_silent word c.args.age (generation (frame c.loop-at.heap) word) c.scan_slot-below.result scan.younger)
-          (omega (arith, low, from)) (younger_parts c.loop-at.younger c.scan_slot-below.result)
+          (slot_clear word c.args.older.age (generation (frame c.loop-at.heap) word) c.scan_slot-below.result
+          scan.younger)
+          (slot_silent word c.args.older.age (generation (frame c.loop-at.heap) word) c.scan_slot-below.result
+          scan.younger) (omega (arith, low, from)) (younger_parts c.loop-at.younger c.scan_slot-below.result)
           (younger_joined c.loop-at.younger c.scan_slot-below.result),
       omega (arith, low, from),
       omega (arith, within, ne),
@@ -164,23 +165,23 @@ loop-at-preserved c =
 -- all words are passed
 whole_scan : (c : goal.Then-met-to)
     → IsWordScan c.args.types.now c.args.heap.now c.loop-at.heap c.args.marker.now c.loop-at.marker
-    (c.args.found.place + c.args.run.offset) c.args.age c.min-from.result c.pass_words-met.result
+    (c.args.older.item.place + c.args.run.offset) c.args.older.age c.min-from.result c.pass_words-met.result
     c.loop-at.younger
 whole_scan c =
-    words_passed c.args.types.now c.args.heap.now c.loop-at.heap c.args.marker.now c.loop-at.marker c.args.found
-    (c.args.found.place + c.args.run.offset) c.args.age c.min-from.result c.loop-at.at c.loop-at.younger
+    words_passed c.args.types.now c.args.heap.now c.loop-at.heap c.args.marker.now c.loop-at.marker c.args.older.item
+    (c.args.older.item.place + c.args.run.offset) c.args.older.age c.min-from.result c.loop-at.at c.loop-at.younger
     c.requires.gray.closed c.requires.listed c.loop-at.invariant.0 c.pass_words-met.result c.min-to.result
     c.looked_for-bound.result (c.looked_for-bound.ensures.bound
-    ∙ ap (λ (g : ℕ). if c.loop-at.younger then g + 1 else c.args.age) c.oldest.ensures)
+    ∙ ap (λ (g : ℕ). if c.loop-at.younger then g + 1 else c.args.older.age) c.oldest.ensures)
     (let above = c.looked_for-bound.ensures.above in let oldest = c.oldest.ensures in omega (arith, above, oldest))
-    (λ t here below. word_reference c.args.types.now c.args.found c.args.run.offset c.args.run.count t
+    (λ t here below. word_reference c.args.types.now c.args.older.item c.args.run.offset c.args.run.count t
     c.requires.object c.requires.run (let top = c.min-to.ensures in omega (arith, top, below)))
     c.pass_words-met.ensures.quiet c.pass_words-met.ensures.from c.pass_words-met.ensures.within
 
 pub returns-then-met-to-clause-traced : goal.returns-then-met-to-clause-traced
 returns-then-met-to-clause-traced c =
-    words_traced c.args.types.now c.args.heap.now c.loop-at.heap c.args.marker.now c.loop-at.marker c.args.found
-    (c.args.found.place + c.args.run.offset) c.args.age c.min-from.result c.pass_words-met.result
+    words_traced c.args.types.now c.args.heap.now c.loop-at.heap c.args.marker.now c.loop-at.marker c.args.older.item
+    (c.args.older.item.place + c.args.run.offset) c.args.older.age c.min-from.result c.pass_words-met.result
     c.loop-at.younger c.requires.gray.closed c.requires.listed (whole_scan c)
     c.args.run.offset c.args.run.count c.min-to.result c.args.lo c.args.hi c.requires.run refl
     (let met = c.if-met-to.true in omega (arith, met))
@@ -193,16 +194,16 @@ returns-then-met-to-clause-silent c all =
     let from = c.min-from.ensures in
     let top = c.pass_words-met.ensures.within in
     (whole_scan c).silent (λ s low high.
-    all (c.args.found.place + c.args.run.offset + 8 * s)
-    (word_reference c.args.types.now c.args.found c.args.run.offset c.args.run.count s c.requires.object
+    all (c.args.older.item.place + c.args.run.offset + 8 * s)
+    (word_reference c.args.types.now c.args.older.item c.args.run.offset c.args.run.count s c.requires.object
     c.requires.run (omega (arith, to, top, high)))
     (c.words_to-2.ensures.above s (omega (arith, from, to, low, high, top)))
     (c.words_to.ensures.below s (omega (arith, to, top, high))))
 
 pub returns-then-met-to-clause-clear : goal.returns-then-met-to-clause-clear
 returns-then-met-to-clause-clear c =
-    words_clear c.args.types.now c.args.heap.now c.loop-at.heap c.args.marker.now c.loop-at.marker c.args.found
-    (c.args.found.place + c.args.run.offset) c.args.age c.min-from.result c.pass_words-met.result
+    words_clear c.args.types.now c.args.heap.now c.loop-at.heap c.args.marker.now c.loop-at.marker c.args.older.item
+    (c.args.older.item.place + c.args.run.offset) c.args.older.age c.min-from.result c.pass_words-met.result
     c.loop-at.younger c.requires.gray.closed c.requires.listed (whole_scan c)
     c.args.run.offset c.args.run.count c.min-to.result c.args.lo c.args.hi c.requires.run refl
     (let met = c.if-met-to.true in omega (arith, met))
@@ -211,8 +212,8 @@ returns-then-met-to-clause-clear c =
 
 pub returns-clause-traced : goal.returns-clause-traced
 returns-clause-traced c =
-    words_traced c.args.types.now c.args.heap.now c.loop-at.heap c.args.marker.now c.loop-at.marker c.args.found
-    (c.args.found.place + c.args.run.offset) c.args.age c.min-from.result c.loop-at.at
+    words_traced c.args.types.now c.args.heap.now c.loop-at.heap c.args.marker.now c.loop-at.marker c.args.older.item
+    (c.args.older.item.place + c.args.run.offset) c.args.older.age c.min-from.result c.loop-at.at
     c.loop-at.younger c.requires.gray.closed c.requires.listed c.loop-at.invariant.0
     c.args.run.offset c.args.run.count c.min-to.result c.args.lo c.args.hi c.requires.run refl c.loop-at-test.false
     (λ t l. c.words_to-2.ensures.below t (let from = c.min-from.ensures in omega (arith, from, l)))
@@ -224,16 +225,16 @@ returns-clause-silent c all =
     let from = c.min-from.ensures in
     let top = c.loop-at.invariant.2 in
     c.loop-at.invariant.0.silent (λ s low high.
-    all (c.args.found.place + c.args.run.offset + 8 * s)
-    (word_reference c.args.types.now c.args.found c.args.run.offset c.args.run.count s c.requires.object
+    all (c.args.older.item.place + c.args.run.offset + 8 * s)
+    (word_reference c.args.types.now c.args.older.item c.args.run.offset c.args.run.count s c.requires.object
     c.requires.run (omega (arith, to, top, high)))
     (c.words_to-2.ensures.above s (omega (arith, from, to, low, high, top)))
     (c.words_to.ensures.below s (omega (arith, to, top, high))))
 
 pub returns-clause-clear : goal.returns-clause-clear
 returns-clause-clear c =
-    words_clear c.args.types.now c.args.heap.now c.loop-at.heap c.args.marker.now c.loop-at.marker c.args.found
-    (c.args.found.place + c.args.run.offset) c.args.age c.min-from.result c.loop-at.at
+    words_clear c.args.types.now c.args.heap.now c.loop-at.heap c.args.marker.now c.loop-at.marker c.args.older.item
+    (c.args.older.item.place + c.args.run.offset) c.args.older.age c.min-from.result c.loop-at.at
     c.loop-at.younger c.requires.gray.closed c.requires.listed c.loop-at.invariant.0
     c.args.run.offset c.args.run.count c.min-to.result c.args.lo c.args.hi c.requires.run refl c.loop-at-test.false
     (λ t l. c.words_to-2.ensures.below t (let from = c.min-from.ensures in omega (arith, from, l)))

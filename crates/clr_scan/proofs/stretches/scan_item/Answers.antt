@@ -88,7 +88,7 @@ pub scan_slots-younger-requires-clause-age : goal.scan_slots-younger-requires-cl
 scan_slots-younger-requires-clause-age c =
     let can = can_scan_item c.args.types.now c.args.heap.now c.args.k c.requires.gray.closed c.requires.in_range
     c.args.place c.requires.listed in
-    c.gen_of-age.ensures ∙ ap (generation (frame c.args.heap.now))
+    c.gen_of.ensures ∙ ap (generation (frame c.args.heap.now))
     (sym (ap (λ (i : Item). i.place) c.item_of_word-found.ensures ∙ can.place))
 
 pub scan_slots-younger-requires-clause-older : goal.scan_slots-younger-requires-clause-older
@@ -102,8 +102,8 @@ pub returns-clause-silent : goal.returns-clause-silent
 returns-clause-silent c all =
     let found = c.item_of_word-found.ensures in
     let quiet : (a : ℕ) → IsReferenceOf c.args.types.now c.item_of_word-found.result a → c.args.lo ≤ a → a < c.args.hi
-    → IsQuiet c.args.heap.now c.gen_of-age.result a =
-    λ a r low high. subst (λ n. IsQuiet c.args.heap.now n a) (sym c.gen_of-age.ensures)
+    → IsQuiet c.args.heap.now c.gen_of.result a =
+    λ a r low high. subst (λ n. IsQuiet c.args.heap.now n a) (sym c.gen_of.ensures)
     (all a (subst (λ (i : Item). IsReferenceOf c.args.types.now i a) found r) low high) in
     c.scan_slots-younger.ensures.silent quiet
 

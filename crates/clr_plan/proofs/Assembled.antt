@@ -26,6 +26,7 @@ use Rattle.clr_moves.specs.Told.{IsMarkedRun, IsPartPlanned, moves_from, TellMov
 use Rattle.clr_plan.specs.LaidParts.{end_behind}
 use Rattle.clr_plan.specs.PartLists.{AreFor, AreLaid, moves_in, opened_in, plan_in, plugs_in}
 use Rattle.clr_plan.specs.Scans.{survivors_between}
+use Rattle.clr_plan.specs.States.{state}
 use Rattle.clr_plan.specs.Writes.{IsOutsideInfo, IsSavedBefore}
 use Rattle.clr_plan.proofs.Ages.{survivor-place}
 use Rattle.clr_plan.proofs.Fitting.{move-of, plug-at}
@@ -38,7 +39,7 @@ use Rattle.clr_plan.proofs.Telling.{AreDown, last-of-plans, moves-told, plans-do
 
 module _ (rows : List TypeRow) (old now : HeapView) (bricks0 bricks : BricksView) (queue0 queue : QueueView)
     (g : Parts) (plugs : ℕ → List Plug) (count : ℕ) (homes : HaveHomes old g plugs count) (moves : List Move)
-    (laid : AreLaid old now bricks0 bricks queue0 queue g plugs count moves) where
+    (laid : AreLaid (state old bricks0 queue0) (state now bricks queue) g plugs count moves) where
   abbrev all : List Plug
   all = plugs_in old g plugs count
 

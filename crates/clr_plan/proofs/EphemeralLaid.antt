@@ -21,8 +21,7 @@ use Rattle.clr_plugs.proofs.Entries.{entry_kept}
 use Rattle.clr_plugs.proofs.Starts.{all_from, in_brick}
 use Rattle.clr_moves.specs.Moves.{part_of}
 use Rattle.clr_plan.specs.Heaps.{HasLaidHeap, IsBetweenIn, IsLaidBelow, part_plan, part_plugs, plugs_below}
-use Rattle.clr_plan.specs.LaidParts.{CanLay, end_behind, HasLaid, opened_by, planned_plugs, pushes_for, written}
-use Rattle.clr_plan.specs.LaidParts.{Written}
+use Rattle.clr_plan.specs.LaidParts.{CanLay, end_behind, HasLaid, opened_by, planned_plugs, pushes_for}
 use Rattle.clr_plan.specs.PartLists.{AreFor}
 use Rattle.clr_plan.specs.Parts.{Around, CanPlan, HasPlacedPart, plugs_around}
 use Rattle.clr_plan.specs.Planned.{pinned_count}
@@ -30,6 +29,7 @@ use Rattle.clr_plan.specs.Plans.{CanPlanHeap, condemned_plugs, HasReached, IsRai
 use Rattle.clr_plan.specs.Plans.{small_plugs, young_plugs}
 use Rattle.clr_plan.specs.Raises.{CanRaise, HasRaised}
 use Rattle.clr_plan.specs.Scans.{survivors_between}
+use Rattle.clr_plan.specs.States.{progress, state, stretch, Written, written}
 use Rattle.clr_plan.specs.Writes.{AreSavedAt, HasWritten, opened}
 use Rattle.clr_plan.specs.declared.pointer.Pointer.{Pointer}
 use Rattle.clr_plan.proofs.Ages.{plugs-are-of, young-zero}
@@ -89,7 +89,7 @@ module _ (setting : Setting) where
     abbrev begin : Written
     begin = written now bricks2 queue writer
 
-    pub older-lays : CanLay older_around rows old begin from starts free part e low start0 low
+    pub older-lays : CanLay older_around rows old (progress begin from low) starts free part (stretch e low start0)
     older-lays =
         let o = order setting in
         let a = o.first in
@@ -115,8 +115,8 @@ module _ (setting : Setting) where
           spare = let n = older-few setting (last_end 0 queue.entries) in let r = room setting in omega (arith, n, r);
         }
 
-    module _ (mid : Written) (ending : ℕ) (at : Pointer) (laid : HasLaid older_around rows old begin mid from starts
-        free part e low start0 low ending at) where
+    module _ (mid : Written) (ending : ℕ) (at : Pointer) (laid : HasLaid older_around rows old
+        (progress begin from low) (progress mid at ending) starts free part (stretch e low start0)) where
       abbrev m1 : List Move
       m1 = laid.planned.moves
 
@@ -181,7 +181,7 @@ module _ (setting : Setting) where
         abbrev pub part2 : PlannedPart
         part2 = record part { plugs = [] ++ planned_plugs low older m1 }
 
-        pub young-lays : CanLay around2 rows old mid middle starts2 free2 part2 e start0 end ending
+        pub young-lays : CanLay around2 rows old (progress mid middle ending) starts2 free2 part2 (stretch e start0 end)
         young-lays =
             let o = order setting in
             record {
@@ -194,8 +194,9 @@ module _ (setting : Setting) where
                   let r = room setting in let u = laid.spare in omega (arith, n, m, r, u);
             }
 
-        module _ (next : Written) (ending2 : ℕ) (placed : Pointer) (laid2 : HasLaid around2 rows old mid next middle
-            starts2 free2 part2 e start0 end ending ending2 placed) where
+        module _ (next : Written) (ending2 : ℕ) (placed : Pointer) (laid2 : HasLaid around2 rows old
+            (progress mid middle ending) (progress next placed ending2) starts2 free2 part2
+            (stretch e start0 end)) where
           abbrev m2 : List Move
           m2 = laid2.planned.moves
 
@@ -350,7 +351,7 @@ module _ (setting : Setting) where
                         let w = o.lowest in omega (arith, same, u, end-is, c, m, a, w))
                   ])
 
-              laid-all : IsLaidBelow rows old now5 bricks0 bricks5 queue0 next.queue g e (suc e)
+              laid-all : IsLaidBelow rows (state old bricks0 queue0) (state now5 bricks5 next.queue) g e (suc e)
                   (s.moves ++ (m1 ++ m2))
               laid-all =
                   let o = order setting in
@@ -411,7 +412,7 @@ module _ (setting : Setting) where
               pub all-laid : (start1 : ℕ) → start1 ≡ (if g == 0 then old.start1 else middle.place) → (last : Pointer)
                   → ((w : Around) (h : HeapView) → CanRaise w h next.queue.entries placed
                   → HasRaised w h next.queue.entries placed last)
-                  → HasLaidHeap rows old now5 bricks0 bricks5 queue0 next.queue g e start1 last.place
+                  → HasLaidHeap rows (state old bricks0 queue0) (state now5 bricks5 next.queue) g e start1 last.place
               all-laid start1 is last raise =
                   let next_is : suc e ≡ e + 1 = omega arith in
                   record {
@@ -434,6 +435,6 @@ module _ (setting : Setting) where
                           raised.segment next.queue.entries placed told) old (ready rows old g e can mid.queue.entries
                           middle raised.between raised.segment next.queue.entries placed told)).place;
                     };
-                    laid = subst (λ k. IsLaidBelow rows old now5 bricks0 bricks5 queue0 next.queue g e k
+                    laid = subst (λ k. IsLaidBelow rows (state old bricks0 queue0) (state now5 bricks5 next.queue) g e k
                         (s.moves ++ (m1 ++ m2))) next_is laid-all;
                   }

@@ -18,6 +18,7 @@ use Rattle.clr_plan.specs.Parts.{Around, CanPlan, plugs_around}
 use Rattle.clr_plan.specs.Planned.{pinned_count}
 use Rattle.clr_plan.specs.Plans.{CanPlanHeap, condemned_plugs, old_part, parts_in, young_plugs}
 use Rattle.clr_plan.specs.Scans.{plugs_between, survivors_between}
+use Rattle.clr_plan.specs.States.{state}
 use Rattle.clr_plan.specs.declared.pointer.Pointer.{Pointer}
 use Rattle.clr_plan.proofs.Ages.{older-one, plugs-are-of, start-order}
 use Rattle.clr_plan.proofs.Beginning.{among-at, plugs-lie, start-is, young-small}
@@ -51,7 +52,7 @@ pub record Setting : Type 0 where
   pub start0 : ℕ
   pub end : ℕ
   pub from : Pointer
-  pub s : CanLayEphemeral rows old now bricks0 bricks queue0 queue g e low from
+  pub s : CanLayEphemeral rows (state old bricks0 queue0) (state now bricks queue) g e low from
   pub heap : IsHeap now
   pub zero-is : start0 ≡ old.start0
   pub end-is : end ≡ last_of old e
@@ -59,8 +60,8 @@ pub record Setting : Type 0 where
 -- as the heap tells the boundaries and the segment
 abbrev pub setting_of : (rows : List TypeRow) (old now : HeapView) (bricks0 bricks : BricksView)
     (queue0 queue : QueueView) (g e low : ℕ) (from : Pointer)
-    → CanLayEphemeral rows old now bricks0 bricks queue0 queue g e low from → IsHeap now → (bounds : ℕ × ℕ)
-    → bounds ≡ (now.start1, now.start0) → (info : SegInfo) → info ≡ segment_at now e → Setting
+    → CanLayEphemeral rows (state old bricks0 queue0) (state now bricks queue) g e low from → IsHeap now
+    → (bounds : ℕ × ℕ) → bounds ≡ (now.start1, now.start0) → (info : SegInfo) → info ≡ segment_at now e → Setting
 setting_of rows old now bricks0 bricks queue0 queue g e low from s heap bounds same info is = record {
   rows = rows;
   old = old;

@@ -20,11 +20,12 @@ use Rattle.clr_plugs.proofs.Starts.{all_from, in_brick}
 use Rattle.clr_plugs.specs.Builders.{IsNoChildren}
 use Rattle.clr_bricks.specs.Bricks.{entry_at}
 use Rattle.clr_plan.specs.LaidParts.{CanLay, end_behind, HasLaid, IsLaying, last_pushed_for, opened_by, planned_plugs}
-use Rattle.clr_plan.specs.LaidParts.{pushes_for, Written}
+use Rattle.clr_plan.specs.LaidParts.{pushes_for}
 use Rattle.clr_plan.specs.Parts.{Around, plugs_around}
 use Rattle.clr_plan.specs.Runs.{HasNext}
 use Rattle.clr_plan.specs.Scans.{CanScan, plugs_between}
 use Rattle.clr_plan.specs.Stages.{CanGo, HasGone, Stage}
+use Rattle.clr_plan.specs.States.{progress, stretch, Written}
 use Rattle.clr_plan.specs.Waiting.{move_to, ranges_from}
 use Rattle.clr_plan.specs.Writes.{AreSavedAt, CanWrite, distance_of, entries_for, HasWritten, IsWritingAmong, opened}
 use Rattle.clr_plan.specs.declared.pointer.Pointer.{Pointer}
@@ -37,7 +38,7 @@ use Rattle.clr_plan.proofs.Seen.{go-on, gone-back, LiesUpTo, next-lies, next-old
 
 module _ (w : Around) (rows : List TypeRow) (old : HeapView) (begin : Written) (from : Pointer) (starts free : List ℕ)
     (part : PlannedPart) (k p e below : ℕ)
-    (can : CanLay w rows old begin from starts free part k p e below) where
+    (can : CanLay w rows old (progress begin from below) starts free part (stretch k p e)) where
   abbrev mine : List Plug
   mine = plugs_between rows old k p e
 
@@ -92,8 +93,8 @@ module _ (w : Around) (rows : List TypeRow) (old : HeapView) (begin : Written) (
     pub scan-here : CanScan rows now.heap k place e
     scan-here = scan-now rows old now.heap k place e ending l.laying.words.shape l.laying.words.ahead l.up l.s.scan
 
-    pub lay-ends : plugs_between rows now.heap k place e ≡ [] → HasLaid w rows old begin now from starts free part k p e
-        below ending at
+    pub lay-ends : plugs_between rows now.heap k place e ≡ [] → HasLaid w rows old (progress begin from below)
+        (progress now at ending) starts free part (stretch k p e)
     unfolding plan-ends
     lay-ends none =
         let none_old : plugs_between rows old k place e ≡ [] =

@@ -21,6 +21,7 @@ use Rattle.clr_moves.specs.Moves.{part_of, takes}
 use Rattle.clr_moves.specs.declared.parts.Parts.{Parts}
 use Rattle.clr_plan.specs.PartLists.{AreFor, AreLaid, moves_in, opened_in, plan_in, plugs_in}
 use Rattle.clr_plan.specs.LaidParts.{opened_by}
+use Rattle.clr_plan.specs.States.{state}
 use Rattle.clr_plan.specs.Writes.{AreSavedAt, HasWritten}
 use Rattle.clr_plan.proofs.Covering.{covers-same}
 use Rattle.clr_plan.proofs.KeptPlans.{plan-stays}
@@ -70,7 +71,7 @@ module _ (old : HeapView) (bricks : BricksView) (queue : QueueView) (g : Parts) 
       (off j (omega arith))
       ∙ no-opened j (omega arith)
 
-  pub nothing-laid : AreLaid old old bricks bricks queue queue g plugs k []
+  pub nothing-laid : AreLaid (state old bricks queue) (state old bricks queue) g plugs k []
   nothing-laid = record {
     each = λ t. [];
     moves_are = sym (no-moves k (omega arith));
@@ -99,9 +100,10 @@ moves-same old g each other (suc k) same =
 
 module _ (old now : HeapView) (bricks0 bricks : BricksView) (queue0 queue : QueueView) (g : Parts)
     (plugs : ℕ → List Plug) (k : ℕ) (vs : List Move)
-    (s : AreLaid old now bricks0 bricks queue0 queue g plugs k vs) where
+    (s : AreLaid (state old bricks0 queue0) (state now bricks queue) g plugs k vs) where
   -- a segment without a part
-  pub laid-over : takes g (segment_at old k) ≡ false → AreLaid old now bricks0 bricks queue0 queue g plugs (suc k) vs
+  pub laid-over : takes g (segment_at old k) ≡ false
+      → AreLaid (state old bricks0 queue0) (state now bricks queue) g plugs (suc k) vs
   laid-over off =
       let all : plugs_in old g plugs (suc k) ≡ plugs_in old g plugs k =
       ap (λ (b : Bool). plugs_in old g plugs k ++ (if b then plugs k else [])) off
@@ -174,7 +176,7 @@ module _ (old now : HeapView) (bricks0 bricks : BricksView) (queue0 queue : Queu
           (omega (arith, round)) (omega (arith, o, high)) shape outside
           (λ i u. entries i (inl (omega (arith, u, low)))) (covers-same bricks bricks2 spans_are) (s.plans t l taken)
 
-      pub laid-more : AreLaid old now2 bricks0 bricks2 queue0 queue2 g plugs (suc k) (vs ++ m)
+      pub laid-more : AreLaid (state old bricks0 queue0) (state now2 bricks2 queue2) g plugs (suc k) (vs ++ m)
       laid-more =
           let all : plugs_in old g plugs (suc k) ≡ plugs_in old g plugs k ++ plugs k =
           ap (λ (b : Bool). plugs_in old g plugs k ++ (if b then plugs k else [])) on in

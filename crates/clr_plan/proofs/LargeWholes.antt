@@ -35,6 +35,7 @@ use Rattle.clr_plan.specs.Pinned.{TellsPins}
 use Rattle.clr_plan.specs.Planned.{HasPlanned, pinned_count, pinned_marked}
 use Rattle.clr_plan.specs.Pointing.{IsAt}
 use Rattle.clr_plan.specs.Stages.{are_alike, IsAmong, IsListed}
+use Rattle.clr_plan.specs.States.{state}
 use Rattle.clr_plan.specs.WholeParts.{AreLaidWhole, CanLayWhole, CanPlanWhole, Wholes}
 use Rattle.clr_plan.specs.declared.pointer.Pointer.{Pointer}
 use Rattle.clr_plan.proofs.Alike.{alike-large}
@@ -67,7 +68,7 @@ pub record HasLaidLarge (rows : List TypeRow) (old now : HeapView) (bricks brick
   pub after : ℕ
   pub placed : Placed (large_segments (layout_in rows old)) (plugs_of_large rows old)
       (lowest_place (layout_in rows old)) (plugs_of_large rows old) moves after
-  pub laid : AreLaid old now bricks bricks_now queue queue_now LargeSegments (whole_plugs rows old)
+  pub laid : AreLaid (state old bricks queue) (state now bricks_now queue_now) LargeSegments (whole_plugs rows old)
       (length old.segments) moves
 
 module _ (rows : List TypeRow) (h : HeapView) (heap : IsHeap h) (held : IsHeld rows h) (none : h.rests ≡ no_rests) where
@@ -208,14 +209,14 @@ module _ (rows : List TypeRow) (h : HeapView) (heap : IsHeap h) (held : IsHeld r
 
   module _ (now : HeapView) (bricks0 bricks : BricksView) (queue0 queue : QueueView) where
     pub large-laid : (at : Pointer) (count : ℕ) → count ≡ length h.segments
-        → AreLaidWhole (large_wholes rows h) h now bricks0 bricks queue0 queue LargeSegments count count at
-        → HasLaidLarge rows h now bricks0 bricks queue0 queue
+        → AreLaidWhole (large_wholes rows h) (state h bricks0 queue0) (state now bricks queue) LargeSegments count count
+        at → HasLaidLarge rows h now bricks0 bricks queue0 queue
     large-laid at count all laid =
-        whole (subst (λ n. AreLaidWhole (large_wholes rows h) h now bricks0 bricks queue0 queue LargeSegments n n at)
-        all laid)
+        whole (subst (λ n. AreLaidWhole (large_wholes rows h) (state h bricks0 queue0)
+        (state now bricks queue) LargeSegments n n at) all laid)
       where
-        whole : AreLaidWhole (large_wholes rows h) h now bricks0 bricks queue0 queue LargeSegments (length h.segments)
-            (length h.segments) at → HasLaidLarge rows h now bricks0 bricks queue0 queue
+        whole : AreLaidWhole (large_wholes rows h) (state h bricks0 queue0) (state now bricks queue) LargeSegments
+            (length h.segments) (length h.segments) at → HasLaidLarge rows h now bricks0 bricks queue0 queue
         whole s = record {
           moves = s.moves;
           after = at.place;

@@ -17,6 +17,7 @@ use Rattle.clr_moves.specs.declared.parts.Parts.{Parts}
 use Rattle.clr_plan.specs.LaidParts.{planned_plugs}
 use Rattle.clr_plan.specs.PartLists.{AreFor, AreLaid, plugs_in}
 use Rattle.clr_plan.specs.Planned.{TellGaps}
+use Rattle.clr_plan.specs.States.{state}
 use Rattle.clr_plan.proofs.Assembled as assembled
 use Rattle.clr_plan.proofs.Fitting.{move-of, plug-at}
 use Rattle.clr_plan.proofs.Homes.{AreGapped, gapped-above, HaveHomes, in-plugs, inside-of, part-gapped}
@@ -67,7 +68,7 @@ gap-of word below (p ∷ ps) (v ∷ vs) f g told q (later i) =
 
 module _ (rows : List TypeRow) (old now : HeapView) (bricks0 bricks : BricksView) (queue0 queue : QueueView)
     (g : Parts) (plugs : ℕ → List Plug) (count : ℕ) (homes : HaveHomes old g plugs count) (moves : List Move)
-    (laid : AreLaid old now bricks0 bricks queue0 queue g plugs count moves) where
+    (laid : AreLaid (state old bricks0 queue0) (state now bricks queue) g plugs count moves) where
   abbrev all : List Plug
   all = plugs_in old g plugs count
 

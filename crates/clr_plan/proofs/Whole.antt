@@ -21,6 +21,7 @@ use Rattle.clr_plan.specs.Heaps.{HasLaidHeap, IsLaidBelow, part_plugs}
 use Rattle.clr_plan.specs.PartLists.{AreLaid}
 use Rattle.clr_plan.specs.Pinned.{TellsPins}
 use Rattle.clr_plan.specs.Planned.{HasPlanned}
+use Rattle.clr_plan.specs.States.{state}
 use Rattle.clr_plan.proofs.Assembled.{overlaid, tells}
 use Rattle.clr_plan.proofs.GenerationHomes.{generations-homes}
 use Rattle.clr_plan.proofs.Homes.{HaveHomes}
@@ -37,7 +38,7 @@ all-down (v ∷ vs) down = (down 0 (omega arith), all-down vs (λ k l. down (suc
 -- the plan of any parts, where its moves are those of a compaction
 pub planned-in : (rows : List TypeRow) (old now : HeapView) (bricks0 bricks : BricksView) (queue0 queue : QueueView)
     (g : Parts) (plugs : ℕ → List Plug) (count : ℕ) (homes : HaveHomes old g plugs count) (moves : List Move)
-    → AreLaid old now bricks0 bricks queue0 queue g plugs count moves → (m : Machine) (kept : ℕ → Bool)
+    → AreLaid (state old bricks0 queue0) (state now bricks queue) g plugs count moves → (m : Machine) (kept : ℕ → Bool)
     (after : Layout) → IsCompactionOf rows old g moves m kept after → age_of g ≤ 2 → ((t : ℕ) → t < count
     → takes g (segment_at old t) ≡ true → HasFacts rows old g plugs t) → AreFreeHeads rows old
     → HasPlanned rows old now bricks queue.entries g m kept after.start1 after.start0
@@ -62,7 +63,7 @@ module _ (rows : List TypeRow) (old : HeapView) (heap : IsHeap old) (held : IsHe
     ≡ ephemeral (frame old))
     (lawful : (m : Machine) × IsMemoryOf rows old m × IsLaid m × TellsPins rows old m) (now : HeapView)
     (bricks0 bricks : BricksView) (queue0 queue : QueueView) (start1 start0 : ℕ)
-    (laid : HasLaidHeap rows old now bricks0 bricks queue0 queue g e start1 start0)
+    (laid : HasLaidHeap rows (state old bricks0 queue0) (state now bricks queue) g e start1 start0)
     (m : Machine) (kept : ℕ → Bool) (memory : IsMemoryOf rows old m) (tests : TestsMarks rows old g kept)
     (pins : TellsPins rows old m) (heads : AreFreeHeads rows old)
   where
@@ -73,9 +74,10 @@ module _ (rows : List TypeRow) (old : HeapView) (heap : IsHeap old) (held : IsHe
         start0 laid.planned m kept memory tests pins in
         record { memory = memory; laid = good; tests = tests; compacted = compacted }
 
-    all-laid : IsLaidBelow rows old now bricks0 bricks queue0 queue g e (suc e) laid.moves
+    all-laid : IsLaidBelow rows (state old bricks0 queue0) (state now bricks queue) g e (suc e) laid.moves
     all-laid = let next : e + 1 ≡ suc e = omega arith in
-        subst (λ k. IsLaidBelow rows old now bricks0 bricks queue0 queue g e k laid.moves) next laid.laid
+        subst (λ k. IsLaidBelow rows (state old bricks0 queue0) (state now bricks queue) g e k laid.moves) next
+        laid.laid
 
     homes : HaveHomes old (Generations g) (part_plugs rows old g e) (suc e)
     homes = generations-homes rows old g e (can-plan-heap rows old heap held none g least e inside young lawful)

@@ -21,6 +21,7 @@ use Rattle.clr_plan.specs.PartLists.{AreFor, AreLaid, opened_in, plan_in, plugs_
 use Rattle.clr_plan.specs.Parts.{Around, plugs_around}
 use Rattle.clr_plan.specs.Planned.{pinned_count}
 use Rattle.clr_plan.specs.Scans.{CanScan, plugs_between, survivors_between}
+use Rattle.clr_plan.specs.States.{state}
 use Rattle.clr_plan.specs.WholeParts.{AreLaidWhole, CanLayWhole, Wholes, wholes}
 use Rattle.clr_plan.specs.Writes.{AreSavedAt, HasWritten}
 use Rattle.clr_plan.specs.declared.pointer.Pointer.{Pointer}
@@ -44,7 +45,7 @@ module _ (w : Wholes) (rows : List TypeRow) (old : HeapView) (bricks0 : BricksVi
     (count : ℕ) (lay : CanLayWhole w rows old bricks0 queue0 g count) where
   pub whole-laid-starts : (at : Pointer) → IsLowest old g at.segment → at.place ≡ first_of old at.segment
       → at.high ≡ reserved_end (segment_at old at.segment) → at.passed ≡ 0
-      → AreLaidWhole w old old bricks0 bricks0 queue0 queue0 g count 0 at
+      → AreLaidWhole w (state old bricks0 queue0) (state old bricks0 queue0) g count 0 at
   whole-laid-starts at is place high passed = record {
     moves = [];
     reached = whole-starts w rows old g count lay.can queue0.entries lay.empty at is place high passed;
@@ -53,7 +54,7 @@ module _ (w : Wholes) (rows : List TypeRow) (old : HeapView) (bricks0 : BricksVi
   }
 
   module _ (now : HeapView) (bricks : BricksView) (queue : QueueView) (k : ℕ) (at : Pointer) (below : k < count)
-      (s : AreLaidWhole w old now bricks0 bricks queue0 queue g count k at) where
+      (s : AreLaidWhole w (state old bricks0 queue0) (state now bricks queue) g count k at) where
     inside : k < length old.segments
     inside = let i = lay.can.inside in omega (arith, below, i)
 
@@ -62,9 +63,9 @@ module _ (w : Wholes) (rows : List TypeRow) (old : HeapView) (bricks0 : BricksVi
 
     -- a segment without a part is passed over
     pub whole-laid-over : takes g (segment_at old k) ≡ false
-        → AreLaidWhole w old now bricks0 bricks queue0 queue g count (k + 1) at
+        → AreLaidWhole w (state old bricks0 queue0) (state now bricks queue) g count (k + 1) at
     whole-laid-over off =
-        let laid : AreLaid old now bricks0 bricks queue0 queue g w.plugs (suc k) s.moves =
+        let laid : AreLaid (state old bricks0 queue0) (state now bricks queue) g w.plugs (suc k) s.moves =
         laid-over old now bricks0 bricks queue0 queue g w.plugs k s.moves s.laid off in
         let reached = whole-over w rows old g count lay.can queue.entries s.moves at k below s.reached off in
         let more = s.left in
@@ -76,7 +77,8 @@ module _ (w : Wholes) (rows : List TypeRow) (old : HeapView) (bricks0 : BricksVi
         record {
           moves = s.moves;
           reached = reached;
-          laid = subst (λ j. AreLaid old now bricks0 bricks queue0 queue g w.plugs j s.moves) next-is laid;
+          laid = subst (λ j. AreLaid (state old bricks0 queue0) (state now bricks queue) g w.plugs j s.moves) next-is
+              laid;
           left = omega (arith, more, both, same);
         }
 
@@ -132,7 +134,7 @@ module _ (w : Wholes) (rows : List TypeRow) (old : HeapView) (bricks0 : BricksVi
           let spare = lay.spare in
           omega (arith, spare, more, a, b)
 
-      pub whole-lays : CanLaySegment here rows old now bricks queue at starts free k s.laid.low
+      pub whole-lays : CanLaySegment here rows old (state now bricks queue) at starts free k s.laid.low
       whole-lays =
           let lawful = lawful_at old k lay.can.heap inside in
           let base = lawful.base in
@@ -153,7 +155,8 @@ module _ (w : Wholes) (rows : List TypeRow) (old : HeapView) (bricks0 : BricksVi
           }
 
       module _ (now2 : HeapView) (bricks2 : BricksView) (queue2 : QueueView) (at2 : Pointer)
-          (laid : HasLaidSegment here rows old now now2 bricks bricks2 queue queue2 at starts free k at2)
+          (laid : HasLaidSegment here rows old (state now bricks queue) (state now2 bricks2 queue2) at starts free k
+          at2)
           (shape : SameShape now now2) (spans_are : spans bricks2 ≡ spans bricks) where
         plan-here : IsPlanned now2 bricks2 (plan_in old g w.plugs k laid.planned.moves)
         plan-here =
@@ -191,7 +194,8 @@ module _ (w : Wholes) (rows : List TypeRow) (old : HeapView) (bricks0 : BricksVi
             let u = (lawful_at old t lay.can.heap (omega (arith, l, inside))).low in
             omega (arith, p, u)
 
-        laid-here : AreLaid old now2 bricks0 bricks2 queue0 queue2 g w.plugs (suc k) (s.moves ++ laid.planned.moves)
+        laid-here : AreLaid (state old bricks0 queue0) (state now2 bricks2 queue2) g w.plugs (suc k)
+            (s.moves ++ laid.planned.moves)
         laid-here =
             laid-more old now bricks0 bricks queue0 queue g w.plugs k s.moves s.laid lay.can.heap inside on now2 bricks2
             queue2 laid.planned.moves (end_behind (first_of old k) mine)
@@ -204,7 +208,7 @@ module _ (w : Wholes) (rows : List TypeRow) (old : HeapView) (bricks0 : BricksVi
             (subst (λ m. (i + 1 < m / 4096) ⊎ (last_of old k ≤ i * 4096)) part out)) shape spans_are
 
         -- THE NEXT SEGMENT is laid
-        pub whole-laid-more : AreLaidWhole w old now2 bricks0 bricks2 queue0 queue2 g count (k + 1) at2
+        pub whole-laid-more : AreLaidWhole w (state old bricks0 queue0) (state now2 bricks2 queue2) g count (k + 1) at2
         whole-laid-more =
             let more = s.left in
             let used = laid.spare in
@@ -215,20 +219,22 @@ module _ (w : Wholes) (rows : List TypeRow) (old : HeapView) (bricks0 : BricksVi
               moves = s.moves ++ laid.planned.moves;
               reached = whole-more w rows old g count lay.can queue.entries s.moves at k below s.reached on
                   queue2.entries at2 laid.planned;
-              laid = subst (λ j. AreLaid old now2 bricks0 bricks2 queue0 queue2 g w.plugs j
+              laid = subst (λ j. AreLaid (state old bricks0 queue0) (state now2 bricks2 queue2) g w.plugs j
                   (s.moves ++ laid.planned.moves)) next-is laid-here;
               left = omega (arith, more, used, n, m);
             }
 
       -- both, as a call takes and gives them
       pub whole-segment : (v : HeapView) × (u : Around) × (xs ys : List ℕ) × (low : ℕ)
-          × CanLaySegment u rows v now bricks queue at xs ys k low
+          × CanLaySegment u rows v (state now bricks queue) at xs ys k low
       whole-segment = (old, here, starts, free, s.laid.low, whole-lays)
 
       pub whole-laid-by : (now2 : HeapView) (bricks2 : BricksView) (queue2 : QueueView) (at2 : Pointer)
-          → ((v : HeapView) (u : Around) (xs ys : List ℕ) (low : ℕ) → CanLaySegment u rows v now bricks queue at xs ys k
-          low → HasLaidSegment u rows v now now2 bricks bricks2 queue queue2 at xs ys k at2) → SameShape now now2
+          → ((v : HeapView) (u : Around) (xs ys : List ℕ) (low : ℕ)
+          → CanLaySegment u rows v (state now bricks queue) at xs ys k low
+          → HasLaidSegment u rows v (state now bricks queue) (state now2 bricks2 queue2) at xs ys k at2)
+          → SameShape now now2
           → spans bricks2 ≡ spans bricks
-          → AreLaidWhole w old now2 bricks0 bricks2 queue0 queue2 g count (k + 1) at2
+          → AreLaidWhole w (state old bricks0 queue0) (state now2 bricks2 queue2) g count (k + 1) at2
       whole-laid-by now2 bricks2 queue2 at2 lays shape spans_are = whole-laid-more now2 bricks2 queue2 at2
           (lays old here starts free s.laid.low whole-lays) shape spans_are

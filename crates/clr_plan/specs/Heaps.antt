@@ -5,9 +5,7 @@ use Rattle.clr_heap.specs.View.{frame, HeapView, SameShape}
 use Rattle.clr_view.specs.View.{layout_in}
 use Rattle.clr_model.specs.Compaction.{first_pointer, Move, Plug}
 use Rattle.clr_generations.specs.Tables.{AreBricksOf}
-use Rattle.clr_pinq.specs.Queue.{QueueView}
 use Rattle.clr_pinq.specs.declared.entry.PinEntry.{PinEntry}
-use Rattle.clr_plugs.specs.BrickEntries.{BricksView}
 use Rattle.clr_plugs.specs.Plans.{PlannedPart}
 use Rattle.clr_moves.specs.Moves.{part_of}
 use Rattle.clr_moves.specs.declared.parts.Parts.TheVariants.{Generations}
@@ -15,6 +13,7 @@ use Rattle.clr_plan.specs.PartLists.{AreLaid, opened_in, plan_in, plugs_in, whol
 use Rattle.clr_plan.specs.Planned.{pinned_count}
 use Rattle.clr_plan.specs.Plans.{CanPlanHeap, condemned_plugs, HasPlannedHeap, HasReached, IsBetween}
 use Rattle.clr_plan.specs.Plans.{old_part, parts_in, young_plugs}
+use Rattle.clr_plan.specs.States.{PlanState}
 use Rattle.clr_plan.specs.declared.pointer.Pointer.{Pointer}
 
 -- between the older generations and generation 0 of the heap `old`, of which the plan has made `now`
@@ -43,30 +42,26 @@ abbrev pub opened_below : List TypeRow → HeapView → ℕ → ℕ → ℕ → 
 opened_below rows h g e k = opened_in h (Generations g) (part_plugs rows h g e) k
 
 -- the plans of the parts of the k lowest segments, by these moves, stand in the heap, the bricks and the queue
-abbrev pub IsLaidBelow : List TypeRow → HeapView → HeapView → BricksView → BricksView → QueueView → QueueView → ℕ → ℕ
-    → ℕ → List Move → Type 0
-IsLaidBelow rows old now bricks bricks_now queue queue_now g e k moves = AreLaid old now bricks bricks_now queue
-    queue_now (Generations g) (part_plugs rows old g e) k moves
+abbrev pub IsLaidBelow : List TypeRow → PlanState → PlanState → ℕ → ℕ → ℕ → List Move → Type 0
+IsLaidBelow rows old now g e k moves = AreLaid old now (Generations g) (part_plugs rows old.heap g e) k moves
 
 -- the parts below that of the ephemeral segment are laid, and that one can be
-pub record CanLayEphemeral (rows : List TypeRow) (old now : HeapView) (bricks bricks_now : BricksView)
-    (queue queue_now : QueueView) (g e low : ℕ) (at : Pointer) : Type 0 where
-  pub can : CanPlanHeap rows old g e
-  pub low_is : low ≡ part_of old (Generations g) e
+pub record CanLayEphemeral (rows : List TypeRow) (old now : PlanState) (g e low : ℕ) (at : Pointer) : Type 0 where
+  pub can : CanPlanHeap rows old.heap g e
+  pub low_is : low ≡ part_of old.heap (Generations g) e
   pub moves : List Move
-  pub reached : HasReached old (parts_in rows old g) (condemned_plugs rows old g e) queue_now.entries
-      (first_pointer (layout_in rows old) g (parts_in rows old g)) [] (plugs_below rows old g e e)
-      (old_part rows old g e ++ young_plugs rows old e) moves at
+  pub reached : HasReached old.heap (parts_in rows old.heap g) (condemned_plugs rows old.heap g e) now.queue.entries
+      (first_pointer (layout_in rows old.heap) g (parts_in rows old.heap g)) [] (plugs_below rows old.heap g e e)
+      (old_part rows old.heap g e ++ young_plugs rows old.heap e) moves at
   pub order : at.segment ≤ e
   pub either : (g ≡ 2) ⊎ (at.segment ≡ e)
-  pub laid : IsLaidBelow rows old now bricks bricks_now queue queue_now g e e moves
-  pub bricks_of : AreBricksOf (frame old) bricks
-  pub left : queue.spare ≤ queue_now.spare + pinned_count (plugs_below rows old g e e)
-  pub spare : pinned_count (condemned_plugs rows old g e) + 4 ≤ queue.spare
+  pub laid : IsLaidBelow rows old now g e e moves
+  pub bricks_of : AreBricksOf (frame old.heap) old.bricks
+  pub left : old.queue.spare ≤ now.queue.spare + pinned_count (plugs_below rows old.heap g e e)
+  pub spare : pinned_count (condemned_plugs rows old.heap g e) + 4 ≤ old.queue.spare
 
 -- all parts are laid, and generations 1 and 0 begin at these places then
-pub record HasLaidHeap (rows : List TypeRow) (old now : HeapView) (bricks bricks_now : BricksView)
-    (queue queue_now : QueueView) (g e start1 start0 : ℕ) : Type 0 where
+pub record HasLaidHeap (rows : List TypeRow) (old now : PlanState) (g e start1 start0 : ℕ) : Type 0 where
   pub moves : List Move
-  pub planned : HasPlannedHeap rows old g e moves start1 start0
-  pub laid : IsLaidBelow rows old now bricks bricks_now queue queue_now g e (e + 1) moves
+  pub planned : HasPlannedHeap rows old.heap g e moves start1 start0
+  pub laid : IsLaidBelow rows old now g e (e + 1) moves

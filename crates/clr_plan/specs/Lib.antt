@@ -2,6 +2,7 @@ pub mod Pointing
 pub mod Waiting
 pub mod Pins
 pub mod Stages
+pub mod States
 pub mod Scans
 pub mod Runs
 pub mod Parts

@@ -7,13 +7,12 @@ use Rattle.clr_covers.specs.Covers.{spans}
 use Rattle.clr_bricks.specs.Bricks.{entry_at}
 use Rattle.clr_heap.specs.View.{first_of, HeapView, last_of, segment_at}
 use Rattle.clr_model.specs.Compaction.{Move, Plug}
-use Rattle.clr_pinq.specs.Queue.{QueueView}
-use Rattle.clr_plugs.specs.BrickEntries.{BricksView}
 use Rattle.clr_plugs.specs.Plans.{IsPlanned, PlannedPart}
 use Rattle.clr_moves.specs.Moves.{part_of, takes}
 use Rattle.clr_moves.specs.declared.parts.Parts.{Parts}
 use Rattle.clr_plan.specs.LaidParts.{opened_by, planned_plugs}
 use Rattle.clr_plan.specs.Scans.{plugs_between}
+use Rattle.clr_plan.specs.States.{PlanState}
 use Rattle.clr_plan.specs.Writes.{AreSavedAt, HasWritten}
 
 -- the plugs of the parts of the k lowest segments, where each segment has these
@@ -60,20 +59,21 @@ AreFor (p ∷ ps) (v ∷ vs) = (v.start ≡ p.start) × (v.size ≡ p.size) × A
 
 -- The plans of the parts of the k lowest segments, by these moves, stand in the heap, the bricks and the queue. From
 -- segment k on all is as it was.
-pub record AreLaid (old now : HeapView) (bricks bricks_now : BricksView) (queue queue_now : QueueView) (g : Parts)
-    (plugs : ℕ → List Plug) (k : ℕ) (moves : List Move) : Type 0 where
+pub record AreLaid (old now : PlanState) (g : Parts) (plugs : ℕ → List Plug) (k : ℕ) (moves : List Move) : Type
+    0 where
   pub each : ℕ → List Move
-  pub moves_are : moves ≡ moves_in old g each k
-  pub fit : (t : ℕ) → t < k → takes g (segment_at old t) ≡ true → AreFor (plugs t) (each t)
-  pub plans : (t : ℕ) → t < k → takes g (segment_at old t) ≡ true
-      → IsPlanned now bricks_now (plan_in old g plugs t (each t))
+  pub moves_are : moves ≡ moves_in old.heap g each k
+  pub fit : (t : ℕ) → t < k → takes g (segment_at old.heap t) ≡ true → AreFor (plugs t) (each t)
+  pub plans : (t : ℕ) → t < k → takes g (segment_at old.heap t) ≡ true
+      → IsPlanned now.heap now.bricks (plan_in old.heap g plugs t (each t))
   pub low : ℕ
-  pub words : HasWritten old now queue_now.entries (map (λ q. q.start) (plugs_in old g plugs k))
-      (opened_in old g plugs k) low
-  pub behind : (t : ℕ) → k ≤ t → t < length old.segments → low + 24 ≤ first_of old t
-  pub saved : AreSavedAt queue_now.entries (plugs_in old g plugs k)
-  pub count : queue.spare + length queue.entries ≡ queue_now.spare + length queue_now.entries
+  pub words : HasWritten old.heap now.heap now.queue.entries (map (λ q. q.start) (plugs_in old.heap g plugs k))
+      (opened_in old.heap g plugs k) low
+  pub behind : (t : ℕ) → k ≤ t → t < length old.heap.segments → low + 24 ≤ first_of old.heap t
+  pub saved : AreSavedAt now.queue.entries (plugs_in old.heap g plugs k)
+  pub count : old.queue.spare + length old.queue.entries ≡ now.queue.spare + length now.queue.entries
   pub entries : (i : ℕ)
-      → ((t : ℕ) → t < k → takes g (segment_at old t) ≡ true
-      → (i + 1 < part_of old g t / 4096) ⊎ (last_of old t ≤ i * 4096)) → entry_at bricks_now i ≡ entry_at bricks i
-  pub spans_are : spans bricks_now ≡ spans bricks
+      → ((t : ℕ) → t < k → takes g (segment_at old.heap t) ≡ true
+      → (i + 1 < part_of old.heap g t / 4096) ⊎ (last_of old.heap t ≤ i * 4096))
+      → entry_at now.bricks i ≡ entry_at old.bricks i
+  pub spans_are : spans now.bricks ≡ spans old.bricks

@@ -19,6 +19,7 @@ use Rattle.clr_plan.specs.Plans.{HasReached}
 use Rattle.clr_plan.specs.Pointing.{IsAt}
 use Rattle.clr_plan.specs.Scans.{CanScan}
 use Rattle.clr_plan.specs.Stages.{IsAmong}
+use Rattle.clr_plan.specs.States.{PlanState}
 use Rattle.clr_plan.specs.declared.pointer.Pointer.{Pointer}
 
 -- the segments that take part in a collection, the place from which its first plug is placed, the plugs of the parts of
@@ -66,9 +67,8 @@ pub record CanLayWhole (w : Wholes) (rows : List TypeRow) (h : HeapView) (bricks
   pub spare : pinned_count (wholes w h g count) + 4 ≤ queue.spare
 
 -- the parts of the k lowest segments are laid, and the pointer stands behind them
-pub record AreLaidWhole (w : Wholes) (old now : HeapView) (bricks bricks_now : BricksView) (queue queue_now : QueueView)
-    (g : Parts) (count k : ℕ) (at : Pointer) : Type 0 where
+pub record AreLaidWhole (w : Wholes) (old now : PlanState) (g : Parts) (count k : ℕ) (at : Pointer) : Type 0 where
   pub moves : List Move
-  pub reached : HasReachedWhole w old g count k queue_now.entries moves at
-  pub laid : AreLaid old now bricks bricks_now queue queue_now g w.plugs k moves
-  pub left : queue.spare ≤ queue_now.spare + pinned_count (plugs_in old g w.plugs k)
+  pub reached : HasReachedWhole w old.heap g count k now.queue.entries moves at
+  pub laid : AreLaid old now g w.plugs k moves
+  pub left : old.queue.spare ≤ now.queue.spare + pinned_count (plugs_in old.heap g w.plugs k)

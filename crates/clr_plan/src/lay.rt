@@ -8,15 +8,16 @@ ghost use Rattle.clr_plugs.specs.Builders.{IsNoChildren};
 ghost use Rattle.clr_plugs.specs.Planning.{IsAbovePlugs, IsWriting, with_plug};
 ghost use Rattle.clr_plugs.specs.Plans.{IsPlaceIn, PlannedPart};
 ghost use Rattle.clr_plan.specs.Stages.{CanGo, HasGone, Stage};
-ghost use Rattle.clr_plan.specs.LaidParts.{CanLay, CanLaySegment, HasLaid, HasLaidSegment, written};
+ghost use Rattle.clr_plan.specs.LaidParts.{CanLay, CanLaySegment, HasLaid, HasLaidSegment};
 ghost use Rattle.clr_plan.specs.Parts.{Around};
+ghost use Rattle.clr_plan.specs.States.{progress, state, stretch, written};
 ghost use Rattle.clr_plan.specs.Writes.{CanWrite, distance_of, entries_for, HasWritten, IsWritingAmong, opened};
 
 use crate::plug::Plug;
 use crate::pointer::Pointer;
 use crate::scan::next_plug;
 use crate::way::way_of;
-use crate::write::write_plug;
+use crate::write::{Home, write_plug};
 use clr_bricks::Bricks;
 use clr_heap::Heap;
 use clr_pinq::PinQueue;
@@ -33,42 +34,41 @@ pub struct Laying {
 }
 
 /// Places the next plug, which stands in segment `home`, and writes how far it goes before it. This is the one place
-/// where anything is told of a plug that is placed. `first` is the first place of its segment.
+/// where anything is told of a plug that is placed.
 pub fn lay_plug(
     heap: &mut Heap,
     bricks: &mut Bricks,
     queue: &mut PinQueue,
     laying: &mut Laying,
-    home: usize,
+    home: Home,
     plug: Plug,
-    first: u64,
 )
-    requires stage { (w : Stage) × CanGo w heap.old queue.old.entries laying.old.at home plug }
-    requires can { (to : ℕ) → to < 2 ^ 63 → CanWrite heap.old bricks.old queue.old laying.old.writer plug to first
+    requires stage { (w : Stage) × CanGo w heap.old queue.old.entries laying.old.at home.segment plug }
+    requires can { (to : ℕ) → to < 2 ^ 63 → CanWrite heap.old bricks.old queue.old laying.old.writer plug to home.first
         laying.old.below }
-    ensures settled { (w : Stage) → CanGo w heap.old queue.old.entries laying.old.at home plug → (to : ℕ)
-        × HasGone w heap.old queue.old.entries laying.old.at home plug to laying.new.at
+    ensures settled { (w : Stage) → CanGo w heap.old queue.old.entries laying.old.at home.segment plug → (to : ℕ)
+        × HasGone w heap.old queue.old.entries laying.old.at home.segment plug to laying.new.at
         × ((part : PlannedPart) → IsWriting heap.old bricks.old part laying.old.writer → IsPlaceIn part plug.start
         → IsAbovePlugs part plug.start → IsWriting heap.new bricks.new
         (with_plug part plug.start (plug.start - laying.old.below) (distance_of plug.start to)) laying.new.writer) }
     ensures written { (old : HeapView) (starts free : List ℕ) → HasWritten old heap.old queue.old.entries starts free
         laying.old.below → IsWritingAmong heap.old bricks.old laying.old.writer starts
         → HasWritten old heap.new queue.new.entries (starts ++ plug.start ∷ [])
-        (opened free first laying.old.below plug.start) (plug_end plug) }
+        (opened free home.first laying.old.below plug.start) (plug_end plug) }
     ensures words { (b : ℕ) → b % 8 ≡ 0 → (b + 32 < plug.start) ⊎ (plug.start ≤ b + 8)
         → IsNoChildren laying.old.writer.builder.plugs b → word_of heap.new b ≡ word_of heap.old b }
     ensures below { laying.new.below ≡ plug_end plug }
     ensures brick { laying.new.writer.builder.brick ≡ plug.start / 4096 }
     ensures shape { SameShape heap.old heap.new }
-    ensures pushed { queue.new.entries ≡ queue.old.entries ++ entries_for queue.old.entries (word_of heap.old) first
-        laying.old.below plug }
-    ensures spare { queue.old.spare ≡ queue.new.spare + length (entries_for queue.old.entries (word_of heap.old) first
-        laying.old.below plug) }
+    ensures pushed { queue.new.entries ≡ queue.old.entries ++ entries_for queue.old.entries
+        (word_of heap.old) home.first laying.old.below plug }
+    ensures spare { queue.old.spare ≡ queue.new.spare + length (entries_for queue.old.entries
+        (word_of heap.old) home.first laying.old.below plug) }
     ensures entries { (i : ℕ) → (i < laying.old.writer.builder.brick) ⊎ (plug.start / 4096 ≤ i) → entry_at bricks.new i
         ≡ entry_at bricks.old i }
     ensures spans { spans bricks.new ≡ spans bricks.old }
 {
-    let way = way_of(heap, queue, laying.at, home, plug);
+    let way = way_of(heap, queue, laying.at, home.segment, plug);
     write_plug(
         heap,
         bricks,
@@ -77,7 +77,6 @@ pub fn lay_plug(
         home,
         plug,
         way.to,
-        first,
         laying.below,
     );
     laying.at = way.after;
@@ -96,22 +95,25 @@ pub fn lay_part(
     end: u64,
 )
     requires part { (old : HeapView) × (w : Around) × (starts free : List ℕ) × (part : PlannedPart)
-        × CanLay w types.now old (written heap.old bricks.old queue.old laying.old.writer) laying.old.at starts free
-        part k low end laying.old.below }
+        × CanLay w types.now old (progress (written heap.old bricks.old queue.old laying.old.writer) laying.old.at
+        laying.old.below) starts free part (stretch k low end) }
     ensures laid { (old : HeapView) (w : Around) (starts free : List ℕ) (part : PlannedPart)
-        → CanLay w types.now old (written heap.old bricks.old queue.old laying.old.writer) laying.old.at starts free
-        part k low end laying.old.below
-        → HasLaid w types.now old (written heap.old bricks.old queue.old laying.old.writer)
-        (written heap.new bricks.new queue.new laying.new.writer) laying.old.at starts free part k low end
-        laying.old.below laying.new.below laying.new.at }
+        → CanLay w types.now old (progress (written heap.old bricks.old queue.old laying.old.writer) laying.old.at
+        laying.old.below) starts free part (stretch k low end)
+        → HasLaid w types.now old (progress (written heap.old bricks.old queue.old laying.old.writer) laying.old.at
+        laying.old.below) (progress (written heap.new bricks.new queue.new laying.new.writer) laying.new.at
+        laying.new.below) starts free part (stretch k low end) }
     ensures shape { SameShape heap.old heap.new }
     ensures spans { spans bricks.new ≡ spans bricks.old }
 {
     let _ = heap.segments();
-    let first = heap.info(k).base + FIRST_OFFSET;
+    let home = Home {
+        segment: k,
+        first: heap.info(k).base + FIRST_OFFSET,
+    };
     let mut place = low;
     while let Some(found) = next_plug(heap, types, k, place, end) {
-        lay_plug(heap, bricks, queue, laying, k, found.plug, first);
+        lay_plug(heap, bricks, queue, laying, home, found.plug);
         place = found.next;
         let _ = heap.segments();
     }
@@ -128,10 +130,10 @@ pub fn lay_segment(
     k: usize,
 ) -> Pointer
     requires segment { (old : HeapView) × (w : Around) × (starts free : List ℕ) × (below : ℕ)
-        × CanLaySegment w types.now old heap.old bricks.old queue.old from starts free k below }
+        × CanLaySegment w types.now old (state heap.old bricks.old queue.old) from starts free k below }
     ensures laid { (old : HeapView) (w : Around) (starts free : List ℕ) (below : ℕ) → CanLaySegment w types.now old
-        heap.old bricks.old queue.old from starts free k below → HasLaidSegment w types.now old heap.old heap.new
-        bricks.old bricks.new queue.old queue.new from starts free k result }
+        (state heap.old bricks.old queue.old) from starts free k below → HasLaidSegment w types.now old
+        (state heap.old bricks.old queue.old) (state heap.new bricks.new queue.new) from starts free k result }
     ensures shape { SameShape heap.old heap.new }
     ensures spans { spans bricks.new ≡ spans bricks.old }
 {

@@ -4,6 +4,7 @@ ghost use Rattle.clr_types.specs.Segments.{reserved_end};
 ghost use Rattle.clr_heap.specs.View.{first_of, segment_at};
 ghost use Rattle.clr_moves.specs.Moves.{takes};
 ghost use Rattle.clr_plan.specs.Firsts.{IsLowest};
+ghost use Rattle.clr_plan.specs.States.{state};
 ghost use Rattle.clr_plan.specs.WholeParts.{AreLaidWhole, CanLayWhole, Wholes};
 
 use crate::lay::lay_segment;
@@ -25,7 +26,7 @@ pub fn lay_whole(
 ) -> Pointer
     requires can { (w : Wholes) × CanLayWhole w types.now heap.old bricks.old queue.old parts count }
     ensures laid { (w : Wholes) → CanLayWhole w types.now heap.old bricks.old queue.old parts count → AreLaidWhole w
-        heap.old heap.new bricks.old bricks.new queue.old queue.new parts count count result }
+        (state heap.old bricks.old queue.old) (state heap.new bricks.new queue.new) parts count count result }
 {
     let mut at = lowest_place(heap, parts);
     for k in 0..count {

@@ -19,46 +19,51 @@ use clr_heap::Heap;
 use clr_pinq::{PinEntry, PinQueue, Saved};
 use clr_plugs::PlanWriter;
 
+/// The segment in which plugs stand: its number, and its first place, before which no cell stands.
+#[derive(Clone, Copy)]
+pub struct Home {
+    pub segment: usize,
+    pub first: u64,
+}
+
 /// Writes the information of the next plug: it goes to `to`, and what is live below it ends at `below`, which is the
-/// start of its part where nothing is. What this overwrites of a live neighbour is saved first. `first` is the first
-/// place of the segment, before which no cell stands. `near` guesses its number.
+/// start of its part where nothing is. What this overwrites of a live neighbour is saved first.
 pub fn write_plug(
     heap: &mut Heap,
     bricks: &mut Bricks,
     queue: &mut PinQueue,
     writer: &mut PlanWriter,
-    near: usize,
+    home: Home,
     plug: Plug,
     to: u64,
-    first: u64,
     below: u64,
 )
-    requires can { CanWrite heap.old bricks.old queue.old writer.old plug to first below }
+    requires can { CanWrite heap.old bricks.old queue.old writer.old plug to home.first below }
     ensures writing { (part : PlannedPart) → IsWriting heap.old bricks.old part writer.old → IsPlaceIn part plug.start
         → IsAbovePlugs part plug.start → IsWriting heap.new bricks.new (with_plug part plug.start (plug.start - below)
         (distance_of plug.start to)) writer.new }
     ensures written { (old : HeapView) (starts free : List ℕ) → HasWritten old heap.old queue.old.entries starts free
         below → IsWritingAmong heap.old bricks.old writer.old starts → HasWritten old heap.new queue.new.entries
-        (starts ++ plug.start ∷ []) (opened free first below plug.start) (plug_end plug) }
+        (starts ++ plug.start ∷ []) (opened free home.first below plug.start) (plug_end plug) }
     ensures words { (b : ℕ) → b % 8 ≡ 0 → (b + 32 < plug.start) ⊎ (plug.start ≤ b + 8)
         → IsNoChildren writer.old.builder.plugs b → word_of heap.new b ≡ word_of heap.old b }
     ensures brick { writer.new.builder.brick ≡ plug.start / 4096 }
     ensures shape { SameShape heap.old heap.new }
-    ensures pushed { queue.new.entries ≡ queue.old.entries ++ entries_for queue.old.entries (word_of heap.old) first
-        below plug }
-    ensures spare { queue.old.spare ≡ queue.new.spare + length (entries_for queue.old.entries (word_of heap.old) first
-        below plug) }
+    ensures pushed { queue.new.entries ≡ queue.old.entries ++ entries_for queue.old.entries
+        (word_of heap.old) home.first below plug }
+    ensures spare { queue.old.spare ≡ queue.new.spare + length (entries_for queue.old.entries
+        (word_of heap.old) home.first below plug) }
     ensures entries { (i : ℕ) → (i < writer.old.builder.brick) ⊎ (plug.start / 4096 ≤ i) → entry_at bricks.new i
         ≡ entry_at bricks.old i }
     ensures spans { spans bricks.new ≡ spans bricks.old }
 {
     let _ = heap.segments();
     let start = plug.start();
-    save_words(heap, queue, near, plug, first, below);
+    save_words(heap, queue, home, plug, below);
     writer.add(
         heap,
         bricks,
-        near,
+        home.segment,
         start,
         start - below,
         distance(start, to),
@@ -67,7 +72,7 @@ pub fn write_plug(
 
 // Saves what the information of a plug overwrites of a live neighbour, and what that of a neighbour would overwrite of
 // a pinned plug.
-fn save_words(heap: &Heap, queue: &mut PinQueue, near: usize, plug: Plug, first: u64, below: u64)
+fn save_words(heap: &Heap, queue: &mut PinQueue, home: Home, plug: Plug, below: u64)
     requires info { HasInfo heap.now plug.start }
     requires ending { HasInfo heap.now (plug_end plug) }
     requires least { 24 ≤ plug.size }
@@ -76,20 +81,20 @@ fn save_words(heap: &Heap, queue: &mut PinQueue, near: usize, plug: Plug, first:
     requires below { below ≤ plug.start }
     requires apart { plug.start ≡ below → (last_end 0 queue.old.entries ≡ below)
         ⊎ (last_end 0 queue.old.entries + 24 ≤ below) }
-    ensures pushed { queue.new.entries ≡ queue.old.entries ++ entries_for queue.old.entries (word_of heap.now) first
-        below plug }
-    ensures spare { queue.old.spare ≡ queue.new.spare + length (entries_for queue.old.entries (word_of heap.now) first
-        below plug) }
+    ensures pushed { queue.new.entries ≡ queue.old.entries ++ entries_for queue.old.entries
+        (word_of heap.now) home.first below plug }
+    ensures spare { queue.old.spare ≡ queue.new.spare + length (entries_for queue.old.entries
+        (word_of heap.now) home.first below plug) }
 {
     let start = plug.start();
-    let pre = if start == below && start != first && start != end_of_queue(queue) {
-        Some(saved_at(heap, near, start))
+    let pre = if start == below && start != home.first && start != end_of_queue(queue) {
+        Some(saved_at(heap, home.segment, start))
     } else {
         None
     };
     if plug.pinned() {
         let end = plug.end();
-        let post = Some(saved_at(heap, near, end));
+        let post = Some(saved_at(heap, home.segment, end));
         queue.push(PinEntry {
             start,
             end,

@@ -1,13 +1,13 @@
 use Rattle.std.proofs.Common.{◌≡◌, ◌∙◌, ℕ, ap, refl, sym, Bool, if◌then◌else◌, ◌==◌}
 use Rattle.std.proofs.lemmas.Bool.{eq-eqb, ne_eqb}
 use Rattle.clr_heap.specs.View.{HeapView}
-use Rattle.clr_plan.specs.LaidParts.{written, Written}
 use Rattle.clr_plan.proofs.EphemeralLaid.{all-laid, around2, between, free2, older-lays, part2, part-ends, starts2}
 use Rattle.clr_plan.proofs.EphemeralLaid.{young-lays}
 use Rattle.clr_plan.proofs.EphemeralPart.{free, low-covered, older_around, part, part-covered, part-lies, setting_of}
 use Rattle.clr_plan.proofs.EphemeralPart.{starts}
 use Rattle.clr_plan.proofs.heaps.lay_ephemeral.Goals as goal
 use Rattle.clr_plan.proofs.heaps.lay_ephemeral.Goals.{then-g-eq0, else-g-eq0}
+use Rattle.clr_plan.specs.States.{Written, written}
 
 pub new-writer-requires-clause-covered : goal.new-writer-requires-clause-covered
 new-writer-requires-clause-covered c =

@@ -2,10 +2,10 @@ use Rattle.std.proofs.Common.{◌≡◌, ◌<◌, length, ◌+◌, ap, refl, sym
 use Rattle.clr_heap.specs.View.{first_of, HeapView}
 use Rattle.clr_heap.proofs.Rewrite.{SameShape-refl}
 use Rattle.clr_types.specs.Segments.{first_place}
-use Rattle.clr_plan.specs.LaidParts.{written}
 use Rattle.clr_plan.proofs.Laid.{lay-can, lay-ends, lay-more, lay-settles, lay-smaller, lay-starts, one, scan-here}
 use Rattle.clr_plan.proofs.Writing.{shape-on}
 use Rattle.clr_plan.proofs.lay.lay_part.Goals as goal
+use Rattle.clr_plan.specs.States.{written}
 
 pub loop-found-init : goal.loop-found-init
 loop-found-init c = (
@@ -16,8 +16,8 @@ loop-found-init c = (
       starts free part c.args.k c.args.low c.args.end c.args.laying.now.below can,
 )
 
-pub info-first-requires : goal.info-first-requires
-info-first-requires c =
+pub info-requires : goal.info-requires
+info-requires c =
     let (old, w, starts, free, part, can) = c.requires.part in
     subst (λ (h : HeapView). c.args.k < length h.segments) (sym can.laying.words.shape.others) can.plan.among.in_range
 
@@ -59,7 +59,7 @@ lay_plug-requires-clause-can c =
     c.args.laying.now.at starts free part c.args.k c.args.low c.args.end c.args.laying.now.below can
     (written c.loop-found.heap c.loop-found.bricks c.loop-found.queue c.loop-found.laying.writer)
     c.loop-found.laying.at c.loop-found.place c.loop-found.laying.below l c.in-Some.found c.in-Some.ensures.plugs
-    (c.info-first.result.base + 4096)
+    (c.info.result.base + 4096)
 
 pub loop-found-smaller : goal.loop-found-smaller
 loop-found-smaller c =
@@ -77,7 +77,7 @@ loop-found-preserved c = (
   c.lay_plug.ensures.spans ∙ c.loop-found.invariant.1,
   λ old w starts free part can.
       let l = c.loop-found.invariant.2 old w starts free part can in
-      let same : first_place c.info-first.result ≡ first_of old c.args.k = ap first_place c.info-first.ensures.value
+      let same : first_place c.info.result ≡ first_of old c.args.k = ap first_place c.info.ensures.value
       ∙ ap (λ (h : HeapView). first_of h c.args.k) can.laying.words.shape.others in
       rw c.lay_plug.ensures.below (lay-more w c.args.types.now old (written c.args.heap.now c.args.bricks.now
       c.args.queue.now c.args.laying.now.writer) c.args.laying.now.at starts free part c.args.k c.args.low
@@ -85,7 +85,7 @@ loop-found-preserved c = (
       c.loop-found.laying.writer) c.loop-found.laying.at c.loop-found.place c.loop-found.laying.below l
       c.in-Some.found c.in-Some.ensures.plugs
       (written c.lay_plug.new.heap c.lay_plug.new.bricks c.lay_plug.new.queue c.lay_plug.new.laying.writer)
-      c.lay_plug.new.laying.at (first_place c.info-first.result) same c.segments-in-Some.ensures.heap
+      c.lay_plug.new.laying.at (first_place c.info.result) same c.segments-in-Some.ensures.heap
       c.lay_plug.ensures.settled c.lay_plug.ensures.written c.lay_plug.ensures.brick c.lay_plug.ensures.pushed
       c.lay_plug.ensures.spare c.in-Some.ensures.behind c.lay_plug.ensures.words c.lay_plug.ensures.entries),
 )

@@ -2,8 +2,9 @@ use Rattle.std.proofs.Common.{◌≡◌, ℕ, ◌-◌, List}
 use Rattle.clr_covers.specs.Covers.{spans}
 use Rattle.clr_heap.specs.View.{HeapView, SameShape}
 use Rattle.clr_plugs.specs.Plans.{PlannedPart}
-use Rattle.clr_plan.specs.LaidParts.{CanLay, written}
+use Rattle.clr_plan.specs.LaidParts.{CanLay}
 use Rattle.clr_plan.specs.Parts.{Around}
+use Rattle.clr_plan.specs.States.{progress, stretch, written}
 use Rattle.clr_plan.proofs.Laid.{IsLaidUpTo}
 use Rattle.clr_plan.proofs.lay.lay_part.Given as goal
 
@@ -11,8 +12,8 @@ abbrev pub invariant-loop-found : goal.invariant-loop-found
 invariant-loop-found l =
     SameShape l.initial.heap l.heap × (spans l.bricks ≡ spans l.initial.bricks)
     × ((old : HeapView) (w : Around) (starts free : List ℕ) (part : PlannedPart)
-    (can : CanLay w l.types old (written l.initial.heap l.initial.bricks l.initial.queue l.initial.laying.writer)
-    l.initial.laying.at starts free part l.k l.low l.end l.initial.laying.below)
+    (can : CanLay w l.types old (progress (written l.initial.heap l.initial.bricks l.initial.queue
+    l.initial.laying.writer) l.initial.laying.at l.initial.laying.below) starts free part (stretch l.k l.low l.end))
     → IsLaidUpTo w l.types old (written l.initial.heap l.initial.bricks l.initial.queue l.initial.laying.writer)
     l.initial.laying.at starts free part l.k l.low l.end l.initial.laying.below can
     (written l.heap l.bricks l.queue l.laying.writer) l.laying.at l.place l.laying.below)

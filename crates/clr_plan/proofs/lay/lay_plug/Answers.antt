@@ -7,7 +7,7 @@ write_plug-requires c =
     let (w, can) = c.requires.stage in
     record {
       can = c.requires.can c.way_of-way.result.to (way-small w c.args.heap.now c.args.queue.now.entries
-          c.args.laying.now.at c.args.home c.args.plug c.way_of-way.result.to c.way_of-way.result.after can
+          c.args.laying.now.at c.args.home.segment c.args.plug c.way_of-way.result.to c.way_of-way.result.after can
           (c.way_of-way.ensures.gone w can) (c.requires.can 0 (omega arith)).small);
     }
 

@@ -9,7 +9,8 @@ use Rattle.clr_bricks.specs.Bricks.{entry_at}
 use Rattle.clr_plugs.specs.BrickEntries.{IsCovered}
 use Rattle.clr_plugs.specs.Planning.{CanAdvance, IsWriting, WriterView}
 use Rattle.clr_plugs.specs.Plans.{IsPlanned, PlannedPart}
-use Rattle.clr_plan.specs.LaidParts.{CanLay, HasLaid, segment_part, written}
+use Rattle.clr_plan.specs.LaidParts.{CanLay, HasLaid, segment_part}
+use Rattle.clr_plan.specs.States.{progress, stretch, written}
 use Rattle.clr_plan.proofs.LaidSegment.{can-end, can-lay, laid-segment, lay-part-of}
 use Rattle.clr_plan.proofs.Writing.{shape-on}
 use Rattle.clr_plan.proofs.lay.lay_segment.Goals as goal
@@ -42,9 +43,9 @@ lay_part-requires c =
     c.args.k below can c.segments.ensures.heap) (sym (ap first_place e)) refl can.covered in
     let lay = can-lay w c.args.types.now old c.args.heap.now c.args.bricks.now c.args.queue.now c.args.from starts free
     c.args.k below can c.segments.ensures.heap c.new-writer.new.bricks c.new-writer.result writing value in
-    let P : SegInfo → Type 0 = λ s. CanLay w c.args.types.now old (written c.args.heap.now c.new-writer.new.bricks
-    c.args.queue.now c.new-writer.result) c.args.from starts free (segment_part old c.args.k []) c.args.k
-    (first_place s) s.end (first_place s) in
+    let P : SegInfo → Type 0 = λ s. CanLay w c.args.types.now old (progress (written c.args.heap.now
+    c.new-writer.new.bricks c.args.queue.now c.new-writer.result) c.args.from (first_place s)) starts free
+    (segment_part old c.args.k []) (stretch c.args.k (first_place s) s.end) in
     record { part = (old, w, starts, free, segment_part old c.args.k [], subst P (sym e) lay) }
 
 pub finish-requires : goal.finish-requires
@@ -63,13 +64,13 @@ finish-requires c =
     c.args.k below can c.segments.ensures.heap) (sym (ap first_place e)) refl can.covered in
     let lay = can-lay w c.args.types.now old c.args.heap.now c.args.bricks.now c.args.queue.now c.args.from starts free
     c.args.k below can c.segments.ensures.heap c.new-writer.new.bricks c.new-writer.result writing value in
-    let Q : SegInfo → Type 0 = λ s. CanLay w c.args.types.now old (written c.args.heap.now c.new-writer.new.bricks
-    c.args.queue.now c.new-writer.result) c.args.from starts free (segment_part old c.args.k []) c.args.k
-    (first_place s) s.end (first_place s)
-    → HasLaid w c.args.types.now old (written c.args.heap.now c.new-writer.new.bricks c.args.queue.now
-    c.new-writer.result) (written c.lay_part.new.heap c.lay_part.new.bricks c.lay_part.new.queue
-    c.lay_part.new.laying.writer) c.args.from starts free (segment_part old c.args.k []) c.args.k (first_place s)
-    s.end (first_place s) c.lay_part.new.laying.below c.lay_part.new.laying.at in
+    let Q : SegInfo → Type 0 = λ s. CanLay w c.args.types.now old (progress (written c.args.heap.now
+    c.new-writer.new.bricks c.args.queue.now c.new-writer.result) c.args.from (first_place s)) starts free
+    (segment_part old c.args.k []) (stretch c.args.k (first_place s) s.end)
+    → HasLaid w c.args.types.now old (progress (written c.args.heap.now c.new-writer.new.bricks c.args.queue.now
+    c.new-writer.result) c.args.from (first_place s)) (progress (written c.lay_part.new.heap c.lay_part.new.bricks
+    c.lay_part.new.queue c.lay_part.new.laying.writer) c.lay_part.new.laying.at c.lay_part.new.laying.below) starts free
+    (segment_part old c.args.k []) (stretch c.args.k (first_place s) s.end) in
     let laid = subst Q e (c.lay_part.ensures.laid old w starts free (segment_part old c.args.k [])) lay in
     let high = c.info-segment.ensures.lawful.high in
     let top = c.info-segment.ensures.below_top in
@@ -99,13 +100,13 @@ returns-clause-laid c = λ old w starts free below can.
     c.args.k below can c.segments.ensures.heap) (sym (ap first_place e)) refl can.covered in
     let lay = can-lay w c.args.types.now old c.args.heap.now c.args.bricks.now c.args.queue.now c.args.from starts free
     c.args.k below can c.segments.ensures.heap c.new-writer.new.bricks c.new-writer.result writing value in
-    let Q : SegInfo → Type 0 = λ s. CanLay w c.args.types.now old (written c.args.heap.now c.new-writer.new.bricks
-    c.args.queue.now c.new-writer.result) c.args.from starts free (segment_part old c.args.k []) c.args.k
-    (first_place s) s.end (first_place s)
-    → HasLaid w c.args.types.now old (written c.args.heap.now c.new-writer.new.bricks c.args.queue.now
-    c.new-writer.result) (written c.lay_part.new.heap c.lay_part.new.bricks c.lay_part.new.queue
-    c.lay_part.new.laying.writer) c.args.from starts free (segment_part old c.args.k []) c.args.k (first_place s)
-    s.end (first_place s) c.lay_part.new.laying.below c.lay_part.new.laying.at in
+    let Q : SegInfo → Type 0 = λ s. CanLay w c.args.types.now old (progress (written c.args.heap.now
+    c.new-writer.new.bricks c.args.queue.now c.new-writer.result) c.args.from (first_place s)) starts free
+    (segment_part old c.args.k []) (stretch c.args.k (first_place s) s.end)
+    → HasLaid w c.args.types.now old (progress (written c.args.heap.now c.new-writer.new.bricks c.args.queue.now
+    c.new-writer.result) c.args.from (first_place s)) (progress (written c.lay_part.new.heap c.lay_part.new.bricks
+    c.lay_part.new.queue c.lay_part.new.laying.writer) c.lay_part.new.laying.at c.lay_part.new.laying.below) starts free
+    (segment_part old c.args.k []) (stretch c.args.k (first_place s) s.end) in
     let laid = subst Q e (c.lay_part.ensures.laid old w starts free (segment_part old c.args.k [])) lay in
     let R : SegInfo → Type 0 = λ s. (q : PlannedPart) → IsWriting c.lay_part.new.heap c.lay_part.new.bricks q
     c.lay_part.new.laying.writer → q.high ≡ s.end → IsPlanned c.finish.new.heap c.finish.new.bricks q in

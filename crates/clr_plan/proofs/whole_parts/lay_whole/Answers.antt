@@ -5,6 +5,7 @@ use Rattle.clr_plan.specs.WholeParts.{AreLaidWhole}
 use Rattle.clr_plan.proofs.WholeLaid.{whole-laid-by, whole-laid-over, whole-laid-starts, whole-segment}
 use Rattle.clr_plan.proofs.whole_parts.lay_whole.Goals as goal
 use Rattle.clr_plan.proofs.whole_parts.lay_whole.Goals.{then-takes_part, else-takes_part}
+use Rattle.clr_plan.specs.States.{state}
 
 pub lowest_place-at-requires : goal.lowest_place-at-requires
 lowest_place-at-requires c = let (w, can) = c.requires.can in record { some = can.can.some }
@@ -57,6 +58,7 @@ returns c =
     let end : c.loop-k.k ≡ c.args.count = let l = c.loop-k-test.false in let u = c.loop-k.auto.k-end in
     omega (arith, l, u) in
     record {
-      laid = λ w can. subst (λ k. AreLaidWhole w c.args.heap.now c.loop-k.heap c.args.bricks.now c.loop-k.bricks
-          c.args.queue.now c.loop-k.queue c.args.parts c.args.count k c.loop-k.at) end (c.loop-k.invariant w can);
+      laid = λ w can. subst (λ k. AreLaidWhole w (state c.args.heap.now c.args.bricks.now c.args.queue.now)
+          (state c.loop-k.heap c.loop-k.bricks c.loop-k.queue) c.args.parts c.args.count k c.loop-k.at) end
+          (c.loop-k.invariant w can);
     }

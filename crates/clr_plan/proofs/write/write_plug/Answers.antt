@@ -46,14 +46,14 @@ returns-clause-written c old starts free s among =
     let low = r.place.low in
     let first_low = r.writing.planning.plan.lies.low in
     let N : List PinEntry → Type 0 = λ es. HasWritten old c.add.new.heap es (starts ++ c.args.plug.start ∷ [])
-    (opened free c.args.first c.args.below c.args.plug.start) (plug_end c.args.plug) in
+    (opened free c.args.home.first c.args.below c.args.plug.start) (plug_end c.args.plug) in
     let In : ℕ → List ℕ → Type 0 = λ x xs. IsIn x xs in
     let W : ℕ → Type 0 = λ n. (b : ℕ) → b % 8 ≡ 0 → (b + 32 < n) ⊎ (n ≤ b + 8) → IsNoChildren kids b
     → word_of c.add.new.heap b ≡ word_of c.args.heap.now b in
     subst N (sym c.save_words.ensures.pushed)
-    (written-plug old c.args.heap.now c.add.new.heap c.args.queue.now.entries starts free kids c.args.plug c.args.first
-    c.args.below s c.add.ensures.shape (omega (arith, low, first_low)) r.place.aligned c.requires.can.live
-    c.requires.can.least
+    (written-plug old c.args.heap.now c.add.new.heap c.args.queue.now.entries starts free kids c.args.plug
+    c.args.home.first c.args.below s c.add.ensures.shape (omega (arith, low, first_low)) r.place.aligned
+    c.requires.can.live c.requires.can.least
     (λ x i. among.among x (in_brick c.args.writer.now.builder.brick (plug_starts among.part.plugs) x
     (subst (In x) among.writing.planning.held i)).0)
     (λ x i. let u = r.above x (in_brick c.args.writer.now.builder.brick (plug_starts r.part.plugs) x

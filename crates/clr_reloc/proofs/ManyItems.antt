@@ -7,17 +7,24 @@ use Rattle.clr_types.specs.Rising.{IsIn}
 use Rattle.clr_types.specs.Segments.{Layout}
 use Rattle.clr_types.specs.Types.{TypeRow}
 use Rattle.clr_types.specs.declared.item.Item.{Item}
+use Rattle.clr_cards.specs.Cards.{is_card_set}
 use Rattle.clr_covers.specs.Covers.{CoverView, is_covered, spans}
 use Rattle.clr_covers.proofs.Spans.{is_covered-spans}
 use Rattle.clr_heap.specs.Memories.{HasWord}
-use Rattle.clr_heap.specs.View.{heap_items, HeapView, IsHeap, SameShape}
+use Rattle.clr_heap.specs.View.{frame, heap_items, HeapView, IsHeap, SameShape}
 use Rattle.clr_heap.proofs.Storing.{HasWord-shapes}
 use Rattle.clr_model.specs.Compaction.{Move, moved_by}
 use Rattle.clr_view.specs.View.{IsHeld}
 use Rattle.clr_view.proofs.Standing.{cell_has, mt_in, standing}
+use Rattle.clr_pinq.specs.Queue.{QueueView}
 use Rattle.clr_moves.specs.declared.parts.Parts.{Parts}
+use Rattle.clr_moves.specs.declared.stretch.Stretch.{Stretch}
+use Rattle.clr_reloc.specs.Relocated.{rebounded}
+use Rattle.clr_reloc.specs.Relocations.{AreRelocated, IsRelocatingBy, KeepsBeside}
+use Rattle.clr_reloc.specs.declared.relocation.Relocation.{Relocation}
 use Rattle.clr_reloc.specs.Relocating.{AreCarded, GoesDown, HasGone, HaveCardsDown, IsAhead, IsItemAhead, Tracks}
 use Rattle.clr_reloc.proofs.Cells.{left_inside, one_item}
+use Rattle.clr_reloc.proofs.OneObject.{keeps_refl, keeps_trans}
 
 pub below_end : (place hi end : ℕ) → place < hi → hi ≤ end → place < end
 below_end place hi end less within = omega (arith, less, within)
@@ -84,6 +91,37 @@ carded_both rows view g vs layout old new p q e kept a b i offset left low high 
   | inl first ↦ (λ less. kept ((moved_by vs i.place + offset) / 2048) (a i offset left low first m less))
   | inr second ↦ b i offset left second high m
 ]
+
+-- nothing is relocated where nothing stands
+pub relocated_none : (work : Relocation) (view now : HeapView) (vs : List Move) (h : HeapView) (pins : QueueView)
+    (cards : List (CoverView ℕ)) (last : Stretch) (p : ℕ) → IsRelocatingBy work view now h pins.entries vs last
+    → AreRelocated work view now vs h h pins pins cards last p p
+relocated_none work view now vs h pins cards last p r = record {
+  next = now;
+  relocating = r;
+  gone = gone_none work.types.now view now work.g vs p;
+  telling = keeps_refl work.types.now view work.g vs pins.entries h;
+  carded = carded_none work.types.now view work.g vs (rebounded (frame view) work.planned) (is_card_set cards) p;
+}
+
+-- what is relocated after something else, of which no card is cleared
+pub relocated_both : (work : Relocation) (view now : HeapView) (vs : List Move) (old mid new : HeapView)
+    (pins queue saved : QueueView) (cards flags set : List (CoverView ℕ)) (near last : Stretch) (p q e : ℕ)
+    → IsHeap view → IsHeld work.types.now view → p ≤ q → q ≤ e → KeepsBeside cards flags pins queue
+    → KeepsBeside flags set queue saved
+    → (a : AreRelocated work view now vs old mid pins queue flags near p q)
+    → AreRelocated work view a.next vs mid new queue saved set last q e
+    → AreRelocated work view now vs old new pins saved set last p e
+relocated_both work view now vs old mid new pins queue saved cards flags set near last p q e heap held low high before
+    beside a b = record {
+      next = b.next;
+      relocating = b.relocating;
+      gone = gone_both work.types.now view now a.next b.next work.g vs heap held p q e low high a.gone b.gone;
+      telling = keeps_trans work.types.now view work.g vs pins.entries queue.entries old mid new before.saved a.telling
+          b.telling;
+      carded = carded_both work.types.now view work.g vs (rebounded (frame view) work.planned) (is_card_set flags)
+          (is_card_set set) p q e beside.set a.carded b.carded;
+    }
 
 -- the next item is still ahead
 module _ (rows : List TypeRow) (view now next : HeapView) (g : Parts) (vs : List Move) (heap : IsHeap view)

@@ -1,5 +1,5 @@
 -- What a loop over the references of one object has done, once it has passed those at some offsets.
-use Rattle.std.proofs.Common.{◌≡◌, ℕ, zero, suc, ◌+◌, ◌-◌, ◌*◌, ◌/◌, ◌^◌, ◌<◌, ◌≤◌, true, List, [], ◌∷◌, ◌++◌, length}
+use Rattle.std.proofs.Common.{◌≡◌, ℕ, zero, suc, ◌+◌, ◌-◌, ◌*◌, ◌/◌, ◌^◌, ◌<◌, true, List, [], ◌∷◌, ◌++◌}
 use Rattle.std.proofs.Common.{refl, ap, ap₂, ◌∙◌, subst, arith}
 use Rattle.clr_types.specs.Descriptors.{offsets_from}
 use Rattle.clr_types.specs.Rising.{IsIn}
@@ -7,25 +7,25 @@ use Rattle.clr_types.specs.Segments.{generation, Layout}
 use Rattle.clr_types.specs.Types.{TypeRow}
 use Rattle.clr_types.specs.declared.item.Item.{Item}
 use Rattle.clr_cards.specs.Cards.{is_card_set}
-use Rattle.clr_covers.specs.Covers.{CoverView, is_covered, spans}
+use Rattle.clr_covers.specs.Covers.{CoverView, is_covered}
 use Rattle.clr_covers.proofs.Spans.{is_covered-spans}
 use Rattle.clr_heap.specs.Memories.{memory_index}
 use Rattle.clr_heap.specs.View.{frame, HeapView, stored, word_of}
 use Rattle.clr_heap.proofs.Storing.{HasWord-shapes}
 use Rattle.clr_model.specs.Compaction.{Move, moved_by}
-use Rattle.clr_plugs.specs.BrickEntries.{BricksView}
 use Rattle.clr_pinq.specs.Queue.{QueueView}
-use Rattle.clr_moves.specs.Going.{IsStretchOf}
-use Rattle.clr_moves.specs.declared.planned.Planned.{Planned}
 use Rattle.clr_moves.specs.declared.stretch.Stretch.{Stretch}
 use Rattle.clr_moves.specs.declared.parts.Parts.{Parts}
 use Rattle.clr_reloc.specs.References.{references_of}
 use Rattle.clr_reloc.specs.Relocated.{rebounded}
-use Rattle.clr_reloc.specs.Relocating.{HasGone, IsAhead, IsCarded, IsLeftItem, IsRelocating, IsSlotAhead}
-use Rattle.clr_reloc.specs.Relocating.{KeepsTelling, SavesSame}
+use Rattle.clr_reloc.specs.Relocating.{IsSlotAhead, KeepsTelling}
+use Rattle.clr_reloc.specs.Relocations.{AreRelocated, IsObjectAhead, IsPlaced, IsRelocatingBy, IsSlotRelocated}
+use Rattle.clr_reloc.specs.Relocations.{KeepsBeside}
+use Rattle.clr_reloc.specs.declared.relocation.LeftObject.{LeftObject}
+use Rattle.clr_reloc.specs.declared.relocation.Relocation.{Relocation}
 use Rattle.clr_reloc.proofs.Cells.{InItem, moved_lower, reference_inside}
-use Rattle.clr_reloc.proofs.OneObject.{gone_more, gone_nowhere, HasGoneAt, keeps_refl, keeps_trans, listed_next_of}
-use Rattle.clr_reloc.proofs.OneObject.{object_carded, object_gone, saves_refl, saves_trans, slot_ahead}
+use Rattle.clr_reloc.proofs.OneObject.{beside_refl, beside_trans, gone_more, gone_nowhere, HasGoneAt, keeps_refl}
+use Rattle.clr_reloc.proofs.OneObject.{keeps_trans, listed_next_of, object_carded, object_gone, slot_ahead}
 use Rattle.clr_reloc.proofs.OneSegment.{slot_segment}
 
 -- one reference of a run, with those before it and those after it
@@ -43,161 +43,140 @@ run_around offset (suc count) (suc i) l =
     ap₂ (λ (m n : ℕ). offset ∷ (offsets_from (offset + 8) i ++ m ∷ offsets_from (m + 8) n)) at left
     ∙ ap (λ (ns : List ℕ). offset ∷ ns) (run_around (offset + 8) count i (omega arith))
 
-module _ (rows : List TypeRow) (bricks : BricksView) (g : Parts) (planned : Planned) (found : Item) (to : ℕ)
-    (h : HeapView) (pins : QueueView) (cards : List (CoverView ℕ)) where
+module _ (work : Relocation) (object : LeftObject) (h : HeapView) (pins : QueueView) (cards : List (CoverView ℕ))
+    (last : Stretch) where
+  abbrev rows : List TypeRow
+  rows = work.types.now
+
+  abbrev g : Parts
+  g = work.g
+
+  abbrev found : Item
+  found = object.found
+
   pub record HasPassed (after : HeapView) (queue : QueueView) (flags : List (CoverView ℕ)) (near : Stretch)
       (offsets : List ℕ) : Type 0 where
-    pub gone : (view now : HeapView) (vs : List Move)
-        → IsRelocating rows view now h bricks pins.entries g vs planned.start1 planned.start0
-        → IsLeftItem rows view g found → IsAhead view now g vs found.place (found.place + found.size)
-        → to ≡ moved_by vs found.place
-        → (next : HeapView)
-        × IsRelocating rows view next after bricks queue.entries g vs planned.start1 planned.start0
-        × KeepsTelling rows view g vs pins.entries h after
-        × HasGoneAt rows view now next g vs found offsets (rebounded (frame view) planned) (is_card_set flags)
-        × IsStretchOf view g vs near
-    pub saved : SavesSame pins.entries queue.entries
-    pub kept : (c : ℕ) → is_card_set cards c ≡ true → is_card_set flags c ≡ true
-    pub covered : spans flags ≡ spans cards
-    pub count : length queue.entries ≡ length pins.entries
-    pub room : queue.spare ≡ pins.spare
+    pub gone : (view now : HeapView) (vs : List Move) → IsRelocatingBy work view now h pins.entries vs last
+        → IsObjectAhead work view now vs object
+        → (next : HeapView) × IsRelocatingBy work view next after queue.entries vs near
+        × KeepsTelling work.types.now view work.g vs pins.entries h after
+        × HasGoneAt work.types.now view now next work.g vs object.found offsets (rebounded (frame view) work.planned)
+        (is_card_set flags)
+    pub beside : KeepsBeside cards flags pins queue
 
-  pub passed_none : (near : Stretch) → near.stop ≡ 0 → HasPassed h pins cards near []
-  passed_none near none = record {
-    gone = λ view now vs r left ahead goes. (
+  pub passed_none : HasPassed h pins cards last []
+  passed_none = record {
+    gone = λ view now vs r ahead. (
       now,
       r,
       keeps_refl rows view g vs pins.entries h,
-      gone_nowhere rows view now g vs found (rebounded (frame view) planned) (is_card_set cards),
-      λ x low high go. absurd (omega (arith, none, high)),
+      gone_nowhere rows view now g vs found (rebounded (frame view) work.planned) (is_card_set cards),
     );
-    saved = saves_refl pins.entries;
-    kept = λ i on. on;
-    covered = refl;
-    count = refl;
-    room = refl;
+    beside = beside_refl cards pins;
   }
 
   module _ (after : HeapView) (queue : QueueView) (flags : List (CoverView ℕ)) (near : Stretch) (yielded : List ℕ)
-      (offset : ℕ) (rest : List ℕ) (walked : yielded ++ offset ∷ rest ≡ references_of rows found)
+      (offset : ℕ) (rest : List ℕ) (walked : yielded ++ offset ∷ rest ≡ references_of work.types.now object.found)
       (passed : HasPassed after queue flags near yielded) where
     abbrev a : ℕ
-    a = found.place + offset
+    a = object.found.place + offset
 
     listed : IsIn offset (references_of rows found)
     listed = listed_next_of offset yielded rest (references_of rows found) walked
 
-    module _ (view now : HeapView) (vs : List Move)
-        (r : IsRelocating rows view now h bricks pins.entries g vs planned.start1 planned.start0)
-        (left : IsLeftItem rows view g found) (ahead : IsAhead view now g vs found.place (found.place + found.size))
-        (goes : to ≡ moved_by vs found.place) where
-      inside : InItem rows view r.begun.plan.overlaid.heap r.begun.plan.held found (found.place + offset)
-      inside = reference_inside rows view r.begun.plan.overlaid.heap r.begun.plan.held found offset left.listed listed
+    module _ (view now : HeapView) (vs : List Move) (r : IsRelocatingBy work view now h pins.entries vs last)
+        (ahead : IsObjectAhead work view now vs object) where
+      inside : InItem rows view r.0.begun.plan.overlaid.heap r.0.begun.plan.held found (found.place + offset)
+      inside = reference_inside rows view r.0.begun.plan.overlaid.heap r.0.begun.plan.held found offset
+          ahead.left.listed listed
 
       -- both addresses of the reference can be spelled
-      pub slot_fits : (found.place + offset < 2 ^ 64) × (to + offset < 2 ^ 64)
+      pub slot_fits : (object.found.place + offset < 2 ^ 64) × (object.to + offset < 2 ^ 64)
       slot_fits =
           let fits = inside.fits in
-          let lower = moved_lower vs found.place r.begun.plan.overlaid.line.lower in
+          let lower = moved_lower vs found.place r.0.begun.plan.overlaid.line.lower in
+          let goes = ahead.goes in
           (omega (arith, fits), omega (arith, fits, lower, goes))
 
       -- it is still to be relocated
-      pub slot_next : (next : HeapView)
-          × IsRelocating rows view next after bricks queue.entries g vs planned.start1 planned.start0
-          × IsSlotAhead rows view next g vs (found.place + offset)
+      pub slot_next : (next : HeapView) × IsRelocatingBy work view next after queue.entries vs near
+          × IsSlotAhead work.types.now view next work.g vs (object.found.place + offset)
       slot_next =
-          let (next, q, keeps, gone, met) = passed.gone view now vs r left ahead goes in (
+          let (next, q, keeps, gone) = passed.gone view now vs r ahead in (
             next,
             q,
-            slot_ahead rows view now next g vs found (rebounded (frame view) planned) (is_card_set flags)
-                r.begun.plan.overlaid.heap r.begun.plan.held left ahead yielded offset rest walked gone,
+            slot_ahead rows view now next g vs found (rebounded (frame view) work.planned) (is_card_set flags)
+                r.0.begun.plan.overlaid.heap r.0.begun.plan.held ahead.left ahead.ahead yielded offset rest walked gone,
           )
 
       -- it stands in its object's segment
-      pub slot_at : (k : ℕ) → k ≡ memory_index h.memories found.place
-          → k ≡ memory_index after.memories (found.place + offset)
-      slot_at k is =
-          let (next, q, keeps, gone, met) = passed.gone view now vs r left ahead goes in
-          slot_segment rows view r.begun.plan.overlaid.heap r.begun.plan.held found left.listed h after r.shape q.shape
-          k is offset listed
+      pub slot_at : IsPlaced work h cards object
+          → object.segment ≡ memory_index after.memories (object.found.place + offset)
+      slot_at placed =
+          let (next, q, keeps, gone) = passed.gone view now vs r ahead in
+          slot_segment rows view r.0.begun.plan.overlaid.heap r.0.begun.plan.held found ahead.left.listed h after
+          r.0.shape q.0.shape object.segment placed.segment offset listed
 
       -- and has a card
-      pub slot_card : ((x : ℕ) → to ≤ x → x < to + found.size → is_covered cards (x / 2048) ≡ true)
-          → is_covered flags ((to + offset) / 2048) ≡ true
-      slot_card all =
+      pub slot_card : IsPlaced work h cards object → is_covered flags ((object.to + offset) / 2048) ≡ true
+      slot_card placed =
           let high = inside.below in
-          is_covered-spans flags cards ((to + offset) / 2048) passed.covered
-          ∙ all (to + offset) (omega arith) (omega (arith, high))
+          is_covered-spans flags cards ((object.to + offset) / 2048) passed.beside.cards
+          ∙ placed.covered (object.to + offset) (omega arith) (omega (arith, high))
 
     -- once it has been relocated, the loop has passed one offset more
-    pub passed_more : (age : ℕ) → age ≡ generation (rebounded (frame h) planned) to
+    pub passed_more : object.age ≡ generation (rebounded (frame h) work.planned) object.to
         → (new : HeapView) (saved : QueueView) (set : List (CoverView ℕ)) (nearer : Stretch)
-        → ((view next : HeapView) (vs : List Move)
-        → IsRelocating rows view next after bricks queue.entries g vs planned.start1 planned.start0
-        → IsSlotAhead rows view next g vs (found.place + offset) → IsStretchOf view g vs near
-        → IsRelocating rows view (stored next (found.place + offset) (moved_by vs (word_of view (found.place +
-        offset))))
-        new bricks saved.entries g vs planned.start1 planned.start0
-        × KeepsTelling rows view g vs queue.entries after new
-        × (generation (rebounded (frame view) planned) (moved_by vs (word_of view (found.place + offset))) < age
-        → is_card_set set ((to + offset) / 2048) ≡ true)
-        × IsStretchOf view g vs nearer)
-        → SavesSame queue.entries saved.entries
-        → ((c : ℕ) → is_card_set flags c ≡ true → is_card_set set c ≡ true) → spans set ≡ spans flags
-        → length saved.entries ≡ length queue.entries → saved.spare ≡ queue.spare
-        → HasPassed new saved set nearer (yielded ++ offset ∷ [])
-    passed_more age age_is new saved set nearer slot saves keep covered count room = record {
-      gone = λ view now vs r left ahead goes.
-          let (next, q, keeps, gone, met) = passed.gone view now vs r left ahead goes in
-          let layout = rebounded (frame view) planned in
-          let heap = r.begun.plan.overlaid.heap in
-          let held = r.begun.plan.held in
-          let here = slot_ahead rows view now next g vs found layout (is_card_set flags) heap held left ahead yielded
-          offset rest walked gone in
-          let (again, also, carded, meets) = slot view next vs q here met in
-          let same : frame h ≡ frame view = ap (λ (x : HeapView). frame x) r.shape.others in
-          let own : age ≡ generation layout (moved_by vs found.place) =
-          age_is ∙ ap (λ (l : Layout). generation (rebounded l planned) to) same ∙ ap (generation layout) goes in
+        → ((view next : HeapView) (vs : List Move) → IsRelocatingBy work view next after queue.entries vs near
+        → IsSlotAhead work.types.now view next work.g vs (object.found.place + offset)
+        → IsSlotRelocated work view next vs after new queue saved set nearer object offset)
+        → KeepsBeside flags set queue saved → HasPassed new saved set nearer (yielded ++ offset ∷ [])
+    passed_more age_is new saved set nearer slot beside = record {
+      gone = λ view now vs r ahead.
+          let (next, q, keeps, gone) = passed.gone view now vs r ahead in
+          let layout = rebounded (frame view) work.planned in
+          let heap = r.0.begun.plan.overlaid.heap in
+          let held = r.0.begun.plan.held in
+          let here = slot_ahead rows view now next g vs found layout (is_card_set flags) heap held ahead.left
+          ahead.ahead yielded offset rest walked gone in
+          let done = slot view next vs q here in
+          let same : frame h ≡ frame view = ap (λ (x : HeapView). frame x) r.0.shape.others in
+          let own : object.age ≡ generation layout (moved_by vs found.place) =
+          age_is ∙ ap (λ (l : Layout). generation (rebounded l work.planned) object.to) same
+          ∙ ap (generation layout) ahead.goes in
           let target = moved_by vs (word_of view a) in (
             stored next a target,
-            again,
-            keeps_trans rows view g vs pins.entries queue.entries h after new passed.saved keeps also,
-            gone_more rows view now next g vs found layout (is_card_set flags) heap held left ahead yielded offset rest
-                walked gone (stored next a target) (is_card_set set) refl
-                (HasWord-shapes view.memories next.memories a q.underway.shape.memories
-                (inside view now vs r left ahead goes).word).inside keep
-                (λ less. subst (λ n. is_card_set set ((n + offset) / 2048) ≡ true) goes
-                (carded (omega (arith, own, less)))),
-            meets,
+            done.relocating,
+            keeps_trans rows view g vs pins.entries queue.entries h after new passed.beside.saved keeps done.telling,
+            gone_more rows view now next g vs found layout (is_card_set flags) heap held ahead.left ahead.ahead yielded
+                offset rest walked gone (stored next a target) (is_card_set set) refl
+                (HasWord-shapes view.memories next.memories a q.0.underway.shape.memories (inside view now vs r
+                ahead).word).inside beside.set
+                (λ less. subst (λ n. is_card_set set ((n + offset) / 2048) ≡ true) ahead.goes
+                (done.carded (omega (arith, own, less)))),
           );
-      saved = saves_trans pins.entries queue.entries saved.entries passed.saved saves;
-      kept = λ i on. keep i (passed.kept i on);
-      covered = covered ∙ passed.covered;
-      count = count ∙ passed.count;
-      room = room ∙ passed.room;
+      beside = beside_trans cards flags set pins queue saved passed.beside beside;
     }
 
   -- all of them
   pub passed_all : (after : HeapView) (queue : QueueView) (flags : List (CoverView ℕ)) (near : Stretch)
-      (offsets : List ℕ) → HasPassed after queue flags near offsets → offsets ≡ references_of rows found
-      → (view now : HeapView) (vs : List Move)
-      → IsRelocating rows view now h bricks pins.entries g vs planned.start1 planned.start0
-      → IsLeftItem rows view g found → IsAhead view now g vs found.place (found.place + found.size)
-      → to ≡ moved_by vs found.place
-      → (next : HeapView)
-      × IsRelocating rows view next after bricks queue.entries g vs planned.start1 planned.start0
-      × HasGone rows view now next g vs found.place (found.place + found.size)
-      × KeepsTelling rows view g vs pins.entries h after
-      × ((offset : ℕ) → IsIn offset (references_of rows found)
-      → IsCarded view vs (rebounded (frame view) planned) (is_card_set flags) found.place offset)
-  passed_all after queue flags near offsets passed all view now vs r left ahead goes =
-      let (next, q, keeps, gone, met) = passed.gone view now vs r left ahead goes in
-      let layout = rebounded (frame view) planned in
-      let heap = r.begun.plan.overlaid.heap in
-      let held = r.begun.plan.held in (
-        next,
-        q,
-        object_gone rows view now next g vs found layout (is_card_set flags) heap held left offsets all gone,
-        keeps,
-        object_carded rows view now next g vs found layout (is_card_set flags) heap held left offsets all gone,
-      )
+      (offsets : List ℕ) → HasPassed after queue flags near offsets
+      → offsets ≡ references_of work.types.now object.found
+      → (view now : HeapView) (vs : List Move) → IsRelocatingBy work view now h pins.entries vs last
+      → IsObjectAhead work view now vs object
+      → AreRelocated work view now vs h after pins queue flags near object.found.place
+      (object.found.place + object.found.size)
+  passed_all after queue flags near offsets passed all view now vs r ahead =
+      let (next, q, keeps, gone) = passed.gone view now vs r ahead in
+      let layout = rebounded (frame view) work.planned in
+      let heap = r.0.begun.plan.overlaid.heap in
+      let held = r.0.begun.plan.held in
+      record {
+        next = next;
+        relocating = q;
+        gone = object_gone rows view now next g vs found layout (is_card_set flags) heap held ahead.left offsets all
+            gone;
+        telling = keeps;
+        carded = object_carded rows view now next g vs found layout (is_card_set flags) heap held ahead.left offsets all
+            gone;
+      }

@@ -3,30 +3,33 @@ use Rattle.std.proofs.Common.{◌≡◌, ℕ, ◌+◌, ◌/◌, ◌%◌, ◌<◌
 use Rattle.std.proofs.Common.{List, refl}
 use Rattle.std.proofs.Common.{◌*◌, ◌-◌, ap, ap₂, sym, ◌∙◌, subst, arith, length, if◌then◌else◌}
 use Rattle.std.proofs.lemmas.Bool.{and_parts, both_ways}
-use Rattle.clr_types.specs.Rising.{IsIn}
-use Rattle.clr_types.specs.Segments.{Layout}
+use Rattle.clr_types.specs.Segments.{generation, Layout}
 use Rattle.clr_types.specs.Types.{form_at, is_array, mt_of, size_of, TypeRow}
 use Rattle.clr_types.specs.declared.item.Item.{Item}
-use Rattle.clr_covers.specs.Covers.{CoverView}
+use Rattle.clr_cards.specs.Cards.{is_card_set}
+use Rattle.clr_covers.specs.Covers.{CoverView, is_covered}
 use Rattle.clr_heap.specs.Memories.{HasWord, memory_index}
 use Rattle.clr_heap.specs.Parts.{item_at, length_at, NamesItem, type_number}
-use Rattle.clr_heap.specs.View.{HeapView, IsHeap, word_of}
+use Rattle.clr_heap.specs.View.{frame, HeapView, IsHeap, word_of}
 use Rattle.clr_heap.proofs.Storing.{HasWord-shapes, memory_index-shapes}
-use Rattle.clr_model.specs.Compaction.{Move}
+use Rattle.clr_model.specs.Compaction.{Move, moved_by}
 use Rattle.clr_view.specs.Marks.{has_mark}
 use Rattle.clr_view.specs.View.{IsHeld, is_object}
 use Rattle.clr_view.proofs.Listed.{listed-low, listed-spelled}
 use Rattle.clr_view.proofs.Standing.{cell_has, cell_index, len_in, mt_in, standing}
-use Rattle.clr_plugs.specs.BrickEntries.{BricksView}
-use Rattle.clr_pinq.specs.Queue.{logical}
+use Rattle.clr_pinq.specs.Queue.{logical, QueueView}
 use Rattle.clr_pinq.specs.declared.entry.PinEntry.{PinEntry}
 use Rattle.clr_moves.specs.declared.parts.Parts.{Parts}
-use Rattle.clr_reloc.specs.References.{references_of}
-use Rattle.clr_reloc.specs.Relocating.{AreCarded, HasGone, is_gone_over, is_gone_over_in, is_left_at, IsCarded}
-use Rattle.clr_reloc.specs.Relocating.{IsItemAhead, IsLeftItem, IsRelocating}
+use Rattle.clr_moves.specs.declared.stretch.Stretch.{Stretch}
+use Rattle.clr_reloc.specs.Relocated.{rebounded}
+use Rattle.clr_reloc.specs.Relocating.{AreCarded, HasGone, is_gone_over, is_gone_over_in, is_left_at, IsAhead}
+use Rattle.clr_reloc.specs.Relocating.{IsItemAhead, IsLeftItem}
+use Rattle.clr_reloc.specs.Relocations.{AreRelocated, IsObjectAhead, IsPlaced, IsRelocatingBy}
+use Rattle.clr_reloc.specs.declared.relocation.Relocation.{Relocation}
 use Rattle.clr_reloc.proofs.Cells.{left_inside, one_item}
 use Rattle.clr_reloc.proofs.LeftHomes.{gone_over_told}
 use Rattle.clr_reloc.proofs.LeftPlaces.{over_same}
+use Rattle.clr_reloc.proofs.OneObject.{keeps_refl}
 use Rattle.clr_reloc.proofs.OneSegment.{cell_segment}
 
 -- an item is read from two words
@@ -53,19 +56,28 @@ names_same rows v w p a b n =
       free = λ e. subst (λ x. x % 8 ≡ 0) (sym b) (n.free (ap type_number (sym a) ∙ e));
     }
 
-module _ (rows : List TypeRow) (view now h : HeapView) (bricks : BricksView) (entries : List PinEntry) (g : Parts)
-    (vs : List Move) (start1 start0 : ℕ) (r : IsRelocating rows view now h bricks entries g vs start1 start0)
-    (i : Item) (place to : ℕ) (cards : List (CoverView ℕ)) (q : IsItemAhead rows view now g vs i place to cards) where
+module _ (work : Relocation) (view now h : HeapView) (pins : QueueView) (vs : List Move) (last : Stretch)
+    (r : IsRelocatingBy work view now h pins.entries vs last) (i : Item) (place to : ℕ) (cards : List (CoverView ℕ))
+    (q : IsItemAhead work.types.now view now work.g vs i place to cards) where
+  abbrev rows : List TypeRow
+  rows = work.types.now
+
+  abbrev g : Parts
+  g = work.g
+
+  abbrev entries : List PinEntry
+  entries = pins.entries
+
   heap : IsHeap view
-  heap = r.begun.plan.overlaid.heap
+  heap = r.0.begun.plan.overlaid.heap
 
   held : IsHeld rows view
-  held = r.begun.plan.held
+  held = r.0.begun.plan.held
 
   -- the words of the item's cell
-  pub cell_word : (b : ℕ) → b % 8 ≡ 0 → place ≤ b + 8 → b + 8 < place + i.size
+  cell_word : (b : ℕ) → b % 8 ≡ 0 → place ≤ b + 8 → b + 8 < place + i.size
       → logical entries (word_of h) b ≡ word_of view b
-  cell_word b z low high = r.words b z (q.ahead.kept b z low high) ∙ q.ahead.untouched b z low high
+  cell_word b z low high = r.0.words b z (q.ahead.kept b z low high) ∙ q.ahead.untouched b z low high
 
   aligned : place % 8 ≡ 0
   aligned = subst (λ n. n % 8 ≡ 0) q.at (standing rows view heap held i q.listed).aligned
@@ -73,41 +85,41 @@ module _ (rows : List TypeRow) (view now h : HeapView) (bricks : BricksView) (en
   least : 24 ≤ i.size
   least = (standing rows view heap held i q.listed).least
 
-  pub mt_same : logical entries (word_of h) place ≡ word_of view place
+  pub mt_same : logical pins.entries (word_of h) place ≡ word_of view place
   mt_same = let z = aligned in let l = least in cell_word place z (omega arith) (omega arith)
 
   len_same : logical entries (word_of h) (place + 8) ≡ word_of view (place + 8)
   len_same = let z = aligned in let l = least in cell_word (place + 8) (omega arith) (omega arith) (omega arith)
 
   pub mt_has : HasWord h.memories place
-  mt_has = HasWord-shapes view.memories h.memories place r.shape.memories
+  mt_has = HasWord-shapes view.memories h.memories place r.0.shape.memories
       (subst (HasWord view.memories) q.at (cell_has rows view heap held i i.place q.listed
       (mt_in rows view heap held i q.listed)))
 
   pub len_has : HasWord h.memories (place + 8)
-  len_has = HasWord-shapes view.memories h.memories (place + 8) r.shape.memories
+  len_has = HasWord-shapes view.memories h.memories (place + 8) r.0.shape.memories
       (subst (λ n. HasWord view.memories (n + 8)) q.at (cell_has rows view heap held i (i.place + 8) q.listed
       (len_in rows view heap held i q.listed)))
 
   -- the length stands in the segment of the place
   pub len_segment : (k : ℕ) → k ≡ memory_index h.memories place → k ≡ memory_index h.memories (place + 8)
   len_segment k is =
-      subst (λ n. k ≡ memory_index h.memories (n + 8)) q.at (cell_segment rows view heap held i q.listed h h r.shape
-      r.shape k (subst (λ n. k ≡ memory_index h.memories n) (sym q.at) is) (i.place + 8)
+      subst (λ n. k ≡ memory_index h.memories (n + 8)) q.at (cell_segment rows view heap held i q.listed h h r.0.shape
+      r.0.shape k (subst (λ n. k ≡ memory_index h.memories n) (sym q.at) is) (i.place + 8)
       (len_in rows view heap held i q.listed))
 
-  pub low_place : place + i.size ≤ 2 ^ 62
+  low_place : place + i.size ≤ 2 ^ 62
   low_place = let l = listed-low rows view i heap held q.listed in let e = q.at in omega (arith, l, e)
 
   pub fits_len : place + 8 < 2 ^ 64
   fits_len = let l = low_place in let s = least in omega (arith, l, s)
 
-  pub item_is : item_at rows (logical entries (word_of h)) place ≡ i
+  item_is : item_at rows (logical entries (word_of h)) place ≡ i
   item_is =
       item_same rows (word_of view) (logical entries (word_of h)) place mt_same len_same
       ∙ ap (item_at rows (word_of view)) (sym q.at) ∙ sym (listed-spelled rows view i heap held q.listed).0
 
-  pub item_named : NamesItem rows (logical entries (word_of h)) place
+  pub item_named : NamesItem work.types.now (logical pins.entries (word_of h)) place
   item_named =
       names_same rows (word_of view) (logical entries (word_of h)) place mt_same len_same
       (subst (NamesItem rows (word_of view)) q.at (listed-spelled rows view i heap held q.listed).1)
@@ -117,7 +129,7 @@ module _ (rows : List TypeRow) (view now h : HeapView) (bricks : BricksView) (en
   -- the segment of the item
   in_segment : (k : ℕ) → k ≡ memory_index h.memories place → k ≡ (standing rows view heap held i q.listed).segment
   in_segment k is =
-      is ∙ memory_index-shapes h.memories view.memories place r.shape.memories
+      is ∙ memory_index-shapes h.memories view.memories place r.0.shape.memories
       ∙ ap (memory_index view.memories) (sym q.at)
       ∙ cell_index rows view heap held i i.place q.listed (mt_in rows view heap held i q.listed)
 
@@ -125,7 +137,7 @@ module _ (rows : List TypeRow) (view now h : HeapView) (bricks : BricksView) (en
   segment_inside k is =
       let same = in_segment k is in
       let inside = (standing rows view heap held i q.listed).in_range in
-      let count = ap (λ (x : HeapView). length x.segments) r.shape.others in
+      let count = ap (λ (x : HeapView). length x.segments) r.0.shape.others in
       omega (arith, same, inside, count)
 
   over_told : (k : ℕ) → k ≡ memory_index h.memories place → is_gone_over_in h g k i.place ≡ is_gone_over view g i.place
@@ -134,11 +146,11 @@ module _ (rows : List TypeRow) (view now h : HeapView) (bricks : BricksView) (en
       let below = s.below in
       let size = s.least in
       let reserved = s.reserved in
-      over_same view h r.shape g k i.place
+      over_same view h r.0.shape g k i.place
       ∙ subst (λ n. is_gone_over_in view g n i.place ≡ is_gone_over view g i.place) (sym (in_segment k is))
       (gone_over_told rows view g heap held s.segment i.place s.in_range s.above (omega (arith, below, size, reserved)))
 
-  pub left_told : (k : ℕ) → k ≡ memory_index h.memories place → (found : Item) (mt : ℕ) → found ≡ i
+  left_told : (k : ℕ) → k ≡ memory_index h.memories place → (found : Item) (mt : ℕ) → found ≡ i
       → mt ≡ word_of view place
       → (is_object found && (not (is_gone_over_in h g k found.place) || has_mark mt))
       ≡ (is_object i && is_left_at view g i.place)
@@ -148,7 +160,7 @@ module _ (rows : List TypeRow) (view now h : HeapView) (bricks : BricksView) (en
       ∙ ap (λ w. is_object i && (not (is_gone_over view g i.place) || has_mark w))
       (word ∙ ap (word_of view) (sym q.at))
 
-  pub left_item : (is_object i && is_left_at view g i.place) ≡ true → IsLeftItem rows view g i
+  left_item : (is_object i && is_left_at view g i.place) ≡ true → IsLeftItem rows view g i
   left_item on =
       let p = and_parts (is_object i) (is_left_at view g i.place) on in
       record { listed = q.listed; object = p.0; left = p.1 }
@@ -167,7 +179,7 @@ module _ (rows : List TypeRow) (view now h : HeapView) (bricks : BricksView) (en
         (subst (λ (x : Item). (is_object x && is_left_at view g x.place) ≡ true) same
         (ap₂ (λ s t. s && t) left.object left.left))
 
-    pub not_gone : HasGone rows view now now g vs place (place + i.size)
+    not_gone : HasGone rows view now now g vs place (place + i.size)
     not_gone = record {
       done = λ b ref low high.
           let c = left_inside rows view heap held g b ref in
@@ -181,19 +193,59 @@ module _ (rows : List TypeRow) (view now h : HeapView) (bricks : BricksView) (en
       others = λ b z out. refl;
     }
 
-    pub not_carded : (layout : Layout) (is_set : ℕ → Bool)
+    not_carded : (layout : Layout) (is_set : ℕ → Bool)
         → AreCarded rows view g vs layout is_set place (place + i.size)
     not_carded layout is_set j offset left low high member = absurd (none_left j left low high)
 
-  -- the cards of an object that is left
-  pub all_carded : (layout : Layout) (is_set : ℕ → Bool)
-      → ((offset : ℕ) → IsIn offset (references_of rows i) → IsCarded view vs layout is_set i.place offset)
-      → AreCarded rows view g vs layout is_set place (place + i.size)
-  all_carded layout is_set carded j offset left low high member =
-      let s = (standing rows view heap held j left.listed).least in
-      let up = (standing rows view heap held j left.listed).above in
-      let e = q.at in
-      let same : j ≡ i = one_item rows view heap held j i (j.place - 8) left.listed q.listed (omega arith) (omega arith)
-      (omega arith) (omega arith) in
-      subst (λ (x : Item). IsCarded view vs layout is_set x.place offset) (sym same)
-      (carded offset (subst (λ (x : Item). IsIn offset (references_of rows x)) same member))
+    -- and stays as it is
+    pub item_stays : AreRelocated work view now vs h h pins pins cards last place (place + i.size)
+    item_stays = record {
+      next = now;
+      relocating = r;
+      gone = not_gone;
+      telling = keeps_refl rows view g vs entries h;
+      carded = not_carded (rebounded (frame view) work.planned) (is_card_set cards);
+    }
+
+  -- what the code tells of the item that it reads
+  module _ (k : ℕ) (is : k ≡ memory_index h.memories place) (found : Item)
+      (read : found ≡ item_at work.types.now (logical pins.entries (word_of h)) place) (mt : ℕ)
+      (word : mt ≡ logical pins.entries (word_of h) place) (tested : Bool)
+      (told : tested ≡ (is_object found && (not (is_gone_over_in h work.g k found.place) || has_mark mt))) where
+    pub found_is : found ≡ i
+    found_is = read ∙ item_is
+
+    test_is : tested ≡ (is_object i && is_left_at view g i.place)
+    test_is = told ∙ left_told k is found mt found_is (word ∙ mt_same)
+
+    pub found_stays : tested ≡ false → AreRelocated work view now vs h h pins pins cards last place (place + i.size)
+    found_stays off = item_stays (sym test_is ∙ off)
+
+    -- it goes where the item goes
+    module _ (near age : ℕ) where
+      pub found_ahead : tested ≡ true
+          → IsObjectAhead work view now vs (record { segment = k; near = near; found = found; to = to; age = age })
+      found_ahead on = record {
+        left = subst (IsLeftItem rows view g) (sym found_is) (left_item (sym test_is ∙ on));
+        ahead = subst (λ (x : Item). IsAhead view now g vs x.place (x.place + x.size)) (sym found_is)
+            (subst (λ p. IsAhead view now g vs p (p + i.size)) (sym q.at) q.ahead);
+        goes = q.goes ∙ ap (moved_by vs) (sym q.at ∙ ap (λ (x : Item). x.place) (sym found_is));
+      }
+
+      pub found_placed : age ≡ generation (rebounded (frame h) work.planned) to
+          → IsPlaced work h cards (record { segment = k; near = near; found = found; to = to; age = age })
+      found_placed age_is = record {
+        segment = is ∙ ap (memory_index h.memories) (sym q.at ∙ ap (λ (x : Item). x.place) (sym found_is));
+        age = age_is;
+        covered = subst (λ (y : Item). (x : ℕ) → to ≤ x → x < to + y.size → is_covered cards (x / 2048) ≡ true)
+            (sym found_is) q.covered;
+      }
+
+    -- once its references are relocated, the item's are
+    pub found_done : (new : HeapView) (saved : QueueView) (set : List (CoverView ℕ)) (nearer : Stretch)
+        → AreRelocated work view now vs h new pins saved set nearer found.place (found.place + found.size)
+        → AreRelocated work view now vs h new pins saved set nearer place (place + i.size)
+    found_done new saved set nearer done =
+        subst (λ p. AreRelocated work view now vs h new pins saved set nearer p (p + i.size)) q.at
+        (subst (λ (x : Item). AreRelocated work view now vs h new pins saved set nearer x.place (x.place + x.size))
+        found_is done)

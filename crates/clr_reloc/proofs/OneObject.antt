@@ -1,5 +1,5 @@
 -- The references of one object become the places where their targets go, one after the other.
-use Rattle.std.proofs.Common.{◌≡◌, ◌≢◌, inl, inr, ℕ, ◌+◌, ◌/◌, ◌%◌, ◌<◌, Bool, true, List, [], ◌∷◌, ◌++◌, refl}
+use Rattle.std.proofs.Common.{◌≡◌, ◌≢◌, inl, inr, ℕ, ◌+◌, ◌-◌, ◌/◌, ◌%◌, ◌<◌, Bool, true, List, [], ◌∷◌, ◌++◌, refl}
 use Rattle.std.proofs.Common.{ap, sym, ◌∙◌}
 use Rattle.std.proofs.Common.{subst, arith, length}
 use Rattle.clr_types.specs.Rising.{first, IsIn, IsRisingBy, later}
@@ -17,10 +17,14 @@ use Rattle.clr_heap.proofs.Rewrite.{SameShape-refl}
 use Rattle.clr_heap.proofs.Storing.{word_in-store_in_other, word_in-store_in_same}
 use Rattle.clr_model.specs.Compaction.{Move, moved_by}
 use Rattle.clr_view.specs.View.{IsHeld}
+use Rattle.clr_view.proofs.Standing.{standing}
+use Rattle.clr_covers.specs.Covers.{CoverView}
+use Rattle.clr_pinq.specs.Queue.{QueueView}
 use Rattle.clr_pinq.specs.declared.entry.PinEntry.{PinEntry}
 use Rattle.clr_moves.specs.declared.parts.Parts.{Parts}
 use Rattle.clr_reloc.specs.References.{references_of}
-use Rattle.clr_reloc.specs.Relocating.{HasGone, IsAhead, IsCarded, IsLeftItem}
+use Rattle.clr_reloc.specs.Relocations.{KeepsBeside}
+use Rattle.clr_reloc.specs.Relocating.{AreCarded, HasGone, IsAhead, IsCarded, IsLeftItem}
 use Rattle.clr_reloc.specs.Relocating.{IsSlotAhead, KeepsTelling, SavesSame}
 use Rattle.clr_reloc.proofs.Cells.{InItem, left_inside, one_item, reference_inside}
 
@@ -45,6 +49,20 @@ keeps_trans rows view g vs entries other a b c s k l = record {
     | inl same ↦ elim (k.words x z) [ inl e ↦ inl (same ∙ e) | inr q ↦ inr (q.0, q.1, q.2, same ∙ q.3) ]
     | inr q ↦ inr (q.0, q.1, λ some. q.2 ((s x).0 some), q.3)
   ];
+}
+
+pub beside_refl : (cards : List (CoverView ℕ)) (pins : QueueView) → KeepsBeside cards cards pins pins
+beside_refl cards pins =
+    record { set = λ c on. on; cards = refl; saved = saves_refl pins.entries; count = refl; spare = refl }
+
+pub beside_trans : (f g h : List (CoverView ℕ)) (p q r : QueueView) → KeepsBeside f g p q → KeepsBeside g h q r
+    → KeepsBeside f h p r
+beside_trans f g h p q r a b = record {
+  set = λ c on. b.set c (a.set c on);
+  cards = b.cards ∙ a.cards;
+  saved = saves_trans p.entries q.entries r.entries a.saved b.saved;
+  count = b.count ∙ a.count;
+  spare = b.spare ∙ a.spare;
 }
 
 -- ---- one object
@@ -167,6 +185,13 @@ module _ (rows : List TypeRow) (view now next : HeapView) (g : Parts) (vs : List
         elim out [ inl x ↦ omega arith | inr x ↦ omega arith ]);
   }
 
-  pub object_carded : (offset : ℕ) → IsIn offset (references_of rows found)
-      → IsCarded view vs layout is_set found.place offset
-  object_carded offset i = gone.carded offset (subst (IsIn offset) (sym all) i)
+  pub object_carded : AreCarded rows view g vs layout is_set found.place (found.place + found.size)
+  object_carded j offset leaves low high member =
+      let s = standing rows view heap held j leaves.listed in
+      let least = s.least in
+      let up = s.above in
+      let same : j ≡ found = one_item rows view heap held j found (j.place - 8) leaves.listed left.listed (omega arith)
+      (omega arith) (omega arith) (omega arith) in
+      subst (λ (x : Item). IsCarded view vs layout is_set x.place offset) (sym same)
+      (gone.carded offset (subst (IsIn offset) (sym all) (subst (λ (x : Item). IsIn offset (references_of rows x)) same
+      member)))

@@ -1,34 +1,32 @@
 // Relocating the references of old objects, which set cards tell.
-ghost use Rattle.std.specs.Prelude.{◌≡◌, ℕ, ◌+◌, ◌-◌, ◌/◌, ◌%◌, ◌<◌, ◌≤◌, ◌⊎◌, ◌^◌, true, List, length, IfSome, IfNone};
+ghost use Rattle.std.specs.Prelude.{◌≡◌, ◌-◌, ◌/◌, ◌%◌, ◌<◌, ◌≤◌, ◌⊎◌, ◌^◌, true, List, IfSome, IfNone};
 ghost use Rattle.clr_types.specs.declared.item.Item.{Item};
 ghost use Rattle.clr_cards.specs.Cards.{is_card_set};
-ghost use Rattle.clr_covers.specs.Covers.{share_cover, spans};
+ghost use Rattle.clr_covers.specs.Covers.{share_cover};
 ghost use Rattle.clr_heap.specs.View.{frame, HeapView};
 ghost use Rattle.clr_model.specs.Compaction.{Move};
 ghost use Rattle.clr_moves.specs.Moves.{age_of};
 ghost use Rattle.clr_scan.specs.SetCards.{AreClear};
 ghost use Rattle.clr_reloc.specs.Relocated.{rebounded};
-ghost use Rattle.clr_reloc.specs.Relocations.{IsRelocatingBy};
-ghost use Rattle.clr_reloc.specs.Relocating.{AreCarded, GoesDown, HasGone, HaveCardsDown, IsAhead};
-ghost use Rattle.clr_reloc.specs.Relocating.{KeepsTelling, SavesSame, Tracks};
+ghost use Rattle.clr_reloc.specs.Relocations.{AreRelocated, IsRelocatingBy, KeepsBeside};
+ghost use Rattle.clr_reloc.specs.Relocating.{GoesDown, HaveCardsDown, IsAhead, Tracks};
 ghost use Rattle.clr_reloc.specs.Scanning.{AreEntriesSound, AreInRow, AreQuietWhereClear, entry_before, HaveEntries};
 
 use crate::entries::nearest;
-use crate::relocation::Relocation;
+use crate::relocation::{Met, Relocation};
 use crate::stretches::relocate_items;
 use clr_cards::Cards;
 use clr_heap::Heap;
 use clr_pinq::PinQueue;
 
 // Relocates the references of what is left among the items from the place `first` up to `end`, where nothing goes and
-// cards tell all references to what goes or is younger. A part begins in the brick `border`. `segment` is a guess of
-// the segment that they stand in.
+// cards tell all references to what goes or is younger. A part begins in the brick `border`.
 pub(crate) fn relocate_carded(
     heap: &mut Heap,
     work: &Relocation<'_>,
     cards: &mut Cards,
     pins: &mut PinQueue,
-    segment: usize,
+    met: &mut Met,
     border: u64,
     first: u64,
     end: u64,
@@ -36,7 +34,7 @@ pub(crate) fn relocate_carded(
     requires least { age_of work.now.g ≤ 2 }
     requires small { end ≤ 2 ^ 62 }
     requires can { (view : HeapView) × (now : HeapView) × (vs : List Move) × (is : List Item)
-        × IsRelocatingBy work.now view now heap.old pins.old.entries vs
+        × IsRelocatingBy work.now view now heap.old pins.old.entries vs met.old.stretch
         × Tracks work.now.types.now view is first end × IsAhead view now work.now.g vs first end
         × GoesDown vs first end 0
         × AreEntriesSound work.now.types.now view (entry_before work.now.bricks.now work.now.planned.below
@@ -47,29 +45,20 @@ pub(crate) fn relocate_carded(
     requires row { AreInRow cards.old first end }
     requires entries { HaveEntries work.now.bricks.now first end }
     ensures gone { (view now : HeapView) (vs : List Move) (is : List Item)
-        → IsRelocatingBy work.now view now heap.old pins.old.entries vs
+        → IsRelocatingBy work.now view now heap.old pins.old.entries vs met.old.stretch
         → Tracks work.now.types.now view is first end → IsAhead view now work.now.g vs first end
         → GoesDown vs first end 0
         → AreEntriesSound work.now.types.now view (entry_before work.now.bricks.now work.now.planned.below
         work.now.planned.first border) first end
         → AreQuietWhereClear work.now.types.now view work.now.g vs (rebounded (frame view) work.now.planned)
         (is_card_set cards.old) first end
-        → (next : HeapView)
-        × IsRelocatingBy work.now view next heap.new pins.new.entries vs
-        × HasGone work.now.types.now view now next work.now.g vs first end
-        × KeepsTelling work.now.types.now view work.now.g vs pins.old.entries heap.old heap.new
-        × AreCarded work.now.types.now view work.now.g vs (rebounded (frame view) work.now.planned) (is_card_set
-        cards.new) first end }
-    ensures saved { SavesSame pins.old.entries pins.new.entries }
-    ensures kept { (c : ℕ) → is_card_set cards.old c ≡ true → is_card_set cards.new c ≡ true }
-    ensures cards { spans cards.new ≡ spans cards.old }
-    ensures count { length pins.new.entries ≡ length pins.old.entries }
-    ensures spare { pins.new.spare ≡ pins.old.spare }
+        → AreRelocated work.now view now vs heap.old heap.new pins.old pins.new cards.new met.new.stretch first end }
+    ensures beside { KeepsBeside cards.old cards.new pins.old pins.new }
 {
     let mut cursor = first;
     while let Some((lo, hi)) = next_run(cards, cursor, end) {
         let from = nearest(work.bricks, &work.planned, border, first, cursor, lo);
-        cursor = relocate_items(heap, work, cards, pins, segment, 0, from, hi, end, 0);
+        cursor = relocate_items(heap, work, cards, pins, met, from, hi, 0);
     }
 }
 

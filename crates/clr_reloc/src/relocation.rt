@@ -3,7 +3,8 @@ ghost use Rattle.std.specs.Prelude.{◌≡◌, true, false};
 ghost use Rattle.clr_reloc.specs.Partial.{IsPartial};
 
 use clr_bricks::Bricks;
-use clr_moves::{Parts, Planned};
+use clr_heap::Item;
+use clr_moves::{Parts, Planned, Stretch};
 use clr_types::Types;
 
 // What a relocation goes by: the types, the bricks, in which the trees of plugs begin, the answer of the plan, and the
@@ -14,6 +15,26 @@ pub struct Relocation<'a> {
     pub bricks: &'a Bricks,
     pub planned: Planned,
     pub g: Parts,
+}
+
+// What was met last, where the next ones most often are: the segment and the entry of the queue, which are guesses, and
+// the stretch of the target that was followed.
+#[derive(Drop)]
+pub struct Met {
+    pub segment: usize,
+    pub near: usize,
+    pub stretch: Stretch,
+}
+
+// An object that is left, in its segment, with a guess of the queue's entry: where it goes, and of which generation it
+// is then.
+#[derive(Clone, Copy)]
+pub struct LeftObject {
+    pub segment: usize,
+    pub near: usize,
+    pub found: Item,
+    pub to: u64,
+    pub age: u8,
 }
 
 // Whether the parts are those of less than all generations, so that set cards tell which references of what stands

@@ -11,45 +11,47 @@ ghost use Rattle.clr_reloc.specs.Partial.{IsPartial};
 ghost use Rattle.clr_reloc.specs.Relocated.{rebounded};
 ghost use Rattle.clr_reloc.specs.Resting.{MayRest};
 
-use crate::relocation::Relocation;
+use crate::relocation::{LeftObject, Relocation};
 use clr_cards::Cards;
 use clr_heap::Heap;
 use clr_moves::{Parts, Planned};
 use clr_pinq::PinQueue;
 
-// Of `count` references side by side in segment `k`, how many of the first ones may stay as they are: those before the
+// Of `count` references of an object side by side, how many of the first ones may stay as they are: those before the
 // first one that names what goes, or for which a word is saved, or whose card isn't set though it names an object of a
-// lower generation. The first one stands at `a` and goes to the address `to`, and their object is of generation `age`
-// then. It looks at one card of the new addresses at most.
+// lower generation. The first one stands at this offset. It looks at one card of the new addresses at most.
 #[inline]
 pub(crate) fn resting_words(
     heap: &Heap,
     work: &Relocation<'_>,
     cards: &Cards,
     pins: &PinQueue,
-    k: usize,
-    near: usize,
-    a: u64,
-    to: u64,
+    object: &LeftObject,
+    offset: u64,
     count: u64,
-    age: u8,
 ) -> u64
     requires few { IsPartial work.now.g }
-    requires age { age ≤ 2 }
-    requires fits { (j : ℕ) → j < count → a + 8 * j < 2 ^ 64 }
-    requires words { (j : ℕ) → j < count → HasWord heap.now.memories (a + 8 * j) }
-    requires segment { (j : ℕ) → j < count → k ≡ memory_index heap.now.memories (a + 8 * j) }
-    requires card { is_covered cards.now (to / 2048) ≡ true }
+    requires age { object.now.age ≤ 2 }
+    requires some { 0 < count }
+    requires fits { (j : ℕ) → j < count → object.now.found.place + offset + 8 * j < 2 ^ 64 }
+    requires goes { object.now.to + offset < 2 ^ 64 }
+    requires words { (j : ℕ) → j < count → HasWord heap.now.memories (object.now.found.place + offset + 8 * j) }
+    requires segment { (j : ℕ) → j < count
+        → object.now.segment ≡ memory_index heap.now.memories (object.now.found.place + offset + 8 * j) }
+    requires card { is_covered cards.now ((object.now.to + offset) / 2048) ≡ true }
     ensures within { result ≤ count }
     ensures rest { (j : ℕ) → j < result → MayRest heap.now pins.now.entries work.now.g
-        (rebounded (frame heap.now) work.now.planned) (is_card_set cards.now) age (a + 8 * j) (to + 8 * j) }
+        (rebounded (frame heap.now) work.now.planned) (is_card_set cards.now) object.now.age
+        (object.now.found.place + offset + 8 * j) (object.now.to + offset + 8 * j) }
     ensures heap { IsHeap heap.now }
 {
     heap.lawful();
-    let low = lowest_met(heap, work, age, cards.is_set(to));
-    let plain = pins.next_saved(near, a).saturating_sub(a) / 8;
+    let a = object.found.place + offset;
+    let to = object.to + offset;
+    let low = lowest_met(heap, work, object.age, cards.is_set(to));
+    let plain = pins.next_saved(object.near, a).saturating_sub(a) / 8;
     let most = count.min(plain).min((CARD - to % CARD) / 8);
-    heap.first_naming(k, a, most, low)
+    heap.first_naming(object.segment, a, most, low)
 }
 
 // The place from which on references to places of the ephemeral segment matter: where its part begins, and, unless the

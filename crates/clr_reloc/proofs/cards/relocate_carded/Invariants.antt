@@ -1,12 +1,11 @@
-use Rattle.std.proofs.Common.{◌≡◌, ◌≤◌, ◌-◌, ℕ, true, length, List}
+use Rattle.std.proofs.Common.{◌≤◌, ◌-◌, List}
 use Rattle.clr_types.specs.declared.item.Item.{Item}
 use Rattle.clr_cards.specs.Cards.{is_card_set}
-use Rattle.clr_covers.specs.Covers.{spans}
 use Rattle.clr_heap.specs.View.{frame, HeapView}
 use Rattle.clr_model.specs.Compaction.{Move}
 use Rattle.clr_reloc.specs.Relocated.{rebounded}
-use Rattle.clr_reloc.specs.Relocating.{AreCarded, GoesDown, HasGone, IsAhead, IsRelocating, KeepsTelling, SavesSame}
-use Rattle.clr_reloc.specs.Relocating.{Tracks}
+use Rattle.clr_reloc.specs.Relocating.{GoesDown, IsAhead, Tracks}
+use Rattle.clr_reloc.specs.Relocations.{AreRelocated, IsRelocatingBy, KeepsBeside}
 use Rattle.clr_reloc.specs.Scanning.{AreEntriesSound, AreQuietWhereClear, entry_before}
 use Rattle.clr_reloc.proofs.cards.relocate_carded.Given as goal
 
@@ -14,29 +13,17 @@ abbrev pub invariant-loop-lo : goal.invariant-loop-lo
 invariant-loop-lo l = record {
   low : l.first ≤ l.cursor;
   gone : (view now : HeapView) (vs : List Move) (is : List Item)
-      → IsRelocating l.work.types.now view now l.initial.heap l.work.bricks.now l.initial.pins.entries l.work.g vs
-      l.work.planned.start1
-      l.work.planned.start0
-      → Tracks l.work.types.now view is l.first l.end → IsAhead view now l.work.g vs l.first l.end → GoesDown vs
-      l.first l.end 0
+      → IsRelocatingBy l.work view now l.initial.heap l.initial.pins.entries vs l.initial.met.stretch
+      → Tracks l.work.types.now view is l.first l.end → IsAhead view now l.work.g vs l.first l.end
+      → GoesDown vs l.first l.end 0
       → AreEntriesSound l.work.types.now view (entry_before l.work.bricks.now l.work.planned.below l.work.planned.first
       l.border) l.first l.end
       → AreQuietWhereClear l.work.types.now view l.work.g vs (rebounded (frame view) l.work.planned) (is_card_set
-      l.initial.cards)
-      l.first l.end
-      → (next : HeapView) × (rest : List Item)
-      × IsRelocating l.work.types.now view next l.heap l.work.bricks.now l.pins.entries l.work.g vs
-      l.work.planned.start1 l.work.planned.start0
-      × Tracks l.work.types.now view rest l.cursor l.end
-      × HasGone l.work.types.now view now next l.work.g vs l.first l.cursor
-      × KeepsTelling l.work.types.now view l.work.g vs l.initial.pins.entries l.initial.heap l.heap
-      × AreCarded l.work.types.now view l.work.g vs (rebounded (frame view) l.work.planned) (is_card_set l.cards)
-      l.first l.cursor;
-  saved : SavesSame l.initial.pins.entries l.pins.entries;
-  kept : (c : ℕ) → is_card_set l.initial.cards c ≡ true → is_card_set l.cards c ≡ true;
-  cards : spans l.cards ≡ spans l.initial.cards;
-  count : length l.pins.entries ≡ length l.initial.pins.entries;
-  spare : l.pins.spare ≡ l.initial.pins.spare;
+      l.initial.cards) l.first l.end
+      → ((rest : List Item) × Tracks l.work.types.now view rest l.cursor l.end)
+      × AreRelocated l.work view now vs l.initial.heap l.heap l.initial.pins l.pins l.cards l.met.stretch l.first
+      l.cursor;
+  beside : KeepsBeside l.initial.cards l.cards l.initial.pins l.pins;
 }
 
 abbrev pub decreases-loop-lo : goal.decreases-loop-lo

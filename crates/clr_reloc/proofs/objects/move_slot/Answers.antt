@@ -11,14 +11,14 @@ use Rattle.clr_reloc.proofs.objects.move_slot.Goals as goal
 
 pub logical_word_at-named-requires-clause-word : goal.logical_word_at-named-requires-clause-word
 logical_word_at-named-requires-clause-word c =
-    let (view, now, vs, r, s) = c.requires.can in
+    let (view, now, vs, (r, near), s) = c.requires.can in
     slot_has c.args.work.now.types.now view now c.args.heap.now c.args.work.now.bricks.now c.args.pins.now.entries
     c.args.work.now.g vs c.args.work.now.planned.start1 c.args.work.now.planned.start0 r
     c.args.a s c.requires.least
 
 pub destination_near-target-requires-clause-told : goal.destination_near-target-requires-clause-told
 destination_near-target-requires-clause-told c =
-    let (view, now, vs, r, s) = c.requires.can in (
+    let (view, now, vs, (r, near), s) = c.requires.can in (
       c.args.work.now.types.now,
       now,
       c.args.pins.now.entries,
@@ -34,7 +34,8 @@ destination_near-target-requires-clause-told c =
     )
 
 pub returns-then-target-named-clause-gone : goal.returns-then-target-named-clause-gone
-returns-then-target-named-clause-gone c view now vs r s near =
+returns-then-target-named-clause-gone c view now vs q s =
+    let (r, near) = q in
     let h = c.args.heap.now in
     let es = c.args.pins.now.entries in
     let told = slot_told c.args.work.now.types.now view now h c.args.work.now.bricks.now es c.args.work.now.g vs
@@ -53,11 +54,13 @@ returns-then-target-named-clause-gone c view now vs r s near =
     c.destination_near-target.ensures.goes c.args.work.now.types.now now es vs c.args.work.now.planned.start1
     c.args.work.now.planned.start0 told may before ∙ ap (moved_by vs) named in (
       goes,
-      slot_stays c.args.work.now.types.now view now h c.args.work.now.bricks.now es c.args.work.now.g vs
-          c.args.work.now.planned.start1 c.args.work.now.planned.start0 r c.args.a s c.requires.least
-          (sym named ∙ sym c.if-target-named.true ∙ goes),
+      (
+        slot_stays c.args.work.now.types.now view now h c.args.work.now.bricks.now es c.args.work.now.g vs
+            c.args.work.now.planned.start1 c.args.work.now.planned.start0 r c.args.a s c.requires.least
+            (sym named ∙ sym c.if-target-named.true ∙ goes),
+        after,
+      ),
       keeps_refl c.args.work.now.types.now view c.args.work.now.g vs es h,
-      after,
     )
 
 pub returns-then-target-named-clause-saved : goal.returns-then-target-named-clause-saved
@@ -65,13 +68,14 @@ returns-then-target-named-clause-saved c = saves_refl c.args.pins.now.entries
 
 pub set_logical_word_at-requires-clause-word : goal.set_logical_word_at-requires-clause-word
 set_logical_word_at-requires-clause-word c =
-    let (view, now, vs, r, s) = c.requires.can in
+    let (view, now, vs, (r, near), s) = c.requires.can in
     slot_has c.args.work.now.types.now view now c.args.heap.now c.args.work.now.bricks.now c.args.pins.now.entries
     c.args.work.now.g vs c.args.work.now.planned.start1 c.args.work.now.planned.start0 r
     c.args.a s c.requires.least
 
 pub returns-clause-gone : goal.returns-clause-gone
-returns-clause-gone c view now vs r s near =
+returns-clause-gone c view now vs q s =
+    let (r, near) = q in
     let h = c.args.heap.now in
     let es = c.args.pins.now.entries in
     let target = c.destination_near-target.result in
@@ -92,15 +96,17 @@ returns-clause-gone c view now vs r s near =
     c.args.work.now.planned.start0 told may before ∙ ap (moved_by vs) named in
     let entries = ap (λ (q : QueueView). q.entries) c.set_logical_word_at.ensures.entries in (
       goes,
-      slot_stored c.args.work.now.types.now view now h c.args.work.now.bricks.now es c.args.work.now.g vs
-          c.args.work.now.planned.start1 c.args.work.now.planned.start0 r c.args.a s c.requires.least
-          c.set_logical_word_at.new.heap c.set_logical_word_at.new.self.entries target goes
-          c.set_logical_word_at.ensures.heap entries c.set_logical_word_at.ensures.words,
+      (
+        slot_stored c.args.work.now.types.now view now h c.args.work.now.bricks.now es c.args.work.now.g vs
+            c.args.work.now.planned.start1 c.args.work.now.planned.start0 r c.args.a s c.requires.least
+            c.set_logical_word_at.new.heap c.set_logical_word_at.new.self.entries target goes
+            c.set_logical_word_at.ensures.heap entries c.set_logical_word_at.ensures.words,
+        after,
+      ),
       slot_keeps c.args.work.now.types.now view now h c.args.work.now.bricks.now es c.args.work.now.g vs
           c.args.work.now.planned.start1 c.args.work.now.planned.start0 r c.args.a s c.requires.least
           c.set_logical_word_at.new.heap c.set_logical_word_at.new.self.entries target goes
           c.set_logical_word_at.ensures.heap entries c.set_logical_word_at.ensures.words,
-      after,
     )
 
 pub returns-clause-saved : goal.returns-clause-saved

@@ -4,6 +4,5 @@ use Rattle.clr_reloc.proofs.objects.relocate_run.Given as goal
 
 abbrev pub invariant-loop-i : goal.invariant-loop-i
 invariant-loop-i l =
-    HasPassed l.work.types.now l.work.bricks.now l.work.g l.work.planned l.found l.to l.initial.heap l.initial.pins
-    l.initial.cards
-    l.heap l.pins l.cards l.last (offsets_from l.run.offset l.i)
+    HasPassed l.work l.object l.initial.heap l.initial.pins l.initial.cards l.initial.last l.heap l.pins l.cards l.last
+    (offsets_from l.run.offset l.i)

@@ -5,7 +5,6 @@ use Rattle.clr_reloc.proofs.objects.relocate_slots.Given as goal
 abbrev pub invariant-loop-offset : goal.invariant-loop-offset
 invariant-loop-offset l = record {
   walked : l.yielded ++ l.offset-iterator ≡ l.initial.offset-iterator;
-  passed : HasPassed l.work.types.now l.work.bricks.now l.work.g l.work.planned l.found l.to l.initial.heap
-      l.initial.pins l.initial.cards
-      l.heap l.pins l.cards l.last l.yielded;
+  passed : HasPassed l.work l.object l.initial.heap l.initial.pins l.initial.cards l.initial.last l.heap l.pins l.cards
+      l.last l.yielded;
 }

@@ -1,4 +1,4 @@
-use Rattle.std.proofs.Common.{◌∙◌}
+use Rattle.std.proofs.Common.{◌∙◌, arith}
 use Rattle.clr_cards.specs.Cards.{is_card_set}
 use Rattle.clr_heap.specs.View.{frame}
 use Rattle.clr_reloc.specs.Relocated.{rebounded}
@@ -12,9 +12,12 @@ relocate_plugs-requires-clause-can c =
     let (view, vs, entry, can) = c.requires.can in (
       view,
       vs,
-      begins c.args.types.now view c.args.heap.now c.args.bricks.now c.args.pins.now.entries c.args.g vs
-          c.args.planned.now.start1 c.args.planned.now.start0 c.requires.least can.plan can.followed can.old_parts
-          c.count.ensures.lawful,
+      (
+        begins c.args.types.now view c.args.heap.now c.args.bricks.now c.args.pins.now.entries c.args.g vs
+            c.args.planned.now.start1 c.args.planned.now.start0 c.requires.least can.plan can.followed can.old_parts
+            c.count.ensures.lawful,
+        λ x low high. absurd (omega (arith, high)),
+      ),
       can.cards_of,
     )
 
@@ -25,12 +28,13 @@ relocate_outside-requires-clause-can c =
     let r = begins rows view c.args.heap.now c.args.bricks.now c.args.pins.now.entries c.args.g vs
     c.args.planned.now.start1 c.args.planned.now.start0 c.requires.least can.plan can.followed can.old_parts
     c.count.ensures.lawful in
-    let (next, q, gone, carded) = c.relocate_plugs.ensures.gone view vs r can.cards_of in (
+    let (next, q, gone, carded) = c.relocate_plugs.ensures.gone view vs (r, λ x low high. absurd (omega (arith, high)))
+    can.cards_of in (
       view,
       next,
       vs,
       q,
-      c.relocate_plugs.ensures.cards ∙ can.cards_of,
+      c.relocate_plugs.ensures.beside.cards ∙ can.cards_of,
       ahead_outside rows view c.args.heap.now c.args.bricks.now c.args.pins.now.entries c.args.g vs
           c.args.planned.now.start1 c.args.planned.now.start0 c.requires.least can.plan can.followed can.old_parts
           c.count.ensures.lawful next gone,
@@ -39,8 +43,8 @@ relocate_outside-requires-clause-can c =
           c.count.ensures.lawful,
       λ young. can_scan_part rows view c.args.heap.now c.args.bricks.now c.args.pins.now.entries c.args.g vs
           c.args.planned.now c.requires.least young can.plan can.old_parts can.named c.args.cards.now can.card_law
-          (is_card_set c.relocate_plugs.new.cards) c.relocate_plugs.ensures.kept entry can.remembered
-          c.relocate_plugs.new.cards (c.relocate_plugs.ensures.cards ∙ can.cards_of) can.bricks_of,
+          (is_card_set c.relocate_plugs.new.cards) c.relocate_plugs.ensures.beside.set entry can.remembered
+          c.relocate_plugs.new.cards (c.relocate_plugs.ensures.beside.cards ∙ can.cards_of) can.bricks_of,
     )
 
 pub returns-clause-relocated : goal.returns-clause-relocated
@@ -50,23 +54,24 @@ returns-clause-relocated c view vs entry can =
     let es = c.args.pins.now.entries in
     let r = begins rows view h c.args.bricks.now es c.args.g vs c.args.planned.now.start1 c.args.planned.now.start0
     c.requires.least can.plan can.followed can.old_parts c.count.ensures.lawful in
-    let (next, q, gone, carded) = c.relocate_plugs.ensures.gone view vs r can.cards_of in
+    let (next, q, gone, carded) = c.relocate_plugs.ensures.gone view vs (r, λ x low high. absurd (omega (arith, high)))
+    can.cards_of in
     let (mid, s, out, set) = c.relocate_outside.ensures.gone view next vs q
-    (c.relocate_plugs.ensures.cards ∙ can.cards_of)
+    (c.relocate_plugs.ensures.beside.cards ∙ can.cards_of)
     (ahead_outside rows view h c.args.bricks.now es c.args.g vs c.args.planned.now.start1 c.args.planned.now.start0
     c.requires.least can.plan can.followed can.old_parts c.count.ensures.lawful next gone)
     (over_none rows view h c.args.bricks.now es c.args.g vs c.args.planned.now.start1 c.args.planned.now.start0
     c.requires.least can.plan can.followed can.old_parts c.count.ensures.lawful)
     (λ young. can_scan_part rows view c.args.heap.now c.args.bricks.now c.args.pins.now.entries c.args.g vs
     c.args.planned.now c.requires.least young can.plan can.old_parts can.named c.args.cards.now can.card_law
-    (is_card_set c.relocate_plugs.new.cards) c.relocate_plugs.ensures.kept entry can.remembered
-    c.relocate_plugs.new.cards (c.relocate_plugs.ensures.cards ∙ can.cards_of) can.bricks_of) in (
+    (is_card_set c.relocate_plugs.new.cards) c.relocate_plugs.ensures.beside.set entry can.remembered
+    c.relocate_plugs.new.cards (c.relocate_plugs.ensures.beside.cards ∙ can.cards_of) can.bricks_of) in (
       mid,
       relocated_all rows view h c.args.bricks.now es c.args.g vs c.args.planned.now.start1 c.args.planned.now.start0
-          c.requires.least can.plan can.followed can.old_parts c.count.ensures.lawful next mid gone out s.underway,
+          c.requires.least can.plan can.followed can.old_parts c.count.ensures.lawful next mid gone out s.0.underway,
       plan_now rows view mid c.relocate_outside.new.heap c.args.bricks.now c.relocate_outside.new.pins.entries c.args.g
           vs
-          c.args.planned.now.start1 c.args.planned.now.start0 s,
+          c.args.planned.now.start1 c.args.planned.now.start0 s.0,
     )
 
 pub returns-clause-card_law : goal.returns-clause-card_law
@@ -76,19 +81,29 @@ returns-clause-card_law c view vs entry can =
     let es = c.args.pins.now.entries in
     let r = begins rows view h c.args.bricks.now es c.args.g vs c.args.planned.now.start1 c.args.planned.now.start0
     c.requires.least can.plan can.followed can.old_parts c.count.ensures.lawful in
-    let (next, q, gone, carded) = c.relocate_plugs.ensures.gone view vs r can.cards_of in
+    let (next, q, gone, carded) = c.relocate_plugs.ensures.gone view vs (r, λ x low high. absurd (omega (arith, high)))
+    can.cards_of in
     let (mid, s, out, set) = c.relocate_outside.ensures.gone view next vs q
-    (c.relocate_plugs.ensures.cards ∙ can.cards_of)
+    (c.relocate_plugs.ensures.beside.cards ∙ can.cards_of)
     (ahead_outside rows view h c.args.bricks.now es c.args.g vs c.args.planned.now.start1 c.args.planned.now.start0
     c.requires.least can.plan can.followed can.old_parts c.count.ensures.lawful next gone)
     (over_none rows view h c.args.bricks.now es c.args.g vs c.args.planned.now.start1 c.args.planned.now.start0
     c.requires.least can.plan can.followed can.old_parts c.count.ensures.lawful)
     (λ young. can_scan_part rows view c.args.heap.now c.args.bricks.now c.args.pins.now.entries c.args.g vs
     c.args.planned.now c.requires.least young can.plan can.old_parts can.named c.args.cards.now can.card_law
-    (is_card_set c.relocate_plugs.new.cards) c.relocate_plugs.ensures.kept entry can.remembered
-    c.relocate_plugs.new.cards (c.relocate_plugs.ensures.cards ∙ can.cards_of) can.bricks_of) in
+    (is_card_set c.relocate_plugs.new.cards) c.relocate_plugs.ensures.beside.set entry can.remembered
+    c.relocate_plugs.new.cards (c.relocate_plugs.ensures.beside.cards ∙ can.cards_of) can.bricks_of) in
     law_after rows view h c.args.bricks.now es c.args.g vs c.args.planned.now.start1 c.args.planned.now.start0
     c.requires.least can.plan can.followed can.old_parts c.count.ensures.lawful
     (rebounded (frame view) c.args.planned.now)
     (is_card_set c.relocate_plugs.new.cards) (is_card_set c.relocate_outside.new.cards)
-    c.relocate_outside.ensures.kept carded set
+    c.relocate_outside.ensures.beside.set carded set
+
+pub returns-clause-cards : goal.returns-clause-cards
+returns-clause-cards c = c.relocate_outside.ensures.beside.cards ∙ c.relocate_plugs.ensures.beside.cards
+
+pub returns-clause-count : goal.returns-clause-count
+returns-clause-count c = c.relocate_outside.ensures.beside.count ∙ c.relocate_plugs.ensures.beside.count
+
+pub returns-clause-spare : goal.returns-clause-spare
+returns-clause-spare c = c.relocate_outside.ensures.beside.spare ∙ c.relocate_plugs.ensures.beside.spare

@@ -1,4 +1,4 @@
-use Rattle.std.proofs.Common.{◌≡◌, ◌+◌, ◌<◌, ◌/◌, ◌∙◌, ap, sym, subst, subst₂, arith, refl}
+use Rattle.std.proofs.Common.{◌≡◌, ◌+◌, ◌<◌, ◌/◌, ◌∙◌, ap, sym, subst, subst₂, arith}
 use Rattle.std.proofs.Common.{length}
 use Rattle.clr_types.specs.Segments.{first_place}
 use Rattle.clr_cards.specs.Cards.{is_card_set}
@@ -12,6 +12,7 @@ use Rattle.clr_reloc.specs.Scanning.{AreEntriesSound, AreInRow, AreQuietWhereCle
 use Rattle.clr_reloc.specs.Scanning.{HaveEntries}
 use Rattle.clr_reloc.proofs.ClearCards.{quiet_on}
 use Rattle.clr_reloc.proofs.Outer.{carded_outside_more, none_outside, outside_cards, outside_high, outside_stays}
+use Rattle.clr_reloc.proofs.OneObject.{beside_refl, beside_trans}
 use Rattle.clr_reloc.proofs.Outer.{outside_track}
 use Rattle.clr_reloc.proofs.Outer.{segment_ahead, segments_more}
 use Rattle.clr_reloc.proofs.relocating.relocate_outside.Goals as goal
@@ -24,10 +25,7 @@ loop-k-init c = record {
     none_outside c.args.work.now.types.now view now c.args.work.now.g vs,
     λ t l. absurd (omega (arith, l)),
   );
-  kept = λ i on. on;
-  cards = refl;
-  count = refl;
-  spare = refl;
+  beside = beside_refl c.args.cards.now c.args.pins.now;
 }
 
 pub info-first-requires : goal.info-first-requires
@@ -35,8 +33,8 @@ info-first-requires c =
     let (view, now, vs, r, of, ahead, over, scan) = c.requires.can in
     let (next, q, gone, carded) = c.loop-k.invariant.gone view now vs r of ahead over scan in
     let count = c.segments-count.ensures.count in
-    let start = ap (λ (h : HeapView). length h.segments) r.shape.others in
-    let here = ap (λ (h : HeapView). length h.segments) q.shape.others in
+    let start = ap (λ (h : HeapView). length h.segments) r.0.shape.others in
+    let here = ap (λ (h : HeapView). length h.segments) q.0.shape.others in
     let test = c.loop-k-test.true in
     omega (arith, count, start, here, test)
 
@@ -46,17 +44,17 @@ relocate_segment-requires-clause-can c =
     let (next, q, gone, carded) = c.loop-k.invariant.gone view now vs r of ahead over scan in
     let rows = c.args.work.now.types.now in
     let k = c.loop-k.k in
-    let plan = r.begun.plan in
+    let plan = r.0.begun.plan in
     let l : k < length view.segments =
     let count = c.segments-count.ensures.count in
-    let start = ap (λ (h : HeapView). length h.segments) r.shape.others in
+    let start = ap (λ (h : HeapView). length h.segments) r.0.shape.others in
     let test = c.loop-k-test.true in
     omega (arith, count, start, test)
     in
     let first : c.info-first.result.base + 4096 ≡ first_of view k =
-    ap first_place c.info-first.ensures.value ∙ ap (λ (h : HeapView). first_of h k) q.shape.others in
+    ap first_place c.info-first.ensures.value ∙ ap (λ (h : HeapView). first_of h k) q.0.shape.others in
     let end : c.end_outside-end.result ≡ outside_end view c.args.work.now.g k =
-    c.end_outside-end.ensures ∙ ap (λ (h : HeapView). outside_end h c.args.work.now.g k) q.shape.others in
+    c.end_outside-end.ensures ∙ ap (λ (h : HeapView). outside_end h c.args.work.now.g k) q.0.shape.others in
     let track = outside_track rows view c.args.work.now.g vs plan.overlaid.heap plan.held plan.no_contexts
     plan.overlaid.moves
     plan.overlaid.starts over k l in
@@ -67,7 +65,7 @@ relocate_segment-requires-clause-can c =
     plan.overlaid.moves
     plan.overlaid.starts over k l in
     let border : c.border_brick-border.result ≡ border_of view c.args.work.now.g k =
-    c.border_brick-border.ensures ∙ ap (λ (h : HeapView). border_of h c.args.work.now.g k) q.shape.others in (
+    c.border_brick-border.ensures ∙ ap (λ (h : HeapView). border_of h c.args.work.now.g k) q.0.shape.others in (
       view,
       next,
       vs,
@@ -87,7 +85,8 @@ relocate_segment-requires-clause-can c =
           (is_card_set c.loop-k.cards) x y) (sym first) (sym end)
           (quiet_on rows view c.args.work.now.g vs (rebounded (frame view) c.args.work.now.planned) (is_card_set
           c.args.cards.now)
-          (is_card_set c.loop-k.cards) (first_of view k) (outside_end view c.args.work.now.g k) c.loop-k.invariant.kept
+          (is_card_set c.loop-k.cards) (first_of view k) (outside_end view c.args.work.now.g k)
+          c.loop-k.invariant.beside.set
           ((scan young).quiet k l)),
     )
 
@@ -97,20 +96,20 @@ relocate_segment-requires-clause-cards c =
     let (next, q, gone, carded) = c.loop-k.invariant.gone view now vs r of ahead over scan in
     let rows = c.args.work.now.types.now in
     let k = c.loop-k.k in
-    let plan = r.begun.plan in
+    let plan = r.0.begun.plan in
     let l : k < length view.segments =
     let count = c.segments-count.ensures.count in
-    let start = ap (λ (h : HeapView). length h.segments) r.shape.others in
+    let start = ap (λ (h : HeapView). length h.segments) r.0.shape.others in
     let test = c.loop-k-test.true in
     omega (arith, count, start, test)
     in
     let first : c.info-first.result.base + 4096 ≡ first_of view k =
-    ap first_place c.info-first.ensures.value ∙ ap (λ (h : HeapView). first_of h k) q.shape.others in
+    ap first_place c.info-first.ensures.value ∙ ap (λ (h : HeapView). first_of h k) q.0.shape.others in
     let end : c.end_outside-end.result ≡ outside_end view c.args.work.now.g k =
-    c.end_outside-end.ensures ∙ ap (λ (h : HeapView). outside_end h c.args.work.now.g k) q.shape.others in
+    c.end_outside-end.ensures ∙ ap (λ (h : HeapView). outside_end h c.args.work.now.g k) q.0.shape.others in
     subst₂ (λ x y. HaveCardsDown c.loop-k.cards x y 0) (sym first) (sym end)
     (outside_cards rows view c.args.work.now.g vs plan.overlaid.heap plan.held plan.no_contexts plan.overlaid.moves
-    plan.overlaid.starts over k l c.loop-k.cards (c.loop-k.invariant.cards ∙ of))
+    plan.overlaid.starts over k l c.loop-k.cards (c.loop-k.invariant.beside.cards ∙ of))
 
 pub loop-k-preserved : goal.loop-k-preserved
 loop-k-preserved c =
@@ -120,17 +119,17 @@ loop-k-preserved c =
     record {
       gone = λ view now vs r of ahead over scan.
           let (next, q, gone, carded) = inv.gone view now vs r of ahead over scan in
-          let plan = r.begun.plan in
+          let plan = r.0.begun.plan in
           let l : k < length view.segments =
           let count = c.segments-count.ensures.count in
-          let start = ap (λ (h : HeapView). length h.segments) r.shape.others in
+          let start = ap (λ (h : HeapView). length h.segments) r.0.shape.others in
           let test = c.loop-k-test.true in
           omega (arith, count, start, test)
           in
           let first : c.info-first.result.base + 4096 ≡ first_of view k =
-          ap first_place c.info-first.ensures.value ∙ ap (λ (h : HeapView). first_of h k) q.shape.others in
+          ap first_place c.info-first.ensures.value ∙ ap (λ (h : HeapView). first_of h k) q.0.shape.others in
           let end : c.end_outside-end.result ≡ outside_end view c.args.work.now.g k =
-          c.end_outside-end.ensures ∙ ap (λ (h : HeapView). outside_end h c.args.work.now.g k) q.shape.others in
+          c.end_outside-end.ensures ∙ ap (λ (h : HeapView). outside_end h c.args.work.now.g k) q.0.shape.others in
           let track = outside_track rows view c.args.work.now.g vs plan.overlaid.heap plan.held plan.no_contexts
           plan.overlaid.moves plan.overlaid.starts over k l in
           let near = segment_ahead rows view c.args.work.now.g vs plan.overlaid.heap plan.held plan.no_contexts
@@ -139,9 +138,9 @@ loop-k-preserved c =
           plan.overlaid.moves plan.overlaid.starts over k l in
           let layout = rebounded (frame view) c.args.work.now.planned in
           let border : c.border_brick-border.result ≡ border_of view c.args.work.now.g k =
-          c.border_brick-border.ensures ∙ ap (λ (h : HeapView). border_of h c.args.work.now.g k) q.shape.others in
+          c.border_brick-border.ensures ∙ ap (λ (h : HeapView). border_of h c.args.work.now.g k) q.0.shape.others in
           let is_set = is_card_set c.relocate_segment.new.cards in
-          let (after, s, h, keeps, set) = c.relocate_segment.ensures.gone view next vs track.0 q
+          let after = c.relocate_segment.ensures.gone view next vs track.0 q
           (subst₂ (λ x y. Tracks rows view track.0 x y) (sym first) (sym end) track.1)
           (subst₂ (λ x y. IsAhead view next c.args.work.now.g vs x y) (sym first) (sym end) near)
           (subst₂ (λ x y. GoesDown vs x y 0) (sym first) (sym end) stays)
@@ -154,29 +153,27 @@ loop-k-preserved c =
           (λ young. subst₂ (λ x y. AreQuietWhereClear rows view c.args.work.now.g vs layout
           (is_card_set c.loop-k.cards) x y) (sym first) (sym end)
           (quiet_on rows view c.args.work.now.g vs layout (is_card_set c.args.cards.now)
-          (is_card_set c.loop-k.cards) (first_of view k) (outside_end view c.args.work.now.g k) inv.kept
+          (is_card_set c.loop-k.cards) (first_of view k) (outside_end view c.args.work.now.g k) inv.beside.set
           ((scan young).quiet k l))) in (
-            after,
-            s,
+            after.next,
+            after.relocating,
             segments_more rows view c.args.work.now.g vs plan.overlaid.heap plan.held plan.no_contexts
                 plan.overlaid.moves
-                plan.overlaid.starts over now next k l ahead gone after
-                (subst₂ (λ x y. HasGone rows view next after c.args.work.now.g vs x y) first end h),
+                plan.overlaid.starts over now next k l ahead gone after.next
+                (subst₂ (λ x y. HasGone rows view next after.next c.args.work.now.g vs x y) first end after.gone),
             carded_outside_more rows view c.args.work.now.g vs layout (is_card_set c.loop-k.cards) is_set k
-                c.relocate_segment.ensures.kept carded
-                (subst₂ (λ x y. AreCarded rows view c.args.work.now.g vs layout is_set x y) first end set),
+                c.relocate_segment.ensures.beside.set carded
+                (subst₂ (λ x y. AreCarded rows view c.args.work.now.g vs layout is_set x y) first end after.carded),
           );
-      kept = λ i on. c.relocate_segment.ensures.kept i (inv.kept i on);
-      cards = c.relocate_segment.ensures.cards ∙ inv.cards;
-      count = c.relocate_segment.ensures.count ∙ inv.count;
-      spare = c.relocate_segment.ensures.spare ∙ inv.spare;
+      beside = beside_trans c.args.cards.now c.loop-k.cards c.relocate_segment.new.cards c.args.pins.now c.loop-k.pins
+          c.relocate_segment.new.pins inv.beside c.relocate_segment.ensures.beside;
     }
 
 pub returns-clause-gone : goal.returns-clause-gone
 returns-clause-gone c view now vs r of ahead over scan =
     let (next, q, gone, carded) = c.loop-k.invariant.gone view now vs r of ahead over scan in
     let count = c.segments-count.ensures.count in
-    let start = ap (λ (h : HeapView). length h.segments) r.shape.others in
+    let start = ap (λ (h : HeapView). length h.segments) r.0.shape.others in
     let test = c.loop-k-test.false in
     let far = c.loop-k.auto.k-end in
     let all : c.loop-k.k ≡ length view.segments = omega (arith, count, start, test, far) in (
@@ -194,15 +191,15 @@ relocate_segment-requires-clause-small c =
     let (next, q, gone, carded) = c.loop-k.invariant.gone view now vs r of ahead over scan in
     let rows = c.args.work.now.types.now in
     let k = c.loop-k.k in
-    let plan = r.begun.plan in
+    let plan = r.0.begun.plan in
     let l : k < length view.segments =
     let count = c.segments-count.ensures.count in
-    let start = ap (λ (h : HeapView). length h.segments) r.shape.others in
+    let start = ap (λ (h : HeapView). length h.segments) r.0.shape.others in
     let test = c.loop-k-test.true in
     omega (arith, count, start, test)
     in
     let end : c.end_outside-end.result ≡ outside_end view c.args.work.now.g k =
-    c.end_outside-end.ensures ∙ ap (λ (h : HeapView). outside_end h c.args.work.now.g k) q.shape.others in
+    c.end_outside-end.ensures ∙ ap (λ (h : HeapView). outside_end h c.args.work.now.g k) q.0.shape.others in
     let high = outside_high rows view c.args.work.now.g vs plan.overlaid.heap plan.held plan.no_contexts
     plan.overlaid.moves
     plan.overlaid.starts over k l in
@@ -217,17 +214,17 @@ relocate_segment-requires-clause-row c young =
     let k = c.loop-k.k in
     let l : k < length view.segments =
     let count = c.segments-count.ensures.count in
-    let start = ap (λ (h : HeapView). length h.segments) r.shape.others in
+    let start = ap (λ (h : HeapView). length h.segments) r.0.shape.others in
     let test = c.loop-k-test.true in
     omega (arith, count, start, test)
     in
     let first : c.info-first.result.base + 4096 ≡ first_of view k =
-    ap first_place c.info-first.ensures.value ∙ ap (λ (h : HeapView). first_of h k) q.shape.others in
+    ap first_place c.info-first.ensures.value ∙ ap (λ (h : HeapView). first_of h k) q.0.shape.others in
     let end : c.end_outside-end.result ≡ outside_end view c.args.work.now.g k =
-    c.end_outside-end.ensures ∙ ap (λ (h : HeapView). outside_end h c.args.work.now.g k) q.shape.others in
+    c.end_outside-end.ensures ∙ ap (λ (h : HeapView). outside_end h c.args.work.now.g k) q.0.shape.others in
     subst₂ (λ x y. AreInRow c.loop-k.cards x y) (sym first) (sym end)
     (λ a b la ha lb hb. share_cover-spans c.loop-k.cards c.args.cards.now (a / 2048) (b / 2048)
-    c.loop-k.invariant.cards ∙ (scan young).row k l a b la ha lb hb)
+    c.loop-k.invariant.beside.cards ∙ (scan young).row k l a b la ha lb hb)
 
 pub relocate_segment-requires-clause-entries : goal.relocate_segment-requires-clause-entries
 relocate_segment-requires-clause-entries c young =
@@ -236,12 +233,15 @@ relocate_segment-requires-clause-entries c young =
     let k = c.loop-k.k in
     let l : k < length view.segments =
     let count = c.segments-count.ensures.count in
-    let start = ap (λ (h : HeapView). length h.segments) r.shape.others in
+    let start = ap (λ (h : HeapView). length h.segments) r.0.shape.others in
     let test = c.loop-k-test.true in
     omega (arith, count, start, test)
     in
     let first : c.info-first.result.base + 4096 ≡ first_of view k =
-    ap first_place c.info-first.ensures.value ∙ ap (λ (h : HeapView). first_of h k) q.shape.others in
+    ap first_place c.info-first.ensures.value ∙ ap (λ (h : HeapView). first_of h k) q.0.shape.others in
     let end : c.end_outside-end.result ≡ outside_end view c.args.work.now.g k =
-    c.end_outside-end.ensures ∙ ap (λ (h : HeapView). outside_end h c.args.work.now.g k) q.shape.others in
+    c.end_outside-end.ensures ∙ ap (λ (h : HeapView). outside_end h c.args.work.now.g k) q.0.shape.others in
     subst₂ (λ x y. HaveEntries c.args.work.now.bricks.now x y) (sym first) (sym end) ((scan young).entries k l)
+
+pub returns-clause-beside : goal.returns-clause-beside
+returns-clause-beside c = c.loop-k.invariant.beside

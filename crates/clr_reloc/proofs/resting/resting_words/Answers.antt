@@ -23,10 +23,13 @@ returns-clause-rest c = λ j l.
     let both = c.min.ensures in
     let most = c.min-most.ensures in
     let left = c.saturating_sub-plain.ensures in
-    let same : (c.args.to + 8 * j) / 2048 ≡ c.args.to / 2048 = omega (arith, l, met, both, most) in
+    let object = c.args.object.now in
+    let a = object.found.place + c.args.offset in
+    let to = object.to + c.args.offset in
+    let same : (to + 8 * j) / 2048 ≡ to / 2048 = omega (arith, l, met, both, most) in
     word_rests h c.args.pins.now.entries c.args.work.now.g c.args.work.now.planned
-    (is_card_set c.args.cards.now) c.args.age low (c.args.a + 8 * j) (c.args.to + 8 * j) c.requires.age
+    (is_card_set c.args.cards.now) object.age low (a + 8 * j) (to + 8 * j) c.requires.age
     c.is_set.result c.lowest_met-low.ensures.part c.lowest_met-low.ensures.young
     (λ on. ap (is_card_set c.args.cards.now) same ∙ sym c.is_set.ensures ∙ on)
-    (c.next_saved.ensures.plain (c.args.a + 8 * j) (omega arith) (omega (arith, l, met, both, most, left)))
+    (c.next_saved.ensures.plain (a + 8 * j) (omega arith) (omega (arith, l, met, both, most, left)))
     (c.first_naming.ensures.before j l)

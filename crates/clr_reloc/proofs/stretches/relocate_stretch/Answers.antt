@@ -1,22 +1,20 @@
 use Rattle.std.proofs.Common.{◌≡◌, subst, arith}
-use Rattle.clr_cards.specs.Cards.{is_card_set}
-use Rattle.clr_heap.specs.View.{frame}
-use Rattle.clr_reloc.specs.Relocated.{rebounded}
-use Rattle.clr_reloc.specs.Relocating.{AreCarded, HasGone}
+use Rattle.clr_reloc.specs.Relocations.{AreRelocated}
 use Rattle.clr_reloc.proofs.ManyItems.{track_order}
 use Rattle.clr_reloc.proofs.stretches.relocate_stretch.Goals as goal
 
+pub relocate_items-requires-clause-can : goal.relocate_items-requires-clause-can
+relocate_items-requires-clause-can c =
+    let (view, now, vs, is, r, track, ahead, goes) = c.requires.can in
+    (view, now, vs, is, c.args.end, r, track, ahead, goes, c.requires.cards, omega arith)
+
 pub returns-clause-gone : goal.returns-clause-gone
 returns-clause-gone c view now vs is r track ahead goes =
-    let rows = c.args.work.now.types.now in
-    let (next, rest, q, left, gone, keeps, carded) = c.relocate_items.ensures.gone view now vs is r track ahead goes in
-    let past = c.relocate_items.ensures.past in
-    let order = track_order rows view rest c.relocate_items.result c.args.end left in
-    let at : c.relocate_items.result ≡ c.args.end = omega (arith, past, order) in (
-      next,
-      q,
-      subst (HasGone rows view now next c.args.work.now.g vs c.args.from) at gone,
-      keeps,
-      subst (AreCarded rows view c.args.work.now.g vs (rebounded (frame view) c.args.work.now.planned)
-          (is_card_set c.relocate_items.new.cards) c.args.from) at carded,
-    )
+    let items = c.relocate_items in
+    let ((rest, left), done) = items.ensures.gone view now vs is c.args.end r track ahead goes c.requires.cards
+    (omega arith) in
+    let past = items.ensures.past in
+    let order = track_order c.args.work.now.types.now view rest items.result c.args.end left in
+    let at : items.result ≡ c.args.end = omega (arith, past, order) in
+    subst (AreRelocated c.args.work.now view now vs c.args.heap.now items.new.heap c.args.pins.now items.new.pins
+    items.new.cards items.new.met.stretch c.args.from) at done

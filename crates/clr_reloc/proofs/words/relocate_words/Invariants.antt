@@ -5,9 +5,8 @@ use Rattle.clr_reloc.proofs.words.relocate_words.Given as goal
 
 abbrev pub invariant-loop-at : goal.invariant-loop-at
 invariant-loop-at l =
-    HasPassed l.work.types.now l.work.bricks.now l.work.g l.work.planned l.found l.to l.initial.heap l.initial.pins
-    l.initial.cards
-    l.heap l.pins l.cards l.last (offsets_from l.run.offset l.at)
+    HasPassed l.work l.object l.initial.heap l.initial.pins l.initial.cards l.initial.last l.heap l.pins l.cards l.last
+    (offsets_from l.run.offset l.at)
     × (l.at ≤ l.run.count)
 
 abbrev pub decreases-loop-at : goal.decreases-loop-at

@@ -22,6 +22,7 @@ pub mod WholeLanding
 pub mod Overlaying
 pub mod BeforeParts
 pub mod PassingPlugs
+pub mod Promoting
 pub mod CompactingTurns
 pub mod BrickPlaces
 pub mod BrickSteps

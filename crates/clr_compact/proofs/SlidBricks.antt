@@ -30,7 +30,7 @@ use Rattle.clr_moves.specs.declared.parts.Parts.TheVariants.{Generations}
 use Rattle.clr_compact.proofs.Overlaying.{ended_start}
 
 -- lists of segments that are alike at each place
-map-alike : {X : Type 0} (f : SegInfo → X) (xs ys : List SegInfo) → length xs ≡ length ys
+pub map-alike : {X : Type 0} (f : SegInfo → X) (xs ys : List SegInfo) → length xs ≡ length ys
     → ((k : ℕ) → k < length xs → f (get_or xs k empty_segment) ≡ f (get_or ys k empty_segment)) → map f xs ≡ map f ys
 map-alike f [] [] e same = refl
 map-alike f [] (y ∷ ys) e same = absurd (omega arith)

@@ -8,6 +8,7 @@ ghost use Rattle.clr_view.specs.View.{objects_in};
 ghost use Rattle.clr_generations.specs.Laws.{BrickLaw};
 ghost use Rattle.clr_moves.specs.Moves.{moved_bytes};
 ghost use Rattle.clr_moves.specs.Overlaid.{HoldsPlan};
+ghost use Rattle.clr_moves.specs.Promoted.{bytes_between};
 ghost use Rattle.clr_compact.specs.Compacted.{CanCompact, HasCompacted};
 ghost use Rattle.clr_moves.specs.declared.parts.Parts.TheVariants.{Generations};
 
@@ -16,7 +17,7 @@ use crate::slide_plan::slide_plan;
 use crate::slides::Slides;
 use clr_bricks::Bricks;
 use clr_heap::Heap;
-use clr_moves::{Parts, Planned};
+use clr_moves::{Parts, Planned, Promoted};
 use clr_pinq::PinQueue;
 use clr_types::Types;
 
@@ -26,7 +27,8 @@ use clr_types::Types;
 /// the large segments stay as they were before the plan was written.
 ///
 /// The generations 1 and 0 begin where `planned` says then, the queue is empty, with at least as much room as it took,
-/// and the bricks obey their law again. `slides` counts one more, and each byte of a plug that went.
+/// and the bricks obey their law again. `slides` counts one more, and each byte of a plug that went. The bytes of the
+/// plugs that became older are answered.
 pub fn compact(
     heap: &mut Heap,
     types: &Types,
@@ -35,7 +37,7 @@ pub fn compact(
     g: u8,
     planned: &Planned,
     slides: &mut Slides,
-)
+) -> Promoted
     requires least { g ≤ 2 }
     requires plan { CanCompact types.now heap.old bricks.old pins.old.entries g planned.now }
     ensures compacted { (view : HeapView) (vs : List Move)
@@ -50,14 +52,31 @@ pub fn compact(
         → HoldsPlan types.now view heap.old bricks.old pins.old.entries (Generations g) vs planned.now.start1
         planned.now.start0
         → slides.new ≡ min (2 ^ 64 - 1) (slides.old + (1 + moved_bytes vs)) }
+    ensures to1 { (view : HeapView) (vs : List Move)
+        → HoldsPlan types.now view heap.old bricks.old pins.old.entries (Generations g) vs planned.now.start1
+        planned.now.start0
+        → result.to1 ≡ bytes_between (frame heap.old) planned.now vs 0 }
+    ensures to2 { (view : HeapView) (vs : List Move)
+        → HoldsPlan types.now view heap.old bricks.old pins.old.entries (Generations g) vs planned.now.start1
+        planned.now.start0
+        → result.to2 ≡ bytes_between (frame heap.old) planned.now vs 1 }
     ensures brick_law { BrickLaw types.now (frame heap.new) (objects_in types.now heap.new) (entry_at bricks.new) }
     ensures spans { spans bricks.new ≡ spans bricks.old }
 {
     let part = young_part(heap, g);
-    slide_plan(heap, types, bricks, pins, Parts::Generations(g), slides);
+    let promoted = slide_plan(
+        heap,
+        types,
+        bricks,
+        pins,
+        Parts::Generations(g),
+        planned,
+        slides,
+    );
     pins.clear();
     heap.lawful();
     heap.set_boundaries(planned.start1, planned.start0);
     enter_parts(heap, types, bricks, g, planned, part);
     heap.lawful();
+    promoted
 }

@@ -6,8 +6,8 @@ ghost use Rattle.clr_covers.specs.Covers.{is_covered, spans};
 ghost use Rattle.clr_types.specs.Segments.{reserved_end};
 ghost use Rattle.clr_heap.specs.Memories.{memory_index};
 ghost use Rattle.clr_heap.specs.Parts.{item_at, unmarked};
-ghost use Rattle.clr_heap.specs.View.{CanWalk, first_of, frame, HasItem, HeapView, items_between, last_of, no_rests};
-ghost use Rattle.clr_heap.specs.View.{SameShape, segment_at, sight, stored, word_of};
+ghost use Rattle.clr_heap.specs.View.{CanWalk, first_of, frame, HasItem, HeapView, IsHeap, items_between, last_of};
+ghost use Rattle.clr_heap.specs.View.{no_rests, SameShape, segment_at, sight, stored, word_of};
 ghost use Rattle.clr_view.specs.View.{objects_in};
 ghost use Rattle.clr_compact.specs.Entered.{AreEnteredBelow, CanEnterFrom, forgotten, kept_below};
 ghost use Rattle.clr_compact.specs.Entering.{entered_after, led_back, next_after};
@@ -24,6 +24,7 @@ use clr_types::{Types, mark};
 // Takes away the entries of the bricks of segment `k` that have a place of [from, end); only an entry that names a
 // place below `from` stays. All others stay.
 pub(crate) fn forget_bricks(heap: &Heap, bricks: &mut Bricks, k: usize, from: u64, end: u64)
+    requires heap { IsHeap heap.now }
     requires in_range { k < length heap.now.segments }
     requires low { first_of heap.now k ≤ from }
     requires order { from ≤ end }
@@ -32,7 +33,6 @@ pub(crate) fn forget_bricks(heap: &Heap, bricks: &mut Bricks, k: usize, from: u6
     ensures entries { (i : ℕ) → entry_at bricks.new i ≡ forgotten (entry_at bricks.old) from end i }
     ensures spans { spans bricks.new ≡ spans bricks.old }
 {
-    heap.lawful();
     let mut brick = from / 4096;
     while 4096 * brick < end {
         forget(bricks, brick, from);
@@ -68,6 +68,7 @@ fn names_offset(entry: i16) -> bool
 // in each heap `final` that this one is to become, where no item reaches over `from`, and where the entries told the
 // objects below it before, and no others.
 pub(crate) fn enter_bricks(heap: &mut Heap, types: &Types, bricks: &mut Bricks, k: usize, from: u64)
+    requires heap { IsHeap heap.old }
     requires in_range { k < length heap.old.segments }
     requires no_contexts { heap.old.rests ≡ no_rests }
     requires low { first_of heap.old k ≤ from }
@@ -84,7 +85,6 @@ pub(crate) fn enter_bricks(heap: &mut Heap, types: &Types, bricks: &mut Bricks, 
         → entry_at bricks.new brick ≡ entry_at bricks.old brick }
     ensures spans { spans bricks.new ≡ spans bricks.old }
 {
-    heap.lawful();
     let segment = heap.info(k);
     let mut next = first_open(bricks, from, segment.end);
     let mut place = from;

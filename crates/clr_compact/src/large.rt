@@ -16,7 +16,7 @@ use crate::slide_plan::slide_plan;
 use crate::slides::Slides;
 use clr_bricks::Bricks;
 use clr_heap::Heap;
-use clr_moves::Parts;
+use clr_moves::{Parts, Planned};
 use clr_pinq::PinQueue;
 use clr_types::Types;
 
@@ -39,6 +39,7 @@ pub fn slide_large(heap: &mut Heap, types: &Types, bricks: &mut Bricks, pins: &m
     ensures brick_law { BrickLaw types.now (frame heap.new) (objects_in types.now heap.new) (entry_at bricks.new) }
     ensures spans { spans bricks.new ≡ spans bricks.old }
 {
+    let planned = kept_boundaries(heap);
     let mut uncounted = Slides::new();
     slide_plan(
         heap,
@@ -46,10 +47,22 @@ pub fn slide_large(heap: &mut Heap, types: &Types, bricks: &mut Bricks, pins: &m
         bricks,
         pins,
         Parts::LargeSegments,
+        &planned,
         &mut uncounted,
     );
     pins.clear();
     heap.lawful();
     enter_whole_parts(heap, types, bricks, Parts::LargeSegments);
     heap.lawful();
+}
+
+// What a plan answers that leaves the generations where they begin, and overwrites no entries of the ephemeral segment.
+fn kept_boundaries(heap: &Heap) -> Planned {
+    let (start1, start0) = heap.boundaries();
+    Planned {
+        start1,
+        start0,
+        below: 0,
+        first: 0,
+    }
 }

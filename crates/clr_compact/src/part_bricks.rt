@@ -4,7 +4,8 @@ ghost use Rattle.std.specs.Prelude.{length, pos};
 ghost use Rattle.clr_types.specs.Segments.{ephemeral, reserved_end};
 ghost use Rattle.clr_covers.specs.Covers.{is_covered, spans};
 ghost use Rattle.clr_bricks.specs.Bricks.{entry_at};
-ghost use Rattle.clr_heap.specs.View.{CanWalk, first_of, frame, HeapView, items_between, last_of, listing, no_rests};
+ghost use Rattle.clr_heap.specs.View.{CanWalk, first_of, frame, HeapView, IsHeap, items_between, last_of, listing};
+ghost use Rattle.clr_heap.specs.View.{no_rests};
 ghost use Rattle.clr_heap.specs.View.{SameShape, segment_at, sight, word_of};
 ghost use Rattle.clr_view.specs.View.{objects_in};
 ghost use Rattle.clr_generations.specs.Laws.{AreEntered, IsBrickOf};
@@ -92,6 +93,7 @@ fn enter_young_part(
     planned: &Planned,
     part: YoungPart,
 )
+    requires heap { IsHeap heap.old }
     requires no_contexts { heap.old.rests ≡ no_rests }
     requires walk { (e : ℕ) → e < length heap.old.segments → segment_at heap.old e ≡ ephemeral (frame heap.old)
         → CanWalk (sight types.now heap.old e) heap.old.memories part.start (last_of heap.old e) }
@@ -120,6 +122,7 @@ fn enter_young_part(
 
 // Gives the brick of the place `from` and the one below it the entries that they had before a plan.
 fn restore_both(heap: &Heap, bricks: &mut Bricks, k: usize, from: u64, planned: &Planned)
+    requires heap { IsHeap heap.now }
     requires in_range { k < length heap.now.segments }
     requires bricks { AreBricksOf (frame heap.now) bricks.old }
     requires low { first_of heap.now k ≤ from }
@@ -130,7 +133,6 @@ fn restore_both(heap: &Heap, bricks: &mut Bricks, k: usize, from: u64, planned: 
         (reserved_end (segment_at heap.now k)) planned.now.below planned.now.first i }
     ensures spans { spans bricks.new ≡ spans bricks.old }
 {
-    heap.lawful();
     let segment = heap.info(k);
     let brick = from / 4096;
     restore(bricks, brick - 1, planned.below);
@@ -202,6 +204,7 @@ fn enter_whole_part(heap: &mut Heap, types: &Types, bricks: &mut Bricks, k: usiz
 
 // Takes away the entries of all bricks of segment `k`.
 fn clear_bricks(heap: &Heap, bricks: &mut Bricks, k: usize)
+    requires heap { IsHeap heap.now }
     requires in_range { k < length heap.now.segments }
     requires bricks { AreBricksOf (frame heap.now) bricks.old }
     ensures none { (brick : ℕ) → IsBrickOf (segment_at heap.now k) brick → entry_at bricks.new brick ≡ pos 0 }
@@ -209,7 +212,6 @@ fn clear_bricks(heap: &Heap, bricks: &mut Bricks, k: usize)
         → entry_at bricks.new brick ≡ entry_at bricks.old brick }
     ensures spans { spans bricks.new ≡ spans bricks.old }
 {
-    heap.lawful();
     let segment = heap.info(k);
     for brick in segment.base / 4096..(segment.base + segment.reserved) / 4096 {
         bricks.set_none(brick);

@@ -1,6 +1,6 @@
 // One plug goes where it goes, with the words that were saved at its end.
 ghost use Rattle.std.specs.Prelude.{◌≡◌, ℕ, ◌+◌, ◌-◌, ◌%◌, ◌<◌, ◌≤◌, ◌^◌, ◌⊎◌};
-ghost use Rattle.clr_heap.specs.View.{SameShape, word_of};
+ghost use Rattle.clr_heap.specs.View.{IsHeap, SameShape, word_of};
 ghost use Rattle.clr_pinq.specs.Queue.{logical};
 ghost use Rattle.clr_plugs.specs.Info.{HasInfo};
 ghost use Rattle.clr_compact.specs.Slides.{CanLand};
@@ -22,6 +22,7 @@ pub(crate) fn land_plug(
     top: u64,
     plug: PlugMove,
 ) -> usize
+    requires heap { IsHeap heap.old }
     requires can { CanLand heap.old plug top }
     requires end { EndsUnderInfo pins.now.entries plug }
     requires fits { plug.start + plug.size < 2 ^ 64 }
@@ -29,7 +30,6 @@ pub(crate) fn land_plug(
     ensures words { HasLandedWhole plug top (logical pins.now.entries (word_of heap.old)) (word_of heap.old)
         (word_of heap.new) }
 {
-    heap.lawful();
     let end = plug.start() + plug.size();
     let near = pins.near(near, end - 32);
     if pins.next_saved(near, end - 32) < end - 8 {

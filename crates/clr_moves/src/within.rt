@@ -12,6 +12,7 @@ use clr_types::{FIRST_OFFSET, SegKind};
 // Whether a place is in a part.
 #[inline]
 pub(crate) fn is_in_part(heap: &Heap, g: Parts, place: u64) -> bool
+    requires heap { IsHeap heap.now }
     requires least { age_of g ≤ 2 }
     requires starts { (t : ℕ) → t < length heap.now.segments → takes g (segment_at heap.now t) ≡ true
         → first_of heap.now t ≤ part_of heap.now g t }
@@ -27,13 +28,13 @@ pub(crate) fn is_in_part(heap: &Heap, g: Parts, place: u64) -> bool
 // Whether a place is in a part of the generations up to `g`. For less than 2 generations no search is needed.
 #[inline]
 fn is_in_generations(heap: &Heap, g: u8, place: u64) -> bool
+    requires heap { IsHeap heap.now }
     requires least { g ≤ 2 }
     requires starts { (t : ℕ) → t < length heap.now.segments → takes (Generations g) (segment_at heap.now t) ≡ true
         → first_of heap.now t ≤ part_of heap.now (Generations g) t }
     ensures inside { result ≡ true → (t : ℕ) × IsInPart heap.now (Generations g) t place }
     ensures outside { result ≡ false → (t : ℕ) → IsInPart heap.now (Generations g) t place → ⊥ }
 {
-    heap.lawful();
     if !heap.is_ephemeral(place) {
         return g == 2 && is_in_small(heap, place);
     }
@@ -48,7 +49,8 @@ fn is_in_generations(heap: &Heap, g: u8, place: u64) -> bool
 // Whether a place outside the ephemeral segment is in a small one. It stands apart, since it searches.
 #[inline(never)]
 fn is_in_small(heap: &Heap, place: u64) -> bool
-    requires { stands_in (ephemeral (frame heap.now)) place ≡ false }
+    requires heap { IsHeap heap.now }
+    requires away { stands_in (ephemeral (frame heap.now)) place ≡ false }
     ensures inside { result ≡ true → (t : ℕ) × IsInPart heap.now (Generations 2) t place }
     ensures outside { result ≡ false → (t : ℕ) → IsInPart heap.now (Generations 2) t place → ⊥ }
 {
@@ -65,6 +67,7 @@ fn is_in_small(heap: &Heap, place: u64) -> bool
 // Whether a place is in a large segment. It stands apart, since it searches.
 #[inline(never)]
 fn is_in_large(heap: &Heap, place: u64) -> bool
+    requires { IsHeap heap.now }
     ensures inside { result ≡ true → (t : ℕ) × IsInPart heap.now LargeSegments t place }
     ensures outside { result ≡ false → (t : ℕ) → IsInPart heap.now LargeSegments t place → ⊥ }
 {
@@ -80,12 +83,11 @@ fn is_in_large(heap: &Heap, place: u64) -> bool
 
 // The number of the last segment that begins at a place or below it, and 0 where none does.
 fn segment_below(heap: &Heap, place: u64) -> usize
+    requires { IsHeap heap.now }
     ensures in_range { result < length heap.now.segments }
-    ensures heap { IsHeap heap.now }
     ensures below { (result ≡ 0) ⊎ ((segment_at heap.now result).base ≤ place) }
     ensures above { (t : ℕ) → result < t → t < length heap.now.segments → place < (segment_at heap.now t).base }
 {
-    heap.lawful();
     let mut low = 0;
     let mut high = heap.segments();
     while low + 1 < high {

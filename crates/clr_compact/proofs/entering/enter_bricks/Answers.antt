@@ -20,8 +20,8 @@ first_open-next-requires c =
     let bricks = c.args.bricks.now in
     let low = c.requires.low in
     record {
-      covered = λ below. brick-covered h bricks bricks k (c.args.from / 4096) c.lawful.ensures c.requires.in_range
-          c.requires.bricks refl (brick-in h k (c.args.from / 4096) c.lawful.ensures c.requires.in_range
+      covered = λ below. brick-covered h bricks bricks k (c.args.from / 4096) c.requires.heap c.requires.in_range
+          c.requires.bricks refl (brick-in h k (c.args.from / 4096) c.requires.heap c.requires.in_range
           (omega (arith, low)) (omega (arith, end, below)));
     }
 
@@ -36,9 +36,9 @@ loop-place-init c =
     let P : ℕ → Type 0 = λ e. IsFirstOpen (entry_at bricks) from e next in
     let begin = subst P (ap (λ (s : SegInfo). s.end) c.info-segment.ensures.value) c.first_open-next.ensures in
     record {
-      rewriting = unmarking_starts rows h k from c.lawful.ensures c.requires.in_range c.requires.walk c.requires.low
+      rewriting = unmarking_starts rows h k from c.requires.heap c.requires.in_range c.requires.walk c.requires.low
           c.requires.no_contexts;
-      settling = settling_starts h c.lawful.ensures k c.requires.in_range bricks from next c.requires.low begin;
+      settling = settling_starts h c.requires.heap k c.requires.in_range bricks from next c.requires.low begin;
       walks = walks_start rows h c.requires.no_contexts k c.requires.in_range from bricks next c.requires.low begin;
     }
 
@@ -47,7 +47,7 @@ clear_mark-found-requires c =
     let end = ap (λ (s : SegInfo). s.end) c.info-segment.ensures.value in
     let test = c.loop-place-test.true in
     let below : c.loop-place.place < last_of c.args.heap.now c.args.k = omega (arith, end, test) in
-    let can = can_unmark c.args.types.now c.args.heap.now c.args.k c.args.from c.lawful.ensures c.requires.in_range
+    let can = can_unmark c.args.types.now c.args.heap.now c.args.k c.args.from c.requires.heap c.requires.in_range
     c.requires.walk c.requires.low c.requires.no_contexts c.loop-place.heap c.loop-place.place
     c.loop-place.invariant.rewriting below in
     let fits = can.fits in
@@ -63,7 +63,7 @@ enter_item-next-requires-clause-covered c =
     let test = c.loop-place-test.true in
     let place = ap (λ (i : Item). i.place) c.clear_mark-found.ensures.item
     ∙ place-item_at c.args.types.now (word_of c.loop-place.heap) c.loop-place.place in
-    λ i low high. settling_covered c.args.heap.now c.lawful.ensures c.args.k c.requires.in_range c.args.bricks.now
+    λ i low high. settling_covered c.args.heap.now c.requires.heap c.args.k c.requires.in_range c.args.bricks.now
     c.loop-place.bricks c.loop-place.next c.loop-place.invariant.settling c.requires.bricks i low
     (omega (arith, end, test, place, high))
 
@@ -72,7 +72,7 @@ overflow_add-place c =
     let end = ap (λ (s : SegInfo). s.end) c.info-segment.ensures.value in
     let test = c.loop-place-test.true in
     let below : c.loop-place.place < last_of c.args.heap.now c.args.k = omega (arith, end, test) in
-    let can = can_unmark c.args.types.now c.args.heap.now c.args.k c.args.from c.lawful.ensures c.requires.in_range
+    let can = can_unmark c.args.types.now c.args.heap.now c.args.k c.args.from c.requires.heap c.requires.in_range
     c.requires.walk c.requires.low c.requires.no_contexts c.loop-place.heap c.loop-place.place
     c.loop-place.invariant.rewriting below in
     let size = ap (λ (i : Item). i.size) c.clear_mark-found.ensures.item in
@@ -84,7 +84,7 @@ loop-place-smaller c =
     let end = ap (λ (s : SegInfo). s.end) c.info-segment.ensures.value in
     let test = c.loop-place-test.true in
     let below : c.loop-place.place < last_of c.args.heap.now c.args.k = omega (arith, end, test) in
-    let can = can_unmark c.args.types.now c.args.heap.now c.args.k c.args.from c.lawful.ensures c.requires.in_range
+    let can = can_unmark c.args.types.now c.args.heap.now c.args.k c.args.from c.requires.heap c.requires.in_range
     c.requires.walk c.requires.low c.requires.no_contexts c.loop-place.heap c.loop-place.place
     c.loop-place.invariant.rewriting below in
     let size = ap (λ (i : Item). i.size) c.clear_mark-found.ensures.item in
@@ -101,7 +101,7 @@ loop-place-preserved c =
     let end = ap (λ (s : SegInfo). s.end) c.info-segment.ensures.value in
     let test = c.loop-place-test.true in
     let below : c.loop-place.place < last_of h k = omega (arith, end, test) in
-    let can = can_unmark rows h k from c.lawful.ensures c.requires.in_range
+    let can = can_unmark rows h k from c.requires.heap c.requires.in_range
     c.requires.walk c.requires.low c.requires.no_contexts c.loop-place.heap c.loop-place.place
     inv.rewriting below in
     let found = c.clear_mark-found.result in
@@ -111,14 +111,14 @@ loop-place-preserved c =
     ∙ place-item_at rows (word_of c.loop-place.heap) c.loop-place.place in
     let low = c.requires.low in
     let above = can.above in
-    let rewriting = unmarking_more rows h k from c.lawful.ensures c.requires.in_range c.requires.walk c.requires.low
+    let rewriting = unmarking_more rows h k from c.requires.heap c.requires.in_range c.requires.walk c.requires.low
     c.requires.no_contexts c.loop-place.heap c.loop-place.place inv.rewriting below now found.size size
     c.clear_mark-found.ensures.heap in
     record {
       rewriting = rewriting;
       settling = subst (IsSettling h k c.args.bricks.now c.enter_item-next.new.bricks)
           (sym c.enter_item-next.ensures.next)
-          (settling_more h c.lawful.ensures k c.requires.in_range c.args.bricks.now c.loop-place.bricks
+          (settling_more h c.requires.heap k c.requires.in_range c.args.bricks.now c.loop-place.bricks
           c.loop-place.next inv.settling (frame now) found (omega (arith, low, above, place))
           (omega (arith, below, place)) c.enter_item-next.new.bricks c.enter_item-next.ensures.entries
           c.enter_item-next.ensures.spans);
@@ -150,7 +150,7 @@ lead_back-requires-clause-covered c =
     let last = c.info-segment.result.end in
     λ i low high. (let below = stretch-below last ((last + 4095) / 4096) c.loop-place.next c.max.result i refl
     c.max.ensures low high in
-    settling_covered c.args.heap.now c.lawful.ensures c.args.k c.requires.in_range c.args.bricks.now
+    settling_covered c.args.heap.now c.requires.heap c.args.k c.requires.in_range c.args.bricks.now
     c.loop-place.bricks c.loop-place.next c.loop-place.invariant.settling c.requires.bricks i low
     (omega (arith, end, below)))
 
@@ -161,7 +161,7 @@ pub returns-clause-words : goal.returns-clause-words
 returns-clause-words c =
     let end = ap (λ (s : SegInfo). s.end) c.info-segment.ensures.value in
     let test = c.loop-place-test.false in
-    unmarking_ends c.args.types.now c.args.heap.now c.args.k c.args.from c.lawful.ensures c.requires.in_range
+    unmarking_ends c.args.types.now c.args.heap.now c.args.k c.args.from c.requires.heap c.requires.in_range
     c.requires.walk c.requires.low c.requires.no_contexts c.loop-place.heap c.loop-place.place
     c.loop-place.invariant.rewriting (omega (arith, end, test))
 
@@ -181,7 +181,7 @@ returns-clause-others c =
     let last = c.info-segment.result.end in
     let S : ℕ → Type 0 = λ e. (4096 * c.max.result < e + 4096) ⊎ (c.max.result ≡ c.loop-place.next) in
     λ b out. c.lead_back.ensures.entries b
-    ∙ settling_ends c.args.heap.now c.lawful.ensures c.args.k c.requires.in_range c.args.bricks.now c.loop-place.bricks
+    ∙ settling_ends c.args.heap.now c.requires.heap c.args.k c.requires.in_range c.args.bricks.now c.loop-place.bricks
     c.loop-place.next c.loop-place.invariant.settling c.max.result
     (subst S end (stretch-short last ((last + 4095) / 4096) c.loop-place.next c.max.result refl c.max.ensures)) b out
 

@@ -11,8 +11,8 @@ forget-requires-clause-covered c =
     let low = c.requires.low in
     let high = c.requires.high in
     let above = c.loop-brick.invariant.low in
-    let whole = whole_bricks h k c.lawful.ensures c.requires.in_range in
+    let whole = whole_bricks h k c.requires.heap c.requires.in_range in
     let base = whole.base in
     let reserved = whole.reserved in
-    brick-covered h c.args.bricks.now c.loop-brick.bricks k brick c.lawful.ensures c.requires.in_range c.requires.bricks
+    brick-covered h c.args.bricks.now c.loop-brick.bricks k brick c.requires.heap c.requires.in_range c.requires.bricks
     c.loop-brick.invariant.spans (omega (arith, base, low, above), omega (arith, base, reserved, test, high))

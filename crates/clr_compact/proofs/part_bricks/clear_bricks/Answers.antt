@@ -18,7 +18,7 @@ set_none-requires c =
     let room = ap reserved_end c.info-segment.ensures.value in
     let low = c.loop-brick.auto.brick in
     let test = c.loop-brick-test.true in
-    brick-covered h c.args.bricks.now c.loop-brick.bricks c.args.k c.loop-brick.brick c.lawful.ensures
+    brick-covered h c.args.bricks.now c.loop-brick.bricks c.args.k c.loop-brick.brick c.requires.heap
     c.requires.in_range
     c.requires.bricks c.loop-brick.invariant.spans (omega (arith, base, low), omega (arith, room, test))
 

@@ -10,7 +10,8 @@ abbrev pub invariant-loop-front : goal.invariant-loop-front
 invariant-loop-front l =
     (view : HeapView) (vs : List Move) → IsOverlaid view l.initial.heap l.pins.entries l.g vs
     → TellMoves l.types l.initial.heap l.bricks l.g vs
-    → IsCompacting l.types l.bricks view l.initial.heap l.heap l.g vs l.plugs l.front l.fn.slides l.slides
+    → IsCompacting l.types l.bricks view l.initial.heap l.heap l.g vs l.planned l.plugs l.front l.fn.slides l.slides
+    l.promoted
 
 abbrev pub decreases-loop-front : goal.decreases-loop-front
 decreases-loop-front l = (l.count - l.front.segment) + (l.initial.heap.top - l.front.top)

@@ -15,7 +15,7 @@ words_before-saved-requires c =
     let e : c.args.plug.start + c.args.plug.size ≡ c.start.result + c.size.result =
     (let a = c.start.ensures in let b = c.size.ensures in omega arith) in
     let P : ℕ → Type 0 = λ n. HasInfo c.args.heap.now n in
-    subst P e (has_last c.args.heap.now c.args.plug.start c.args.plug.size c.lawful.ensures (omega arith)
+    subst P e (has_last c.args.heap.now c.args.plug.start c.args.plug.size c.requires.heap (omega arith)
     can.aligned.0 can.least can.from)
 
 pub put_before-requires : goal.put_before-requires
@@ -26,7 +26,7 @@ put_before-requires c =
     let P : ℕ → Type 0 = λ n. HasInfo c.slide_plug.new.heap n in
     subst P e (info-shapes c.args.heap.now c.slide_plug.new.heap (c.args.plug.to + c.args.plug.size)
     c.slide_plug.ensures.shape
-    (has_last c.args.heap.now c.args.plug.to c.args.plug.size c.lawful.ensures can.up can.aligned.1 can.least
+    (has_last c.args.heap.now c.args.plug.to c.args.plug.size c.requires.heap can.up can.aligned.1 can.least
     can.into))
 
 pub returns-then-next_saved-end-clause-words : goal.returns-then-next_saved-end-clause-words

@@ -18,7 +18,7 @@ returns-in-Small-clause-outside c = λ off t i.
     let kind = ap (same_kind Large) (sym (ap (λ (s : SegInfo). s.kind) c.info-segment.ensures.value)
     ∙ c.in-Small.is) in
     both_ways false refl
-    (sym kind ∙ (in_large h c.args.place c.segment_below.ensures.heap c.segment_below.result t b i).kind)
+    (sym kind ∙ (in_large h c.args.place c.requires c.segment_below.result t b i).kind)
 
 pub returns-in-Ephemeral-clause-outside : goal.returns-in-Ephemeral-clause-outside
 returns-in-Ephemeral-clause-outside c = λ off t i.
@@ -31,7 +31,7 @@ returns-in-Ephemeral-clause-outside c = λ off t i.
     let kind = ap (same_kind Large) (sym (ap (λ (s : SegInfo). s.kind) c.info-segment.ensures.value)
     ∙ c.in-Ephemeral.is) in
     both_ways false refl
-    (sym kind ∙ (in_large h c.args.place c.segment_below.ensures.heap c.segment_below.result t b i).kind)
+    (sym kind ∙ (in_large h c.args.place c.requires c.segment_below.result t b i).kind)
 
 pub returns-then-segment-place-clause-outside : goal.returns-then-segment-place-clause-outside
 returns-then-segment-place-clause-outside c = λ off t i.
@@ -41,7 +41,7 @@ returns-then-segment-place-clause-outside c = λ off t i.
       below = c.segment_below.ensures.below;
       above = c.segment_below.ensures.above;
     } in
-    let high = (in_large h c.args.place c.segment_below.ensures.heap c.segment_below.result t b i).high in
+    let high = (in_large h c.args.place c.requires c.segment_below.result t b i).high in
     let base = ap (λ (s : SegInfo). s.base) c.info-segment.ensures.value in
     let size = ap (λ (s : SegInfo). s.reserved) c.info-segment.ensures.value in
     let end = c.info-segment.result.base + c.info-segment.result.reserved in
@@ -55,7 +55,7 @@ returns-else-segment-place-clause-outside c = λ off t i.
       below = c.segment_below.ensures.below;
       above = c.segment_below.ensures.above;
     } in
-    let low = (in_large h c.args.place c.segment_below.ensures.heap c.segment_below.result t b i).low in
+    let low = (in_large h c.args.place c.requires c.segment_below.result t b i).low in
     let base = ap (λ (s : SegInfo). s.base) c.info-segment.ensures.value in
     let under = c.if-segment-place.false in
     omega (arith, low, base, under)
@@ -71,4 +71,4 @@ returns-in-Pinned-clause-outside c = λ off t i.
     let kind = ap (same_kind Large) (sym (ap (λ (s : SegInfo). s.kind) c.info-segment.ensures.value)
     ∙ c.in-Pinned.is) in
     both_ways false refl
-    (sym kind ∙ (in_large h c.args.place c.segment_below.ensures.heap c.segment_below.result t b i).kind)
+    (sym kind ∙ (in_large h c.args.place c.requires c.segment_below.result t b i).kind)

@@ -15,7 +15,7 @@ returns-then-segment-place-clause-outside c = λ off t i.
       below = c.segment_below.ensures.below;
       above = c.segment_below.ensures.above;
     } in
-    let high = (in_segment h c.args.place c.segment_below.ensures.heap c.segment_below.result t b i).high in
+    let high = (in_segment h c.args.place c.requires.heap c.segment_below.result t b i).high in
     let base = ap (λ (s : SegInfo). s.base) c.info-segment.ensures.value in
     let size = ap (λ (s : SegInfo). s.reserved) c.info-segment.ensures.value in
     let end = c.info-segment.result.base + c.info-segment.result.reserved in
@@ -29,7 +29,7 @@ returns-else-segment-place-clause-outside c = λ off t i.
       below = c.segment_below.ensures.below;
       above = c.segment_below.ensures.above;
     } in
-    let low = (in_segment h c.args.place c.segment_below.ensures.heap c.segment_below.result t b i).low in
+    let low = (in_segment h c.args.place c.requires.heap c.segment_below.result t b i).low in
     let base = ap (λ (s : SegInfo). s.base) c.info-segment.ensures.value in
     let under = c.if-segment-place.false in
     omega (arith, low, base, under)
@@ -42,10 +42,10 @@ returns-in-Ephemeral-clause-outside c = λ off t i.
       below = c.segment_below.ensures.below;
       above = c.segment_below.ensures.above;
     } in
-    let heap = c.segment_below.ensures.heap in
+    let heap = c.requires.heap in
     let kind = ap (same_kind Ephemeral) (sym (ap (λ (s : SegInfo). s.kind) c.info-segment.ensures.value)
     ∙ c.in-Ephemeral.is) in
-    not_young_segment h c.args.place heap c.segment_below.result c.segment_below.ensures.in_range kind c.requires
+    not_young_segment h c.args.place heap c.segment_below.result c.segment_below.ensures.in_range kind c.requires.away
     (in_segment h c.args.place heap c.segment_below.result t b i)
 
 pub returns-in-Large-clause-outside : goal.returns-in-Large-clause-outside
@@ -59,7 +59,7 @@ returns-in-Large-clause-outside c = λ off t i.
     let kind = ap is_small_or_ephemeral (sym (ap (λ (s : SegInfo). s.kind) c.info-segment.ensures.value)
     ∙ c.in-Large.is) in
     both_ways false refl
-    (sym kind ∙ (in_segment h c.args.place c.segment_below.ensures.heap c.segment_below.result t b i).kind)
+    (sym kind ∙ (in_segment h c.args.place c.requires.heap c.segment_below.result t b i).kind)
 
 pub returns-in-Pinned-clause-outside : goal.returns-in-Pinned-clause-outside
 returns-in-Pinned-clause-outside c = λ off t i.
@@ -72,4 +72,4 @@ returns-in-Pinned-clause-outside c = λ off t i.
     let kind = ap is_small_or_ephemeral (sym (ap (λ (s : SegInfo). s.kind) c.info-segment.ensures.value)
     ∙ c.in-Pinned.is) in
     both_ways false refl
-    (sym kind ∙ (in_segment h c.args.place c.segment_below.ensures.heap c.segment_below.result t b i).kind)
+    (sym kind ∙ (in_segment h c.args.place c.requires.heap c.segment_below.result t b i).kind)

@@ -9,7 +9,7 @@ use Rattle.clr_moves.proofs.within.segment_below.Goals as goal
 pub loop-low-init : goal.loop-low-init
 loop-low-init c =
     let h = c.args.heap.now in
-    let some = some_segments h c.lawful.ensures in
+    let some = some_segments h c.requires in
     let count = c.segments-high.ensures.count in
     record {
       some = omega (arith, some, count);

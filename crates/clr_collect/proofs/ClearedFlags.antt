@@ -1,5 +1,5 @@
 -- Flags that are cleared, one after the other, where what is left stays the same.
-use Rattle.std.proofs.Common.{◌≡◌, ◌↔◌, ◌⊎◌, inl, inr, ℕ, zero, suc, ◌<◌, ◌==◌, ◌&&◌, ◌||◌, ◌++◌, ◌∷◌, Bool}
+use Rattle.std.proofs.Common.{◌≡◌, ◌↔◌, ◌⊎◌, inl, inr, ℕ, zero, suc, ◌-◌, ◌<◌, ◌==◌, ◌&&◌, ◌||◌, ◌++◌, ◌∷◌, Bool}
 use Rattle.std.proofs.Common.{true, false, not, List, [], filter, map, drop, if◌then◌else◌, nat_le, slice_index}
 use Rattle.std.proofs.Common.{refl, ap}
 use Rattle.std.proofs.Common.{ap₂, sym, ◌∙◌, subst, arith}
@@ -11,16 +11,18 @@ use Rattle.clr_types.specs.Types.{TypeRow}
 use Rattle.clr_types.proofs.ChangedLists.{into_filter, IsIn-map, out_of_filter}
 use Rattle.clr_types.proofs.ListMembers.{any-from, any-in, any-map, any-on, in_append, map-on}
 use Rattle.clr_types.proofs.RisingLists.{in_cons}
-use Rattle.clr_heap.specs.View.{HeapView}
+use Rattle.clr_heap.specs.View.{HeapView, IsHeap, word_of}
+use Rattle.clr_heap.proofs.Rewrite.{SameShape-refl, SameShape-stored}
 use Rattle.clr_model.specs.Machine.{Object}
 use Rattle.clr_model.specs.Updates.{with_flag_of}
 use Rattle.clr_model.proofs.NamedWell.{eqb_sym}
 use Rattle.clr_view.specs.Clean.{AreClean}
-use Rattle.clr_view.specs.Flags.{HasFlagged}
+use Rattle.clr_view.specs.Flags.{flagged, HasFlagged, with_flag_at}
 use Rattle.clr_view.specs.Marks.{Marked}
 use Rattle.clr_view.specs.Memory.{is_left, is_left_name, is_marked}
 use Rattle.clr_view.specs.SlotValues.{StandsAt}
 use Rattle.clr_view.specs.View.{AreFreeHeads, IsHeld, layout_in, objects_in}
+use Rattle.clr_mark.proofs.Remarking.{keeps_heap}
 use Rattle.clr_collect.specs.Collecting.{AllLeft, HasUnflagged, unflagged}
 
 -- ---- Booleans
@@ -164,13 +166,20 @@ module _ (left : ℕ → Bool) where
 
 -- ---- the steps of the loop
 
+-- a flag is a word
+flag_keeps_heap : (h : HeapView) (p : ℕ) (flag : Bool) → IsHeap h → IsHeap (with_flag_at h p flag)
+flag_keeps_heap h p flag =
+    keeps_heap h (with_flag_at h p flag)
+    (SameShape-stored h h (p - 8) (flagged flag (word_of h (p - 8))) (SameShape-refl h))
+
 module _ (rows : List TypeRow) (old : HeapView) (g : ℕ) where
   abbrev left : ℕ → Bool
   left = is_left_name rows old g
 
   -- at the start no flag was cleared
-  pub unflagged_none : IsHeld rows old → HasUnflagged rows old old g []
-  unflagged_none held = record {
+  pub unflagged_none : IsHeap old → IsHeld rows old → HasUnflagged rows old old g []
+  unflagged_none heap held = record {
+    heap = heap;
     held = held;
     objects = same (objects_in rows old);
     layout = refl;
@@ -192,6 +201,7 @@ module _ (rows : List TypeRow) (old : HeapView) (g : ℕ) where
   pub unflagged_kept : (now : HeapView) (done : List ℕ) (p : ℕ) → HasUnflagged rows old now g done
       → is_left_name rows now g p ≡ true → HasUnflagged rows old now g (done ++ p ∷ [])
   unflagged_kept now done p u stays = record {
+    heap = u.heap;
     held = u.held;
     objects =
         u.objects
@@ -207,10 +217,11 @@ module _ (rows : List TypeRow) (old : HeapView) (g : ℕ) where
 
   -- another one's flag is cleared
   pub unflagged_more : (now new : HeapView) (done : List ℕ) (p : ℕ) → HasUnflagged rows old now g done
-      → is_left_name rows now g p ≡ false → HasFlagged rows now new p false → (AreClean rows now → AreClean rows new)
-      → (AreFreeHeads rows now → AreFreeHeads rows new) → new.limit ≡ now.limit → new.rests ≡ now.rests
+      → is_left_name rows now g p ≡ false → HasFlagged rows now new p false → new ≡ with_flag_at now p false
+      → (AreClean rows now → AreClean rows new) → (AreFreeHeads rows now → AreFreeHeads rows new)
       → HasUnflagged rows old new g (done ++ p ∷ [])
-  unflagged_more now new done p u gone f clean free_heads limit rests = record {
+  unflagged_more now new done p u gone f words clean free_heads = record {
+    heap = subst IsHeap (sym words) (flag_keeps_heap now p false u.heap);
     held = f.held;
     objects =
         f.objects
@@ -220,8 +231,8 @@ module _ (rows : List TypeRow) (old : HeapView) (g : ℕ) where
     marks = λ x. (λ m. (u.marks x).0 ((f.marks x).0 m), λ m. (f.marks x).1 ((u.marks x).1 m));
     clean = λ c. clean (u.clean c);
     free_heads = λ c. free_heads (u.free_heads c);
-    limit = limit ∙ u.limit;
-    rests = rests ∙ u.rests;
+    limit = ap (λ (h : HeapView). h.limit) words ∙ u.limit;
+    rests = ap (λ (h : HeapView). h.rests) words ∙ u.rests;
   }
 
 -- ---- all entries

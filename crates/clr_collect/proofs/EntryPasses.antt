@@ -83,6 +83,7 @@ module _ (rows : List TypeRow) (h : HeapView) (heap : IsHeap h) (held : IsHeld r
       -- FLAGS are those that a look at all entries leaves
       pub all_unflagged : HasUnflagged rows h flat g old.entries
       all_unflagged = record {
+        heap = u.heap;
         held = u.held;
         objects =
             u.objects

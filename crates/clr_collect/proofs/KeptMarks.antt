@@ -103,7 +103,7 @@ module _ {origin : Machine → ℕ → Type 0} (rows : List TypeRow) (old : Heap
     (handles : FinMap nat_cmp Handle) (queues : Queues) (g : ℕ) (alive : HeapView)
     (a : HasMarkedAlive (world_with rows old locals handles queues) origin alive g)
     (judged : Queues) (j : HaveBeenJudged rows alive g queues judged)
-    (flat : HeapView) (flat_heap : IsHeap flat) (f : HasUnflagged rows alive flat g queues.entries) where
+    (flat : HeapView) (f : HasUnflagged rows alive flat g queues.entries) where
   abbrev w : World
   w = world_with rows old locals handles queues
 
@@ -277,7 +277,7 @@ module _ {origin : Machine → ℕ → Type 0} (rows : List TypeRow) (old : Heap
         λ e. elim (left-cases rows new g x e) [
           | inl older ↦
               left-alive x (older-left rows flat g x (record {
-                stands = stands_before rows flat new flat_heap f.held words x older.stands;
+                stands = stands_before rows flat new f.heap f.held words x older.stands;
                 old = sym (same-old x) ∙ older.old;
               }))
           | inr mark ↦
@@ -288,7 +288,7 @@ module _ {origin : Machine → ℕ → Type 0} (rows : List TypeRow) (old : Heap
               marked-left rows new g x ((marked x).1 (near_reached edge near start begin (is_condemned_place flat g)
               (λ y z e c. record { joined = edge-there y z e; condemned = c }) young-there crossing x r on))
           | inr off ↦ older-left rows new g x (record {
-            stands = keeps_stands rows flat new flat_heap f.held words x (kept-stands x r);
+            stands = keeps_stands rows flat new f.heap f.held words x (kept-stands x r);
             old = same-old x ∙ off;
           })
         ],
@@ -329,7 +329,7 @@ module _ {origin : Machine → ℕ → Type 0} (rows : List TypeRow) (old : Heap
   kept_marked short short_is stand new words now now_held marked after after_is = record {
     heap = now;
     held = now_held;
-    layout = keeps_layout rows flat new flat_heap f.held words ∙ f.layout ∙ a.layout;
+    layout = keeps_layout rows flat new f.heap f.held words ∙ f.layout ∙ a.layout;
     no_contexts = ap (λ (g : HeapView). g.rests) words.shape.others ∙ f.rests ∙ a.no_contexts;
     first = first;
     leaves = λ m is named. leaves-kept m is named short short_is new words marked after stand after_is objects;
@@ -339,9 +339,9 @@ module _ {origin : Machine → ℕ → Type 0} (rows : List TypeRow) (old : Heap
         (is_condemned_place flat g)
         (λ y z e. e.condemned) begins-young x ((marked x).0 u);
     clean = λ c.
-        clean_remarked rows flat new flat_heap f.held now now_held objects remarked (f.clean (a.clean c));
+        clean_remarked rows flat new f.heap f.held now now_held objects remarked (f.clean (a.clean c));
     free_heads = λ h.
-        heads_remarked rows flat new flat_heap f.held now now_held words (f.free_heads (a.free_heads h));
+        heads_remarked rows flat new f.heap f.held now now_held words (f.free_heads (a.free_heads h));
     limit = ap (λ (g : HeapView). g.limit) words.shape.others ∙ f.limit ∙ a.limit;
   }
     where
@@ -358,7 +358,7 @@ module _ {origin : Machine → ℕ → Type 0} (rows : List TypeRow) (old : Heap
       begins-young y (inr (inr t)) = t.condemned
 
       objects : objects_in rows new ≡ objects_in rows flat
-      objects = keeps_objects rows flat new flat_heap f.held words
+      objects = keeps_objects rows flat new f.heap f.held words
 
       remarked : (b : ℕ) → b % 8 ≡ 0 → (word_of new b ≡ word_of flat b) ⊎ StandsAt rows flat b
       remarked b z = elim (words.words b z) [

@@ -24,12 +24,13 @@ use Rattle.clr_view.specs.Memory.{is_left_name}
 use Rattle.clr_view.specs.SlotValues.{StandsAt}
 use Rattle.clr_view.specs.View.{objects_in}
 use Rattle.clr_view.specs.World.{IsWorldOf, World}
+use Rattle.clr_survivors.specs.Moving.{IsMarkedFor}
 use Rattle.clr_survivors.specs.Survivors.{AreClosed, IsNullOrLeft, NameLeft}
 use Rattle.clr_collect.specs.Collecting.{BlockingStart, HasMarkedKept, LeavesKept, world_with}
 use Rattle.clr_collect.proofs.AfterRelease.{pinned-after}
 use Rattle.clr_collect.proofs.LeftNamed.{entries-left, locals-left, objects-closed, ready-left, rows-left}
 use Rattle.clr_collect.proofs.SweepCollects.{left-is}
-use Rattle.clr_collect.proofs.WholeCollection.{begun_laid, due_memory, older_kept}
+use Rattle.clr_collect.proofs.WholeCollection.{begun_laid, due_memory, memory_laid, older_kept}
 use Rattle.clr_collect.proofs.WholeMoved.{left}
 
 -- ---- for every start
@@ -55,7 +56,7 @@ module _ (w : World) (marked : HeapView) (handles : FinMap nat_cmp Handle) (queu
       (objects_in w.rows marked) handles queues
   leaves = k.leaves known.0 known.1 known.2
 
-  pub closed_kept : AreClosed w.rows marked g
+  closed_kept : AreClosed w.rows marked g
   closed_kept =
       objects-closed (begun known.0) g k.first w.rows marked leaves.tests leaves.objects
       (left-is (begun known.0) (begun_laid w marked handles queues g least k known.0 known.2) g least k.first
@@ -78,7 +79,7 @@ module _ (w : World) (marked : HeapView) (handles : FinMap nat_cmp Handle) (queu
       (all_at (IsPresent known.0) i known.2.lawful.names.ready) in
       subst (λ (n : ℕ). 0 < n) is (all_at (IsShaped known.0) there known.2.lawful.shapes).named
 
-  pub named_kept : NameLeft (world_with w.rows marked w.locals handles queues) g
+  named_kept : NameLeft (world_with w.rows marked w.locals handles queues) g
   named_kept = record {
     locals = λ x i. locals-left (begun known.0) g k.first w.rows marked leaves.tests x
         (subst (IsIn x) (sym known.1.locals) i);
@@ -91,7 +92,7 @@ module _ (w : World) (marked : HeapView) (handles : FinMap nat_cmp Handle) (queu
   }
 
   -- whatever a slot names stands
-  pub slots_kept : (x y : ℕ) → SlotNames (objects_in w.rows marked) x y → StandsAt w.rows marked y
+  slots_kept : (x y : ℕ) → SlotNames (objects_in w.rows marked) x y → StandsAt w.rows marked y
   slots_kept x y e =
       let (q, is, there) = from-map after e.object (known.0).objects
       (subst (IsIn e.object) leaves.objects e.present) in
@@ -108,3 +109,14 @@ module _ (w : World) (marked : HeapView) (handles : FinMap nat_cmp Handle) (queu
         subst (IsIn (after o)) (sym leaves.objects) (IsIn-map after there),
         sym (all_at (λ (q : Object). q.name ≡ q.place) there known.2.places) ∙ name,
       )
+
+  -- WHAT IS MARKED for the moves
+  pub marked_kept : IsMarkedFor (world_with w.rows marked w.locals handles queues) g
+  marked_kept = record {
+    no_contexts = k.no_contexts;
+    laid = memory_laid w marked handles queues g least k known;
+    young = k.young;
+    closed = closed_kept;
+    stands = slots_kept;
+    named = named_kept;
+  }

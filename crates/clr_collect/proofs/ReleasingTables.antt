@@ -1,14 +1,11 @@
 -- Cards and bricks while segments are given back.
-use Rattle.std.proofs.Common.{◌≡◌, ℕ, suc, ◌/◌, ◌<◌, ◌≤◌, false, true, inl, inr, List, length, get_or}
-use Rattle.std.proofs.Common.{nat_lt, ap, sym, ◌∙◌, arith}
-use Rattle.std.proofs.lemmas.Bool.{cases_Bool, true≢false}
+use Rattle.std.proofs.Common.{◌≡◌, ℕ, suc, ◌/◌, ◌<◌, ◌≤◌, false, true, List, length, get_or, ap, ◌∙◌, arith}
 use Rattle.std.specs.List.{remove}
 use Rattle.std.specs.Prelude.{ℤ}
 use Rattle.clr_types.specs.Types.{TypeRow}
 use Rattle.clr_bricks.specs.Bricks.{entry_at}
 use Rattle.clr_cards.specs.Cards.{is_card_set}
 use Rattle.clr_covers.specs.Covers.{begins, CoverView, is_covered, spans}
-use Rattle.clr_covers.proofs.Changing.{value_at-uncovered}
 use Rattle.clr_heap.specs.View.{first_of, HeapView, IsHeap, last_of, no_rests, segment_at}
 use Rattle.clr_heap.proofs.Framing.{lawful_at}
 use Rattle.clr_view.specs.View.{IsHeld}
@@ -20,30 +17,21 @@ use Rattle.clr_collect.proofs.Releases.{in_range, IsReleasing, releasing_ends, r
 use Rattle.clr_collect.proofs.Releases.{releasing_starts, spare}
 use Rattle.clr_collect.proofs.SegmentsLost.{segment_lost}
 
--- the segments from number `left` on are those that are needed, cards and bricks are those of what is there, and no
--- card is set that wasn't `before`
+-- the segments from number `left` on are those that are needed, and cards and bricks are those of what is there
 pub record IsReleasingTables (rows : List TypeRow) (old now : HeapView) (base left : ℕ)
-    (before card_covers : List (CoverView ℕ)) (brick_covers : List (CoverView ℤ)) : Type 0 where
+    (card_covers : List (CoverView ℕ)) (brick_covers : List (CoverView ℤ)) : Type 0 where
   pub releasing : IsReleasing rows old now base left
   pub tables : AreTablesOf rows now card_covers brick_covers
-  pub kept : (i : ℕ) → is_card_set card_covers i ≡ true → is_card_set before i ≡ true
 
 pub tables_start : (rows : List TypeRow) (h : HeapView) (base left : ℕ) (cards : List (CoverView ℕ))
     (bricks : List (CoverView ℤ)) → IsHeap h → IsHeld rows h → left ≡ length h.segments
-    → AreTablesOf rows h cards bricks → IsReleasingTables rows h h base left cards cards bricks
+    → AreTablesOf rows h cards bricks → IsReleasingTables rows h h base left cards bricks
 tables_start rows h base left cards bricks heap held all tables =
-    record { releasing = releasing_starts rows h base left heap held all; tables = tables; kept = λ i on. on }
-
--- what isn't covered isn't set
-set_covered : (cards : List (CoverView ℕ)) (i : ℕ) → is_card_set cards i ≡ true → is_covered cards i ≡ true
-set_covered cards i on = elim (cases_Bool (is_covered cards i)) [
-  | inl there ↦ there
-  | inr none ↦ absurd (true≢false (sym on ∙ ap (λ (n : ℕ). nat_lt 0 n) (value_at-uncovered cards 0 i none)))
-]
+    record { releasing = releasing_starts rows h base left heap held all; tables = tables }
 
 module _ (rows : List TypeRow) (old now : HeapView) (base left k : ℕ) (next : left ≡ suc k)
-    (before cards : List (CoverView ℕ)) (bricks : List (CoverView ℤ))
-    (r : IsReleasingTables rows old now base left before cards bricks) where
+    (cards : List (CoverView ℕ)) (bricks : List (CoverView ℤ))
+    (r : IsReleasingTables rows old now base left cards bricks) where
   inside : k < length now.segments
   inside = in_range rows old now base left k next r.releasing
 
@@ -57,11 +45,10 @@ module _ (rows : List TypeRow) (old now : HeapView) (base left k : ℕ) (next : 
       segment_begins 4096 bricks now.segments r.tables.bricks (segment_at now k) (segment-in now.segments k inside)
 
   -- it is needed
-  pub tables_kept : is_needed base (segment_at now k) ≡ true → IsReleasingTables rows old now base k before cards bricks
+  pub tables_kept : is_needed base (segment_at now k) ≡ true → IsReleasingTables rows old now base k cards bricks
   tables_kept on = record {
     releasing = releasing_kept rows old now base left k next r.releasing on;
     tables = r.tables;
-    kept = r.kept;
   }
 
   -- it is given back
@@ -74,7 +61,7 @@ module _ (rows : List TypeRow) (old now : HeapView) (base left k : ℕ) (next : 
       → spans cards' ≡ remove (spans cards) j)
       → ((j : ℕ) → j < length bricks → (get_or (spans bricks) j (0, 0)).0 ≡ (segment_at now k).base / 4096
       → spans bricks' ≡ remove (spans bricks) j)
-      → IsReleasingTables rows old new base k before cards' bricks'
+      → IsReleasingTables rows old new base k cards' bricks'
   tables_lost new cards' bricks' off none is heap sets entries card_spans brick_spans =
       let lost = r.releasing.lost in
       let low = (lawful_at now k lost.heap inside).low in
@@ -88,12 +75,11 @@ module _ (rows : List TypeRow) (old now : HeapView) (base left k : ℕ) (next : 
             tables_left rows now lost.heap lost.held k inside empty idle.1 (remove now.memories k) new is
             (segment_lost rows now lost.heap lost.held k inside empty new is heap rests idle.1) cards bricks r.tables
             cards' bricks' sets entries card_spans brick_spans;
-        kept = λ i on. r.kept i (sym (sets i (set_covered cards' i on)) ∙ on);
       }
 
 -- at the end exactly the needed ones are left
-pub tables_end : (rows : List TypeRow) (old now : HeapView) (base left : ℕ) (before cards : List (CoverView ℕ))
+pub tables_end : (rows : List TypeRow) (old now : HeapView) (base left : ℕ) (cards : List (CoverView ℕ))
     (bricks : List (CoverView ℤ)) → base ≡ first_large old → left ≤ 0
-    → IsReleasingTables rows old now base left before cards bricks → HasReleased rows old now
-tables_end rows old now base left before cards bricks is none r =
+    → IsReleasingTables rows old now base left cards bricks → HasReleased rows old now
+tables_end rows old now base left cards bricks is none r =
     releasing_ends rows old now base left is none r.releasing

@@ -1,7 +1,7 @@
 -- A whole collection: what is marked is what is kept, and the parts make the collection of every machine whose world it
 -- is.
 use Rattle.std.proofs.Common.{◌≡◌, ◌≢◌, ℕ, ◌≤◌, Bool, true, false, if◌then◌else◌, List, [], ◌++◌, refl, ap, sym}
-use Rattle.std.proofs.Common.{◌∙◌, subst, arith, None, Option, Some, IsSome, inr, ◌%◌, ◌<◌, ◌==◌, true≢false}
+use Rattle.std.proofs.Common.{◌∙◌, subst, arith, None, Option, Some, IsSome, ◌%◌, ◌<◌, ◌==◌, true≢false}
 use Rattle.std.specs.Prelude.{MatchBool}
 use Rattle.std.proofs.lemmas.Bool.{lt-leb}
 use Rattle.std.specs.List.{AllByRecursion}
@@ -31,7 +31,7 @@ use Rattle.clr_view.specs.Marks.{has_mark, IsUnmarked, Marked}
 use Rattle.clr_view.specs.Memory.{is_left, is_left_name, is_marked, is_reached_by, IsMemoryOf}
 use Rattle.clr_view.specs.Memory.{word_without_mark}
 use Rattle.clr_view.specs.SlotValues.{StandsAt}
-use Rattle.clr_view.specs.View.{AreFreeHeads, layout_in, objects_in, tail_of}
+use Rattle.clr_view.specs.View.{layout_in, objects_in, tail_of}
 use Rattle.clr_view.specs.World.{IsWorldOf, World}
 use Rattle.clr_view.proofs.CleanWords.{clean_but_marks}
 use Rattle.clr_view.proofs.LeftNames.{left-name}
@@ -50,7 +50,7 @@ use Rattle.clr_collect.specs.Collecting.{HasMarkedKept, LeavesKept, objects_unfl
 use Rattle.clr_collect.specs.Collecting.{world_with}
 use Rattle.clr_collect.specs.Released.{HasLost, HasReleased}
 use Rattle.clr_survivors.proofs.LeftGoes.{condemned-is}
-use Rattle.clr_collect.proofs.SegmentsLost.{lost-refl, lost_heads, lost_objects}
+use Rattle.clr_collect.proofs.SegmentsLost.{lost-refl, lost_objects}
 use Rattle.clr_collect.proofs.SweepCollects.{KeepsOlder, rests_swept, swept_machine, swept_memory}
 use Rattle.clr_collect.proofs.SweptLayouts.{whole_tail}
 use Rattle.clr_collect.proofs.YoungItems.{none_young}
@@ -258,21 +258,3 @@ module _ {start : Machine → ℕ → Type 0} (w : World) (marked : HeapView) (h
           let place = at.at in
           let same : word_of new x ≡ word_of swept x = lost.cells i x at.listed (omega arith) (omega arith) in
           swept-unmarked x (record { stands = stands; mark = sym (ap has_mark same) ∙ u.mark })
-
-      -- ---- free heads
-
-      pub heads_after : AreFreeHeads w.rows w.heap → AreFreeHeads w.rows new
-      heads_after heads =
-          lost_heads w.rows swept new swept_heap s.held lost (s.free_heads (inr (k.free_heads heads)))
-
-      -- ---- clean words
-
-      clean-lost : AreClean w.rows swept → AreClean w.rows new
-      clean-lost =
-          clean_but_marks w.rows swept new swept_heap s.held lost.heap lost.held
-          (λ o. subst (λ (os : List Object). IsIn o os) (lost_objects w.rows swept new swept_heap s.held lost))
-          (λ i b was l object aligned low high apart. lost.cells i b was low high)
-
-      -- CLEAN WORDS stay clean
-      pub clean_after : AreClean w.rows w.heap → AreClean w.rows new
-      clean_after clean = clean-lost (clean-swept (k.clean clean))

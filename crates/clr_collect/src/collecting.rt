@@ -1,6 +1,5 @@
 // A collection of a generation and of all younger ones.
-ghost use Rattle.std.specs.Prelude.{◌≡◌, ℕ, ◌+◌, ◌≤◌, ◌==◌, ◌&&◌, not, [], length, None, Some, Bool, MatchBool, true};
-ghost use Rattle.std.specs.Prelude.{false};
+ghost use Rattle.std.specs.Prelude.{◌≡◌, ℕ, ◌+◌, ◌≤◌, ◌==◌, ◌&&◌, not, [], length, None, Some, Bool, MatchBool, false};
 ghost use Rattle.clr_model.specs.Collection.{Collects};
 ghost use Rattle.clr_model.specs.Collection as collection;
 ghost use Rattle.clr_model.specs.Laws.{IsUsual};
@@ -8,42 +7,35 @@ ghost use Rattle.clr_model.specs.Lawful.{IsLaid, IsPlaceNamed};
 ghost use Rattle.clr_model.specs.Lookups.{lowest_in_step};
 ghost use Rattle.clr_model.specs.Machine.{Machine};
 ghost use Rattle.clr_model.specs.Picture.{picture};
-ghost use Rattle.clr_model.specs.Reach.{SlotNames};
 ghost use Rattle.clr_heap.specs.View.{no_rests};
-ghost use Rattle.clr_view.specs.Clean.{AreClean};
-ghost use Rattle.clr_view.specs.Marks.{IsUnmarked, Marked};
+ghost use Rattle.clr_view.specs.Marks.{IsUnmarked};
 ghost use Rattle.clr_view.specs.Memory.{IsMemoryOf, TestsMarks};
-ghost use Rattle.clr_view.specs.SlotValues.{StandsAt};
-ghost use Rattle.clr_view.specs.View.{AreFreeHeads, IsHeld, objects_in};
+ghost use Rattle.clr_view.specs.View.{HasGivenUp};
 ghost use Rattle.clr_view.specs.World.{IsWorldOf};
-ghost use Rattle.clr_cards.specs.Cards.{is_card_set};
 ghost use Rattle.clr_ctx.specs.Contexts.{IsIndex};
 ghost use Rattle.clr_generations.specs.Tables.{AreTablesOf};
-ghost use Rattle.clr_mark.specs.Marks.{is_condemned_place};
+ghost use Rattle.clr_generations.specs.Tidy.{IsTidy};
+ghost use Rattle.clr_survivors.specs.Moving.{IsMarkedFor, IsReadyFor, KeepsNumbers};
 ghost use Rattle.clr_mark.specs.Waiting.{IsGray};
-ghost use Rattle.clr_handles.specs.Tops.{pinned_in};
-ghost use Rattle.clr_survivors.specs.Survivors.{AreClosed, HasObjects, HaveMoved, NameLeft};
-ghost use Rattle.clr_collect.specs.Collecting.{BlockingStart, CountsSlides, HasMarkedAlive, HasMarkedKept, world_with};
+ghost use Rattle.clr_survivors.specs.Survivors.{HasObjects, HaveMoved, world_of};
+ghost use Rattle.clr_collect.specs.Collecting.{BlockingStart, CountsSlides, HasMarkedAlive, HasMarkedKept};
 ghost use Rattle.clr_collect.specs.Released.{HasReleased};
 
 use crate::deciding::counted_to_compact;
 use crate::judging::leave_kept;
 use crate::releasing::release_empty;
 use crate::sliding::slide_and_release;
-use clr_bricks::Bricks;
-use clr_cards::Cards;
+use crate::workshop::Workshop;
 use clr_compact::Slides;
 use clr_ctx::Contexts;
 use clr_evacuate::fit_and_move;
-use clr_final::Finals;
-use clr_handles::Handles;
-use clr_heap::Heap;
+use clr_generations::Space;
 use clr_mark::Marker;
 use clr_model::{Collected, How};
 use clr_moves::Promoted;
 use clr_pinq::PinQueue;
 use clr_scan::mark_from;
-use clr_survivors::move_survivors;
+use clr_survivors::{Roots, move_survivors};
 use clr_sweep::{Tally, sweep};
 use clr_types::Types;
 
@@ -72,103 +64,74 @@ use clr_types::Types;
 /// and the other options are that machine's own. Locals, handles and queues name the new places afterwards.
 ///
 /// The answer counts the objects that stay and those that go, and the bytes that went from generation 0 to 1 and from
-/// 1 to 2. Nothing is marked before and after, and no free item's head is. Headers and padding are clean before and
-/// after, and the finalisation queue has room for as many entries as before. `pins` is empty before and after, with
-/// room for four entries more than there are pinned handles, and `slides` counts one for a compaction, and each byte
-/// of a plug that went; a slide of the large heap counts neither way. Cards and bricks obey their laws before and
-/// after. It takes no memory: the finalisation queue and `pins` have room for no more than they had room for, nor has
-/// the marker's stack. The index of the contexts is that of a heap without free items of generation 0 after a sweep,
-/// which leaves none, and after a compaction it is dropped: it is made anew where room is next wanted.
+/// 1 to 2. Heap, cards and bricks are tidy before and after, and nothing is marked. The finalisation queue has room for
+/// as many entries as before. Of the workshop, the queue of saved words is empty before and after, with room for four
+/// entries more than there are pinned handles, and `slides` counts one for a compaction, and each byte of a plug that
+/// went; a slide of the large heap counts neither way. It takes no memory: the finalisation queue and the queue of
+/// saved words have room for no more than they had room for, nor has the marker's stack. The index of the contexts is
+/// that of a heap without free items of generation 0 after a sweep, which leaves none, and after a compaction it is
+/// dropped: it is made anew where room is next wanted.
 pub fn collect(
     types: &Types,
-    heap: &mut Heap,
-    cards: &mut Cards,
-    bricks: &mut Bricks,
-    marker: &mut Marker,
-    contexts: &mut Contexts,
-    handles: &mut Handles,
-    finals: &mut Finals,
-    locals: &mut [u64],
-    pins: &mut PinQueue,
-    slides: &mut Slides,
+    space: &mut Space,
+    roots: &mut Roots,
+    workshop: &mut Workshop,
     threshold: u64,
     g: u8,
     how: How,
-    compacts_large: &mut bool,
 ) -> Collected
     requires generation { g ≤ 2 }
     requires threshold { threshold ≤ 100 }
     requires usual { IsUsual g how }
-    requires held { IsHeld types.now heap.old }
-    requires unmarked { IsUnmarked types.now heap.old }
-    requires free_heads { AreFreeHeads types.now heap.old }
-    requires clean { AreClean types.now heap.old }
-    requires world { (m : Machine) × IsWorldOf (world_with types.now heap.old locals.old handles.old finals.old) m
-        × IsPlaceNamed m × (lowest_in_step m ≡ None) }
-    requires tables { AreTablesOf types.now heap.old cards.old bricks.old }
-    requires empty { pins.old.entries ≡ [] }
-    requires room { pinned_in handles.old + 4 ≤ pins.old.spare }
-    ensures collected { (m : Machine) → IsWorldOf (world_with types.now heap.old locals.old handles.old finals.old) m
-        → IsPlaceNamed m → lowest_in_step m ≡ None → m.compacts_large ≡ compacts_large.old
-        → m.options.compact ≡ threshold
+    requires tidy { IsTidy types.now space.old }
+    requires unmarked { IsUnmarked types.now space.old.heap }
+    requires world { (m : Machine) × IsWorldOf (world_of types.now space.old.heap roots.old) m × IsPlaceNamed m
+        × (lowest_in_step m ≡ None) }
+    requires ready { IsReadyFor roots.old.handles workshop.old.pins }
+    ensures collected { (m : Machine) → IsWorldOf (world_of types.now space.old.heap roots.old) m → IsPlaceNamed m
+        → lowest_in_step m ≡ None → m.compacts_large ≡ workshop.old.compacts_large → m.options.compact ≡ threshold
         → (after : Machine) × (c : Collects m g how result after)
-        × IsWorldOf (world_with types.now heap.new locals.new handles.new finals.new) (picture after)
-        × CountsSlides c.collects.moves result slides.old slides.new }
-    ensures flag { compacts_large.new ≡ compacts_large.old && not (g == 2) }
-    ensures held { IsHeld types.now heap.new }
-    ensures unmarked { IsUnmarked types.now heap.new }
-    ensures free_heads { AreFreeHeads types.now heap.new }
-    ensures clean { AreClean types.now heap.new }
-    ensures index { IsIndex types.now heap.new contexts.new }
-    ensures limit { heap.new.limit ≡ heap.old.limit }
-    ensures marker { marker.new ≡ record marker.old { stack = []; range = None; oldest = g } }
-    ensures index_after { MatchBool result.compacted (contexts.new ≡ None) (contexts.new ≡ Some []) }
-    ensures spare { finals.old.spare ≤ finals.new.spare }
-    ensures none_added { finals.new.spare + length finals.new.entries ≤ finals.old.spare + length finals.old.entries }
-    ensures tables { AreTablesOf types.now heap.new cards.new bricks.new }
-    ensures empty { pins.new.entries ≡ [] }
-    ensures room { pinned_in handles.new + 4 ≤ pins.new.spare }
-    ensures pins_room { pins.new.spare ≡ pins.old.spare }
+        × IsWorldOf (world_of types.now space.new.heap roots.new) (picture after)
+        × CountsSlides c.collects.moves result workshop.old.slides workshop.new.slides }
+    ensures flag { workshop.new.compacts_large ≡ workshop.old.compacts_large && not (g == 2) }
+    ensures tidy { IsTidy types.now space.new }
+    ensures unmarked { IsUnmarked types.now space.new.heap }
+    ensures index { IsIndex types.now space.new.heap workshop.new.contexts }
+    ensures limit { space.new.heap.limit ≡ space.old.heap.limit }
+    ensures marker { workshop.new.marker ≡ record workshop.old.marker { stack = []; range = None; oldest = g } }
+    ensures index_after { MatchBool result.compacted (workshop.new.contexts ≡ None) (workshop.new.contexts ≡ Some []) }
+    ensures spare { roots.old.finals.spare ≤ roots.new.finals.spare }
+    ensures none_added { roots.new.finals.spare + length roots.new.finals.entries
+        ≤ roots.old.finals.spare + length roots.old.finals.entries }
+    ensures ready { IsReadyFor roots.new.handles workshop.new.pins }
+    ensures room { workshop.new.pins.spare ≡ workshop.old.pins.spare }
 {
-    heap.lawful();
     mark_kept(
-        types, heap, cards, bricks, marker, contexts, handles, finals, locals, g,
+        types,
+        space,
+        roots,
+        &mut workshop.marker,
+        &mut workshop.contexts,
+        g,
     );
-    let Some(tally) = counted_to_compact(heap, types, g, how, threshold) else {
-        let swept = sweep(heap, types, bricks, g);
-        heap.lawful();
-        slide_and_release(
-            types,
-            heap,
-            cards,
-            bricks,
-            handles,
-            finals,
-            locals,
-            pins,
-            g,
-            compacts_large,
-        );
-        contexts.forget();
+    let Some(tally) = counted_to_compact(&space.heap, types, g, how, threshold) else {
+        let swept = sweep(&mut space.heap, types, &mut space.bricks, g);
+        space.heap.lawful();
+        slide_and_release(types, space, roots, workshop, g);
+        workshop.contexts.forget();
         return answer(g, false, false, swept);
     };
     let promoted = move_kept(
-        types, heap, cards, bricks, handles, finals, locals, pins, slides, g, how,
-    );
-    heap.lawful();
-    slide_and_release(
         types,
-        heap,
-        cards,
-        bricks,
-        handles,
-        finals,
-        locals,
-        pins,
+        space,
+        roots,
+        &mut workshop.pins,
+        &mut workshop.slides,
         g,
-        compacts_large,
+        how,
     );
-    contexts.lose();
+    slide_and_release(types, space, roots, workshop, g);
+    workshop.contexts.lose();
     answer(
         g,
         true,
@@ -184,12 +147,8 @@ pub fn collect(
 // Moves what is marked in a collection of generation `g`: by a compaction, which a fit precedes where `how` says so.
 fn move_kept(
     types: &Types,
-    heap: &mut Heap,
-    cards: &mut Cards,
-    bricks: &mut Bricks,
-    handles: &mut Handles,
-    finals: &mut Finals,
-    locals: &mut [u64],
+    space: &mut Space,
+    roots: &mut Roots,
     pins: &mut PinQueue,
     slides: &mut Slides,
     g: u8,
@@ -197,45 +156,26 @@ fn move_kept(
 ) -> Promoted
     requires generation { g ≤ 2 }
     requires usual { IsUsual g how }
-    requires held { IsHeld types.now heap.old }
-    requires no_contexts { heap.old.rests ≡ no_rests }
-    requires laid { (n : Machine) × IsMemoryOf types.now heap.old n × IsLaid n }
-    requires clean { AreClean types.now heap.old }
-    requires free_heads { AreFreeHeads types.now heap.old }
-    requires young { (x : ℕ) → Marked types.now heap.old x → is_condemned_place heap.old g x ≡ true }
-    requires closed { AreClosed types.now heap.old g }
-    requires stands { (x y : ℕ) → SlotNames (objects_in types.now heap.old) x y → StandsAt types.now heap.old y }
-    requires named { NameLeft (world_with types.now heap.old locals.old handles.old finals.old) g }
-    requires tables { AreTablesOf types.now heap.old cards.old bricks.old }
-    requires empty { pins.old.entries ≡ [] }
-    requires room { pinned_in handles.old + 4 ≤ pins.old.spare }
-    ensures moved { (n : Machine) (kept : ℕ → Bool) → IsMemoryOf types.now heap.old n → IsLaid n
-        → n.handles ≡ handles.old → TestsMarks types.now heap.old g kept
-        → HaveMoved (collection.is_fit how) (world_with types.now heap.old locals.old handles.old finals.old)
-        (world_with types.now heap.new locals.new handles.new finals.new) g n kept result.to1 result.to2
-        slides.old slides.new }
-    ensures held { IsHeld types.now heap.new }
-    ensures unmarked { IsUnmarked types.now heap.new }
-    ensures no_contexts { heap.new.rests ≡ no_rests }
-    ensures clean { AreClean types.now heap.new }
-    ensures free_heads { AreFreeHeads types.now heap.new }
-    ensures tables { AreTablesOf types.now heap.new cards.new bricks.new }
-    ensures occupied { g ≡ 2 → HasObjects types.now heap.new }
-    ensures limit { heap.new.limit ≡ heap.old.limit }
-    ensures empty { pins.new.entries ≡ [] }
+    requires tidy { IsTidy types.now space.old }
+    requires marked { IsMarkedFor (world_of types.now space.old.heap roots.old) g }
+    requires ready { IsReadyFor roots.old.handles pins.old }
+    ensures moved { (n : Machine) (kept : ℕ → Bool) → IsMemoryOf types.now space.old.heap n → IsLaid n
+        → n.handles ≡ roots.old.handles → TestsMarks types.now space.old.heap g kept
+        → HaveMoved (collection.is_fit how) (world_of types.now space.old.heap roots.old)
+        (world_of types.now space.new.heap roots.new) g n kept result.to1 result.to2 slides.old slides.new }
+    ensures tidy { IsTidy types.now space.new }
+    ensures unmarked { IsUnmarked types.now space.new.heap }
+    ensures no_contexts { space.new.heap.rests ≡ no_rests }
+    ensures occupied { g ≡ 2 → HasObjects types.now space.new.heap }
+    ensures limit { space.new.heap.limit ≡ space.old.heap.limit }
+    ensures ready { IsReadyFor roots.new.handles pins.new }
     ensures room { pins.new.spare ≡ pins.old.spare }
-    ensures pinned { pinned_in handles.new ≡ pinned_in handles.old }
-    ensures spare { finals.new.spare ≡ finals.old.spare }
-    ensures entries { length finals.new.entries ≡ length finals.old.entries }
+    ensures numbers { KeepsNumbers roots.old roots.new }
 {
     if is_fit(how) {
-        return fit_and_move(
-            types, heap, cards, bricks, handles, finals, locals, pins, slides,
-        );
+        return fit_and_move(types, space, roots, pins, slides);
     }
-    move_survivors(
-        types, heap, cards, bricks, handles, finals, locals, pins, slides, g,
-    )
+    move_survivors(types, space, roots, pins, slides, g)
 }
 
 // Whether survivors are to go into older free items first.
@@ -274,93 +214,92 @@ pub(crate) fn answer(g: u8, compacted: bool, fitted: bool, tally: Tally) -> Coll
 }
 
 // Gives back the segments in which nothing stands, after a collection of all generations.
-pub(crate) fn release_after(
-    heap: &mut Heap,
-    types: &Types,
-    cards: &mut Cards,
-    bricks: &mut Bricks,
-    g: u8,
-)
-    requires held { IsHeld types.now heap.old }
-    requires no_contexts { heap.old.rests ≡ no_rests }
-    requires tables { AreTablesOf types.now heap.old cards.old bricks.old }
-    ensures released { MatchBool (g == 2) (HasReleased types.now heap.old heap.new) (heap.new ≡ heap.old) }
-    ensures tables { AreTablesOf types.now heap.new cards.new bricks.new }
-    ensures cards { (i : ℕ) → is_card_set cards.new i ≡ true → is_card_set cards.old i ≡ true }
+pub(crate) fn release_after(types: &Types, space: &mut Space, g: u8)
+    requires tidy { IsTidy types.now space.old }
+    requires no_contexts { space.old.heap.rests ≡ no_rests }
+    ensures released { MatchBool (g == 2) (HasReleased types.now space.old.heap space.new.heap)
+        (space.new.heap ≡ space.old.heap) }
+    ensures tidy { IsTidy types.now space.new }
 {
     if g == 2 {
-        release_empty(heap, types, cards, bricks);
+        release_empty(&mut space.heap, types, &mut space.cards, &mut space.bricks);
     }
 }
 
-// Gives up the contexts, marks exactly what a collection of generation g keeps, and leaves handles and entries as it
+// Gives up the contexts, marks exactly what a collection of generation `g` keeps, and leaves handles and entries as it
 // does.
 fn mark_kept(
     types: &Types,
-    heap: &mut Heap,
-    cards: &mut Cards,
-    bricks: &Bricks,
+    space: &mut Space,
+    roots: &mut Roots,
     marker: &mut Marker,
     contexts: &mut Contexts,
-    handles: &mut Handles,
-    finals: &mut Finals,
-    locals: &[u64],
     g: u8,
 )
     requires generation { g ≤ 2 }
-    requires held { IsHeld types.now heap.old }
-    requires unmarked { IsUnmarked types.now heap.old }
-    requires world { (m : Machine) × IsWorldOf (world_with types.now heap.old locals.now handles.old finals.old) m
-        × IsPlaceNamed m }
-    requires tables { AreTablesOf types.now heap.old cards.old bricks.now }
-    ensures kept { HasMarkedKept (world_with types.now heap.old locals.now handles.old finals.old) (BlockingStart g)
-        heap.new handles.new finals.new g }
+    requires tidy { IsTidy types.now space.old }
+    requires unmarked { IsUnmarked types.now space.old.heap }
+    requires world { (m : Machine) × IsWorldOf (world_of types.now space.old.heap roots.old) m × IsPlaceNamed m }
+    ensures kept { HasMarkedKept (world_of types.now space.old.heap roots.old) (BlockingStart g) space.new.heap
+        roots.new.handles roots.new.finals g }
+    ensures tidy { IsTidy types.now space.new }
     ensures marker { marker.new ≡ record marker.old { stack = []; range = None; oldest = g } }
-    ensures spare { finals.old.spare ≤ finals.new.spare }
-    ensures none_added { finals.new.spare + length finals.new.entries ≤ finals.old.spare + length finals.old.entries }
-    ensures tables { AreTablesOf types.now heap.new cards.new bricks.now }
-    ensures cards { (i : ℕ) → is_card_set cards.new i ≡ true → is_card_set cards.old i ≡ true }
+    ensures locals { roots.new.locals ≡ roots.old.locals }
+    ensures spare { roots.old.finals.spare ≤ roots.new.finals.spare }
+    ensures none_added { roots.new.finals.spare + length roots.new.finals.entries
+        ≤ roots.old.finals.spare + length roots.old.finals.entries }
 {
-    mark_alive(
-        types, heap, cards, bricks, marker, contexts, handles, finals, locals, g,
+    mark_alive(types, space, roots, marker, contexts, g);
+    leave_kept(
+        types,
+        &mut space.heap,
+        marker,
+        &mut roots.handles,
+        &mut roots.finals,
     );
-    leave_kept(types, heap, marker, handles, finals);
 }
 
 // Gives up the contexts, and marks exactly what is alive before finalisation.
 fn mark_alive(
     types: &Types,
-    heap: &mut Heap,
-    cards: &mut Cards,
-    bricks: &Bricks,
+    space: &mut Space,
+    roots: &Roots,
     marker: &mut Marker,
     contexts: &mut Contexts,
-    handles: &Handles,
-    finals: &Finals,
-    locals: &[u64],
     g: u8,
 )
     requires generation { g ≤ 2 }
-    requires held { IsHeld types.now heap.old }
-    requires unmarked { IsUnmarked types.now heap.old }
-    requires world { (m : Machine) × IsWorldOf (world_with types.now heap.old locals.now handles.now finals.now) m
-        × IsPlaceNamed m }
-    requires tables { AreTablesOf types.now heap.old cards.old bricks.now }
-    ensures alive { HasMarkedAlive (world_with types.now heap.old locals.now handles.now finals.now) (BlockingStart g)
-        heap.new g }
-    ensures gray { IsGray types.now heap.new marker.new }
+    requires tidy { IsTidy types.now space.old }
+    requires unmarked { IsUnmarked types.now space.old.heap }
+    requires world { (m : Machine) × IsWorldOf (world_of types.now space.old.heap roots.now) m × IsPlaceNamed m }
+    ensures alive { HasMarkedAlive (world_of types.now space.old.heap roots.now) (BlockingStart g) space.new.heap g }
+    ensures gray { IsGray types.now space.new.heap marker.new }
     ensures marker { marker.new ≡ record marker.old { stack = []; range = None; oldest = g } }
-    ensures tables { AreTablesOf types.now heap.new cards.new bricks.now }
-    ensures cards { (i : ℕ) → is_card_set cards.new i ≡ true → is_card_set cards.old i ≡ true }
+    ensures tables { AreTablesOf types.now space.new.heap space.new.cards space.new.bricks }
 {
-    heap.lawful();
-    contexts.lose();
-    contexts.give_up_all(heap, types);
-    heap.lawful();
+    give_up_contexts(types, space, contexts);
     marker.begin(g);
-    let ready = finals.ready_from(marker.lowest_condemned(heap));
+    let ready = roots
+        .finals
+        .ready_from(marker.lowest_condemned(&space.heap));
     mark_from(
-        marker, heap, types, g, handles, locals, ready, cards, bricks,
+        marker,
+        space,
+        types,
+        g,
+        &roots.handles,
+        &roots.locals,
+        ready,
     );
-    heap.lawful();
+}
+
+// Drops the index of free items, so that none has to go into it, and gives up all contexts.
+pub(crate) fn give_up_contexts(types: &Types, space: &mut Space, contexts: &mut Contexts)
+    requires tidy { IsTidy types.now space.old }
+    ensures given { HasGivenUp types.now space.old.heap space.new.heap }
+    ensures tidy { IsTidy types.now space.new }
+{
+    contexts.lose();
+    contexts.give_up_all(&mut space.heap, types);
+    space.heap.lawful();
 }

@@ -1,35 +1,32 @@
 // The last pause of a background collection.
-ghost use Rattle.std.specs.Prelude.{◌≡◌, ℕ, ℤ, ◌+◌, ◌≤◌, List, [], length, None, Some, false};
+ghost use Rattle.std.specs.Prelude.{◌≡◌, ◌+◌, ◌≤◌, [], length, None, Some, false};
 ghost use Rattle.clr_model.specs.Collection.{EndsBackground};
 ghost use Rattle.clr_model.specs.Lawful.{IsPlaceNamed};
 ghost use Rattle.clr_model.specs.Lookups.{lowest_in_step};
 ghost use Rattle.clr_model.specs.Machine.{Machine};
 ghost use Rattle.clr_model.specs.Picture.{picture};
-ghost use Rattle.clr_covers.specs.Covers.{CoverView};
-ghost use Rattle.clr_view.specs.Clean.{AreClean};
 ghost use Rattle.clr_view.specs.Marks.{IsUnmarked};
-ghost use Rattle.clr_view.specs.View.{AreFreeHeads, IsHeld, objects_in};
+ghost use Rattle.clr_view.specs.View.{objects_in};
 ghost use Rattle.clr_view.specs.World.{IsWorldOf};
 ghost use Rattle.clr_ctx.specs.Contexts.{IsIndex};
 ghost use Rattle.clr_generations.specs.Tables.{AreTablesOf};
+ghost use Rattle.clr_generations.specs.Tidy.{IsTidy};
+ghost use Rattle.clr_survivors.specs.Survivors.{world_of};
 ghost use Rattle.clr_mark.specs.Waiting.{IsGray};
 ghost use Rattle.clr_bgmark.specs.LastPause.{LogHolds};
 ghost use Rattle.clr_bgmark.specs.Scanning.{AreObjects, marking_in};
 ghost use Rattle.clr_handles.specs.Tops.{pinned_in};
-ghost use Rattle.clr_collect.specs.Collecting.{HasMarkedAlive, HasMarkedKept, LastPauseStart, world_with};
+ghost use Rattle.clr_collect.specs.Collecting.{HasMarkedAlive, HasMarkedKept, LastPauseStart};
 
-use crate::collecting::answer;
+use crate::collecting::{answer, give_up_contexts, release_after};
 use crate::judging::leave_kept;
-use crate::releasing::release_empty;
+use crate::workshop::Workshop;
 use clr_bgmark::Background;
-use clr_bricks::Bricks;
-use clr_cards::Cards;
 use clr_ctx::Contexts;
-use clr_final::Finals;
-use clr_handles::Handles;
-use clr_heap::Heap;
+use clr_generations::Space;
 use clr_mark::Marker;
 use clr_model::Collected;
+use clr_survivors::Roots;
 use clr_sweep::sweep;
 use clr_types::Types;
 
@@ -48,58 +45,54 @@ use clr_types::Types;
 /// Sums and options are that machine's own, and whether large segments are to be compacted stays as it says.
 ///
 /// The answer counts the objects that stay and those that go, and the bytes that went from generation 0 to 1 and from
-/// 1 to 2. Nothing is marked before and after, and no free item's head is. Headers and padding are clean before and
-/// after, cards and bricks obey their laws, and as many handles are pinned. The index of the contexts is that of a heap
-/// without free items of generation 0. It takes no memory: the finalisation queue has room for as many entries as
+/// 1 to 2. Heap, cards and bricks are tidy before and after, nothing is marked, and as many handles are pinned. Of the
+/// workshop, nothing waits in the marker, and the index of the contexts is that of a heap without free items of
+/// generation 0; the rest of it stays. It takes no memory: the finalisation queue has room for as many entries as
 /// before, and for no more than it had room for.
 pub fn end_background(
     types: &Types,
-    heap: &mut Heap,
-    cards: &mut Cards,
-    bricks: &mut Bricks,
-    marker: &mut Marker,
-    contexts: &mut Contexts,
-    handles: &mut Handles,
-    finals: &mut Finals,
-    locals: &[u64],
+    space: &mut Space,
+    roots: &mut Roots,
+    workshop: &mut Workshop,
     background: &mut Background,
 ) -> Collected
-    requires held { IsHeld types.now heap.old }
-    requires unmarked { IsUnmarked types.now heap.old }
-    requires free_heads { AreFreeHeads types.now heap.old }
-    requires clean { AreClean types.now heap.old }
-    requires world { (m : Machine) × IsWorldOf (world_with types.now heap.old locals.now handles.old finals.old) m
-        × IsPlaceNamed m × (lowest_in_step m ≡ None) }
-    requires tables { AreTablesOf types.now heap.old cards.old bricks.old }
-    requires objects { AreObjects types.now heap.old background.old.shades }
-    requires log { LogHolds types.now (objects_in types.now heap.old) background.old.shades }
-    ensures collected { (m : Machine) → IsWorldOf (world_with types.now heap.old locals.now handles.old finals.old) m
-        → IsPlaceNamed m → lowest_in_step m ≡ None
-        → (after : Machine)
-        × EndsBackground m (marking_in (objects_in types.now heap.old) background.old.shades) result after
-        × IsWorldOf (world_with types.now heap.new locals.now handles.new finals.new) (picture after) }
+    requires tidy { IsTidy types.now space.old }
+    requires unmarked { IsUnmarked types.now space.old.heap }
+    requires world { (m : Machine) × IsWorldOf (world_of types.now space.old.heap roots.old) m × IsPlaceNamed m
+        × (lowest_in_step m ≡ None) }
+    requires objects { AreObjects types.now space.old.heap background.old.shades }
+    requires log { LogHolds types.now (objects_in types.now space.old.heap) background.old.shades }
+    ensures collected { (m : Machine) → IsWorldOf (world_of types.now space.old.heap roots.old) m → IsPlaceNamed m
+        → lowest_in_step m ≡ None → (after : Machine)
+        × EndsBackground m (marking_in (objects_in types.now space.old.heap) background.old.shades) result after
+        × IsWorldOf (world_of types.now space.new.heap roots.new) (picture after) }
     ensures background { background.new ≡ record { running = false; shades = []; gray = 0 } }
-    ensures held { IsHeld types.now heap.new }
-    ensures unmarked { IsUnmarked types.now heap.new }
-    ensures free_heads { AreFreeHeads types.now heap.new }
-    ensures clean { AreClean types.now heap.new }
-    ensures index { IsIndex types.now heap.new contexts.new }
-    ensures limit { heap.new.limit ≡ heap.old.limit }
-    ensures marker { marker.new ≡ record marker.old { stack = []; range = None; oldest = 2 } }
-    ensures index_after { contexts.new ≡ Some [] }
-    ensures spare { finals.old.spare ≤ finals.new.spare }
-    ensures none_added { finals.new.spare + length finals.new.entries ≤ finals.old.spare + length finals.old.entries }
-    ensures tables { AreTablesOf types.now heap.new cards.new bricks.new }
-    ensures pinned { pinned_in handles.new ≡ pinned_in handles.old }
+    ensures tidy { IsTidy types.now space.new }
+    ensures unmarked { IsUnmarked types.now space.new.heap }
+    ensures index { IsIndex types.now space.new.heap workshop.new.contexts }
+    ensures limit { space.new.heap.limit ≡ space.old.heap.limit }
+    ensures workshop { workshop.new ≡ record workshop.old {
+      marker = record workshop.old.marker { stack = []; range = None; oldest = 2 };
+      contexts = Some [];
+    } }
+    ensures locals { roots.new.locals ≡ roots.old.locals }
+    ensures spare { roots.old.finals.spare ≤ roots.new.finals.spare }
+    ensures none_added { roots.new.finals.spare + length roots.new.finals.entries
+        ≤ roots.old.finals.spare + length roots.old.finals.entries }
+    ensures pinned { pinned_in roots.new.handles ≡ pinned_in roots.old.handles }
 {
-    heap.lawful();
     mark_found_kept(
-        types, heap, marker, contexts, handles, finals, locals, background,
+        types,
+        space,
+        roots,
+        &mut workshop.marker,
+        &mut workshop.contexts,
+        background,
     );
-    let swept = sweep(heap, types, bricks, 2);
-    heap.lawful();
-    release_empty(heap, types, cards, bricks);
-    contexts.forget();
+    let swept = sweep(&mut space.heap, types, &mut space.bricks, 2);
+    space.heap.lawful();
+    release_after(types, space, 2);
+    workshop.contexts.forget();
     Collected {
         background: true,
         ..answer(2, false, false, swept)
@@ -110,65 +103,66 @@ pub fn end_background(
 // background collection runs then.
 fn mark_found_kept(
     types: &Types,
-    heap: &mut Heap,
+    space: &mut Space,
+    roots: &mut Roots,
     marker: &mut Marker,
     contexts: &mut Contexts,
-    handles: &mut Handles,
-    finals: &mut Finals,
-    locals: &[u64],
     background: &mut Background,
 )
-    requires held { IsHeld types.now heap.old }
-    requires unmarked { IsUnmarked types.now heap.old }
-    requires world { (m : Machine) × IsWorldOf (world_with types.now heap.old locals.now handles.old finals.old) m
-        × IsPlaceNamed m }
-    requires objects { AreObjects types.now heap.old background.old.shades }
-    requires log { LogHolds types.now (objects_in types.now heap.old) background.old.shades }
-    ensures kept { HasMarkedKept (world_with types.now heap.old locals.now handles.old finals.old)
-        (LastPauseStart (marking_in (objects_in types.now heap.old) background.old.shades)) heap.new handles.new
-        finals.new 2 }
+    requires tidy { IsTidy types.now space.old }
+    requires unmarked { IsUnmarked types.now space.old.heap }
+    requires world { (m : Machine) × IsWorldOf (world_of types.now space.old.heap roots.old) m × IsPlaceNamed m }
+    requires objects { AreObjects types.now space.old.heap background.old.shades }
+    requires log { LogHolds types.now (objects_in types.now space.old.heap) background.old.shades }
+    ensures kept { HasMarkedKept (world_of types.now space.old.heap roots.old)
+        (LastPauseStart (marking_in (objects_in types.now space.old.heap) background.old.shades)) space.new.heap
+        roots.new.handles roots.new.finals 2 }
+    ensures tidy { IsTidy types.now space.new }
     ensures background { background.new ≡ record { running = false; shades = []; gray = 0 } }
     ensures marker { marker.new ≡ record marker.old { stack = []; range = None; oldest = 2 } }
-    ensures spare { finals.old.spare ≤ finals.new.spare }
-    ensures none_added { finals.new.spare + length finals.new.entries ≤ finals.old.spare + length finals.old.entries }
-    ensures tables { (cards : List (CoverView ℕ)) (bricks : List (CoverView ℤ))
-        → AreTablesOf types.now heap.old cards bricks → AreTablesOf types.now heap.new cards bricks }
+    ensures locals { roots.new.locals ≡ roots.old.locals }
+    ensures spare { roots.old.finals.spare ≤ roots.new.finals.spare }
+    ensures none_added { roots.new.finals.spare + length roots.new.finals.entries
+        ≤ roots.old.finals.spare + length roots.old.finals.entries }
 {
-    mark_found_alive(
-        types, heap, marker, contexts, handles, finals, locals, background,
+    mark_found_alive(types, space, roots, marker, contexts, background);
+    leave_kept(
+        types,
+        &mut space.heap,
+        marker,
+        &mut roots.handles,
+        &mut roots.finals,
     );
-    leave_kept(types, heap, marker, handles, finals);
 }
 
 // Gives up the contexts, and marks exactly what the last pause finds alive before finalisation.
 fn mark_found_alive(
     types: &Types,
-    heap: &mut Heap,
+    space: &mut Space,
+    roots: &Roots,
     marker: &mut Marker,
     contexts: &mut Contexts,
-    handles: &Handles,
-    finals: &Finals,
-    locals: &[u64],
     background: &mut Background,
 )
-    requires held { IsHeld types.now heap.old }
-    requires unmarked { IsUnmarked types.now heap.old }
-    requires world { (m : Machine) × IsWorldOf (world_with types.now heap.old locals.now handles.now finals.now) m
-        × IsPlaceNamed m }
-    requires objects { AreObjects types.now heap.old background.old.shades }
-    requires log { LogHolds types.now (objects_in types.now heap.old) background.old.shades }
-    ensures alive { HasMarkedAlive (world_with types.now heap.old locals.now handles.now finals.now)
-        (LastPauseStart (marking_in (objects_in types.now heap.old) background.old.shades)) heap.new 2 }
-    ensures gray { IsGray types.now heap.new marker.new }
+    requires tidy { IsTidy types.now space.old }
+    requires unmarked { IsUnmarked types.now space.old.heap }
+    requires world { (m : Machine) × IsWorldOf (world_of types.now space.old.heap roots.now) m × IsPlaceNamed m }
+    requires objects { AreObjects types.now space.old.heap background.old.shades }
+    requires log { LogHolds types.now (objects_in types.now space.old.heap) background.old.shades }
+    ensures alive { HasMarkedAlive (world_of types.now space.old.heap roots.now)
+        (LastPauseStart (marking_in (objects_in types.now space.old.heap) background.old.shades)) space.new.heap 2 }
+    ensures gray { IsGray types.now space.new.heap marker.new }
     ensures background { background.new ≡ record { running = false; shades = []; gray = 0 } }
     ensures marker { marker.new ≡ record marker.old { stack = []; range = None; oldest = 2 } }
-    ensures tables { (cards : List (CoverView ℕ)) (bricks : List (CoverView ℤ))
-        → AreTablesOf types.now heap.old cards bricks → AreTablesOf types.now heap.new cards bricks }
+    ensures tables { AreTablesOf types.now space.new.heap space.new.cards space.new.bricks }
 {
-    heap.lawful();
-    contexts.lose();
-    contexts.give_up_all(heap, types);
-    heap.lawful();
-    background.finish(heap, types, marker, handles, locals, finals.ready());
-    heap.lawful();
+    give_up_contexts(types, space, contexts);
+    background.finish(
+        &mut space.heap,
+        types,
+        marker,
+        &roots.handles,
+        &roots.locals,
+        roots.finals.ready(),
+    );
 }

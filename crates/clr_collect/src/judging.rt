@@ -4,7 +4,7 @@ ghost use Rattle.clr_types.specs.Maps.{map_values};
 ghost use Rattle.clr_types.specs.declared.handle.Kind.TheVariants.{Dependent, Weak, WeakLong};
 ghost use Rattle.clr_handles.specs.Laws.{cleared};
 ghost use Rattle.clr_covers.specs.Covers.{CoverView};
-ghost use Rattle.clr_heap.specs.View.{HeapView};
+ghost use Rattle.clr_heap.specs.View.{HeapView, IsHeap};
 ghost use Rattle.clr_view.specs.Memory.{is_left_name};
 ghost use Rattle.clr_view.specs.SlotValues.{StandsAt};
 ghost use Rattle.clr_view.specs.View.{IsHeld};
@@ -47,10 +47,8 @@ pub(crate) fn leave_kept(
 {
     let waiting = finals.ready().len();
     judge_entries(types, heap, marker, finals);
-    heap.lawful();
     clear_short(types, heap, marker, handles);
     marker.mark_more(heap, types, handles, &finals.ready()[waiting..]);
-    heap.lawful();
     clear_long_and_dependent(types, heap, marker, handles);
 }
 
@@ -60,6 +58,7 @@ pub(crate) fn leave_kept(
 //
 // An object may have several entries, so all are judged before a flag is cleared.
 fn judge_entries(types: &Types, heap: &mut Heap, marker: &Marker, finals: &mut Finals)
+    requires heap { IsHeap heap.old }
     requires held { IsHeld types.now heap.old }
     requires entries { AllStand types.now heap.old finals.old.entries }
     ensures judged { HaveBeenJudged types.now heap.old marker.now.oldest finals.old finals.new }
@@ -67,7 +66,6 @@ fn judge_entries(types: &Types, heap: &mut Heap, marker: &Marker, finals: &mut F
     ensures spare { finals.old.spare ≤ finals.new.spare }
     ensures none_added { finals.new.spare + length finals.new.entries ≤ finals.old.spare + length finals.old.entries }
 {
-    heap.lawful();
     let low = marker.lowest_condemned(heap);
     finals.dead_from(low, |place| wake(types, heap, marker, place));
     let first = finals.settled(low);
@@ -120,6 +118,7 @@ fn drop_dead(types: &Types, heap: &Heap, marker: &Marker, place: u64) -> Verdict
 
 // Clears the flags of those of some objects that aren't left, and answers whether there are any.
 fn clear_flags(types: &Types, heap: &mut Heap, marker: &Marker, places: &[u64]) -> bool
+    requires heap { IsHeap heap.old }
     requires held { IsHeld types.now heap.old }
     requires places { AllStand types.now heap.old places.now }
     ensures unflagged { HasUnflagged types.now heap.old heap.new marker.now.oldest places.now }

@@ -49,7 +49,6 @@ pub fn seal(
         ↔ (heap.old.limit < reserved_sum (frame heap.old) + size) }
     ensures err { OnErr result (heap.new ≡ heap.old) }
 {
-    heap.lawful();
     let k = heap.ephemeral();
     let (_, young) = heap.boundaries();
     acquire(heap, cards, bricks, SegKind::Ephemeral, size)?;

@@ -1,81 +1,61 @@
 // What follows on the sweep or the compaction of a collection: the slide of the large heap, and the release of
 // segments.
-ghost use Rattle.std.specs.Prelude.{◌≡◌, ◌+◌, ◌≤◌, ◌&&◌, ◌==◌, not, [], length, Some};
-ghost use Rattle.clr_generations.specs.Tables.{AreTablesOf};
-ghost use Rattle.clr_handles.specs.Tops.{pinned_in};
+ghost use Rattle.std.specs.Prelude.{◌≡◌, ◌&&◌, ◌==◌, not, [], Some};
+ghost use Rattle.clr_generations.specs.Tidy.{IsTidy};
 ghost use Rattle.clr_heap.specs.View.{no_rests};
 ghost use Rattle.clr_model.specs.Collection.{ended, SlidesIf};
 ghost use Rattle.clr_model.specs.Lawful.{IsPlaceNamed};
 ghost use Rattle.clr_model.specs.Machine.{Machine};
 ghost use Rattle.clr_model.specs.Picture.{picture};
-ghost use Rattle.clr_view.specs.Clean.{AreClean};
 ghost use Rattle.clr_view.specs.Marks.{IsUnmarked};
-ghost use Rattle.clr_view.specs.View.{AreFreeHeads, IsHeld, tail_of};
+ghost use Rattle.clr_view.specs.View.{tail_of};
 ghost use Rattle.clr_view.specs.World.{IsWorldOf};
 ghost use Rattle.clr_ctx.specs.Contexts.{IsIndex};
-ghost use Rattle.clr_collect.specs.Collecting.{world_with};
+ghost use Rattle.clr_survivors.specs.Moving.{IsReadyFor, KeepsNumbers};
+ghost use Rattle.clr_survivors.specs.Survivors.{world_of};
 ghost use Rattle.clr_collect.specs.Released.{HasObjects};
 
 use crate::collecting::release_after;
-use clr_bricks::Bricks;
-use clr_cards::Cards;
-use clr_final::Finals;
-use clr_handles::Handles;
-use clr_heap::Heap;
+use crate::workshop::Workshop;
+use clr_generations::Space;
 use clr_pinq::PinQueue;
-use clr_survivors::slide_large_heap;
+use clr_survivors::{Roots, slide_large_heap};
 use clr_types::Types;
 
-// Ends a collection of generation g: a full one slides the large heap where the flag is up, which it puts down, and
+// Ends a collection of generation `g`: a full one slides the large heap where the flag is up, which it puts down, and
 // gives back the segments in which nothing stands.
 pub(crate) fn slide_and_release(
     types: &Types,
-    heap: &mut Heap,
-    cards: &mut Cards,
-    bricks: &mut Bricks,
-    handles: &mut Handles,
-    finals: &mut Finals,
-    locals: &mut [u64],
-    pins: &mut PinQueue,
+    space: &mut Space,
+    roots: &mut Roots,
+    workshop: &mut Workshop,
     g: u8,
-    compacts_large: &mut bool,
 )
-    requires held { IsHeld types.now heap.old }
-    requires no_contexts { heap.old.rests ≡ no_rests }
-    requires unmarked { IsUnmarked types.now heap.old }
-    requires clean { AreClean types.now heap.old }
-    requires free_heads { AreFreeHeads types.now heap.old }
-    requires world { (n : Machine) × IsWorldOf (world_with types.now heap.old locals.old handles.old finals.old) n
-        × IsPlaceNamed n }
-    requires occupied { g ≡ 2 → HasObjects types.now heap.old }
-    requires tables { AreTablesOf types.now heap.old cards.old bricks.old }
-    requires empty { pins.old.entries ≡ [] }
-    requires room { pinned_in handles.old + 4 ≤ pins.old.spare }
-    ensures ended { (n : Machine) → IsWorldOf (world_with types.now heap.old locals.old handles.old finals.old) n
-        → IsPlaceNamed n → (slid : Machine) × SlidesIf (compacts_large.old && (g == 2)) n slid
-        × IsWorldOf (world_with types.now heap.new locals.new handles.new finals.new) (ended g (picture slid)) }
-    ensures flag { compacts_large.new ≡ compacts_large.old && not (g == 2) }
-    ensures held { IsHeld types.now heap.new }
-    ensures unmarked { IsUnmarked types.now heap.new }
-    ensures clean { AreClean types.now heap.new }
-    ensures free_heads { AreFreeHeads types.now heap.new }
-    ensures tables { AreTablesOf types.now heap.new cards.new bricks.new }
-    ensures limit { heap.new.limit ≡ heap.old.limit }
-    ensures index { heap.old.start0 ≡ tail_of heap.old → IsIndex types.now heap.new (Some []) }
-    ensures empty { pins.new.entries ≡ [] }
-    ensures room { pins.new.spare ≡ pins.old.spare }
-    ensures pinned { pinned_in handles.new ≡ pinned_in handles.old }
-    ensures spare { finals.new.spare ≡ finals.old.spare }
-    ensures entries { length finals.new.entries ≡ length finals.old.entries }
+    requires tidy { IsTidy types.now space.old }
+    requires no_contexts { space.old.heap.rests ≡ no_rests }
+    requires unmarked { IsUnmarked types.now space.old.heap }
+    requires world { (n : Machine) × IsWorldOf (world_of types.now space.old.heap roots.old) n × IsPlaceNamed n }
+    requires occupied { g ≡ 2 → HasObjects types.now space.old.heap }
+    requires ready { IsReadyFor roots.old.handles workshop.old.pins }
+    ensures ended { (n : Machine) → IsWorldOf (world_of types.now space.old.heap roots.old) n → IsPlaceNamed n
+        → (slid : Machine) × SlidesIf (workshop.old.compacts_large && (g == 2)) n slid
+        × IsWorldOf (world_of types.now space.new.heap roots.new) (ended g (picture slid)) }
+    ensures workshop { workshop.new ≡ record workshop.old {
+      pins = workshop.new.pins;
+      compacts_large = workshop.old.compacts_large && not (g == 2);
+    } }
+    ensures tidy { IsTidy types.now space.new }
+    ensures unmarked { IsUnmarked types.now space.new.heap }
+    ensures limit { space.new.heap.limit ≡ space.old.heap.limit }
+    ensures index { space.old.heap.start0 ≡ tail_of space.old.heap → IsIndex types.now space.new.heap (Some []) }
+    ensures ready { IsReadyFor roots.new.handles workshop.new.pins }
+    ensures room { workshop.new.pins.spare ≡ workshop.old.pins.spare }
+    ensures numbers { KeepsNumbers roots.old roots.new }
 {
-    let slides = is_due(*compacts_large, g);
-    slide_if(
-        types, heap, cards, bricks, handles, finals, locals, pins, slides,
-    );
-    heap.lawful();
-    release_after(heap, types, cards, bricks, g);
-    heap.lawful();
-    put_down(compacts_large, g);
+    let slides = is_due(workshop.compacts_large, g);
+    slide_if(types, space, roots, &mut workshop.pins, slides);
+    release_after(types, space, g);
+    put_down(&mut workshop.compacts_large, g);
 }
 
 // Whether a collection of generation `g` slides the large heap.
@@ -93,47 +73,28 @@ fn put_down(compacts_large: &mut bool, g: u8)
 }
 
 // Slides the large heap, or leaves all as it is.
-fn slide_if(
-    types: &Types,
-    heap: &mut Heap,
-    cards: &mut Cards,
-    bricks: &mut Bricks,
-    handles: &mut Handles,
-    finals: &mut Finals,
-    locals: &mut [u64],
-    pins: &mut PinQueue,
-    slides: bool,
-)
-    requires held { IsHeld types.now heap.old }
-    requires no_contexts { heap.old.rests ≡ no_rests }
-    requires unmarked { IsUnmarked types.now heap.old }
-    requires clean { AreClean types.now heap.old }
-    requires free_heads { AreFreeHeads types.now heap.old }
-    requires world { (n : Machine) × IsWorldOf (world_with types.now heap.old locals.old handles.old finals.old) n
-        × IsPlaceNamed n }
-    requires tables { AreTablesOf types.now heap.old cards.old bricks.old }
-    requires empty { pins.old.entries ≡ [] }
-    requires room { pinned_in handles.old + 4 ≤ pins.old.spare }
-    ensures slid { (n : Machine) → IsWorldOf (world_with types.now heap.old locals.old handles.old finals.old) n
-        → IsPlaceNamed n → (slid : Machine) × SlidesIf slides n slid
-        × IsWorldOf (world_with types.now heap.new locals.new handles.new finals.new) (picture slid) }
-    ensures held { IsHeld types.now heap.new }
-    ensures no_contexts { heap.new.rests ≡ no_rests }
-    ensures unmarked { IsUnmarked types.now heap.new }
-    ensures clean { AreClean types.now heap.new }
-    ensures free_heads { AreFreeHeads types.now heap.new }
-    ensures occupied { HasObjects types.now heap.old → HasObjects types.now heap.new }
-    ensures tables { AreTablesOf types.now heap.new cards.new bricks.new }
-    ensures limit { heap.new.limit ≡ heap.old.limit }
-    ensures tail { heap.old.start0 ≡ tail_of heap.old → heap.new.start0 ≡ tail_of heap.new }
-    ensures empty { pins.new.entries ≡ [] }
+fn slide_if(types: &Types, space: &mut Space, roots: &mut Roots, pins: &mut PinQueue, slides: bool)
+    requires tidy { IsTidy types.now space.old }
+    requires no_contexts { space.old.heap.rests ≡ no_rests }
+    requires unmarked { IsUnmarked types.now space.old.heap }
+    requires world { (n : Machine) × IsWorldOf (world_of types.now space.old.heap roots.old) n × IsPlaceNamed n }
+    requires ready { IsReadyFor roots.old.handles pins.old }
+    ensures slid { (n : Machine) → IsWorldOf (world_of types.now space.old.heap roots.old) n → IsPlaceNamed n
+        → (slid : Machine) × SlidesIf slides n slid
+        × IsWorldOf (world_of types.now space.new.heap roots.new) (picture slid) }
+    ensures tidy { IsTidy types.now space.new }
+    ensures no_contexts { space.new.heap.rests ≡ no_rests }
+    ensures unmarked { IsUnmarked types.now space.new.heap }
+    ensures occupied { HasObjects types.now space.old.heap → HasObjects types.now space.new.heap }
+    ensures limit { space.new.heap.limit ≡ space.old.heap.limit }
+    ensures tail { space.old.heap.start0 ≡ tail_of space.old.heap
+        → space.new.heap.start0 ≡ tail_of space.new.heap }
+    ensures ready { IsReadyFor roots.new.handles pins.new }
     ensures room { pins.new.spare ≡ pins.old.spare }
-    ensures pinned { pinned_in handles.new ≡ pinned_in handles.old }
-    ensures spare { finals.new.spare ≡ finals.old.spare }
-    ensures entries { length finals.new.entries ≡ length finals.old.entries }
+    ensures numbers { KeepsNumbers roots.old roots.new }
 {
     if !slides {
         return;
     }
-    slide_large_heap(types, heap, cards, bricks, handles, finals, locals, pins);
+    slide_large_heap(types, space, roots, pins);
 }

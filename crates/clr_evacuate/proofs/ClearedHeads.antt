@@ -1,7 +1,7 @@
 -- Forwards are taken away: item by item, and what stays.
 use Rattle.std.proofs.Common.{◌≡◌, ◌⊎◌, inl, inr, ℕ, ◌+◌, ◌-◌, ◌%◌, true, false, not, List, filter, refl}
-use Rattle.std.proofs.Common.{ap, sym, ◌∙◌, subst, arith}
-use Rattle.std.proofs.lemmas.Bool.{cases_eq, true≢false}
+use Rattle.std.proofs.Common.{ap, sym, ◌∙◌, subst, arith, Bool, if◌then◌else◌}
+use Rattle.std.proofs.lemmas.Bool.{cases_eq, eq-eqb, true≢false}
 use Rattle.clr_types.specs.Rising.{IsIn}
 use Rattle.clr_types.specs.Segments.{Layout}
 use Rattle.clr_types.specs.Types.{TypeRow}
@@ -178,15 +178,23 @@ module _ (rows : List TypeRow) (old new : HeapView) (Here : ℕ → Type 0) (hea
   pub cleared_clean : AreClean rows old → AreClean rows new
   cleared_clean = clean_kept rows old new heap held cleared_heap f.held cleared_objects cleared_cells
 
-  -- ALL FORWARDS are gone
-  pub cleared_heads : ((a : ℕ) → IsFreeHeader (heap_items rows old) a → Here a) → (go : ℕ → ℕ)
-      → HasForwards rows old go → AreFreeHeads rows new
-  cleared_heads all go has i l free =
+  -- ALL FORWARDS are gone, where each header was cleared or said nothing
+  pub cleared_heads : (go : ℕ → ℕ) → HasForwards rows old go
+      → ((i : Item) → IsIn i (heap_items rows old) → Here (i.place - 8) ⊎ (go i.place ≡ i.place))
+      → AreFreeHeads rows new
+  cleared_heads go has all i l free =
       let listed = subst (λ (is : List Item). IsIn i is) f.items l in
       let r : IsFreeHeader (heap_items rows old) (i.place - 8) =
       record { item = i; listed = listed; free = free; address = refl } in
       let m = mt_in rows old heap held i listed in (
-        f.zero (i.place - 8) r (all (i.place - 8) r),
+        elim (all i listed) [
+          | inl here ↦ f.zero (i.place - 8) r here
+          | inr still ↦ elim (f.words (i.place - 8) (header_in rows old heap held i listed).aligned) [
+            | inl same ↦ same ∙ (has.free i listed free).0
+                ∙ ap (λ (b : Bool). if b then 0 else go i.place) (eq-eqb (go i.place) i.place still)
+            | inr gone ↦ f.zero (i.place - 8) gone.0 gone.1
+          ]
+        ],
         elim (f.words i.place m.aligned) [
           | inl same ↦ same ∙ (has.free i listed free).1
           | inr here ↦

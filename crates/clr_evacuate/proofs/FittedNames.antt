@@ -24,7 +24,7 @@ use Rattle.clr_model.specs.Machine.{Machine, num, Object, ref, Value}
 use Rattle.clr_model.specs.Picture.{renamed_value}
 use Rattle.clr_model.specs.Reach.{SlotNames}
 use Rattle.clr_model.specs.Sweep.{is_condemned, Survivor, survivor, survivor_piece, survivors}
-use Rattle.clr_model.proofs.FitItems.{filling_pieces, IsFilling}
+use Rattle.clr_model.proofs.FitItems.{Filling, filling_pieces, IsFilling}
 use Rattle.clr_model.proofs.FitLaid.{fillings, unmoved-still}
 use Rattle.clr_model.proofs.MovedPlaces.{moved-is}
 use Rattle.clr_model.proofs.Naming.{sorted_by-map}
@@ -67,6 +67,19 @@ objects_gone vs os =
     (λ o i. object_gone vs o))
 
 -- ---- places
+
+-- what a move takes is a tile of an older item
+pub move_tile : (n : Machine) (kept : ℕ → Bool) (laid : IsLaid n) (bare : rest_pieces n.layout.rests ≡ []) (v : Move)
+    → IsIn v (moves_in n kept)
+    → (f : Filling) × IsIn f (fillings n laid bare kept).fillings
+    × IsTile f.item.place (piece_end f.item) (piece_of_move v)
+move_tile n kept laid bare v i =
+    let (f, m, k) = (fillings n laid bare kept).moves_into v i in (
+      f,
+      m,
+      tile f.item.place (piece_end f.item) (filling_pieces f) (piece_of_move v)
+          (all_at IsFilling m (fillings n laid bare kept).filled) (append_left f.rest (IsIn-map piece_of_move k)),
+    )
 
 -- what a collection leaves stands there
 left_stands : (rows : List TypeRow) (h : HeapView) (g x : ℕ) → IsLeft rows h g x → StandsAt rows h x
@@ -153,10 +166,7 @@ module _ (rows : List TypeRow) (old new : HeapView) (n : Machine) (kept : ℕ �
   -- a move goes to a free item, and no item begins at null
   goes_high : (v : Move) → IsIn v V → 0 < v.to
   goes_high v i =
-      let (f, m, k) = (fillings n laid bare kept).moves_into v i in
-      let at : IsTile f.item.place (piece_end f.item) (piece_of_move v) =
-      tile f.item.place (piece_end f.item) (filling_pieces f) (piece_of_move v)
-      (all_at IsFilling m (fillings n laid bare kept).filled) (append_left f.rest (IsIn-map piece_of_move k)) in
+      let (f, m, at) = move_tile n kept laid bare v i in
       let older : IsIn f.item (older_items n.layout) =
       subst (IsIn f.item) (fillings n laid bare kept).items_are (IsIn-map (λ f. f.item) m) in
       let (old_one, free) = out_of_filter (is_older_item n.layout) f.item n.layout.free older in

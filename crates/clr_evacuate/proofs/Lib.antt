@@ -32,6 +32,7 @@ pub mod CarriedRuns
 pub mod CarryingRuns
 pub mod CarryingBricks
 pub mod FittedRuns
+pub mod NothingWent
 pub mod OldHomes
 pub mod FittedAll
 pub mod FittedInTurn
@@ -44,3 +45,4 @@ pub mod BothMoves
 pub mod ForwardedAll
 pub mod PinsWhileFitting
 pub mod FittedNames
+pub mod AfterFit

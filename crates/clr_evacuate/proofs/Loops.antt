@@ -1,7 +1,8 @@
 -- What the loops over the references of an object, the items of a segment and the segments have forwarded.
 use Rattle.std.proofs.Common.{◌≡◌, ◌≢◌, ◌⊎◌, inl, inr, ℕ, ◌+◌, ◌<◌, ◌≤◌, true, List, [], ◌∷◌, ◌++◌, length, refl}
-use Rattle.std.proofs.Common.{ap, sym, ◌∙◌, subst, arith, Some}
+use Rattle.std.proofs.Common.{ap, ap₂, sym, ◌∙◌, subst, arith, zero, suc, ◌-◌, ◌*◌}
 use Rattle.std.proofs.lemmas.Bool.{cases_eq, cases_lt}
+use Rattle.clr_types.specs.Descriptors.{offsets_from}
 use Rattle.clr_types.specs.Rising.{first, IsIn}
 use Rattle.clr_types.specs.Types.{form_at, TypeRow}
 use Rattle.clr_types.specs.declared.item.Item.{Item}
@@ -11,8 +12,7 @@ use Rattle.clr_types.proofs.Offsets.{rising_offsets_law}
 use Rattle.clr_types.proofs.RisingLists.{in_cons}
 use Rattle.clr_types.proofs.SortedLists.{IsDistinctBy}
 use Rattle.clr_covers.specs.Covers.{CoverView}
-use Rattle.clr_heap.specs.Parts.{hole_from}
-use Rattle.clr_heap.specs.View.{first_of, heap_items, HeapView, holes_of, IsHeap, last_of, word_of}
+use Rattle.clr_heap.specs.View.{first_of, heap_items, HeapView, IsHeap, last_of, word_of}
 use Rattle.clr_heap.proofs.Framing.{lawful_at}
 use Rattle.clr_heap.proofs.Staying.{segment_order}
 use Rattle.clr_mark.specs.Markings.{item_references}
@@ -28,7 +28,7 @@ use Rattle.clr_evacuate.specs.Forwarding.{IsReferenceAt}
 use Rattle.clr_evacuate.proofs.Cells.{not_in_free, own_reference, reference_in}
 use Rattle.clr_evacuate.proofs.Stages.{forwardable_still, forwarded_alike, forwarded_more, forwarded_none}
 use Rattle.clr_evacuate.proofs.Stages.{left_reference, still_can}
-use Rattle.clr_evacuate.proofs.Walks.{hole_up, IsWalking, none_in_hole}
+use Rattle.clr_evacuate.proofs.Walks.{IsWalking}
 
 -- ---- one object
 
@@ -99,6 +99,21 @@ module _ (rows : List TypeRow) (h : HeapView) (i : Item) (cards : List (CoverVie
         (λ a. a ≡ i.place + offset)
         (λ a r at here. next_ahead (subst (λ (b : ℕ). IsOffsetOf i.place done b) at here)) g)
 
+-- one reference of a run, with those before it and those behind it
+pub run_around : (offset count i : ℕ) → i < count
+    → offsets_from offset i ++ (offset + 8 * i) ∷ offsets_from (offset + 8 * i + 8) (count - i - 1)
+    ≡ offsets_from offset count
+run_around offset zero i l = absurd (omega arith)
+run_around offset (suc count) zero l =
+    let at : offset + 8 * 0 ≡ offset = omega arith in
+    let left : suc count - 0 - 1 ≡ count = omega arith in
+    ap₂ (λ (m n : ℕ). m ∷ offsets_from (m + 8) n) at left
+run_around offset (suc count) (suc i) l =
+    let at : offset + 8 * suc i ≡ offset + 8 + 8 * i = omega arith in
+    let left : suc count - suc i - 1 ≡ count - i - 1 = omega arith in
+    ap₂ (λ (m n : ℕ). offset ∷ (offsets_from (offset + 8) i ++ m ∷ offsets_from (m + 8) n)) at left
+    ∙ ap (λ (ns : List ℕ). offset ∷ ns) (run_around (offset + 8) count i (omega arith))
+
 -- ---- one item
 
 module _ (rows : List TypeRow) (h : HeapView) (i : Item) (heap : IsHeap h) (held : IsHeld rows h)
@@ -134,24 +149,14 @@ module _ (rows : List TypeRow) (h : HeapView) (i : Item) (heap : IsHeap h) (held
 
 -- ---- one segment
 
-module _ (rows : List TypeRow) (h now : HeapView) (cards flags : List (CoverView ℕ)) (k p e : ℕ) (heap : IsHeap h)
-    (held : IsHeld rows h) (inside : k < length h.segments) (end : e ≡ last_of h k) (w : IsWalking rows h k p e)
-    (f : IsForwarded rows h now cards flags (λ a. IsBetween (first_of h k) p a)) (below : p < e) where
+module _ (rows : List TypeRow) (h now : HeapView) (cards flags : List (CoverView ℕ)) (k p : ℕ) (heap : IsHeap h)
+    (held : IsHeld rows h) (w : IsWalking rows h k p (last_of h k))
+    (f : IsForwarded rows h now cards flags (λ a. IsBetween (first_of h k) p a)) where
   abbrev to : ℕ → ℕ → Type 0
   to q a = IsBetween (first_of h k) q a
 
-  -- a hole is passed over
-  pub hole_done : (high : ℕ) → hole_from (holes_of now k) p ≡ Some high
-      → IsForwarded rows h now cards flags (λ a. IsBetween (first_of h k) high a)
-  hole_done high l =
-      let up = hole_up rows h now k p e heap held inside f.shape f.held f.items w below high l in
-      forwarded_alike rows h now cards flags (to p) (to high)
-      (λ a r b. let low = b.0 in let down = b.1 in (low, omega (arith, down, up)))
-      (λ a r b. none_in_hole rows h now k p e heap held inside f.shape f.held f.items w below high l r.item a end
-      r.listed (reference_in rows h heap held r.item a r.listed r.reference).0 b) f
-
   -- what the references of the next item name can be forwarded
-  pub next_named : (size : ℕ) → p + size ≤ e
+  pub next_named : (size : ℕ) → p + size ≤ last_of h k
       → AreForwardable rows h (λ a. IsBetween (first_of h k) (last_of h k) a)
       → AreForwardable rows now (λ a. IsBetween p (p + size) a)
   next_named size within can =
@@ -159,7 +164,7 @@ module _ (rows : List TypeRow) (h now : HeapView) (cards flags : List (CoverView
       forwardable_still rows h now cards flags (to p) heap held f (λ a. IsBetween p (p + size) a)
       (λ a b c. let low = b.0 in let high = c.1 in omega (arith, low, high))
       (λ a r b. can a r (let low = b.0 in let high = b.1 in
-      (omega (arith, low, up), omega (arith, high, within, end))))
+      (omega (arith, low, up), omega (arith, high, within))))
 
   pub item_done : (size : ℕ) (new : HeapView) (after : List (CoverView ℕ))
       → IsForwarded rows now new flags after (λ a. IsBetween p (p + size) a)

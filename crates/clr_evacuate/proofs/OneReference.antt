@@ -1,12 +1,14 @@
 -- One reference is forwarded.
 use Rattle.std.proofs.Common.{◌≡◌, inl, inr, ℕ, ◌+◌, ◌/◌, true, List, refl, ap, sym, ◌∙◌, subst, ◌&&◌, ◌||◌}
-use Rattle.std.proofs.Common.{false}
-use Rattle.std.proofs.lemmas.Bool.{cases_eq, eq-eqb, true≢false}
+use Rattle.std.proofs.Common.{false, arith}
+use Rattle.std.proofs.lemmas.Bool.{cases_Bool, cases_eq, eq-eqb, true≢false}
 use Rattle.clr_types.specs.Rising.{IsIn}
 use Rattle.clr_types.specs.Segments.{ephemeral, stands_in}
 use Rattle.clr_types.specs.Types.{bytes_form, class_form, Form, form_at, is_bytes, references_form, structs_form}
 use Rattle.clr_types.specs.Types.{TypeRow}
 use Rattle.clr_types.specs.declared.item.Item.{Item}
+use Rattle.clr_types.specs.declared.segment.SegInfo.{SegInfo}
+use Rattle.clr_types.proofs.SegmentFacts.{stands-between}
 use Rattle.clr_cards.specs.Cards.{is_card_set}
 use Rattle.clr_covers.specs.Covers.{CoverView, spans}
 use Rattle.clr_generations.specs.Barrier.{carded}
@@ -31,6 +33,36 @@ written (class_form pattern) h a v words = refl
 written references_form h a v words = refl
 written bytes_form h a v words = absurd (true≢false words)
 written (structs_form pattern) h a v words = refl
+
+-- null stands in no segment
+null_outside : (s : SegInfo) → stands_in s 0 ≡ false
+null_outside s = elim (cases_Bool (stands_in s 0)) [
+  | inl inside ↦ (let at = stands-between s 0 inside in absurd (omega (arith, at)))
+  | inr outside ↦ outside
+]
+
+module _ (rows : List TypeRow) (h : HeapView) (held : IsHeld rows h) (cards : List (CoverView ℕ)) (a : ℕ) where
+  -- nothing is done where a word leads to itself and names no place of the ephemeral segment
+  pub same_forwarded : ((go : ℕ → ℕ) → LeadsBy rows h go → word_of h a ≡ go (word_of h a))
+      → stands_in (ephemeral (frame h)) (word_of h a) ≡ false → IsForwarded rows h h cards cards (λ b. b ≡ a)
+  same_forwarded goes outside = record {
+    shape = SameShape-refl h;
+    held = held;
+    items = refl;
+    words = λ b z. inl refl;
+    gone = λ go leads b r same. ap (word_of h) same ∙ goes go leads ∙ ap (λ (n : ℕ). go (word_of h n)) (sym same);
+    clean = λ clean. clean;
+    spans = refl;
+    kept = λ c set. set;
+    carded = λ b r same young. absurd (true≢false (sym young
+        ∙ ap (λ (n : ℕ). stands_in (ephemeral (frame h)) (word_of h n)) same ∙ outside));
+  }
+
+  -- null is such a word
+  pub null_forwarded : word_of h a ≡ 0 → IsForwarded rows h h cards cards (λ b. b ≡ a)
+  null_forwarded null =
+      same_forwarded (λ go leads. null ∙ sym leads.forwards.null ∙ ap go (sym null))
+      (ap (stands_in (ephemeral (frame h))) null ∙ null_outside (ephemeral (frame h)))
 
 module _ (rows : List TypeRow) (h : HeapView) (heap : IsHeap h) (held : IsHeld rows h) (i : Item) (offset : ℕ)
     (listed : IsIn i (heap_items rows h)) (reference : IsIn offset (item_references rows i)) where

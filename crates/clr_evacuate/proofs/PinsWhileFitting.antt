@@ -19,6 +19,7 @@ use Rattle.clr_heap.specs.Parts.{item_at}
 use Rattle.clr_heap.specs.View.{frame, heap_items, HeapView, IsHeap, word_of}
 use Rattle.clr_heap.proofs.Framing.{SameShape-trans}
 use Rattle.clr_generations.specs.Laws.{BrickLaw}
+use Rattle.clr_mark.proofs.Remarking.{keeps_heap}
 use Rattle.clr_model.specs.Compaction.{Move, moved_by}
 use Rattle.clr_model.specs.Fitting.{is_moved}
 use Rattle.clr_model.specs.Lawful.{IsLaid}
@@ -154,8 +155,6 @@ module _ (rows : List TypeRow) (old new : HeapView) (table : FinMap nat_cmp Hand
 pub record IsPinnedFit (rows : List TypeRow) (old view carried : HeapView) (table : FinMap nat_cmp Handle)
     (n : Machine) (kept : ℕ → Bool) (bytes : ℕ) : Type 0 where
   pub heap : IsHeap old
-  pub view_heap : IsHeap view
-  pub carried_heap : IsHeap carried
   pub held : IsHeld rows old
   pub bare : rest_pieces n.layout.rests ≡ []
   pub clean : AreClean rows old
@@ -205,13 +204,16 @@ module _ (rows : List TypeRow) (old view carried : HeapView) (table : FinMap nat
       let (o, i, at) = f.stand k row here pinned some in
       (moved_object V o, in_carried o i, pinned_stays o i k row here pinned (sym at) ∙ at)
 
+  carried_heap : IsHeap carried
+  carried_heap = keeps_heap view carried f.made.shape (keeps_heap old view f.pins.shape f.heap)
+
   module _ (new : HeapView) (back : HasPins rows carried new table 1 65536 false) where
     -- HEADERS are those of before
     header_back : (o : Object) → IsIn o (objects_in rows old)
         → word_of new ((moved_object V o).place - 8) ≡ word_of old (o.place - 8)
     header_back o i =
         let p : ℕ = moved_by V o.place in
-        let (up, z) = place-high rows carried f.carried_heap f.made.held (moved_object V o) (in_carried o i) in
+        let (up, z) = place-high rows carried carried_heap f.made.held (moved_object V o) (in_carried o i) in
         let (up_old, z_old) = place-high rows old f.heap f.held o i in
         let home : p - 8 + 8 ≡ p = omega (arith, up) in
         let home_old : o.place - 8 + 8 ≡ o.place = omega (arith, up_old) in
@@ -252,14 +254,14 @@ module _ (rows : List TypeRow) (old view carried : HeapView) (table : FinMap nat
     marks_back : (o : Object) → IsIn o (objects_in rows old)
         → is_marked new (moved_object V o) ≡ (if is_moved V o.place then false else is_marked old o)
     marks_back o i =
-        marked-kept rows carried new table 1 f.carried_heap f.made.held false back (moved_object V o) (in_carried o i)
+        marked-kept rows carried new table 1 carried_heap f.made.held false back (moved_object V o) (in_carried o i)
         ∙ f.made.marks o (in_view o i)
         ∙ ap (λ (b : Bool). if is_moved V o.place then false else b)
         (marked-kept rows old view table 1 f.heap f.held true f.pins o i)
 
     padding_back : ArePadded rows old → ArePadded rows new
     padding_back padded =
-        padding_kept rows carried new table false f.carried_heap f.made.held pins_stand_carried back
+        padding_kept rows carried new table false carried_heap f.made.held pins_stand_carried back
         (f.made.padding (padding_kept rows old view table true f.heap f.held f.stand f.pins padded))
 
     -- THE FIT, as if no bit had been set
@@ -270,7 +272,7 @@ module _ (rows : List TypeRow) (old view carried : HeapView) (table : FinMap nat
       marks = marks_back;
       headers = header_back;
       padding = padding_back;
-      forwards = forwards_kept rows carried new table false f.carried_heap f.made.held pins_stand_carried back
+      forwards = forwards_kept rows carried new table false carried_heap f.made.held pins_stand_carried back
           (moved_by V) f.made.forwards;
       counted = f.made.counted;
       shape = SameShape-trans old carried new (SameShape-trans old view carried f.pins.shape f.made.shape) back.shape;

@@ -5,13 +5,13 @@ use Rattle.std.proofs.lemmas.Bool.{cases_Bool, eqb-true, eq-eqb}
 use Rattle.clr_types.specs.Rising.{IsIn}
 use Rattle.clr_types.specs.Types.{mt_of, TypeRow}
 use Rattle.clr_types.specs.declared.item.Item.{Item}
-use Rattle.clr_heap.specs.Memories.{HasWord}
+use Rattle.clr_heap.specs.Memories.{HasWord, memory_index}
 use Rattle.clr_heap.specs.Parts.{item_at, type_number}
 use Rattle.clr_heap.specs.View.{heap_items, HeapView, IsHeap, word_of}
 use Rattle.clr_view.specs.View.{is_free, is_object, IsHeld}
 use Rattle.clr_view.proofs.Listed.{listed-above, listed-spelled}
 use Rattle.clr_view.proofs.ObjectItems.{stands-item}
-use Rattle.clr_view.proofs.Standing.{cell_has, mt_in, stands_from}
+use Rattle.clr_view.proofs.Standing.{cell_has, cell_index, mt_in, stands_from}
 use Rattle.clr_evacuate.specs.Forwards.{forward_of}
 use Rattle.clr_evacuate.specs.Forwarding.{CanForward, LeadsBy}
 use Rattle.clr_evacuate.proofs.Cells.{header_in}
@@ -73,6 +73,15 @@ module _ (rows : List TypeRow) (h : HeapView) (place : ℕ) (heap : IsHeap h) (h
       let b = begins_at some in
       subst (λ (n : ℕ). HasWord h.memories (n - 8)) b.at
       (cell_has rows h heap held b.item (b.item.place - 8) b.listed (header_in rows h heap held b.item b.listed))
+
+  -- they are words of one segment
+  pub header_near : place ≢ 0 → memory_index h.memories place ≡ memory_index h.memories (place - 8)
+  header_near some =
+      let b = begins_at some in
+      subst (λ (n : ℕ). memory_index h.memories n ≡ memory_index h.memories (n - 8)) b.at
+      (cell_index rows h heap held b.item b.item.place b.listed (mt_in rows h heap held b.item b.listed)
+      ∙ sym (cell_index rows h heap held b.item (b.item.place - 8) b.listed
+      (header_in rows h heap held b.item b.listed)))
 
   pub place_above : place ≢ 0 → 8 ≤ place
   place_above some =

@@ -1,27 +1,25 @@
 -- A walk over the items of a segment in which all items stay, whatever is written.
-use Rattle.std.proofs.Common.{◌≡◌, ◌⊎◌, inl, inr, ℕ, ◌+◌, ◌<◌, ◌≤◌, List, length, ap, sym, ◌∙◌, subst, arith, Option}
-use Rattle.std.proofs.Common.{Some}
-use Rattle.std.proofs.Common.{None}
-use Rattle.std.proofs.lemmas.Bool.{cases_order}
+use Rattle.std.proofs.Common.{◌≡◌, ◌⊎◌, inl, inr, ℕ, ◌+◌, ◌<◌, ◌≤◌, ◌^◌, List, length, ap, sym, ◌∙◌, subst}
+use Rattle.std.proofs.Common.{arith, None, Option}
 use Rattle.clr_types.specs.Ranges.{Piece}
 use Rattle.clr_types.specs.Rising.{first, IsIn, later}
 use Rattle.clr_types.specs.Types.{TypeRow}
 use Rattle.clr_types.specs.declared.item.Item.{Item}
-use Rattle.clr_types.proofs.RisingLists.{all_at, in_cons}
-use Rattle.clr_heap.specs.Parts.{hole_from, item_at, parts}
+use Rattle.clr_types.proofs.RisingLists.{in_cons}
+use Rattle.clr_heap.specs.Memories.{memory_index}
+use Rattle.clr_heap.specs.Parts.{hole_from, item_at}
 use Rattle.clr_heap.specs.View.{CanWalk, first_of, HasItem, heap_items, HeapView, holes_of, IsHeap, items_between}
-use Rattle.clr_heap.specs.View.{last_of, listing, SameShape, sight, word_of}
-use Rattle.clr_heap.proofs.Framing.{lawful_at}
+use Rattle.clr_heap.specs.View.{last_of, listing, no_rests, SameShape, sight, word_of}
+use Rattle.clr_heap.proofs.Addresses.{index_is_segment}
+use Rattle.clr_heap.proofs.Framing.{below_top_at, lawful_at}
 use Rattle.clr_heap.proofs.Rewrite.{holes_same}
 use Rattle.clr_heap.proofs.Spelling.{place-item_at}
-use Rattle.clr_heap.proofs.Staying.{segment_order}
-use Rattle.clr_heap.proofs.Walking.{walk_hole, walk_item}
-use Rattle.clr_mark.proofs.Remarking.{keeps_heap}
+use Rattle.clr_heap.proofs.Walking.{walk_item}
+use Rattle.clr_mark.proofs.Remarking.{keeps_heap, same_segments}
 use Rattle.clr_view.specs.View.{IsHeld}
-use Rattle.clr_view.proofs.Items.{IsItem, items-are}
 use Rattle.clr_view.proofs.Listed.{listed-head, listed-spelled}
-use Rattle.clr_view.proofs.Standing.{InCell, listed_from, standing}
-use Rattle.clr_evacuate.specs.Forwarding.{IsBetween}
+use Rattle.clr_view.proofs.Standing.{listed_from}
+use Rattle.clr_compact.proofs.BrickWalks.{no_hole}
 
 -- The walk over segment k has come to p: its items end there or below, or are ahead.
 pub record IsWalking (rows : List TypeRow) (h : HeapView) (k p e : ℕ) : Type 0 where
@@ -44,77 +42,11 @@ walking_starts rows h k heap held l =
       within = omega (arith, low);
     }
 
--- an item with a word between the bounds of a segment is one of the segment's
-pub in_segment : (rows : List TypeRow) (h : HeapView) (k : ℕ) (i : Item) (a : ℕ) → IsHeap h → IsHeld rows h
-    → k < length h.segments → IsIn i (heap_items rows h) → InCell i a → IsBetween (first_of h k) (last_of h k) a
-    → IsIn i (listing rows h k)
-in_segment rows h k i a heap held inside l c b =
-    let s = standing rows h heap held i l in
-    let above = s.above in
-    let below = s.below in
-    let low = c.low in
-    let high = c.high in
-    let in_range = s.in_range in
-    let up = b.0 in
-    let down = b.1 in
-    elim (cases_order s.segment k) [
-      | inl same ↦ subst (λ (n : ℕ). IsIn i (listing rows h n)) same s.listed
-      | inr other ↦ elim other [
-        | inl u ↦
-            let o = segment_order h s.segment k heap u inside in
-            let top = (lawful_at h s.segment heap in_range).high in
-            absurd (omega (arith, o, top, below, high, up))
-        | inr u ↦
-            let o = segment_order h k s.segment heap u in_range in
-            let top = (lawful_at h k heap inside).high in
-            absurd (omega (arith, o, top, above, low, down))
-      ]
-    ]
-
 module _ (rows : List TypeRow) (old now : HeapView) (k p e : ℕ) (heap : IsHeap old) (held : IsHeld rows old)
     (inside : k < length old.segments) (shape : SameShape old now) (held_now : IsHeld rows now)
     (items : heap_items rows now ≡ heap_items rows old) (r : IsWalking rows old k p e) (below : p < e) where
   hole_before : (o : Option ℕ) → hole_from (holes_of now k) p ≡ o → hole_from (holes_of old k) p ≡ o
   hole_before o l = ap (λ (hs : List (Option Piece)). hole_from hs p) (sym (holes_same old now k shape)) ∙ l
-
-  module _ (high : ℕ) (l : hole_from (holes_of now k) p ≡ Some high) where
-    pub hole_up : p < high
-    hole_up = (walk_hole (sight rows old k) old.memories p high e r.walk below (hole_before (Some high) l)).higher
-
-    pub over_hole : IsWalking rows old k high e
-    over_hole =
-        let step = walk_hole (sight rows old k) old.memories p high e r.walk below (hole_before (Some high) l) in
-        let higher = step.higher in
-        let up = r.up in
-        record {
-          walk = step.walk;
-          among = λ i a. r.among i (subst (λ (is : List Item). IsIn i is) (sym step.items) a);
-          split = λ i a. elim (r.split i a) [
-            | inl under ↦ inl (omega (arith, under, higher))
-            | inr ahead ↦ inr (subst (λ (is : List Item). IsIn i is) step.items ahead)
-          ];
-          up = omega (arith, up, higher);
-          within = step.within;
-        }
-
-    -- no word of an item is in the hole
-    pub none_in_hole : (i : Item) (a : ℕ) → e ≡ last_of old k → IsIn i (heap_items rows old) → InCell i a
-        → IsBetween (first_of old k) high a → IsBetween (first_of old k) p a
-    none_in_hole i a end listed c b =
-        let step = walk_hole (sight rows old k) old.memories p high e r.walk below (hole_before (Some high) l) in
-        let within = step.within in
-        let down = b.1 in
-        let lower = c.low in
-        let upper = c.high in
-        let own = in_segment rows old k i a heap held inside listed c (b.0, omega (arith, down, within, end)) in
-        elim (r.split i own) [
-          | inl under ↦ (b.0, omega (arith, upper, under))
-          | inr ahead ↦
-              let above = (all_at (IsItem rows high e) (subst (λ (is : List Item). IsIn i is) step.items ahead)
-              (items-are (sight rows old k) (parts e (sight rows old k) high e) high e step.walk.start
-              step.walk.spelled)).above in
-              absurd (omega (arith, above, lower, down))
-        ]
 
   module _ (l : hole_from (holes_of now k) p ≡ None) where
     -- the item that the walk has come to
@@ -166,3 +98,49 @@ module _ (rows : List TypeRow) (old now : HeapView) (k p e : ℕ) (heap : IsHeap
           up = omega (arith, up);
           within = step.within;
         })
+
+-- what is known of the item at a place of segment k, so that it can be read there
+pub record CanRead (rows : List TypeRow) (now : HeapView) (k p e : ℕ) : Type 0 where
+  pub listed : IsIn (item_at rows (word_of now) p) (heap_items rows now)
+  pub head : HasItem rows now p
+  pub mt_in : k ≡ memory_index now.memories p
+  pub len_in : k ≡ memory_index now.memories (p + 8)
+  pub least : 24 ≤ (item_at rows (word_of now) p).size
+  pub within : p + (item_at rows (word_of now) p).size ≤ e
+  pub end : e < 2 ^ 62
+
+-- where contexts are given up, none has a part of a segment
+pub whole_segment : (old now : HeapView) (k p : ℕ) → old.rests ≡ no_rests → SameShape old now
+    → hole_from (holes_of now k) p ≡ None
+whole_segment old now k p none shape = no_hole now k p (ap (λ (h : HeapView). h.rests) shape.others ∙ none)
+
+-- then the item that a walk has come to can be read
+pub can_read : (rows : List TypeRow) (old now : HeapView) (k p : ℕ) → IsHeap old → IsHeld rows old
+    → k < length old.segments → old.rests ≡ no_rests → SameShape old now → IsHeld rows now
+    → heap_items rows now ≡ heap_items rows old → IsWalking rows old k p (last_of old k) → p < last_of old k
+    → CanRead rows now k p (last_of old k)
+can_read rows old now k p heap held inside none shape held_now items walking below =
+    let at = at_item rows old now k p (last_of old k) heap held inside shape held_now items walking below
+    (whole_segment old now k p none shape) in
+    let least = at.least in
+    let within = at.within in
+    let low = walking.up in
+    let heap_now = keeps_heap old now shape heap in
+    let same = same_segments old now shape in
+    let inside_now : k < length now.segments = omega (arith, same, inside) in
+    let start : first_of now k ≡ first_of old k = ap (λ (g : HeapView). first_of g k) shape.others in
+    let stop : last_of now k ≡ last_of old k = ap (λ (g : HeapView). last_of g k) shape.others in
+    let lawful = (lawful_at now k heap_now inside_now).high in
+    let top = below_top_at now k heap_now inside_now in
+    let small = heap_now.top_small in
+    record {
+      listed = at.listed;
+      head = at.head;
+      mt_in = sym (index_is_segment now k p heap_now inside_now (omega (arith, low, start))
+          (omega (arith, below, stop, lawful)));
+      len_in = sym (index_is_segment now k (p + 8) heap_now inside_now (omega (arith, low, start))
+          (omega (arith, within, least, stop, lawful)));
+      least = least;
+      within = within;
+      end = omega (arith, stop, lawful, top, small);
+    }

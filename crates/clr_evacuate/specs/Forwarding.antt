@@ -5,7 +5,8 @@ use Rattle.std.specs.FinMap.{FinMap}
 use Rattle.std.specs.Ordering.{nat_cmp}
 use Rattle.clr_types.specs.Maps.{map_values}
 use Rattle.clr_types.specs.Rising.{IsIn}
-use Rattle.clr_types.specs.Segments.{ephemeral, stands_in}
+use Rattle.clr_types.specs.LawfulLayout.{DoesNotCross}
+use Rattle.clr_types.specs.Segments.{ephemeral, first_place, Layout, stands_in}
 use Rattle.clr_types.specs.Types.{TypeRow}
 use Rattle.clr_types.specs.declared.handle.Handle.{Handle}
 use Rattle.clr_types.specs.declared.item.Item.{Item}
@@ -14,7 +15,8 @@ use Rattle.clr_covers.specs.Covers as covers
 use Rattle.clr_covers.specs.Covers.{CoverView}
 use Rattle.clr_final.specs.Queues.{Queues}
 use Rattle.clr_handles.specs.Laws.{relocated}
-use Rattle.clr_heap.specs.View.{frame, heap_items, HeapView, SameShape, word_of}
+use Rattle.clr_heap.specs.Parts.{item_piece}
+use Rattle.clr_heap.specs.View.{first_of, frame, heap_items, HeapView, last_of, listing, SameShape, word_of}
 use Rattle.clr_mark.specs.Markings.{item_references}
 use Rattle.clr_model.specs.Machine.{Object}
 use Rattle.clr_model.specs.Picture.{renamed_value}
@@ -127,6 +129,25 @@ pub record HaveFollowed (go : ℕ → ℕ) (locals locals_after : List ℕ) (tab
   pub spare : queues_after.spare ≡ queues.spare
 
 -- ---- forwards taken away
+
+-- places below the first bound, and from the second one on, go nowhere
+abbrev pub IsUnmovedOutside : (ℕ → ℕ) → ℕ → ℕ → Type 0
+IsUnmovedOutside go low high = (x : ℕ) → (x < low) ⊎ (high ≤ x) → go x ≡ x
+
+-- no item of segment k reaches over the place
+pub record IsBorderAt (rows : List TypeRow) (h : HeapView) (k place : ℕ) : Type 0 where
+  pub aligned : place % 8 ≡ 0
+  pub low : first_of h k ≤ place
+  pub high : place ≤ last_of h k
+  pub whole : (i : Item) → IsIn i (listing rows h k) → DoesNotCross place (item_piece i)
+
+-- none of these items reaches over the start of generation 1, and that is where the layout says
+pub record HasOlderBorder (layout : Layout) (items : List Item) : Type 0 where
+  pub aligned : layout.start1 % 8 ≡ 0
+  pub low : first_place (ephemeral layout) ≤ layout.start1
+  pub order : layout.start1 ≤ layout.start0
+  pub high : layout.start0 ≤ (ephemeral layout).end
+  pub whole : (i : Item) → IsIn i items → DoesNotCross layout.start1 (item_piece i)
 
 -- the header of a free item among the items stands at the address
 pub record IsFreeHeader (items : List Item) (a : ℕ) : Type 0 where

@@ -28,7 +28,7 @@ pub record IsOldItemAt (rows : List TypeRow) (h : HeapView) (place : ℕ) : Type
   pub inside : stands_in (ephemeral (frame h)) place ≡ true
   pub old : place < h.start0
 
--- a segment where a place stands, and all of whose places are of generation 1 or 2
+-- a segment where a place stands, and whose places up to it are of generation 1 or 2
 pub record IsOldHome (layout : Layout) (place : ℕ) : Type 0 where
   pub home : SegInfo
   pub listed : IsIn home layout.segments

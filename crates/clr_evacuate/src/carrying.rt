@@ -1,6 +1,6 @@
 // Carries one object into a free item.
 ghost use Rattle.std.specs.Prelude.{◌≡◌, ◌+◌, ◌<◌, ◌≤◌};
-ghost use Rattle.clr_heap.specs.View.{HasHead, no_rests};
+ghost use Rattle.clr_heap.specs.View.{HasHead, IsHeap, no_rests};
 ghost use Rattle.clr_view.specs.View.{IsHeld};
 ghost use Rattle.clr_view.proofs.Carving.{Carves};
 ghost use Rattle.clr_evacuate.specs.Carried.{CanCarry, HasCarried, HasCopied, HasVacated};
@@ -25,11 +25,11 @@ pub fn carry_object(heap: &mut Heap, types: &Types, object: Item, item: Span)
 
 // Copies an object to the front of a free item, without its mark, and makes a free item of what is left.
 fn copy_object(heap: &mut Heap, types: &Types, object: Item, item: Span)
+    requires heap { IsHeap heap.old }
     requires held { IsHeld types.now heap.old }
     requires can { CanCarry types.now heap.old object item }
     ensures { HasCopied heap.old heap.new object item }
 {
-    heap.lawful();
     let to = item.place();
     free_rest(heap, item, object.size);
     heap.move_cells(object.place - 8, to - 8, object.size);

@@ -18,8 +18,8 @@ use clr_heap::{Heap, Item};
 use clr_types::{Span, Types};
 
 /// Carries an object of the ephemeral segment, below generation 0, to the front of a free item below it, as
-/// `carry_object` does, where all of the item's segment is of generation 1 or 2. The bricks tell of it at its new
-/// place, and no longer at its old one.
+/// `carry_object` does, where the item's segment is of generation 1 or 2 up to the item. The bricks tell of it at its
+/// new place, and no longer at its old one.
 pub fn carry_entered(heap: &mut Heap, types: &Types, bricks: &mut Bricks, object: Item, item: Span)
     requires held { IsHeld types.now heap.old }
     requires no_contexts { heap.old.rests ≡ no_rests }

@@ -41,7 +41,6 @@ pub fn carry_all(heap: &mut Heap, types: &Types, bricks: &mut Bricks) -> u64
         → BrickLaw types.now (frame heap.new) (objects_in types.now heap.new) (entry_at bricks.new) }
     ensures spans { spans bricks.new ≡ spans bricks.old }
 {
-    heap.lawful();
     let k = heap.ephemeral();
     let (start1, start0) = heap.boundaries();
     carry_between(heap, types, bricks, k, start1, start0)

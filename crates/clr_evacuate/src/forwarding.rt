@@ -6,9 +6,9 @@ ghost use Rattle.clr_evacuate.specs.Forwarding.{CanForward, LeadsBy};
 use clr_heap::Heap;
 use clr_types::{FREE_MT, Types};
 
-/// Where what stood at a place went: the place itself where that is null, where an object stands there, or where the
-/// free item that begins there has no forward.
-pub fn forward(heap: &Heap, types: &Types, place: u64) -> u64
+// Where what stood at a place went: the place itself where that is null, where an object stands there, or where the
+// free item that begins there has no forward.
+pub(crate) fn forward(heap: &Heap, types: &Types, place: u64) -> u64
     requires held { IsHeld types.now heap.now }
     requires can { CanForward types.now heap.now place }
     ensures { (go : ℕ → ℕ) → LeadsBy types.now heap.now go → result ≡ go place }
@@ -18,9 +18,10 @@ pub fn forward(heap: &Heap, types: &Types, place: u64) -> u64
     if place == 0 {
         return 0;
     }
-    if heap.word(place) != FREE_MT {
+    let k = heap.segment_of(place);
+    if heap.word_at(k, place) != FREE_MT {
         return place;
     }
-    let to = heap.word(place - 8);
+    let to = heap.word_at(k, place - 8);
     if to == 0 { place } else { to }
 }

@@ -1,7 +1,7 @@
 // Where searches for older free items may begin: what earlier ones for the same size found.
 ghost use Rattle.std.specs.Prelude.{◌≡◌, ◌-◌, ◌<◌, ◌≤◌, ◌^◌, List, MatchOption};
 ghost use Rattle.clr_types.specs.Types.{TypeRow};
-ghost use Rattle.clr_heap.specs.View.{HeapView, no_rests};
+ghost use Rattle.clr_heap.specs.View.{HeapView, IsHeap, no_rests};
 ghost use Rattle.clr_model.specs.Fitting.{lowest_item, older_items};
 ghost use Rattle.clr_view.specs.View.{IsHeld, layout_in};
 ghost use Rattle.clr_evacuate.specs.Hints.{AreHints, IsStartFor};
@@ -74,10 +74,10 @@ pub fn find_lowest(heap: &Heap, types: &Types, hints: &mut Hints, size: u64) -> 
     requires order { heap.now.start1 ≤ heap.now.start0 }
     requires small { size < 2 ^ 62 }
     requires hints { AreHints types.now heap.now hints.old.hints }
+    ensures heap { IsHeap heap.now }
     ensures lowest { result ≡ lowest_item size (older_items (layout_in types.now heap.now)) }
     ensures hints { AreHints types.now heap.now hints.new.hints }
 {
-    heap.lawful();
     let from = hints.start_for(size);
     let found = find_item(heap, types, size, from);
     hints.learned(size, found)

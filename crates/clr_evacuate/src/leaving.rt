@@ -3,7 +3,7 @@ ghost use Rattle.std.specs.Prelude.{◌≡◌, ◌≢◌, ◌+◌, ◌*◌, ◌/
 ghost use Rattle.std.specs.Prelude.{true};
 ghost use Rattle.clr_bricks.specs.Bricks.{entry_at, root_entry};
 ghost use Rattle.clr_covers.specs.Covers.{is_covered, spans};
-ghost use Rattle.clr_heap.specs.View.{frame, last_of, no_rests};
+ghost use Rattle.clr_heap.specs.View.{frame, IsHeap, last_of, no_rests};
 ghost use Rattle.clr_model.specs.Machine.{Object};
 ghost use Rattle.clr_view.specs.View.{IsHeld, objects_in};
 ghost use Rattle.clr_generations.specs.Laws.{BrickLaw};
@@ -60,7 +60,6 @@ fn next_leader(heap: &Heap, types: &Types, place: u64) -> Option<u64>
         (NoneCounted types.now heap.now is_any place (min heap.now.start0 (4096 * (place / 4096) + 4096)))
         (IsFirstFrom types.now heap.now is_any place (min heap.now.start0 (4096 * (place / 4096) + 4096))) }
 {
-    heap.lawful();
     let k = heap.ephemeral();
     let (_, start0) = heap.boundaries();
     first_object(
@@ -74,6 +73,7 @@ fn next_leader(heap: &Heap, types: &Types, place: u64) -> Option<u64>
 
 // The place of the first object of segment `k` from `start` on, below `past`.
 fn first_object(heap: &Heap, types: &Types, k: usize, start: u64, past: u64) -> Option<u64>
+    requires heap { IsHeap heap.now }
     requires held { IsHeld types.now heap.now }
     requires in_range { k < length heap.now.segments }
     requires no_contexts { heap.now.rests ≡ no_rests }
@@ -82,7 +82,6 @@ fn first_object(heap: &Heap, types: &Types, k: usize, start: u64, past: u64) -> 
     ensures { MatchOption result (NoneCounted types.now heap.now is_any start past)
         (IsFirstFrom types.now heap.now is_any start past) }
 {
-    heap.lawful();
     let mut place = start;
     while place < past {
         let found = heap.item(types, place);

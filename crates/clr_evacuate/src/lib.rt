@@ -5,19 +5,15 @@
 #![tactic(auto)]
 
 pub use crate::carrying::carry_object;
-pub use crate::clearing::clear_forwards;
 pub use crate::entering::carry_entered;
 pub use crate::evacuating::{carry_all, carry_between};
 pub use crate::fitting::fit_survivors;
 pub use crate::fittings::next_fitting;
-pub use crate::forwarding::forward;
 pub use crate::hints::{Hints, find_lowest};
 pub use crate::leaving::leave_brick;
 pub use crate::moving::fit_and_move;
 pub use crate::plugs::{carry_fitting, carry_plug};
-pub use crate::roots::forward_roots;
 pub use crate::searching::find_item;
-pub use crate::slots::forward_slots;
 
 mod carrying;
 mod clearing;

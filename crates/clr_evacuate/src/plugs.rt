@@ -56,6 +56,7 @@ pub fn carry_plug(heap: &mut Heap, types: &Types, bricks: &mut Bricks, plug: Spa
 
 // Carries the object at a place, and answers its size.
 fn carry_next(heap: &mut Heap, types: &Types, bricks: &mut Bricks, place: u64, item: Span) -> u64
+    requires heap { IsHeap heap.old }
     requires held { IsHeld types.now heap.old }
     requires no_contexts { heap.old.rests ≡ no_rests }
     requires order { heap.old.start1 ≤ heap.old.start0 }
@@ -74,7 +75,6 @@ fn carry_next(heap: &mut Heap, types: &Types, bricks: &mut Bricks, place: u64, i
 {
     let object = heap.item(types, place);
     carry_entered(heap, types, bricks, object, item);
-    heap.lawful();
     object.size
 }
 
@@ -104,12 +104,10 @@ pub fn carry_fitting(
         → BrickLaw types.now (frame heap.new) (objects_in types.now heap.new) (entry_at bricks.new) }
     ensures spans { spans bricks.new ≡ spans bricks.old }
 {
-    heap.lawful();
     let found = find_lowest(heap, types, hints, plug.size());
     match found {
         Some(item) => {
             carry_plug(heap, types, bricks, plug, item);
-            heap.lawful();
             plug.size()
         }
         None => 0,

@@ -5,39 +5,33 @@ ghost use Rattle.clr_evacuate.specs.Forwarding.{AllCanForward, CanForward, HasFo
 ghost use Rattle.clr_evacuate.specs.Forwarding.{NamesCanForward};
 
 use crate::forwarding::forward;
-use clr_final::Finals;
-use clr_handles::Handles;
 use clr_heap::Heap;
+use clr_survivors::Roots;
 use clr_types::Types;
 
-/// Lets locals, handles, entries and the f-reachable queue go where what they name went. Null stays.
-pub fn forward_roots(
-    heap: &Heap,
-    types: &Types,
-    handles: &mut Handles,
-    finals: &mut Finals,
-    locals: &mut [u64],
-)
+// Lets locals, handles, entries and the f-reachable queue go where what they name went. Null stays.
+pub(crate) fn forward_roots(heap: &Heap, types: &Types, roots: &mut Roots)
     requires held { IsHeld types.now heap.now }
-    requires named { NamesCanForward types.now heap.now locals.old handles.old finals.old }
+    requires named { NamesCanForward types.now heap.now roots.old.locals.items roots.old.handles roots.old.finals }
     ensures { (go : ℕ → ℕ) → LeadsBy types.now heap.now go
-        → HaveFollowed go locals.old locals.new handles.old handles.new finals.old finals.new }
+        → HaveFollowed go roots.old.locals.items roots.new.locals.items roots.old.handles roots.new.handles
+        roots.old.finals roots.new.finals }
 {
-    handles.relocate(
+    roots.handles.relocate(
         |place|
             requires held { IsHeld types.now heap.now }
             requires can { CanForward types.now heap.now place }
             ensures { HasFollowed types.entry.now heap.entry.now place result }
         { forward(heap, types, place) },
     );
-    finals.relocate(
+    roots.finals.relocate(
         |place|
             requires held { IsHeld types.now heap.now }
             requires can { CanForward types.now heap.now place }
             ensures { HasFollowed types.entry.now heap.entry.now place result }
         { forward(heap, types, place) },
     );
-    forward_locals(heap, types, locals);
+    forward_locals(heap, types, &mut roots.locals);
 }
 
 // Lets locals go where what they name went.

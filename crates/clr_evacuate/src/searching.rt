@@ -1,6 +1,6 @@
 // The lowest older free item in which a size fits.
 ghost use Rattle.std.specs.Prelude.{◌≡◌, ℕ, ◌+◌, ◌<◌, ◌≤◌, ◌^◌, length};
-ghost use Rattle.clr_heap.specs.View.{last_of, listing, no_rests};
+ghost use Rattle.clr_heap.specs.View.{IsHeap, last_of, listing, no_rests};
 ghost use Rattle.clr_model.specs.Fitting.{lowest_item, older_items};
 ghost use Rattle.clr_view.specs.View.{IsHeld, layout_in};
 ghost use Rattle.clr_generations.specs.Renewing.{CanBegin};
@@ -21,6 +21,7 @@ pub fn find_item(heap: &Heap, types: &Types, size: u64, from: u64) -> Option<Spa
     requires no_contexts { heap.now.rests ≡ no_rests }
     requires begins { CanSearchFrom types.now heap.now from }
     requires small { size < 2 ^ 62 }
+    ensures heap { IsHeap heap.now }
     ensures from_there { result ≡ lowest_item size (older_from from (layout_in types.now heap.now)) }
     ensures lowest { HasNoRoomBelow size from (layout_in types.now heap.now)
         → result ≡ lowest_item size (older_items (layout_in types.now heap.now)) }
@@ -37,6 +38,7 @@ pub fn find_item(heap: &Heap, types: &Types, size: u64, from: u64) -> Option<Spa
 
 // The lowest of those that segment `k` has.
 fn find_in(heap: &Heap, types: &Types, k: usize, size: u64, from: u64) -> Option<Span>
+    requires heap { IsHeap heap.now }
     requires held { IsHeld types.now heap.now }
     requires no_contexts { heap.now.rests ≡ no_rests }
     requires begins { CanSearchFrom types.now heap.now from }
@@ -77,6 +79,7 @@ fn first_between(
     end: u64,
     size: u64,
 ) -> Option<Span>
+    requires heap { IsHeap heap.now }
     requires held { IsHeld types.now heap.now }
     requires no_contexts { heap.now.rests ≡ no_rests }
     requires in_range { k < length heap.now.segments }
@@ -85,7 +88,6 @@ fn first_between(
     requires small { size < 2 ^ 62 }
     ensures { result ≡ lowest_item size (free_between start end (listing types.now heap.now k)) }
 {
-    heap.lawful();
     let mut place = start;
     while place < end {
         let found = heap.item_of_word(types, k, place, heap.word_at(k, place));

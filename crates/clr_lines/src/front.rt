@@ -180,8 +180,10 @@ fn answer_new<'a>(
     ensures done { MatchOption result (runtime.new ≡ runtime.old) (λ p. IsDone runtime.old.machine
         (thread_word t ++ ((32 ∷ codes "new") ++ text.now)) p.1.now (take p.0 into.new) runtime.new.machine) }
 {
-    let (local, name, len, rest) = read_new(text)?;
-    let written = tell_place(runtime.new_object(t, local, name, len), into);
+    let (recent, hint) = runtime.recent();
+    let (local, name, same, len, rest) = read_new(text, hint)?;
+    let known = if same { recent } else { None };
+    let written = tell_place(runtime.new_known(t, local, name, known, len), into);
     Some((written, rest))
 }
 

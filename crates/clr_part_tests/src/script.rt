@@ -245,11 +245,28 @@ fn reads_frequent_lines_from_the_front(rt: HostRuntime) {
     assert!(rt; matches!(read_null(b" l20\nx"), Some((20, [b'x']))));
     assert!(rt;
         matches!(
-            read_new(b" l12 _9 40\nx"),
-            Some((12, [b'_', b'9'], Some(40), [b'x']))
+            read_new(b" l12 _9 40\nx", b"N"),
+            Some((12, [b'_', b'9'], false, Some(40), [b'x']))
         )
     );
-    assert!(rt; matches!(read_new(b" l12 N\nx"), Some((12, [b'N'], None, [b'x']))));
+    assert!(rt;
+        matches!(
+            read_new(b" l12 N\nx", b"N"),
+            Some((12, [b'N'], true, None, [b'x']))
+        )
+    );
+    assert!(rt;
+        matches!(
+            read_new(b" l12 N\nx", b"M"),
+            Some((12, [b'N'], false, None, [b'x']))
+        )
+    );
+    assert!(rt;
+        matches!(
+            read_new(b" l1 Nodes 4\n", b"Node"),
+            Some((1, [b'N', b'o', b'd', b'e', b's'], false, Some(4), []))
+        )
+    );
     assert!(rt; read_null(b" l20").is_none());
     assert!(rt; read_null(b" l20 \n").is_none());
     assert!(rt; read_copy(b" l02 l3\n").is_none());

@@ -8,7 +8,7 @@ use Rattle.clr_types.specs.Segments.{reserved_sum}
 use Rattle.clr_types.specs.declared.segment.SegKind.{SegKind}
 use Rattle.clr_types.specs.declared.segment.SegKind.TheVariants.{Ephemeral, Large, Pinned, Small}
 use Rattle.clr_covers.specs.Covers.{CoverView}
-use Rattle.clr_heap.specs.View.{acquired, frame, HeapView}
+use Rattle.clr_heap.specs.View.{acquired, frame, HeapView, IsHeap}
 use Rattle.clr_heap.specs.declared.heap.segments.AcquireFault.{AcquireFault}
 use Rattle.clr_heap.specs.declared.heap.segments.AcquireFault.TheVariants.{OverLimit}
 use Rattle.clr_view.specs.Clean.{AreClean}
@@ -56,16 +56,18 @@ may-reserve total limit told = go (nat_le total limit) refl
     go false e = absurd (other (told.1 (leb-false total limit e)))
 
 module _ (group : SegKind) (old : IsOldKind group) (p : Parts) (is : IsRuntime p) (size : ℕ) (new : HeapView)
-    (objects : objects_in p.types new ≡ objects_in p.types p.heap) where
+    (objects : objects_in p.types new ≡ objects_in p.types p.space.heap) where
   -- the bytes that the new segment reserves
   abbrev reserved : ℕ
   reserved = segment_for (seen p) size
 
   -- what is seen is lawful with it
-  acquired-sound : layout_in p.types new ≡ with_segment (layout_in p.types p.heap) group (segment_for (seen p) size)
-      → allows (seen p) (segment_for (seen p) size) ≡ true → IsPlaceNamed (seen (record p { heap = new }))
+  acquired-sound : layout_in p.types new ≡ with_segment (layout_in p.types p.space.heap) group
+      (segment_for (seen p) size)
+      → allows (seen p) (segment_for (seen p) size) ≡ true
+      → IsPlaceNamed (seen (record p { space = record p.space { heap = new } }))
   acquired-sound layout may =
-      let shown : seen (record p { heap = new }) ≡ with_segment_for group (seen p) size =
+      let shown : seen (record p { space = record p.space { heap = new } }) ≡ with_segment_for group (seen p) size =
       λ k. record (seen p) { objects = objects k; layout = layout k } in
       subst IsPlaceNamed (sym shown)
       (record {
@@ -75,21 +77,22 @@ module _ (group : SegKind) (old : IsOldKind group) (p : Parts) (is : IsRuntime p
       })
 
   -- what is told of references to younger objects is told still
-  told-still : (cards : List (CoverView ℕ)) → ((i : ℕ) → is_card_set cards i ≡ is_card_set p.cards i) → (a : ℕ)
-      → IsToldBy p.types p.heap p.cards p.safe a → IsToldBy p.types new cards p.safe a
+  told-still : (cards : List (CoverView ℕ)) → ((i : ℕ) → is_card_set cards i ≡ is_card_set p.space.cards i) → (a : ℕ)
+      → IsToldBy p.types p.space.heap p.space.cards p.safe a → IsToldBy p.types new cards p.safe a
   told-still cards sets a (inl set) = inl (sets (a / 2048) ∙ set)
   told-still cards sets a (inr begun) =
       inr (subst (λ (os : List Object). IsBegunStore p.types os (steps_of p.safe) a) (sym objects) begun)
 
   -- so the cards and bricks are those of the heap with the segment
   pub acquired_tables : (cards : List (CoverView ℕ)) (bricks : List (CoverView ℤ)) → AreCardsOf (frame new) cards
-      → AreBricksOf (frame new) bricks → ((i : ℕ) → is_card_set cards i ≡ is_card_set p.cards i)
-      → NamesNoMore p.types (frame p.heap) (objects_in p.types p.heap) (frame new) (objects_in p.types new)
-      → (BrickLaw p.types (frame p.heap) (objects_in p.types p.heap) (entry_at p.bricks)
+      → AreBricksOf (frame new) bricks → ((i : ℕ) → is_card_set cards i ≡ is_card_set p.space.cards i)
+      → NamesNoMore p.types (frame p.space.heap) (objects_in p.types p.space.heap) (frame new) (objects_in p.types new)
+      → (BrickLaw p.types (frame p.space.heap) (objects_in p.types p.space.heap) (entry_at p.space.bricks)
       → BrickLaw p.types (frame new) (objects_in p.types new) (entry_at bricks))
       → AreTablesBy p.types new cards bricks (IsToldBy p.types new cards p.safe)
   acquired_tables cards bricks own_cards own_bricks sets names law =
-      let t = tables_with p.types p.heap new p.cards cards p.bricks bricks (IsToldBy p.types p.heap p.cards p.safe)
+      let t = tables_with p.types p.space.heap new p.space.cards cards p.space.bricks bricks
+      (IsToldBy p.types p.space.heap p.space.cards p.safe)
       own_cards own_bricks names law is.tables in
       record {
         cards = t.cards;
@@ -101,18 +104,21 @@ module _ (group : SegKind) (old : IsOldKind group) (p : Parts) (is : IsRuntime p
   -- what holds of the parts of a runtime still holds, whether there is a new segment or not
   pub acquired_kept : (cards : List (CoverView ℕ)) (bricks : List (CoverView ℤ))
       (result : Result (Unit {0}) AcquireFault)
-      → OnOk result (new ≡ acquired p.heap group (segment_for (seen p) size))
+      → OnOk result (new ≡ acquired p.space.heap group (segment_for (seen p) size))
       → OnOk result (layout_in p.types new
-      ≡ with_segment (layout_in p.types p.heap) group (segment_for (seen p) size))
-      → OnErr result (new ≡ p.heap)
-      → ((result ≡ Err OverLimit) ↔ (p.heap.limit < reserved_sum (frame p.heap) + segment_for (seen p) size))
-      → ((other : SegKind) → kind_items other (layout_in p.types new) ≡ kind_items other (layout_in p.types p.heap))
-      → IsHeld p.types new
-      → (IsUnmarked p.types p.heap → IsUnmarked p.types new)
-      → (AreFreeHeads p.types p.heap → AreFreeHeads p.types new) → (AreClean p.types p.heap → AreClean p.types new)
+      ≡ with_segment (layout_in p.types p.space.heap) group (segment_for (seen p) size))
+      → OnErr result (new ≡ p.space.heap)
+      → ((result ≡ Err OverLimit)
+      ↔ (p.space.heap.limit < reserved_sum (frame p.space.heap) + segment_for (seen p) size))
+      → ((other : SegKind) → kind_items other (layout_in p.types new)
+      ≡ kind_items other (layout_in p.types p.space.heap))
+      → IsHeap new → IsHeld p.types new
+      → (IsUnmarked p.types p.space.heap → IsUnmarked p.types new)
+      → (AreFreeHeads p.types p.space.heap → AreFreeHeads p.types new)
+      → (AreClean p.types p.space.heap → AreClean p.types new)
       → AreTablesBy p.types new cards bricks (IsToldBy p.types new cards p.safe)
-      → IsRuntime (record p { heap = new; cards = cards; bricks = bricks })
-  acquired_kept cards bricks (Ok done) words layout stays told items held unmarked heads clean tables = record {
+      → IsRuntime (record p { space = record p.space { heap = new; cards = cards; bricks = bricks } })
+  acquired_kept cards bricks (Ok done) words layout stays told items heap held unmarked heads clean tables = record {
     shown = record {
       locals = is.shown.locals;
       held = held;
@@ -120,26 +126,29 @@ module _ (group : SegKind) (old : IsOldKind group) (p : Parts) (is : IsRuntime p
       free_heads = heads is.shown.free_heads;
       clean = clean is.shown.clean;
       sound = acquired-sound layout
-          (may-reserve (reserved_sum (frame p.heap) + reserved) p.options.limit
-          (subst (λ n. (acquired_one ≡ Err OverLimit) ↔ (n < reserved_sum (frame p.heap) + reserved)) is.limit told));
-      marked = same_marked (seen p) (seen (record p { heap = new })) objects refl refl p.background is.shown.marked;
+          (may-reserve (reserved_sum (frame p.space.heap) + reserved) p.options.limit
+          (subst (λ n. (acquired_one ≡ Err OverLimit) ↔ (n < reserved_sum (frame p.space.heap) + reserved)) is.limit
+          told));
+      marked = same_marked (seen p) (seen (record p { space = record p.space { heap = new } })) objects refl refl
+          p.background is.shown.marked;
     };
+    heap = heap;
     tables = tables;
     owed = is.owed;
     finalizers = is.finalizers;
-    index = index_kept young_items p.types p.types p.heap new p.contexts
-        (ap young_items layout ∙ young_with_segment group old (layout_in p.types p.heap) reserved) is.index;
-    large = index_kept (kind_items Large) p.types p.types p.heap new p.large (items Large) is.large;
-    pinned = index_kept (kind_items Pinned) p.types p.types p.heap new p.pinned (items Pinned) is.pinned;
-    limit = ap (λ (h : HeapView). h.limit) words ∙ limit-acquired p.heap group reserved ∙ is.limit;
-    pins = is.pins;
-    room = is.room;
+    index = index_kept young_items p.types p.types p.space.heap new p.workshop.contexts
+        (ap young_items layout ∙ young_with_segment group old (layout_in p.types p.space.heap) reserved) is.index;
+    large = index_kept (kind_items Large) p.types p.types p.space.heap new p.large (items Large) is.large;
+    pinned = index_kept (kind_items Pinned) p.types p.types p.space.heap new p.pinned (items Pinned) is.pinned;
+    limit = ap (λ (h : HeapView). h.limit) words ∙ limit-acquired p.space.heap group reserved ∙ is.limit;
+    ready = is.ready;
   }
-  acquired_kept cards bricks (Err fault) words layout stays told items held unmarked heads clean tables =
-      let before : IsRuntime (record p { heap = new }) =
-      subst (λ (h : HeapView). IsRuntime (record p { heap = h })) (sym stays) is in
+  acquired_kept cards bricks (Err fault) words layout stays told items heap held unmarked heads clean tables =
+      let before : IsRuntime (record p { space = record p.space { heap = new } }) =
+      subst (λ (h : HeapView). IsRuntime (record p { space = record p.space { heap = h } })) (sym stays) is in
       record {
         shown = before.shown;
+        heap = heap;
         tables = tables;
         owed = before.owed;
         finalizers = before.finalizers;
@@ -147,6 +156,5 @@ module _ (group : SegKind) (old : IsOldKind group) (p : Parts) (is : IsRuntime p
         large = before.large;
         pinned = before.pinned;
         limit = before.limit;
-        pins = before.pins;
-        room = before.room;
+        ready = before.ready;
       }

@@ -9,7 +9,7 @@ use Rattle.clr_types.specs.Types.{form_at}
 use Rattle.clr_types.proofs.ChangedLists.{into_filter, IsIn-map}
 use Rattle.clr_types.proofs.RisingLists.{all_at}
 use Rattle.clr_heap.specs.Parts.{item_at}
-use Rattle.clr_heap.specs.View.{heap_items, IsHeap, word_of}
+use Rattle.clr_heap.specs.View.{heap_items, word_of}
 use Rattle.clr_view.specs.SlotValues.{IsObjectAt, StandsAt}
 use Rattle.clr_view.specs.View.{is_object, object_in, objects_in}
 use Rattle.clr_view.specs.World.{HandlesStand}
@@ -107,43 +107,43 @@ read_law m old new was is logs marks law o i name here black e = go (stands_or_n
 
 -- ---- parts
 
-module _ (p : Parts) (is : IsRuntime p) (heap : IsHeap p.heap) where
+module _ (p : Parts) (is : IsRuntime p) where
   abbrev objects : List Object
-  objects = objects_in p.types p.heap
+  objects = objects_in p.types p.space.heap
 
   -- the heap is closed, and all that names objects from outside names those that stand
-  pub parts_closed : IsClosed p.types p.heap
+  pub parts_closed : IsClosed p.types p.space.heap
   parts_closed = record {
-    heap = heap;
+    heap = is.heap;
     held = is.shown.held;
     named = slots_stand (world_of p) (seen p) (world-seen p.safe (ahead_of p)) is.shown.sound;
   }
 
-  pub parts_handles : HandlesStand p.types p.heap p.handles
+  pub parts_handles : HandlesStand p.types p.space.heap p.roots.handles
   parts_handles = handles_stand (world_of p) (seen p) (world-seen p.safe (ahead_of p)) is.shown.sound
 
-  pub parts_locals : roots.AreObjects p.types p.heap p.locals.items
+  pub parts_locals : roots.AreObjects p.types p.space.heap p.roots.locals.items
   parts_locals = locals_stand (world_of p) (seen p) (world-seen p.safe (ahead_of p)) is.shown.sound
 
-  pub parts_ready : roots.AreObjects p.types p.heap p.finals.ready
+  pub parts_ready : roots.AreObjects p.types p.space.heap p.roots.finals.ready
   parts_ready = ready_stand (world_of p) (seen p) (world-seen p.safe (ahead_of p)) is.shown.sound
 
   -- ---- the references of what was taken
 
   -- an object is read from its item
   own_item : (o : Object) → IsIn o objects → o
-      ≡ object_in p.types (word_of p.heap) (item_at p.types (word_of p.heap) o.name)
+      ≡ object_in p.types (word_of p.space.heap) (item_at p.types (word_of p.space.heap) o.name)
   own_item o here =
       let home : o.name ≡ o.place = all_at (λ (o : Object). o.name ≡ o.place) here is.shown.sound.places in
-      let at : IsObjectAt p.types p.heap o.name (item_at p.types (word_of p.heap) o.name) =
-      stands-item p.types p.heap heap is.shown.held o.name (o, here, sym home) in
+      let at : IsObjectAt p.types p.space.heap o.name (item_at p.types (word_of p.space.heap) o.name) =
+      stands-item p.types p.space.heap is.heap is.shown.held o.name (o, here, sym home) in
       one o _ (sym (found-at (seen p) is.shown.sound o here o.name (sym home)) ∙ at.named)
     where
       one : (a b : Object) → Some a ≡ Some b → a ≡ b
       one a b e = cc
 
   module _ (ss : List ShadeView) (colours : AreColours ss) where
-    whole_slots : HaveWholeObjects p.types p.heap ss → HaveWholeSlots (seen p) (marking_by ss) ss
+    whole_slots : HaveWholeObjects p.types p.space.heap ss → HaveWholeSlots (seen p) (marking_by ss) ss
     whole_slots whole o offset here took listed =
         let home : o.name ≡ o.place = all_at (λ (o : Object). o.name ≡ o.place) here is.shown.sound.places in
         ap (λ a. is_covered ss (a + offset)) (sym home)
@@ -151,31 +151,33 @@ module _ (p : Parts) (is : IsRuntime p) (heap : IsHeap p.heap) where
         (subst (λ (w : Object). IsIn offset (reference_offsets (form_at p.types w.type) w.len)) (own_item o here)
         listed)
 
-    pub slots_whole : AreObjects p.types p.heap ss → HaveWholeSlots (seen p) (marking_by ss) ss
-        → HaveWholeObjects p.types p.heap ss
+    pub slots_whole : AreObjects p.types p.space.heap ss → HaveWholeSlots (seen p) (marking_by ss) ss
+        → HaveWholeObjects p.types p.space.heap ss
     slots_whole known whole x offset bit listed =
-        let i = item_at p.types (word_of p.heap) x in
-        let own = object_in p.types (word_of p.heap) i in
-        let at : IsObjectAt p.types p.heap x i = stands-item p.types p.heap heap is.shown.held x (stands x bit) in
+        let i = item_at p.types (word_of p.space.heap) x in
+        let own = object_in p.types (word_of p.space.heap) i in
+        let at : IsObjectAt p.types p.space.heap x i = stands-item p.types p.space.heap is.heap is.shown.held x
+        (stands x bit) in
         let present : IsIn own objects =
-        IsIn-map (object_in p.types (word_of p.heap)) (into_filter is_object (heap_items p.types p.heap) at.object
+        IsIn-map (object_in p.types (word_of p.space.heap))
+        (into_filter is_object (heap_items p.types p.space.heap) at.object
         at.listed) in
         ap (λ a. is_covered ss (a + offset)) (sym at.at)
         ∙ whole own offset present
         (subst (λ n. IsIn n (taken (marking_by ss))) (sym at.at) (taken_of_bit ss colours x bit)) listed
       where
-        stands : (x : ℕ) → IsTakenAt ss x → StandsAt p.types p.heap x
+        stands : (x : ℕ) → IsTakenAt ss x → StandsAt p.types p.space.heap x
         stands x (there, inl t) = known.taken x there t
         stands x (there, inr m) = known.marked x there m
 
   -- ---- the first pause
 
   module _ (v : BackgroundView) (running : v.running ≡ true)
-      (begun : HasBegun p.types p.heap p.handles p.locals.items p.finals.ready v.shades)
-      (known : AreObjects p.types p.heap v.shades) (whole : HaveWholeObjects p.types p.heap v.shades)
-      (counted : IsCounted (objects_in p.types p.heap) v) where
+      (begun : HasBegun p.types p.space.heap p.roots.handles p.roots.locals.items p.roots.finals.ready v.shades)
+      (known : AreObjects p.types p.space.heap v.shades) (whole : HaveWholeObjects p.types p.space.heap v.shades)
+      (counted : IsCounted (objects_in p.types p.space.heap) v) where
     same_begun : marking_by v.shades ≡ marking_in objects v.shades
-    same_begun = marking_is p.types p.heap heap is.shown.held v.shades known
+    same_begun = marking_is p.types p.space.heap is.heap is.shown.held v.shades known
 
     is_begun : IsBegun (seen p) (marking_by v.shades)
     is_begun = subst (IsBegun (seen p)) (sym same_begun) (begun (seen p) refl refl refl refl refl)
@@ -190,7 +192,7 @@ module _ (p : Parts) (is : IsRuntime p) (heap : IsHeap p.heap) where
     -- nothing is black yet
     begun_marked : IsMarkedSoFar (seen (record p { background = v })) v
     begun_marked =
-        let colours = objects_coloured p.types p.heap heap is.shown.held v.shades known in
+        let colours = objects_coloured p.types p.space.heap is.heap is.shown.held v.shades known in
         record {
           colours = colours;
           counted = counted ∙ sym (ap (λ (k : Marking). length k.gray) same_begun);
@@ -207,10 +209,11 @@ module _ (p : Parts) (is : IsRuntime p) (heap : IsHeap p.heap) where
         free_heads = is.shown.free_heads;
         clean = is.shown.clean;
         sound = subst IsPlaceNamed (sym begun_seen)
-            (remarked_place_named (seen p) is.shown.sound p.compact_large (Some (marking_by v.shades))
+            (remarked_place_named (seen p) is.shown.sound p.workshop.compacts_large (Some (marking_by v.shades))
             (begun_lawful (seen p) (marking_by v.shades) is_begun));
         marked = λ running. begun_marked;
       };
+      heap = is.heap;
       tables = is.tables;
       owed = is.owed;
       finalizers = is.finalizers;
@@ -218,40 +221,41 @@ module _ (p : Parts) (is : IsRuntime p) (heap : IsHeap p.heap) where
       large = is.large;
       pinned = is.pinned;
       limit = is.limit;
-      pins = is.pins;
-      room = is.room;
+      ready = is.ready;
     }
 
   -- where there was memory for it, and where there was none
   module _ {E : Type 0} (v : BackgroundView) (r : Result (Unit {0}) E) where
     pub begun_ok : OnOk r (v.running ≡ true)
-        → OnOk r (HasBegun p.types p.heap p.handles p.locals.items p.finals.ready v.shades)
-        → OnOk r (AreObjects p.types p.heap v.shades) → OnOk r (HaveWholeObjects p.types p.heap v.shades)
-        → OnOk r (IsCounted (objects_in p.types p.heap) v)
+        → OnOk r (HasBegun p.types p.space.heap p.roots.handles p.roots.locals.items p.roots.finals.ready v.shades)
+        → OnOk r (AreObjects p.types p.space.heap v.shades) → OnOk r (HaveWholeObjects p.types p.space.heap v.shades)
+        → OnOk r (IsCounted (objects_in p.types p.space.heap) v)
         → OnOk r ((marking : Marking) × IsBegun (seen p) marking
         × (seen (record p { background = v }) ≡ record (seen p) { background = Some marking }))
     begun_ok = go r
       where
         go : (r : Result (Unit {0}) E) → OnOk r (v.running ≡ true)
-            → OnOk r (HasBegun p.types p.heap p.handles p.locals.items p.finals.ready v.shades)
-            → OnOk r (AreObjects p.types p.heap v.shades) → OnOk r (HaveWholeObjects p.types p.heap v.shades)
-            → OnOk r (IsCounted (objects_in p.types p.heap) v)
+            → OnOk r (HasBegun p.types p.space.heap p.roots.handles p.roots.locals.items p.roots.finals.ready v.shades)
+            → OnOk r (AreObjects p.types p.space.heap v.shades)
+            → OnOk r (HaveWholeObjects p.types p.space.heap v.shades)
+            → OnOk r (IsCounted (objects_in p.types p.space.heap) v)
             → OnOk r ((marking : Marking) × IsBegun (seen p) marking
             × (seen (record p { background = v }) ≡ record (seen p) { background = Some marking }))
         go (Ok done) running begun known whole counted = begun_answer v running begun known whole counted
         go (Err fault) running begun known whole counted = tt
 
     pub begun_runtime : OnOk r (v.running ≡ true)
-        → OnOk r (HasBegun p.types p.heap p.handles p.locals.items p.finals.ready v.shades)
-        → OnOk r (AreObjects p.types p.heap v.shades) → OnOk r (HaveWholeObjects p.types p.heap v.shades)
-        → OnOk r (IsCounted (objects_in p.types p.heap) v) → OnErr r (v ≡ p.background)
+        → OnOk r (HasBegun p.types p.space.heap p.roots.handles p.roots.locals.items p.roots.finals.ready v.shades)
+        → OnOk r (AreObjects p.types p.space.heap v.shades) → OnOk r (HaveWholeObjects p.types p.space.heap v.shades)
+        → OnOk r (IsCounted (objects_in p.types p.space.heap) v) → OnErr r (v ≡ p.background)
         → IsRuntime (record p { background = v })
     begun_runtime = go r
       where
         go : (r : Result (Unit {0}) E) → OnOk r (v.running ≡ true)
-            → OnOk r (HasBegun p.types p.heap p.handles p.locals.items p.finals.ready v.shades)
-            → OnOk r (AreObjects p.types p.heap v.shades) → OnOk r (HaveWholeObjects p.types p.heap v.shades)
-            → OnOk r (IsCounted (objects_in p.types p.heap) v) → OnErr r (v ≡ p.background)
+            → OnOk r (HasBegun p.types p.space.heap p.roots.handles p.roots.locals.items p.roots.finals.ready v.shades)
+            → OnOk r (AreObjects p.types p.space.heap v.shades)
+            → OnOk r (HaveWholeObjects p.types p.space.heap v.shades)
+            → OnOk r (IsCounted (objects_in p.types p.space.heap) v) → OnErr r (v ≡ p.background)
             → IsRuntime (record p { background = v })
         go (Ok done) running begun known whole counted same = begun_kept v running begun known whole counted
         go (Err fault) running begun known whole counted same =
@@ -277,19 +281,19 @@ module _ (p : Parts) (is : IsRuntime p) (heap : IsHeap p.heap) where
     pub runs_seen : (seen p).background ≡ Some (marking_by p.background.shades)
     runs_seen = running_marking p.background runs
 
-    pub parts_objects : AreObjects p.types p.heap p.background.shades
+    pub parts_objects : AreObjects p.types p.space.heap p.background.shades
     parts_objects =
-        coloured_objects (seen p) is.shown.sound p.types p.heap refl p.background.shades runs_seen so_far.colours
+        coloured_objects (seen p) is.shown.sound p.types p.space.heap refl p.background.shades runs_seen so_far.colours
 
-    pub parts_whole : HaveWholeObjects p.types p.heap p.background.shades
+    pub parts_whole : HaveWholeObjects p.types p.space.heap p.background.shades
     parts_whole = slots_whole p.background.shades so_far.colours parts_objects so_far.slots
 
-    pub same_old : marking_by p.background.shades ≡ marking_in (objects_in p.types p.heap) p.background.shades
-    same_old = marking_is p.types p.heap heap is.shown.held old_shades parts_objects
+    pub same_old : marking_by p.background.shades ≡ marking_in (objects_in p.types p.space.heap) p.background.shades
+    same_old = marking_is p.types p.space.heap is.heap is.shown.held old_shades parts_objects
 
     -- no thread is between the halves of a step: what black objects name is gray or black, or logged
     pub parts_log : lowest_in_step (seen p) ≡ None
-        → LogHolds p.types (objects_in p.types p.heap) p.background.shades
+        → LogHolds p.types (objects_in p.types p.space.heap) p.background.shades
     parts_log idle = (
       seen p,
       refl,
@@ -298,17 +302,17 @@ module _ (p : Parts) (is : IsRuntime p) (heap : IsHeap p.heap) where
           (strict_log_holds (seen p) (marking_by old_shades) (is_logged old_shades) idle so_far.log),
     )
 
-    pub parts_counted : IsCounted (objects_in p.types p.heap) p.background
+    pub parts_counted : IsCounted (objects_in p.types p.space.heap) p.background
     parts_counted = so_far.counted ∙ ap (λ (k : Marking). length k.gray) same_old
 
     module _ (v : BackgroundView) (n scanned gray : ℕ) (running : v.running ≡ p.background.running)
-        (known : AreObjects p.types p.heap v.shades) (whole : HaveWholeObjects p.types p.heap v.shades)
-        (counted : IsCounted (objects_in p.types p.heap) v)
-        (log : HasLogged p.types (objects_in p.types p.heap) p.background.shades v.shades)
-        (scans : HasScanned (objects_in p.types p.heap) n p.background.shades scanned v.shades)
-        (left : gray ≡ length (marking_in (objects_in p.types p.heap) v.shades).gray) where
+        (known : AreObjects p.types p.space.heap v.shades) (whole : HaveWholeObjects p.types p.space.heap v.shades)
+        (counted : IsCounted (objects_in p.types p.space.heap) v)
+        (log : HasLogged p.types (objects_in p.types p.space.heap) p.background.shades v.shades)
+        (scans : HasScanned (objects_in p.types p.space.heap) n p.background.shades scanned v.shades)
+        (left : gray ≡ length (marking_in (objects_in p.types p.space.heap) v.shades).gray) where
       same_new : marking_by v.shades ≡ marking_in objects v.shades
-      same_new = marking_is p.types p.heap heap is.shown.held v.shades known
+      same_new = marking_is p.types p.space.heap is.heap is.shown.held v.shades known
 
       scans_seen : ScansUpTo (seen p) n (marking_by old_shades) scanned (marking_by v.shades)
       scans_seen =
@@ -342,7 +346,7 @@ module _ (p : Parts) (is : IsRuntime p) (heap : IsHeap p.heap) where
 
       scanned_marked : IsMarkedSoFar (seen (record p { background = v })) v
       scanned_marked =
-          let colours = objects_coloured p.types p.heap heap is.shown.held v.shades known in
+          let colours = objects_coloured p.types p.space.heap is.heap is.shown.held v.shades known in
           record {
             colours = colours;
             counted = counted ∙ sym (ap (λ (k : Marking). length k.gray) same_new);
@@ -359,11 +363,12 @@ module _ (p : Parts) (is : IsRuntime p) (heap : IsHeap p.heap) where
           free_heads = is.shown.free_heads;
           clean = is.shown.clean;
           sound = subst IsPlaceNamed (sym scanned_seen)
-              (remarked_place_named (seen p) is.shown.sound p.compact_large (Some (marking_by v.shades))
+              (remarked_place_named (seen p) is.shown.sound p.workshop.compacts_large (Some (marking_by v.shades))
               (scans_lawful (seen p) n (marking_by old_shades) scanned (marking_by v.shades)
               (subst (λ r. IfSome r (IsLawfulMarking (seen p))) runs_seen is.shown.sound.lawful.marking) scans_seen));
           marked = λ running. scanned_marked;
         };
+        heap = is.heap;
         tables = is.tables;
         owed = is.owed;
         finalizers = is.finalizers;
@@ -371,6 +376,5 @@ module _ (p : Parts) (is : IsRuntime p) (heap : IsHeap p.heap) where
         large = is.large;
         pinned = is.pinned;
         limit = is.limit;
-        pins = is.pins;
-        room = is.room;
+        ready = is.ready;
       }

@@ -134,7 +134,7 @@ module _ (p : Parts) (t local : ℕ) (type : TypeId) (len : ℕ) (finalizer : Bo
 
     -- and what holds of every runtime still holds
     pub birth_begun_kept : IsRuntime p → is_thread t ≡ true → is_step (step_by (begun_by p.safe t)) ≡ false
-        → (finalizer ≡ true → births_owed p.safe + 1 ≤ p.finals.spare)
+        → (finalizer ≡ true → births_owed p.safe + 1 ≤ p.roots.finals.spare)
         → finalizer ≡ has_finalizer (type_row p.types type.0) → IsRuntime (record p { safe = next })
     birth_begun_kept is thread idle more final =
         subst (λ (threads : Threads). IsRuntime (record p { safe = threads })) (sym same)
@@ -142,16 +142,17 @@ module _ (p : Parts) (t local : ℕ) (type : TypeId) (len : ℕ) (finalizer : Bo
           shown = threads_kept is.shown (with_begun p.safe t what)
               (stores-begun p.safe t what (idle-no_store p.safe t idle))
               (follows_sound old (begin_new t local name given) (answered Done) _ has.sound birth-begun);
-          tables = tables-by p.types p.heap p.cards p.bricks (IsToldBy p.types p.heap p.cards p.safe)
-              (IsToldBy p.types p.heap p.cards (with_begun p.safe t what))
-              (told-begun p.types p.heap p.cards p.safe t what (idle-no_store p.safe t idle)) is.tables;
-          owed = owed-begun p.safe.begun (t - 1) type len local p.finals.spare finalizer
+          heap = is.heap;
+          tables = tables-by p.types p.space.heap p.space.cards p.space.bricks
+              (IsToldBy p.types p.space.heap p.space.cards p.safe)
+              (IsToldBy p.types p.space.heap p.space.cards (with_begun p.safe t what))
+              (told-begun p.types p.space.heap p.space.cards p.safe t what (idle-no_store p.safe t idle)) is.tables;
+          owed = owed-begun p.safe.begun (t - 1) type len local p.roots.finals.spare finalizer
               (begun-within is.shown t thread) more is.owed;
           finalizers = finalizers-begun p.types p.safe t what is.finalizers final;
           index = is.index;
           large = is.large;
           pinned = is.pinned;
           limit = is.limit;
-          pins = is.pins;
-          room = is.room;
+          ready = is.ready;
         })

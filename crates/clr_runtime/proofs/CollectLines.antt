@@ -217,40 +217,34 @@ abbrev pub Told : World → Sums → Options → Threads → Ahead → ℕ → H
 Told w sums options threads ahead g how new answer =
     (after : Machine) × Collects (shown w sums options threads ahead) g how answer after × IsWorldOf new (picture after)
 
--- it is what a collection tells of all machines that have this world, whose locals may have another spelling
+-- it is what a collection tells of all machines that have this world
 pub told_of : (w : World) (sums : Sums) (options : Options) (threads : Threads) (ahead : Ahead)
     → IsShown w sums options threads ahead
-    → lowest_step_from 1 (steps_of threads) ≡ None → (g : ℕ) (how : How) (locals : List ℕ) → locals ≡ w.locals
-    → (new : World) (answer : Collected) (before after : ℕ)
-    → ((m : Machine) → IsWorldOf (record w { locals = locals }) m → IsPlaceNamed m → lowest_in_step m ≡ None
+    → lowest_step_from 1 (steps_of threads) ≡ None → (g : ℕ) (how : How) (new : World) (answer : Collected)
+    (before after : ℕ)
+    → ((m : Machine) → IsWorldOf w m → IsPlaceNamed m → lowest_in_step m ≡ None
     → m.compacts_large ≡ ahead.compacts_large → m.options.compact ≡ options.compact → (left : Machine)
     × (c : Collects m g how answer left)
     × IsWorldOf new (picture left) × CountsSlides c.collects.moves answer before after)
     → Told w sums options threads ahead g how new answer
-told_of w sums options threads ahead is idle g how locals same new answer before after collected =
+told_of w sums options threads ahead is idle g how new answer before after collected =
     let (left, collects, world, counts) =
-    collected (shown w sums options threads ahead)
-    (subst (λ (ls : List ℕ). IsWorldOf (record w { locals = ls }) (shown w sums options threads ahead)) (sym same)
-    (world-seen threads ahead))
-    is.sound idle refl refl in
+    collected (shown w sums options threads ahead) (world-seen threads ahead) is.sound idle refl refl in
     (left, collects, world)
 
 -- and a compaction is counted
 pub counts_of : (w : World) (sums : Sums) (options : Options) (threads : Threads) (ahead : Ahead)
     → IsShown w sums options threads ahead
-    → lowest_step_from 1 (steps_of threads) ≡ None → (g : ℕ) (how : How) (locals : List ℕ) → locals ≡ w.locals
-    → (new : World) (answer : Collected) (before after : ℕ)
-    → ((m : Machine) → IsWorldOf (record w { locals = locals }) m → IsPlaceNamed m → lowest_in_step m ≡ None
+    → lowest_step_from 1 (steps_of threads) ≡ None → (g : ℕ) (how : How) (new : World) (answer : Collected)
+    (before after : ℕ)
+    → ((m : Machine) → IsWorldOf w m → IsPlaceNamed m → lowest_in_step m ≡ None
     → m.compacts_large ≡ ahead.compacts_large → m.options.compact ≡ options.compact → (left : Machine)
     × (c : Collects m g how answer left)
     × IsWorldOf new (picture left) × CountsSlides c.collects.moves answer before after)
     → CountsCollection answer.compacted before after
-counts_of w sums options threads ahead is idle g how locals same new answer before after collected =
+counts_of w sums options threads ahead is idle g how new answer before after collected =
     let (left, collects, world, counts) =
-    collected (shown w sums options threads ahead)
-    (subst (λ (ls : List ℕ). IsWorldOf (record w { locals = ls }) (shown w sums options threads ahead)) (sym same)
-    (world-seen threads ahead))
-    is.sound idle refl refl in
+    collected (shown w sums options threads ahead) (world-seen threads ahead) is.sound idle refl refl in
     counted_slides collects.collects.moves answer before after counts
 
 -- what a collection leaves of what is seen of a background collection
@@ -318,7 +312,7 @@ module _ {w : World} {sums : Sums} {options : Options} {threads : Threads} {ahea
       (ne_eqb g 2 other) bounded-after.second
 
   -- as many locals as before
-  pub locals-after : length new.locals ≡ 1024
+  locals-after : length new.locals ≡ 1024
   locals-after =
       let (after, collects, world) = told in
       ap length (sym world.locals)

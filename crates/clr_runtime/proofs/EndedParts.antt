@@ -1,5 +1,5 @@
 -- The last pause of a background collection, on what is seen, and what it leaves of the parts of a runtime.
-use Rattle.std.proofs.Common.{◌≡◌, ◌∙◌, ℕ, ◌+◌, ◌==◌, true, false, List, length, map, refl, sym, ap, subst}
+use Rattle.std.proofs.Common.{◌≡◌, ◌∙◌, ◌+◌, ◌==◌, true, false, length, map, refl, sym, ap, subst}
 use Rattle.std.proofs.Common.{Option}
 use Rattle.std.proofs.Common.{None, Some}
 use Rattle.std.specs.Option.{option_map}
@@ -82,24 +82,18 @@ module _ (m : Machine) (marking : Marking) (answer : Collected) (after : Machine
         background = ended-none k;
       }
 
--- it is what the last pause tells of all machines that have this world, whose locals may have another spelling
+-- it is what the last pause tells of all machines that have this world
 pub ended_told : (w : World) (sums : Sums) (options : Options) (threads : Threads) (ahead : Ahead)
-    → IsShown w sums options threads ahead → lowest_step_from 1 (steps_of threads) ≡ None → (locals : List ℕ)
-    → locals ≡ w.locals → (told k : Marking) → told ≡ k → (new : List ℕ → World) (answer : Collected)
-    → ((m : Machine) → IsWorldOf (record w { locals = locals }) m → IsPlaceNamed m → lowest_in_step m ≡ None
-    → (after : Machine) × EndsBackground m told answer after × IsWorldOf (new locals) (picture after))
+    → IsShown w sums options threads ahead → lowest_step_from 1 (steps_of threads) ≡ None → (told k : Marking)
+    → told ≡ k → (new : World) (answer : Collected)
+    → ((m : Machine) → IsWorldOf w m → IsPlaceNamed m → lowest_in_step m ≡ None
+    → (after : Machine) × EndsBackground m told answer after × IsWorldOf new (picture after))
     → (after : Machine) × EndsBackground (shown w sums options threads ahead) k answer after
-    × IsWorldOf (new w.locals) (picture after)
-ended_told w sums options threads ahead is idle locals same told k told_is new answer ended =
+    × IsWorldOf new (picture after)
+ended_told w sums options threads ahead is idle told k told_is new answer ended =
     let s = shown w sums options threads ahead in
-    let (after, c, world) =
-    ended s
-    (subst (λ (ls : List ℕ). IsWorldOf (record w { locals = ls }) s) (sym same) (world-seen threads ahead))
-    is.sound idle in (
-      after,
-      subst (λ l. EndsBackground s l answer after) told_is c,
-      subst (λ (ls : List ℕ). IsWorldOf (new ls) (picture after)) same world,
-    )
+    let (after, c, world) = ended s (world-seen threads ahead) is.sound idle in
+    (after, subst (λ l. EndsBackground s l answer after) told_is c, world)
 
 -- what lies ahead when none runs any more
 abbrev pub ended_ahead : Ahead → Ahead

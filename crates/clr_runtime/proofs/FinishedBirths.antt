@@ -79,7 +79,7 @@ module _ (p : Parts) (is : IsRuntime p) (t : ℕ) (thread : is_thread t ≡ true
         free = λ none. absurd (omega (arith, low, none));
       }
 
-  pub birth_room : own_fits (frame p.heap) t (size_of (form_at p.types type.0) len) ≡ true
+  pub birth_room : own_fits (frame p.space.heap) t (size_of (form_at p.types type.0) len) ≡ true
   birth_room = birth_may.fits
 
   -- what was owed is paid
@@ -87,15 +87,15 @@ module _ (p : Parts) (is : IsRuntime p) (t : ℕ) (thread : is_thread t ≡ true
   paid final =
       owed-paid p.safe.begun (t - 1) Nothing (begun-within is.shown t thread) (ap owes_entry begun ∙ final) refl
 
-  pub birth_entry : finalizer ≡ true → 1 ≤ p.finals.spare
+  pub birth_entry : finalizer ≡ true → 1 ≤ p.roots.finals.spare
   birth_entry final = let one = paid final in let owed = is.owed in omega (arith, one, owed)
 
   -- and what the other threads owe still has its room
-  pub birth_owed : (left : ℕ) → left + (if finalizer then 1 else 0) ≡ p.finals.spare
+  pub birth_owed : (left : ℕ) → left + (if finalizer then 1 else 0) ≡ p.roots.finals.spare
       → births_owed (with_begun p.safe t Nothing) ≤ left
   birth_owed left taken = go finalizer refl taken
     where
-      go : (b : Bool) → finalizer ≡ b → left + (if b then 1 else 0) ≡ p.finals.spare
+      go : (b : Bool) → finalizer ≡ b → left + (if b then 1 else 0) ≡ p.roots.finals.spare
           → births_owed (with_begun p.safe t Nothing) ≤ left
       go true e taken = let one = paid e in let owed = is.owed in omega (arith, one, owed, taken)
       go false e taken =
@@ -112,13 +112,13 @@ module _ (p : Parts) (is : IsRuntime p) (t : ℕ) (thread : is_thread t ≡ true
   -- ---- what is seen after the birth
 
   module _ (new : HeapView) (place j size : ℕ) (entries ready : List ℕ)
-      (newborn : HasNewborn p.types p.heap new t type.0 len) (at : place ≡ context_front (frame p.heap) t)
+      (newborn : HasNewborn p.types p.space.heap new t type.0 len) (at : place ≡ context_front (frame p.space.heap) t)
       (index : j ≡ local_index t local) (size_is : size ≡ size_of (form_at p.types type.0) len)
-      (registered : entries ≡ born_entries (seen p) type.0 place) (waiting : ready ≡ p.finals.ready) where
+      (registered : entries ≡ born_entries (seen p) type.0 place) (waiting : ready ≡ p.roots.finals.ready) where
     abbrev born_world : World
     born_world = record (world_of p) {
       heap = new;
-      locals = slice_set p.locals.items j place;
+      locals = slice_set p.roots.locals.items j place;
       entries = entries;
       ready = ready;
     }
@@ -129,11 +129,11 @@ module _ (p : Parts) (is : IsRuntime p) (t : ℕ) (thread : is_thread t ≡ true
 
     born-shown : seen_at_front (with_step (seen p) t no_step) t local type.0 len ≡ after
     born-shown =
-        let listed : born_entries (seen p) type.0 (context_front (frame p.heap) t) ≡ entries =
+        let listed : born_entries (seen p) type.0 (context_front (frame p.space.heap) t) ≡ entries =
         ap (born_entries (seen p) type.0) (sym at) ∙ sym registered in
         λ k. record after {
           objects = sym newborn.objects k;
-          locals = slice_set p.locals.items (sym index k) (sym at k);
+          locals = slice_set p.roots.locals.items (sym index k) (sym at k);
           entries = listed k;
           ready = sym waiting k;
           steps = sym (steps_of-set p.safe.begun (t - 1) Nothing) k;
@@ -145,26 +145,27 @@ module _ (p : Parts) (is : IsRuntime p) (t : ℕ) (thread : is_thread t ≡ true
     pub birth_finished : Follows (seen p) (finish_step t) (answered (Place place))
         (shown (record (world_of p) {
           heap = new;
-          locals = slice_set p.locals.items j place;
+          locals = slice_set p.roots.locals.items j place;
           entries = entries;
           ready = ready;
         }) (spent_more (sums_of p.sums) size) (options_of p.options) (with_begun p.safe t Nothing) (ahead_of p))
     birth_finished =
         subst (λ n. Follows (seen p) (finish_step t) (answered (Place n)) after) (sym at)
-        (subst (Follows (seen p) (finish_step t) (answered (Place (context_front (frame p.heap) t)))) born-shown
+        (subst (Follows (seen p) (finish_step t) (answered (Place (context_front (frame p.space.heap) t)))) born-shown
         (finish_birth_done (seen p) t type.0 len local thread birth-step))
 
     -- and what holds of the parts of a runtime still holds
-    pub birth_finished_shown : (IsUnmarked p.types p.heap → IsUnmarked p.types new)
-        → (AreFreeHeads p.types p.heap → AreFreeHeads p.types new) → (AreClean p.types p.heap → AreClean p.types new)
+    pub birth_finished_shown : (IsUnmarked p.types p.space.heap → IsUnmarked p.types new)
+        → (AreFreeHeads p.types p.space.heap → AreFreeHeads p.types new)
+        → (AreClean p.types p.space.heap → AreClean p.types new)
         → IsShown (record (world_of p) {
           heap = new;
-          locals = slice_set p.locals.items j place;
+          locals = slice_set p.roots.locals.items j place;
           entries = entries;
           ready = ready;
         }) (spent_more (sums_of p.sums) size) (options_of p.options) (with_begun p.safe t Nothing) (ahead_of p)
     birth_finished_shown unmarked heads clean = record {
-      locals = length-slice_set p.locals.items j place ∙ is.shown.locals;
+      locals = length-slice_set p.roots.locals.items j place ∙ is.shown.locals;
       held = newborn.held;
       unmarked = unmarked is.shown.unmarked;
       free_heads = heads is.shown.free_heads;

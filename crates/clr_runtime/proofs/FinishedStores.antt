@@ -56,7 +56,7 @@ module _ (p : Parts) (is : IsRuntime p) (t object index : ℕ) (thread : is_thre
         (ahead_of p) slot
 
     pub store_finished : Follows (seen p) (finish_step t) (answered Done)
-        (seen (record p { cards = after; safe = next; background = now }))
+        (seen (record p { space = record p.space { cards = after }; safe = next; background = now }))
     store_finished =
         subst (λ (threads : Threads). Follows (seen p) (finish_step t) (answered Done)
         (seen (record p { safe = threads; background = now }))) (sym same)
@@ -64,7 +64,7 @@ module _ (p : Parts) (is : IsRuntime p) (t object index : ℕ) (thread : is_thre
         (seen (record p { safe = with_begun p.safe t Nothing; background = v }))) (sym told_is)
         (subst (Follows (seen p) (finish_step t) (answered Done)) (sym logged-seen) finished))
 
-    module _ (item : Item) (at : IsObjectAt p.types p.heap object item) (place : Slot)
+    module _ (item : Item) (at : IsObjectAt p.types p.space.heap object item) (place : Slot)
         (told : IsSlot p.types item index place) (there : slot ≡ item.place + place.offset)
         (logged : IsCardLogged p.background slot) where
       -- the line completes the store into this slot alone
@@ -100,19 +100,24 @@ module _ (p : Parts) (is : IsRuntime p) (t object index : ℕ) (thread : is_thre
 
       -- and what holds of every runtime still holds
       pub store_finished_kept : ((i : ℕ) → is_card_set after i
-          ≡ ((i == (item.place + place.offset) / 2048) || is_card_set p.cards i))
-          → spans after ≡ spans p.cards → IsRuntime (record p { cards = after; safe = next; background = now })
+          ≡ ((i == (item.place + place.offset) / 2048) || is_card_set p.space.cards i))
+          → spans after ≡ spans p.space.cards
+          → IsRuntime (record p { space = record p.space { cards = after }; safe = next; background = now })
       store_finished_kept set_is spans_are =
-          subst (λ (threads : Threads). IsRuntime (record p { cards = after; safe = threads; background = now }))
+          subst
+          (λ (threads : Threads).
+          IsRuntime (record p { space = record p.space { cards = after }; safe = threads; background = now }))
           (sym same)
           (subst (λ (v : BackgroundView). IsRuntime (record p {
-            cards = after;
+            space = record p.space { cards = after };
             safe = with_begun p.safe t Nothing;
             background = v;
           })) (sym told_is)
           (record {
             shown = finished_shown;
-            tables = finished_tables is.shown t object index begun item at place told p.cards after set_is p.bricks
+            heap = is.heap;
+            tables = finished_tables is.shown t object index begun item at place told p.space.cards after set_is
+                p.space.bricks
                 spans_are is.tables;
             owed =
                 let owed = is.owed in
@@ -123,6 +128,5 @@ module _ (p : Parts) (is : IsRuntime p) (t object index : ℕ) (thread : is_thre
             large = is.large;
             pinned = is.pinned;
             limit = is.limit;
-            pins = is.pins;
-            room = is.room;
+            ready = is.ready;
           }))

@@ -19,7 +19,10 @@ pub mod BackgroundParts
 pub mod EndedParts
 pub mod CollectLines
 pub mod LimitKept
+pub mod HeapKept
+pub mod TidyParts
 pub mod TypeNumbers
+pub mod RecentNames
 pub mod RefillKept
 pub mod SealedParts
 pub mod RoomMade

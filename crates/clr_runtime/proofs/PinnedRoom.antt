@@ -1,5 +1,5 @@
 -- Room for the words that a compaction saves, as handles come and go.
-use Rattle.std.proofs.Common.{◌≡◌, ℕ, ◌+◌, ◌<◌, ◌≤◌, refl, sym, ap, ◌∙◌, inl, inr, arith, Option, Some, None}
+use Rattle.std.proofs.Common.{◌≡◌, ℕ, ◌+◌, ◌<◌, ◌≤◌, refl, sym, ap, subst, ◌∙◌, [], inl, inr, arith, Option, Some, None}
 use Rattle.std.specs.FinMap as finmap
 use Rattle.std.specs.FinMap.{FinMap}
 use Rattle.std.specs.Ordering.{nat_cmp}
@@ -10,30 +10,41 @@ use Rattle.clr_handles.specs.declared.fault.CreateFault.TheVariants as fault
 use Rattle.clr_types.specs.declared.handle.Handle.{Handle}
 use Rattle.clr_types.proofs.MapValues.{map_values-same}
 use Rattle.clr_handles.specs.Tops.{pinned_in}
+use Rattle.clr_pinq.specs.Queue.{QueueView}
+use Rattle.clr_survivors.specs.Moving.{IsReadyFor}
 use Rattle.clr_handles.proofs.Lookups.{get-insert_other, get-remove_other, get-removed, len-inserted}
 use Rattle.clr_handles.proofs.PinnedCounts.{pinned-empty, pinned-freed, pinned-le-len}
 use Rattle.clr_runtime.proofs.HandleLines.{removed-none}
 
--- after a handle was freed there is as much
-pub room_kept : (old new : FinMap nat_cmp Handle) (h spare : ℕ) → new ≡ finmap.remove old h
-    → pinned_in old + 4 ≤ spare → pinned_in new + 4 ≤ spare
-room_kept old new h spare freed room = go (finmap.get old h) refl
+-- after a handle was freed the queue is ready
+pub ready_freed : (old new : FinMap nat_cmp Handle) (h : ℕ) (pins : QueueView) → new ≡ finmap.remove old h
+    → IsReadyFor old pins → IsReadyFor new pins
+ready_freed old new h pins freed ready = record { empty = ready.empty; room = go (finmap.get old h) refl }
   where
-    go : (o : Option Handle) → finmap.get old h ≡ o → pinned_in new + 4 ≤ spare
+    go : (o : Option Handle) → finmap.get old h ≡ o → pinned_in new + 4 ≤ pins.spare
     go None none =
         let same = ap pinned_in (freed ∙ removed-none old h none) in
+        let room = ready.room in
         omega (arith, same, room)
     go (Some row) here =
         let less = pinned-freed old new h row (pinned_in old) _ here freed refl refl in
+        let room = ready.room in
         omega (arith, less, room)
 
+-- where as many handles are pinned, the same queue is ready
+pub ready_on : (old new : FinMap nat_cmp Handle) (pins after : QueueView) → after ≡ pins
+    → pinned_in new ≡ pinned_in old → IsReadyFor old pins → IsReadyFor new after
+ready_on old new pins after same pinned ready =
+    subst (IsReadyFor new) (sym same)
+    (record { empty = ready.empty; room = subst (λ n. n + 4 ≤ pins.spare) (sym pinned) ready.room })
+
 -- without handles none is pinned
-pub room_empty : (table : FinMap nat_cmp Handle) (spare : ℕ) → table ≡ finmap.empty → 4 ≤ spare
-    → pinned_in table + 4 ≤ spare
-room_empty table spare none room =
+pub ready_empty : (table : FinMap nat_cmp Handle) (pins : QueueView) → table ≡ finmap.empty → pins.entries ≡ []
+    → 4 ≤ pins.spare → IsReadyFor table pins
+ready_empty table pins none empty room =
     let same = ap pinned_in none in
     let zero = pinned-empty in
-    omega (arith, same, zero, room)
+    record { empty = empty; room = omega (arith, same, zero, room) }
 
 -- few are pinned after one was made
 pub few-made : (old new : FinMap nat_cmp Handle) (h : ℕ) (row : Handle) → finmap.get old h ≡ None

@@ -88,42 +88,45 @@ module _ {w : World} {sums : Sums} {options : Options} {threads : Threads} {ahea
 
 -- ---- what a refill answers
 
-module _ (p : Parts) (is : IsRuntime p) (heap : IsHeap p.heap) (t size : ℕ) (low : 0 < t) (high : t ≤ 16)
+-- the parts with another heap and another index of the contexts
+abbrev pub relaid_parts : Parts → HeapView → Option (List Piece) → Parts
+relaid_parts p heap index = record p {
+  space = record p.space { heap = heap };
+  workshop = record p.workshop { contexts = index };
+}
+
+module _ (p : Parts) (is : IsRuntime p) (t size : ℕ) (low : 0 < t) (high : t ≤ 16)
     (idle : is_step (step_of (seen p) t) ≡ false) (sized : IsLawfulSize size) (mid : HeapView)
     (index : Option (List Piece)) where
-  -- the parts with another heap and another index
-  abbrev relaid_parts : Parts
-  relaid_parts = record p { heap = mid; contexts = index }
-
   -- A refill gives the thread a new context, or nothing has changed. What holds of a runtime holds of its parts.
   pub refill_answers : (r : Option (Unit {0}))
-      → (r ≡ None → (has_room (layout_in p.types p.heap) size ≡ false) × (mid ≡ p.heap) × (index ≡ p.contexts))
-      → IfSome r (λ _. HasRefilled p.types p.heap mid t size) → IsIndex p.types mid index
-      → IsRefill p (record p { heap = mid; contexts = index }) t size (is_some r)
-      × IsRuntime (record p { heap = mid; contexts = index })
-  refill_answers None none some listed =
+      → (r ≡ None → (has_room (layout_in p.types p.space.heap) size ≡ false) × (mid ≡ p.space.heap)
+      × (index ≡ p.workshop.contexts))
+      → IfSome r (λ _. HasRefilled p.types p.space.heap mid t size) → IsIndex p.types mid index → IsHeap mid
+      → IsRefill p (relaid_parts p mid index) t size (is_some r) × IsRuntime (relaid_parts p mid index)
+  refill_answers None none some listed heap =
       let (full, same, kept) = none refl in
-      let parts : relaid_parts ≡ p = λ k. record p { heap = same k; contexts = kept k } in
+      let parts : relaid_parts p mid index ≡ p = λ k. relaid_parts p (same k) (kept k) in
       ((full, parts), subst IsRuntime (sym parts) is)
-  refill_answers (Some _) none refilled listed = (
+  refill_answers (Some _) none refilled listed heap = (
     has_context is.shown t size low high idle sized mid refilled,
     record {
-      shown = refill_kept is.shown t size low high idle sized mid refilled heap;
-      tables = tables-told p.cards p.safe p.bricks p.types p.types p.heap mid
-          (stayed-same p.types (objects_in p.types p.heap) (objects_in p.types mid) refilled.objects)
-          (tables-refilled p.cards p.bricks p.types p.heap mid t size refilled is.tables);
+      shown = refill_kept is.shown t size low high idle sized mid refilled is.heap;
+      heap = heap;
+      tables = tables-told p.space.cards p.safe p.space.bricks p.types p.types p.space.heap mid
+          (stayed-same p.types (objects_in p.types p.space.heap) (objects_in p.types mid) refilled.objects)
+          (tables-refilled p.space.cards p.space.bricks p.types p.space.heap mid t size refilled is.tables);
       owed = is.owed;
       finalizers = is.finalizers;
       index = listed;
-      large = index_kept (kind_items Large) p.types p.types p.heap mid p.large
+      large = index_kept (kind_items Large) p.types p.types p.space.heap mid p.large
           (kind_refilled (seen p) is.shown.sound.lawful Large refl t size (layout_in p.types mid) refilled.layout)
           is.large;
-      pinned = index_kept (kind_items Pinned) p.types p.types p.heap mid p.pinned
+      pinned = index_kept (kind_items Pinned) p.types p.types p.space.heap mid p.pinned
           (kind_refilled (seen p) is.shown.sound.lawful Pinned refl t size (layout_in p.types mid) refilled.layout)
           is.pinned;
       limit = refilled.limit ∙ is.limit;
-      pins = is.pins;
-      room = is.room;
+      ready = is.ready;
     },
   )
 

@@ -148,10 +148,13 @@ owed_left true owed spare left more within taken = let entry = more refl in omeg
 owed_left false owed spare left more within taken = omega (arith, within, taken)
 
 -- room was made for entries in the finalisation queue of a runtime
-pub reserved_kept : (p : Parts) (finals : Queues) → finals.entries ≡ p.finals.entries → finals.ready ≡ p.finals.ready
-    → p.finals.spare ≤ finals.spare → IsRuntime p → IsRuntime (record p { finals = finals })
+pub reserved_kept : (p : Parts) (finals : Queues) → finals.entries ≡ p.roots.finals.entries
+    → finals.ready ≡ p.roots.finals.ready
+    → p.roots.finals.spare ≤ finals.spare → IsRuntime p
+    → IsRuntime (record p { roots = record p.roots { finals = finals } })
 reserved_kept p finals same waiting more is = record {
   shown = room_kept is.shown finals.entries finals.ready same waiting;
+  heap = is.heap;
   tables = is.tables;
   owed = let owed = is.owed in omega (arith, owed, more);
   finalizers = is.finalizers;
@@ -159,6 +162,5 @@ reserved_kept p finals same waiting more is = record {
   large = is.large;
   pinned = is.pinned;
   limit = is.limit;
-  pins = is.pins;
-  room = is.room;
+  ready = is.ready;
 }

@@ -42,30 +42,31 @@ ephemeral-sealed layout size =
 -- ---- the limit
 
 module _ (p : Parts) (is : IsRuntime p) (result : Result (Unit {0}) AcquireFault)
-    (over : (result ≡ Err OverLimit) ↔ (p.heap.limit < reserved_sum (frame p.heap) + p.options.segment)) where
+    (over : (result ≡ Err OverLimit)
+    ↔ (p.space.heap.limit < reserved_sum (frame p.space.heap) + p.options.segment)) where
   -- where sealing doesn't come to it, it allows the segment
   pub segment_allowed : (result ≡ Err OverLimit → ⊥)
-      → reserved_sum (frame p.heap) + p.options.segment ≤ p.options.limit
-  segment_allowed other = elim (cases_lt p.heap.limit (reserved_sum (frame p.heap) + p.options.segment)) [
+      → reserved_sum (frame p.space.heap) + p.options.segment ≤ p.options.limit
+  segment_allowed other = elim (cases_lt p.space.heap.limit (reserved_sum (frame p.space.heap) + p.options.segment)) [
     | inl above ↦ absurd (other (over.1 above))
-    | inr within ↦ subst (λ (l : ℕ). reserved_sum (frame p.heap) + p.options.segment ≤ l) is.limit within
+    | inr within ↦ subst (λ (l : ℕ). reserved_sum (frame p.space.heap) + p.options.segment ≤ l) is.limit within
   ]
 
 -- ---- what still holds
 
-module _ (p : Parts) (is : IsRuntime p) (bare : p.heap.rests ≡ no_rests)
-    (within : reserved_sum (frame p.heap) + p.options.segment ≤ p.options.limit) (new : HeapView)
-    (objects : objects_in p.types new ≡ objects_in p.types p.heap)
-    (layout : layout_in p.types new ≡ sealed (layout_in p.types p.heap) p.options.segment) where
-  sealed-shown : seen (record p { heap = new }) ≡ with_new_segment (seen p)
+module _ (p : Parts) (is : IsRuntime p) (bare : p.space.heap.rests ≡ no_rests)
+    (within : reserved_sum (frame p.space.heap) + p.options.segment ≤ p.options.limit) (new : HeapView)
+    (objects : objects_in p.types new ≡ objects_in p.types p.space.heap)
+    (layout : layout_in p.types new ≡ sealed (layout_in p.types p.space.heap) p.options.segment) where
+  sealed-shown : seen (record p { space = record p.space { heap = new } }) ≡ with_new_segment (seen p)
   sealed-shown = λ k. record (seen p) { objects = objects k; layout = layout k }
 
-  sealed-sound : IsPlaceNamed (seen (record p { heap = new }))
+  sealed-sound : IsPlaceNamed (seen (record p { space = record p.space { heap = new } }))
   sealed-sound =
       subst IsPlaceNamed (sym sealed-shown)
       (record {
         lawful = sealed_lawful (seen p) is.shown.sound.lawful (ap rest_pieces bare)
-            (le-leb (reserved_sum (frame p.heap) + p.options.segment) p.options.limit within);
+            (le-leb (reserved_sum (frame p.space.heap) + p.options.segment) p.options.limit within);
         places = is.shown.sound.places;
         uncounted = is.shown.sound.uncounted;
       })
@@ -75,15 +76,19 @@ module _ (p : Parts) (is : IsRuntime p) (bare : p.heap.rests ≡ no_rests)
   young-at_end =
       ap (λ (l : Layout). l.start0) layout
       ∙ sym (ap (λ (l : Layout). (ephemeral l).end) layout
-      ∙ ap (λ (s : SegInfo). s.end) (ephemeral-sealed (layout_in p.types p.heap) p.options.segment))
+      ∙ ap (λ (s : SegInfo). s.end) (ephemeral-sealed (layout_in p.types p.space.heap) p.options.segment))
 
   -- what holds of the parts of a runtime still holds, with the index of no free items
   pub sealed_kept : (cards : List (CoverView ℕ)) (bricks : List (CoverView ℤ)) → IsHeap new
-      → new ≡ acquired p.heap Ephemeral p.options.segment → IsHeld p.types new
-      → (IsUnmarked p.types p.heap → IsUnmarked p.types new)
-      → (AreFreeHeads p.types p.heap → AreFreeHeads p.types new) → (AreClean p.types p.heap → AreClean p.types new)
+      → new ≡ acquired p.space.heap Ephemeral p.options.segment → IsHeld p.types new
+      → (IsUnmarked p.types p.space.heap → IsUnmarked p.types new)
+      → (AreFreeHeads p.types p.space.heap → AreFreeHeads p.types new)
+      → (AreClean p.types p.space.heap → AreClean p.types new)
       → AreTablesOf p.types new cards bricks
-      → IsRuntime (record p { heap = new; cards = cards; bricks = bricks; contexts = Some [] })
+      → IsRuntime (record p {
+        space = record p.space { heap = new; cards = cards; bricks = bricks };
+        workshop = record p.workshop { contexts = Some [] };
+      })
   sealed_kept cards bricks heap words held unmarked heads clean tables = record {
     shown = record {
       locals = is.shown.locals;
@@ -92,20 +97,22 @@ module _ (p : Parts) (is : IsRuntime p) (bare : p.heap.rests ≡ no_rests)
       free_heads = heads is.shown.free_heads;
       clean = clean is.shown.clean;
       sound = sealed-sound;
-      marked = same_marked (seen p) (seen (record p { heap = new })) objects refl refl p.background is.shown.marked;
+      marked = same_marked (seen p) (seen (record p { space = record p.space { heap = new } })) objects refl refl
+          p.background is.shown.marked;
     };
+    heap = heap;
     tables = tables-carded cards p.safe bricks p.types new tables;
     owed = is.owed;
     finalizers = is.finalizers;
     index = sym (none_young p.types new heap held young-at_end);
-    large = index_kept (kind_items Large) p.types p.types p.heap new p.large
-        (ap (kind_items Large) layout ∙ kind_sealed Large refl (layout_in p.types p.heap) p.options.segment) is.large;
-    pinned = index_kept (kind_items Pinned) p.types p.types p.heap new p.pinned
-        (ap (kind_items Pinned) layout ∙ kind_sealed Pinned refl (layout_in p.types p.heap) p.options.segment)
+    large = index_kept (kind_items Large) p.types p.types p.space.heap new p.large
+        (ap (kind_items Large) layout ∙ kind_sealed Large refl (layout_in p.types p.space.heap) p.options.segment)
+        is.large;
+    pinned = index_kept (kind_items Pinned) p.types p.types p.space.heap new p.pinned
+        (ap (kind_items Pinned) layout ∙ kind_sealed Pinned refl (layout_in p.types p.space.heap) p.options.segment)
         is.pinned;
     limit = ap (λ (h : HeapView). h.limit) words ∙ is.limit;
-    pins = is.pins;
-    room = is.room;
+    ready = is.ready;
   }
 
 -- ---- a context in the new segment

@@ -99,7 +99,8 @@ pub slide_asked : (s : Machine) (t : ℕ) → MayRun s t
 slide_asked s t run = line_follows_done s (slide_of t) run tt refl _ _ (refl, refl)
 
 -- a runtime whose next full collection slides is one still
-pub slide_kept : (p : Parts) (t : ℕ) → MayRun (seen p) t → IsRuntime p → IsRuntime (record p { compact_large = true })
+pub slide_kept : (p : Parts) (t : ℕ) → MayRun (seen p) t → IsRuntime p
+    → IsRuntime (record p { workshop = record p.workshop { compacts_large = true } })
 slide_kept p t run is = record {
   shown = record {
     locals = is.shown.locals;
@@ -110,8 +111,10 @@ slide_kept p t run is = record {
     sound =
         follows_sound (seen p) (compact_large_once t) (answered Done) _ is.shown.sound (slide_asked (seen p) t run);
     marked =
-        same_marked (seen p) (seen (record p { compact_large = true })) refl refl refl p.background is.shown.marked;
+        same_marked (seen p) (seen (record p { workshop = record p.workshop { compacts_large = true } })) refl refl
+        refl p.background is.shown.marked;
   };
+  heap = is.heap;
   tables = is.tables;
   owed = is.owed;
   finalizers = is.finalizers;
@@ -119,6 +122,5 @@ slide_kept p t run is = record {
   large = is.large;
   pinned = is.pinned;
   limit = is.limit;
-  pins = is.pins;
-  room = is.room;
+  ready = is.ready;
 }

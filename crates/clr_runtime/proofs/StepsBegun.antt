@@ -147,17 +147,17 @@ held_kept : (p : Parts) (holder : Option ℕ)
     → IsRuntime p → IsRuntime (record p { safe = record p.safe { holder = holder } })
 held_kept p holder sound is = record {
   shown = threads_kept is.shown (record p.safe { holder = holder }) (λ name slot j. j) sound;
+  heap = is.heap;
   tables =
-      tables-by p.types p.heap p.cards p.bricks (IsToldBy p.types p.heap p.cards p.safe)
-      (IsToldBy p.types p.heap p.cards (record p.safe { holder = holder })) (λ a told. told) is.tables;
+      tables-by p.types p.space.heap p.space.cards p.space.bricks (IsToldBy p.types p.space.heap p.space.cards p.safe)
+      (IsToldBy p.types p.space.heap p.space.cards (record p.safe { holder = holder })) (λ a told. told) is.tables;
   owed = is.owed;
   finalizers = is.finalizers;
   index = is.index;
   large = is.large;
   pinned = is.pinned;
   limit = is.limit;
-  pins = is.pins;
-  room = is.room;
+  ready = is.ready;
 }
 
 module _ (p : Parts) (t : ℕ) (run : MayRun (seen p) t) (next : Threads) where

@@ -17,6 +17,11 @@ abbrev pub IsDefined : List TypeRow → List ℕ → Option TypeId → Type 0
 IsDefined rows name None = number_of rows name ≡ None
 IsDefined rows name (Some t) = (number_of rows name ≡ Some t.0) × (0 < t.0) × (t.0 ≤ length rows)
 
+-- the type of this name, where it is known
+abbrev pub IsKnown : List TypeRow → List ℕ → Option TypeId → Type 0
+IsKnown rows name None = Unit {0}
+IsKnown rows name (Some t) = IsDefined rows name (Some t)
+
 -- a class is made without a length, and an array with one
 abbrev pub suits : List TypeRow → ℕ → Option ℕ → Bool
 suits rows t len = if is_array (form_at rows t) then is_some len else is_none len

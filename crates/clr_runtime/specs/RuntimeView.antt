@@ -1,13 +1,13 @@
 -- What holds of the parts of a runtime, and the machine that they show.
-use Rattle.std.specs.Prelude.{◌≡◌, ℕ, ◌+◌, ◌/◌, ◌≤◌, ◌==◌, ◌&&◌, if◌then◌else◌, length, List, [], true, not, ◌⊎◌}
+use Rattle.std.specs.Prelude.{◌≡◌, ℕ, ◌+◌, ◌/◌, ◌≤◌, ◌==◌, ◌&&◌, if◌then◌else◌, length, List, true, not, ◌⊎◌}
 use Rattle.std.specs.List.{AllByRecursion}
 use Rattle.clr_types.specs.declared.segment.SegKind.TheVariants.{Large, Pinned}
 use Rattle.clr_types.specs.Rising.{IsIn}
 use Rattle.clr_types.specs.Types.{form_at, has_finalizer, slot_offset, type_row, TypeRow}
 use Rattle.clr_covers.specs.Covers.{CoverView}
 use Rattle.clr_cards.specs.Cards.{is_card_set}
-use Rattle.clr_heap.specs.View.{HeapView}
-use Rattle.clr_handles.specs.Tops.{pinned_in}
+use Rattle.clr_heap.specs.View.{HeapView, IsHeap}
+use Rattle.clr_survivors.specs.Moving.{IsReadyFor}
 use Rattle.clr_view.specs.Clean.{AreClean}
 use Rattle.clr_view.specs.Marks.{IsUnmarked}
 use Rattle.clr_runtime.specs.Marked.{IsMarkedSoFar}
@@ -48,16 +48,16 @@ collected_sums s g promoted1 promoted2 = record {
 abbrev pub world_of : Parts → World
 world_of r = record {
   rows = r.types;
-  heap = r.heap;
-  locals = r.locals.items;
-  handles = r.handles;
-  entries = r.finals.entries;
-  ready = r.finals.ready;
+  heap = r.space.heap;
+  locals = r.roots.locals.items;
+  handles = r.roots.handles;
+  entries = r.roots.finals.entries;
+  ready = r.roots.finals.ready;
 }
 
 -- what the next full collection is to do
 abbrev pub ahead_of : Parts → Ahead
-ahead_of r = record { compacts_large = r.compact_large; background = r.background }
+ahead_of r = record { compacts_large = r.workshop.compacts_large; background = r.background }
 
 -- what a later one is to do, after a collection of generation g
 abbrev pub ahead_after : Ahead → ℕ → Ahead
@@ -75,7 +75,7 @@ pub record RuntimeView : Type 0 where
   pub slides : ℕ
 
 abbrev pub viewed : Parts → RuntimeView
-viewed r = record { machine = seen r; slides = r.slides }
+viewed r = record { machine = seen r; slides = r.workshop.slides }
 
 -- its machine stands for another one
 abbrev pub StandsFor : RuntimeView → Machine → Type 0
@@ -113,18 +113,19 @@ TellsFinalizer rows Nothing = Unit {0}
 TellsFinalizer rows (Store object slot) = Unit {0}
 TellsFinalizer rows (Birth type len local finalizer) = finalizer ≡ has_finalizer (type_row rows type.0)
 
--- What holds of each runtime: that, its cards and bricks are those of its heap, its contexts and its large and pinned
--- items keep the indexes of this heap, and segments are limited as the options say. Cards tell all references to
--- younger objects but those of begun stores. There is room for the finalisation entries of the objects that are begun.
--- No words are saved, and there is room for what a collection saves.
+-- What holds of each runtime: that, its heap is lawful, its cards and bricks are those of this heap, its contexts and
+-- its large and pinned items keep its indexes, and segments are limited as the options say. Cards tell all references
+-- to younger objects but those of begun stores. There is room for the finalisation entries of the objects that are
+-- begun. No words are saved, and there is room for what a collection saves.
 pub record IsRuntime (r : Parts) : Type 0 where
   pub shown : IsShown (world_of r) (sums_of r.sums) (options_of r.options) r.safe (ahead_of r)
-  pub tables : AreTablesBy r.types r.heap r.cards r.bricks (IsToldBy r.types r.heap r.cards r.safe)
-  pub owed : births_owed r.safe ≤ r.finals.spare
+  pub heap : IsHeap r.space.heap
+  pub tables : AreTablesBy r.types r.space.heap r.space.cards r.space.bricks
+      (IsToldBy r.types r.space.heap r.space.cards r.safe)
+  pub owed : births_owed r.safe ≤ r.roots.finals.spare
   pub finalizers : AllByRecursion (TellsFinalizer r.types) r.safe.begun
-  pub index : IsIndex r.types r.heap r.contexts
-  pub large : IsKindIndex Large r.types r.heap r.large
-  pub pinned : IsKindIndex Pinned r.types r.heap r.pinned
-  pub limit : r.heap.limit ≡ r.options.limit
-  pub pins : r.pins.entries ≡ []
-  pub room : pinned_in r.handles + 4 ≤ r.pins.spare
+  pub index : IsIndex r.types r.space.heap r.workshop.contexts
+  pub large : IsKindIndex Large r.types r.space.heap r.large
+  pub pinned : IsKindIndex Pinned r.types r.space.heap r.pinned
+  pub limit : r.space.heap.limit ≡ r.options.limit
+  pub ready : IsReadyFor r.roots.handles r.workshop.pins

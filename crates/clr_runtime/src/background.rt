@@ -92,13 +92,12 @@ fn begin_marking(parts: &mut Parts) -> Result<(), NoMemory>
     ensures err { OnErr result (seen parts.new ≡ seen parts.old) }
     ensures runtime { IsRuntime parts.new }
 {
-    parts.heap.lawful();
     parts.background.begin(
-        &parts.heap,
+        &parts.space.heap,
         &parts.types,
-        &parts.handles,
-        &parts.locals,
-        parts.finals.ready(),
+        &parts.roots.handles,
+        &parts.roots.locals,
+        parts.roots.finals.ready(),
     )
 }
 
@@ -111,8 +110,7 @@ fn scan_gray(parts: &mut Parts, n: u64) -> Progress
         × (seen parts.new ≡ record (seen parts.old) { background = Some new }) }
     ensures runtime { IsRuntime parts.new }
 {
-    parts.heap.lawful();
-    parts.background.step(&parts.heap, &parts.types, n)
+    parts.background.step(&parts.space.heap, &parts.types, n)
 }
 
 // The last pause, where a background collection runs and no thread is in mid-step.
@@ -124,17 +122,11 @@ fn end_marking(parts: &mut Parts) -> Collected
         × (after : Machine) × EndsBackground (seen parts.old) marking result after × (seen parts.new ≡ picture after) }
     ensures runtime { IsRuntime parts.new }
 {
-    parts.heap.lawful();
     let collected = end_background(
         &parts.types,
-        &mut parts.heap,
-        &mut parts.cards,
-        &mut parts.bricks,
-        &mut parts.marker,
-        &mut parts.contexts,
-        &mut parts.handles,
-        &mut parts.finals,
-        &parts.locals,
+        &mut parts.space,
+        &mut parts.roots,
+        &mut parts.workshop,
         &mut parts.background,
     );
     parts.sums = parts

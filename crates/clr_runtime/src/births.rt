@@ -1,7 +1,7 @@
 //! The line that makes an object.
 ghost use Rattle.std.specs.Prelude.{◌≡◌, ◌+◌, ◌<◌, ◌≤◌, ◌++◌, [], ◌∷◌, None, OnErr, OnOk, true, if◌then◌else◌};
 ghost use Rattle.clr_safe.specs.Threads.{births_owed};
-ghost use Rattle.clr_runtime.specs.Births.{FollowsAsked, IsAsked, IsDefined, Measured};
+ghost use Rattle.clr_runtime.specs.Births.{FollowsAsked, IsAsked, IsDefined, IsKnown, Measured};
 ghost use Rattle.clr_runtime.specs.Checks.{thread_refusal};
 ghost use Rattle.clr_runtime.specs.Outcomes.{refusal_of_room};
 ghost use Rattle.clr_runtime.specs.RuntimeView.{IsRuntime, seen};
@@ -76,15 +76,34 @@ impl Runtime {
             (place_outcome result) self.new.machine }
         ensures grew { result ≡ Err Refusal.Oom → Grew self.old.slides self.new.slides }
     {
+        self.new_known(t, local, name, None, len)
+    }
+
+    /// The same, where the type of this name may be known.
+    #[inline(always)]
+    pub fn new_known(
+        &mut self,
+        t: u64,
+        local: u64,
+        name: &[u8],
+        known: Option<TypeId>,
+        len: Option<u64>,
+    ) -> Result<u64, Refusal>
+        requires { IsKnown self.old.machine.types name.now known }
+        ensures follows { Follows self.old.machine (new_object t local name.now len)
+            (place_outcome result) self.new.machine }
+        ensures grew { result ≡ Err Refusal.Oom → Grew self.old.slides self.new.slides }
+    {
         if let Some(refusal) = self.refused_thread(t) {
             return Err(refusal);
         }
-        let request = match measure(&self.parts.types, local, name, len) {
+        let request = match measure(&self.parts.types, local, name, known, len) {
             Ok(request) => request,
             Err(refusal) => return Err(refusal),
         };
+        self.recent = request.type_id;
         let owed = self.parts.safe.births_owed();
-        let Ok(()) = reserve_entry(&mut self.parts.finals, owed, request.finalizer) else {
+        let Ok(()) = reserve_entry(&mut self.parts.roots.finals, owed, request.finalizer) else {
             return Err(Refusal::NoMemory);
         };
         let large = self.parts.options.large;
@@ -102,10 +121,10 @@ fn make_small(parts: &mut Parts, t: u64, local: u64, request: Request) -> Result
     requires runtime { IsRuntime parts.old }
     requires passed { thread_refusal (seen parts.old) t ≡ None }
     requires asked { IsAsked parts.old.types local request }
-    requires entry { request.finalizer ≡ true → births_owed parts.old.safe + 1 ≤ parts.old.finals.spare }
+    requires entry { request.finalizer ≡ true → births_owed parts.old.safe + 1 ≤ parts.old.roots.finals.spare }
     requires small { request.size < parts.old.options.large }
     ensures made { FollowsAsked parts.old parts.new t local request result }
-    ensures grew { result ≡ Err Refusal.Oom → Grew parts.old.slides parts.new.slides }
+    ensures grew { result ≡ Err Refusal.Oom → Grew parts.old.workshop.slides parts.new.workshop.slides }
     ensures runtime { IsRuntime parts.new }
 {
     let thread = t as usize;
@@ -113,16 +132,16 @@ fn make_small(parts: &mut Parts, t: u64, local: u64, request: Request) -> Result
         return Err(refusal_of(why));
     }
     let place = bear(
-        &mut parts.heap,
+        &mut parts.space.heap,
         &parts.types,
-        &mut parts.bricks,
+        &mut parts.space.bricks,
         thread,
         request.type_id,
         request.len,
         request.size,
     );
-    register_entry(&mut parts.finals, request.finalizer, place);
-    parts.locals[index_of(t, local)] = place;
+    register_entry(&mut parts.roots.finals, request.finalizer, place);
+    parts.roots.locals[index_of(t, local)] = place;
     parts.sums.spent0 += request.size;
     Ok(place)
 }
@@ -134,19 +153,19 @@ fn make_large(parts: &mut Parts, t: u64, local: u64, request: Request) -> Result
     requires runtime { IsRuntime parts.old }
     requires passed { thread_refusal (seen parts.old) t ≡ None }
     requires asked { IsAsked parts.old.types local request }
-    requires entry { request.finalizer ≡ true → births_owed parts.old.safe + 1 ≤ parts.old.finals.spare }
+    requires entry { request.finalizer ≡ true → births_owed parts.old.safe + 1 ≤ parts.old.roots.finals.spare }
     requires large { parts.old.options.large ≤ request.size }
     ensures made { FollowsAsked parts.old parts.new t local request result }
-    ensures grew { result ≡ Err Refusal.Oom → Grew parts.old.slides parts.new.slides }
+    ensures grew { result ≡ Err Refusal.Oom → Grew parts.old.workshop.slides parts.new.workshop.slides }
     ensures runtime { IsRuntime parts.new }
 {
     if let Err(why) = make_large_room(parts, request.size) {
         return Err(refusal_of(why));
     }
     let Some(place) = parts.large.bear(
-        &mut parts.heap,
+        &mut parts.space.heap,
         &parts.types,
-        &mut parts.bricks,
+        &mut parts.space.bricks,
         SegKind::Large,
         request.type_id,
         request.len,
@@ -154,8 +173,9 @@ fn make_large(parts: &mut Parts, t: u64, local: u64, request: Request) -> Result
     else {
         unreachable!()
     };
-    register_entry(&mut parts.finals, request.finalizer, place);
-    parts.locals[index_of(t, local)] = place;
+    parts.space.heap.lawful();
+    register_entry(&mut parts.roots.finals, request.finalizer, place);
+    parts.roots.locals[index_of(t, local)] = place;
     parts.sums.spent_large += request.size;
     Ok(place)
 }
@@ -172,17 +192,31 @@ pub(crate) fn defined(types: &Types, name: &[u8]) -> Option<TypeId>
     }
 }
 
+// The same, where it may be known.
+#[inline(always)]
+fn defined_or_known(types: &Types, name: &[u8], known: Option<TypeId>) -> Option<TypeId>
+    requires { IsKnown types.now name.now known }
+    ensures { IsDefined types.now name.now result }
+{
+    if known.is_some() {
+        return known;
+    }
+    defined(types, name)
+}
+
 // What a line that makes an object asks for, or the first of the checks on it that fails.
 #[inline(always)]
 pub(crate) fn measure(
     types: &Types,
     local: u64,
     name: &[u8],
+    known: Option<TypeId>,
     len: Option<u64>,
 ) -> Result<Request, Refusal>
+    requires { IsKnown types.now name.now known }
     ensures { Measured types.now local name.now len result }
 {
-    let Some(type_id) = defined(types, name) else {
+    let Some(type_id) = defined_or_known(types, name, known) else {
         return Err(Refusal::UnknownType);
     };
     if types.has_length(type_id) != len.is_some() {

@@ -56,7 +56,7 @@ impl Runtime {
     pub fn slides(&self) -> u64
         ensures { result ≡ self.now.slides }
     {
-        self.parts.slides.count()
+        self.parts.workshop.slides.count()
     }
 }
 
@@ -72,16 +72,17 @@ pub(crate) fn collect_parts(parts: &mut Parts, g: u8, how: How) -> Collected
     requires idle { lowest_in_step (seen parts.old) ≡ None }
     ensures collected { (after : Machine) × Collects (seen parts.old) g how result after
         × (seen parts.new ≡ picture after) }
-    ensures no_contexts { parts.new.heap.rests ≡ no_rests }
+    ensures no_contexts { parts.new.space.heap.rests ≡ no_rests }
     ensures runtime { IsRuntime parts.new }
-    ensures slides { CountsCollection result.compacted parts.old.slides parts.new.slides }
-    ensures spare { parts.old.finals.spare ≤ parts.new.finals.spare }
+    ensures slides { CountsCollection result.compacted parts.old.workshop.slides parts.new.workshop.slides }
+    ensures spare { parts.old.roots.finals.spare ≤ parts.new.roots.finals.spare }
     ensures options { parts.new.options ≡ parts.old.options }
-    ensures none_added { parts.new.finals.spare + length parts.new.finals.entries
-        ≤ parts.old.finals.spare + length parts.old.finals.entries }
-    ensures pins_room { parts.new.pins.spare ≡ parts.old.pins.spare }
-    ensures stack { parts.new.marker.capacity ≡ parts.old.marker.capacity }
-    ensures index_after { MatchBool result.compacted (parts.new.contexts ≡ None) (parts.new.contexts ≡ Some []) }
+    ensures none_added { parts.new.roots.finals.spare + length parts.new.roots.finals.entries
+        ≤ parts.old.roots.finals.spare + length parts.old.roots.finals.entries }
+    ensures pins_room { parts.new.workshop.pins.spare ≡ parts.old.workshop.pins.spare }
+    ensures stack { parts.new.workshop.marker.capacity ≡ parts.old.workshop.marker.capacity }
+    ensures index_after { MatchBool result.compacted (parts.new.workshop.contexts ≡ None)
+        (parts.new.workshop.contexts ≡ Some []) }
     ensures large_index { parts.new.large ≡ None }
     ensures pinned_index { parts.new.pinned ≡ None }
     ensures types { parts.new.types ≡ parts.old.types }
@@ -89,20 +90,12 @@ pub(crate) fn collect_parts(parts: &mut Parts, g: u8, how: How) -> Collected
 {
     let collected = collect(
         &parts.types,
-        &mut parts.heap,
-        &mut parts.cards,
-        &mut parts.bricks,
-        &mut parts.marker,
-        &mut parts.contexts,
-        &mut parts.handles,
-        &mut parts.finals,
-        &mut parts.locals,
-        &mut parts.pins,
-        &mut parts.slides,
+        &mut parts.space,
+        &mut parts.roots,
+        &mut parts.workshop,
         parts.options.compact,
         g,
         how,
-        &mut parts.compact_large,
     );
     stop_after(&mut parts.background, g);
     parts.sums = parts

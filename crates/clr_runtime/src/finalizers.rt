@@ -20,14 +20,14 @@ impl Runtime {
         if let Some(refusal) = self.refused_names(t, local, local) {
             return Err(refusal);
         }
-        let place = self.parts.locals[index_of(t, local)];
+        let place = self.parts.roots.locals[index_of(t, local)];
         if place == 0 {
             return Err(Refusal::Null);
         }
-        if !is_final(&self.parts.heap, &self.parts.types, place) {
+        if !is_final(&self.parts.space.heap, &self.parts.types, place) {
             return Ok(());
         }
-        set_suppressed(&mut self.parts.heap, &self.parts.types, place, true);
+        set_suppressed(&mut self.parts.space.heap, &self.parts.types, place, true);
         Ok(())
     }
 
@@ -41,22 +41,22 @@ impl Runtime {
         if let Some(refusal) = self.refused_names(t, local, local) {
             return Err(refusal);
         }
-        let place = self.parts.locals[index_of(t, local)];
+        let place = self.parts.roots.locals[index_of(t, local)];
         if place == 0 {
             return Err(Refusal::Null);
         }
-        if !is_final(&self.parts.heap, &self.parts.types, place) {
+        if !is_final(&self.parts.space.heap, &self.parts.types, place) {
             return Ok(());
         }
-        if is_suppressed(&self.parts.heap, &self.parts.types, place) {
-            set_suppressed(&mut self.parts.heap, &self.parts.types, place, false);
+        if is_suppressed(&self.parts.space.heap, &self.parts.types, place) {
+            set_suppressed(&mut self.parts.space.heap, &self.parts.types, place, false);
             return Ok(());
         }
         let owed = self.parts.safe.births_owed();
-        let Ok(()) = self.parts.finals.reserve(owed + 1) else {
+        let Ok(()) = self.parts.roots.finals.reserve(owed + 1) else {
             return Err(Refusal::NoMemory);
         };
-        self.parts.finals.register(place);
+        self.parts.roots.finals.register(place);
         Ok(())
     }
 
@@ -70,10 +70,10 @@ impl Runtime {
         if let Some(refusal) = self.refused_names(t, to, to) {
             return Err(refusal);
         }
-        let Some(place) = self.parts.finals.next() else {
+        let Some(place) = self.parts.roots.finals.next() else {
             return Err(Refusal::Empty);
         };
-        self.parts.locals[index_of(t, to)] = place;
+        self.parts.roots.locals[index_of(t, to)] = place;
         Ok(place)
     }
 }

@@ -40,14 +40,14 @@ impl Runtime {
         if let Some(refusal) = self.refused_names(t, local, second.unwrap_or(local)) {
             return Err(refusal);
         }
-        let target = self.parts.locals[index_of(t, local)];
+        let target = self.parts.roots.locals[index_of(t, local)];
         if kind.is_dependent() && target == 0 {
             return Err(Refusal::Null);
         }
-        let other = held_by(&self.parts.locals, t, second);
+        let other = held_by(&self.parts.roots.locals, t, second);
         match create_with_room(
-            &mut self.parts.handles,
-            &mut self.parts.pins,
+            &mut self.parts.roots.handles,
+            &mut self.parts.workshop.pins,
             kind,
             target,
             other,
@@ -67,10 +67,10 @@ impl Runtime {
         if let Some(refusal) = self.refused_names(t, to, to) {
             return Err(refusal);
         }
-        let Some(handle) = self.parts.handles.get(h) else {
+        let Some(handle) = self.parts.roots.handles.get(h) else {
             return Err(Refusal::NoHandle);
         };
-        self.parts.locals[index_of(t, to)] = handle.target;
+        self.parts.roots.locals[index_of(t, to)] = handle.target;
         Ok(handle.target)
     }
 
@@ -84,13 +84,13 @@ impl Runtime {
         if let Some(refusal) = self.refused_names(t, to, to) {
             return Err(refusal);
         }
-        let Some(handle) = self.parts.handles.get(h) else {
+        let Some(handle) = self.parts.roots.handles.get(h) else {
             return Err(Refusal::NoHandle);
         };
         if !handle.kind.is_dependent() {
             return Err(Refusal::HandleKind);
         }
-        self.parts.locals[index_of(t, to)] = handle.second;
+        self.parts.roots.locals[index_of(t, to)] = handle.second;
         Ok(handle.second)
     }
 
@@ -103,7 +103,7 @@ impl Runtime {
         if let Some(refusal) = self.refused_thread(t) {
             return Err(refusal);
         }
-        let Ok(_) = self.parts.handles.free(h) else {
+        let Ok(_) = self.parts.roots.handles.free(h) else {
             return Err(Refusal::NoHandle);
         };
         Ok(())

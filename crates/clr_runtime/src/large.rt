@@ -31,9 +31,10 @@ pub(crate) fn make_large_room(parts: &mut Parts, size: u64) -> Result<(), NoRoom
     ensures place { OnOk result (FollowsToPlace (seen parts.old) size (seen parts.new)) }
     ensures fits { OnOk result (has_room_in Large (seen parts.new).layout size ≡ true) }
     ensures err { OnErr result (FollowsLargeFails (seen parts.old) size (attempt_of result) (seen parts.new)) }
-    ensures grew { result ≡ Err (NoRoom.Acquire AcquireFault.OverLimit) → Grew parts.old.slides parts.new.slides }
+    ensures grew { result ≡ Err (NoRoom.Acquire AcquireFault.OverLimit)
+        → Grew parts.old.workshop.slides parts.new.workshop.slides }
     ensures runtime { IsRuntime parts.new }
-    ensures spare { parts.old.finals.spare ≤ parts.new.finals.spare }
+    ensures spare { parts.old.roots.finals.spare ≤ parts.new.roots.finals.spare }
     ensures types { parts.new.types ≡ parts.old.types }
     ensures safe { parts.new.safe ≡ parts.old.safe }
 {
@@ -64,8 +65,8 @@ fn has_room_in_budget(parts: &mut Parts, size: u64) -> bool
     ensures place { result ≡ has_place_in_budget (seen parts.old) size }
     ensures seen { seen parts.new ≡ seen parts.old }
     ensures runtime { IsRuntime parts.new }
-    ensures slides { parts.new.slides ≡ parts.old.slides }
-    ensures finals { parts.new.finals ≡ parts.old.finals }
+    ensures slides { parts.new.workshop.slides ≡ parts.old.workshop.slides }
+    ensures finals { parts.new.roots.finals ≡ parts.old.roots.finals }
     ensures types { parts.new.types ≡ parts.old.types }
     ensures safe { parts.new.safe ≡ parts.old.safe }
 {
@@ -82,12 +83,12 @@ fn has_large_room(parts: &mut Parts, size: u64) -> bool
     ensures place { result ≡ has_room_in Large (seen parts.old).layout size }
     ensures seen { seen parts.new ≡ seen parts.old }
     ensures runtime { IsRuntime parts.new }
-    ensures slides { parts.new.slides ≡ parts.old.slides }
-    ensures finals { parts.new.finals ≡ parts.old.finals }
+    ensures slides { parts.new.workshop.slides ≡ parts.old.workshop.slides }
+    ensures finals { parts.new.roots.finals ≡ parts.old.roots.finals }
     ensures types { parts.new.types ≡ parts.old.types }
     ensures safe { parts.new.safe ≡ parts.old.safe }
 {
     parts
         .large
-        .room(&parts.heap, &parts.types, SegKind::Large, size)
+        .room(&parts.space.heap, &parts.types, SegKind::Large, size)
 }

@@ -28,7 +28,8 @@ pub(crate) fn make_pinned_room(parts: &mut Parts, size: u64) -> Result<(), NoRoo
     ensures place { OnOk result (FollowsToPinned (seen parts.old) size (seen parts.new)) }
     ensures fits { OnOk result (has_room_in Pinned (seen parts.new).layout size ≡ true) }
     ensures err { OnErr result (FollowsPinnedFails (seen parts.old) size (attempt_of result) (seen parts.new)) }
-    ensures grew { result ≡ Err (NoRoom.Acquire AcquireFault.OverLimit) → Grew parts.old.slides parts.new.slides }
+    ensures grew { result ≡ Err (NoRoom.Acquire AcquireFault.OverLimit)
+        → Grew parts.old.workshop.slides parts.new.workshop.slides }
     ensures runtime { IsRuntime parts.new }
     ensures types { parts.new.types ≡ parts.old.types }
     ensures safe { parts.new.safe ≡ parts.old.safe }
@@ -58,7 +59,7 @@ fn find_or_acquire(parts: &mut Parts, size: u64) -> Result<(), AcquireFault>
     requires most { size ≤ 1073741824 }
     ensures room { IsPinnedRoom (seen parts.old) (seen parts.new) size result }
     ensures runtime { IsRuntime parts.new }
-    ensures slides { parts.new.slides ≡ parts.old.slides }
+    ensures slides { parts.new.workshop.slides ≡ parts.old.workshop.slides }
     ensures types { parts.new.types ≡ parts.old.types }
     ensures safe { parts.new.safe ≡ parts.old.safe }
 {
@@ -75,11 +76,11 @@ fn has_pinned_room(parts: &mut Parts, size: u64) -> bool
     ensures place { result ≡ has_room_in Pinned (seen parts.old).layout size }
     ensures seen { seen parts.new ≡ seen parts.old }
     ensures runtime { IsRuntime parts.new }
-    ensures slides { parts.new.slides ≡ parts.old.slides }
+    ensures slides { parts.new.workshop.slides ≡ parts.old.workshop.slides }
     ensures types { parts.new.types ≡ parts.old.types }
     ensures safe { parts.new.safe ≡ parts.old.safe }
 {
     parts
         .pinned
-        .room(&parts.heap, &parts.types, SegKind::Pinned, size)
+        .room(&parts.space.heap, &parts.types, SegKind::Pinned, size)
 }

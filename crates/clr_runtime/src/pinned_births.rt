@@ -89,16 +89,16 @@ fn make_pinned(parts: &mut Parts, t: u64, local: u64, request: Request) -> Resul
     requires passed { thread_refusal (seen parts.old) t ≡ None }
     requires asked { IsAskedPinned parts.old.types local request }
     ensures made { FollowsAskedPinned parts.old parts.new t local request result }
-    ensures grew { result ≡ Err Refusal.Oom → Grew parts.old.slides parts.new.slides }
+    ensures grew { result ≡ Err Refusal.Oom → Grew parts.old.workshop.slides parts.new.workshop.slides }
     ensures runtime { IsRuntime parts.new }
 {
     if let Err(why) = make_pinned_room(parts, request.size) {
         return Err(refusal_of(why));
     }
     let Some(place) = parts.pinned.bear(
-        &mut parts.heap,
+        &mut parts.space.heap,
         &parts.types,
-        &mut parts.bricks,
+        &mut parts.space.bricks,
         SegKind::Pinned,
         request.type_id,
         request.len,
@@ -106,6 +106,7 @@ fn make_pinned(parts: &mut Parts, t: u64, local: u64, request: Request) -> Resul
     else {
         unreachable!()
     };
-    parts.locals[index_of(t, local)] = place;
+    parts.space.heap.lawful();
+    parts.roots.locals[index_of(t, local)] = place;
     Ok(place)
 }

@@ -45,9 +45,10 @@ pub(crate) fn make_room(parts: &mut Parts, thread: usize, size: u64) -> Result<(
     requires small { size < parts.old.options.large }
     ensures room { FollowsRoom (seen parts.old) thread size (attempt_of result) (seen parts.new) }
     ensures fits { OnOk result (own_fits (seen parts.new).layout thread size ≡ true) }
-    ensures grew { result ≡ Err (NoRoom.Acquire AcquireFault.OverLimit) → Grew parts.old.slides parts.new.slides }
+    ensures grew { result ≡ Err (NoRoom.Acquire AcquireFault.OverLimit)
+        → Grew parts.old.workshop.slides parts.new.workshop.slides }
     ensures runtime { IsRuntime parts.new }
-    ensures spare { parts.old.finals.spare ≤ parts.new.finals.spare }
+    ensures spare { parts.old.roots.finals.spare ≤ parts.new.roots.finals.spare }
     ensures types { parts.new.types ≡ parts.old.types }
     ensures safe { parts.new.safe ≡ parts.old.safe }
 {
@@ -72,9 +73,10 @@ fn find_room(parts: &mut Parts, thread: usize, size: u64) -> Result<(), NoRoom>
     requires full { own_fits (seen parts.old).layout thread size ≡ false }
     ensures room { FollowsRoom (seen parts.old) thread size (attempt_of result) (seen parts.new) }
     ensures fits { OnOk result (own_fits (seen parts.new).layout thread size ≡ true) }
-    ensures grew { result ≡ Err (NoRoom.Acquire AcquireFault.OverLimit) → Grew parts.old.slides parts.new.slides }
+    ensures grew { result ≡ Err (NoRoom.Acquire AcquireFault.OverLimit)
+        → Grew parts.old.workshop.slides parts.new.workshop.slides }
     ensures runtime { IsRuntime parts.new }
-    ensures spare { parts.old.finals.spare ≤ parts.new.finals.spare }
+    ensures spare { parts.old.roots.finals.spare ≤ parts.new.roots.finals.spare }
     ensures types { parts.new.types ≡ parts.old.types }
     ensures safe { parts.new.safe ≡ parts.old.safe }
 {
@@ -105,10 +107,14 @@ fn find_room(parts: &mut Parts, thread: usize, size: u64) -> Result<(), NoRoom>
 #[inline(never)]
 fn renew_index(parts: &mut Parts)
     requires { IsRuntime parts.old }
-    ensures others { parts.new ≡ record parts.old { contexts = parts.new.contexts } }
+    ensures others { parts.new
+        ≡ record parts.old { workshop = record parts.old.workshop { contexts = parts.new.workshop.contexts } } }
     ensures runtime { IsRuntime parts.new }
 {
-    parts.contexts.renew_lost(&parts.heap, &parts.types);
+    parts
+        .workshop
+        .contexts
+        .renew_lost(&parts.space.heap, &parts.types);
 }
 
 // Collects as `collect_parts` does, and makes the index of the contexts anew.
@@ -119,10 +125,10 @@ fn collect_for_room(parts: &mut Parts, g: u8, how: How) -> Collected
     requires idle { lowest_in_step (seen parts.old) ≡ None }
     ensures collected { (after : Machine) × Collects (seen parts.old) g how result after
         × (seen parts.new ≡ picture after) }
-    ensures no_contexts { parts.new.heap.rests ≡ no_rests }
+    ensures no_contexts { parts.new.space.heap.rests ≡ no_rests }
     ensures runtime { IsRuntime parts.new }
-    ensures slides { CountsCollection result.compacted parts.old.slides parts.new.slides }
-    ensures spare { parts.old.finals.spare ≤ parts.new.finals.spare }
+    ensures slides { CountsCollection result.compacted parts.old.workshop.slides parts.new.workshop.slides }
+    ensures spare { parts.old.roots.finals.spare ≤ parts.new.roots.finals.spare }
     ensures options { parts.new.options ≡ parts.old.options }
     ensures types { parts.new.types ≡ parts.old.types }
     ensures safe { parts.new.safe ≡ parts.old.safe }
@@ -140,7 +146,10 @@ fn fits_in_context(parts: &Parts, thread: usize, size: u64) -> bool
     requires most { size ≤ 1073741824 }
     ensures { result ≡ own_fits (seen parts.now).layout thread size }
 {
-    parts.contexts.fits(&parts.heap, thread, size)
+    parts
+        .workshop
+        .contexts
+        .fits(&parts.space.heap, thread, size)
 }
 
 // The generation that an allocation collects: 0, or 1 where more bytes went to it than its budget has, or 2 where more
@@ -170,8 +179,8 @@ fn refill_in_budget(parts: &mut Parts, thread: usize, size: u64) -> bool
     requires most { size ≤ 1073741824 }
     ensures refilled { IsRefillInBudget parts.old parts.new thread size result }
     ensures runtime { IsRuntime parts.new }
-    ensures slides { parts.new.slides ≡ parts.old.slides }
-    ensures finals { parts.new.finals ≡ parts.old.finals }
+    ensures slides { parts.new.workshop.slides ≡ parts.old.workshop.slides }
+    ensures finals { parts.new.roots.finals ≡ parts.old.roots.finals }
     ensures types { parts.new.types ≡ parts.old.types }
     ensures safe { parts.new.safe ≡ parts.old.safe }
 {
@@ -193,15 +202,16 @@ fn refill(parts: &mut Parts, thread: usize, size: u64) -> bool
     requires most { size ≤ 1073741824 }
     ensures refilled { IsRefill parts.old parts.new thread size result }
     ensures runtime { IsRuntime parts.new }
-    ensures slides { parts.new.slides ≡ parts.old.slides }
-    ensures finals { parts.new.finals ≡ parts.old.finals }
+    ensures slides { parts.new.workshop.slides ≡ parts.old.workshop.slides }
+    ensures finals { parts.new.roots.finals ≡ parts.old.roots.finals }
     ensures types { parts.new.types ≡ parts.old.types }
     ensures safe { parts.new.safe ≡ parts.old.safe }
 {
-    parts.heap.lawful();
     let refilled = parts
+        .workshop
         .contexts
-        .refill(&mut parts.heap, &parts.types, thread, size);
+        .refill(&mut parts.space.heap, &parts.types, thread, size);
+    parts.space.heap.lawful();
     refilled.is_some()
 }
 
@@ -210,7 +220,7 @@ fn refill(parts: &mut Parts, thread: usize, size: u64) -> bool
 fn refill_by_sealing(parts: &mut Parts, thread: usize, size: u64) -> Result<(), AcquireFault>
     requires runtime { IsRuntime parts.old }
     requires idle { lowest_in_step (seen parts.old) ≡ None }
-    requires no_contexts { parts.old.heap.rests ≡ no_rests }
+    requires no_contexts { parts.old.space.heap.rests ≡ no_rests }
     requires positive { 0 < thread }
     requires few { thread ≤ 16 }
     requires least { 24 ≤ size }
@@ -218,8 +228,8 @@ fn refill_by_sealing(parts: &mut Parts, thread: usize, size: u64) -> Result<(), 
     requires small { size < parts.old.options.large }
     ensures refilled { IsSealedRefill (seen parts.old) (seen parts.new) thread size result }
     ensures runtime { IsRuntime parts.new }
-    ensures slides { parts.new.slides ≡ parts.old.slides }
-    ensures finals { parts.new.finals ≡ parts.old.finals }
+    ensures slides { parts.new.workshop.slides ≡ parts.old.workshop.slides }
+    ensures finals { parts.new.roots.finals ≡ parts.old.roots.finals }
     ensures types { parts.new.types ≡ parts.old.types }
     ensures safe { parts.new.safe ≡ parts.old.safe }
 {

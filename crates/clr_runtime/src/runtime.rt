@@ -11,10 +11,11 @@ use crate::sums::Sums;
 use clr_bgmark::Background;
 use clr_bricks::Bricks;
 use clr_cards::Cards;
+use clr_collect::Workshop;
 use clr_compact::Slides;
 use clr_ctx::Contexts;
 use clr_final::Finals;
-use clr_generations::cover_segments;
+use clr_generations::{Space, cover_segments};
 use clr_handles::Handles;
 use clr_heap::Heap;
 use clr_large::KindItems;
@@ -22,7 +23,8 @@ use clr_mark::Marker;
 use clr_model::Refusal;
 use clr_pinq::PinQueue;
 use clr_safe::Safe;
-use clr_types::{DefineFault, Shape, Types};
+use clr_survivors::Roots;
+use clr_types::{DefineFault, Shape, TypeId, Types};
 use std::alloc::{AllocError, Global};
 use std::marker::Model;
 
@@ -49,6 +51,8 @@ pub(crate) const LOCALS_OF_A_THREAD: u64 = 64;
 #[derive(Drop)]
 pub struct Runtime {
     pub(crate) parts: Parts,
+    /// The type of which an object was asked for last. It is a guess at the next one, and no clause speaks of it.
+    pub(crate) recent: TypeId,
 }
 
 impl Model for Runtime {
@@ -83,6 +87,7 @@ impl Runtime {
     ghost use Rattle.clr_runtime.specs.RuntimeView.{IsBegunStore, StandsFor};
     ghost use Rattle.clr_generations.specs.Tables.{AreBricksOf, AreCardsOf};
     ghost use Rattle.clr_safe.specs.Threads.{steps_of};
+    ghost use Rattle.clr_runtime.specs.Births.{IsKnown};
     ghost use Rattle.clr_runtime.specs.Outcomes.{mt_outcome};
 
     /// No types, no objects, no handles, and every local is null.
@@ -118,25 +123,34 @@ impl Runtime {
         pins.reserve(SPARE_SAVES)?;
         let parts = Parts {
             types,
-            heap,
-            cards,
-            bricks,
-            contexts: Contexts::new(alloc),
+            space: Space {
+                heap,
+                cards,
+                bricks,
+            },
             large: KindItems::new(alloc),
             pinned: KindItems::new(alloc),
-            marker,
-            locals,
-            handles: Handles::new(alloc),
-            finals: Finals::new(alloc),
-            pins,
-            slides: Slides::new(),
+            roots: Roots {
+                locals,
+                handles: Handles::new(alloc),
+                finals: Finals::new(alloc),
+            },
+            workshop: Workshop {
+                marker,
+                contexts: Contexts::new(alloc),
+                pins,
+                slides: Slides::new(),
+                compacts_large: false,
+            },
             safe: Safe::new(),
             background: Background::new(alloc),
-            compact_large: false,
             sums: Sums::NONE,
             options,
         };
-        Ok(Runtime { parts })
+        Ok(Runtime {
+            parts,
+            recent: TypeId(0),
+        })
     }
 
     /// Defines a type, and gives its method table word. The name is one that a line can spell. With `finalizer` its
@@ -151,6 +165,22 @@ impl Runtime {
         match self.parts.types.define(name, shape, finalizer) {
             Ok(t) => Ok(self.parts.types.mt(t)),
             Err(fault) => Err(refusal_of(fault)),
+        }
+    }
+
+    /// The type of which an object was asked for last, which the next line often names, too, and its name. Where there
+    /// was none, the name is that of unused space.
+    #[inline(always)]
+    pub fn recent(&self) -> (Option<TypeId>, &[u8])
+        ensures name { is_name result.1.now ≡ true }
+        ensures known { IsKnown self.now.machine.types result.1.now result.0 }
+    {
+        let types = &self.parts.types;
+        let recent = self.recent;
+        if recent.0 != 0 && recent.0 < types.count() {
+            (Some(recent), types.name(recent))
+        } else {
+            (None, types.name(TypeId(0)))
         }
     }
 
@@ -177,7 +207,7 @@ impl Runtime {
         ensures limit { result.now.limit ≡ self.now.machine.options.limit }
         ensures sound { IsPlaceNamed self.now.machine }
     {
-        &self.parts.heap
+        &self.parts.space.heap
     }
 
     /// The cards of the heap: each segment has cards for all that it reserves. Where a slot of an object names one of
@@ -190,7 +220,7 @@ impl Runtime {
             → (is_card_set result.now (a / 2048) ≡ true)
             ⊎ IsBegunStore self.now.machine.types self.now.machine.objects self.now.machine.steps a }
     {
-        &self.parts.cards
+        &self.parts.space.cards
     }
 
     /// The bricks of the heap: each segment has bricks for all that it reserves. A brick names the first object that
@@ -202,7 +232,7 @@ impl Runtime {
         ensures law { BrickLaw self.now.machine.types self.now.machine.layout self.now.machine.objects
             (entry_at result.now) }
     {
-        &self.parts.bricks
+        &self.parts.space.bricks
     }
 
     /// The locals, 64 for each of 16 threads, by thread. Null is 0.
@@ -211,7 +241,7 @@ impl Runtime {
         ensures value { result.now ≡ self.now.machine.locals }
         ensures count { length result.now ≡ 1024 }
     {
-        &self.parts.locals
+        &self.parts.roots.locals
     }
 
     /// The handles in use, by their numbers.
@@ -219,7 +249,7 @@ impl Runtime {
     pub fn handles(&self) -> &Handles
         ensures { result.now ≡ self.now.machine.handles }
     {
-        &self.parts.handles
+        &self.parts.roots.handles
     }
 
     /// The finalisation queue: the objects that are to be finalised once they die, and those that wait for their
@@ -229,7 +259,7 @@ impl Runtime {
         ensures entries { result.now.entries ≡ self.now.machine.entries }
         ensures ready { result.now.ready ≡ self.now.machine.ready }
     {
-        &self.parts.finals
+        &self.parts.roots.finals
     }
 
     /// What each thread has begun and not finished, and the thread that holds all others, if one does.
@@ -246,7 +276,7 @@ impl Runtime {
     pub fn compact_large(&self) -> bool
         ensures { result ≡ self.now.machine.compacts_large }
     {
-        self.parts.compact_large
+        self.parts.workshop.compacts_large
     }
 
     /// How many bytes all segments may reserve together.

@@ -17,22 +17,22 @@ use clr_heap::AcquireFault;
 pub(crate) fn seal_parts(parts: &mut Parts) -> Result<(), AcquireFault>
     requires runtime { IsRuntime parts.old }
     requires idle { lowest_in_step (seen parts.old) ≡ None }
-    requires no_contexts { parts.old.heap.rests ≡ no_rests }
+    requires no_contexts { parts.old.space.heap.rests ≡ no_rests }
     ensures sealed { IsSealing (seen parts.old) (seen parts.new) result }
     ensures runtime { IsRuntime parts.new }
-    ensures slides { parts.new.slides ≡ parts.old.slides }
-    ensures finals { parts.new.finals ≡ parts.old.finals }
+    ensures slides { parts.new.workshop.slides ≡ parts.old.workshop.slides }
+    ensures finals { parts.new.roots.finals ≡ parts.old.roots.finals }
     ensures types { parts.new.types ≡ parts.old.types }
     ensures safe { parts.new.safe ≡ parts.old.safe }
 {
     seal(
-        &mut parts.heap,
+        &mut parts.space.heap,
         &parts.types,
-        &mut parts.cards,
-        &mut parts.bricks,
+        &mut parts.space.cards,
+        &mut parts.space.bricks,
         parts.options.segment,
     )?;
-    parts.heap.lawful();
-    parts.contexts.forget();
+    parts.space.heap.lawful();
+    parts.workshop.contexts.forget();
     Ok(())
 }

@@ -23,19 +23,21 @@ pub(crate) fn acquire_for(parts: &mut Parts, kind: SegKind, size: u64) -> Result
     requires most { size ≤ 1073741824 }
     ensures acquired { IsAcquired kind (seen parts.old) (seen parts.new) size result }
     ensures runtime { IsRuntime parts.new }
-    ensures slides { parts.new.slides ≡ parts.old.slides }
-    ensures finals { parts.new.finals ≡ parts.old.finals }
+    ensures slides { parts.new.workshop.slides ≡ parts.old.workshop.slides }
+    ensures finals { parts.new.roots.finals ≡ parts.old.roots.finals }
     ensures types { parts.new.types ≡ parts.old.types }
     ensures safe { parts.new.safe ≡ parts.old.safe }
 {
     let pages = (size + PAGE - 1) / PAGE;
     let reserved = parts.options.segment.max(PAGE + pages * PAGE);
-    acquire_of_kind(
-        &mut parts.heap,
+    let acquired = acquire_of_kind(
+        &mut parts.space.heap,
         &parts.types,
-        &mut parts.cards,
-        &mut parts.bricks,
+        &mut parts.space.cards,
+        &mut parts.space.bricks,
         kind,
         reserved,
-    )
+    );
+    parts.space.heap.lawful();
+    acquired
 }

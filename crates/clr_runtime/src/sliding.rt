@@ -19,7 +19,7 @@ impl Runtime {
         if let Some(refusal) = self.refused_thread(t) {
             return Err(refusal);
         }
-        self.parts.compact_large = true;
+        self.parts.workshop.compacts_large = true;
         Ok(())
     }
 }

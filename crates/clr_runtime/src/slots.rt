@@ -39,13 +39,24 @@ impl Runtime {
         if let Some(refusal) = self.refused_names(t, to, from) {
             return Err(refusal);
         }
-        let place = self.parts.locals[index_of(t, from)];
-        let found = match find_slot(&self.parts.heap, &self.parts.types, place, index, true) {
+        let place = self.parts.roots.locals[index_of(t, from)];
+        let found = match find_slot(
+            &self.parts.space.heap,
+            &self.parts.types,
+            place,
+            index,
+            true,
+        ) {
             Ok(found) => found,
             Err(refusal) => return Err(refusal),
         };
-        let name = slot_value(&self.parts.heap, &self.parts.types, &found.item, found.slot);
-        self.parts.locals[index_of(t, to)] = name;
+        let name = slot_value(
+            &self.parts.space.heap,
+            &self.parts.types,
+            &found.item,
+            found.slot,
+        );
+        self.parts.roots.locals[index_of(t, to)] = name;
         Ok(name)
     }
 
@@ -59,17 +70,22 @@ impl Runtime {
         if let Some(refusal) = self.refused_names(t, into, from) {
             return Err(refusal);
         }
-        let place = self.parts.locals[index_of(t, into)];
-        let found = match find_slot(&self.parts.heap, &self.parts.types, place, index, true) {
+        let place = self.parts.roots.locals[index_of(t, into)];
+        let found = match find_slot(
+            &self.parts.space.heap,
+            &self.parts.types,
+            place,
+            index,
+            true,
+        ) {
             Ok(found) => found,
             Err(refusal) => return Err(refusal),
         };
-        let name = self.parts.locals[index_of(t, from)];
-        self.parts.heap.lawful();
+        let name = self.parts.roots.locals[index_of(t, from)];
         set_reference(
-            &mut self.parts.heap,
+            &mut self.parts.space.heap,
             &self.parts.types,
-            &mut self.parts.cards,
+            &mut self.parts.space.cards,
             &found.item,
             found.slot,
             name,
@@ -90,14 +106,20 @@ impl Runtime {
         if let Some(refusal) = self.refused_names(t, into, into) {
             return Err(refusal);
         }
-        let place = self.parts.locals[index_of(t, into)];
-        let found = match find_slot(&self.parts.heap, &self.parts.types, place, index, false) {
+        let place = self.parts.roots.locals[index_of(t, into)];
+        let found = match find_slot(
+            &self.parts.space.heap,
+            &self.parts.types,
+            place,
+            index,
+            false,
+        ) {
             Ok(found) => found,
             Err(refusal) => return Err(refusal),
         };
         let number = narrowed(&self.parts.types, found.item.type_id, value);
         set_slot_value(
-            &mut self.parts.heap,
+            &mut self.parts.space.heap,
             &self.parts.types,
             &found.item,
             found.slot,
@@ -116,10 +138,16 @@ impl Runtime {
         if let Some(refusal) = self.refused_names(t, from, from) {
             return Err(refusal);
         }
-        let place = self.parts.locals[index_of(t, from)];
-        match find_slot(&self.parts.heap, &self.parts.types, place, index, false) {
+        let place = self.parts.roots.locals[index_of(t, from)];
+        match find_slot(
+            &self.parts.space.heap,
+            &self.parts.types,
+            place,
+            index,
+            false,
+        ) {
             Ok(found) => Ok(slot_value(
-                &self.parts.heap,
+                &self.parts.space.heap,
                 &self.parts.types,
                 &found.item,
                 found.slot,
@@ -138,8 +166,8 @@ impl Runtime {
         if let Some(refusal) = self.refused_names(t, to, from) {
             return Err(refusal);
         }
-        let held = self.parts.locals[index_of(t, from)];
-        self.parts.locals[index_of(t, to)] = held;
+        let held = self.parts.roots.locals[index_of(t, from)];
+        self.parts.roots.locals[index_of(t, to)] = held;
         Ok(held)
     }
 
@@ -153,7 +181,7 @@ impl Runtime {
         if let Some(refusal) = self.refused_names(t, local, local) {
             return Err(refusal);
         }
-        self.parts.locals[index_of(t, local)] = 0;
+        self.parts.roots.locals[index_of(t, local)] = 0;
         Ok(())
     }
 }

@@ -41,15 +41,20 @@ impl Runtime {
         if let Some(refusal) = self.refused_names(t, into, from) {
             return Err(refusal);
         }
-        let place = self.parts.locals[index_of(t, into)];
-        let found = match find_slot(&self.parts.heap, &self.parts.types, place, index, true) {
+        let place = self.parts.roots.locals[index_of(t, into)];
+        let found = match find_slot(
+            &self.parts.space.heap,
+            &self.parts.types,
+            place,
+            index,
+            true,
+        ) {
             Ok(found) => found,
             Err(refusal) => return Err(refusal),
         };
-        let name = self.parts.locals[index_of(t, from)];
-        self.parts.heap.lawful();
+        let name = self.parts.roots.locals[index_of(t, from)];
         set_slot_value(
-            &mut self.parts.heap,
+            &mut self.parts.space.heap,
             &self.parts.types,
             &found.item,
             found.slot,
@@ -85,7 +90,7 @@ impl Runtime {
         if let Some(refusal) = self.refused_thread(t) {
             return Err(refusal);
         }
-        let request = match measure(&self.parts.types, local, name, len) {
+        let request = match measure(&self.parts.types, local, name, None, len) {
             Ok(request) => request,
             Err(refusal) => return Err(refusal),
         };
@@ -94,7 +99,7 @@ impl Runtime {
             return Err(Refusal::TooBig);
         }
         let owed = self.parts.safe.births_owed();
-        let Ok(()) = reserve_entry(&mut self.parts.finals, owed, request.finalizer) else {
+        let Ok(()) = reserve_entry(&mut self.parts.roots.finals, owed, request.finalizer) else {
             return Err(Refusal::NoMemory);
         };
         begin_small(&mut self.parts, t, local, request)
@@ -149,10 +154,10 @@ fn begin_small(parts: &mut Parts, t: u64, local: u64, request: Request) -> Resul
     requires runtime { IsRuntime parts.old }
     requires passed { thread_refusal (seen parts.old) t ≡ None }
     requires asked { IsAsked parts.old.types local request }
-    requires entry { request.finalizer ≡ true → births_owed parts.old.safe + 1 ≤ parts.old.finals.spare }
+    requires entry { request.finalizer ≡ true → births_owed parts.old.safe + 1 ≤ parts.old.roots.finals.spare }
     requires small { request.size < parts.old.options.large }
     ensures begun { FollowsBegun parts.old parts.new t local request result }
-    ensures grew { result ≡ Err Refusal.Oom → Grew parts.old.slides parts.new.slides }
+    ensures grew { result ≡ Err Refusal.Oom → Grew parts.old.workshop.slides parts.new.workshop.slides }
     ensures runtime { IsRuntime parts.new }
 {
     if let Err(why) = make_room(parts, t as usize, request.size) {
@@ -179,11 +184,10 @@ fn finish_store(parts: &mut Parts, t: u64, object: u64, index: u64)
     ensures finished { Follows (seen parts.old) (finish_step t) (answered Done) (seen parts.new) }
     ensures runtime { IsRuntime parts.new }
 {
-    parts.heap.lawful();
-    let item = object_item(&parts.heap, &parts.types, object);
+    let item = object_item(&parts.space.heap, &parts.types, object);
     let slot = parts.types.slot(item.type_id, item.len, index);
     let address = item.place + slot.offset;
-    parts.cards.set(address);
+    parts.space.cards.set(address);
     parts.background.wrote(address);
     parts.safe.end(t);
 }
@@ -205,16 +209,16 @@ fn finish_birth(
 {
     let size = parts.types.item_size(type_id, len);
     let place = bear(
-        &mut parts.heap,
+        &mut parts.space.heap,
         &parts.types,
-        &mut parts.bricks,
+        &mut parts.space.bricks,
         t as usize,
         type_id,
         len,
         size,
     );
-    register_entry(&mut parts.finals, finalizer, place);
-    parts.locals[index_of(t, local)] = place;
+    register_entry(&mut parts.roots.finals, finalizer, place);
+    parts.roots.locals[index_of(t, local)] = place;
     parts.sums.spent0 += size;
     parts.safe.end(t);
     place

@@ -99,14 +99,15 @@ pinned-moved to table low place some above q = record {
 }
 
 module _ (s : Stages) (m : Machine) (kept : ℕ → Bool) (c : IsCourse s m kept) (new : HeapView)
-    (e : HasSettled s.rows s.moved new s.table_after s.low s.g) (heap : IsHeap new) (held : IsHeld s.rows new) where
+    (e : HasSettled s.rows s.moved.heap new s.roots_after.handles s.low s.g) (heap : IsHeap new)
+    (held : IsHeld s.rows new) where
   -- an item of the new heap, and the one that it was
   record HasGone (i : Item) : Type 0 where
     object : Object
-    present : IsIn object (objects_in s.rows s.old)
-    left : is_left s.old s.g object ≡ true
+    present : IsIn object (objects_in s.rows s.old.heap)
+    left : is_left s.old.heap s.g object ≡ true
     was : Item
-    listed : IsIn was (heap_items s.rows s.old)
+    listed : IsIn was (heap_items s.rows s.old.heap)
     is : is_object was ≡ true
     from : object.place ≡ was.place
     place : i.place ≡ moved_by c.begun.plan.moves was.place
@@ -122,11 +123,11 @@ module _ (s : Stages) (m : Machine) (kept : ℕ → Bool) (c : IsCourse s m kept
       let q = object_in s.rows (word_of new) i in
       let there = IsIn-map (object_in s.rows (word_of new))
       (into_filter is_object (heap_items s.rows new) object listed) in
-      let (o, same, chosen) = from-map to q (filter (is_left s.old s.g) (objects_in s.rows s.old))
-      (out_of_sorted_by (λ (x : Object). x.name) q (left_objects s.rows s.old s.g vs)
+      let (o, same, chosen) = from-map to q (filter (is_left s.old.heap s.g) (objects_in s.rows s.old.heap))
+      (out_of_sorted_by (λ (x : Object). x.name) q (left_objects s.rows s.old.heap s.g vs)
       (subst (λ (os : List Object). IsIn q os) (objects-ended s m kept c new e) there)) in
-      let (left, present) = out_of_filter (is_left s.old s.g) o (objects_in s.rows s.old) chosen in
-      let k = item-of s.rows s.old o present in
+      let (left, present) = out_of_filter (is_left s.old.heap s.g) o (objects_in s.rows s.old.heap) chosen in
+      let k = item-of s.rows s.old.heap o present in
       let type : i.type_id.0 ≡ k.item.type_id.0 =
       ap (λ (x : Object). x.type) same ∙ ap (λ (x : Object). x.type) k.is in
       let len : i.len ≡ k.item.len = ap (λ (x : Object). x.len) same ∙ ap (λ (x : Object). x.len) k.is in
@@ -144,19 +145,19 @@ module _ (s : Stages) (m : Machine) (kept : ℕ → Bool) (c : IsCourse s m kept
         len = len;
         size = listed-sized s.rows new i heap held listed
             ∙ (λ j. size_of (form_at s.rows (type j)) (len j))
-            ∙ sym (listed-sized s.rows s.old k.item c.run.given.heap c.run.given.held k.listed);
+            ∙ sym (listed-sized s.rows s.old.heap k.item c.run.given.tidy.heap c.run.given.tidy.held k.listed);
       }
 
   -- ---- outside of the parts
 
   away-place : (x : ℕ) → is_in_parts c.begun.view (Generations s.g) x ≡ false → moved_by c.begun.plan.moves x ≡ x
   away-place x away =
-      sym (outside_stays s.rows s.ready s.bricks
-      (Generations s.g) c.begun.plan.moves c.run.ready_lawful c.begun.plan.told x
+      sym (outside_stays s.rows s.ready.heap s.ready.bricks
+      (Generations s.g) c.begun.plan.moves c.ready_heap c.begun.plan.told x
       (λ t is. both_ways (is_in_parts c.begun.view (Generations s.g) x) away
       (part-test s.rows c.begun.view s.g c.begun.plan.moves m kept c.begun.plan.after c.run.given.generation
       c.begun.plan.compaction t x
-      (in_part-same c.begun.view s.ready (Generations s.g) t x c.begun.plan.overlaid.shape is))))
+      (in_part-same c.begun.view s.ready.heap (Generations s.g) t x c.begun.plan.overlaid.shape is))))
 
   -- nothing from the first condemned place on goes below it
   low-kept : (x : ℕ) → s.low ≤ x → s.low ≤ moved_by c.begun.plan.moves x
@@ -220,10 +221,10 @@ module _ (s : Stages) (m : Machine) (kept : ℕ → Bool) (c : IsCourse s m kept
     in-mid-items = subst (λ (is : List Item). IsIn j is) (sym c.went.relocated.items) in-view-items
 
     up-old : 8 ≤ j.place
-    up-old = listed-above s.rows s.old j c.run.given.heap c.run.given.held g.listed
+    up-old = listed-above s.rows s.old.heap j c.run.given.tidy.heap c.run.given.tidy.held g.listed
 
     aligned-old : j.place % 8 ≡ 0
-    aligned-old = (listed-item s.rows s.old j c.run.given.heap c.run.given.held g.listed).aligned
+    aligned-old = (listed-item s.rows s.old.heap j c.run.given.tidy.heap c.run.given.tidy.held g.listed).aligned
 
     up-new : 8 ≤ i.place
     up-new = listed-above s.rows new i heap held listed
@@ -238,8 +239,8 @@ module _ (s : Stages) (m : Machine) (kept : ℕ → Bool) (c : IsCourse s m kept
         let mark : is_marked view g.object ≡ true =
         left-in-part s.rows view s.g c.begun.plan.moves m kept c.begun.plan.after c.run.given.generation
         c.begun.plan.compaction g.object
-        (left-view s.rows s.old s.ready s.cards s.before s.bricks s.locals s.table s.queues s.g s.entries s.planned
-        c.run.given m kept c.begun g.object g.present ∙ g.left)
+        (left-view s.rows s.old s.ready s.roots s.g s.entries s.planned c.run.given m kept c.begun g.object g.present
+        ∙ g.left)
         (ap (is_in_parts view (Generations s.g)) g.from ∙ inside) in
         ap has_mark ((c.went.relocated.heads j in-view-items).1 ∙ ap (word_of view) (sym g.from)) ∙ mark
 
@@ -251,7 +252,7 @@ module _ (s : Stages) (m : Machine) (kept : ℕ → Bool) (c : IsCourse s m kept
 
     -- words of the cell, but for the mark, stand where it goes
     moved-word : (t : ℕ) → t % 8 ≡ 0 → t < j.size → t ≢ 8
-        → word_of s.moved (i.place - 8 + t) ≡ word_of c.went.mid (j.place - 8 + t)
+        → word_of s.moved.heap (i.place - 8 + t) ≡ word_of c.went.mid (j.place - 8 + t)
     moved-word t z l ne = elim (cases_Bool (is_in_parts c.begun.view (Generations s.g) j.place)) [
       | inl inside ↦
           let vs = c.begun.plan.moves in
@@ -263,7 +264,7 @@ module _ (s : Stages) (m : Machine) (kept : ℕ → Bool) (c : IsCourse s m kept
             | inl first_word ↦
                 let hb : i.place - 8 + t ≡ moved_by vs j.place - 8 = omega (arith, at, first_word) in
                 let back : j.place - 8 ≡ j.place - 8 + t = omega (arith, first_word) in
-                ap (word_of s.moved) hb
+                ap (word_of s.moved.heap) hb
                 ∙ c.went.compacted.headers j in-mid-items g.is marked mid_inside
                 ∙ ap (word_of c.went.mid) back
             | inr later_word ↦
@@ -287,7 +288,7 @@ module _ (s : Stages) (m : Machine) (kept : ℕ → Bool) (c : IsCourse s m kept
           let same : i.place - 8 + t ≡ j.place - 8 + t = omega (arith, at, stays) in
           let up = up-old in
           let za = aligned-old in
-          ap (word_of s.moved) same
+          ap (word_of s.moved.heap) same
           ∙ c.went.compacted.outside (j.place - 8 + t) (omega (arith, up, za, z))
           (subst (λ (h : HeapView). IsOutside h (Generations s.g) (j.place - 8 + t)) (sym c.went.relocated.others)
           (outside-cell j in-view-items away (j.place - 8 + t) (omega (arith, up)) (omega (arith, up, l))))
@@ -296,33 +297,33 @@ module _ (s : Stages) (m : Machine) (kept : ℕ → Bool) (c : IsCourse s m kept
     -- ---- before the moves
 
     -- words inside of the cell are not pinned headers
-    old-stands : (x : ℕ) → IsPinnedBelow s.table (condemned_from s.old s.g) 65536 x → StandsAt s.rows s.old x
+    old-stands : (x : ℕ) → IsPinnedBelow s.roots.handles (condemned_from s.old.heap s.g) 65536 x
+        → StandsAt s.rows s.old.heap x
     old-stands x q =
-        subst (StandsAt s.rows s.old) q.target
-        (left-stands s.rows s.old s.g q.row.target (subst (λ (n : ℕ). 0 < n) (sym q.target) q.some)
-        (c.run.given.named.targets q.number q.row q.in_use))
+        subst (StandsAt s.rows s.old.heap) q.target
+        (left-stands s.rows s.old.heap s.g q.row.target (subst (λ (n : ℕ). 0 < n) (sym q.target) q.some)
+        (c.run.given.marked.named.targets q.number q.row q.in_use))
 
     view-word : (b : ℕ) → b % 8 ≡ 0 → j.place ≤ b → b + 8 < j.place + j.size
-        → word_of c.begun.view b ≡ word_of s.old b
+        → word_of c.begun.view b ≡ word_of s.old.heap b
     view-word b z low high = elim (c.begun.pins.words b z) [
       | inl hit ↦
-          absurd (none-starts s.rows s.old c.run.given.heap c.run.given.held j (b + 8) g.listed (omega (arith, low))
-          high
-          (old-stands (b + 8) hit.0))
+          absurd (none-starts s.rows s.old.heap c.run.given.tidy.heap c.run.given.tidy.held j (b + 8) g.listed
+          (omega (arith, low)) high (old-stands (b + 8) hit.0))
       | inr miss ↦ miss.1
     ]
 
     -- ---- after the moves
 
-    moved-stands : (x : ℕ) → IsPinnedBelow s.table_after s.low 65536 x → StandsAt s.rows s.moved x
+    moved-stands : (x : ℕ) → IsPinnedBelow s.roots_after.handles s.low 65536 x → StandsAt s.rows s.moved.heap x
     moved-stands x q =
-        subst (StandsAt s.rows s.moved) q.target
+        subst (StandsAt s.rows s.moved.heap) q.target
         (pins-stand s m kept c q.number q.row q.in_use q.pinned (subst (λ (n : ℕ). 0 < n) (sym q.target) q.some))
 
     -- the item where it has moved
     record IsThere : Type 0 where
       item : Item
-      there : IsIn item (heap_items s.rows s.moved)
+      there : IsIn item (heap_items s.rows s.moved.heap)
       at : item.place ≡ i.place
       bytes : item.size ≡ i.size
 
@@ -331,7 +332,7 @@ module _ (s : Stages) (m : Machine) (kept : ℕ → Bool) (c : IsCourse s m kept
         let o = g.object in
         let spared = left-spared s m kept c o g.present g.left in
         let q = placed s m kept c o in
-        let k = item-of s.rows s.moved q (in-moved s m kept c o g.present spared) in
+        let k = item-of s.rows s.moved.heap q (in-moved s m kept c o g.present spared) in
         let is = placed-left s m kept c o g.present g.left in
         let was = item-was-of in
         let type : k.item.type_id.0 ≡ i.type_id.0 =
@@ -342,7 +343,7 @@ module _ (s : Stages) (m : Machine) (kept : ℕ → Bool) (c : IsCourse s m kept
           item = k.item;
           there = k.listed;
           at = sym k.at ∙ ap (λ (x : Object). x.place) is ∙ ap (moved_by c.begun.plan.moves) g.from ∙ sym g.place;
-          bytes = listed-sized s.rows s.moved k.item c.run.moved_lawful c.went.compacted.held k.listed
+          bytes = listed-sized s.rows s.moved.heap k.item c.went.heap c.went.compacted.held k.listed
               ∙ (λ d. size_of (form_at s.rows (type d)) (len d))
               ∙ sym (listed-sized s.rows new i heap held listed);
         }
@@ -350,13 +351,13 @@ module _ (s : Stages) (m : Machine) (kept : ℕ → Bool) (c : IsCourse s m kept
         item-was-of : (g.object.type ≡ j.type_id.0) × (g.object.len ≡ j.len)
         item-was-of = g.kind
 
-    bare-word : (b : ℕ) → b % 8 ≡ 0 → i.place ≤ b → b + 8 < i.place + i.size → word_of e.bare b ≡ word_of s.moved b
+    bare-word : (b : ℕ) → b % 8 ≡ 0 → i.place ≤ b → b + 8 < i.place + i.size → word_of e.bare b ≡ word_of s.moved.heap b
     bare-word b z low high = elim (e.pins.words b z) [
       | inl hit ↦
           let w = is-there in
           let at = w.at in
           let bytes = w.bytes in
-          absurd (none-starts s.rows s.moved c.run.moved_lawful c.went.compacted.held w.item (b + 8) w.there
+          absurd (none-starts s.rows s.moved.heap c.went.heap c.went.compacted.held w.item (b + 8) w.there
           (omega (arith, at, low)) (omega (arith, at, bytes, high)) (moved-stands (b + 8) hit.0))
       | inr miss ↦ miss.1
     ]
@@ -375,19 +376,19 @@ module _ (s : Stages) (m : Machine) (kept : ℕ → Bool) (c : IsCourse s m kept
 
     -- ---- the header
 
-    old-header : IsCleanHeader s.rows j.type_id.0 (word_of s.old (j.place - 8))
-    old-header = (c.run.given.clean j g.listed g.is).header
+    old-header : IsCleanHeader s.rows j.type_id.0 (word_of s.old.heap (j.place - 8))
+    old-header = (c.run.given.tidy.clean j g.listed g.is).header
 
-    off-old : has_pin (word_of s.old (j.place - 8)) ≡ false
-    off-old = none-pinned s.rows j.type_id.0 (word_of s.old (j.place - 8)) old-header
+    off-old : has_pin (word_of s.old.heap (j.place - 8)) ≡ false
+    off-old = none-pinned s.rows j.type_id.0 (word_of s.old.heap (j.place - 8)) old-header
 
-    moved-header : word_of s.moved (i.place - 8) ≡ word_of c.begun.view (j.place - 8)
+    moved-header : word_of s.moved.heap (i.place - 8) ≡ word_of c.begun.view (j.place - 8)
     moved-header =
-        let size = (listed-item s.rows s.old j c.run.given.heap c.run.given.held g.listed).least in
-        ap (word_of s.moved) (omega arith) ∙ moved-word 0 refl (omega (arith, size)) (λ same. omega (arith, same))
+        let size = (listed-item s.rows s.old.heap j c.run.given.tidy.heap c.run.given.tidy.held g.listed).least in
+        ap (word_of s.moved.heap) (omega arith) ∙ moved-word 0 refl (omega (arith, size)) (λ same. omega (arith, same))
         ∙ ap (word_of c.went.mid) (omega arith) ∙ (c.went.relocated.heads j in-view-items).0
 
-    new-header : is_object i ≡ true → word_of new (i.place - 8) ≡ word_of s.old (j.place - 8)
+    new-header : is_object i ≡ true → word_of new (i.place - 8) ≡ word_of s.old.heap (j.place - 8)
     new-header object =
         let up = up-new in
         let low = up-old in
@@ -403,18 +404,18 @@ module _ (s : Stages) (m : Machine) (kept : ℕ → Bool) (c : IsCourse s m kept
           | inl hit ↦
               hit.1 ∙ ap (pinned_header false) moved-header
               ∙ elim (c.begun.pins.words (j.place - 8) (omega (arith, low, zo))) [
-                | inl was ↦ ap (pinned_header false) was.1 ∙ pin-back (word_of s.old (j.place - 8)) off-old
-                | inr was ↦ ap (pinned_header false) was.1 ∙ pin-none (word_of s.old (j.place - 8)) off-old
+                | inl was ↦ ap (pinned_header false) was.1 ∙ pin-back (word_of s.old.heap (j.place - 8)) off-old
+                | inr was ↦ ap (pinned_header false) was.1 ∙ pin-none (word_of s.old.heap (j.place - 8)) off-old
               ]
           | inr miss ↦
               miss.1 ∙ moved-header
               ∙ elim (c.begun.pins.words (j.place - 8) (omega (arith, low, zo))) [
                 | inl was ↦
-                    let pinned = subst₂ (λ (low : ℕ). IsPinnedBelow s.table low 65536) (sym c.run.low_is) back_old
-                    was.0 in
-                    let gone = pinned-moved (moved_by c.begun.plan.moves) s.table s.low j.place
+                    let pinned = subst₂ (λ (low : ℕ). IsPinnedBelow s.roots.handles low 65536) (sym c.run.low_is)
+                    back_old was.0 in
+                    let gone = pinned-moved (moved_by c.begun.plan.moves) s.roots.handles s.low j.place
                     (omega (arith, place, up)) (low-kept j.place pinned.high) pinned in
-                    absurd (miss.0 (subst (IsPinnedBelow s.table_after s.low 65536) (sym place ∙ sym back)
+                    absurd (miss.0 (subst (IsPinnedBelow s.roots_after.handles s.low 65536) (sym place ∙ sym back)
                     (subst (λ (t : FinMap nat_cmp Handle). IsPinnedBelow t s.low 65536
                     (moved_by c.begun.plan.moves j.place))
                     (sym c.went.gone.table_is) gone)))
@@ -450,11 +451,11 @@ module _ (s : Stages) (m : Machine) (kept : ℕ → Bool) (c : IsCourse s m kept
           let high_p : p < j.place + j.size - 8 = omega (arith, over, size, above) in
           let none = no-reference s.rows c.begun.view c.begun.plan.overlaid.heap c.begun.pins.held (Generations s.g) j p
           in-view-items low_p high_p in
-          let word : word_of new b ≡ word_of s.old d =
+          let word : word_of new b ≡ word_of s.old.heap d =
           new-word object b at.aligned (omega (arith, above)) (omega (arith, below, sized))
           (λ same. omega (arith, same, above))
           ∙ bare-word b at.aligned (omega (arith, above)) (omega (arith, below, sized))
-          ∙ ap (word_of s.moved) to
+          ∙ ap (word_of s.moved.heap) to
           ∙ moved-word t (omega (arith, above, z)) (omega (arith, below, above, sized, size))
           (λ same. omega (arith, same, above))
           ∙ ap (word_of c.went.mid) from
@@ -465,7 +466,7 @@ module _ (s : Stages) (m : Machine) (kept : ℕ → Bool) (c : IsCourse s m kept
           (omega (arith, from, below, above, sized, size, low))
           in
           let digit : a % 8 ≡ p % 8 = omega (arith, z, zo, down) in
-          ap₂ byte_of word digit ∙ (c.run.given.clean j g.listed g.is).padding p low_p high_p;
+          ap₂ byte_of word digit ∙ (c.run.given.tidy.clean j g.listed g.is).padding p low_p high_p;
     }
 
   pub clean-ended : AreClean s.rows new

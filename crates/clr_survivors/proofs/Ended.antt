@@ -20,7 +20,7 @@ use Rattle.clr_survivors.proofs.LargeTold.{tells-large}
 use Rattle.clr_survivors.proofs.MovedList.{objects-young, unmarked-young}
 
 module _ (s : Stages) (m : Machine) (kept : ℕ → Bool) (c : IsCourse s m kept) (new : HeapView)
-    (e : HasSettled s.rows s.moved new s.table_after s.low s.g) where
+    (e : HasSettled s.rows s.moved.heap new s.roots_after.handles s.low s.g) where
   -- a young collection sweeps nothing, a full one large segments
   pub by-kind : (P : Type 0) → (s.g ≤ 1 → new ≡ e.bare → P)
       → (s.g ≡ 2 → HasSweptLarge s.rows e.bare new → P) → P
@@ -34,9 +34,9 @@ module _ (s : Stages) (m : Machine) (kept : ℕ → Bool) (c : IsCourse s m kept
           young (omega (arith, apart, least)) same
 
   pub objects-ended : objects_in s.rows new
-      ≡ sorted_by (λ o. o.name) (left_objects s.rows s.old s.g c.begun.plan.moves)
+      ≡ sorted_by (λ o. o.name) (left_objects s.rows s.old.heap s.g c.begun.plan.moves)
   objects-ended = by-kind
-      (objects_in s.rows new ≡ sorted_by (λ o. o.name) (left_objects s.rows s.old s.g c.begun.plan.moves))
+      (objects_in s.rows new ≡ sorted_by (λ o. o.name) (left_objects s.rows s.old.heap s.g c.begun.plan.moves))
       (λ young same. ap (objects_in s.rows) same ∙ e.pins.objects ∙ objects-young s m kept c young)
       (λ full swept. objects-full s m kept c full e.bare e.pins new swept)
 

@@ -1,6 +1,6 @@
 -- Cards and bricks after all has moved.
 use Rattle.std.proofs.Common.{◌≡◌, ℕ, Bool, true, false, ◌&&◌, List, map, filter, refl, ap, sym, ◌∙◌, subst}
-use Rattle.std.proofs.Common.{if◌then◌else◌, ◌==◌}
+use Rattle.std.proofs.Common.{if◌then◌else◌, ◌==◌, ◌/◌}
 use Rattle.clr_types.specs.Rising.{IsIn, sorted_by}
 use Rattle.clr_types.specs.Segments.{ended_at, is_small_or_ephemeral, Layout}
 use Rattle.clr_types.specs.Types.{TypeRow}
@@ -11,7 +11,7 @@ use Rattle.clr_types.proofs.SortedLists.{into_sorted_by, out_of_sorted_by}
 use Rattle.clr_bricks.specs.Bricks.{entry_at}
 use Rattle.clr_cards.specs.Cards.{is_card_set}
 use Rattle.clr_covers.specs.Covers.{CoverView, spans}
-use Rattle.clr_generations.specs.Laws.{BrickLaw, CardLaw}
+use Rattle.clr_generations.specs.Laws.{BrickLaw}
 use Rattle.clr_generations.specs.Tables.{AreTablesOf, units_of}
 use Rattle.clr_generations.proofs.KeptLaws.{HasSameObjects, were-younger}
 use Rattle.clr_generations.proofs.SameBounds.{HasSameBounds}
@@ -75,18 +75,18 @@ same-members rows xs ys is = record {
 }
 
 module _ (s : Stages) (m : Machine) (kept : ℕ → Bool) (c : IsCourse s m kept) (new : HeapView)
-    (e : HasSettled s.rows s.moved new s.table_after s.low s.g) where
+    (e : HasSettled s.rows s.moved.heap new s.roots_after.handles s.low s.g) where
   pub segments-ended : {X : Type 0} (f : SegInfo → X) → ((end : ℕ) (u : SegInfo) → f (ended_at end u) ≡ f u)
-      → map f new.segments ≡ map f s.old.segments
+      → map f new.segments ≡ map f s.old.heap.segments
   segments-ended f same =
-      let moved : map f s.moved.segments ≡ map f s.old.segments =
+      let moved : map f s.moved.heap.segments ≡ map f s.old.heap.segments =
       ap (map f) (segments-moved s m kept c)
       ∙ same-but-ends f same is_small_or_ephemeral s.g
       (compacted_end c.begun.plan.after.start0 c.begun.plan.compaction.compacted.plugs c.begun.plan.moves)
-      s.old.segments in
-      let bare : map f e.bare.segments ≡ map f s.old.segments =
+      s.old.heap.segments in
+      let bare : map f e.bare.segments ≡ map f s.old.heap.segments =
       ap (λ (h : HeapView). map f h.segments) e.pins.shape.others ∙ moved in
-      by-kind s m kept c new e (map f new.segments ≡ map f s.old.segments)
+      by-kind s m kept c new e (map f new.segments ≡ map f s.old.heap.segments)
       (λ young is. ap (λ (h : HeapView). map f h.segments) is ∙ bare)
       (λ full swept. ap (λ (l : Layout). map f l.segments)
       (swept.layout (survivors m s.g kept) (tells-large s m kept c full e.bare e.pins))
@@ -124,27 +124,26 @@ module _ (s : Stages) (m : Machine) (kept : ℕ → Bool) (c : IsCourse s m kept
 
   -- what the view's plan takes along is what is left
   left-lists : relocated.left_objects s.rows c.begun.view (Generations s.g) c.begun.plan.moves
-      ≡ left_objects s.rows s.old s.g c.begun.plan.moves
+      ≡ left_objects s.rows s.old.heap s.g c.begun.plan.moves
   left-lists =
       ap (map (λ o. moved_object c.begun.plan.moves (relocated_object c.begun.plan.moves o)))
       (ap (filter (is_left c.begun.view s.g)) c.begun.pins.objects
-      ∙ filter-alike (is_left c.begun.view s.g) (is_left s.old s.g) (objects_in s.rows s.old)
-      (left-view s.rows s.old s.ready s.cards s.before s.bricks s.locals s.table s.queues s.g s.entries s.planned
-      c.run.given m kept c.begun))
+      ∙ filter-alike (is_left c.begun.view s.g) (is_left s.old.heap s.g) (objects_in s.rows s.old.heap)
+      (left-view s.rows s.old s.ready s.roots s.g s.entries s.planned c.run.given m kept c.begun))
 
-  pub tables-ended : (cards : List (CoverView ℕ)) (bricks : BricksView) → spans cards ≡ spans s.cards
-      → spans bricks ≡ spans s.before
-      → CardLaw s.rows (rebounded (frame c.begun.view) s.planned)
-      (relocated.left_objects s.rows c.begun.view (Generations s.g) c.begun.plan.moves) (is_card_set cards)
+  pub tables-ended : (cards : List (CoverView ℕ)) (bricks : BricksView) → cards ≡ s.moved.cards
+      → spans s.moved.cards ≡ spans s.ready.cards → spans bricks ≡ spans s.ready.bricks
       → BrickLaw s.rows (frame new) (objects_in s.rows new) (entry_at bricks) → AreTablesOf s.rows new cards bricks
-  tables-ended cards bricks same_cards same_bricks card_law brick_law = record {
-    cards = same_cards ∙ c.run.given.tables.cards ∙ sym (segments-ended (units_of 2048) (λ end u. refl));
-    bricks = same_bricks ∙ c.run.given.tables.bricks ∙ sym (segments-ended (units_of 4096) (λ end u. refl));
-    card_law = λ a y. card_law a
-        (were-younger s.rows s.rows (rebounded (frame c.begun.view) s.planned) (frame new)
+  tables-ended cards bricks same_cards span_cards same_bricks brick_law = record {
+    cards = ap spans same_cards ∙ span_cards ∙ ap spans c.begun.cards_is ∙ c.run.given.tidy.tables.cards
+        ∙ sym (segments-ended (units_of 2048) (λ end u. refl));
+    bricks = same_bricks ∙ c.begun.same_bricks ∙ c.run.given.tidy.tables.bricks
+        ∙ sym (segments-ended (units_of 4096) (λ end u. refl));
+    card_law = λ a y. subst (λ (cs : List (CoverView ℕ)). is_card_set cs (a / 2048) ≡ true) (sym same_cards)
+        (c.went.card_law a (were-younger s.rows s.rows (rebounded (frame c.begun.view) s.planned) (frame new)
         (relocated.left_objects s.rows c.begun.view (Generations s.g) c.begun.plan.moves) (objects_in s.rows new)
         same-bounds (same-members s.rows (relocated.left_objects s.rows c.begun.view (Generations s.g)
         c.begun.plan.moves) (objects_in s.rows new)
-        (objects-ended s m kept c new e ∙ ap (sorted_by (λ (o : Object). o.name)) (sym left-lists))) a y);
+        (objects-ended s m kept c new e ∙ ap (sorted_by (λ (o : Object). o.name)) (sym left-lists))) a y));
     brick_law = brick_law;
   }

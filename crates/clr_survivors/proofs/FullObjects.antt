@@ -158,12 +158,12 @@ module _ (s : Stages) (m : Machine) (kept : ℕ → Bool) (c : IsCourse s m kept
   -- and stays where it is
   pub unmoved-place : (x : ℕ) → is_in_parts c.begun.view (Generations s.g) x ≡ false → moved_by c.begun.plan.moves x ≡ x
   unmoved-place x away =
-      sym (outside_stays s.rows s.ready s.bricks
-      (Generations s.g) c.begun.plan.moves c.run.ready_lawful c.begun.plan.told x
+      sym (outside_stays s.rows s.ready.heap s.ready.bricks
+      (Generations s.g) c.begun.plan.moves c.ready_heap c.begun.plan.told x
       (λ t is. both_ways (is_in_parts c.begun.view (Generations s.g) x) away
       (part-test s.rows c.begun.view s.g c.begun.plan.moves m kept c.begun.plan.after c.run.given.generation
       c.begun.plan.compaction t x
-      (in_part-same c.begun.view s.ready (Generations s.g) t x c.begun.plan.overlaid.shape is))))
+      (in_part-same c.begun.view s.ready.heap (Generations s.g) t x c.begun.plan.overlaid.shape is))))
 
   -- a marked object of a part goes to a part
   pub lands-inside : (o : Object) → IsIn o (objects_in s.rows c.begun.view) → is_marked c.begun.view o ≡ true
@@ -191,14 +191,14 @@ module _ (s : Stages) (m : Machine) (kept : ℕ → Bool) (c : IsCourse s m kept
         high = omega (arith, at, low, high, end);
       })
 
-  module _ (bare : HeapView) (pins : HasPins s.rows s.moved bare s.table_after s.low 65536 false) where
+  module _ (bare : HeapView) (pins : HasPins s.rows s.moved.heap bare s.roots_after.handles s.low 65536 false) where
     abbrev stays : Object → Bool
     stays q = not (is_large_place bare q.place) || is_marked bare q
 
-    pub large-bare : (x : ℕ) → is_large_place bare x ≡ is_large_place s.old x
+    pub large-bare : (x : ℕ) → is_large_place bare x ≡ is_large_place s.old.heap x
     large-bare x = ap (λ (h : HeapView). is_large_place h x) pins.shape.others ∙ large-moved s m kept c x
 
-    pub large-view : (x : ℕ) → is_large_place c.begun.view x ≡ is_large_place s.old x
+    pub large-view : (x : ℕ) → is_large_place c.begun.view x ≡ is_large_place s.old.heap x
     large-view x = ap (λ (h : HeapView). is_large_place h x) c.begun.pins.shape.others
 
     reached-all : (b d : Bool) → b ≡ true → (not b || d) ≡ d
@@ -206,20 +206,23 @@ module _ (s : Stages) (m : Machine) (kept : ℕ → Bool) (c : IsCourse s m kept
     reached-all false d e = absurd cc
 
     -- all that is left is marked
-    pub left-marked : (o : Object) → is_left s.old s.g o ≡ is_marked s.old o
+    pub left-marked : (o : Object) → is_left s.old.heap s.g o ≡ is_marked s.old.heap o
     left-marked o =
-        reached-all (is_reached_by s.old s.g o.place) (is_marked s.old o)
-        (le-leb (generation (frame s.old) o.place) s.g
-        (let least = generation-least (frame s.old) o.place in omega (arith, least, full)))
+        reached-all (is_reached_by s.old.heap s.g o.place) (is_marked s.old.heap o)
+        (le-leb (generation (frame s.old.heap) o.place) s.g
+        (let least = generation-least (frame s.old.heap) o.place in omega (arith, least, full)))
 
-    pub mark-view : (o : Object) → IsIn o (objects_in s.rows s.old) → is_marked c.begun.view o ≡ is_marked s.old o
-    mark-view o i = marked-kept s.rows s.old c.begun.view s.table (condemned_from s.old s.g) c.run.given.heap
-        c.run.given.held true c.begun.pins o i
+    pub mark-view : (o : Object) → IsIn o (objects_in s.rows s.old.heap)
+        → is_marked c.begun.view o ≡ is_marked s.old.heap o
+    mark-view o i =
+        marked-kept s.rows s.old.heap c.begun.view s.roots.handles (condemned_from s.old.heap s.g)
+        c.run.given.tidy.heap c.run.given.tidy.held true c.begun.pins o i
 
     -- in a large segment an object keeps its mark
-    pub mark-kept : (o : Object) → IsIn o (objects_in s.rows s.old)
+    pub mark-kept : (o : Object) → IsIn o (objects_in s.rows s.old.heap)
         → is_in_parts c.begun.view (Generations s.g) o.place ≡ false
-        → is_spared c.begun.view (Generations s.g) o ≡ true → is_marked bare (placed s m kept c o) ≡ is_marked s.old o
+        → is_spared c.begun.view (Generations s.g) o ≡ true
+        → is_marked bare (placed s m kept c o) ≡ is_marked s.old.heap o
     mark-kept o i away spared =
         let vs = c.begun.plan.moves in
         let r = c.went.relocated in
@@ -228,19 +231,19 @@ module _ (s : Stages) (m : Machine) (kept : ℕ → Bool) (c : IsCourse s m kept
         ap (moved_by vs) (turned-place s.rows c.begun.view c.went.mid (Generations s.g) vs r o)
         ∙ unmoved-place o.place away in
         let there = now-in-view s m kept c o i in
-        let aligned = (place-high s.rows s.old c.run.given.heap c.run.given.held o i).1 in
+        let aligned = (place-high s.rows s.old.heap c.run.given.tidy.heap c.run.given.tidy.held o i).1 in
         let outside : IsOutside c.went.mid (Generations s.g) o.place =
         subst (λ (h : HeapView). IsOutside h (Generations s.g) o.place) (sym r.others) (outside-word o there away) in
-        marked-kept s.rows s.moved bare s.table_after s.low c.run.moved_lawful c.went.compacted.held false pins
+        marked-kept s.rows s.moved.heap bare s.roots_after.handles s.low c.went.heap c.went.compacted.held false pins
         (placed s m kept c o) (in-moved s m kept c o i spared)
-        ∙ ap (λ x. has_mark (word_of s.moved x)) at
+        ∙ ap (λ x. has_mark (word_of s.moved.heap x)) at
         ∙ ap has_mark (c.went.compacted.outside o.place aligned outside)
         ∙ ap (λ x. has_mark (word_of c.went.mid x))
         (sym (turned-place s.rows c.begun.view c.went.mid (Generations s.g) vs r o))
         ∙ turned-mark s.rows c.begun.view c.went.mid (Generations s.g) vs r o there
         ∙ mark-view o i
 
-    pub out-of-large : (o : Object) → is_large_place s.old o.place ≡ true
+    pub out-of-large : (o : Object) → is_large_place s.old.heap o.place ≡ true
         → is_in_parts c.begun.view (Generations s.g) o.place ≡ false
     out-of-large o large = elim (cases_Bool (is_in_parts c.begun.view (Generations s.g) o.place)) [
       | inl inside ↦
@@ -250,7 +253,7 @@ module _ (s : Stages) (m : Machine) (kept : ℕ → Bool) (c : IsCourse s m kept
       | inr away ↦ away
     ]
 
-    pub in-part : (o : Object) → IsIn o (objects_in s.rows s.old) → is_large_place s.old o.place ≡ false
+    pub in-part : (o : Object) → IsIn o (objects_in s.rows s.old.heap) → is_large_place s.old.heap o.place ≡ false
         → is_in_parts c.begun.view (Generations s.g) o.place ≡ true
     in-part o i off =
         subst (λ g. is_in_parts c.begun.view (Generations g) o.place ≡ true) (sym full)
@@ -258,9 +261,9 @@ module _ (s : Stages) (m : Machine) (kept : ℕ → Bool) (c : IsCourse s m kept
         (large-view o.place ∙ off))
 
     -- what is spared and stays in the sweep is what is left
-    stays-left : (o : Object) → IsIn o (objects_in s.rows s.old)
-        → (is_spared c.begun.view (Generations s.g) o && stays (placed s m kept c o)) ≡ is_left s.old s.g o
-    stays-left o i = elim (cases_Bool (is_large_place s.old o.place)) [
+    stays-left : (o : Object) → IsIn o (objects_in s.rows s.old.heap)
+        → (is_spared c.begun.view (Generations s.g) o && stays (placed s m kept c o)) ≡ is_left s.old.heap s.g o
+    stays-left o i = elim (cases_Bool (is_large_place s.old.heap o.place)) [
       | inl large ↦
           let away = out-of-large o large in
           let spared : is_spared c.begun.view (Generations s.g) o ≡ true =
@@ -275,11 +278,11 @@ module _ (s : Stages) (m : Machine) (kept : ℕ → Bool) (c : IsCourse s m kept
           ∙ mark-kept o i away spared ∙ sym (left-marked o)
       | inr off ↦
           let inside = in-part o i off in
-          let spared : is_spared c.begun.view (Generations s.g) o ≡ is_marked s.old o =
+          let spared : is_spared c.begun.view (Generations s.g) o ≡ is_marked s.old.heap o =
           ap (λ (b : Bool). is_marked c.begun.view o || not b) inside ∙ or-false (is_marked c.begun.view o)
           ∙ mark-view o i in
           ap (λ (b : Bool). b && stays (placed s m kept c o)) spared
-          ∙ both-or (is_marked s.old o) (stays (placed s m kept c o))
+          ∙ both-or (is_marked s.old.heap o) (stays (placed s m kept c o))
           (λ mark. ap (λ (b : Bool). not b || is_marked bare (placed s m kept c o))
           (ap (is_large_place bare)
           (ap (moved_by c.begun.plan.moves)
@@ -305,19 +308,19 @@ module _ (s : Stages) (m : Machine) (kept : ℕ → Bool) (c : IsCourse s m kept
         both-or false b e = refl
 
     pub objects-full : (new : HeapView) → HasSweptLarge s.rows bare new → objects_in s.rows new
-        ≡ sorted_by (λ o. o.name) (left_objects s.rows s.old s.g c.begun.plan.moves)
+        ≡ sorted_by (λ o. o.name) (left_objects s.rows s.old.heap s.g c.begun.plan.moves)
     objects-full new swept =
-        let spared = filter (is_spared c.begun.view (Generations s.g)) (objects_in s.rows s.old) in
+        let spared = filter (is_spared c.begun.view (Generations s.g)) (objects_in s.rows s.old.heap) in
         swept.objects
         ∙ ap (filter stays) (pins.objects ∙ moved-list s m kept c)
         ∙ filter-sorted (λ o. o.name) stays (map (placed s m kept c) spared)
         ∙ ap (sorted_by (λ (o : Object). o.name)) (filter-map (placed s m kept c) stays spared)
         ∙ ap (λ (os : List Object). sorted_by (λ o. o.name) (map (placed s m kept c) os))
         (filter-both (λ o. stays (placed s m kept c o)) (is_spared c.begun.view (Generations s.g))
-        (objects_in s.rows s.old)
+        (objects_in s.rows s.old.heap)
         ∙ filter-alike (λ o. is_spared c.begun.view (Generations s.g) o && stays (placed s m kept c o))
-        (is_left s.old s.g)
-        (objects_in s.rows s.old) stays-left)
+        (is_left s.old.heap s.g)
+        (objects_in s.rows s.old.heap) stays-left)
         ∙ ap (sorted_by (λ (o : Object). o.name)) (placed-list s m kept c)
 
     pub unmarked-full : (new : HeapView) → HasSweptLarge s.rows bare new → (x : ℕ) → Marked s.rows new x → ⊥
@@ -327,4 +330,4 @@ module _ (s : Stages) (m : Machine) (kept : ℕ → Bool) (c : IsCourse s m kept
         let (o, i, at) = was.stands in
         both_ways (is_in_parts c.begun.view (Generations s.g) x) away
         (ap (is_in_parts c.begun.view (Generations s.g)) (sym at)
-        ∙ in-part o i (ap (is_large_place s.old) at ∙ sym (large-bare x) ∙ off))
+        ∙ in-part o i (ap (is_large_place s.old.heap) at ∙ sym (large-bare x) ∙ off))

@@ -79,7 +79,7 @@ large-was g ends ss t i large =
 
 module _ (s : Stages) (m : Machine) (kept : ℕ → Bool) (c : IsCourse s m kept) where
   -- the segment where an object stands is told by its base
-  base-stands : (t : SegInfo) → IsIn t s.old.segments → (o : Object) → IsIn o (objects_in s.rows s.old)
+  base-stands : (t : SegInfo) → IsIn t s.old.heap.segments → (o : Object) → IsIn o (objects_in s.rows s.old.heap)
       → (base_at m.layout.segments o.place == t.base) ≡ stands_in t o.place
   base-stands t i o n =
       let h : HasHome m.layout o.place =
@@ -101,50 +101,50 @@ module _ (s : Stages) (m : Machine) (kept : ℕ → Bool) (c : IsCourse s m kept
         ]
       ]
 
-  rises : IsRisingBy (λ (o : Object). o.name) (objects_in s.rows s.old)
-  rises = objects-rise s.rows (word_of s.old) (heap_items s.rows s.old)
-      (heap-rise s.rows s.old c.run.given.held.walkable c.run.given.heap)
+  rises : IsRisingBy (λ (o : Object). o.name) (objects_in s.rows s.old.heap)
+  rises = objects-rise s.rows (word_of s.old.heap) (heap_items s.rows s.old.heap)
+      (heap-rise s.rows s.old.heap c.run.given.tidy.held.walkable c.run.given.tidy.heap)
 
-  module _ (full : s.g ≡ 2) (t : SegInfo) (there : IsIn t s.old.segments) where
+  module _ (full : s.g ≡ 2) (t : SegInfo) (there : IsIn t s.old.heap.segments) where
     abbrev before : List Object
-    before = objects_in s.rows s.old
+    before = objects_in s.rows s.old.heap
 
     -- the marked objects of the segment
     abbrev pub chosen : Object → Bool
-    chosen o = is_marked s.old o && stands_in t o.place
+    chosen o = is_marked s.old.heap o && stands_in t o.place
 
     condemned-kept : (o : Object) → IsIn o before
-        → (is_condemned m s.g o && kept o.name) ≡ is_marked s.old o
+        → (is_condemned m s.g o && kept o.name) ≡ is_marked s.old.heap o
     condemned-kept o i =
         let least = generation-least m.layout o.place in
-        let low = generation-least (frame s.old) o.place in
+        let low = generation-least (frame s.old.heap) o.place in
         ap (λ (b : Bool). b && kept o.name)
         (le-leb (generation m.layout o.place) s.g (omega (arith, least, full)))
         ∙ c.tests o i (omega (arith, low, full))
 
     pub survivors-told : survivor_pieces t (survivors m s.g kept) ≡ map (object_piece s.rows) (filter chosen before)
     survivors-told =
-        let marked = filter (is_marked s.old) before in
+        let marked = filter (is_marked s.old.heap) before in
         ap (λ (ks : List Survivor). survivor_pieces t (sorted_by (λ (k : Survivor). k.place) ks))
         (ap (map (survivor m))
         (ap (filter (λ o. is_condemned m s.g o && kept o.name)) c.memory.objects
-        ∙ filter-alike (λ o. is_condemned m s.g o && kept o.name) (is_marked s.old) before condemned-kept))
+        ∙ filter-alike (λ o. is_condemned m s.g o && kept o.name) (is_marked s.old.heap) before condemned-kept))
         ∙ ap (survivor_pieces t)
         (sorted_by-done (λ (k : Survivor). k.place) (map (survivor m) marked)
         (map-rising (survivor m) (λ k. k.place) marked
-        (filter-rises (is_marked s.old) (λ o. o.name) before rises)
-        (λ o i. sym (name-is-place s.rows s.old o (out_of_filter (is_marked s.old) o before i).1))))
+        (filter-rises (is_marked s.old.heap) (λ o. o.name) before rises)
+        (λ o i. sym (name-is-place s.rows s.old.heap o (out_of_filter (is_marked s.old.heap) o before i).1))))
         ∙ ap (map survivor_piece)
         (filter-map (survivor m) (λ k. k.segment == t.base) marked)
         ∙ map-map (survivor m) survivor_piece (filter (λ o. base_at m.layout.segments o.place == t.base) marked)
         ∙ ap (λ (rows : List TypeRow). map (object_piece rows)
         (filter (λ o. base_at m.layout.segments o.place == t.base) marked)) c.memory.types
         ∙ ap (map (object_piece s.rows))
-        (filter-both (λ o. base_at m.layout.segments o.place == t.base) (is_marked s.old) before
-        ∙ filter-alike (λ o. is_marked s.old o && (base_at m.layout.segments o.place == t.base)) chosen before
-        (λ o i. ap (λ (b : Bool). is_marked s.old o && b) (base-stands t there o i)))
+        (filter-both (λ o. base_at m.layout.segments o.place == t.base) (is_marked s.old.heap) before
+        ∙ filter-alike (λ o. is_marked s.old.heap o && (base_at m.layout.segments o.place == t.base)) chosen before
+        (λ o i. ap (λ (b : Bool). is_marked s.old.heap o && b) (base-stands t there o i)))
 
-    module _ (bare : HeapView) (pins : HasPins s.rows s.moved bare s.table_after s.low 65536 false)
+    module _ (bare : HeapView) (pins : HasPins s.rows s.moved.heap bare s.roots_after.handles s.low 65536 false)
         (large : is_large_or_pinned t.kind ≡ true) where
       abbrev put : Object → Object
       put = placed s m kept c
@@ -157,20 +157,20 @@ module _ (s : Stages) (m : Machine) (kept : ℕ → Bool) (c : IsCourse s m kept
           ap (moved_by c.begun.plan.moves)
           (turned-place s.rows c.begun.view c.went.mid (Generations s.g) c.begun.plan.moves c.went.relocated o)
 
-      in-large : (x : ℕ) → stands_in t x ≡ true → is_large_place s.old x ≡ true
+      in-large : (x : ℕ) → stands_in t x ≡ true → is_large_place s.old.heap x ≡ true
       in-large x stands =
-          any-from (λ (u : SegInfo). is_large_or_pinned u.kind && stands_in u x) s.old.segments t there
+          any-from (λ (u : SegInfo). is_large_or_pinned u.kind && stands_in u x) s.old.heap.segments t there
           (and_from (is_large_or_pinned t.kind) (stands_in t x) large stands)
 
-      off-large : (x : ℕ) → is_large_place s.old x ≡ false → stands_in t x ≡ false
+      off-large : (x : ℕ) → is_large_place s.old.heap x ≡ false → stands_in t x ≡ false
       off-large x off = elim (cases_Bool (stands_in t x)) [
-        | inl stands ↦ absurd (both_ways (is_large_place s.old x) off (in-large x stands))
+        | inl stands ↦ absurd (both_ways (is_large_place s.old.heap x) off (in-large x stands))
         | inr none ↦ none
       ]
 
       same-choice : (o : Object) → IsIn o before
           → (is_spared c.begun.view (Generations s.g) o && swept_test (put o)) ≡ chosen o
-      same-choice o i = elim (cases_Bool (is_large_place s.old o.place)) [
+      same-choice o i = elim (cases_Bool (is_large_place s.old.heap o.place)) [
         | inl on ↦
             let away = out-of-large s m kept c full bare pins o on in
             let spared : is_spared c.begun.view (Generations s.g) o ≡ true =
@@ -179,14 +179,14 @@ module _ (s : Stages) (m : Machine) (kept : ℕ → Bool) (c : IsCourse s m kept
             ∙ ap (λ (x : ℕ). stands_in t x && is_marked bare (put o))
             (put-place o ∙ unmoved-place s m kept c full o.place away)
             ∙ ap (λ (b : Bool). stands_in t o.place && b) (mark-kept s m kept c full bare pins o i away spared)
-            ∙ and-turned (stands_in t o.place) (is_marked s.old o)
+            ∙ and-turned (stands_in t o.place) (is_marked s.old.heap o)
         | inr off ↦
             let inside = in-part s m kept c full bare pins o i off in
-            let spared : is_spared c.begun.view (Generations s.g) o ≡ is_marked s.old o =
+            let spared : is_spared c.begun.view (Generations s.g) o ≡ is_marked s.old.heap o =
             ap (λ (b : Bool). is_marked c.begun.view o || not b) inside ∙ or-false (is_marked c.begun.view o)
             ∙ mark-view s m kept c full bare pins o i in
             ap (λ (b : Bool). b && swept_test (put o)) spared
-            ∙ neither (is_marked s.old o) (swept_test (put o)) (stands_in t o.place)
+            ∙ neither (is_marked s.old.heap o) (swept_test (put o)) (stands_in t o.place)
             (λ mark. ap (λ (b : Bool). b && is_marked bare (put o))
             (ap (stands_in t) (put-place o)
             ∙ off-large (moved_by c.begun.plan.moves o.place)
@@ -220,14 +220,14 @@ module _ (s : Stages) (m : Machine) (kept : ℕ → Bool) (c : IsCourse s m kept
       chosen-name : (o : Object) → IsIn o (filter chosen before) → (put o).name ≡ o.name
       chosen-name o i =
           let (yes_chosen, was) = out_of_filter chosen o before i in
-          let on = in-large o.place (and_parts (is_marked s.old o) (stands_in t o.place) yes_chosen).1 in
+          let on = in-large o.place (and_parts (is_marked s.old.heap o) (stands_in t o.place) yes_chosen).1 in
           put-place o ∙ unmoved-place s m kept c full o.place (out-of-large s m kept c full bare pins o on)
-          ∙ sym (name-is-place s.rows s.old o was)
+          ∙ sym (name-is-place s.rows s.old.heap o was)
 
       chosen-piece : (o : Object) → IsIn o (filter chosen before) → object_piece s.rows (put o) ≡ object_piece s.rows o
       chosen-piece o i =
           let (yes_chosen, was) = out_of_filter chosen o before i in
-          let name = chosen-name o i ∙ name-is-place s.rows s.old o was in
+          let name = chosen-name o i ∙ name-is-place s.rows s.old.heap o was in
           ap (λ (b : Bool). object_piece s.rows
           (moved_object c.begun.plan.moves (if b then relocated_object c.begun.plan.moves o else o))) refl
           ∙ each (is_left c.begun.view s.g o) name
@@ -258,12 +258,13 @@ module _ (s : Stages) (m : Machine) (kept : ℕ → Bool) (c : IsCourse s m kept
           ∙ map-on (λ o. object_piece s.rows (put o)) (object_piece s.rows) (filter chosen before) chosen-piece
 
   -- THE SWEEP of large segments is told what survives there
-  pub tells-large : s.g ≡ 2 → (bare : HeapView) → HasPins s.rows s.moved bare s.table_after s.low 65536 false
+  pub tells-large : s.g ≡ 2 → (bare : HeapView)
+      → HasPins s.rows s.moved.heap bare s.roots_after.handles s.low 65536 false
       → TellsLarge s.rows bare (survivors m s.g kept)
   tells-large full bare pins t i large =
       let moved = subst (λ (ss : List SegInfo). IsIn t ss)
       (ap (λ (h : HeapView). h.segments) pins.shape.others ∙ segments-moved s m kept c) i in
       let there = large-was s.g
       (compacted_end c.begun.plan.after.start0 c.begun.plan.compaction.compacted.plugs c.begun.plan.moves)
-      s.old.segments t moved large in
+      s.old.heap.segments t moved large in
       survivors-told full t there ∙ sym (swept-told full t there bare pins large)

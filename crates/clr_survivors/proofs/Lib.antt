@@ -7,6 +7,7 @@ pub mod FewPinned
 pub mod FullObjects
 pub mod HeaderBits
 pub mod ItemsOf
+pub mod KeptNumbers
 pub mod LargeTold
 pub mod LeftGoes
 pub mod LeftObjects

@@ -67,13 +67,13 @@ module _ (s : Stages) (m : Machine) (kept : ℕ → Bool) (c : IsCourse s m kept
   placed o = moved_object c.begun.plan.moves
       (turned s.rows c.begun.view c.went.mid (Generations s.g) c.begun.plan.moves c.went.relocated o)
 
-  pub now-in-view : (o : Object) → IsIn o (objects_in s.rows s.old) → IsIn o (objects_in s.rows c.begun.view)
+  pub now-in-view : (o : Object) → IsIn o (objects_in s.rows s.old.heap) → IsIn o (objects_in s.rows c.begun.view)
   now-in-view o i = subst (λ (os : List Object). IsIn o os) (sym c.begun.pins.objects) i
 
   -- THE OBJECTS: those that are spared, where they go
-  pub moved-list : objects_in s.rows s.moved
+  pub moved-list : objects_in s.rows s.moved.heap
       ≡ sorted_by (λ o. o.name)
-      (map placed (filter (is_spared c.begun.view (Generations s.g)) (objects_in s.rows s.old)))
+      (map placed (filter (is_spared c.begun.view (Generations s.g)) (objects_in s.rows s.old.heap)))
   moved-list =
       let vs = c.begun.plan.moves in
       let mid = c.went.mid in
@@ -95,36 +95,36 @@ module _ (s : Stages) (m : Machine) (kept : ℕ → Bool) (c : IsCourse s m kept
       c.begun.pins.objects
 
   -- one that is spared is there
-  pub in-moved : (o : Object) → IsIn o (objects_in s.rows s.old) → is_spared c.begun.view (Generations s.g) o ≡ true
-      → IsIn (placed o) (objects_in s.rows s.moved)
+  pub in-moved : (o : Object) → IsIn o (objects_in s.rows s.old.heap)
+      → is_spared c.begun.view (Generations s.g) o ≡ true → IsIn (placed o) (objects_in s.rows s.moved.heap)
   in-moved o i spared =
       subst (λ (os : List Object). IsIn (placed o) os) (sym moved-list)
       (into_sorted_by (λ (x : Object). x.name) (placed o)
-      (map placed (filter (is_spared c.begun.view (Generations s.g)) (objects_in s.rows s.old)))
-      (IsIn-map placed (into_filter (is_spared c.begun.view (Generations s.g)) (objects_in s.rows s.old) spared i)))
+      (map placed (filter (is_spared c.begun.view (Generations s.g)) (objects_in s.rows s.old.heap)))
+      (IsIn-map placed
+      (into_filter (is_spared c.begun.view (Generations s.g)) (objects_in s.rows s.old.heap) spared i)))
 
   -- where one that is left goes, it has new references
-  pub placed-left : (o : Object) → IsIn o (objects_in s.rows s.old) → is_left s.old s.g o ≡ true
+  pub placed-left : (o : Object) → IsIn o (objects_in s.rows s.old.heap) → is_left s.old.heap s.g o ≡ true
       → placed o ≡ moved_object c.begun.plan.moves (relocated_object c.begun.plan.moves o)
   placed-left o i left =
       ap (λ (b : Bool). moved_object c.begun.plan.moves (if b then relocated_object c.begun.plan.moves o else o))
-      (left-view s.rows s.old s.ready s.cards s.before s.bricks s.locals s.table s.queues s.g s.entries s.planned
-      c.run.given m kept c.begun o i ∙ left)
+      (left-view s.rows s.old s.ready s.roots s.g s.entries s.planned c.run.given m kept c.begun o i ∙ left)
 
-  pub placed-list : map placed (filter (is_left s.old s.g) (objects_in s.rows s.old))
-      ≡ left_objects s.rows s.old s.g c.begun.plan.moves
+  pub placed-list : map placed (filter (is_left s.old.heap s.g) (objects_in s.rows s.old.heap))
+      ≡ left_objects s.rows s.old.heap s.g c.begun.plan.moves
   placed-list =
       map-on placed (λ o. moved_object c.begun.plan.moves (relocated_object c.begun.plan.moves o))
-      (filter (is_left s.old s.g) (objects_in s.rows s.old))
-      (λ o i. let (left, there) = out_of_filter (is_left s.old s.g) o (objects_in s.rows s.old) i in
+      (filter (is_left s.old.heap s.g) (objects_in s.rows s.old.heap))
+      (λ o i. let (left, there) = out_of_filter (is_left s.old.heap s.g) o (objects_in s.rows s.old.heap) i in
       placed-left o there left)
 
-  pub large-moved : (x : ℕ) → is_large_place s.moved x ≡ is_large_place s.old x
+  pub large-moved : (x : ℕ) → is_large_place s.moved.heap x ≡ is_large_place s.old.heap x
   large-moved x =
       ap (list_any (λ (u : SegInfo). is_large_or_pinned u.kind && stands_in u x)) (segments-moved s m kept c)
       ∙ large-ends s.g x
       (compacted_end c.begun.plan.after.start0 c.begun.plan.compaction.compacted.plugs c.begun.plan.moves)
-      s.old.segments
+      s.old.heap.segments
 
   -- ---- young collections
 
@@ -144,27 +144,26 @@ module _ (s : Stages) (m : Machine) (kept : ℕ → Bool) (c : IsCourse s m kept
     ]
   ]
 
-  spared-left : s.g ≤ 1 → (o : Object) → IsIn o (objects_in s.rows s.old)
-      → is_spared c.begun.view (Generations s.g) o ≡ is_left s.old s.g o
+  spared-left : s.g ≤ 1 → (o : Object) → IsIn o (objects_in s.rows s.old.heap)
+      → is_spared c.begun.view (Generations s.g) o ≡ is_left s.old.heap s.g o
   spared-left young o i =
       ap (λ (b : Bool). is_marked c.begun.view o || not b) (parts-reached young o (now-in-view o i))
       ∙ or-turned (is_marked c.begun.view o) (is_reached_by c.begun.view s.g o.place)
-      ∙ left-view s.rows s.old s.ready s.cards s.before s.bricks s.locals s.table s.queues s.g s.entries s.planned
-      c.run.given m kept c.begun o i
+      ∙ left-view s.rows s.old s.ready s.roots s.g s.entries s.planned c.run.given m kept c.begun o i
 
-  pub objects-young : s.g ≤ 1 → objects_in s.rows s.moved
-      ≡ sorted_by (λ o. o.name) (left_objects s.rows s.old s.g c.begun.plan.moves)
+  pub objects-young : s.g ≤ 1 → objects_in s.rows s.moved.heap
+      ≡ sorted_by (λ o. o.name) (left_objects s.rows s.old.heap s.g c.begun.plan.moves)
   objects-young young =
       moved-list
       ∙ ap (λ (os : List Object). sorted_by (λ o. o.name) (map placed os))
-      (filter-alike (is_spared c.begun.view (Generations s.g)) (is_left s.old s.g) (objects_in s.rows s.old)
+      (filter-alike (is_spared c.begun.view (Generations s.g)) (is_left s.old.heap s.g) (objects_in s.rows s.old.heap)
       (spared-left young))
       ∙ ap (sorted_by (λ (o : Object). o.name)) placed-list
 
   -- ---- marks
 
-  pub was-marked : (x : ℕ) → Marked s.rows s.moved x
-      → Marked s.rows s.old x × (is_in_parts c.begun.view (Generations s.g) x ≡ false)
+  pub was-marked : (x : ℕ) → Marked s.rows s.moved.heap x
+      → Marked s.rows s.old.heap x × (is_in_parts c.begun.view (Generations s.g) x ≡ false)
   was-marked x marked =
       let (had, away) = c.went.compacted.marks x marked in
       let (q, there, at) = had.stands in
@@ -185,14 +184,14 @@ module _ (s : Stages) (m : Machine) (kept : ℕ → Bool) (c : IsCourse s m kept
         sym (ap (λ (h : HeapView). is_in_parts h (Generations s.g) x) c.went.relocated.others) ∙ away,
       )
 
-  pub unmarked-young : s.g ≤ 1 → (x : ℕ) → Marked s.rows s.moved x → ⊥
+  pub unmarked-young : s.g ≤ 1 → (x : ℕ) → Marked s.rows s.moved.heap x → ⊥
   unmarked-young young x marked =
       let (had, away) = was-marked x marked in
       let (o, i, at) = had.stands in
-      let condemned = c.run.given.young x had in
+      let condemned = c.run.given.marked.young x had in
       let reached : is_reached_by c.begun.view s.g o.place ≡ true =
       ap (λ (h : HeapView). is_reached_by h s.g o.place) c.begun.pins.shape.others
-      ∙ ap (is_reached_by s.old s.g) at ∙ sym (condemned-is s.old s.g x) ∙ condemned in
+      ∙ ap (is_reached_by s.old.heap s.g) at ∙ sym (condemned-is s.old.heap s.g x) ∙ condemned in
       both_ways (is_in_parts c.begun.view (Generations s.g) x) away
       (ap (is_in_parts c.begun.view (Generations s.g)) (sym at)
       ∙ young-home s.rows c.begun.view c.begun.plan.overlaid.heap c.begun.pins.held s.g young

@@ -22,8 +22,8 @@ use Rattle.clr_moves.specs.Overlaid.{HoldsPlan, MayGo}
 use Rattle.clr_pinq.specs.declared.entry.PinEntry.{PinEntry}
 use Rattle.clr_types.specs.Types.{TypeRow}
 use Rattle.clr_plugs.specs.BrickEntries.{BricksView}
-use Rattle.clr_final.specs.Queues.{Queues}
 use Rattle.clr_survivors.specs.Roots.{Guides, HasMoved, NamesGo, Plan}
+use Rattle.clr_survivors.specs.declared.roots.Roots.{Roots}
 use Rattle.clr_moves.specs.declared.parts.Parts.{Parts}
 
 -- ---- handles
@@ -126,9 +126,8 @@ gone-by h bricks g place moved goes = record {
 -- what a plan takes along, another of the same moves takes along
 pub names-on : (p q : Plan) (g : Parts) → q.moves ≡ p.moves
     → ((x : ℕ) → MayGo p.view g p.moves x → MayGo q.view g q.moves x)
-    → (locals : List ℕ) (table : Table) (queues : Queues)
-    → NamesGo p g locals table queues → NamesGo q g locals table queues
-names-on p q g same on locals table queues names = record {
+    → (roots : Roots) → NamesGo p g roots → NamesGo q g roots
+names-on p q g same on roots names = record {
   locals_go = λ x i. on x (names.locals_go x i);
   handles_go = record {
     targets = λ k row found. on row.target (names.handles_go.targets k row found);

@@ -74,17 +74,17 @@ all-condemned u = go (same_kind Ephemeral u.kind)
     go false = refl
 
 module _ (s : Stages) (m : Machine) (kept : ℕ → Bool) (c : IsCourse s m kept) (new : HeapView)
-    (e : HasSettled s.rows s.moved new s.table_after s.low s.g) where
+    (e : HasSettled s.rows s.moved.heap new s.roots_after.handles s.low s.g) where
   -- what is left is there, where it has moved
-  pub in-new : (o : Object) → IsIn o (objects_in s.rows s.old) → is_left s.old s.g o ≡ true
+  pub in-new : (o : Object) → IsIn o (objects_in s.rows s.old.heap) → is_left s.old.heap s.g o ≡ true
       → IsIn (moved_object c.begun.plan.moves (relocated_object c.begun.plan.moves o)) (objects_in s.rows new)
   in-new o i left =
       let to : Object → Object = λ q. moved_object c.begun.plan.moves (relocated_object c.begun.plan.moves q) in
       subst (λ (os : List Object). IsIn (to o) os) (sym (objects-ended s m kept c new e))
-      (into_sorted_by (λ (q : Object). q.name) (to o) (left_objects s.rows s.old s.g c.begun.plan.moves)
-      (IsIn-map to (into_filter (is_left s.old s.g) (objects_in s.rows s.old) left i)))
+      (into_sorted_by (λ (q : Object). q.name) (to o) (left_objects s.rows s.old.heap s.g c.begun.plan.moves)
+      (IsIn-map to (into_filter (is_left s.old.heap s.g) (objects_in s.rows s.old.heap) left i)))
 
-  stands-new : (u : SegInfo) (o : Object) → IsIn o (objects_in s.rows s.old) → is_left s.old s.g o ≡ true
+  stands-new : (u : SegInfo) (o : Object) → IsIn o (objects_in s.rows s.old.heap) → is_left s.old.heap s.g o ≡ true
       → stands_in u (moved_by c.begun.plan.moves o.place) ≡ true
       → list_any (λ q. stands_in u q.place) (objects_in s.rows new) ≡ true
   stands-new u o i left stands =
@@ -103,7 +103,7 @@ module _ (s : Stages) (m : Machine) (kept : ℕ → Bool) (c : IsCourse s m kept
         let (k, small, at) = plug-first _ p (subst (λ (ps : List Plug). IsIn p ps) comp.plugs_are known) in
         let lives = survivor-is m laid s.g c.run.given.generation kept k small in
         let o = lives.object in
-        let there : IsIn o (objects_in s.rows s.old) =
+        let there : IsIn o (objects_in s.rows s.old.heap) =
         subst (λ (os : List Object). IsIn o os) c.memory.objects lives.present in
         let place : o.place ≡ v.start =
         ap (λ (w : Survivor). w.place) (sym lives.is) ∙ at ∙ sym landed.start in
@@ -120,29 +120,29 @@ module _ (s : Stages) (m : Machine) (kept : ℕ → Bool) (c : IsCourse s m kept
         } in
         let moved = moved_in_plug vs c.begun.plan.overlaid.line n o.place plug in
         let goes : moved_by vs o.place ≡ v.to = omega (arith, moved, place, start, to) in
-        let young = generation-least (frame s.old) o.place in
-        let mark : is_marked s.old o ≡ true =
+        let young = generation-least (frame s.old.heap) o.place in
+        let mark : is_marked s.old.heap o ≡ true =
         sym (c.tests o there (omega (arith, young, full))) ∙ lives.kept_on in
         stands-new u o there (left-marked s m kept c full e.bare e.pins o ∙ mark)
         (ap (stands_in u) goes ∙ stands)
 
     -- a large segment
-    large-stands : (u : SegInfo) → IsIn u s.old.segments → is_large_or_pinned u.kind ≡ true
+    large-stands : (u : SegInfo) → IsIn u s.old.heap.segments → is_large_or_pinned u.kind ≡ true
         → first_place u < swept_end (layout_in s.rows e.bare) 2 (survivors m s.g kept) u
         → list_any (λ q. stands_in u q.place) (objects_in s.rows new) ≡ true
     large-stands u i large some =
         let pieces = survivors-told s m kept c full u i in
         let starts : part_start (layout_in s.rows e.bare) 2 u ≡ first_place u = whole (same_kind Ephemeral u.kind) in
         let (q, j) = some-piece (first_place u)
-        (map (object_piece s.rows) (filter (chosen s m kept c full u i) (objects_in s.rows s.old)))
+        (map (object_piece s.rows) (filter (chosen s m kept c full u i) (objects_in s.rows s.old.heap)))
         (subst (λ (ps : List Piece). first_place u < end_of_last (first_place u) ps) pieces
         (subst (λ (n : ℕ). first_place u < end_of_last n (survivor_pieces u (survivors m s.g kept))) starts some)) in
         let (o, is, n) = from-map (object_piece s.rows) q
-        (filter (chosen s m kept c full u i) (objects_in s.rows s.old)) j in
-        let (choice, there) = out_of_filter (chosen s m kept c full u i) o (objects_in s.rows s.old) n in
-        let (mark, stands) = and_parts (is_marked s.old o) (stands_in u o.place) choice in
-        let on : is_large_place s.old o.place ≡ true =
-        any-from (λ (w : SegInfo). is_large_or_pinned w.kind && stands_in w o.place) s.old.segments u i
+        (filter (chosen s m kept c full u i) (objects_in s.rows s.old.heap)) j in
+        let (choice, there) = out_of_filter (chosen s m kept c full u i) o (objects_in s.rows s.old.heap) n in
+        let (mark, stands) = and_parts (is_marked s.old.heap o) (stands_in u o.place) choice in
+        let on : is_large_place s.old.heap o.place ≡ true =
+        any-from (λ (w : SegInfo). is_large_or_pinned w.kind && stands_in w o.place) s.old.heap.segments u i
         (and_from (is_large_or_pinned u.kind) (stands_in u o.place) large stands) in
         stands-new u o there (left-marked s m kept c full e.bare e.pins o ∙ mark)
         (ap (stands_in u) (unmoved-place s m kept c full o.place (out-of-large s m kept c full e.bare e.pins o on))
@@ -195,11 +195,11 @@ module _ (s : Stages) (m : Machine) (kept : ℕ → Bool) (c : IsCourse s m kept
         let (b, is_b, j) = from-map change2 t e.bare.segments
         (subst (λ (ss : List SegInfo). IsIn t ss) swept_segments i) in
         let bare_segments = ap (λ (h : HeapView). h.segments) e.pins.shape.others ∙ segments-moved s m kept c in
-        let (u, is_u, k) = from-map change1 b s.old.segments
+        let (u, is_u, k) = from-map change1 b s.old.heap.segments
         (subst (λ (ss : List SegInfo). IsIn b ss) bare_segments j) in
         subst Holds (sym (is_b ∙ ap change2 is_u)) (both u k) other some
       where
-        both : (u : SegInfo) → IsIn u s.old.segments → Holds (change2 (change1 u))
+        both : (u : SegInfo) → IsIn u s.old.heap.segments → Holds (change2 (change1 u))
         both u k = elim (cases_Bool (is_large_or_pinned u.kind)) [
           | inl large ↦
               let one : change1 u ≡ u =

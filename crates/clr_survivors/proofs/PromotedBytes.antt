@@ -14,7 +14,7 @@ use Rattle.clr_survivors.proofs.EndedTables.{same-but-ends, segments-ended, star
 use Rattle.clr_survivors.proofs.Promoting.{promoted-told}
 
 module _ (s : Stages) (m : Machine) (kept : ℕ → Bool) (c : IsCourse s m kept) (new : HeapView)
-    (e : HasSettled s.rows s.moved new s.table_after s.low s.g) where
+    (e : HasSettled s.rows s.moved.heap new s.roots_after.handles s.low s.g) where
   -- the layout that is left has the bounds of the compacted one
   bounds-ended : HasSameBounds c.begun.plan.after (layout_in s.rows new)
   bounds-ended = record {

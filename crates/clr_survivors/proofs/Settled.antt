@@ -1,13 +1,25 @@
 -- What the end of a move leaves as it is.
-use Rattle.std.proofs.Common.{◌≡◌, ℕ, Bool, true, false, ◌==◌, MatchBool, ap, sym, ◌∙◌, subst, List}
+use Rattle.std.proofs.Common.{◌≡◌, ℕ, ℤ, Bool, true, false, ◌==◌, MatchBool, ap, sym, ◌∙◌, subst, List}
 use Rattle.std.specs.FinMap.{FinMap}
 use Rattle.std.specs.Ordering.{nat_cmp}
+use Rattle.clr_types.specs.Segments.{Layout}
 use Rattle.clr_types.specs.Types.{TypeRow}
 use Rattle.clr_types.specs.declared.handle.Handle.{Handle}
-use Rattle.clr_heap.specs.View.{HeapView}
-use Rattle.clr_view.specs.View.{AreFreeHeads}
+use Rattle.clr_generations.specs.Laws.{BrickLaw}
+use Rattle.clr_heap.specs.View.{frame, HeapView}
+use Rattle.clr_model.specs.Machine.{Object}
+use Rattle.clr_view.specs.View.{AreFreeHeads, IsHeld, objects_in}
 use Rattle.clr_sweep.specs.SweptLarge.{HasSweptLarge}
 use Rattle.clr_survivors.specs.Phases.{HasSettled}
+use Rattle.clr_survivors.specs.Pins.{HasPins}
+
+-- the law of bricks looks at no word
+pub brick_law-bare : (rows : List TypeRow) (old new : HeapView) (table : FinMap nat_cmp Handle) (low : ℕ)
+    → HasPins rows old new table low 65536 false → (entry : ℕ → ℤ)
+    → BrickLaw rows (frame old) (objects_in rows old) entry → BrickLaw rows (frame new) (objects_in rows new) entry
+brick_law-bare rows old new table low pins entry law =
+    subst (λ (l : Layout). BrickLaw rows l (objects_in rows new) entry) (sym (ap frame pins.shape.others))
+    (subst (λ (os : List Object). BrickLaw rows (frame old) os entry) (sym pins.objects) law)
 
 module _ (rows : List TypeRow) (old new : HeapView) (table : FinMap nat_cmp Handle) (low g : ℕ)
     (e : HasSettled rows old new table low g) where
@@ -33,3 +45,6 @@ module _ (rows : List TypeRow) (old new : HeapView) (table : FinMap nat_cmp Hand
   heads-settled heads =
       let bare = e.pins.free_heads heads in
       settled-has (AreFreeHeads rows) bare (λ swept. swept.free_heads bare)
+
+  pub held-settled : IsHeld rows new
+  held-settled = settled-has (IsHeld rows) e.pins.held (λ swept. swept.held)

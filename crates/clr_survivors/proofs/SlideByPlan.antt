@@ -1,13 +1,9 @@
 -- A slide by its plan, once references are relocated.
 use Rattle.std.proofs.Common.{◌≡◌, ℕ, List, refl, ap, sym, ◌∙◌, subst}
-use Rattle.std.specs.FinMap.{FinMap}
-use Rattle.std.specs.Ordering.{nat_cmp}
 use Rattle.std.specs.Prelude.{ℤ}
 use Rattle.clr_types.specs.Types.{TypeRow}
-use Rattle.clr_types.specs.declared.handle.Handle.{Handle}
-use Rattle.clr_covers.specs.Covers.{CoverView}
-use Rattle.clr_final.specs.Queues.{Queues}
 use Rattle.clr_generations.specs.Tables.{AreBricksOf}
+use Rattle.clr_generations.specs.declared.space.Space.{Space}
 use Rattle.clr_heap.specs.View.{frame, HeapView}
 use Rattle.clr_model.specs.Compaction.{Move}
 use Rattle.clr_compact.specs.Large.{CanSlideLarge}
@@ -16,20 +12,19 @@ use Rattle.clr_moves.specs.Overlaid.{HoldsPlan}
 use Rattle.clr_moves.specs.declared.parts.Parts.TheVariants.{LargeSegments}
 use Rattle.clr_moves.specs.declared.planned.Planned.{Planned}
 use Rattle.clr_pinq.specs.declared.entry.PinEntry.{PinEntry}
-use Rattle.clr_plugs.specs.BrickEntries.{BricksView}
 use Rattle.clr_reloc.specs.Relocated.{HasRelocated}
 use Rattle.clr_survivors.specs.Large.{CanSlide}
 use Rattle.clr_survivors.specs.Phases.{plan_of}
 use Rattle.clr_survivors.specs.Roots.{NamesGo}
+use Rattle.clr_survivors.specs.declared.roots.Roots.{Roots}
 use Rattle.clr_survivors.proofs.NamesGone.{names-on}
 use Rattle.clr_survivors.proofs.RelocatedPlan.{frame-between, law-on, may-go-on}
 
-module _ (rows : List TypeRow) (view h : HeapView) (cards : List (CoverView ℕ)) (bricks : BricksView)
-    (entries : List PinEntry) (vs : List Move) (entry : ℕ → ℤ) (planned : Planned) (locals : List ℕ)
-    (table : FinMap nat_cmp Handle) (queues : Queues)
-    (can : CanSlide rows view h cards bricks entries vs entry planned locals table queues)
-    (mid gone : HeapView) (now : List PinEntry) (r : HasRelocated rows view mid LargeSegments vs)
-    (holds : HoldsPlan rows mid gone bricks now LargeSegments vs planned.start1 planned.start0) where
+module _ (rows : List TypeRow) (view : HeapView) (s : Space) (entries : List PinEntry) (vs : List Move)
+    (entry : ℕ → ℤ) (planned : Planned) (roots : Roots)
+    (can : CanSlide (plan_of rows view entries vs planned) s entry planned roots) (mid gone : HeapView)
+    (now : List PinEntry) (r : HasRelocated rows view mid LargeSegments vs)
+    (holds : HoldsPlan rows mid gone s.bricks now LargeSegments vs planned.start1 planned.start0) where
   abbrev shape : gone ≡ record view { memories = gone.memories }
   shape = holds.overlaid.shape.others ∙ ap (λ (g : HeapView). record g { memories = gone.memories }) r.others
 
@@ -44,17 +39,18 @@ module _ (rows : List TypeRow) (view h : HeapView) (cards : List (CoverView ℕ)
       ap (λ (g : HeapView). g.start0) shape
       ∙ sym (can.start0 ∙ ap (λ (g : HeapView). g.start0) can.relocates.plan.overlaid.shape.others)
 
-  pub holds-gone : HoldsPlan rows mid gone bricks now LargeSegments vs gone.start1 gone.start0
+  pub holds-gone : HoldsPlan rows mid gone s.bricks now LargeSegments vs gone.start1 gone.start0
   holds-gone =
-      subst (λ (n : ℕ). HoldsPlan rows mid gone bricks now LargeSegments vs n gone.start0) (sym start1-gone)
-      (subst (λ (n : ℕ). HoldsPlan rows mid gone bricks now LargeSegments vs planned.start1 n) (sym start0-gone) holds)
+      subst (λ (n : ℕ). HoldsPlan rows mid gone s.bricks now LargeSegments vs n gone.start0) (sym start1-gone)
+      (subst (λ (n : ℕ). HoldsPlan rows mid gone s.bricks now LargeSegments vs planned.start1 n) (sym start0-gone)
+      holds)
 
-  pub names-gone : NamesGo (plan_of rows mid now vs planned) LargeSegments locals table queues
+  pub names-gone : NamesGo (plan_of rows mid now vs planned) LargeSegments roots
   names-gone =
       names-on (plan_of rows view entries vs planned) (plan_of rows mid now vs planned) LargeSegments refl
-      (may-go-on rows view mid LargeSegments vs r) locals table queues can.names
+      (may-go-on rows view mid LargeSegments vs r) roots can.names
 
-  pub can-slide-large : CanSlideLarge rows gone bricks now
+  pub can-slide-large : CanSlideLarge rows gone s.bricks now
   can-slide-large = record {
     view = mid;
     moves = vs;
@@ -63,7 +59,7 @@ module _ (rows : List TypeRow) (view h : HeapView) (cards : List (CoverView ℕ)
     law = law-on rows view mid LargeSegments vs r entry can.law;
     others = λ i untouched.
         can.others i (subst (λ (g : HeapView). IsUntouched g LargeSegments i) r.others untouched);
-    bricks_of = subst (λ l. AreBricksOf l bricks)
+    bricks_of = subst (λ l. AreBricksOf l s.bricks)
         (sym (ap frame holds.overlaid.shape.others ∙ frame-between rows view mid LargeSegments vs r))
         can.relocates.bricks_of;
   }

@@ -40,19 +40,19 @@ use Rattle.clr_survivors.proofs.ItemsOf.{item-of}
 use Rattle.clr_survivors.proofs.PaddingWords.{no-reference, none-starts}
 use Rattle.clr_survivors.proofs.PinsTold.{none-pinned}
 use Rattle.clr_survivors.proofs.SlideCourse.{away-stays, goes-lower, inside-view, IsCourse, mark-view, Stages}
-use Rattle.clr_survivors.proofs.SlideCourse.{world_of}
+use Rattle.clr_survivors.specs.Survivors.{world_of}
 use Rattle.clr_survivors.proofs.SlideEnded.{gone, in-moved, objects-ended, pins-stand}
 use Rattle.clr_survivors.proofs.SlideGiven.{row-stands}
 use Rattle.clr_view.specs.World.{IsNullOrStands}
 
 module _ (s : Stages) (m : Machine) (c : IsCourse s m) (new : HeapView)
-    (e : HasPins s.rows s.moved new s.table_after 1 65536 false) (heap : IsHeap new) where
+    (e : HasPins s.rows s.moved.heap new s.roots_after.handles 1 65536 false) (heap : IsHeap new) where
   -- an item of the new heap, and the one that it was
   record HasGone (i : Item) : Type 0 where
     object : Object
-    present : IsIn object (objects_in s.rows s.old)
+    present : IsIn object (objects_in s.rows s.old.heap)
     was : Item
-    listed : IsIn was (heap_items s.rows s.old)
+    listed : IsIn was (heap_items s.rows s.old.heap)
     is : is_object was ≡ true
     from : object.place ≡ was.place
     place : i.place ≡ moved_by c.begun.plan.moves was.place
@@ -66,10 +66,10 @@ module _ (s : Stages) (m : Machine) (c : IsCourse s m) (new : HeapView)
       let q = object_in s.rows (word_of new) i in
       let there = IsIn-map (object_in s.rows (word_of new))
       (into_filter is_object (heap_items s.rows new) object listed) in
-      let (o, same, present) = from-map (gone s m c) q (objects_in s.rows s.old)
-      (out_of_sorted_by (λ (x : Object). x.name) q (map (gone s m c) (objects_in s.rows s.old))
+      let (o, same, present) = from-map (gone s m c) q (objects_in s.rows s.old.heap)
+      (out_of_sorted_by (λ (x : Object). x.name) q (map (gone s m c) (objects_in s.rows s.old.heap))
       (subst (λ (os : List Object). IsIn q os) (objects-ended s m c new e) there)) in
-      let k = item-of s.rows s.old o present in
+      let k = item-of s.rows s.old.heap o present in
       let type : i.type_id.0 ≡ k.item.type_id.0 =
       ap (λ (x : Object). x.type) same ∙ ap (λ (x : Object). x.type) k.is in
       let len : i.len ≡ k.item.len = ap (λ (x : Object). x.len) same ∙ ap (λ (x : Object). x.len) k.is in
@@ -86,7 +86,7 @@ module _ (s : Stages) (m : Machine) (c : IsCourse s m) (new : HeapView)
         len = len;
         size = listed-sized s.rows new i heap e.held listed
             ∙ (λ j. size_of (form_at s.rows (type j)) (len j))
-            ∙ sym (listed-sized s.rows s.old k.item c.run.given.heap c.run.given.held k.listed);
+            ∙ sym (listed-sized s.rows s.old.heap k.item c.run.given.tidy.heap c.run.given.tidy.held k.listed);
       }
 
   -- ---- outside of large segments
@@ -123,7 +123,9 @@ module _ (s : Stages) (m : Machine) (c : IsCourse s m) (new : HeapView)
 
     in-marked-items : IsIn j (heap_items s.rows c.begun.marked)
     in-marked-items = subst (λ (is : List Item). IsIn j is)
-        (sym (keeps_items s.rows s.old c.begun.marked c.run.given.heap c.run.given.held c.begun.remarked)) g.listed
+        (sym (keeps_items s.rows s.old.heap c.begun.marked c.run.given.tidy.heap c.run.given.tidy.held
+        c.begun.remarked))
+        g.listed
 
     in-view-items : IsIn j (heap_items s.rows c.begun.view)
     in-view-items = subst (λ (is : List Item). IsIn j is) (sym c.begun.pins.items) in-marked-items
@@ -132,10 +134,10 @@ module _ (s : Stages) (m : Machine) (c : IsCourse s m) (new : HeapView)
     in-mid-items = subst (λ (is : List Item). IsIn j is) (sym c.went.relocated.items) in-view-items
 
     up-old : 8 ≤ j.place
-    up-old = listed-above s.rows s.old j c.run.given.heap c.run.given.held g.listed
+    up-old = listed-above s.rows s.old.heap j c.run.given.tidy.heap c.run.given.tidy.held g.listed
 
     aligned-old : j.place % 8 ≡ 0
-    aligned-old = (listed-item s.rows s.old j c.run.given.heap c.run.given.held g.listed).aligned
+    aligned-old = (listed-item s.rows s.old.heap j c.run.given.tidy.heap c.run.given.tidy.held g.listed).aligned
 
     up-new : 8 ≤ i.place
     up-new = listed-above s.rows new i heap e.held listed
@@ -154,7 +156,7 @@ module _ (s : Stages) (m : Machine) (c : IsCourse s m) (new : HeapView)
 
     -- words of the cell, but for the mark, stand where it goes
     moved-word : (t : ℕ) → t % 8 ≡ 0 → t < j.size → t ≢ 8
-        → word_of s.moved (i.place - 8 + t) ≡ word_of c.went.mid (j.place - 8 + t)
+        → word_of s.moved.heap (i.place - 8 + t) ≡ word_of c.went.mid (j.place - 8 + t)
     moved-word t z l ne = elim (cases_Bool (is_in_parts c.begun.view LargeSegments j.place)) [
       | inl inside ↦
           let vs = c.begun.plan.moves in
@@ -166,7 +168,7 @@ module _ (s : Stages) (m : Machine) (c : IsCourse s m) (new : HeapView)
             | inl first_word ↦
                 let hb : i.place - 8 + t ≡ moved_by vs j.place - 8 = omega (arith, at, first_word) in
                 let back : j.place - 8 ≡ j.place - 8 + t = omega (arith, first_word) in
-                ap (word_of s.moved) hb
+                ap (word_of s.moved.heap) hb
                 ∙ c.went.compacted.headers j in-mid-items g.is marked mid_inside
                 ∙ ap (word_of c.went.mid) back
             | inr later_word ↦
@@ -186,11 +188,11 @@ module _ (s : Stages) (m : Machine) (c : IsCourse s m) (new : HeapView)
           ]
       | inr away ↦
           let at = g.place in
-          let stays = away-stays s c.run.given m c.begun c.run.ready_lawful j.place away in
+          let stays = away-stays s c.run.given m c.begun j.place away in
           let same : i.place - 8 + t ≡ j.place - 8 + t = omega (arith, at, stays) in
           let up = up-old in
           let za = aligned-old in
-          ap (word_of s.moved) same
+          ap (word_of s.moved.heap) same
           ∙ c.went.compacted.outside (j.place - 8 + t) (omega (arith, up, za, z))
           (subst (λ (h : HeapView). IsOutside h LargeSegments (j.place - 8 + t)) (sym c.went.relocated.others)
           (outside-cell j in-view-items away (j.place - 8 + t) (omega (arith, up)) (omega (arith, up, l))))
@@ -198,56 +200,56 @@ module _ (s : Stages) (m : Machine) (c : IsCourse s m) (new : HeapView)
 
     -- ---- before the moves
 
-    old-stands : (x : ℕ) → IsPinnedBelow s.table 1 65536 x → StandsAt s.rows s.old x
+    old-stands : (x : ℕ) → IsPinnedBelow s.roots.handles 1 65536 x → StandsAt s.rows s.old.heap x
     old-stands x q =
         let (n, is, named) = c.run.given.world in
-        by ((row-stands (world_of s) n is named q.number q.row q.in_use).0)
+        by ((row-stands (world_of s.rows s.old.heap s.roots) n is named q.number q.row q.in_use).0)
       where
-        by : IsNullOrStands s.rows s.old q.row.target → StandsAt s.rows s.old x
+        by : IsNullOrStands s.rows s.old.heap q.row.target → StandsAt s.rows s.old.heap x
         by (inl null) = let some = q.some in let at = q.target in absurd (omega (arith, null, some, at))
-        by (inr stands) = subst (StandsAt s.rows s.old) q.target stands
+        by (inr stands) = subst (StandsAt s.rows s.old.heap) q.target stands
 
     -- but for its header and its method table word a cell's words are as before
     view-word : (b : ℕ) → b % 8 ≡ 0 → j.place < b → b + 8 < j.place + j.size
-        → word_of c.begun.view b ≡ word_of s.old b
+        → word_of c.begun.view b ≡ word_of s.old.heap b
     view-word b z low high = elim (c.begun.pins.words b z) [
       | inl hit ↦
-          absurd (none-starts s.rows s.old c.run.given.heap c.run.given.held j (b + 8) g.listed (omega (arith, low))
-          high (old-stands (b + 8) hit.0))
+          absurd (none-starts s.rows s.old.heap c.run.given.tidy.heap c.run.given.tidy.held j (b + 8) g.listed
+          (omega (arith, low)) high (old-stands (b + 8) hit.0))
       | inr miss ↦
           miss.1
-          ∙ cell_word s.rows s.old c.begun.marked c.run.given.heap c.run.given.held c.begun.remarked j b g.listed
-          (record { aligned = z; low = omega (arith, low); high = high }) (λ same. omega (arith, same, low))
+          ∙ cell_word s.rows s.old.heap c.begun.marked c.run.given.tidy.heap c.run.given.tidy.held c.begun.remarked j b
+          g.listed (record { aligned = z; low = omega (arith, low); high = high }) (λ same. omega (arith, same, low))
     ]
 
-    marked-header : word_of c.begun.marked (j.place - 8) ≡ word_of s.old (j.place - 8)
+    marked-header : word_of c.begun.marked (j.place - 8) ≡ word_of s.old.heap (j.place - 8)
     marked-header =
         let up = up-old in
         let z = aligned-old in
-        let size = (listed-item s.rows s.old j c.run.given.heap c.run.given.held g.listed).least in
-        cell_word s.rows s.old c.begun.marked c.run.given.heap c.run.given.held c.begun.remarked j (j.place - 8)
-        g.listed
+        let size = (listed-item s.rows s.old.heap j c.run.given.tidy.heap c.run.given.tidy.held g.listed).least in
+        cell_word s.rows s.old.heap c.begun.marked c.run.given.tidy.heap c.run.given.tidy.held c.begun.remarked j
+        (j.place - 8) g.listed
         (record { aligned = omega (arith, up, z); low = omega (arith, up); high = omega (arith, up, size) })
         (λ same. omega (arith, same, up))
 
     -- ---- after the moves
 
-    moved-stands : (x : ℕ) → IsPinnedBelow s.table_after 1 65536 x → StandsAt s.rows s.moved x
+    moved-stands : (x : ℕ) → IsPinnedBelow s.roots_after.handles 1 65536 x → StandsAt s.rows s.moved.heap x
     moved-stands x q =
-        subst (StandsAt s.rows s.moved) q.target
+        subst (StandsAt s.rows s.moved.heap) q.target
         (pins-stand s m c q.number q.row q.in_use q.pinned (subst (λ (n : ℕ). 0 < n) (sym q.target) q.some))
 
     -- the item where it has moved
     record IsThere : Type 0 where
       item : Item
-      there : IsIn item (heap_items s.rows s.moved)
+      there : IsIn item (heap_items s.rows s.moved.heap)
       at : item.place ≡ i.place
       bytes : item.size ≡ i.size
 
     is-there : IsThere
     is-there =
         let q = gone s m c g.object in
-        let k = item-of s.rows s.moved q (in-moved s m c g.object g.present) in
+        let k = item-of s.rows s.moved.heap q (in-moved s m c g.object g.present) in
         let type : k.item.type_id.0 ≡ i.type_id.0 =
         sym (ap (λ (x : Object). x.type) k.is) ∙ g.kind.0 ∙ sym g.type in
         let len : k.item.len ≡ i.len = sym (ap (λ (x : Object). x.len) k.is) ∙ g.kind.1 ∙ sym g.len in
@@ -255,37 +257,37 @@ module _ (s : Stages) (m : Machine) (c : IsCourse s m) (new : HeapView)
           item = k.item;
           there = k.listed;
           at = sym k.at ∙ ap (moved_by c.begun.plan.moves) g.from ∙ sym g.place;
-          bytes = listed-sized s.rows s.moved k.item c.run.moved_lawful c.went.compacted.held k.listed
+          bytes = listed-sized s.rows s.moved.heap k.item c.went.heap c.went.compacted.held k.listed
               ∙ (λ d. size_of (form_at s.rows (type d)) (len d))
               ∙ sym (listed-sized s.rows new i heap e.held listed);
         }
 
-    new-word : (b : ℕ) → b % 8 ≡ 0 → i.place ≤ b → b + 8 < i.place + i.size → word_of new b ≡ word_of s.moved b
+    new-word : (b : ℕ) → b % 8 ≡ 0 → i.place ≤ b → b + 8 < i.place + i.size → word_of new b ≡ word_of s.moved.heap b
     new-word b z low high = elim (e.words b z) [
       | inl hit ↦
           let w = is-there in
           let at = w.at in
           let bytes = w.bytes in
-          absurd (none-starts s.rows s.moved c.run.moved_lawful c.went.compacted.held w.item (b + 8) w.there
+          absurd (none-starts s.rows s.moved.heap c.went.heap c.went.compacted.held w.item (b + 8) w.there
           (omega (arith, at, low)) (omega (arith, at, bytes, high)) (moved-stands (b + 8) hit.0))
       | inr miss ↦ miss.1
     ]
 
     -- ---- the header
 
-    old-header : IsCleanHeader s.rows j.type_id.0 (word_of s.old (j.place - 8))
-    old-header = (c.run.given.clean j g.listed g.is).header
+    old-header : IsCleanHeader s.rows j.type_id.0 (word_of s.old.heap (j.place - 8))
+    old-header = (c.run.given.tidy.clean j g.listed g.is).header
 
-    off-old : has_pin (word_of s.old (j.place - 8)) ≡ false
-    off-old = none-pinned s.rows j.type_id.0 (word_of s.old (j.place - 8)) old-header
+    off-old : has_pin (word_of s.old.heap (j.place - 8)) ≡ false
+    off-old = none-pinned s.rows j.type_id.0 (word_of s.old.heap (j.place - 8)) old-header
 
-    moved-header : word_of s.moved (i.place - 8) ≡ word_of c.begun.view (j.place - 8)
+    moved-header : word_of s.moved.heap (i.place - 8) ≡ word_of c.begun.view (j.place - 8)
     moved-header =
-        let size = (listed-item s.rows s.old j c.run.given.heap c.run.given.held g.listed).least in
-        ap (word_of s.moved) (omega arith) ∙ moved-word 0 refl (omega (arith, size)) (λ same. omega (arith, same))
+        let size = (listed-item s.rows s.old.heap j c.run.given.tidy.heap c.run.given.tidy.held g.listed).least in
+        ap (word_of s.moved.heap) (omega arith) ∙ moved-word 0 refl (omega (arith, size)) (λ same. omega (arith, same))
         ∙ ap (word_of c.went.mid) (omega arith) ∙ (c.went.relocated.heads j in-view-items).0
 
-    new-header : word_of new (i.place - 8) ≡ word_of s.old (j.place - 8)
+    new-header : word_of new (i.place - 8) ≡ word_of s.old.heap (j.place - 8)
     new-header =
         let up = up-new in
         let low = up-old in
@@ -300,18 +302,19 @@ module _ (s : Stages) (m : Machine) (c : IsCourse s m) (new : HeapView)
               ∙ elim (c.begun.pins.words (j.place - 8) (omega (arith, low, zo))) [
                 | inl was ↦
                     ap (pinned_header false) (was.1 ∙ ap (pinned_header true) marked-header)
-                    ∙ pin-back (word_of s.old (j.place - 8)) off-old
+                    ∙ pin-back (word_of s.old.heap (j.place - 8)) off-old
                 | inr was ↦
-                    ap (pinned_header false) (was.1 ∙ marked-header) ∙ pin-none (word_of s.old (j.place - 8)) off-old
+                    ap (pinned_header false) (was.1 ∙ marked-header) ∙ pin-none (word_of s.old.heap (j.place - 8))
+                    off-old
               ]
           | inr miss ↦
               miss.1 ∙ moved-header
               ∙ elim (c.begun.pins.words (j.place - 8) (omega (arith, low, zo))) [
                 | inl was ↦
-                    let pinned = subst (IsPinnedBelow s.table 1 65536) back_old was.0 in
-                    let moved = pinned-moved (moved_by c.begun.plan.moves) s.table 1 j.place
+                    let pinned = subst (IsPinnedBelow s.roots.handles 1 65536) back_old was.0 in
+                    let moved = pinned-moved (moved_by c.begun.plan.moves) s.roots.handles 1 j.place
                     (omega (arith, place, up)) (omega (arith, place, up)) pinned in
-                    absurd (miss.0 (subst (IsPinnedBelow s.table_after 1 65536) (sym place ∙ sym back)
+                    absurd (miss.0 (subst (IsPinnedBelow s.roots_after.handles 1 65536) (sym place ∙ sym back)
                     (subst (λ (t : FinMap nat_cmp Handle). IsPinnedBelow t 1 65536
                     (moved_by c.begun.plan.moves j.place))
                     (sym c.went.gone.table_is) moved)))
@@ -347,9 +350,9 @@ module _ (s : Stages) (m : Machine) (c : IsCourse s m) (new : HeapView)
           let high_p : p < j.place + j.size - 8 = omega (arith, over, size, above) in
           let none = no-reference s.rows c.begun.view c.begun.plan.overlaid.heap c.begun.pins.held LargeSegments j p
           in-view-items low_p high_p in
-          let word : word_of new b ≡ word_of s.old d =
+          let word : word_of new b ≡ word_of s.old.heap d =
           new-word b at.aligned (omega (arith, above)) (omega (arith, below, sized))
-          ∙ ap (word_of s.moved) to
+          ∙ ap (word_of s.moved.heap) to
           ∙ moved-word t (omega (arith, above, z)) (omega (arith, below, above, sized, size))
           (λ same. omega (arith, same, above))
           ∙ ap (word_of c.went.mid) from
@@ -360,7 +363,7 @@ module _ (s : Stages) (m : Machine) (c : IsCourse s m) (new : HeapView)
           (omega (arith, from, below, above, sized, size, low))
           in
           let digit : a % 8 ≡ p % 8 = omega (arith, z, zo, down) in
-          ap₂ byte_of word digit ∙ (c.run.given.clean j g.listed g.is).padding p low_p high_p;
+          ap₂ byte_of word digit ∙ (c.run.given.tidy.clean j g.listed g.is).padding p low_p high_p;
     }
 
   pub clean-ended : AreClean s.rows new

@@ -41,7 +41,8 @@ use Rattle.clr_survivors.proofs.RelocatedPlan.{compaction-stays, relocated_machi
 use Rattle.clr_survivors.proofs.RelocatedPlan.{turned-spared}
 use Rattle.clr_survivors.proofs.RemarkedHeads.{heads_remarked}
 use Rattle.clr_survivors.proofs.SlideCourse.{all-spared, inside-view, IsCourse, mark-view, null-stays}
-use Rattle.clr_survivors.proofs.SlideCourse.{objects-view, Stages, start0-planned, start1-planned, world_of}
+use Rattle.clr_survivors.specs.Survivors.{world_of}
+use Rattle.clr_survivors.proofs.SlideCourse.{objects-view, Stages, start0-planned, start1-planned}
 use Rattle.clr_survivors.proofs.SlideGiven.{row-stands}
 use Rattle.clr_survivors.proofs.SlideMarks.{marked-heap, marked-held}
 
@@ -59,7 +60,7 @@ module _ (s : Stages) (m : Machine) (c : IsCourse s m) where
 
   -- all slots name where their targets go
   mid-objects : objects_in s.rows c.went.mid
-      ≡ map (relocated_object c.begun.plan.moves) (objects_in s.rows s.old)
+      ≡ map (relocated_object c.begun.plan.moves) (objects_in s.rows s.old.heap)
   mid-objects =
       c.went.relocated.objects
       ∙ map-on (turned s.rows c.begun.view c.went.mid LargeSegments c.begun.plan.moves c.went.relocated)
@@ -81,33 +82,33 @@ module _ (s : Stages) (m : Machine) (c : IsCourse s m) where
       (subst (λ (os : List Object). IsIn o os) (objects-view s c.run.given m c.begun) there)
 
   -- THE OBJECTS, where they go
-  pub objects-moved : objects_in s.rows s.moved ≡ sorted_by (λ o. o.name) (map gone (objects_in s.rows s.old))
+  pub objects-moved : objects_in s.rows s.moved.heap ≡ sorted_by (λ o. o.name) (map gone (objects_in s.rows s.old.heap))
   objects-moved =
       let vs = c.begun.plan.moves in
       c.went.compacted.objects
       ∙ ap (λ (os : List Object). sorted_by (λ o. o.name) (map (moved_object vs) os))
       (filter-every (is_spared c.went.mid LargeSegments) (objects_in s.rows c.went.mid) mid-spared ∙ mid-objects)
       ∙ ap (sorted_by (λ (o : Object). o.name))
-      (map-map (relocated_object vs) (moved_object vs) (objects_in s.rows s.old))
+      (map-map (relocated_object vs) (moved_object vs) (objects_in s.rows s.old.heap))
 
-  pub in-moved : (o : Object) → IsIn o (objects_in s.rows s.old) → IsIn (gone o) (objects_in s.rows s.moved)
+  pub in-moved : (o : Object) → IsIn o (objects_in s.rows s.old.heap) → IsIn (gone o) (objects_in s.rows s.moved.heap)
   in-moved o i =
       subst (λ (os : List Object). IsIn (gone o) os) (sym objects-moved)
-      (into_sorted_by (λ (q : Object). q.name) (gone o) (map gone (objects_in s.rows s.old)) (IsIn-map gone i))
+      (into_sorted_by (λ (q : Object). q.name) (gone o) (map gone (objects_in s.rows s.old.heap)) (IsIn-map gone i))
 
   pub null-moved : moved_by c.begun.plan.moves 0 ≡ 0
   null-moved =
-      null-stays s c.run.given c.run.ready_lawful c.run.start1_is c.run.start0_is c.run.spans_kept m c.begun
+      null-stays s c.run.given c.run.start1_is c.run.start0_is m c.begun
 
   -- what pinned handles name stands in the heap
-  pub pins-stand : PinsStand s.rows s.moved s.table_after
+  pub pins-stand : PinsStand s.rows s.moved.heap s.roots_after.handles
   pins-stand n row here pinned some =
-      let (was, found, is) = was-handle (moved_by c.begun.plan.moves) s.table n row
+      let (was, found, is) = was-handle (moved_by c.begun.plan.moves) s.roots.handles n row
       (sym (ap (λ (t : FinMap nat_cmp Handle). finmap.get t n) c.went.gone.table_is) ∙ here) in
       let at : row.target ≡ moved_by c.begun.plan.moves was.target = ap (λ (r : Handle). r.target) is in
       let (base, of, named) = c.run.given.world in
-      subst (StandsAt s.rows s.moved) (sym at)
-      (elim ((row-stands (world_of s) base of named n was found).0) [
+      subst (StandsAt s.rows s.moved.heap) (sym at)
+      (elim ((row-stands (world_of s.rows s.old.heap s.roots) base of named n was found).0) [
         | inl null ↦
             let zero_is : row.target ≡ 0 = at ∙ ap (moved_by c.begun.plan.moves) null ∙ null-moved in
             absurd (omega (arith, some, zero_is))
@@ -116,41 +117,41 @@ module _ (s : Stages) (m : Machine) (c : IsCourse s m) where
 
   -- ---- the layout
 
-  pub layout-moved : layout_in s.rows s.moved ≡ c.begun.plan.after
+  pub layout-moved : layout_in s.rows s.moved.heap ≡ c.begun.plan.after
   layout-moved =
       c.went.compacted.layout
       (relocated_machine s.rows c.begun.view c.went.mid LargeSegments c.begun.plan.moves c.went.relocated m
-      c.begun.plan.compaction.memory) (is_in_parts s.old LargeSegments) c.begun.plan.after
+      c.begun.plan.compaction.memory) (is_in_parts s.old.heap LargeSegments) c.begun.plan.after
       (compaction-stays s.rows c.begun.view c.went.mid LargeSegments c.begun.plan.moves c.went.relocated m
-      c.begun.plan.compaction.memory (is_in_parts s.old LargeSegments) c.begun.plan.after c.begun.plan.compaction)
-      (start1-planned s c.run.given c.run.ready_lawful c.run.start1_is c.run.start0_is c.run.spans_kept m c.begun
+      c.begun.plan.compaction.memory (is_in_parts s.old.heap LargeSegments) c.begun.plan.after c.begun.plan.compaction)
+      (start1-planned s c.run.given c.run.start1_is c.run.start0_is m c.begun
       ∙ sym c.run.start1_kept)
-      (start0-planned s c.run.given c.run.ready_lawful c.run.start1_is c.run.start0_is c.run.spans_kept m c.begun
+      (start0-planned s c.run.given c.run.start1_is c.run.start0_is m c.begun
       ∙ sym c.run.start0_kept)
 
-  pub laid-moved : layout_in s.rows s.moved ≡ slid_layout m.layout c.begun.plan.moves
+  pub laid-moved : layout_in s.rows s.moved.heap ≡ slid_layout m.layout c.begun.plan.moves
   laid-moved = layout-moved ∙ c.begun.plan.compaction.compacted.laid
 
-  pub rests-moved : s.moved.rests ≡ no_rests
+  pub rests-moved : s.moved.heap.rests ≡ no_rests
   rests-moved =
       ap (λ (l : Layout). l.rests) laid-moved ∙ ap (λ (l : Layout). l.rests) c.memory.layout ∙ c.run.given.no_contexts
 
-  pub limit-moved : s.moved.limit ≡ s.old.limit
+  pub limit-moved : s.moved.heap.limit ≡ s.old.heap.limit
   limit-moved =
       c.went.compacted.limit ∙ ap (λ (h : HeapView). h.limit) c.went.relocated.others
       ∙ ap (λ (h : HeapView). h.limit) c.begun.pins.shape.others
       ∙ ap (λ (h : HeapView). h.limit) c.begun.remarked.shape.others
 
-  pub heads-moved : AreFreeHeads s.rows s.moved
+  pub heads-moved : AreFreeHeads s.rows s.moved.heap
   heads-moved =
       c.went.compacted.free_heads (c.went.relocated.free_heads (c.begun.pins.free_heads
-      (heads_remarked s.rows s.old c.begun.marked c.run.given.heap c.run.given.held
-      (marked-heap s.rows s.old c.begun.marked c.run.given.heap c.run.given.held c.begun.remarked)
-      (marked-held s.rows s.old c.begun.marked c.run.given.heap c.run.given.held c.begun.remarked) c.begun.remarked
-      c.run.given.free_heads)))
+      (heads_remarked s.rows s.old.heap c.begun.marked c.run.given.tidy.heap c.run.given.tidy.held
+      (marked-heap s.rows s.old.heap c.begun.marked c.run.given.tidy.heap c.run.given.tidy.held c.begun.remarked)
+      (marked-held s.rows s.old.heap c.begun.marked c.run.given.tidy.heap c.run.given.tidy.held c.begun.remarked)
+      c.begun.remarked c.run.given.tidy.free_heads)))
 
   -- no mark is left
-  pub unmarked-moved : IsUnmarked s.rows s.moved
+  pub unmarked-moved : IsUnmarked s.rows s.moved.heap
   unmarked-moved x marked =
       let vs = c.begun.plan.moves in
       let (had, away) = c.went.compacted.marks x marked in
@@ -180,7 +181,7 @@ module _ (s : Stages) (m : Machine) (c : IsCourse s m) where
 
   -- what stands in a large segment is in its part
   large-part : (o : Object) → IsIn o m.objects → in-large (survivor m o) ≡ true
-      → is_in_parts s.old LargeSegments o.name ≡ true
+      → is_in_parts s.old.heap LargeSegments o.name ≡ true
   large-part o i on =
       let (u, among, both) = any-in (λ (u : SegInfo). same_kind Large u.kind &&
       (u.base == base_at m.layout.segments o.place)) m.layout.segments on in
@@ -204,22 +205,22 @@ module _ (s : Stages) (m : Machine) (c : IsCourse s m) where
       (all-take u)
       (and_from (stands_in u o.place) (nat_le (part_start m.layout 2 u) o.place) stands
       (le-leb (part_start m.layout 2 u) o.place (omega (arith, starts, low)))))) in
-      ap (is_in_parts s.old LargeSegments)
-      (name-is-place s.rows s.old o (subst (λ (os : List Object). IsIn o os) c.memory.objects i))
+      ap (is_in_parts s.old.heap LargeSegments)
+      (name-is-place s.rows s.old.heap o (subst (λ (os : List Object). IsIn o os) c.memory.objects i))
       ∙ ap (λ (l : Layout). list_any (λ t. same_kind Large t.kind && (has_condemned_part 2 t &&
       (stands_in t o.place && nat_le (part_start l 2 t) o.place))) l.segments) (sym c.memory.layout)
       ∙ inside
 
   same-test : (o : Object) → IsIn o m.objects
-      → ((is_condemned m 2 o && is_in_parts s.old LargeSegments o.name) && in-large (survivor m o))
+      → ((is_condemned m 2 o && is_in_parts s.old.heap LargeSegments o.name) && in-large (survivor m o))
       ≡ ((is_condemned m 2 o && true) && in-large (survivor m o))
   same-test o i = go (in-large (survivor m o)) refl
     where
       go : (b : Bool) → in-large (survivor m o) ≡ b
-          → ((is_condemned m 2 o && is_in_parts s.old LargeSegments o.name) && b)
+          → ((is_condemned m 2 o && is_in_parts s.old.heap LargeSegments o.name) && b)
           ≡ ((is_condemned m 2 o && true) && b)
       go true on = ap (λ (d : Bool). (is_condemned m 2 o && d) && true) (large-part o i on)
-      go false off = none (is_condemned m 2 o && is_in_parts s.old LargeSegments o.name)
+      go false off = none (is_condemned m 2 o && is_in_parts s.old.heap LargeSegments o.name)
           ∙ sym (none (is_condemned m 2 o && true))
         where
           none : (d : Bool) → (d && false) ≡ false
@@ -237,12 +238,13 @@ module _ (s : Stages) (m : Machine) (c : IsCourse s m) where
       ∙ ap (map (survivor m)) (filter-both (λ o. in-large (survivor m o)) passes m.objects))
 
   -- the marked objects and all objects have the same large plugs
-  plugs-same : large_plugs m.layout (survivors m 2 (is_in_parts s.old LargeSegments))
+  plugs-same : large_plugs m.layout (survivors m 2 (is_in_parts s.old.heap LargeSegments))
       ≡ large_plugs m.layout (all_survivors m)
   plugs-same =
-      ap plugs_of (large-of (is_in_parts s.old LargeSegments)
+      ap plugs_of (large-of (is_in_parts s.old.heap LargeSegments)
       ∙ ap (λ (os : List Object). sorted_by (λ k. k.place) (map (survivor m) os))
-      (filter-alike (λ o. (is_condemned m 2 o && is_in_parts s.old LargeSegments o.name) && in-large (survivor m o))
+      (filter-alike
+      (λ o. (is_condemned m 2 o && is_in_parts s.old.heap LargeSegments o.name) && in-large (survivor m o))
       (λ o. (is_condemned m 2 o && true) && in-large (survivor m o)) m.objects same-test)
       ∙ sym (large-of (λ name. true)))
 
@@ -259,8 +261,8 @@ module _ (s : Stages) (m : Machine) (c : IsCourse s m) where
 
   -- ---- when no header says any more what is pinned
 
-  module _ (new : HeapView) (e : HasPins s.rows s.moved new s.table_after 1 65536 false) where
-    pub objects-ended : objects_in s.rows new ≡ sorted_by (λ o. o.name) (map gone (objects_in s.rows s.old))
+  module _ (new : HeapView) (e : HasPins s.rows s.moved.heap new s.roots_after.handles 1 65536 false) where
+    pub objects-ended : objects_in s.rows new ≡ sorted_by (λ o. o.name) (map gone (objects_in s.rows s.old.heap))
     objects-ended = e.objects ∙ objects-moved
 
     pub layout-ended : layout_in s.rows new ≡ c.begun.plan.after

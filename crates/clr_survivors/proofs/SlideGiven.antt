@@ -16,10 +16,10 @@ use Rattle.clr_model.proofs.NamedWell.{AreNamed, lawful-named}
 use Rattle.clr_view.specs.SlotValues.{StandsAt}
 use Rattle.clr_view.specs.View.{objects_in}
 use Rattle.clr_view.specs.World.{IsNullOrStands, IsWorldOf, World}
-use Rattle.clr_final.specs.Queues.{Queues}
 use Rattle.clr_heap.specs.View.{HeapView}
 use Rattle.clr_survivors.specs.Pins.{PinsStand}
-use Rattle.clr_survivors.specs.Survivors.{world_with}
+use Rattle.clr_survivors.specs.Survivors.{world_of}
+use Rattle.clr_survivors.specs.declared.roots.Roots.{Roots}
 
 slot-in : (vs : List Value) (j : ℕ) (v : Value) → slice_get vs j ≡ Some v → IsIn v vs
 slot-in [] j v e = absurd cc
@@ -75,11 +75,10 @@ module _ (w : World) (n : Machine) (is : IsWorldOf w n) (named : IsPlaceNamed n)
   ready-stands x i = name-stands x (sound.ready x (subst (IsIn x) (sym is.ready) i))
 
 -- what pinned handles name stands
-pub pins-given : (rows : List TypeRow) (h : HeapView) (locals : List ℕ) (table : FinMap nat_cmp Handle)
-    (queues : Queues) (n : Machine) → IsWorldOf (world_with rows h locals table queues) n → IsPlaceNamed n
-    → PinsStand rows h table
-pins-given rows h locals table queues n is named k row found pinned some =
-    by ((row-stands (world_with rows h locals table queues) n is named k row found).0)
+pub pins-given : (rows : List TypeRow) (h : HeapView) (roots : Roots) (n : Machine)
+    → IsWorldOf (world_of rows h roots) n → IsPlaceNamed n → PinsStand rows h roots.handles
+pins-given rows h roots n is named k row found pinned some =
+    by ((row-stands (world_of rows h roots) n is named k row found).0)
   where
     by : IsNullOrStands rows h row.target → StandsAt rows h row.target
     by (inl null) = absurd (omega (arith, null, some))

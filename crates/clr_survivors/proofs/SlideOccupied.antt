@@ -33,8 +33,8 @@ use Rattle.clr_survivors.proofs.SlideCourse.{away-stays, fills, inside-view, IsC
 use Rattle.clr_survivors.proofs.SlideEnded.{gone, in-moved, laid-moved}
 
 module _ (s : Stages) (m : Machine) (c : IsCourse s m) (new : HeapView)
-    (e : HasPins s.rows s.moved new s.table_after 1 65536 false) where
-  stands-new : (u : SegInfo) (o : Object) → IsIn o (objects_in s.rows s.old)
+    (e : HasPins s.rows s.moved.heap new s.roots_after.handles 1 65536 false) where
+  stands-new : (u : SegInfo) (o : Object) → IsIn o (objects_in s.rows s.old.heap)
       → stands_in u (moved_by c.begun.plan.moves o.place) ≡ true
       → list_any (λ q. stands_in u q.place) (objects_in s.rows new) ≡ true
   stands-new u o i stands =
@@ -52,7 +52,7 @@ module _ (s : Stages) (m : Machine) (c : IsCourse s m) (new : HeapView)
       (subst (λ (ps : List Plug). IsIn p ps) f.landings.plugs_are known) in
       let lives = f.landings.going.survivors_are k among in
       let o = lives.object in
-      let there : IsIn o (objects_in s.rows s.old) =
+      let there : IsIn o (objects_in s.rows s.old.heap) =
       subst (λ (os : List Object). IsIn o os) (objects-view s c.run.given m c.begun) lives.present in
       let place : o.place ≡ v.start = ap (λ (w : Survivor). w.place) (sym lives.is) ∙ at ∙ sym of.start in
       let (n, within, is) = number_of vs v i in
@@ -81,27 +81,27 @@ module _ (s : Stages) (m : Machine) (c : IsCourse s m) (new : HeapView)
   -- what stands in another segment is in no part, and stays there
   other-away : (u : SegInfo) → IsIn u m.layout.segments → same_kind Large u.kind ≡ false → (x : ℕ)
       → stands_in u x ≡ true → is_in_parts c.begun.view LargeSegments x ≡ false
-  other-away u i off x stands = elim (cases_Bool (is_in_parts s.old LargeSegments x)) [
+  other-away u i off x stands = elim (cases_Bool (is_in_parts s.old.heap LargeSegments x)) [
     | inr away ↦ inside-view s c.run.given m c.begun x ∙ away
     | inl inside ↦
-        let (n, into, up) = out_of_parts s.old LargeSegments x inside in
-        let t = segment_at s.old n in
+        let (n, into, up) = out_of_parts s.old.heap LargeSegments x inside in
+        let t = segment_at s.old.heap n in
         let among : IsIn t m.layout.segments =
         subst (λ (l : Layout). IsIn t l.segments) (sym c.memory.layout)
-        (at-in s.old.segments n empty_segment into.in_range) in
+        (at-in s.old.heap.segments n empty_segment into.in_range) in
         let same = one_home m.layout c.laid.layout t u x among i (between-stands t x up into.high) stands in
         absurd (both_ways (same_kind Large u.kind) off
         (subst (λ (w : SegInfo). same_kind Large w.kind ≡ true) same into.takes))
   ]
 
-  other-stands : HasObjects s.rows s.old → (u : SegInfo) → IsIn u m.layout.segments → same_kind Large u.kind ≡ false
-      → same_kind Ephemeral u.kind ≡ false → first_place u < u.end
+  other-stands : HasObjects s.rows s.old.heap → (u : SegInfo) → IsIn u m.layout.segments
+      → same_kind Large u.kind ≡ false → same_kind Ephemeral u.kind ≡ false → first_place u < u.end
       → list_any (λ q. stands_in u q.place) (objects_in s.rows new) ≡ true
   other-stands full u i off other some =
-      let (o, there, stands) = any-in (λ (q : Object). stands_in u q.place) (objects_in s.rows s.old)
+      let (o, there, stands) = any-in (λ (q : Object). stands_in u q.place) (objects_in s.rows s.old.heap)
       (full u (subst (λ (l : Layout). IsIn u l.segments) c.memory.layout i) other some) in
       stands-new u o there
-      (ap (stands_in u) (away-stays s c.run.given m c.begun c.run.ready_lawful o.place
+      (ap (stands_in u) (away-stays s c.run.given m c.begun o.place
       (other-away u i off o.place stands)) ∙ stands)
 
   abbrev change : SegInfo → SegInfo
@@ -112,7 +112,7 @@ module _ (s : Stages) (m : Machine) (c : IsCourse s m) (new : HeapView)
   Holds t = same_kind Ephemeral t.kind ≡ false → first_place t < t.end
       → list_any (λ q. stands_in t q.place) (objects_in s.rows new) ≡ true
 
-  pub occupied-ended : HasObjects s.rows s.old → HasObjects s.rows new
+  pub occupied-ended : HasObjects s.rows s.old.heap → HasObjects s.rows new
   occupied-ended full t i other some =
       let segments = ap (λ (h : HeapView). h.segments) e.shape.others
       ∙ ap (λ (l : Layout). l.segments) (laid-moved s m c) in

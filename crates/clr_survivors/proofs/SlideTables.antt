@@ -5,9 +5,8 @@ use Rattle.clr_types.specs.Segments.{ended_at, Layout, same_kind}
 use Rattle.clr_types.specs.declared.segment.SegInfo.{SegInfo}
 use Rattle.clr_types.specs.declared.segment.SegKind.TheVariants.{Large}
 use Rattle.clr_bricks.specs.Bricks.{entry_at}
-use Rattle.clr_cards.specs.Cards.{is_card_set}
-use Rattle.clr_covers.specs.Covers.{CoverView, spans}
-use Rattle.clr_generations.specs.Laws.{BrickLaw, CardLaw}
+use Rattle.clr_covers.specs.Covers.{spans}
+use Rattle.clr_generations.specs.Laws.{BrickLaw}
 use Rattle.clr_generations.specs.Tables.{AreTablesOf, units_of}
 use Rattle.clr_generations.proofs.KeptLaws.{were-younger}
 use Rattle.clr_generations.proofs.SameBounds.{HasSameBounds}
@@ -26,10 +25,10 @@ use Rattle.clr_survivors.proofs.SlideCourse.{all-spared, frame-view, IsCourse, o
 use Rattle.clr_survivors.proofs.SlideEnded.{filter-every, gone, laid-moved, objects-ended}
 
 module _ (s : Stages) (m : Machine) (c : IsCourse s m) (new : HeapView)
-    (e : HasPins s.rows s.moved new s.table_after 1 65536 false) where
+    (e : HasPins s.rows s.moved.heap new s.roots_after.handles 1 65536 false) where
   -- segments change their ends alone
   pub segments-ended : {X : Type 0} (f : SegInfo → X) → ((end : ℕ) (u : SegInfo) → f (ended_at end u) ≡ f u)
-      → map f new.segments ≡ map f s.old.segments
+      → map f new.segments ≡ map f s.old.heap.segments
   segments-ended f same =
       ap (λ (h : HeapView). map f h.segments) e.shape.others
       ∙ ap (λ (l : Layout). map f l.segments) (laid-moved s m c)
@@ -52,7 +51,7 @@ module _ (s : Stages) (m : Machine) (c : IsCourse s m) (new : HeapView)
 
   -- the plan takes along all objects
   left-lists : relocated.left_objects s.rows c.begun.view LargeSegments c.begun.plan.moves
-      ≡ map (gone s m c) (objects_in s.rows s.old)
+      ≡ map (gone s m c) (objects_in s.rows s.old.heap)
   left-lists =
       ap (map (λ o. moved_object c.begun.plan.moves (relocated_object c.begun.plan.moves o)))
       (filter-every (is_left_by c.begun.view LargeSegments) (objects_in s.rows c.begun.view)
@@ -60,15 +59,16 @@ module _ (s : Stages) (m : Machine) (c : IsCourse s m) (new : HeapView)
       (subst (λ (os : List Object). IsIn o os) (objects-view s c.run.given m c.begun) i))
       ∙ objects-view s c.run.given m c.begun)
 
-  pub tables-ended : (cards : List (CoverView ℕ)) (bricks : BricksView) → spans cards ≡ spans s.cards
-      → spans bricks ≡ spans s.before
-      → CardLaw s.rows (rebounded (frame c.begun.view) s.planned)
-      (relocated.left_objects s.rows c.begun.view LargeSegments c.begun.plan.moves) (is_card_set cards)
-      → BrickLaw s.rows (frame new) (objects_in s.rows new) (entry_at bricks) → AreTablesOf s.rows new cards bricks
-  tables-ended cards bricks same_cards same_bricks card_law brick_law = record {
-    cards = same_cards ∙ c.run.given.tables.cards ∙ sym (segments-ended (units_of 2048) (λ end u. refl));
-    bricks = same_bricks ∙ c.run.given.tables.bricks ∙ sym (segments-ended (units_of 4096) (λ end u. refl));
-    card_law = λ a y. card_law a
+  pub tables-ended : (bricks : BricksView) → spans s.moved.cards ≡ spans s.ready.cards
+      → spans bricks ≡ spans s.ready.bricks
+      → BrickLaw s.rows (frame new) (objects_in s.rows new) (entry_at bricks)
+      → AreTablesOf s.rows new s.moved.cards bricks
+  tables-ended bricks same_cards same_bricks brick_law = record {
+    cards = same_cards ∙ ap spans c.begun.cards_is ∙ c.run.given.tidy.tables.cards
+        ∙ sym (segments-ended (units_of 2048) (λ end u. refl));
+    bricks = same_bricks ∙ c.begun.same_bricks ∙ c.run.given.tidy.tables.bricks
+        ∙ sym (segments-ended (units_of 4096) (λ end u. refl));
+    card_law = λ a y. c.went.card_law a
         (were-younger s.rows s.rows (rebounded (frame c.begun.view) s.planned) (frame new)
         (relocated.left_objects s.rows c.begun.view LargeSegments c.begun.plan.moves) (objects_in s.rows new)
         same-bounds
@@ -77,12 +77,3 @@ module _ (s : Stages) (m : Machine) (c : IsCourse s m) (new : HeapView)
         (objects-ended s m c new e ∙ ap (sorted_by (λ (o : Object). o.name)) (sym left-lists))) a y);
     brick_law = brick_law;
   }
-
-  -- the law of bricks looks at no word
-  pub brick_law-ended : (bricks : BricksView)
-      → BrickLaw s.rows (frame s.moved) (objects_in s.rows s.moved) (entry_at bricks)
-      → BrickLaw s.rows (frame new) (objects_in s.rows new) (entry_at bricks)
-  brick_law-ended bricks law =
-      subst (λ (l : Layout). BrickLaw s.rows l (objects_in s.rows new) (entry_at bricks))
-      (sym (ap frame e.shape.others))
-      (subst (λ (os : List Object). BrickLaw s.rows (frame s.moved) os (entry_at bricks)) (sym e.objects) law)

@@ -1,17 +1,15 @@
 -- The slide of large segments: what its phases need and leave, and what it makes of a world.
 use Rattle.std.specs.Prelude.{◌≡◌, ℕ, ◌||◌, true, List, map, ℤ}
-use Rattle.std.specs.FinMap.{FinMap}
-use Rattle.std.specs.Ordering.{nat_cmp}
 use Rattle.clr_types.specs.Maps.{map_values}
 use Rattle.clr_types.specs.Rising.{IsIn, sorted_by}
 use Rattle.clr_types.specs.Segments.{Layout}
 use Rattle.clr_types.specs.Types.{TypeRow}
-use Rattle.clr_types.specs.declared.handle.Handle.{Handle}
 use Rattle.clr_bricks.specs.Bricks.{entry_at}
-use Rattle.clr_covers.specs.Covers.{CoverView}
-use Rattle.clr_final.specs.Queues.{Queues}
+use Rattle.clr_cards.specs.Cards.{is_card_set}
+use Rattle.clr_covers.specs.Covers.{spans}
 use Rattle.clr_handles.specs.Laws.{relocated}
-use Rattle.clr_heap.specs.View.{frame, HeapView}
+use Rattle.clr_handles.specs.Tables.{Table}
+use Rattle.clr_heap.specs.View.{frame, HeapView, IsHeap}
 use Rattle.clr_model.specs.Compaction.{Move, moved_by}
 use Rattle.clr_model.specs.Machine.{Machine, Object}
 use Rattle.clr_model.specs.Slide.{all_survivors, IsLargeSlid}
@@ -19,56 +17,58 @@ use Rattle.clr_view.specs.Memory.{is_marked}
 use Rattle.clr_view.specs.View.{layout_in, objects_in}
 use Rattle.clr_view.specs.World.{World}
 use Rattle.clr_compact.specs.Compacted.{HasCompacted}
-use Rattle.clr_generations.specs.Laws.{BrickLaw}
+use Rattle.clr_generations.specs.Laws.{BrickLaw, CardLaw}
+use Rattle.clr_generations.specs.declared.space.Space.{Space}
 use Rattle.clr_mark.specs.Marks.{IsRemarked}
 use Rattle.clr_moves.specs.Objects.{is_in_parts, IsUntouched, moved_object, relocated_object}
 use Rattle.clr_moves.specs.declared.parts.Parts.TheVariants.{LargeSegments}
 use Rattle.clr_moves.specs.declared.planned.Planned.{Planned}
 use Rattle.clr_pinq.specs.declared.entry.PinEntry.{PinEntry}
 use Rattle.clr_plan.specs.Planned.{HasPlanned}
-use Rattle.clr_plugs.specs.BrickEntries.{BricksView}
-use Rattle.clr_reloc.specs.Relocated.{CanRelocate, HasRelocated}
-use Rattle.clr_survivors.specs.Phases.{plan_of}
+use Rattle.clr_reloc.specs.Relocated.{CanRelocate, HasRelocated, left_objects, rebounded}
 use Rattle.clr_survivors.specs.Pins.{HasPins}
-use Rattle.clr_survivors.specs.Roots.{HaveGone, NamesGo}
+use Rattle.clr_survivors.specs.Roots.{HaveGone, NamesGo, Plan}
+use Rattle.clr_survivors.specs.declared.roots.Roots.{Roots}
 
 -- ---- the plan
 
 -- All objects of large segments are marked, headers of what pinned handles name say so, and heap, bricks and queue tell
--- the plan of the slide of this machine. Entries that the plan hasn't overwritten are those of before.
-pub record HasPlannedSlide (rows : List TypeRow) (old new : HeapView) (before bricks : BricksView)
-    (entries : List PinEntry) (table : FinMap nat_cmp Handle) (m : Machine) : Type 0 where
+-- the plan of the slide of this machine. Cards, and entries that the plan hasn't overwritten, are those of before.
+pub record HasPlannedSlide (rows : List TypeRow) (old new : Space) (entries : List PinEntry) (table : Table)
+    (m : Machine) : Type 0 where
   pub marked : HeapView
-  pub remarked : IsRemarked rows old marked
-  pub marks : (o : Object) → IsIn o (objects_in rows old)
-      → is_marked marked o ≡ (is_in_parts old LargeSegments o.place || is_marked old o)
+  pub remarked : IsRemarked rows old.heap marked
+  pub marks : (o : Object) → IsIn o (objects_in rows old.heap)
+      → is_marked marked o ≡ (is_in_parts old.heap LargeSegments o.place || is_marked old.heap o)
   pub view : HeapView
   pub pins : HasPins rows marked view table 1 65536 true
-  pub plan : HasPlanned rows view new bricks entries LargeSegments m (is_in_parts old LargeSegments) old.start1
-      old.start0
-  pub others : (i : ℕ) → IsUntouched view LargeSegments i → entry_at bricks i ≡ entry_at before i
+  pub plan : HasPlanned rows view new.heap new.bricks entries LargeSegments m (is_in_parts old.heap LargeSegments)
+      old.heap.start1 old.heap.start0
+  pub others : (i : ℕ) → IsUntouched view LargeSegments i → entry_at new.bricks i ≡ entry_at old.bricks i
+  pub cards_is : new.cards ≡ old.cards
+  pub same_bricks : spans new.bricks ≡ spans old.bricks
 
 -- ---- the moves
 
 -- References can be relocated, and the plan takes along, or leaves, all that is named from outside of the heap. The
 -- generations begin where they did, and the entries of bricks that the plan hasn't touched obey their law.
-pub record CanSlide (rows : List TypeRow) (view h : HeapView) (cards : List (CoverView ℕ)) (bricks : BricksView)
-    (entries : List PinEntry) (vs : List Move) (entry : ℕ → ℤ) (planned : Planned) (locals : List ℕ)
-    (table : FinMap nat_cmp Handle) (queues : Queues) : Type 0 where
-  pub relocates : CanRelocate rows view h cards bricks entries LargeSegments vs entry planned
-  pub names : NamesGo (plan_of rows view entries vs planned) LargeSegments locals table queues
-  pub start1 : planned.start1 ≡ h.start1
-  pub start0 : planned.start0 ≡ h.start0
-  pub law : BrickLaw rows (frame view) (objects_in rows view) entry
-  pub others : (i : ℕ) → IsUntouched view LargeSegments i → entry_at bricks i ≡ entry i
+pub record CanSlide (p : Plan) (s : Space) (entry : ℕ → ℤ) (planned : Planned) (roots : Roots) : Type 0 where
+  pub relocates : CanRelocate p.rows p.view s.heap s.cards s.bricks p.entries LargeSegments p.moves entry planned
+  pub names : NamesGo p LargeSegments roots
+  pub start1 : planned.start1 ≡ s.heap.start1
+  pub start0 : planned.start0 ≡ s.heap.start0
+  pub law : BrickLaw p.rows (frame p.view) (objects_in p.rows p.view) entry
+  pub others : (i : ℕ) → IsUntouched p.view LargeSegments i → entry_at s.bricks i ≡ entry i
 
--- References and names have become the places where what they name goes, and there it is.
-pub record HasSlidBy (rows : List TypeRow) (view new : HeapView) (vs : List Move) (locals locals_after : List ℕ)
-    (table table_after : FinMap nat_cmp Handle) (queues queues_after : Queues) : Type 0 where
+-- References and names have become the places where what they name goes, and there it is. Cards obey their law.
+pub record HasSlidBy (p : Plan) (new : Space) (planned : Planned) (roots roots_after : Roots) : Type 0 where
   pub mid : HeapView
-  pub relocated : HasRelocated rows view mid LargeSegments vs
-  pub compacted : HasCompacted rows mid new LargeSegments vs
-  pub gone : HaveGone vs locals locals_after table table_after queues queues_after
+  pub heap : IsHeap new.heap
+  pub relocated : HasRelocated p.rows p.view mid LargeSegments p.moves
+  pub compacted : HasCompacted p.rows mid new.heap LargeSegments p.moves
+  pub gone : HaveGone p.moves roots roots_after
+  pub card_law : CardLaw p.rows (rebounded (frame p.view) planned) (left_objects p.rows p.view LargeSegments p.moves)
+      (is_card_set new.cards)
 
 -- ---- the world
 

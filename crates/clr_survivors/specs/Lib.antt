@@ -4,3 +4,4 @@ pub mod Pins
 pub mod Phases
 pub mod Roots
 pub mod Survivors
+pub mod Moving

@@ -8,7 +8,6 @@ use Rattle.clr_types.specs.Maps.{map_values}
 use Rattle.clr_types.specs.Rising.{IsIn}
 use Rattle.clr_types.specs.Types.{TypeRow}
 use Rattle.clr_types.specs.declared.handle.Handle.{Handle}
-use Rattle.clr_final.specs.Queues.{Queues}
 use Rattle.clr_handles.specs.Laws.{relocated}
 use Rattle.clr_heap.specs.View.{HeapView}
 use Rattle.clr_model.specs.Compaction.{Move, moved_by}
@@ -16,6 +15,7 @@ use Rattle.clr_pinq.specs.declared.entry.PinEntry.{PinEntry}
 use Rattle.clr_plugs.specs.BrickEntries.{BricksView}
 use Rattle.clr_moves.specs.Overlaid.{HoldsPlan, MayGo}
 use Rattle.clr_moves.specs.declared.parts.Parts.{Parts}
+use Rattle.clr_survivors.specs.declared.roots.Roots.{Roots}
 
 -- a plan: types, the heap with all its words, what is saved, the moves, and where generations 1 and 0 begin afterwards
 pub record Plan : Type 0 where
@@ -51,19 +51,17 @@ pub record HandlesGo (p : Plan) (g : Parts) (table : FinMap nat_cmp Handle) : Ty
       → moved_by p.moves row.target ≡ row.target
 
 -- so it is with locals, handles, entries and the f-reachable queue
-pub record NamesGo (p : Plan) (g : Parts) (locals : List ℕ) (table : FinMap nat_cmp Handle) (queues : Queues)
-    : Type 0 where
-  pub locals_go : AllGo p g locals
-  pub handles_go : HandlesGo p g table
-  pub entries_go : AllGo p g queues.entries
-  pub ready_go : AllGo p g queues.ready
+pub record NamesGo (p : Plan) (g : Parts) (roots : Roots) : Type 0 where
+  pub locals_go : AllGo p g roots.locals.items
+  pub handles_go : HandlesGo p g roots.handles
+  pub entries_go : AllGo p g roots.finals.entries
+  pub ready_go : AllGo p g roots.finals.ready
   pub null : moved_by p.moves 0 ≡ 0
 
 -- all these names have gone
-pub record HaveGone (moves : List Move) (locals locals_after : List ℕ) (table table_after : FinMap nat_cmp Handle)
-    (queues queues_after : Queues) : Type 0 where
-  pub locals_is : locals_after ≡ map (moved_by moves) locals
-  pub table_is : table_after ≡ map_values (relocated (moved_by moves)) table
-  pub entries_is : queues_after.entries ≡ map (moved_by moves) queues.entries
-  pub ready_is : queues_after.ready ≡ map (moved_by moves) queues.ready
-  pub spare : queues_after.spare ≡ queues.spare
+pub record HaveGone (moves : List Move) (old new : Roots) : Type 0 where
+  pub locals_is : new.locals.items ≡ map (moved_by moves) old.locals.items
+  pub table_is : new.handles ≡ map_values (relocated (moved_by moves)) old.handles
+  pub entries_is : new.finals.entries ≡ map (moved_by moves) old.finals.entries
+  pub ready_is : new.finals.ready ≡ map (moved_by moves) old.finals.ready
+  pub spare : new.finals.spare ≡ old.finals.spare

@@ -25,6 +25,7 @@ use Rattle.clr_model.specs.Sweep.{Survivor, survivors, swept_others}
 use Rattle.clr_view.specs.Memory.{is_left, IsLeft}
 use Rattle.clr_view.specs.View.{layout_in, objects_in}
 use Rattle.clr_view.specs.World.{World}
+use Rattle.clr_survivors.specs.declared.roots.Roots.{Roots}
 use Rattle.clr_moves.specs.Moves.{moved_bytes}
 use Rattle.clr_moves.specs.Objects.{moved_object, relocated_object}
 
@@ -38,6 +39,10 @@ world_with rows heap locals handles queues = record {
   entries = queues.entries;
   ready = queues.ready;
 }
+
+-- the world of these types, this heap and these roots
+abbrev pub world_of : List TypeRow → HeapView → Roots → World
+world_of rows heap roots = world_with rows heap roots.locals.items roots.handles roots.finals
 
 -- ---- what names what
 

@@ -8,6 +8,7 @@
 pub use crate::large::slide_large_heap;
 pub use crate::moving::move_survivors;
 pub use crate::pins::set_pins;
+pub use crate::roots::Roots;
 
 mod condemned;
 mod large;

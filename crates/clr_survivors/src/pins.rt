@@ -1,6 +1,6 @@
 // The header bits of pinned objects.
 ghost use Rattle.std.specs.Prelude.{◌≡◌, ◌-◌, ◌<◌, ◌≤◌, MatchBool, true};
-ghost use Rattle.clr_heap.specs.View.{stored, word_of};
+ghost use Rattle.clr_heap.specs.View.{IsHeap, stored, word_of};
 ghost use Rattle.clr_view.specs.SlotValues.{StandsAt};
 ghost use Rattle.clr_view.specs.View.{IsHeld};
 ghost use Rattle.clr_survivors.specs.Pins.{HasPins, pinned_header, pins_from, PinsStand};
@@ -22,7 +22,6 @@ pub fn set_pins(heap: &mut Heap, types: &Types, handles: &Handles, low: u64, on:
     let near = heap.ephemeral();
     let mut from = 0;
     while let Some((number, handle)) = handles.next_from(from, low) {
-        heap.lawful();
         set_pin_of(heap, types, near, handle, low, on);
         from = number + 1;
     }
@@ -31,6 +30,7 @@ pub fn set_pins(heap: &mut Heap, types: &Types, handles: &Handles, low: u64, on:
 // Says it in the header of the object that a handle pins, where it pins one at `low` or above it. `near` guesses its
 // segment.
 fn set_pin_of(heap: &mut Heap, types: &Types, near: usize, handle: Handle, low: u64, on: bool)
+    requires heap { IsHeap heap.old }
     requires held { IsHeld types.now heap.old }
     requires stands { pins_from low handle ≡ true → StandsAt types.now heap.old handle.target }
     ensures { MatchBool (pins_from low handle)
@@ -44,11 +44,11 @@ fn set_pin_of(heap: &mut Heap, types: &Types, near: usize, handle: Handle, low: 
 
 // Says in the header of the object at a place whether it is pinned. `near` guesses its segment.
 fn set_pin(heap: &mut Heap, types: &Types, near: usize, place: u64, on: bool)
+    requires heap { IsHeap heap.old }
     requires held { IsHeld types.now heap.old }
     requires stands { StandsAt types.now heap.old place }
     ensures { heap.new ≡ stored heap.old (place - 8) (pinned_header on (word_of heap.old (place - 8))) }
 {
-    heap.lawful();
     let k = heap.segment_near(near, place - 8);
     let word = heap.word_at(k, place - 8);
     heap.set_word_at(k, place - 8, header::with_pinned(word, on));

@@ -44,13 +44,69 @@ fn front_name(text: &[u8]) -> Option<(&[u8], &[u8])>
     }
 }
 
-// The name that is the next word, and what is behind it.
+// Whether two texts are equal. It says no where they are, too, but for one byte and four to eight, as most names have.
 #[inline(always)]
-fn take_name(text: &[u8]) -> Option<(&[u8], &[u8])>
-    ensures { IfSome result (λ p. (text.now ≡ (32 ∷ p.0.now) ++ p.1.now) × IsTrue (is_name p.0.now)) }
+fn is_same(text: &[u8], other: &[u8]) -> bool
+    ensures { IsTrue result → text.now ≡ other.now }
+{
+    if text.len() != other.len() {
+        return false;
+    }
+    if text.len() == 1 {
+        return text[0] == other[0];
+    }
+    if text.len() < 4 || 8 < text.len() {
+        return false;
+    }
+    text.first_chunk::<4>() == other.first_chunk::<4>()
+        && text.last_chunk::<4>() == other.last_chunk::<4>()
+}
+
+// Whether a word ends in front of a text.
+#[inline(always)]
+fn is_word_end(text: &[u8]) -> bool {
+    matches!(text, [b'\n' | b' ', ..])
+}
+
+// The hint, where that is the word in front, and what is behind it.
+#[inline(always)]
+fn cut_hint<'a>(text: &'a [u8], hint: &[u8]) -> Option<(&'a [u8], &'a [u8])>
+    ensures { IfSome result (λ p. (text.now ≡ p.0.now ++ p.1.now) × (p.0.now ≡ hint.now)) }
+{
+    if text.len() <= hint.len() {
+        return None;
+    }
+    let (name, rest) = text.split_at(hint.len());
+    if is_same(name, hint) && is_word_end(rest) {
+        Some((name, rest))
+    } else {
+        None
+    }
+}
+
+// The name in front, whether it was found to be the hint, and what is behind it.
+#[inline(always)]
+fn front_name_near<'a>(text: &'a [u8], hint: &[u8]) -> Option<(&'a [u8], bool, &'a [u8])>
+    requires { IsTrue (is_name hint.now) }
+    ensures cut { IfSome result (λ p. (text.now ≡ p.0.now ++ p.2.now) × IsTrue (is_name p.0.now)) }
+    ensures hinted { IfSome result (λ p. IsTrue p.1 → p.0.now ≡ hint.now) }
+{
+    if let Some((name, rest)) = cut_hint(text, hint) {
+        return Some((name, true, rest));
+    }
+    let (name, rest) = front_name(text)?;
+    Some((name, false, rest))
+}
+
+// The name that is the next word, whether it was found to be the hint, and what is behind it.
+#[inline(always)]
+fn take_name<'a>(text: &'a [u8], hint: &[u8]) -> Option<(&'a [u8], bool, &'a [u8])>
+    requires { IsTrue (is_name hint.now) }
+    ensures cut { IfSome result (λ p. (text.now ≡ (32 ∷ p.0.now) ++ p.2.now) × IsTrue (is_name p.0.now)) }
+    ensures hinted { IfSome result (λ p. IsTrue p.1 → p.0.now ≡ hint.now) }
 {
     match text {
-        [b' ', word @ ..] => front_name(word),
+        [b' ', word @ ..] => front_name_near(word, hint),
         _ => None,
     }
 }
@@ -67,15 +123,21 @@ fn end_length(text: &[u8]) -> Option<(Option<u64>, &[u8])>
     Some((Some(len), rest))
 }
 
-/// For which local, of which type and how long an object is made, and what is behind the line's feed.
+/// For which local, of which type and how long an object is made, and what is behind the line's feed. The third part
+/// tells whether the type's name was found to be the hint, which costs less than to read another.
 #[inline(always)]
-pub fn read_new(text: &[u8]) -> Option<(u64, &[u8], Option<u64>, &[u8])>
-    ensures { IfSome result (λ p. Continues (codes "new") (λ t. new_object t p.0 p.1.now p.2) text.now p.3.now) }
+pub fn read_new<'a>(
+    text: &'a [u8],
+    hint: &[u8],
+) -> Option<(u64, &'a [u8], bool, Option<u64>, &'a [u8])>
+    requires { IsTrue (is_name hint.now) }
+    ensures line { IfSome result (λ p. Continues (codes "new") (λ t. new_object t p.0 p.1.now p.3) text.now p.4.now) }
+    ensures hinted { IfSome result (λ p. IsTrue p.2 → p.1.now ≡ hint.now) }
 {
     let (local, rest) = take_local(text)?;
-    let (name, rest) = take_name(rest)?;
+    let (name, same, rest) = take_name(rest, hint)?;
     let (len, rest) = end_length(rest)?;
-    Some((local, name, len, rest))
+    Some((local, name, same, len, rest))
 }
 
 // How to collect, but for `fitting`: the last word, or nothing.

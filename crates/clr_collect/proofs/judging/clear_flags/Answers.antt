@@ -12,7 +12,8 @@ use Rattle.clr_collect.proofs.judging.clear_flags.Goals as goal
 
 pub loop-place-init : goal.loop-place-init
 loop-place-init c = record {
-  unflagged = unflagged_none c.args.types.now c.args.heap.now c.args.marker.now.oldest c.requires.held;
+  unflagged = unflagged_none c.args.types.now c.args.heap.now c.args.marker.now.oldest c.requires.heap
+      c.requires.held;
   left = λ e x i. elim i [ ];
 }
 
@@ -50,10 +51,9 @@ loop-place-preserved c =
                 (subst (λ (h : HeapView). HasUnflagged rows old h g (done ++ p ∷ [])) (sym w.heap-is)
                 (unflagged_more rows old g c.loop-place.heap w.set_suppressed.new.heap done p u
                 (sym c.is_left.ensures ∙ w.if-not-is_left.true) w.set_suppressed.ensures.flagged
+                w.set_suppressed.ensures.words
                 (w.set_suppressed.ensures.clean (λ e. absurd (true≢false (sym e))))
-                w.set_suppressed.ensures.free_heads
-                (ap (λ (h : HeapView). h.limit) w.set_suppressed.ensures.words)
-                (ap (λ (h : HeapView). h.rests) w.set_suppressed.ensures.words)));
+                w.set_suppressed.ensures.free_heads));
             left = λ e x i. absurd (true≢false (sym w.any_dead-is ∙ e));
           }
       | else-not-is_left w ↦

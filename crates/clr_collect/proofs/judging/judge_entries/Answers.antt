@@ -21,7 +21,7 @@ looked told entries n same = take_rest told n ∙ ap (drop n) same
 
 pub clear_flags-any_dead-requires-clause-places : goal.clear_flags-any_dead-requires-clause-places
 clear_flags-any_dead-requires-clause-places c = λ x i.
-    mid_stand c.args.types.now c.args.heap.now c.lawful.ensures c.requires.held c.args.marker.now.oldest
+    mid_stand c.args.types.now c.args.heap.now c.requires.heap c.requires.held c.args.marker.now.oldest
     c.lowest_condemned-low.result c.lowest_condemned-low.ensures.below c.args.finals.now c.requires.entries _
     c.dead_from.new.self c.dead_from.ensures.places (λ x v answer. search rules) x
     (behind-among c.settled-first.result c.dead_from.new.self.entries x
@@ -30,7 +30,7 @@ clear_flags-any_dead-requires-clause-places c = λ x i.
 
 pub drop_entries-requires-clause-stand : goal.drop_entries-requires-clause-stand
 drop_entries-requires-clause-stand c =
-    flat_stand c.args.types.now c.args.heap.now c.lawful.ensures c.requires.held c.args.marker.now.oldest
+    flat_stand c.args.types.now c.args.heap.now c.requires.heap c.requires.held c.args.marker.now.oldest
     c.lowest_condemned-low.result c.lowest_condemned-low.ensures.below c.args.finals.now c.requires.entries _
     c.dead_from.new.self c.dead_from.ensures.places (λ x v answer. search rules) c.settled-first.result
     c.settled-first.ensures.within c.settled-first.ensures.below c.clear_flags-any_dead.new.heap
@@ -41,7 +41,7 @@ drop_entries-requires-clause-stand c =
 pub drop_entries-requires-clause-left : goal.drop_entries-requires-clause-left
 drop_entries-requires-clause-left c = λ none.
     let same = looked c.entries.result.now c.dead_from.new.self.entries c.settled-first.result c.entries.ensures in
-    all_left c.args.types.now c.args.heap.now c.lawful.ensures c.requires.held c.args.marker.now.oldest
+    all_left c.args.types.now c.args.heap.now c.requires.heap c.requires.held c.args.marker.now.oldest
     c.lowest_condemned-low.result c.lowest_condemned-low.ensures.below c.args.finals.now c.requires.entries _
     c.dead_from.new.self c.dead_from.ensures.places (λ x v answer. search rules) c.settled-first.result
     c.settled-first.ensures.within c.settled-first.ensures.below c.clear_flags-any_dead.new.heap
@@ -52,7 +52,7 @@ drop_entries-requires-clause-left c = λ none.
 
 pub returns-clause-judged : goal.returns-clause-judged
 returns-clause-judged c =
-    both_judged c.args.types.now c.args.heap.now c.lawful.ensures c.requires.held c.args.marker.now.oldest
+    both_judged c.args.types.now c.args.heap.now c.requires.heap c.requires.held c.args.marker.now.oldest
     c.lowest_condemned-low.result c.lowest_condemned-low.ensures.below c.args.finals.now c.requires.entries _
     c.dead_from.new.self c.dead_from.ensures.places (λ x v answer. search rules) c.settled-first.result
     c.settled-first.ensures.within c.settled-first.ensures.below c.clear_flags-any_dead.new.heap
@@ -63,7 +63,7 @@ returns-clause-judged c =
 
 pub returns-clause-unflagged : goal.returns-clause-unflagged
 returns-clause-unflagged c =
-    all_unflagged c.args.types.now c.args.heap.now c.lawful.ensures c.requires.held c.args.marker.now.oldest
+    all_unflagged c.args.types.now c.args.heap.now c.requires.heap c.requires.held c.args.marker.now.oldest
     c.lowest_condemned-low.result c.lowest_condemned-low.ensures.below c.args.finals.now c.requires.entries _
     c.dead_from.new.self c.dead_from.ensures.places (λ x v answer. search rules) c.settled-first.result
     c.settled-first.ensures.within c.settled-first.ensures.below c.clear_flags-any_dead.new.heap

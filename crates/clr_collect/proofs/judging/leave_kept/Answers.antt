@@ -31,7 +31,8 @@ clear_short-requires-clause-handles c =
 pub mark_more-requires-clause-gray : goal.mark_more-requires-clause-gray
 mark_more-requires-clause-gray c =
     gray_unflagged c.args.types.now c.args.heap.now c.judge_entries.new.heap c.args.marker.now.oldest
-    c.args.finals.now.entries c.judge_entries.ensures.unflagged c.lawful.ensures c.args.marker.now c.requires.gray
+    c.args.finals.now.entries c.judge_entries.ensures.unflagged c.judge_entries.ensures.unflagged.heap c.args.marker.now
+    c.requires.gray
 
 pub mark_more-requires-clause-handles : goal.mark_more-requires-clause-handles
 mark_more-requires-clause-handles c =
@@ -54,8 +55,8 @@ clear_long_and_dependent-requires-clause-handles c =
     new_handles c.args.types.now c.args.handles.now c.args.finals.now c.args.marker.now.oldest c.args.heap.now
     c.requires.entries c.requires.handles c.judge_entries.new.heap flat c.clear_short.new.handles c.clear_short.ensures
     c.mark_more.new.heap
-    (keeps_objects c.args.types.now c.judge_entries.new.heap c.mark_more.new.heap c.lawful.ensures flat.held
-    c.mark_more.ensures.words)
+    (keeps_objects c.args.types.now c.judge_entries.new.heap c.mark_more.new.heap c.judge_entries.ensures.unflagged.heap
+    flat.held c.mark_more.ensures.words)
 
 pub returns-clause-kept : goal.returns-clause-kept
 returns-clause-kept c = λ old locals alive.
@@ -63,11 +64,12 @@ returns-clause-kept c = λ old locals alive.
     let flat = c.judge_entries.ensures.unflagged in
     kept_marked c.args.types.now old locals c.args.handles.now c.args.finals.now c.args.marker.now.oldest
     c.args.heap.now alive c.judge_entries.new.finals c.judge_entries.ensures.judged c.judge_entries.new.heap
-    c.lawful.ensures flat c.clear_short.new.handles c.clear_short.ensures
+    flat c.clear_short.new.handles c.clear_short.ensures
     (flat_handles c.args.types.now c.args.handles.now c.args.finals.now c.args.marker.now.oldest c.args.heap.now
     c.requires.entries c.requires.handles c.judge_entries.new.heap flat)
-    c.mark_more.new.heap c.mark_more.ensures.words c.lawful-2.ensures c.mark_more.ensures.gray.closed.held
-    (subst (λ (rs : List ℕ). (x : ℕ) → Marked c.args.types.now c.mark_more.new.heap x
+    c.mark_more.new.heap c.mark_more.ensures.words c.mark_more.ensures.gray.closed.heap
+    c.mark_more.ensures.gray.closed.held (subst (λ (rs : List ℕ). (x : ℕ) → Marked c.args.types.now c.mark_more.new.heap
+    x
     ↔ Reach (Draws c.args.types.now c.judge_entries.new.heap c.clear_short.new.handles c.args.marker.now.oldest)
     (λ y. Marked c.args.types.now c.judge_entries.new.heap y
     ⊎ (IsCondemnedRoot rs c.judge_entries.new.heap c.args.marker.now.oldest y
@@ -87,7 +89,7 @@ returns-clause-tables c = λ cards bricks tables.
     tables_remarked rows flat c.mark_more.new.heap cards bricks
     (tables_flagged rows c.args.heap.now flat cards bricks tables c.args.marker.now.oldest c.args.finals.now.entries
     c.judge_entries.ensures.unflagged)
-    (keeps_objects rows flat c.mark_more.new.heap c.lawful.ensures c.judge_entries.ensures.unflagged.held
-    c.mark_more.ensures.words)
-    (keeps_layout rows flat c.mark_more.new.heap c.lawful.ensures c.judge_entries.ensures.unflagged.held
-    c.mark_more.ensures.words)
+    (keeps_objects rows flat c.mark_more.new.heap c.judge_entries.ensures.unflagged.heap
+    c.judge_entries.ensures.unflagged.held c.mark_more.ensures.words)
+    (keeps_layout rows flat c.mark_more.new.heap c.judge_entries.ensures.unflagged.heap
+    c.judge_entries.ensures.unflagged.held c.mark_more.ensures.words)

@@ -19,3 +19,6 @@ returns c =
     carried c.args.types.now c.args.heap.now c.copy_object.new.heap c.vacate.new.heap c.args.object c.args.item
     c.lawful.ensures c.requires.held c.requires.no_contexts c.requires.can c.copy_object.ensures
     (subst (HasVacated c.copy_object.new.heap c.vacate.new.heap c.args.object) c.place.ensures c.vacate.ensures)
+
+pub copy_object-requires-clause-heap : goal.copy_object-requires-clause-heap
+copy_object-requires-clause-heap c = c.lawful.ensures

@@ -10,36 +10,36 @@ use Rattle.clr_evacuate.proofs.carrying.copy_object.Goals.{After-free_rest, Afte
 
 pub free_rest-requires-clause-head : goal.free_rest-requires-clause-head
 free_rest-requires-clause-head c =
-    rest_head c.args.types.now c.args.heap.now c.args.object c.args.item c.lawful.ensures
+    rest_head c.args.types.now c.args.heap.now c.args.object c.args.item c.requires.heap
     c.requires.held c.requires.can
 
 pub overflow_sub-object : goal.overflow_sub-object
-overflow_sub-object c = from_above c.args.types.now c.args.heap.now c.args.object c.args.item c.lawful.ensures
+overflow_sub-object c = from_above c.args.types.now c.args.heap.now c.args.object c.args.item c.requires.heap
     c.requires.held c.requires.can
 
 pub overflow_sub-to : goal.overflow_sub-to
 overflow_sub-to c =
-    let up = to_above c.args.types.now c.args.heap.now c.args.object c.args.item c.lawful.ensures c.requires.held
+    let up = to_above c.args.types.now c.args.heap.now c.args.object c.args.item c.requires.heap c.requires.held
     c.requires.can in
     let at = c.place-to.ensures in
     omega (arith, up, at)
 
 -- the rest of the item was made free
 to_rest : (c : After-free_rest) → SameShape c.args.heap.now c.free_rest.new.heap
-to_rest c = rest_shape c.args.types.now c.args.heap.now c.args.object c.args.item c.lawful.ensures c.requires.held
+to_rest c = rest_shape c.args.types.now c.args.heap.now c.args.object c.args.item c.requires.heap c.requires.held
     c.requires.can c.free_rest.new.heap c.free_rest.ensures
 
 pub move_cells-requires-clause-from_in : goal.move_cells-requires-clause-from_in
 move_cells-requires-clause-from_in c =
     let d = (goal.at.move_cells-requires-clause-from_in c).After-free_rest in
-    cells_from c.args.types.now c.args.heap.now c.args.object c.args.item c.lawful.ensures c.requires.held
+    cells_from c.args.types.now c.args.heap.now c.args.object c.args.item c.requires.heap c.requires.held
     c.requires.can c.free_rest.new.heap (to_rest d)
 
 pub move_cells-requires-clause-to_in : goal.move_cells-requires-clause-to_in
 move_cells-requires-clause-to_in c =
     let d = (goal.at.move_cells-requires-clause-to_in c).After-free_rest in
     subst (λ a. InOne c.free_rest.new.heap.memories (a - 8) c.args.object.size) (sym c.place-to.ensures)
-    (cells_to c.args.types.now c.args.heap.now c.args.object c.args.item c.lawful.ensures c.requires.held
+    (cells_to c.args.types.now c.args.heap.now c.args.object c.args.item c.requires.heap c.requires.held
     c.requires.can c.free_rest.new.heap (to_rest d))
 
 -- the cells were moved
@@ -47,7 +47,7 @@ has_word : (c : After-move_cells) → SameShape c.args.heap.now c.free_rest.new.
     → HasWord c.move_cells.new.self.memories c.place-to.result
 has_word c rest =
     subst (HasWord c.move_cells.new.self.memories) (sym c.place-to.ensures)
-    (word_to c.args.types.now c.args.heap.now c.args.object c.args.item c.lawful.ensures c.requires.held
+    (word_to c.args.types.now c.args.heap.now c.args.object c.args.item c.requires.heap c.requires.held
     c.requires.can c.move_cells.new.self
     (SameShape-trans c.args.heap.now c.free_rest.new.heap c.move_cells.new.self rest
     c.move_cells.ensures.shape))
@@ -65,7 +65,7 @@ returns c =
     let at = c.place-to.ensures in
     let moved = c.move_cells.new.self in
     let value = c.unmarked.ensures ∙ ap unmarked (c.word-mt.ensures.value ∙ ap (word_of moved) at) in
-    copied c.args.types.now c.args.heap.now c.args.object c.args.item c.lawful.ensures c.requires.held c.requires.can
+    copied c.args.types.now c.args.heap.now c.args.object c.args.item c.requires.heap c.requires.held c.requires.can
     c.free_rest.new.heap moved c.free_rest.ensures c.move_cells.ensures.shape
     (λ b z. c.move_cells.ensures.words b z
     ∙ ap (λ a. moves (c.args.object.place - 8) (a - 8) c.args.object.size (word_of c.free_rest.new.heap) b) at)

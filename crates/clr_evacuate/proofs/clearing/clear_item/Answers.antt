@@ -18,7 +18,7 @@ overflow_sub-place c =
     let rows = c.args.types.now in
     let h = c.args.heap.now in
     let place = place-item_at rows (word_of h) c.args.place in
-    let up = listed-above rows h (item_at rows (word_of h) c.args.place) c.lawful.ensures c.requires.held
+    let up = listed-above rows h (item_at rows (word_of h) c.args.place) c.requires.heap c.requires.held
     c.requires.listed in
     omega (arith, place, up)
 
@@ -28,8 +28,8 @@ set_word-requires c =
     let h = c.args.heap.now in
     let i = item_at rows (word_of h) c.args.place in
     subst (λ (n : ℕ). HasWord h.memories (n - 8)) (place-item_at rows (word_of h) c.args.place)
-    (cell_has rows h c.lawful.ensures c.requires.held i (i.place - 8) c.requires.listed
-    (header_in rows h c.lawful.ensures c.requires.held i c.requires.listed))
+    (cell_has rows h c.requires.heap c.requires.held i (i.place - 8) c.requires.listed
+    (header_in rows h c.requires.heap c.requires.held i c.requires.listed))
 
 pub returns-then-found-eq0-clause-cleared : goal.returns-then-found-eq0-clause-cleared
 returns-then-found-eq0-clause-cleared c =
@@ -39,9 +39,9 @@ returns-then-found-eq0-clause-cleared c =
     let i = item_at rows (word_of h) c.args.place in
     let place : i.place ≡ c.args.place = place-item_at rows (word_of h) c.args.place in
     let free : is_free i ≡ true =
-    eq-eqb i.type_id.0 0 (ap (λ (x : Item). x.type_id.0) (sym c.item-found.ensures) ∙ c.if-found-eq0.true) in
+    eq-eqb i.type_id.0 0 (ap (λ (x : Item). x.type_id.0) (sym c.item_of_word-found.ensures) ∙ c.if-found-eq0.true) in
     subst (λ (q : ℕ). AreCleared rows h new (λ a. IsBetween q (q + i.size) a)) place
-    (cleared_item rows h c.lawful.ensures c.requires.held i c.requires.listed new free
+    (cleared_item rows h c.requires.heap c.requires.held i c.requires.listed new free
     (c.set_word.ensures.value ∙ ap (λ (q : ℕ). stored h (q - 8) 0) (sym place)))
 
 pub returns-else-found-eq0-clause-cleared : goal.returns-else-found-eq0-clause-cleared
@@ -52,6 +52,6 @@ returns-else-found-eq0-clause-cleared c =
     let place : i.place ≡ c.args.place = place-item_at rows (word_of h) c.args.place in
     let used : is_free i ≡ false =
     ne_eqb i.type_id.0 0
-    (λ e. c.if-found-eq0.false (ap (λ (x : Item). x.type_id.0) c.item-found.ensures ∙ e)) in
+    (λ e. c.if-found-eq0.false (ap (λ (x : Item). x.type_id.0) c.item_of_word-found.ensures ∙ e)) in
     subst (λ (q : ℕ). AreCleared rows h h (λ a. IsBetween q (q + i.size) a)) place
-    (cleared_object rows h c.lawful.ensures c.requires.held i c.requires.listed used)
+    (cleared_object rows h c.requires.heap c.requires.held i c.requires.listed used)

@@ -13,12 +13,12 @@ pub carry_between-requires-clause-can : goal.carry_between-requires-clause-can
 carry_between-requires-clause-can c =
     subst (λ (s : ℕ × ℕ). CanCarryBetween c.args.types.now c.args.heap.now c.ephemeral-k.result s.0 s.1)
     (sym c.boundaries-start1.ensures)
-    (can_carry c.args.types.now c.args.heap.now c.lawful.ensures c.requires.held c.requires.no_contexts
+    (can_carry c.args.types.now c.args.heap.now c.ephemeral-k.ensures.heap c.requires.held c.requires.no_contexts
     c.ephemeral-k.result c.ephemeral-k.ensures.in_range c.ephemeral-k.ensures.segment c.requires.laid)
 
 pub returns-clause-made : goal.returns-clause-made
 returns-clause-made c =
-    made_for c.args.types.now c.args.heap.now c.lawful.ensures c.requires.held c.requires.no_contexts
+    made_for c.args.types.now c.args.heap.now c.ephemeral-k.ensures.heap c.requires.held c.requires.no_contexts
     c.ephemeral-k.result c.ephemeral-k.ensures.in_range c.ephemeral-k.ensures.segment
     c.carry_between.new.heap c.carry_between.result c.requires.free_heads
     (subst (λ (s : ℕ × ℕ). HasMade c.args.types.now c.args.heap.now c.carry_between.new.heap s.0

@@ -13,7 +13,7 @@ use Rattle.clr_survivors.proofs.PlannedPins.{laid-with, memory-with, with_handle
 use Rattle.clr_evacuate.proofs.PinsWhileFitting.{clean_back, IsPinnedFit, made_back, pins_stand_carried, tells_all}
 use Rattle.clr_evacuate.proofs.PinsWhileFitting.{pinned_law}
 use Rattle.clr_evacuate.proofs.fitting.carry_unpinned.Goals as goal
-use Rattle.clr_evacuate.proofs.fitting.carry_unpinned.Goals.{After-lawful-4}
+use Rattle.clr_evacuate.proofs.fitting.carry_unpinned.Goals.{After-carry_all-bytes}
 
 pub carry_all-bytes-requires-clause-no_contexts : goal.carry_all-bytes-requires-clause-no_contexts
 carry_all-bytes-requires-clause-no_contexts c =
@@ -23,7 +23,7 @@ pub carry_all-bytes-requires-clause-laid : goal.carry_all-bytes-requires-clause-
 carry_all-bytes-requires-clause-laid c =
     let (n, memory, laid) = c.requires.laid in (
       n,
-      memory-kept c.args.types.now c.args.heap.now c.set_pins.new.heap c.args.handles.now 1 c.lawful.ensures
+      memory-kept c.args.types.now c.args.heap.now c.set_pins.new.heap c.args.handles.now 1 c.requires.heap
           c.requires.held true c.set_pins.ensures n memory,
       laid,
     )
@@ -33,8 +33,8 @@ carry_all-bytes-requires-clause-bricks c =
     subst (λ l. AreBricksOf l c.args.bricks.now) (sym (ap frame c.set_pins.ensures.shape.others)) c.requires.bricks
 
 -- the fit of a machine whose memory and handles these are
-ran : (c : After-lawful-4) → (n : Machine) (kept : ℕ → Bool) → IsMemoryOf c.args.types.now c.args.heap.now n → IsLaid n
-    → n.handles ≡ c.args.handles.now → TestsMarks c.args.types.now c.args.heap.now 1 kept
+ran : (c : After-carry_all-bytes) → (n : Machine) (kept : ℕ → Bool) → IsMemoryOf c.args.types.now c.args.heap.now n
+    → IsLaid n → n.handles ≡ c.args.handles.now → TestsMarks c.args.types.now c.args.heap.now 1 kept
     → IsPinnedFit c.args.types.now c.args.heap.now c.set_pins.new.heap c.carry_all-bytes.new.heap c.args.handles.now n
     kept c.carry_all-bytes.result
 ran c n kept memory laid same tests =
@@ -42,13 +42,11 @@ ran c n kept memory laid same tests =
     let old = c.args.heap.now in
     let view = c.set_pins.new.heap in
     let table = c.args.handles.now in
-    let heap = c.lawful.ensures in
+    let heap = c.requires.heap in
     let held = c.requires.held in
     let pins = c.set_pins.ensures in
     record {
       heap = heap;
-      view_heap = c.lawful-3.ensures;
-      carried_heap = c.lawful-4.ensures;
       held = held;
       bare = ap (λ (l : Layout). rest_pieces l.rests) memory.layout ∙ ap rest_pieces c.requires.no_contexts;
       clean = c.requires.clean;
@@ -58,12 +56,12 @@ ran c n kept memory laid same tests =
       handles = same;
       pins = pins;
       made = c.carry_all-bytes.ensures.made n kept (memory-kept rows old view table 1 heap held true pins n memory) laid
-          (tells_all rows old view table heap held c.requires.clean c.lawful-2.ensures pins n same)
+          (tells_all rows old view table heap held c.requires.clean c.lawful.ensures pins n same)
           (tests-kept rows old view table 1 heap held true pins 1 kept tests);
     }
 
 -- and of some machine
-some : (c : After-lawful-4) → (n : Machine) × IsPinnedFit c.args.types.now c.args.heap.now c.set_pins.new.heap
+some : (c : After-carry_all-bytes) → (n : Machine) × IsPinnedFit c.args.types.now c.args.heap.now c.set_pins.new.heap
     c.carry_all-bytes.new.heap c.args.handles.now n (is_left_name c.args.types.now c.args.heap.now 1)
     c.carry_all-bytes.result
 some c =
@@ -78,25 +76,25 @@ some c =
 
 pub set_pins-requires-2-clause-held : goal.set_pins-requires-2-clause-held
 set_pins-requires-2-clause-held c =
-    let (n, f) = some (goal.at.set_pins-requires-2-clause-held c).After-lawful-4 in f.made.held
+    let (n, f) = some (goal.at.set_pins-requires-2-clause-held c).After-carry_all-bytes in f.made.held
 
 pub set_pins-requires-2-clause-stand : goal.set_pins-requires-2-clause-stand
 set_pins-requires-2-clause-stand c =
     let rows = c.args.types.now in
-    let (n, f) = some (goal.at.set_pins-requires-2-clause-stand c).After-lawful-4 in
+    let (n, f) = some (goal.at.set_pins-requires-2-clause-stand c).After-carry_all-bytes in
     pins_stand_carried rows c.args.heap.now c.set_pins.new.heap c.carry_all-bytes.new.heap c.args.handles.now n
     (is_left_name rows c.args.heap.now 1) c.carry_all-bytes.result f
 
 pub returns-clause-made : goal.returns-clause-made
 returns-clause-made c = λ n kept memory laid same tests.
     made_back c.args.types.now c.args.heap.now c.set_pins.new.heap c.carry_all-bytes.new.heap c.args.handles.now n kept
-    c.carry_all-bytes.result (ran (goal.at.returns-clause-made c).After-lawful-4 n kept memory laid same tests)
+    c.carry_all-bytes.result (ran (goal.at.returns-clause-made c).After-carry_all-bytes n kept memory laid same tests)
     c.set_pins-2.new.heap c.set_pins-2.ensures
 
 pub returns-clause-clean : goal.returns-clause-clean
 returns-clause-clean c =
     let rows = c.args.types.now in
-    let (n, f) = some (goal.at.returns-clause-clean c).After-lawful-4 in
+    let (n, f) = some (goal.at.returns-clause-clean c).After-carry_all-bytes in
     clean_back rows c.args.heap.now c.set_pins.new.heap c.carry_all-bytes.new.heap c.args.handles.now n
     (is_left_name rows c.args.heap.now 1) c.carry_all-bytes.result f c.set_pins-2.new.heap c.set_pins-2.ensures
 

@@ -16,5 +16,8 @@ pub returns-clause-hints : goal.returns-clause-hints
 returns-clause-hints c =
     let start = c.start_for-from.ensures c.args.types.now c.args.heap.now c.requires.hints in
     c.learned.ensures.hints c.args.types.now c.args.heap.now c.requires.hints
-    (starts-found c.args.types.now c.args.heap.now c.lawful.ensures c.requires.held c.requires.order c.args.size
-    c.find_item-found.result (c.find_item-found.ensures.lowest start.none_below))
+    (starts-found c.args.types.now c.args.heap.now c.find_item-found.ensures.heap c.requires.held c.requires.order
+    c.args.size c.find_item-found.result (c.find_item-found.ensures.lowest start.none_below))
+
+pub returns-clause-heap : goal.returns-clause-heap
+returns-clause-heap c = c.find_item-found.ensures.heap

@@ -22,7 +22,7 @@ item-found-requires c =
     let test = c.loop-place-test.true in
     let most = c.requires.end in
     let below : place < last_of h c.args.k = omega (arith, test, most) in
-    let can = can_go_on rows h c.lawful.ensures c.requires.held c.requires.no_contexts c.args.k c.requires.in_range
+    let can = can_go_on rows h c.requires.heap c.requires.held c.requires.no_contexts c.args.k c.requires.in_range
     is_any c.args.start place c.loop-place.invariant below in
     can.item
 
@@ -34,7 +34,7 @@ returns-then-found-ne0 c =
     let test = c.loop-place-test.true in
     let most = c.requires.end in
     let below : place < last_of h c.args.k = omega (arith, test, most) in
-    search_found rows h c.lawful.ensures c.requires.held c.requires.no_contexts c.args.k c.requires.in_range is_any
+    search_found rows h c.requires.heap c.requires.held c.requires.no_contexts c.args.k c.requires.in_range is_any
     c.args.start place c.loop-place.invariant below c.args.past test
     (subst (λ (i : Item). (is_object i && true) ≡ true) c.item-found.ensures
     (object_from c.item-found.result c.if-found-ne0.true))
@@ -47,7 +47,7 @@ overflow_add-place c =
     let test = c.loop-place-test.true in
     let most = c.requires.end in
     let below : place < last_of h c.args.k = omega (arith, test, most) in
-    let can = can_go_on rows h c.lawful.ensures c.requires.held c.requires.no_contexts c.args.k c.requires.in_range
+    let can = can_go_on rows h c.requires.heap c.requires.held c.requires.no_contexts c.args.k c.requires.in_range
     is_any c.args.start place c.loop-place.invariant below in
     let size = ap (λ (i : Item). i.size) c.item-found.ensures in
     let within = can.within in
@@ -62,7 +62,7 @@ loop-place-smaller c =
     let test = c.loop-place-test.true in
     let most = c.requires.end in
     let below : place < last_of h c.args.k = omega (arith, test, most) in
-    let can = can_go_on rows h c.lawful.ensures c.requires.held c.requires.no_contexts c.args.k c.requires.in_range
+    let can = can_go_on rows h c.requires.heap c.requires.held c.requires.no_contexts c.args.k c.requires.in_range
     is_any c.args.start place c.loop-place.invariant below in
     let size = ap (λ (i : Item). i.size) c.item-found.ensures in
     let least = can.least in
@@ -77,7 +77,7 @@ loop-place-preserved c =
     let most = c.requires.end in
     let below : place < last_of h c.args.k = omega (arith, test, most) in
     subst (λ (i : Item). IsSearch rows h is_any c.args.k c.args.start (place + i.size)) (sym c.item-found.ensures)
-    (search_on rows h c.lawful.ensures c.requires.held c.requires.no_contexts c.args.k c.requires.in_range is_any
+    (search_on rows h c.requires.heap c.requires.held c.requires.no_contexts c.args.k c.requires.in_range is_any
     c.args.start place c.loop-place.invariant below
     (subst (λ (i : Item). (is_object i && true) ≡ false) c.item-found.ensures
     (free_from c.item-found.result c.if-found-ne0.false)))

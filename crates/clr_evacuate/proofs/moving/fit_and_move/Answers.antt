@@ -1,5 +1,5 @@
 -- A fit, and then the usual moves: what these need, and what both come to.
-use Rattle.std.proofs.Common.{◌≡◌, ℕ, Bool, refl, arith}
+use Rattle.std.proofs.Common.{◌≡◌, ℕ, Bool, refl, arith, ◌∙◌}
 use Rattle.clr_model.specs.Lawful.{IsLaid}
 use Rattle.clr_model.specs.Machine.{Machine}
 use Rattle.clr_view.specs.Memory.{is_left_name, IsMemoryOf, TestsMarks}
@@ -9,45 +9,45 @@ use Rattle.clr_evacuate.proofs.BothMoves.{few-bytes, HaveMovedThen, moved-twice,
 use Rattle.clr_evacuate.proofs.LeftAfterFit.{closed-after, FitStages, IsFit, named-after, stands-after, young-after}
 use Rattle.clr_evacuate.proofs.SeenAfterFit.{kept_then, seen-laid, seen-memory, seen_in, then-marks}
 use Rattle.clr_evacuate.proofs.moving.fit_and_move.Goals as goal
-use Rattle.clr_evacuate.proofs.moving.fit_and_move.Goals.{After-add, After-lawful-4}
+use Rattle.clr_evacuate.proofs.moving.fit_and_move.Goals.{After-add, After-fit_survivors-bytes}
 
 -- ---- the fit
 
-abbrev stages : After-lawful-4 → FitStages
+abbrev stages : After-fit_survivors-bytes → FitStages
 stages c = record {
   rows = c.args.types.now;
-  old = c.args.heap.now;
-  mid = c.fit_survivors-bytes.new.heap;
-  locals = c.args.locals.now;
-  locals_mid = c.fit_survivors-bytes.new.locals;
-  table = c.args.handles.now;
-  table_mid = c.fit_survivors-bytes.new.handles;
-  queues = c.args.finals.now;
-  queues_mid = c.fit_survivors-bytes.new.finals;
+  old = c.args.space.now.heap;
+  mid = c.fit_survivors-bytes.new.space.heap;
+  locals = c.args.roots.now.locals.items;
+  locals_mid = c.fit_survivors-bytes.new.roots.locals.items;
+  table = c.args.roots.now.handles;
+  table_mid = c.fit_survivors-bytes.new.roots.handles;
+  queues = c.args.roots.now.finals;
+  queues_mid = c.fit_survivors-bytes.new.roots.finals;
   bytes = c.fit_survivors-bytes.result;
 }
 
 -- it was made of the survivors of each such machine
-fit-made : (c : After-lawful-4) (m : Machine) (kept : ℕ → Bool) → IsMemoryOf c.args.types.now c.args.heap.now m
-    → IsLaid m → m.handles ≡ c.args.handles.now → TestsMarks c.args.types.now c.args.heap.now 1 kept
-    → IsFit (stages c) m kept
+fit-made : (c : After-fit_survivors-bytes) (m : Machine) (kept : ℕ → Bool)
+    → IsMemoryOf c.args.types.now c.args.space.now.heap m → IsLaid m → m.handles ≡ c.args.roots.now.handles
+    → TestsMarks c.args.types.now c.args.space.now.heap 1 kept → IsFit (stages c) m kept
 fit-made c m kept memory laid same tests = record {
   memory = memory;
   laid = laid;
-  no_contexts = c.requires.no_contexts;
+  no_contexts = c.requires.marked.no_contexts;
   same = same;
   tests = tests;
-  named = c.requires.named;
+  named = c.requires.marked.named;
   fitted = c.fit_survivors-bytes.ensures.fitted m kept memory laid same tests;
 }
 
 -- and there is one
-some-fit : (c : After-lawful-4) → (m : Machine) × (kept : ℕ → Bool) × IsFit (stages c) m kept
+some-fit : (c : After-fit_survivors-bytes) → (m : Machine) × (kept : ℕ → Bool) × IsFit (stages c) m kept
 some-fit c =
-    let (n, memory, laid) = c.requires.laid in
+    let (n, memory, laid) = c.requires.marked.laid in
     let rows = c.args.types.now in
-    let old = c.args.heap.now in
-    let table = c.args.handles.now in (
+    let old = c.args.space.now.heap in
+    let table = c.args.roots.now.handles in (
       with_handles n table,
       is_left_name rows old 1,
       fit-made c (with_handles n table) (is_left_name rows old 1) (memory-with rows old n table memory)
@@ -56,45 +56,34 @@ some-fit c =
 
 -- ---- what the moves need
 
-pub move_survivors-promoted-requires-clause-laid : goal.move_survivors-promoted-requires-clause-laid
-move_survivors-promoted-requires-clause-laid c =
-    let at = (goal.at.move_survivors-promoted-requires-clause-laid c).After-lawful-4 in
+pub move_survivors-promoted-requires-clause-marked : goal.move_survivors-promoted-requires-clause-marked
+move_survivors-promoted-requires-clause-marked c =
+    let at = (goal.at.move_survivors-promoted-requires-clause-marked c).After-fit_survivors-bytes in
     let s = stages at in
     let (m, kept, f) = some-fit at in
-    (seen_in s.rows s.mid s.table_mid m, seen-memory s m kept f, seen-laid s m kept f)
+    record {
+      no_contexts = c.fit_survivors-bytes.ensures.no_contexts;
+      laid = (seen_in s.rows s.mid s.table_mid m, seen-memory s m kept f, seen-laid s m kept f);
+      young = young-after s m kept f c.requires.marked.young;
+      closed = closed-after s m kept f c.requires.marked.closed;
+      stands = stands-after s m kept f c.requires.marked.stands;
+      named = named-after s m kept f;
+    }
 
-pub move_survivors-promoted-requires-clause-young : goal.move_survivors-promoted-requires-clause-young
-move_survivors-promoted-requires-clause-young c =
-    let at = (goal.at.move_survivors-promoted-requires-clause-young c).After-lawful-4 in
-    let (m, kept, f) = some-fit at in
-    young-after (stages at) m kept f c.requires.young
-
-pub move_survivors-promoted-requires-clause-closed : goal.move_survivors-promoted-requires-clause-closed
-move_survivors-promoted-requires-clause-closed c =
-    let at = (goal.at.move_survivors-promoted-requires-clause-closed c).After-lawful-4 in
-    let (m, kept, f) = some-fit at in
-    closed-after (stages at) m kept f c.requires.closed
-
-pub move_survivors-promoted-requires-clause-stands : goal.move_survivors-promoted-requires-clause-stands
-move_survivors-promoted-requires-clause-stands c =
-    let at = (goal.at.move_survivors-promoted-requires-clause-stands c).After-lawful-4 in
-    let (m, kept, f) = some-fit at in
-    stands-after (stages at) m kept f c.requires.stands
-
-pub move_survivors-promoted-requires-clause-named : goal.move_survivors-promoted-requires-clause-named
-move_survivors-promoted-requires-clause-named c =
-    let at = (goal.at.move_survivors-promoted-requires-clause-named c).After-lawful-4 in
-    let (m, kept, f) = some-fit at in
-    named-after (stages at) m kept f
+pub move_survivors-promoted-requires-clause-ready : goal.move_survivors-promoted-requires-clause-ready
+move_survivors-promoted-requires-clause-ready c =
+    let room = c.requires.ready.room in
+    let same = c.fit_survivors-bytes.ensures.numbers.pinned in
+    record { empty = c.requires.ready.empty; room = omega (arith, room, same) }
 
 -- ---- both
 
 abbrev ends : After-add → MoveStages
 ends c = record {
-  new = c.move_survivors-promoted.new.heap;
-  locals_new = c.move_survivors-promoted.new.locals;
-  table_new = c.move_survivors-promoted.new.handles;
-  queues_new = c.move_survivors-promoted.new.finals;
+  new = c.move_survivors-promoted.new.space.heap;
+  locals_new = c.move_survivors-promoted.new.roots.locals.items;
+  table_new = c.move_survivors-promoted.new.roots.handles;
+  queues_new = c.move_survivors-promoted.new.roots.finals;
   to1 = c.move_survivors-promoted.result.to1;
   to2 = c.move_survivors-promoted.result.to2;
   before = c.args.slides.now;
@@ -104,19 +93,19 @@ ends c = record {
 
 pub overflow_add-result : goal.overflow_add-result
 overflow_add-result c =
-    let at = (goal.at.overflow_add-result c).After-lawful-4 in
+    let at = (goal.at.overflow_add-result c).After-fit_survivors-bytes in
     let last = (goal.at.overflow_add-result c).After-add in
     let s = stages at in
     let (m, kept, f) = some-fit at in
     let moved : HaveMovedThen s (ends last) m kept =
     c.move_survivors-promoted.ensures.moved (seen_in s.rows s.mid s.table_mid m) (kept_then m kept)
     (seen-memory s m kept f) (seen-laid s m kept f) refl (then-marks s m kept f) in
-    let few = few-bytes s m kept f (ends last) moved c.lawful.ensures c.requires.held in
+    let few = few-bytes s m kept f (ends last) moved c.requires.tidy.heap c.requires.tidy.held in
     omega (arith, few)
 
 pub returns-clause-moved : goal.returns-clause-moved
 returns-clause-moved c =
-    let at = (goal.at.returns-clause-moved c).After-lawful-4 in
+    let at = (goal.at.returns-clause-moved c).After-fit_survivors-bytes in
     let last = (goal.at.returns-clause-moved c).After-add in
     let s = stages at in
     λ m kept memory laid same tests.
@@ -124,5 +113,18 @@ returns-clause-moved c =
     let moved : HaveMovedThen s (ends last) m kept =
     c.move_survivors-promoted.ensures.moved (seen_in s.rows s.mid s.table_mid m) (kept_then m kept)
     (seen-memory s m kept f) (seen-laid s m kept f) refl (then-marks s m kept f) in
-    moved-twice s m kept f (ends last) moved c.lawful-5.ensures c.move_survivors-promoted.ensures.held _ (omega arith)
-    c.add.ensures
+    let tidy = c.move_survivors-promoted.ensures.tidy in
+    moved-twice s m kept f (ends last) moved tidy.heap tidy.held _ (omega arith) c.add.ensures
+
+pub returns-clause-limit : goal.returns-clause-limit
+returns-clause-limit c = c.move_survivors-promoted.ensures.limit ∙ c.fit_survivors-bytes.ensures.limit
+
+pub returns-clause-numbers : goal.returns-clause-numbers
+returns-clause-numbers c =
+    let first = c.fit_survivors-bytes.ensures.numbers in
+    let second = c.move_survivors-promoted.ensures.numbers in
+    record {
+      pinned = second.pinned ∙ first.pinned;
+      spare = second.spare ∙ first.spare;
+      entries = second.entries ∙ first.entries;
+    }

@@ -1,6 +1,7 @@
 use Rattle.std.proofs.Common.{◌≡◌, ℕ, ap, sym, ◌∙◌, subst, Some}
 use Rattle.clr_model.specs.Fitting.{lowest_item, older_items}
 use Rattle.clr_view.specs.View.{layout_in}
+use Rattle.clr_mark.proofs.Remarking.{keeps_heap}
 use Rattle.clr_evacuate.specs.FittedRun.{HasFitted}
 use Rattle.clr_evacuate.proofs.FittedRuns.{can_go, hints_after, lowest_is, older_after, still_older}
 use Rattle.clr_evacuate.proofs.OldHomes.{older_home, run_inside}
@@ -17,8 +18,8 @@ carry_plug-requires-clause-can c =
 
 pub carry_plug-requires-clause-inside : goal.carry_plug-requires-clause-inside
 carry_plug-requires-clause-inside c =
-    run_inside c.args.types.now c.args.heap.now c.lawful.ensures c.requires.held c.requires.run.0 c.args.plug
-    c.requires.run.1
+    run_inside c.args.types.now c.args.heap.now c.find_lowest-found.ensures.heap c.requires.held c.requires.run.0
+    c.args.plug c.requires.run.1
 
 pub carry_plug-requires-clause-below : goal.carry_plug-requires-clause-below
 carry_plug-requires-clause-below c = c.requires.run.1.below
@@ -53,7 +54,7 @@ returns-in-Some-clause-fitted c run is =
     subst (HasFitted rows h new run c.args.plug c.size-in-Some.result) (sym e) (
       record {
         carried = carried;
-        older = older_after rows h new run c.args.plug c.in-Some.item c.lawful.ensures c.requires.held
+        older = older_after rows h new run c.args.plug c.in-Some.item c.find_lowest-found.ensures.heap c.requires.held
             c.requires.older is there carried;
       },
       c.size-in-Some.ensures.value,
@@ -67,8 +68,8 @@ returns-in-Some-clause-older c =
     ap (λ (n : ℕ). lowest_item n (older_items (layout_in rows h))) (sym c.size.ensures.value)
     ∙ sym c.find_lowest-found.ensures.lowest ∙ c.in-Some.is in
     let there = (lowest_is c.args.plug.size (older_items (layout_in rows h)) c.in-Some.item e).0 in
-    still_older rows h c.carry_plug.new.heap c.requires.run.0 c.args.plug c.in-Some.item c.lawful.ensures
-    c.requires.held c.requires.older c.requires.run.1 there
+    still_older rows h c.carry_plug.new.heap c.requires.run.0 c.args.plug c.in-Some.item
+    c.find_lowest-found.ensures.heap c.requires.held c.requires.older c.requires.run.1 there
     (c.carry_plug.ensures.carried c.requires.run.0
     (can_go rows h c.requires.run.0 c.args.plug c.in-Some.item c.requires.older c.requires.run.1 e))
 
@@ -81,7 +82,22 @@ returns-in-Some-clause-hints c =
     ∙ sym c.find_lowest-found.ensures.lowest ∙ c.in-Some.is in
     let there = (lowest_is c.args.plug.size (older_items (layout_in rows h)) c.in-Some.item e).0 in
     let can = can_go rows h c.requires.run.0 c.args.plug c.in-Some.item c.requires.older c.requires.run.1 e in
-    hints_after rows h c.carry_plug.new.heap c.requires.run.0 c.args.plug c.in-Some.item c.lawful.ensures
-    c.requires.held c.requires.older c.requires.run.1 there (c.carry_plug.ensures.carried c.requires.run.0 can)
-    c.lawful-in-Some.ensures c.requires.order can c.find_lowest-found.new.hints.hints
-    c.find_lowest-found.ensures.hints
+    let carried = c.carry_plug.ensures.carried c.requires.run.0 can in
+    hints_after rows h c.carry_plug.new.heap c.requires.run.0 c.args.plug c.in-Some.item
+    c.find_lowest-found.ensures.heap c.requires.held c.requires.older c.requires.run.1 there carried
+    (keeps_heap h c.carry_plug.new.heap carried.shape c.find_lowest-found.ensures.heap) c.requires.order can
+    c.find_lowest-found.new.hints.hints c.find_lowest-found.ensures.hints
+
+pub returns-in-Some-clause-heap : goal.returns-in-Some-clause-heap
+returns-in-Some-clause-heap c =
+    let rows = c.args.types.now in
+    let h = c.args.heap.now in
+    let e : lowest_item c.args.plug.size (older_items (layout_in rows h)) ≡ Some c.in-Some.item =
+    ap (λ (n : ℕ). lowest_item n (older_items (layout_in rows h))) (sym c.size.ensures.value)
+    ∙ sym c.find_lowest-found.ensures.lowest ∙ c.in-Some.is in
+    let can = can_go rows h c.requires.run.0 c.args.plug c.in-Some.item c.requires.older c.requires.run.1 e in
+    let carried = c.carry_plug.ensures.carried c.requires.run.0 can in
+    keeps_heap h c.carry_plug.new.heap carried.shape c.find_lowest-found.ensures.heap
+
+pub returns-in-None-clause-heap : goal.returns-in-None-clause-heap
+returns-in-None-clause-heap c = c.find_lowest-found.ensures.heap

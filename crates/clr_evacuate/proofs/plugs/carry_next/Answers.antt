@@ -3,6 +3,7 @@ use Rattle.clr_types.specs.Segments.{ephemeral, stands_in}
 use Rattle.clr_types.specs.declared.item.Item.{Item}
 use Rattle.clr_heap.specs.View.{frame, word_of}
 use Rattle.clr_heap.proofs.Spelling.{place-item_at}
+use Rattle.clr_mark.proofs.Remarking.{keeps_heap}
 use Rattle.clr_evacuate.proofs.plugs.carry_next.Goals as goal
 
 pub carry_entered-requires-clause-inside : goal.carry_entered-requires-clause-inside
@@ -16,3 +17,7 @@ carry_entered-requires-clause-old c =
     subst (λ (p : ℕ). p < c.args.heap.now.start0)
     (sym (ap (λ (i : Item). i.place) c.item-object.ensures
     ∙ place-item_at c.args.types.now (word_of c.args.heap.now) c.args.place)) c.requires.old
+
+pub returns-clause-heap : goal.returns-clause-heap
+returns-clause-heap c =
+    keeps_heap c.args.heap.now c.carry_entered.new.heap c.carry_entered.ensures.carried.shape c.requires.heap

@@ -22,6 +22,9 @@ loop-place-init c = (
   bricks_start c.args.types.now c.args.heap.now c.args.bricks.now,
 )
 
+pub carry_next-place-requires-clause-heap : goal.carry_next-place-requires-clause-heap
+carry_next-place-requires-clause-heap c = c.loop-place.invariant.0.heap
+
 pub carry_next-place-requires-clause-head : goal.carry_next-place-requires-clause-head
 carry_next-place-requires-clause-head c =
     (next_there c.args.types.now c.args.heap.now c.loop-place.heap c.args.plug c.args.item c.loop-place.place

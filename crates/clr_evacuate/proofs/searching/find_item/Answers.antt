@@ -39,3 +39,12 @@ returns-clause-lowest c =
     (omega (arith, c.segments-count.ensures.count, c.loop-k-test.false))
     ∙ c.loop-k.invariant
     ∙ begins_there c.args.size c.args.from (older_items (layout_in c.args.types.now h)) none
+
+pub find_in-found-requires-clause-heap : goal.find_in-found-requires-clause-heap
+find_in-found-requires-clause-heap c = c.segments-count.ensures.heap
+
+pub returns-then-is_some-clause-heap : goal.returns-then-is_some-clause-heap
+returns-then-is_some-clause-heap c = c.segments-count.ensures.heap
+
+pub returns-clause-heap : goal.returns-clause-heap
+returns-clause-heap c = c.segments-count.ensures.heap

@@ -23,7 +23,7 @@ word_at-requires-clause-word c =
     let test = c.loop-place-test.true in
     let most = c.requires.within in
     let below : place < last_of h k = omega (arith, test, most) in
-    let can = can_read rows h c.requires.held k c.requires.in_range c.lawful.ensures c.requires.no_contexts c.args.start
+    let can = can_read rows h c.requires.held k c.requires.in_range c.requires.heap c.requires.no_contexts c.args.start
     c.args.size place c.loop-place.invariant below in
     can.item.mt
 
@@ -36,7 +36,7 @@ word_at-requires-clause-segment c =
     let test = c.loop-place-test.true in
     let most = c.requires.within in
     let below : place < last_of h k = omega (arith, test, most) in
-    let can = can_read rows h c.requires.held k c.requires.in_range c.lawful.ensures c.requires.no_contexts c.args.start
+    let can = can_read rows h c.requires.held k c.requires.in_range c.requires.heap c.requires.no_contexts c.args.start
     c.args.size place c.loop-place.invariant below in
     can.mt_in
 
@@ -49,7 +49,7 @@ item_of_word-found-requires-clause-item c =
     let test = c.loop-place-test.true in
     let most = c.requires.within in
     let below : place < last_of h k = omega (arith, test, most) in
-    let can = can_read rows h c.requires.held k c.requires.in_range c.lawful.ensures c.requires.no_contexts c.args.start
+    let can = can_read rows h c.requires.held k c.requires.in_range c.requires.heap c.requires.no_contexts c.args.start
     c.args.size place c.loop-place.invariant below in
     can.item
 
@@ -62,7 +62,7 @@ item_of_word-found-requires-clause-segment c =
     let test = c.loop-place-test.true in
     let most = c.requires.within in
     let below : place < last_of h k = omega (arith, test, most) in
-    let can = can_read rows h c.requires.held k c.requires.in_range c.lawful.ensures c.requires.no_contexts c.args.start
+    let can = can_read rows h c.requires.held k c.requires.in_range c.requires.heap c.requires.no_contexts c.args.start
     c.args.size place c.loop-place.invariant below in
     can.len_in
 
@@ -75,7 +75,7 @@ overflow_add-place c =
     let test = c.loop-place-test.true in
     let most = c.requires.within in
     let below : place < last_of h k = omega (arith, test, most) in
-    let can = can_read rows h c.requires.held k c.requires.in_range c.lawful.ensures c.requires.no_contexts c.args.start
+    let can = can_read rows h c.requires.held k c.requires.in_range c.requires.heap c.requires.no_contexts c.args.start
     c.args.size place c.loop-place.invariant below in
     let size = ap (λ (i : Item). i.size) c.item_of_word-found.ensures in
     let within = can.within in
@@ -97,7 +97,7 @@ returns-then-fits_in c =
     let whole : (place + c.item_of_word-found.result.size) - place ≡ (item_at rows (word_of h) place).size =
     omega (arith, size) in
     ap Some (c.between.ensures ∙ ap P whole)
-    ∙ sym (search_finds rows h c.requires.held k c.requires.in_range c.lawful.ensures c.requires.no_contexts
+    ∙ sym (search_finds rows h c.requires.held k c.requires.in_range c.requires.heap c.requires.no_contexts
     c.args.start c.args.size place c.loop-place.invariant below c.args.end test
     (subst (λ (i : Item). is_free i ≡ true) at (eq-eqb c.item_of_word-found.result.type_id.0 0 c.if-found-eq0.true))
     (subst (λ (i : Item). fits c.args.size i.size ≡ true) at (sym c.fits_in.ensures ∙ c.if-fits_in.true)))
@@ -111,7 +111,7 @@ overflow_add-place-in-loop-place c =
     let test = c.loop-place-test.true in
     let most = c.requires.within in
     let below : place < last_of h k = omega (arith, test, most) in
-    let can = can_read rows h c.requires.held k c.requires.in_range c.lawful.ensures c.requires.no_contexts c.args.start
+    let can = can_read rows h c.requires.held k c.requires.in_range c.requires.heap c.requires.no_contexts c.args.start
     c.args.size place c.loop-place.invariant below in
     let size = ap (λ (i : Item). i.size) c.item_of_word-found.ensures in
     let within = can.within in
@@ -127,7 +127,7 @@ loop-place-smaller c =
     let test = c.loop-place-test.true in
     let most = c.requires.within in
     let below : place < last_of h k = omega (arith, test, most) in
-    let can = can_read rows h c.requires.held k c.requires.in_range c.lawful.ensures c.requires.no_contexts c.args.start
+    let can = can_read rows h c.requires.held k c.requires.in_range c.requires.heap c.requires.no_contexts c.args.start
     c.args.size place c.loop-place.invariant below in
     let size = ap (λ (i : Item). i.size) c.item_of_word-found.ensures in
     let least = can.least in
@@ -151,7 +151,7 @@ loop-place-preserved c =
     ] in
     let P : Item → Type 0 = λ i. IsSearching rows h k c.args.start c.args.size (place + i.size) in
     subst P (sym c.item_of_word-found.ensures)
-    (search_on rows h c.requires.held k c.requires.in_range c.lawful.ensures c.requires.no_contexts c.args.start
+    (search_on rows h c.requires.held k c.requires.in_range c.requires.heap c.requires.no_contexts c.args.start
     c.args.size place c.loop-place.invariant below
     (subst (λ (i : Item). is_free i ≡ true → fits c.args.size i.size ≡ false) c.item_of_word-found.ensures other))
 

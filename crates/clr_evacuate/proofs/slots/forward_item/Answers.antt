@@ -19,11 +19,13 @@ forward_object-requires c =
     let place : i.place ≡ c.args.place = place-item_at rows (word_of h) c.args.place in
     let can = subst (λ (q : ℕ). AreForwardable rows h (λ a. IsBetween q (q + i.size) a)) (sym place) c.requires.named in
     record {
+      heap = c.requires.heap;
       held = c.requires.held;
-      listed = subst (λ (x : Item). IsIn x (heap_items rows h)) (sym c.item-found.ensures) c.requires.listed;
-      object = ap not (ne_eqb c.item-found.result.type_id.0 0 c.if-found-ne0.true);
+      listed = subst (λ (x : Item). IsIn x (heap_items rows h)) (sym c.item_of_word-found.ensures) c.requires.listed;
+      object = ap not (ne_eqb c.item_of_word-found.result.type_id.0 0 c.if-found-ne0.true);
       named = subst (λ (x : Item). AreForwardable rows h (λ a. IsOffsetOf x.place (item_references rows x) a))
-          (sym c.item-found.ensures) (item_named rows h i c.lawful.ensures c.requires.held c.requires.listed can);
+          (sym c.item_of_word-found.ensures)
+          (item_named rows h i c.requires.heap c.requires.held c.requires.listed can);
       cards = c.requires.cards;
     }
 
@@ -37,9 +39,9 @@ returns-then-found-ne0-clause-forwarded c =
     let i = item_at rows (word_of h) c.args.place in
     let place : i.place ≡ c.args.place = place-item_at rows (word_of h) c.args.place in
     let done = subst (λ (x : Item). IsForwarded rows h new cards after
-    (λ a. IsOffsetOf x.place (item_references rows x) a)) c.item-found.ensures c.forward_object.ensures in
+    (λ a. IsOffsetOf x.place (item_references rows x) a)) c.item_of_word-found.ensures c.forward_object.ensures in
     subst (λ (q : ℕ). IsForwarded rows h new cards after (λ a. IsBetween q (q + i.size) a)) place
-    (object_done rows h i c.lawful.ensures c.requires.held c.requires.listed new cards after done)
+    (object_done rows h i c.requires.heap c.requires.held c.requires.listed new cards after done)
 
 pub returns-else-found-ne0-clause-forwarded : goal.returns-else-found-ne0-clause-forwarded
 returns-else-found-ne0-clause-forwarded c =
@@ -49,6 +51,6 @@ returns-else-found-ne0-clause-forwarded c =
     let i = item_at rows (word_of h) c.args.place in
     let place : i.place ≡ c.args.place = place-item_at rows (word_of h) c.args.place in
     let free : is_free i ≡ true =
-    eq-eqb i.type_id.0 0 (ap (λ (x : Item). x.type_id.0) (sym c.item-found.ensures) ∙ c.if-found-ne0.false) in
+    eq-eqb i.type_id.0 0 (ap (λ (x : Item). x.type_id.0) (sym c.item_of_word-found.ensures) ∙ c.if-found-ne0.false) in
     subst (λ (q : ℕ). IsForwarded rows h h cards cards (λ a. IsBetween q (q + i.size) a)) place
-    (free_done rows h i c.lawful.ensures c.requires.held c.requires.listed cards free)
+    (free_done rows h i c.requires.heap c.requires.held c.requires.listed cards free)

@@ -8,8 +8,8 @@ returns-clause-done c =
     let w = c.in_ok-local in
     record {
       instruction = new_object c.args.t w.local w.name.now w.len;
-      front = w.ensures c.args.t c.ranges.t.fits;
+      front = w.ensures.line c.args.t c.ranges.t.fits;
       outcome = _;
-      follows = c.new_object.ensures.follows;
+      follows = c.new_known.ensures.follows;
       told = c.tell_place-written.ensures.text;
     }

@@ -10,31 +10,31 @@ begin-requires-clause-idle c =
     sym (runs_is c.args.parts.now.background) ∙ ap (λ (r : Option Marking). is_some r) c.requires.none
 
 pub begin-requires-clause-closed : goal.begin-requires-clause-closed
-begin-requires-clause-closed c = parts_closed c.args.parts.now c.requires.runtime c.lawful.ensures
+begin-requires-clause-closed c = parts_closed c.args.parts.now c.requires.runtime
 
 pub begin-requires-clause-handles : goal.begin-requires-clause-handles
-begin-requires-clause-handles c = parts_handles c.args.parts.now c.requires.runtime c.lawful.ensures
+begin-requires-clause-handles c = parts_handles c.args.parts.now c.requires.runtime
 
 pub begin-requires-clause-locals : goal.begin-requires-clause-locals
 begin-requires-clause-locals c =
-    rw c.deref.ensures.value (parts_locals c.args.parts.now c.requires.runtime c.lawful.ensures)
+    rw c.deref.ensures.value (parts_locals c.args.parts.now c.requires.runtime)
 
 pub begin-requires-clause-ready : goal.begin-requires-clause-ready
 begin-requires-clause-ready c =
-    rw c.ready.ensures (parts_ready c.args.parts.now c.requires.runtime c.lawful.ensures)
+    rw c.ready.ensures (parts_ready c.args.parts.now c.requires.runtime)
 
 pub returns-clause-begun : goal.returns-clause-begun
 returns-clause-begun c =
     let done = c.begin.ensures in
-    begun_ok c.args.parts.now c.requires.runtime c.lawful.ensures c.begin.new.self c.begin.result done.running
+    begun_ok c.args.parts.now c.requires.runtime c.begin.new.self c.begin.result done.running
     (rw (c.deref.ensures.value, c.ready.ensures) at done.begun) done.objects done.whole done.counted
 
 pub returns-clause-err : goal.returns-clause-err
 returns-clause-err c =
-    begun_err c.args.parts.now c.requires.runtime c.lawful.ensures c.begin.new.self c.begin.result c.begin.ensures.err
+    begun_err c.args.parts.now c.requires.runtime c.begin.new.self c.begin.result c.begin.ensures.err
 
 pub returns-clause-runtime : goal.returns-clause-runtime
 returns-clause-runtime c =
     let done = c.begin.ensures in
-    begun_runtime c.args.parts.now c.requires.runtime c.lawful.ensures c.begin.new.self c.begin.result done.running
+    begun_runtime c.args.parts.now c.requires.runtime c.begin.new.self c.begin.result done.running
     (rw (c.deref.ensures.value, c.ready.ensures) at done.begun) done.objects done.whole done.counted done.err

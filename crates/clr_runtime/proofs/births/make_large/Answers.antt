@@ -88,16 +88,17 @@ registered c name len measured =
     let final = measured.entry
     ∙ ap (λ (rows : List TypeRow). has_finalizer (type_row rows type)) (sym c.in_default.ensures.types) in
     c.register_entry.ensures.entries
-    ∙ (λ k. if final k then p.finals.entries ++ c.in-Some.place ∷ [] else p.finals.entries)
+    ∙ (λ k. if final k then p.roots.finals.entries ++ c.in-Some.place ∷ [] else p.roots.finals.entries)
 
 -- the object is born, with the length that was given
 born : (c : After-register_entry) (name : List ℕ) (len : Option ℕ)
     → IsMeasured c.args.parts.now.types c.args.local name len c.args.request
-    → HasNewbornIn Large c.make_large_room.new.parts.types c.make_large_room.new.parts.heap c.bear.new.heap
+    → HasNewbornIn Large c.make_large_room.new.parts.types c.make_large_room.new.parts.space.heap c.bear.new.heap
     c.in-Some.place c.args.request.type_id.0 (unwrap_or len 0)
 born c name len measured =
     let p = c.make_large_room.new.parts in
-    subst (HasNewbornIn Large p.types p.heap c.bear.new.heap c.in-Some.place c.args.request.type_id.0) measured.len_is
+    subst (HasNewbornIn Large p.types p.space.heap c.bear.new.heap c.in-Some.place c.args.request.type_id.0)
+    measured.len_is
     c.in-Some.ensures.born
 
 pub returns-clause-made : goal.returns-clause-made
@@ -125,23 +126,24 @@ returns-clause-runtime c =
           (placed at.In_default name len measured) new.heap c.in-Some.place c.index_of.result finals.entries
           finals.ready (born at.After-register_entry name len measured) c.index_of.ensures.index
           (registered at.After-register_entry name len measured) c.register_entry.ensures.ready;
-      tables = kind_tables Large p.types p.heap new.heap c.in-Some.place type c.args.request.len p.cards p.safe p.bricks
+      heap = c.lawful.ensures;
+      tables = kind_tables Large p.types p.space.heap new.heap c.in-Some.place type c.args.request.len p.space.cards
+          p.safe p.space.bricks
           new.bricks done.born done.own_bricks done.bricks done.cards (closed is.shown) is.tables;
-      owed = owed_left c.args.request.finalizer (births_owed p.safe) p.finals.spare finals.spare
+      owed = owed_left c.args.request.finalizer (births_owed p.safe) p.roots.finals.spare finals.spare
           (λ wanted.
           let entry = c.requires.entry wanted in
           let same = ap births_owed c.in_default.ensures.safe in
           let more = c.in_default.ensures.spare in
           omega (arith, entry, same, more)) is.owed c.register_entry.ensures.spare;
       finalizers = is.finalizers;
-      index = index_kept young_items p.types p.types p.heap new.heap p.contexts
+      index = index_kept young_items p.types p.types p.space.heap new.heap p.workshop.contexts
           (young_placed (seen p) is.shown.sound.lawful Large refl _ c.in-Some.place _ done.born.layout) is.index;
       large = done.index;
-      pinned = index_kept (kind_items Pinned) p.types p.types p.heap new.heap p.pinned
+      pinned = index_kept (kind_items Pinned) p.types p.types p.space.heap new.heap p.pinned
           (kind_placed Pinned Large refl (seen p) is.shown.sound.lawful _ c.in-Some.place _ done.born.layout) is.pinned;
       limit = done.born.limit ∙ is.limit;
-      pins = is.pins;
-      room = is.room;
+      ready = is.ready;
     }
 
 -- where no room was made because the limit allows no segment, a compaction was counted

@@ -11,6 +11,7 @@ use Rattle.clr_model.specs.Allocation.{own_fits}
 use Rattle.clr_model.proofs.FrontBirth.{born_entries}
 use Rattle.clr_runtime.specs.Births.{IsMeasured}
 use Rattle.clr_runtime.specs.RuntimeView.{seen}
+use Rattle.clr_runtime.proofs.HeapKept.{born_heap}
 use Rattle.clr_runtime.proofs.BirthDone.{birth_kept, HasItsRoom, made_follows, room_fits}
 use Rattle.clr_runtime.proofs.BirthLines.{fails_follows, known, makeable, may_bear}
 use Rattle.clr_runtime.proofs.IndexKept.{index_kept}
@@ -83,7 +84,7 @@ bear-place-requires-clause-room c =
     let (name, len, measured) = c.requires.asked in
     let p = c.make_room.new.parts in
     let type = c.args.request.type_id.0 in
-    subst (λ n. own_fits (frame p.heap) c.args.t (size_of (form_at p.types type) n) ≡ true) (sym measured.len_is)
+    subst (λ n. own_fits (frame p.space.heap) c.args.t (size_of (form_at p.types type) n) ≡ true) (sym measured.len_is)
     (room_fits (seen c.args.parts.now) c.in_default.ensures.runtime.shown c.args.t c.args.local name len type
     c.args.request.size (roomy at name len measured))
 
@@ -111,16 +112,16 @@ registered c name len measured =
     let final = measured.entry
     ∙ ap (λ (rows : List TypeRow). has_finalizer (type_row rows type)) (sym c.in_default.ensures.types) in
     c.register_entry.ensures.entries
-    ∙ (λ k. if final k then p.finals.entries ++ c.bear-place.result ∷ [] else p.finals.entries)
+    ∙ (λ k. if final k then p.roots.finals.entries ++ c.bear-place.result ∷ [] else p.roots.finals.entries)
 
 -- the object is born, with the length that was given
 born : (c : After-register_entry) (name : List ℕ) (len : Option ℕ)
     → IsMeasured c.args.parts.now.types c.args.local name len c.args.request
-    → HasNewborn c.make_room.new.parts.types c.make_room.new.parts.heap c.bear-place.new.heap c.args.t
+    → HasNewborn c.make_room.new.parts.types c.make_room.new.parts.space.heap c.bear-place.new.heap c.args.t
     c.args.request.type_id.0 (unwrap_or len 0)
 born c name len measured =
     let p = c.make_room.new.parts in
-    subst (HasNewborn p.types p.heap c.bear-place.new.heap c.args.t c.args.request.type_id.0) measured.len_is
+    subst (HasNewborn p.types p.space.heap c.bear-place.new.heap c.args.t c.args.request.type_id.0) measured.len_is
     c.bear-place.ensures.born
 
 pub returns-clause-made : goal.returns-clause-made
@@ -150,24 +151,26 @@ returns-clause-runtime c =
           finals.ready newborn done.ensures.place c.index_of.ensures.index
           (registered at.After-register_entry name len measured) c.register_entry.ensures.ready done.ensures.unmarked
           done.ensures.free_heads done.ensures.clean;
-      tables = birth_tables is.shown c.args.t done.new.heap type c.args.request.len p.cards p.bricks done.new.bricks
+      heap = born_heap p.types p.space.heap done.new.heap c.args.t type c.args.request.len done.ensures.words is.heap;
+      tables = birth_tables is.shown c.args.t done.new.heap type c.args.request.len p.space.cards p.space.bricks
+          done.new.bricks
           done.ensures.born done.ensures.spans done.ensures.bricks done.ensures.cards is.tables;
-      owed = owed_left c.args.request.finalizer (births_owed p.safe) p.finals.spare finals.spare
+      owed = owed_left c.args.request.finalizer (births_owed p.safe) p.roots.finals.spare finals.spare
           (λ wanted.
           let entry = c.requires.entry wanted in
           let same = ap births_owed c.in_default.ensures.safe in
           let more = c.in_default.ensures.spare in
           omega (arith, entry, same, more)) is.owed c.register_entry.ensures.spare;
       finalizers = is.finalizers;
-      index = index_kept young_items p.types p.types p.heap done.new.heap p.contexts
+      index = index_kept young_items p.types p.types p.space.heap done.new.heap p.workshop.contexts
           (ap young_items done.ensures.born.layout) is.index;
-      large = index_kept (kind_items Large) p.types p.types p.heap done.new.heap p.large
+      large = index_kept (kind_items Large) p.types p.types p.space.heap done.new.heap p.large
           (ap (kind_items Large) done.ensures.born.layout) is.large;
-      pinned = index_kept (kind_items Pinned) p.types p.types p.heap done.new.heap p.pinned
+      pinned = index_kept (kind_items Pinned) p.types p.types p.space.heap done.new.heap p.pinned
           (ap (kind_items Pinned) done.ensures.born.layout) is.pinned;
-      limit = born_limit p.types p.heap done.new.heap c.args.t type c.args.request.len done.ensures.words ∙ is.limit;
-      pins = is.pins;
-      room = is.room;
+      limit = born_limit p.types p.space.heap done.new.heap c.args.t type c.args.request.len done.ensures.words
+          ∙ is.limit;
+      ready = is.ready;
     }
 
 -- where no room was made because the limit allows no segment, a compaction was counted

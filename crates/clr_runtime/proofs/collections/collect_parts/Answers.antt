@@ -1,16 +1,15 @@
 -- The parts after a collection show the picture of what it leaves of the machine that is seen.
-use Rattle.std.proofs.Common.{◌≡◌, ◌∙◌, ℕ, List, ap, arith, sym, subst}
-use Rattle.std.specs.Vec.{with_items}
-use Rattle.std.proofs.lemmas.List.{with_items_is}
+use Rattle.std.proofs.Common.{◌∙◌, ap, arith}
 use Rattle.clr_view.specs.World.{World}
-use Rattle.clr_collect.specs.Collecting.{world_with}
+use Rattle.clr_survivors.specs.Survivors as survivors
 use Rattle.clr_mark.specs.Waiting.{MarkerView}
 use Rattle.clr_runtime.specs.Options.{options_of}
 use Rattle.clr_runtime.specs.RuntimeView.{ahead_of, sums_of, world_of}
-use Rattle.clr_runtime.proofs.CollectLines.{collect_kept, counts_of, first_fits, has_collected, locals-after}
+use Rattle.clr_runtime.proofs.CollectLines.{collect_kept, counts_of, first_fits, has_collected}
 use Rattle.clr_runtime.proofs.CollectLines.{no_contexts-after}
-use Rattle.clr_runtime.proofs.StepsKept.{tables-carded, tables-idle}
+use Rattle.clr_runtime.proofs.StepsKept.{tables-carded}
 use Rattle.clr_runtime.proofs.CollectLines.{second_fits, Told, told_of, whole_world}
+use Rattle.clr_runtime.proofs.TidyParts.{runtime_tidy}
 use Rattle.clr_runtime.proofs.collections.collect_parts.Goals as goal
 use Rattle.clr_runtime.proofs.collections.collect_parts.Goals.{After-collect-collected}
 
@@ -18,72 +17,37 @@ use Rattle.clr_runtime.proofs.collections.collect_parts.Goals.{After-collect-col
 abbrev left_world : After-collect-collected → World
 left_world c =
     let new = c.collect-collected.new in
-    world_with c.args.parts.now.types new.heap new.locals new.handles new.finals
-
--- what the parts show afterwards, whose locals are those that were lent
-abbrev new_world : After-collect-collected → World
-new_world c =
-    let p = c.args.parts.now in
-    let new = c.collect-collected.new in
-    world_with p.types new.heap (with_items p.locals new.locals).items new.handles new.finals
+    survivors.world_of c.args.parts.now.types new.space.heap new.roots
 
 -- the collection of the machine that is seen
-left : (c : After-collect-collected) → Told (world_of c.args.parts.now) (sums_of c.args.parts.now.sums)
-    (options_of c.args.parts.now.options) c.args.parts.now.safe (ahead_of c.args.parts.now) c.args.g c.args.how
-    (left_world c)
-    c.collect-collected.result
-left c =
-    let p = c.args.parts.now in
-    let done = c.collect-collected in
-    told_of (world_of p) (sums_of p.sums) (options_of p.options) p.safe
-    (ahead_of p) c.requires.runtime.shown c.requires.idle
-    c.args.g c.args.how c.deref_mut.result.now c.deref_mut.ensures.value (left_world c) done.result p.slides
-    done.new.slides done.ensures.collected
-
-same_locals : (c : After-collect-collected)
-    → (with_items c.args.parts.now.locals c.collect-collected.new.locals).items ≡ c.collect-collected.new.locals
-same_locals c =
-    let p = c.args.parts.now in
-    with_items_is p.locals c.collect-collected.new.locals
-    (locals-after c.requires.runtime.shown c.requires.idle c.args.g c.requires.generation c.args.how c.requires.usual
-    (left_world c)
-    c.collect-collected.result (left c) ∙ sym c.requires.runtime.shown.locals ∙ sym p.locals.ok.0)
-
 told : (c : After-collect-collected) → Told (world_of c.args.parts.now) (sums_of c.args.parts.now.sums)
     (options_of c.args.parts.now.options) c.args.parts.now.safe (ahead_of c.args.parts.now) c.args.g c.args.how
-    (new_world c)
-    c.collect-collected.result
+    (left_world c) c.collect-collected.result
 told c =
     let p = c.args.parts.now in
-    let new = c.collect-collected.new in
-    subst
-    (λ (ls : List ℕ). Told (world_of p) (sums_of p.sums) (options_of p.options) p.safe (ahead_of p) c.args.g c.args.how
-    (world_with p.types new.heap ls new.handles new.finals) c.collect-collected.result) (sym (same_locals c)) (left c)
+    let done = c.collect-collected in
+    told_of (world_of p) (sums_of p.sums) (options_of p.options) p.safe (ahead_of p) c.requires.runtime.shown
+    c.requires.idle c.args.g c.args.how (left_world c) done.result p.workshop.slides done.new.workshop.slides
+    done.ensures.collected
+
+pub collect-collected-requires-clause-tidy : goal.collect-collected-requires-clause-tidy
+collect-collected-requires-clause-tidy c = runtime_tidy c.args.parts.now c.requires.runtime c.requires.idle
 
 pub collect-collected-requires-clause-world : goal.collect-collected-requires-clause-world
-collect-collected-requires-clause-world c =
-    rw c.deref_mut.ensures.value (whole_world c.requires.runtime.shown c.requires.idle)
-
-pub collect-collected-requires-clause-tables : goal.collect-collected-requires-clause-tables
-collect-collected-requires-clause-tables c =
-    let p = c.args.parts.now in
-    tables-idle p.cards p.safe p.bricks p.types p.heap c.requires.idle c.requires.runtime.tables
-
-pub collect-collected-requires-clause-free_heads : goal.collect-collected-requires-clause-free_heads
-collect-collected-requires-clause-free_heads c = c.requires.runtime.shown.free_heads
+collect-collected-requires-clause-world c = whole_world c.requires.runtime.shown c.requires.idle
 
 pub collected-parts-requires-clause-first : goal.collected-parts-requires-clause-first
 collected-parts-requires-clause-first c =
     let before = (goal.at.collected-parts-requires-clause-first c).After-collect-collected in
     first_fits c.requires.runtime.shown c.requires.idle c.args.g c.requires.generation c.args.how c.requires.usual
-    (new_world before)
+    (left_world before)
     c.collect-collected.result (told before)
 
 pub collected-parts-requires-clause-second : goal.collected-parts-requires-clause-second
 collected-parts-requires-clause-second c =
     let before = (goal.at.collected-parts-requires-clause-second c).After-collect-collected in
     second_fits c.requires.runtime.shown c.requires.idle c.args.g c.requires.generation c.args.how c.requires.usual
-    (new_world before)
+    (left_world before)
     c.collect-collected.result (told before)
 
 pub returns-clause-collected : goal.returns-clause-collected
@@ -93,7 +57,7 @@ returns-clause-collected c =
     (rw c.stop_after.ensures
     (rw c.collect-collected.ensures.flag
     (has_collected c.requires.runtime.shown c.requires.idle c.args.g c.requires.generation c.args.how
-    c.requires.usual (new_world before)
+    c.requires.usual (left_world before)
     c.collect-collected.result (told before))))
 
 pub returns-clause-no_contexts : goal.returns-clause-no_contexts
@@ -101,13 +65,15 @@ returns-clause-no_contexts c =
     let before = (goal.at.returns-clause-no_contexts c).After-collect-collected in
     no_contexts-after c.requires.runtime.shown c.requires.idle c.args.g c.requires.generation c.args.how
     c.requires.usual
-    (new_world before)
+    (left_world before)
     c.collect-collected.result (told before)
 
 pub returns-clause-runtime : goal.returns-clause-runtime
 returns-clause-runtime c =
     let p = c.args.parts.now in
     let done = c.collect-collected in
+    let space = done.new.space in
+    let tidy = done.ensures.tidy in
     let before = (goal.at.returns-clause-runtime c).After-collect-collected in
     record {
       shown = rw c.collected-parts.ensures
@@ -115,10 +81,11 @@ returns-clause-runtime c =
           (rw done.ensures.flag
           (collect_kept c.requires.runtime.shown c.requires.idle c.args.g c.requires.generation c.args.how
           c.requires.usual
-          (new_world before)
+          (left_world before)
           done.result
-          (told before) done.ensures.held done.ensures.unmarked done.ensures.free_heads done.ensures.clean)));
-      tables = tables-carded done.new.cards p.safe done.new.bricks p.types done.new.heap done.ensures.tables;
+          (told before) tidy.held done.ensures.unmarked tidy.free_heads tidy.clean)));
+      heap = tidy.heap;
+      tables = tables-carded space.cards p.safe space.bricks p.types space.heap tidy.tables;
       owed =
           let owed = c.requires.runtime.owed in
           let more = done.ensures.spare in
@@ -128,8 +95,7 @@ returns-clause-runtime c =
       large = rw c.lose.ensures tt;
       pinned = rw c.lose-2.ensures tt;
       limit = done.ensures.limit ∙ c.requires.runtime.limit;
-      pins = done.ensures.empty;
-      room = done.ensures.room;
+      ready = done.ensures.ready;
     }
 
 pub returns-clause-slides : goal.returns-clause-slides
@@ -137,10 +103,9 @@ returns-clause-slides c =
     let before = (goal.at.returns-clause-slides c).After-collect-collected in
     let p = c.args.parts.now in
     let done = c.collect-collected in
-    counts_of (world_of p) (sums_of p.sums) (options_of p.options) p.safe
-    (ahead_of p) c.requires.runtime.shown c.requires.idle
-    c.args.g c.args.how c.deref_mut.result.now c.deref_mut.ensures.value (left_world before) done.result p.slides
-    done.new.slides done.ensures.collected
+    counts_of (world_of p) (sums_of p.sums) (options_of p.options) p.safe (ahead_of p) c.requires.runtime.shown
+    c.requires.idle c.args.g c.args.how (left_world before) done.result p.workshop.slides done.new.workshop.slides
+    done.ensures.collected
 
 pub returns-clause-stack : goal.returns-clause-stack
 returns-clause-stack c = ap (λ (m : MarkerView). m.capacity) c.collect-collected.ensures.marker

@@ -62,11 +62,11 @@ bear-requires-clause-object c =
 -- the object is born, with the length that was given
 born : (c : In-Some) (name : List ℕ) (len : ℕ)
     → IsMeasuredPinned c.args.parts.now.types c.args.local name len c.args.request
-    → HasNewbornIn Pinned c.make_pinned_room.new.parts.types c.make_pinned_room.new.parts.heap c.bear.new.heap
+    → HasNewbornIn Pinned c.make_pinned_room.new.parts.types c.make_pinned_room.new.parts.space.heap c.bear.new.heap
     c.in-Some.place c.args.request.type_id.0 len
 born c name len measured =
     let p = c.make_pinned_room.new.parts in
-    subst (HasNewbornIn Pinned p.types p.heap c.bear.new.heap c.in-Some.place c.args.request.type_id.0)
+    subst (HasNewbornIn Pinned p.types p.space.heap c.bear.new.heap c.in-Some.place c.args.request.type_id.0)
     measured.len_is c.in-Some.ensures.born
 
 pub returns-clause-made : goal.returns-clause-made
@@ -89,18 +89,19 @@ returns-clause-runtime c =
       shown = pinned_kept (seen c.args.parts.now) is.shown c.args.t c.args.local name len type c.args.request.size
           (placed at.In_default name len measured) new.heap c.in-Some.place c.index_of.result
           (born at.In-Some name len measured) c.index_of.ensures.index;
-      tables = kind_tables Pinned p.types p.heap new.heap c.in-Some.place type c.args.request.len p.cards p.safe
-          p.bricks new.bricks done.born done.own_bricks done.bricks done.cards (closed is.shown) is.tables;
+      heap = c.lawful.ensures;
+      tables = kind_tables Pinned p.types p.space.heap new.heap c.in-Some.place type c.args.request.len p.space.cards
+          p.safe
+          p.space.bricks new.bricks done.born done.own_bricks done.bricks done.cards (closed is.shown) is.tables;
       owed = is.owed;
       finalizers = is.finalizers;
-      index = index_kept young_items p.types p.types p.heap new.heap p.contexts
+      index = index_kept young_items p.types p.types p.space.heap new.heap p.workshop.contexts
           (young_placed (seen p) is.shown.sound.lawful Pinned refl _ c.in-Some.place _ done.born.layout) is.index;
-      large = index_kept (kind_items Large) p.types p.types p.heap new.heap p.large
+      large = index_kept (kind_items Large) p.types p.types p.space.heap new.heap p.large
           (kind_placed Large Pinned refl (seen p) is.shown.sound.lawful _ c.in-Some.place _ done.born.layout) is.large;
       pinned = done.index;
       limit = done.born.limit ∙ is.limit;
-      pins = is.pins;
-      room = is.room;
+      ready = is.ready;
     }
 
 -- where no room was made because the limit allows no segment, a compaction was counted

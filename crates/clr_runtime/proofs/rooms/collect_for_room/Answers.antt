@@ -12,16 +12,16 @@ returns-clause-collected c =
 
 pub returns-clause-no_contexts : goal.returns-clause-no_contexts
 returns-clause-no_contexts c =
-    ap (λ (p : Parts). p.heap.rests) c.renew_index.ensures.others ∙ c.collect_parts-collected.ensures.no_contexts
+    ap (λ (p : Parts). p.space.heap.rests) c.renew_index.ensures.others ∙ c.collect_parts-collected.ensures.no_contexts
 
 pub returns-clause-slides : goal.returns-clause-slides
 returns-clause-slides c =
-    subst (CountsCollection c.collect_parts-collected.result.compacted c.args.parts.now.slides)
-    (sym (ap (λ (p : Parts). p.slides) c.renew_index.ensures.others)) c.collect_parts-collected.ensures.slides
+    subst (CountsCollection c.collect_parts-collected.result.compacted c.args.parts.now.workshop.slides)
+    (sym (ap (λ (p : Parts). p.workshop.slides) c.renew_index.ensures.others)) c.collect_parts-collected.ensures.slides
 
 pub returns-clause-spare : goal.returns-clause-spare
 returns-clause-spare c =
-    let same = ap (λ (p : Parts). p.finals.spare) c.renew_index.ensures.others in
+    let same = ap (λ (p : Parts). p.roots.finals.spare) c.renew_index.ensures.others in
     let more = c.collect_parts-collected.ensures.spare in
     omega (arith, same, more)
 

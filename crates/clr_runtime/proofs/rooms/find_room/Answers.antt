@@ -98,7 +98,7 @@ returns-then-refill-2-clause-room c =
 
 pub refill_by_sealing-requires-clause-no_contexts : goal.refill_by_sealing-requires-clause-no_contexts
 refill_by_sealing-requires-clause-no_contexts c =
-    ap (λ (p : Parts). p.heap.rests) c.if-refill-2.ensures.refilled.1 ∙ c.collect_for_room-2.ensures.no_contexts
+    ap (λ (p : Parts). p.space.heap.rests) c.if-refill-2.ensures.refilled.1 ∙ c.collect_for_room-2.ensures.no_contexts
 
 -- what the last step comes to
 by_sealing : (c : After-refill_by_sealing) (result : Result (Unit {0}) AcquireFault)
@@ -151,18 +151,19 @@ returns-in-Ok-clause-grew c = λ full. absurd cc
 -- the second collection compacted
 pub returns-in-Err-refill_by_sealing-clause-grew : goal.returns-in-Err-refill_by_sealing-clause-grew
 returns-in-Err-refill_by_sealing-clause-grew c = λ full.
-    let start = c.args.parts.now.slides in
+    let start = c.args.parts.now.workshop.slides in
     let first = c.collect_for_room in
     let second = c.collect_for_room-2 in
     let (after, collects, is) = second.ensures.collected in
-    let one : CountsCollection first.result.compacted start first.new.parts.slides =
-    subst (λ n. CountsCollection first.result.compacted n first.new.parts.slides) c.refill_in_budget.ensures.slides
+    let one : CountsCollection first.result.compacted start first.new.parts.workshop.slides =
+    subst (λ n. CountsCollection first.result.compacted n first.new.parts.workshop.slides)
+    c.refill_in_budget.ensures.slides
     first.ensures.slides in
-    let two : Grew c.refill.new.parts.slides second.new.parts.slides =
-    surely second.result.compacted c.refill.new.parts.slides second.new.parts.slides
+    let two : Grew c.refill.new.parts.workshop.slides second.new.parts.workshop.slides =
+    surely second.result.compacted c.refill.new.parts.workshop.slides second.new.parts.workshop.slides
     (compacting (seen c.refill.new.parts) 2 second.result after collects) second.ensures.slides in
-    let last : c.refill_by_sealing.new.parts.slides ≡ second.new.parts.slides =
+    let last : c.refill_by_sealing.new.parts.workshop.slides ≡ second.new.parts.workshop.slides =
     c.in-Err-refill_by_sealing.ensures.slides ∙ c.refill-2.ensures.slides in
     subst (Grew start) (sym last)
-    (grown first.result.compacted start first.new.parts.slides second.new.parts.slides one
-    (subst (λ n. Grew n second.new.parts.slides) c.refill.ensures.slides two))
+    (grown first.result.compacted start first.new.parts.workshop.slides second.new.parts.workshop.slides one
+    (subst (λ n. Grew n second.new.parts.workshop.slides) c.refill.ensures.slides two))

@@ -40,12 +40,13 @@ returns-clause-room c =
 
 pub returns-clause-grew : goal.returns-clause-grew
 returns-clause-grew c = λ full.
-    subst (λ n. Grew n c.find_room.new.parts.slides) (ap (λ (p : Parts). p.slides) c.renew_index.ensures.others)
+    subst (λ n. Grew n c.find_room.new.parts.workshop.slides)
+    (ap (λ (p : Parts). p.workshop.slides) c.renew_index.ensures.others)
     (c.find_room.ensures.grew full)
 
 pub returns-clause-spare : goal.returns-clause-spare
 returns-clause-spare c =
-    let same = ap (λ (p : Parts). p.finals.spare) c.renew_index.ensures.others in
+    let same = ap (λ (p : Parts). p.roots.finals.spare) c.renew_index.ensures.others in
     let more = c.find_room.ensures.spare in
     omega (arith, same, more)
 

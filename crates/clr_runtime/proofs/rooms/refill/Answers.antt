@@ -3,23 +3,22 @@ use Rattle.std.proofs.Common.{is_some}
 use Rattle.clr_runtime.specs.Rooms.{IsRefill}
 use Rattle.clr_runtime.specs.RuntimeView.{IsRuntime}
 use Rattle.clr_runtime.specs.declared.parts.Parts.{Parts}
-use Rattle.clr_runtime.proofs.RefillKept.{refill_answers}
+use Rattle.clr_runtime.proofs.RefillKept.{refill_answers, relaid_parts}
 use Rattle.clr_runtime.proofs.rooms.refill.Goals as goal
 use Rattle.clr_runtime.proofs.rooms.refill.Goals.{After-is_some}
 
 -- the parts afterwards
 abbrev relaid : After-is_some → Parts
-relaid c =
-    record c.args.parts.now { heap = c.refill-refilled.new.heap; contexts = c.refill-refilled.new.self }
+relaid c = relaid_parts c.args.parts.now c.refill-refilled.new.heap c.refill-refilled.new.self
 
 answered : (c : After-is_some)
     → IsRefill c.args.parts.now (relaid c) c.args.thread c.args.size (is_some c.refill-refilled.result)
     × IsRuntime (relaid c)
 answered c =
     let done = c.refill-refilled in
-    refill_answers c.args.parts.now c.requires.runtime c.lawful.ensures c.args.thread c.args.size c.requires.positive
+    refill_answers c.args.parts.now c.requires.runtime c.args.thread c.args.size c.requires.positive
     c.requires.few c.requires.idle (c.requires.least, c.requires.whole) done.new.heap done.new.self done.result
-    done.ensures.none done.ensures.refilled done.ensures.index
+    done.ensures.none done.ensures.refilled done.ensures.index c.lawful.ensures
 
 pub returns-clause-refilled : goal.returns-clause-refilled
 returns-clause-refilled c = rw c.is_some.ensures (answered c).0

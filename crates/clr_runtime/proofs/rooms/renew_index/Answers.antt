@@ -15,6 +15,7 @@ returns-clause-runtime c =
     let is = c.requires in
     record {
       shown = is.shown;
+      heap = is.heap;
       tables = is.tables;
       owed = is.owed;
       finalizers = is.finalizers;
@@ -22,6 +23,5 @@ returns-clause-runtime c =
       large = is.large;
       pinned = is.pinned;
       limit = is.limit;
-      pins = is.pins;
-      room = is.room;
+      ready = is.ready;
     }

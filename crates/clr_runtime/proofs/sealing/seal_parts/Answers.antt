@@ -7,7 +7,7 @@ use Rattle.clr_runtime.proofs.sealing.seal_parts.Goals as goal
 pub seal-requires-clause-tables : goal.seal-requires-clause-tables
 seal-requires-clause-tables c =
     let p = c.args.parts.now in
-    tables-idle p.cards p.safe p.bricks p.types p.heap c.requires.idle c.requires.runtime.tables
+    tables-idle p.space.cards p.safe p.space.bricks p.types p.space.heap c.requires.idle c.requires.runtime.tables
 
 pub returns-clause-runtime : goal.returns-clause-runtime
 returns-clause-runtime c =

@@ -15,6 +15,7 @@ use Rattle.clr_safe.specs.declared.begun.Begun.TheVariants.{Nothing}
 use Rattle.clr_runtime.specs.Options.{options_of}
 use Rattle.clr_runtime.specs.RuntimeView.{ahead_of, IsRuntime, IsToldBy, seen, sums_of, world_of}
 use Rattle.clr_runtime.specs.Shown.{shown}
+use Rattle.clr_runtime.proofs.HeapKept.{born_heap}
 use Rattle.clr_runtime.proofs.BirthDone.{spent_more}
 use Rattle.clr_runtime.proofs.FinishedBirths.{birth_entry, birth_finished, birth_finished_shown, birth_known, birth_may}
 use Rattle.clr_runtime.proofs.FinishedBirths.{birth_makeable, birth_no_store, birth_owed, birth_room, birth_most}
@@ -83,7 +84,7 @@ registered c =
     let final = finalizer-of p.types p.safe c.args.t c.args.type_id c.args.len c.args.local c.args.finalizer
     c.requires.begun c.requires.runtime.finalizers in
     c.register_entry.ensures.entries
-    ∙ (λ k. if final k then p.finals.entries ++ c.bear-place.result ∷ [] else p.finals.entries)
+    ∙ (λ k. if final k then p.roots.finals.entries ++ c.bear-place.result ∷ [] else p.roots.finals.entries)
 
 pub returns-clause-finished : goal.returns-clause-finished
 returns-clause-finished c =
@@ -94,7 +95,7 @@ returns-clause-finished c =
     subst (λ (threads : Threads). Follows (seen p) (finish_step c.args.t) (answered (Place done.result))
     (shown (record (world_of p) {
       heap = done.new.heap;
-      locals = slice_set p.locals.items c.index_of.result done.result;
+      locals = slice_set p.roots.locals.items c.index_of.result done.result;
       entries = finals.entries;
       ready = finals.ready;
     }) (spent_more (sums_of p.sums) c.item_size-size.result) (options_of p.options) threads (ahead_of p)))
@@ -114,13 +115,12 @@ returns-clause-runtime c =
     let finals = c.register_entry.new.finals in
     let size = c.item_size-size.result in
     let next = with_begun p.safe c.args.t Nothing in
-    let tables = birth_tables is.shown c.args.t done.new.heap type c.args.len p.cards p.bricks done.new.bricks
+    let tables = birth_tables is.shown c.args.t done.new.heap type c.args.len p.space.cards p.space.bricks
+    done.new.bricks
     done.ensures.born done.ensures.spans done.ensures.bricks done.ensures.cards is.tables in
     subst (λ (threads : Threads). IsRuntime (record p {
-      heap = done.new.heap;
-      bricks = done.new.bricks;
-      locals = with_item p.locals c.index_of.result done.result;
-      finals = finals;
+      space = record p.space { heap = done.new.heap; bricks = done.new.bricks };
+      roots = record p.roots { locals = with_item p.roots.locals c.index_of.result done.result; finals = finals };
       safe = threads;
       sums = record p.sums { spent0 = p.sums.spent0 + size };
     })) (sym c.end.ensures)
@@ -130,21 +130,21 @@ returns-clause-runtime c =
           done.ensures.born done.ensures.place c.index_of.ensures.index c.item_size-size.ensures
           (registered at.After-register_entry) c.register_entry.ensures.ready done.ensures.unmarked
           done.ensures.free_heads done.ensures.clean;
-      tables = tables-by p.types done.new.heap p.cards done.new.bricks
-          (IsToldBy p.types done.new.heap p.cards p.safe) (IsToldBy p.types done.new.heap p.cards next)
-          (told-begun p.types done.new.heap p.cards p.safe c.args.t Nothing
+      heap = born_heap p.types p.space.heap done.new.heap c.args.t type c.args.len done.ensures.words is.heap;
+      tables = tables-by p.types done.new.heap p.space.cards done.new.bricks
+          (IsToldBy p.types done.new.heap p.space.cards p.safe) (IsToldBy p.types done.new.heap p.space.cards next)
+          (told-begun p.types done.new.heap p.space.cards p.safe c.args.t Nothing
           (birth_no_store p is c.args.t c.requires.thread c.args.type_id c.args.len c.args.local c.args.finalizer
           c.requires.begun)) tables;
       owed = birth_owed p is c.args.t c.requires.thread c.args.type_id c.args.len c.args.local c.args.finalizer
           c.requires.begun finals.spare c.register_entry.ensures.spare;
       finalizers = finalizers-begun p.types p.safe c.args.t Nothing is.finalizers tt;
-      index = index_kept young_items p.types p.types p.heap done.new.heap p.contexts
+      index = index_kept young_items p.types p.types p.space.heap done.new.heap p.workshop.contexts
           (ap young_items done.ensures.born.layout) is.index;
-      large = index_kept (kind_items Large) p.types p.types p.heap done.new.heap p.large
+      large = index_kept (kind_items Large) p.types p.types p.space.heap done.new.heap p.large
           (ap (kind_items Large) done.ensures.born.layout) is.large;
-      pinned = index_kept (kind_items Pinned) p.types p.types p.heap done.new.heap p.pinned
+      pinned = index_kept (kind_items Pinned) p.types p.types p.space.heap done.new.heap p.pinned
           (ap (kind_items Pinned) done.ensures.born.layout) is.pinned;
-      limit = born_limit p.types p.heap done.new.heap c.args.t type c.args.len done.ensures.words ∙ is.limit;
-      pins = is.pins;
-      room = is.room;
+      limit = born_limit p.types p.space.heap done.new.heap c.args.t type c.args.len done.ensures.words ∙ is.limit;
+      ready = is.ready;
     })

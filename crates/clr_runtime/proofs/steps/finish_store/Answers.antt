@@ -17,8 +17,8 @@ slot-slot-requires-clause-below c =
 
 pub overflow_add-address : goal.overflow_add-address
 overflow_add-address c =
-    let low = slot-low c.args.parts.now.types c.args.parts.now.heap c.object_item-item.result c.slot-slot.result
-    c.lawful.ensures c.requires.runtime.shown.held c.object_item-item.ensures.listed
+    let low = slot-low c.args.parts.now.types c.args.parts.now.space.heap c.object_item-item.result c.slot-slot.result
+    c.requires.runtime.heap c.requires.runtime.shown.held c.object_item-item.ensures.listed
     (store-slot c.requires.runtime.shown c.args.t c.args.object c.args.index c.requires.begun c.object_item-item.result
     c.object_item-item.ensures c.slot-slot.result c.slot-slot.ensures.slot) in
     omega (arith, low)
@@ -27,7 +27,8 @@ pub set-requires : goal.set-requires
 set-requires c =
     store-covered c.requires.runtime.shown c.args.t c.args.object c.args.index c.requires.begun
     c.object_item-item.result
-    c.object_item-item.ensures c.slot-slot.result c.slot-slot.ensures.slot c.lawful.ensures c.args.parts.now.cards
+    c.object_item-item.ensures c.slot-slot.result c.slot-slot.ensures.slot c.requires.runtime.heap
+    c.args.parts.now.space.cards
     c.requires.runtime.tables.cards
 
 pub returns-clause-finished : goal.returns-clause-finished

@@ -18,13 +18,11 @@ move_roots-requires-clause-go c =
       holds,
       names-on (plan_of rows view c.args.pins.now.entries vs c.args.planned.now)
           (plan_of rows mid c.relocate.new.pins.entries vs c.args.planned.now) (Generations c.args.g) refl
-          (may-go-on rows view mid (Generations c.args.g) vs relocated) c.args.locals.now
-          c.args.handles.now c.args.finals.now
-          can.names,
+          (may-go-on rows view mid (Generations c.args.g) vs relocated) c.args.roots.now can.names,
     )
 
-pub compact-requires-clause-plan : goal.compact-requires-clause-plan
-compact-requires-clause-plan c =
+pub compact-promoted-requires-clause-plan : goal.compact-promoted-requires-clause-plan
+compact-promoted-requires-clause-plan c =
     let (view, vs, entry, can) = c.requires.can in
     let (mid, relocated, holds) = c.relocate.ensures.relocated view vs entry can.relocates in
     let rows = c.args.types.now in
@@ -33,9 +31,9 @@ compact-requires-clause-plan c =
       moves = vs;
       entry = entry;
       plan = holds;
-      remembered = remembered-on rows view mid (Generations c.args.g) vs relocated c.args.bricks.now entry
+      remembered = remembered-on rows view mid (Generations c.args.g) vs relocated c.args.space.now.bricks entry
           c.args.planned.now.below c.args.planned.now.first can.relocates.remembered;
-      bricks_of = subst (λ l. AreBricksOf l c.args.bricks.now)
+      bricks_of = subst (λ l. AreBricksOf l c.args.space.now.bricks)
           (sym (ap frame holds.overlaid.shape.others ∙ frame-between rows view mid (Generations c.args.g) vs relocated))
           can.relocates.bricks_of;
     }
@@ -45,20 +43,21 @@ returns-clause-moved c = λ view vs entry can.
     let (mid, relocated, holds) = c.relocate.ensures.relocated view vs entry can.relocates in
     let rows = c.args.types.now in
     let planned = c.args.planned.now in
-    let same = ap frame can.relocates.plan.overlaid.shape.others in
+    let same = ap frame holds.overlaid.shape.others
+    ∙ frame-between rows view mid (Generations c.args.g) vs relocated in
     record {
       mid = mid;
+      heap = c.lawful.ensures;
       relocated = relocated;
-      compacted = c.compact.ensures.compacted mid vs holds;
+      compacted = c.compact-promoted.ensures.compacted mid vs holds;
       gone = c.move_roots.ensures.gone (plan_of rows mid c.relocate.new.pins.entries vs planned) holds
           (names-on (plan_of rows view c.args.pins.now.entries vs planned)
           (plan_of rows mid c.relocate.new.pins.entries vs planned) (Generations c.args.g) refl
-          (may-go-on rows view mid (Generations c.args.g) vs relocated) c.args.locals.now
-          c.args.handles.now c.args.finals.now
-          can.names);
-      to1_is = c.promoted_bytes-promoted.ensures.to1 view c.args.pins.now.entries vs can.relocates.plan
+          (may-go-on rows view mid (Generations c.args.g) vs relocated) c.args.roots.now can.names);
+      card_law = c.relocate.ensures.card_law view vs entry can.relocates;
+      to1_is = c.compact-promoted.ensures.to1 mid vs holds
           ∙ ap (λ l. bytes_between l planned vs 0) same;
-      to2_is = c.promoted_bytes-promoted.ensures.to2 view c.args.pins.now.entries vs can.relocates.plan
+      to2_is = c.compact-promoted.ensures.to2 mid vs holds
           ∙ ap (λ l. bytes_between l planned vs 1) same;
-      slid = c.compact.ensures.slides mid vs holds;
+      slid = c.compact-promoted.ensures.slides mid vs holds;
     }

@@ -1,5 +1,6 @@
 use Rattle.std.proofs.Common.{rules, ◌<◌, subst}
 use Rattle.clr_model.specs.Compaction.{moved_by}
+use Rattle.clr_mark.proofs.Remarking.{keeps_heap}
 use Rattle.clr_survivors.proofs.NamesGone.{handles-gone, told}
 use Rattle.clr_survivors.proofs.PartsAbove.{below-stays}
 use Rattle.clr_survivors.proofs.roots.move_handles.Goals as goal
@@ -19,8 +20,9 @@ returns c = record {
   gone = λ p guides go null.
       handles-gone _ (moved_by p.moves) c.first_in_parts-low.result
       c.args.handles.now c.relocate_unpinned_from.new.self c.relocate_unpinned_from.ensures null
-      (λ place under. below-stays p.rows c.args.heap.now c.args.bricks.now c.args.g p.moves c.lawful.ensures guides.told
-      place (subst (λ low. place < low) c.first_in_parts-low.ensures under))
+      (λ place under. below-stays p.rows c.args.heap.now c.args.bricks.now c.args.g p.moves
+      (keeps_heap p.view c.args.heap.now guides.overlaid.shape guides.overlaid.heap) guides.told place
+      (subst (λ low. place < low) c.first_in_parts-low.ensures under))
       (λ k row moved here answer.
       let say =
       told p c.args.heap.now c.args.bricks.now c.args.g row.target moved guides (go.targets k row here) in

@@ -15,6 +15,7 @@ use Rattle.clr_safe.proofs.Entries.{owed-no_more}
 use Rattle.clr_view.proofs.SlotReads.{reference-word}
 use Rattle.clr_runtime.specs.Options.{options_of}
 use Rattle.clr_runtime.specs.RuntimeView.{ahead_of, IsRuntime, seen, sums_of, world_of}
+use Rattle.clr_runtime.proofs.HeapKept.{stored_heap}
 use Rattle.clr_runtime.proofs.BeginSetLines.{begin_set_of}
 use Rattle.clr_runtime.proofs.BegunStores.{begun_tables, store_begun}
 use Rattle.clr_runtime.proofs.IndexKept.{same_index}
@@ -94,7 +95,9 @@ invariant_of-self c =
     sym (ap is_step (step-seen (world_of r) (sums_of r.sums) (options_of r.options) r.safe (ahead_of r) c.args.t))
     ∙ run.idle in
     let less = owed-no_more r.safe.begun (c.args.t - 1) (Store place c.args.index) within refl in
-    subst (λ (threads : Threads). IsRuntime (record r { heap = done.new.heap; safe = threads })) (sym c.begin.ensures)
+    subst
+    (λ (threads : Threads). IsRuntime (record r { space = record r.space { heap = done.new.heap }; safe = threads }))
+    (sym c.begin.ensures)
     (record {
       shown = record {
         locals = is.locals;
@@ -107,21 +110,24 @@ invariant_of-self c =
         marked = quiet_marked (seen r) (begin_set c.args.t c.args.into c.args.index c.args.from) (answered Done) _
             is.sound refl (begun-store at.After-set_slot_value) r.background refl refl is.marked;
       };
-      tables = begun_tables r.cards r.safe r.bricks r.types r.heap done.new.heap c.lawful.ensures is.held c.args.t
+      heap = stored_heap r.types r.space.heap done.new.heap c.in-Ok.found.item c.in-Ok.found.slot name
+          done.ensures.words
+          c.self.invariant.heap;
+      tables = begun_tables r.space.cards r.safe r.space.bricks r.types r.space.heap done.new.heap
+          c.self.invariant.heap is.held c.args.t
           place c.args.index name c.in-Ok.found.item c.in-Ok.found.slot has kind done.ensures.stored within idle
           c.self.invariant.tables;
       owed = let owed = c.self.invariant.owed in omega (arith, owed, less);
       finalizers = finalizers-begun r.types r.safe c.args.t (Store place c.args.index) c.self.invariant.finalizers tt;
-      index = same_index young_items r.types r.types r.heap done.new.heap r.contexts stored.layout
+      index = same_index young_items r.types r.types r.space.heap done.new.heap r.workshop.contexts stored.layout
           c.self.invariant.index;
       large = same_index
-          (kind_items Large) r.types r.types r.heap done.new.heap r.large stored.layout c.self.invariant.large;
+          (kind_items Large) r.types r.types r.space.heap done.new.heap r.large stored.layout c.self.invariant.large;
       pinned = same_index
-          (kind_items Pinned) r.types r.types r.heap done.new.heap r.pinned stored.layout c.self.invariant.pinned;
-      limit = stored_limit r.types r.heap done.new.heap c.in-Ok.found.item c.in-Ok.found.slot name
+          (kind_items Pinned) r.types r.types r.space.heap done.new.heap r.pinned stored.layout c.self.invariant.pinned;
+      limit = stored_limit r.types r.space.heap done.new.heap c.in-Ok.found.item c.in-Ok.found.slot name
           done.ensures.words ∙ c.self.invariant.limit;
-      pins = c.self.invariant.pins;
-      room = c.self.invariant.room;
+      ready = c.self.invariant.ready;
     })
 
 pub returns : goal.returns
@@ -130,5 +136,6 @@ returns c =
     let r = c.self.inside.parts in
     rw (← c.self.view_is)
     (subst (λ (threads : Threads). Follows (seen r) (begin_set c.args.t c.args.into c.args.index c.args.from)
-    (answered Done) (seen (record r { heap = c.set_slot_value.new.heap; safe = threads }))) (sym c.begin.ensures)
+    (answered Done) (seen (record r { space = record r.space { heap = c.set_slot_value.new.heap }; safe = threads })))
+    (sym c.begin.ensures)
     (begun-store at.After-set_slot_value))

@@ -12,9 +12,9 @@ use Rattle.clr_runtime.proofs.runtime.Runtime.bricks.Goals as goal
 pub returns-clause-law : goal.returns-clause-law
 returns-clause-law c =
     let r = c.self.inside.parts in
-    let objects : List Object = objects_in r.types r.heap in
+    let objects : List Object = objects_in r.types r.space.heap in
     rw (← c.self.view_is)
-    (brick_law-kept r.types r.types (frame r.heap) (layout_in r.types r.heap) objects objects
-    (bounds-from (frame r.heap) (layout_in r.types r.heap) refl refl refl)
-    (same-places r.types r.types objects objects (same-objects r.types objects)) (entry_at r.bricks)
+    (brick_law-kept r.types r.types (frame r.space.heap) (layout_in r.types r.space.heap) objects objects
+    (bounds-from (frame r.space.heap) (layout_in r.types r.space.heap) refl refl refl)
+    (same-places r.types r.types objects objects (same-objects r.types objects)) (entry_at r.space.bricks)
     c.self.invariant.tables.brick_law)

@@ -23,6 +23,7 @@ invariant_of-self c =
       shown = local_kept c.self.invariant.shown _ (answered Done) c.index_of.result 0
           (cleared (world_of r) _ _ _ (ahead_of r) c.args.t c.args.local c.index_of.result
           passed c.index_of.ensures.index);
+      heap = c.self.invariant.heap;
       tables = c.self.invariant.tables;
       owed = c.self.invariant.owed;
       finalizers = c.self.invariant.finalizers;
@@ -30,8 +31,7 @@ invariant_of-self c =
       large = c.self.invariant.large;
       pinned = c.self.invariant.pinned;
       limit = c.self.invariant.limit;
-      pins = c.self.invariant.pins;
-      room = c.self.invariant.room;
+      ready = c.self.invariant.ready;
     }
 
 pub returns : goal.returns

@@ -46,22 +46,24 @@ invariant_of-self c =
             bad_shape = c.define.ensures.bad_shape;
             too_many = c.define.ensures.too_many;
           });
+      heap = c.self.invariant.heap;
       tables = defined_tables c.self.invariant.shown c.define.new.self (new_row c.args.name.now form c.args.finalizer)
-          r.cards r.bricks c.define.result c.define.ensures.defined c.define.ensures.err c.self.invariant.tables;
+          r.space.cards r.space.bricks c.define.result c.define.ensures.defined c.define.ensures.err
+          c.self.invariant.tables;
       owed = c.self.invariant.owed;
       finalizers = defined_finalizers c.self.invariant.shown c.define.new.self
           (new_row c.args.name.now form c.args.finalizer) c.define.result c.define.ensures.defined c.define.ensures.err
           c.self.invariant.finalizers;
-      index = defined_index young_items r.types c.define.new.self r.heap
-          (new_row c.args.name.now form c.args.finalizer) c.define.result r.contexts c.self.invariant.shown.held
+      index = defined_index young_items r.types c.define.new.self r.space.heap
+          (new_row c.args.name.now form c.args.finalizer) c.define.result r.workshop.contexts
+          c.self.invariant.shown.held
           c.define.ensures.defined c.define.ensures.err c.self.invariant.index;
-      large = defined_index (kind_items Large) r.types c.define.new.self r.heap
+      large = defined_index (kind_items Large) r.types c.define.new.self r.space.heap
           (new_row c.args.name.now form c.args.finalizer) c.define.result r.large c.self.invariant.shown.held
           c.define.ensures.defined c.define.ensures.err c.self.invariant.large;
-      pinned = defined_index (kind_items Pinned) r.types c.define.new.self r.heap
+      pinned = defined_index (kind_items Pinned) r.types c.define.new.self r.space.heap
           (new_row c.args.name.now form c.args.finalizer) c.define.result r.pinned c.self.invariant.shown.held
           c.define.ensures.defined c.define.ensures.err c.self.invariant.pinned;
       limit = c.self.invariant.limit;
-      pins = c.self.invariant.pins;
-      room = c.self.invariant.room;
+      ready = c.self.invariant.ready;
     }

@@ -32,6 +32,7 @@ invariant_of-self c =
           (fetched (world_of c.self.inside.parts) _ _ _
           (ahead_of c.self.inside.parts) c.args.t c.args.to c.args.h passed row
           (sym c.get.ensures.value ∙ c.in-Some-get.is) c.index_of.result c.index_of.ensures.index);
+      heap = c.self.invariant.heap;
       tables = c.self.invariant.tables;
       owed = c.self.invariant.owed;
       finalizers = c.self.invariant.finalizers;
@@ -39,8 +40,7 @@ invariant_of-self c =
       large = c.self.invariant.large;
       pinned = c.self.invariant.pinned;
       limit = c.self.invariant.limit;
-      pins = c.self.invariant.pins;
-      room = c.self.invariant.room;
+      ready = c.self.invariant.ready;
     }
 
 pub returns : goal.returns

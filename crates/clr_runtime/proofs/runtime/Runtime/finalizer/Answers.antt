@@ -36,7 +36,7 @@ returns-in_default-next c =
 done : (c : After-index_of) → Follows (seen c.self.inside.parts) (take_ready c.args.t c.args.to)
     (answered (Place c.in-Some-next.place))
     (shown (record (world_of c.self.inside.parts) {
-      locals = slice_set c.self.inside.parts.locals.items c.index_of.result c.in-Some-next.place;
+      locals = slice_set c.self.inside.parts.roots.locals.items c.index_of.result c.in-Some-next.place;
       entries = c.next.new.self.entries;
       ready = c.next.new.self.ready;
     }) (sums_of c.self.inside.parts.sums) (options_of c.self.inside.parts.options) c.self.inside.parts.safe
@@ -55,10 +55,11 @@ invariant_of-self-2 c =
     let is = c.self.invariant.shown in
     let finals = c.next.new.self in
     record {
-      shown = names_kept is _ _ (slice_set r.locals.items c.index_of.result c.in-Some-next.place) r.handles
+      shown = names_kept is _ _ (slice_set r.roots.locals.items c.index_of.result c.in-Some-next.place) r.roots.handles
           finals.entries finals.ready
-          (length-slice_set r.locals.items c.index_of.result c.in-Some-next.place ∙ is.locals)
+          (length-slice_set r.roots.locals.items c.index_of.result c.in-Some-next.place ∙ is.locals)
           (done (goal.at.invariant_of-self-2 c).After-index_of);
+      heap = c.self.invariant.heap;
       tables = c.self.invariant.tables;
       owed =
           let owed = c.self.invariant.owed in
@@ -69,8 +70,7 @@ invariant_of-self-2 c =
       large = c.self.invariant.large;
       pinned = c.self.invariant.pinned;
       limit = c.self.invariant.limit;
-      pins = c.self.invariant.pins;
-      room = c.self.invariant.room;
+      ready = c.self.invariant.ready;
     }
 
 pub returns : goal.returns

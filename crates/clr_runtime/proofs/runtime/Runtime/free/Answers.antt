@@ -9,7 +9,7 @@ use Rattle.clr_runtime.specs.Shown.{shown}
 use Rattle.clr_runtime.specs.Options.{options_of}
 use Rattle.clr_runtime.specs.RuntimeView.{ahead_of, seen, sums_of, world_of}
 use Rattle.clr_runtime.proofs.HandleLines.{free_missing, freed}
-use Rattle.clr_runtime.proofs.PinnedRoom.{room_kept}
+use Rattle.clr_runtime.proofs.PinnedRoom.{ready_freed}
 use Rattle.clr_runtime.proofs.NamesChecked.{thread_refused}
 use Rattle.clr_runtime.proofs.RuntimeKept.{names_kept}
 use Rattle.clr_runtime.proofs.runtime.Runtime.free.Goals as goal
@@ -35,7 +35,9 @@ invariant_of-self c =
     let r = c.self.inside.parts in
     let is = c.self.invariant.shown in
     record {
-      shown = names_kept is _ _ r.locals.items c.free.new.self r.finals.entries r.finals.ready is.locals (missing c);
+      shown = names_kept is _ _ r.roots.locals.items c.free.new.self r.roots.finals.entries r.roots.finals.ready
+          is.locals (missing c);
+      heap = c.self.invariant.heap;
       tables = c.self.invariant.tables;
       owed = c.self.invariant.owed;
       finalizers = c.self.invariant.finalizers;
@@ -43,8 +45,8 @@ invariant_of-self c =
       large = c.self.invariant.large;
       pinned = c.self.invariant.pinned;
       limit = c.self.invariant.limit;
-      pins = c.self.invariant.pins;
-      room = room_kept r.handles c.free.new.self c.args.h r.pins.spare c.free.ensures.table c.self.invariant.room;
+      ready = ready_freed r.roots.handles c.free.new.self c.args.h r.workshop.pins c.free.ensures.table
+          c.self.invariant.ready;
     }
 
 pub returns-in_default-free : goal.returns-in_default-free
@@ -66,7 +68,9 @@ invariant_of-self-2 c =
     let r = c.self.inside.parts in
     let is = c.self.invariant.shown in
     record {
-      shown = names_kept is _ _ r.locals.items c.free.new.self r.finals.entries r.finals.ready is.locals (done c);
+      shown = names_kept is _ _ r.roots.locals.items c.free.new.self r.roots.finals.entries r.roots.finals.ready
+          is.locals (done c);
+      heap = c.self.invariant.heap;
       tables = c.self.invariant.tables;
       owed = c.self.invariant.owed;
       finalizers = c.self.invariant.finalizers;
@@ -74,8 +78,8 @@ invariant_of-self-2 c =
       large = c.self.invariant.large;
       pinned = c.self.invariant.pinned;
       limit = c.self.invariant.limit;
-      pins = c.self.invariant.pins;
-      room = room_kept r.handles c.free.new.self c.args.h r.pins.spare c.free.ensures.table c.self.invariant.room;
+      ready = ready_freed r.roots.handles c.free.new.self c.args.h r.workshop.pins c.free.ensures.table
+          c.self.invariant.ready;
     }
 
 pub returns : goal.returns

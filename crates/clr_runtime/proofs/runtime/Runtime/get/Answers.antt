@@ -47,6 +47,7 @@ invariant_of-self c =
           (local-read is c.args.t c.args.from c.index_of.result c.index-place.result.now c.index_of.ensures.within
           c.index_of.ensures.index c.index-place.ensures) kind (name.ensures c.args.index has.slot)
           c.index_of-2.ensures.index);
+      heap = c.self.invariant.heap;
       tables = c.self.invariant.tables;
       owed = c.self.invariant.owed;
       finalizers = c.self.invariant.finalizers;
@@ -54,8 +55,7 @@ invariant_of-self c =
       large = c.self.invariant.large;
       pinned = c.self.invariant.pinned;
       limit = c.self.invariant.limit;
-      pins = c.self.invariant.pins;
-      room = c.self.invariant.room;
+      ready = c.self.invariant.ready;
     }
 
 pub returns : goal.returns

@@ -64,7 +64,7 @@ followed c =
       | inl primary ↦ primary.1
       | inr none ↦ absurd (both_ways c.is_dependent.result none (c.is_dependent.ensures ∙ dependent))
     ] in
-    let told : IsCreated r.handles c.create_with_room.new.handles (record {
+    let told : IsCreated r.roots.handles c.create_with_room.new.handles (record {
       kind = c.args.kind;
       target = c.index-target.result.now;
       second = c.held_by-other.result;
@@ -96,8 +96,10 @@ invariant_of-self c =
     let r = c.self.inside.parts in
     let is = c.self.invariant.shown in
     record {
-      shown = names_kept is _ _ r.locals.items c.create_with_room.new.handles r.finals.entries r.finals.ready is.locals
+      shown = names_kept is _ _ r.roots.locals.items c.create_with_room.new.handles r.roots.finals.entries
+          r.roots.finals.ready is.locals
           (followed c);
+      heap = c.self.invariant.heap;
       tables = c.self.invariant.tables;
       owed = c.self.invariant.owed;
       finalizers = c.self.invariant.finalizers;
@@ -105,8 +107,10 @@ invariant_of-self c =
       large = c.self.invariant.large;
       pinned = c.self.invariant.pinned;
       limit = c.self.invariant.limit;
-      pins = c.create_with_room.ensures.entries ∙ c.self.invariant.pins;
-      room = c.create_with_room.ensures.room;
+      ready = record {
+        empty = c.create_with_room.ensures.entries ∙ c.self.invariant.ready.empty;
+        room = c.create_with_room.ensures.room;
+      };
     }
 
 pub returns : goal.returns

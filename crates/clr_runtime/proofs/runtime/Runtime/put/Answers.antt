@@ -7,6 +7,7 @@ use Rattle.clr_model.proofs.LineFollows.{put_of}
 use Rattle.clr_ctx.specs.Contexts.{young_items}
 use Rattle.clr_large.specs.Places.{kind_items}
 use Rattle.clr_runtime.specs.RuntimeView.{ahead_of, seen, world_of}
+use Rattle.clr_runtime.proofs.HeapKept.{stored_heap}
 use Rattle.clr_runtime.proofs.IndexKept.{same_index}
 use Rattle.clr_runtime.proofs.LimitKept.{stored_limit}
 use Rattle.clr_runtime.proofs.LocalsSeen.{local-read, local-stands}
@@ -56,21 +57,23 @@ invariant_of-self c =
           passed
           (local-read is c.args.t c.args.into c.index_of.result c.index-place.result.now c.index_of.ensures.within
           c.index_of.ensures.index c.index-place.ensures) number.ensures kind stored);
-      tables = numbered_tables r.cards r.safe r.bricks r.types r.heap done.new.heap c.in-Ok.found.item
+      heap = stored_heap r.types r.space.heap done.new.heap c.in-Ok.found.item c.in-Ok.found.slot number.result
+          done.ensures.words
+          c.self.invariant.heap;
+      tables = numbered_tables r.space.cards r.safe r.space.bricks r.types r.space.heap done.new.heap c.in-Ok.found.item
           c.in-Ok.found.slot number.result (record { number = c.args.index; is = has.slot }) kind done.ensures.stored
           c.self.invariant.tables;
       owed = c.self.invariant.owed;
       finalizers = c.self.invariant.finalizers;
-      index = same_index young_items r.types r.types r.heap done.new.heap r.contexts stored.layout
+      index = same_index young_items r.types r.types r.space.heap done.new.heap r.workshop.contexts stored.layout
           c.self.invariant.index;
       large = same_index
-          (kind_items Large) r.types r.types r.heap done.new.heap r.large stored.layout c.self.invariant.large;
+          (kind_items Large) r.types r.types r.space.heap done.new.heap r.large stored.layout c.self.invariant.large;
       pinned = same_index
-          (kind_items Pinned) r.types r.types r.heap done.new.heap r.pinned stored.layout c.self.invariant.pinned;
-      limit = stored_limit r.types r.heap done.new.heap c.in-Ok.found.item c.in-Ok.found.slot number.result
+          (kind_items Pinned) r.types r.types r.space.heap done.new.heap r.pinned stored.layout c.self.invariant.pinned;
+      limit = stored_limit r.types r.space.heap done.new.heap c.in-Ok.found.item c.in-Ok.found.slot number.result
           done.ensures.words ∙ c.self.invariant.limit;
-      pins = c.self.invariant.pins;
-      room = c.self.invariant.room;
+      ready = c.self.invariant.ready;
     }
 
 pub returns : goal.returns

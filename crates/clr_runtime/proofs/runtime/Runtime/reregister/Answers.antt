@@ -1,5 +1,5 @@
 -- The object's finaliser is asked for again, where there is one.
-use Rattle.std.proofs.Common.{◌≡◌, [], ◌∷◌, ◌++◌, None, sym, ap, arith, ◌∙◌, true≢false, refl}
+use Rattle.std.proofs.Common.{◌≡◌, [], ◌∷◌, ◌++◌, None, sym, ap, arith, ◌∙◌, true≢false, refl, false}
 use Rattle.clr_types.specs.declared.segment.SegKind.TheVariants.{Large, Pinned}
 use Rattle.clr_heap.specs.View.{HeapView}
 use Rattle.clr_runtime.specs.Shown.{shown}
@@ -14,6 +14,7 @@ use Rattle.clr_large.specs.Places.{kind_items}
 use Rattle.clr_runtime.specs.Checks.{names_refusal}
 use Rattle.clr_runtime.specs.Options.{options_of}
 use Rattle.clr_runtime.specs.RuntimeView.{ahead_of, seen, sums_of, world_of}
+use Rattle.clr_runtime.proofs.HeapKept.{flagged_heap}
 use Rattle.clr_runtime.proofs.FinalizerLines.{allowed, reregister_lacks, reregister_null, reregister_plain}
 use Rattle.clr_runtime.proofs.FinalizerLines.{reregistered}
 use Rattle.clr_runtime.proofs.IndexKept.{same_index}
@@ -96,17 +97,19 @@ invariant_of-self c =
     record {
       shown = heap_kept c.self.invariant.shown _ _ refl new set.flagged.held set.unmarked set.free_heads
           (set.clean (λ never. absurd (true≢false (sym never)))) (freed c);
-      tables = flagged_tables r.cards r.safe r.bricks r.types r.heap new _ _ set.flagged c.self.invariant.tables;
+      heap = flagged_heap r.space.heap new c.index-place.result.now false set.words c.self.invariant.heap;
+      tables = flagged_tables r.space.cards r.safe r.space.bricks r.types r.space.heap new _ _ set.flagged
+          c.self.invariant.tables;
       owed = c.self.invariant.owed;
       finalizers = c.self.invariant.finalizers;
-      index = same_index young_items r.types r.types r.heap new r.contexts set.flagged.layout c.self.invariant.index;
+      index = same_index young_items r.types r.types r.space.heap new r.workshop.contexts set.flagged.layout
+          c.self.invariant.index;
       large = same_index
-          (kind_items Large) r.types r.types r.heap new r.large set.flagged.layout c.self.invariant.large;
+          (kind_items Large) r.types r.types r.space.heap new r.large set.flagged.layout c.self.invariant.large;
       pinned = same_index
-          (kind_items Pinned) r.types r.types r.heap new r.pinned set.flagged.layout c.self.invariant.pinned;
+          (kind_items Pinned) r.types r.types r.space.heap new r.pinned set.flagged.layout c.self.invariant.pinned;
       limit = ap (λ (h : HeapView). h.limit) set.words ∙ c.self.invariant.limit;
-      pins = c.self.invariant.pins;
-      room = c.self.invariant.room;
+      ready = c.self.invariant.ready;
     }
 
 pub returns-then-is_suppressed : goal.returns-then-is_suppressed
@@ -149,7 +152,8 @@ invariant_of-self-2 c =
     let is = c.self.invariant.shown in
     let finals = c.register.new.self in
     record {
-      shown = names_kept is _ _ r.locals.items r.handles finals.entries finals.ready is.locals (entered c);
+      shown = names_kept is _ _ r.roots.locals.items r.roots.handles finals.entries finals.ready is.locals (entered c);
+      heap = c.self.invariant.heap;
       tables = c.self.invariant.tables;
       owed =
           let room = c.in-Ok.ensures.ok in
@@ -161,8 +165,7 @@ invariant_of-self-2 c =
       large = c.self.invariant.large;
       pinned = c.self.invariant.pinned;
       limit = c.self.invariant.limit;
-      pins = c.self.invariant.pins;
-      room = c.self.invariant.room;
+      ready = c.self.invariant.ready;
     }
 
 pub returns : goal.returns

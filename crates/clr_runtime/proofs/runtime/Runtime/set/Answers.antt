@@ -7,6 +7,7 @@ use Rattle.clr_model.proofs.LineFollows.{set_of}
 use Rattle.clr_ctx.specs.Contexts.{young_items}
 use Rattle.clr_large.specs.Places.{kind_items}
 use Rattle.clr_runtime.specs.RuntimeView.{ahead_of, IsRuntime, seen, sums_of, world_of}
+use Rattle.clr_runtime.proofs.HeapKept.{stored_heap}
 use Rattle.clr_runtime.proofs.IndexKept.{same_index}
 use Rattle.clr_runtime.proofs.LimitKept.{stored_limit}
 use Rattle.clr_runtime.proofs.LocalsSeen.{local-read, local-stands}
@@ -50,7 +51,7 @@ pub overflow_add-found : goal.overflow_add-found
 overflow_add-found c =
     let r = c.self.inside.parts in
     let (has, kind) = c.in-Ok.ensures in
-    let low = slot-low r.types r.heap c.in-Ok.found.item c.in-Ok.found.slot c.lawful.ensures
+    let low = slot-low r.types r.space.heap c.in-Ok.found.item c.in-Ok.found.slot c.self.invariant.heap
     c.self.invariant.shown.held has.object.listed (record { number = c.args.index; is = has.slot }) in
     omega (arith, low)
 
@@ -108,8 +109,7 @@ invariant_of-self c =
     let done = c.set_reference in
     let stored = done.ensures.stored c.args.index has.slot in
     subst (λ (v : BackgroundView). IsRuntime (record r {
-      heap = done.new.heap;
-      cards = done.new.cards;
+      space = record r.space { heap = done.new.heap; cards = done.new.cards };
       background = v;
     })) (sym c.wrote.ensures.value)
     (record {
@@ -117,22 +117,24 @@ invariant_of-self c =
           (c.in-Ok.found.item.place + c.in-Ok.found.slot.offset) tt stored.held done.ensures.unmarked
           done.ensures.free_heads done.ensures.clean (set-there at.After-set_reference) (set-logged at.After-wrote)
           (set-done at.After-set_reference);
-      tables = referred_tables r.cards r.safe r.bricks r.types r.heap done.new.heap c.in-Ok.found.item
+      heap = stored_heap r.types r.space.heap done.new.heap c.in-Ok.found.item c.in-Ok.found.slot
+          c.index-name.result.now
+          done.ensures.words c.self.invariant.heap;
+      tables = referred_tables r.space.cards r.safe r.space.bricks r.types r.space.heap done.new.heap c.in-Ok.found.item
           c.in-Ok.found.slot c.index-name.result.now (record { number = c.args.index; is = has.slot })
           done.ensures.stored done.new.cards done.ensures.spans done.ensures.card done.ensures.law
           c.self.invariant.tables;
       owed = c.self.invariant.owed;
       finalizers = c.self.invariant.finalizers;
-      index = same_index young_items r.types r.types r.heap done.new.heap r.contexts stored.layout
+      index = same_index young_items r.types r.types r.space.heap done.new.heap r.workshop.contexts stored.layout
           c.self.invariant.index;
       large = same_index
-          (kind_items Large) r.types r.types r.heap done.new.heap r.large stored.layout c.self.invariant.large;
+          (kind_items Large) r.types r.types r.space.heap done.new.heap r.large stored.layout c.self.invariant.large;
       pinned = same_index
-          (kind_items Pinned) r.types r.types r.heap done.new.heap r.pinned stored.layout c.self.invariant.pinned;
-      limit = stored_limit r.types r.heap done.new.heap c.in-Ok.found.item c.in-Ok.found.slot
+          (kind_items Pinned) r.types r.types r.space.heap done.new.heap r.pinned stored.layout c.self.invariant.pinned;
+      limit = stored_limit r.types r.space.heap done.new.heap c.in-Ok.found.item c.in-Ok.found.slot
           c.index-name.result.now done.ensures.words ∙ c.self.invariant.limit;
-      pins = c.self.invariant.pins;
-      room = c.self.invariant.room;
+      ready = c.self.invariant.ready;
     })
 
 pub returns : goal.returns
@@ -142,7 +144,8 @@ returns c =
     let follows = Follows (seen r) (set_slot c.args.t c.args.into c.args.index c.args.from) (answered Done) in
     let heap = c.set_reference.new.heap in
     rw (← c.self.view_is)
-    (subst (λ (v : BackgroundView). follows (seen (record r { heap = heap; background = v })))
+    (subst
+    (λ (v : BackgroundView). follows (seen (record r { space = record r.space { heap = heap }; background = v })))
     (sym c.wrote.ensures.value)
     (subst follows (sym (logged-shown (record (world_of r) { heap = heap }) (sums_of r.sums) (options_of r.options)
     r.safe (ahead_of r) (c.in-Ok.found.item.place + c.in-Ok.found.slot.offset)))

@@ -1,5 +1,5 @@
 -- The object's finaliser is suppressed, where there is one.
-use Rattle.std.proofs.Common.{◌≡◌, [], ◌∷◌, None, sym, ap, ◌∙◌, refl}
+use Rattle.std.proofs.Common.{◌≡◌, [], ◌∷◌, None, sym, ap, ◌∙◌, refl, true}
 use Rattle.clr_types.specs.declared.segment.SegKind.TheVariants.{Large, Pinned}
 use Rattle.clr_heap.specs.View.{HeapView}
 use Rattle.clr_runtime.specs.Shown.{shown}
@@ -14,6 +14,7 @@ use Rattle.clr_large.specs.Places.{kind_items}
 use Rattle.clr_runtime.specs.Checks.{names_refusal}
 use Rattle.clr_runtime.specs.Options.{options_of}
 use Rattle.clr_runtime.specs.RuntimeView.{ahead_of, seen, sums_of, world_of}
+use Rattle.clr_runtime.proofs.HeapKept.{flagged_heap}
 use Rattle.clr_runtime.proofs.FinalizerLines.{suppress_null, suppress_plain, suppressed}
 use Rattle.clr_runtime.proofs.IndexKept.{same_index}
 use Rattle.clr_runtime.proofs.LocalsSeen.{local-read, local-stands}
@@ -92,17 +93,19 @@ invariant_of-self c =
     record {
       shown = heap_kept c.self.invariant.shown _ _ refl new set.flagged.held set.unmarked set.free_heads
           (set.clean (λ _. sym c.is_final.ensures ∙ c.if-not-is_final.false)) (done c);
-      tables = flagged_tables r.cards r.safe r.bricks r.types r.heap new _ _ set.flagged c.self.invariant.tables;
+      heap = flagged_heap r.space.heap new c.index-place.result.now true set.words c.self.invariant.heap;
+      tables = flagged_tables r.space.cards r.safe r.space.bricks r.types r.space.heap new _ _ set.flagged
+          c.self.invariant.tables;
       owed = c.self.invariant.owed;
       finalizers = c.self.invariant.finalizers;
-      index = same_index young_items r.types r.types r.heap new r.contexts set.flagged.layout c.self.invariant.index;
+      index = same_index young_items r.types r.types r.space.heap new r.workshop.contexts set.flagged.layout
+          c.self.invariant.index;
       large = same_index
-          (kind_items Large) r.types r.types r.heap new r.large set.flagged.layout c.self.invariant.large;
+          (kind_items Large) r.types r.types r.space.heap new r.large set.flagged.layout c.self.invariant.large;
       pinned = same_index
-          (kind_items Pinned) r.types r.types r.heap new r.pinned set.flagged.layout c.self.invariant.pinned;
+          (kind_items Pinned) r.types r.types r.space.heap new r.pinned set.flagged.layout c.self.invariant.pinned;
       limit = ap (λ (h : HeapView). h.limit) set.words ∙ c.self.invariant.limit;
-      pins = c.self.invariant.pins;
-      room = c.self.invariant.room;
+      ready = c.self.invariant.ready;
     }
 
 pub returns : goal.returns

@@ -1,6 +1,6 @@
 use Rattle.std.proofs.Common.{◌≡◌, ◌++◌}
 use Rattle.clr_evacuate.specs.Forwarding.{IsForwarded, IsOffsetOf}
-use Rattle.clr_evacuate.proofs.slots.forward_object.Given as goal
+use Rattle.clr_evacuate.proofs.slots.forward_references.Given as goal
 
 abbrev pub invariant-loop-offset : goal.invariant-loop-offset
 invariant-loop-offset l = record {

@@ -7,7 +7,7 @@ use Rattle.std.proofs.Common.{sym, ◌∙◌, refl}
 use Rattle.clr_model.specs.Instructions.{new_object}
 use Rattle.clr_runtime.proofs.BirthLines.{lacks_follows, measured_follows}
 use Rattle.clr_runtime.proofs.NamesChecked.{thread_refused}
-use Rattle.clr_runtime.proofs.runtime.Runtime.new_object.Goals as goal
+use Rattle.clr_runtime.proofs.runtime.Runtime.new_known.Goals as goal
 
 pub returns-in-Some-clause-follows : goal.returns-in-Some-clause-follows
 returns-in-Some-clause-follows c =

@@ -1,0 +1,18 @@
+//! What collections work with beside the heap.
+use clr_compact::Slides;
+use clr_ctx::Contexts;
+use clr_mark::Marker;
+use clr_pinq::PinQueue;
+
+/// What collections work with beside the heap, and what is kept of it between them. Contracts see the value of each.
+#[derive(Drop)]
+pub struct Workshop {
+    pub marker: Marker,
+    /// The index of free items for the contexts.
+    pub contexts: Contexts,
+    /// The queue of saved words. It is empty between two collections.
+    pub pins: PinQueue,
+    pub slides: Slides,
+    /// Whether the next full collection slides the large heap.
+    pub compacts_large: bool,
+}

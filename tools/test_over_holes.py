@@ -53,6 +53,15 @@ mod tests {
 }
 """
 
+RECORD = """fn clear(steps: &mut Steps)
+    ensures { steps.new ≡ record steps.old {
+        left = 0;
+      } }
+{
+    steps.left = 0;
+}
+"""
+
 
 class Bodies(unittest.TestCase):
     def test_own_functions_lose_their_bodies(self):
@@ -70,6 +79,13 @@ class Bodies(unittest.TestCase):
         text, _ = OVER_HOLES.without_bodies(TEXT, [], {"Steps": []})
         self.assertIn("ensures { self.new.left ≡ self.old.left - 1 }", text)
         self.assertIn("fn tested() {}", text)
+
+
+    def test_a_record_in_a_clause_is_no_end(self):
+        text, paths = OVER_HOLES.without_bodies(RECORD, ["walks"], {})
+        self.assertEqual(paths, [["walks", "clear"]])
+        self.assertIn("left = 0;", text)
+        self.assertNotIn("steps.left = 0;", text)
 
 
 class Crates(unittest.TestCase):

@@ -10,8 +10,8 @@ least times is the time of these lines.
 - `background`: a background collection of 200,000 old objects by steps of 1,000, and by its last pause alone beside its
   other parts; and a blocking sweep of them.
 - `stores`: 1,000,000 stores into old objects while no background collection runs, and while one does.
-- `fit`: a fitting of 10,000 plugs over 100,000 free items of generation 2, all of one size. With more plugs young
-  collections of the births take some of them to generation 2 before the fitting.
+- `fit`: fittings of plugs into free items of generation 2, all of one size, for several numbers of both. The budgets
+  let no young collection of the births take a plug to generation 2 before.
 
 Usage: features.py PROGRAM [OTHER]
 """
@@ -22,6 +22,9 @@ import tempfile
 from programs import Program
 
 TURNS, OBJECTS, ROW, STORES = 7, 200_000, 10_000, 1_000_000
+# Free items and plugs of the fittings.
+FITS = (50_000, 5_000), (100_000, 5_000), (100_000, 10_000), (100_000, 20_000)
+BUDGETS = "--b0", "134217728", "--b1", "268435456"
 
 
 def arrays():
@@ -118,8 +121,10 @@ def main():
         stores = ["t1 get l1 l0 3", "t1 get l2 l1 7"] + ["t1 set l1 9 l2"] * STORES
         show("a store", timed(programs, folder, old, stores), "ns", STORES)
         show("a store while one runs", timed(programs, folder, old + begun, stores), "ns", STORES)
-        fitted = timed(programs, folder, gaps(100_000, 10_000), ["t1 collect 1 fitting"])
-        show("a fitting", fitted, "ms", 1)
+        ample = [Program(path, "3", BUDGETS) for path in sys.argv[1:]]
+        for items, plugs in FITS:
+            fitted = timed(ample, folder, gaps(items, plugs), ["t1 collect 1 fitting"])
+            show(f"a fitting of {plugs:,} plugs over {items:,} free items", fitted, "ms", 1)
 
 
 def write(folder, lines):

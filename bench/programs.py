@@ -5,10 +5,10 @@ import time
 
 
 class Program:
-    """A built `clrheap` that runs on one processor."""
+    """A built `clrheap` that runs on one processor, with options of `run`."""
 
-    def __init__(self, path, core):
-        self.words = ["taskset", "-c", core, path, "run"]
+    def __init__(self, path, core, options=()):
+        self.words = ["taskset", "-c", core, path, "run", *options]
 
     def least_time(self, script, turns):
         """The least seconds of so many runs. Replies are thrown away."""

@@ -1,7 +1,8 @@
 -- Runs of the first pause: what one more item, segment, root or handle adds.
 use Rattle.std.proofs.Common.{◌≡◌, ℕ, zero, suc, ◌+◌, List, [], ◌∷◌, ◌++◌, get_or, append-nil, append_assoc, ap, arith}
 use Rattle.std.proofs.Common.{refl, sym}
-use Rattle.std.proofs.Common.{◌∙◌, ◌<◌, ◌≤◌, Bool, true, false, if◌then◌else◌, map, drop}
+use Rattle.std.proofs.Common.{◌∙◌, ◌<◌, ◌≤◌, inl, inr, Bool, true, false, if◌then◌else◌, map, drop, None, Option, Some}
+use Rattle.std.proofs.lemmas.Bool.{both_ways, cases_lt, le-leb}
 use Rattle.std.specs.List.{AllByRecursion}
 use Rattle.std.specs.FinMap as finmap
 use Rattle.std.specs.Ordering.{nat_cmp}
@@ -10,6 +11,7 @@ use Rattle.clr_types.specs.Types.{TypeRow}
 use Rattle.clr_types.specs.declared.handle.Handle.{Handle}
 use Rattle.clr_types.specs.declared.item.Item.{Item}
 use Rattle.clr_types.specs.declared.segment.SegInfo.{SegInfo}
+use Rattle.clr_handles.specs.Places.{names_from, NoneNames}
 use Rattle.clr_heap.specs.View.{HeapView, extents, listing, listings}
 use Rattle.clr_bgmark.specs.Pauses.{all_taken, is_oldest, root_grayed, roots_grayed, taken_item}
 use Rattle.clr_bgmark.specs.Pauses.{target_grayed, targets_grayed}
@@ -65,6 +67,29 @@ unfolding targets_grayed
 targets_more handles n v =
     let e : n + 1 ≡ suc n = omega arith in
     ap (λ (m : ℕ). targets_grayed handles m v) e
+
+-- numbers that aren't in use make nothing gray
+pub targets_passed : (handles : finmap.FinMap nat_cmp Handle) (v : BackgroundView) (from to : ℕ) → from ≤ to
+    → NoneNames handles 0 from to → targets_grayed handles to v ≡ targets_grayed handles from v
+unfolding targets_grayed
+targets_passed handles v from zero l none =
+    let same : zero ≡ from = omega (arith, l) in
+    ap (λ (n : ℕ). targets_grayed handles n v) same
+targets_passed handles v from (suc n) l none = elim (cases_lt n from) [
+  | inr before ↦
+      ap (λ (o : Option Handle). target_grayed o (targets_grayed handles n v))
+      (unused n (finmap.get handles n) before (omega arith) refl)
+      ∙ targets_passed handles v from n before (λ h row low high e. none h row low (omega (arith, high)) e)
+  | inl past ↦
+      let same : suc n ≡ from = omega (arith, l, past) in
+      ap (λ (m : ℕ). targets_grayed handles m v) same
+]
+  where
+    unused : (k : ℕ) (o : Option Handle) → from ≤ k → k < suc n → finmap.get handles k ≡ o → o ≡ None
+    unused k None low high e = refl
+    unused k (Some row) low high e =
+        let names : names_from 0 row ≡ true = rw (le-leb 0 row.target (omega arith)) refl in
+        absurd (both_ways (names_from 0 row) (none k row low high e) names)
 
 -- no segment has an address below all of them
 uncovered : (ss : List ShadeView) (segs : List SegInfo) (top a : ℕ)

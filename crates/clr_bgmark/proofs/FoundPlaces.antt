@@ -1,13 +1,15 @@
 -- The search for places that are gray or black: which were passed.
 use Rattle.std.proofs.Common.{◌≡◌, ℕ, zero, suc, ◌+◌, ◌/◌, ◌%◌, ◌<◌, ◌≤◌, ◌⊎◌, inl, inr, List, [], ◌∷◌, length, refl}
-use Rattle.std.proofs.Common.{sym}
-use Rattle.std.proofs.Common.{ap, subst, ◌∙◌, arith, Bool, true, false, if◌then◌else◌, get_or}
+use Rattle.std.proofs.Common.{sym, ap, subst, ◌∙◌, arith, Bool, true, false, if◌then◌else◌, get_or}
+use Rattle.std.specs.List.{AllByRecursion}
 use Rattle.std.proofs.lemmas.Bool.{cases_eq, cases_lt, both_ways}
 use Rattle.clr_bgmark.specs.Bits.{has_bit}
-use Rattle.clr_bgmark.specs.Pauses.{IsBehind, IsFound, IsNextFound}
-use Rattle.clr_bgmark.specs.Shades.{ShadeView, AreApart, cell_of, covers, is_marked, IsAt}
-use Rattle.clr_bgmark.proofs.Lookups.{at_covers, at_told, at_within}
+use Rattle.clr_bgmark.specs.Pauses.{IsBehind, IsFound, IsNextFound, Passes, PassesCell}
+use Rattle.clr_bgmark.specs.Shades.{ShadeView, AreApart, cell_of, covers, is_marked, IsAt, IsShade}
+use Rattle.clr_bgmark.specs.declared.shade.Search.{Search}
+use Rattle.clr_bgmark.proofs.Lookups.{at_within, read_covers}
 use Rattle.clr_bgmark.proofs.GrayPlaces.{covers_told}
+use Rattle.clr_bgmark.proofs.PassedCells.{marked_in, passes_at}
 
 -- a marked place stands in some segment
 pub marked_at : (ss : List ShadeView) (a : ℕ) → is_marked ss a ≡ true → (k : ℕ) × IsAt ss k a
@@ -46,52 +48,52 @@ behind_parts (s ∷ ss) apart (suc j) (suc k) from b at (inr l) =
       | inr p ↦ inr (ap suc p.0, p.1)
     ]
 
--- from a spot on, all found places of the segments before k were passed, and those of segment k below `from`
-abbrev pub IsPassed : List ShadeView → ℕ → ℕ → ℕ → ℕ → Type 0
-IsPassed ss k0 from0 k from = (b : ℕ) → IsFound ss b → IsBehind ss k from b → IsBehind ss k0 from0 b
+-- from a spot on, all found places of the segments before k were passed, and those of segment k below `from`, but
+-- those of which a search tells that it passes over them
+abbrev pub IsPassed : Search → List ShadeView → ℕ → ℕ → ℕ → ℕ → Type 0
+IsPassed search ss k0 from0 k from =
+    (b : ℕ) → IsFound ss b → IsBehind ss k from b → IsBehind ss k0 from0 b ⊎ Passes search ss b
 
--- the mark of a place, read in its segment
-marked_in : (ss : List ShadeView) (k b : ℕ) (s : ShadeView) → s ≡ get_or ss k s → IsAt ss k b
-    → has_bit s.marked (cell_of s b) ≡ is_marked ss b
-marked_in ss k b s read at =
-    ap (λ (t : ShadeView). has_bit t.marked (cell_of t b)) read
-    ∙ sym (at_told (λ s a. has_bit s.marked (cell_of s a)) ss k b s at)
-
-covers_at : (ss : List ShadeView) (k b : ℕ) (s : ShadeView) → s ≡ get_or ss k s → IsAt ss k b → covers s b ≡ true
-covers_at ss k b s read at = ap (λ (t : ShadeView). covers t b) read ∙ at_covers ss k b s at
-
-module _ (ss : List ShadeView) (apart : AreApart ss) (k0 from0 k from : ℕ) (passed : IsPassed ss k0 from0 k from)
-    (s : ShadeView) (read : s ≡ get_or ss k s) where
+module _ (search : Search) (ss : List ShadeView) (apart : AreApart ss) (all : AllByRecursion IsShade ss)
+    (k0 from0 k from : ℕ) (passed : IsPassed search ss k0 from0 k from) (s : ShadeView) (read : s ≡ get_or ss k s) where
   -- a found place below in the segment was passed
-  low : (b : ℕ) → IsFound ss b → IsAt ss k b → b / 8 < from / 8 → IsBehind ss k0 from0 b
+  low : (b : ℕ) → IsFound ss b → IsAt ss k b → b / 8 < from / 8 → IsBehind ss k0 from0 b ⊎ Passes search ss b
   low b f at l = passed b f (behind_here ss k from b at l)
 
-  -- where the segment has none from there on, it is passed
-  pub passed_segment : ((b : ℕ) → covers s b ≡ true → from / 8 ≤ b / 8 → has_bit s.marked (cell_of s b) ≡ false)
-      → IsPassed ss k0 from0 (suc k) 0
+  -- one over which the search passes there
+  over : (b : ℕ) → IsFound ss b → IsAt ss k b
+      → (covers s b ≡ true → has_bit s.marked (cell_of s b) ≡ true → PassesCell search s (cell_of s b))
+      → Passes search ss b
+  over b f at tells =
+      passes_at search ss apart all k b s read at
+      (tells (read_covers ss k b s read at) (marked_in ss k b s read at ∙ f.1))
+
+  -- where the search passes over all that the segment has from there on, it is passed
+  pub passed_segment : ((b : ℕ) → covers s b ≡ true → from / 8 ≤ b / 8 → has_bit s.marked (cell_of s b) ≡ true
+      → PassesCell search s (cell_of s b))
+      → IsPassed search ss k0 from0 (suc k) 0
   passed_segment none b f behind = go (marked_at ss b f.1)
     where
-      go : (j : ℕ) × IsAt ss j b → IsBehind ss k0 from0 b
+      go : (j : ℕ) × IsAt ss j b → IsBehind ss k0 from0 b ⊎ Passes search ss b
       go (j, at) = elim (behind_parts ss apart j (suc k) 0 b at behind) [
         | inl l ↦ by (cases_eq j k) l
         | inr p ↦ let below = p.1 in absurd (omega arith)
       ]
         where
-          here : IsAt ss k b → (b / 8 < from / 8) ⊎ (from / 8 ≤ b / 8) → IsBehind ss k0 from0 b
+          here : IsAt ss k b → (b / 8 < from / 8) ⊎ (from / 8 ≤ b / 8) → IsBehind ss k0 from0 b ⊎ Passes search ss b
           here at (inl l) = low b f at l
-          here at (inr l) =
-              absurd (both_ways (is_marked ss b)
-              (sym (marked_in ss k b s read at) ∙ none b (covers_at ss k b s read at) l) f.1)
+          here at (inr l) = inr (over b f at (λ there marked. none b there l marked))
 
-          by : (j ≡ k) ⊎ (j ≡ k → ⊥) → j < suc k → IsBehind ss k0 from0 b
+          by : (j ≡ k) ⊎ (j ≡ k → ⊥) → j < suc k → IsBehind ss k0 from0 b ⊎ Passes search ss b
           by (inl e) l = here (subst (λ n. IsAt ss n b) e at) (cases_lt (b / 8) (from / 8))
           by (inr ne) l = passed b f (behind_lower ss j k from b at (omega (arith, l, ne)))
 
-  -- the first one from there on is the next
+  -- the first one from there on, besides those, is the next
   pub found_next : (a : ℕ) → k < length ss → covers s a ≡ true → a % 8 ≡ 0
       → has_bit s.marked (cell_of s a) ≡ true
-      → ((b : ℕ) → covers s b ≡ true → from / 8 ≤ b / 8 → b / 8 < a / 8 → has_bit s.marked (cell_of s b) ≡ false)
-      → IsNextFound ss k0 from0 k a
+      → ((b : ℕ) → covers s b ≡ true → from / 8 ≤ b / 8 → b / 8 < a / 8 → has_bit s.marked (cell_of s b) ≡ true
+      → PassesCell search s (cell_of s b))
+      → IsNextFound search ss k0 from0 k a
   found_next a l there whole marked first = record {
     at = at_a;
     found = (whole, sym (marked_in ss k a s read at_a) ∙ marked);
@@ -101,25 +103,29 @@ module _ (ss : List ShadeView) (apart : AreApart ss) (k0 from0 k from : ℕ) (pa
       at_a : IsAt ss k a
       at_a = covers_told ss k a s read apart l there
 
+      earlier : (b : ℕ) → IsBehind ss k0 from0 b ⊎ Passes search ss b
+          → (IsBehind ss k0 from0 b ⊎ (b ≡ a)) ⊎ Passes search ss b
+      earlier b (inl behind) = inl (inl behind)
+      earlier b (inr p) = inr p
+
       go : (b : ℕ) → IsFound ss b → IsBehind ss k (a + 8) b → (j : ℕ) × IsAt ss j b
-          → IsBehind ss k0 from0 b ⊎ (b ≡ a)
+          → (IsBehind ss k0 from0 b ⊎ (b ≡ a)) ⊎ Passes search ss b
       go b f behind (j, at) = elim (behind_parts ss apart j k (a + 8) b at behind) [
-        | inl less ↦ inl (passed b f (behind_lower ss j k from b at less))
+        | inl less ↦ earlier b (passed b f (behind_lower ss j k from b at less))
         | inr p ↦ by (subst (λ n. IsAt ss n b) p.0 at) p.1 (cases_eq (b / 8) (a / 8)) (cases_lt (b / 8) (from / 8))
       ]
         where
           by : IsAt ss k b → b / 8 < (a + 8) / 8 → (b / 8 ≡ a / 8) ⊎ (b / 8 ≡ a / 8 → ⊥)
-              → (b / 8 < from / 8) ⊎ (from / 8 ≤ b / 8) → IsBehind ss k0 from0 b ⊎ (b ≡ a)
-          by at less (inl e) far = let even = f.0 in inr (omega (arith, e, even, whole))
-          by at less (inr ne) (inl l) = inl (low b f at l)
+              → (b / 8 < from / 8) ⊎ (from / 8 ≤ b / 8) → (IsBehind ss k0 from0 b ⊎ (b ≡ a)) ⊎ Passes search ss b
+          by at less (inl e) far = let even = f.0 in inl (inr (omega (arith, e, even, whole)))
+          by at less (inr ne) (inl l) = earlier b (low b f at l)
           by at less (inr ne) (inr l) =
-              absurd (both_ways (is_marked ss b)
-              (sym (marked_in ss k b s read at) ∙ first b (covers_at ss k b s read at) l (omega (arith, less, ne))) f.1)
+              inr (over b f at (λ there marked. first b there l (omega (arith, less, ne)) marked))
 
 -- where all segments are passed, so is every found place
-pub all_passed : (ss : List ShadeView) (k0 from0 k from : ℕ) → IsPassed ss k0 from0 k from → length ss ≤ k → (a : ℕ)
-    → IsFound ss a → IsBehind ss k0 from0 a
-all_passed ss k0 from0 k from passed l a f =
+pub all_passed : (search : Search) (ss : List ShadeView) (k0 from0 k from : ℕ) → IsPassed search ss k0 from0 k from
+    → length ss ≤ k → (a : ℕ) → IsFound ss a → IsBehind ss k0 from0 a ⊎ Passes search ss a
+all_passed search ss k0 from0 k from passed l a f =
     let (j, at) = marked_at ss a f.1 in
     let below = at_within ss j a at in
     passed a f (behind_lower ss j k from a at (omega (arith, below, l)))

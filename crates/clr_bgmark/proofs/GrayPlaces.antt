@@ -9,25 +9,6 @@ use Rattle.clr_bgmark.specs.Shades.{HasNoGrayBelow, IsAt, is_gray_cell}
 use Rattle.clr_bgmark.proofs.Lookups.{at_told}
 use Rattle.clr_bgmark.proofs.MoreBits.{bit_added}
 
--- where two sets have a word in common, no number of it is in the one and not in the other
-pub same_word_beside : (one other : List ℕ) (n m : ℕ) → n % 64 ≡ 0 → n ≤ m → m < n + 64
-    → get_or one (n / 64) 0 ≡ get_or other (n / 64) 0 → (has_bit one m && not (has_bit other m)) ≡ false
-same_word_beside one other n m whole low high same =
-    ap (λ b. b && not (has_bit other m)) bits ∙ never (has_bit other m)
-  where
-    at : m / 64 ≡ n / 64
-    at = omega (arith, whole, low, high)
-
-    bits : has_bit one m ≡ has_bit other m
-    bits =
-        ap (λ k. nat_eq (bit_at (get_or one k 0) (m % 64)) 1) at
-        ∙ ap (λ w. nat_eq (bit_at w (m % 64)) 1) same
-        ∙ ap (λ k. nat_eq (bit_at (get_or other k 0) (m % 64)) 1) (sym at)
-
-    never : (b : Bool) → (b && not b) ≡ false
-    never true = refl
-    never false = refl
-
 -- ---- where the search begins
 
 -- below a mark and below where none was gray, none is

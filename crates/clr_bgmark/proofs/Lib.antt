@@ -1,8 +1,10 @@
 pub mod Lookups
 pub mod MoreBits
 pub mod WordSearch
+pub mod LastInWord
 pub mod Kept
 pub mod GrayPlaces
+pub mod PassedCells
 pub mod FoundPlaces
 pub mod FollowedSlots
 pub mod Meeting
@@ -20,6 +22,5 @@ pub mod FirstRoots
 pub mod FirstBegun
 pub mod FirstCounted
 pub mod FoundMarked
-pub mod CardLookups
 pub mod OwnSlots
 pub mod RootedFound

@@ -8,26 +8,31 @@ use Rattle.clr_types.specs.Types.{form_at, slot_offset, TypeRow}
 use Rattle.clr_types.specs.declared.item.Item.{Item}
 use Rattle.clr_types.proofs.ChangedLists.{into_filter}
 use Rattle.clr_heap.specs.Parts.{item_at}
-use Rattle.clr_heap.specs.View.{HeapView, IsHeap, word_of}
+use Rattle.clr_heap.specs.View.{heap_items, HeapView, IsHeap, word_of}
 use Rattle.clr_model.specs.Machine.{Object, ref}
 use Rattle.clr_model.specs.Reach.{SlotNames, starts}
 use Rattle.clr_view.specs.Marks.{has_mark, Marked}
 use Rattle.clr_view.specs.SlotValues.{IsObjectAt, StandsAt}
 use Rattle.clr_view.specs.View.{IsHeld, objects_in}
+use Rattle.clr_view.proofs.Items.{stacked-apart}
+use Rattle.clr_view.proofs.Listings.{heap-stacked}
 use Rattle.clr_view.proofs.ObjectItems.{stands-item}
 use Rattle.clr_background.specs.Log.{IsNullOrMarked, slot_address}
 use Rattle.clr_background.proofs.Members.{member_read}
-use Rattle.clr_mark.specs.Marks.{IsClosed, IsRemarked, is_condemned_place, with_mark}
+use Rattle.clr_mark.specs.Marks.{IsClosed, IsRemarked, is_condemned_place, LeadsTo, with_mark}
+use Rattle.clr_mark.specs.Markings.{HasReached}
 use Rattle.clr_mark.specs.Waiting.{IsFollowed, IsSettled, MarkerView}
-use Rattle.clr_mark.proofs.Graying.{AfterMark, followed_on, leads_back, new_mark, no_mark}
+use Rattle.clr_mark.proofs.Graying.{AfterMark, followed_on, leads_back, new_mark, no_mark, reached-trans}
 use Rattle.clr_mark.proofs.Held.{keeps_closed, keeps_held, remarked-refl, remarked-trans}
 use Rattle.clr_mark.proofs.References.{reference_in}
 use Rattle.clr_mark.proofs.Remarking.{keeps_heap, keeps_objects, keeps_stands, stands_before}
 use Rattle.clr_mark.proofs.Rooting.{all_condemned, IsRooting}
-use Rattle.clr_bgmark.specs.LastPause.{HasRooted, IsDue, LogHolds}
-use Rattle.clr_bgmark.specs.Pauses.{IsBehind, IsFound, IsNextFound}
+use Rattle.clr_bgmark.specs.LastPause.{HasLoggedSlot, HasRooted, IsDue, IsSought, LogHolds}
+use Rattle.clr_bgmark.specs.Pauses.{IsBehind, IsClear, IsFound, IsNextFound}
 use Rattle.clr_bgmark.specs.Scanning.{AreObjects, marking_in}
 use Rattle.clr_bgmark.specs.Shades.{is_logged, is_scanned, ShadeView}
+use Rattle.clr_bgmark.specs.declared.shade.Search.{Search}
+use Rattle.clr_bgmark.specs.declared.shade.Search.TheVariants.{Gray, Logged, Marked as All}
 use Rattle.clr_bgmark.proofs.FoundMarked.{found_is_marked}
 use Rattle.clr_bgmark.proofs.FoundPlaces.{behind_none}
 use Rattle.clr_bgmark.proofs.OwnSlots.{object_is, own_reference}
@@ -35,43 +40,74 @@ use Rattle.clr_bgmark.proofs.ScannedLists.{names, stands_named}
 
 -- ---- which object is due
 
--- a black object is not due, of which no card is logged from its place to its end
-pub not_due : (rows : List TypeRow) (h : HeapView) (heap : IsHeap h) (held : IsHeld rows h) (ss : List ShadeView)
-    (x : ℕ) (stands : StandsAt rows h x) (item : Item) → item ≡ item_at rows (word_of h) x → is_scanned ss x ≡ true
-    → ((a : ℕ) → x ≤ a → a < x + item.size → is_logged ss a ≡ false) → IsDue rows (objects_in rows h) ss x → ⊥
-not_due rows h heap held ss x stands item is black clear (inl gray) = both_ways (is_scanned ss x) gray black
-not_due rows h heap held ss x stands item is black clear (inr s) =
-    let i : Item = item_at rows (word_of h) x in
-    let at : IsObjectAt rows h x i = stands-item rows h heap held x stands in
-    let own = object_is rows h heap held x i at s.object s.present s.named in
-    let offset : ℕ = slot_offset (form_at rows i.type_id.0) s.index in
-    let listed = own_reference rows h heap held x i at s.index s.name
-    (subst (λ (o : Object). slice_get o.slots s.index ≡ Some (ref s.name)) own s.holds) in
-    let high = (reference_in rows h heap held x i at.listed at.at offset listed).high in
-    let size = ap (λ (j : Item). j.size) is in
-    let place = at.at in
-    let logged : is_logged ss (i.place + offset) ≡ true =
-    subst (λ (o : Object). is_logged ss (o.place + slot_offset (form_at rows o.type) s.index) ≡ true) own s.logged in
-    both_ways (is_logged ss (x + offset)) (clear (x + offset) (omega arith) (omega (arith, high, size, place)))
-    (ap (λ (p : ℕ). is_logged ss (p + offset)) (sym place) ∙ logged)
+module _ (rows : List TypeRow) (h : HeapView) (heap : IsHeap h) (held : IsHeld rows h) (ss : List ShadeView) where
+  -- AN OBJECT HAS NO LOGGED SLOT, WHERE NOTHING IS LOGGED UP TO ANOTHER ONE ABOVE IT: it ends below that
+  pub clear_slots : (x : ℕ) → StandsAt rows h x → (c : IsClear ss x) → StandsAt rows h c.next
+      → HasLoggedSlot rows (objects_in rows h) ss x → ⊥
+  clear_slots x stands c above s =
+      let i : Item = item_at rows (word_of h) x in
+      let at : IsObjectAt rows h x i = stands-item rows h heap held x stands in
+      let own = object_is rows h heap held x i at s.object s.present s.named in
+      let offset : ℕ = slot_offset (form_at rows i.type_id.0) s.index in
+      let listed = own_reference rows h heap held x i at s.index s.name
+      (subst (λ (o : Object). slice_get o.slots s.index ≡ Some (ref s.name)) own s.holds) in
+      let high = (reference_in rows h heap held x i at.listed at.at offset listed).high in
+      let place = at.at in
+      let end = ends_below x stands c.next above c.further in
+      let logged : is_logged ss (i.place + offset) ≡ true =
+      subst (λ (o : Object). is_logged ss (o.place + slot_offset (form_at rows o.type) s.index) ≡ true) own s.logged in
+      both_ways (is_logged ss (x + offset)) (c.clear (x + offset) (omega arith) (omega (arith, high, end, place)))
+      (ap (λ (p : ℕ). is_logged ss (p + offset)) (sym place) ∙ logged)
+    where
+      ends_below : (x : ℕ) → StandsAt rows h x → (y : ℕ) → StandsAt rows h y → x < y
+          → x + (item_at rows (word_of h) x).size ≤ y
+      ends_below x sx y sy l =
+          let ix = stands-item rows h heap held x sx in
+          let iy = stands-item rows h heap held y sy in
+          let ax = ix.at in
+          let ay = iy.at in
+          elim (stacked-apart (heap_items rows h) (item_at rows (word_of h) x) (item_at rows (word_of h) y)
+          (heap-stacked rows h held.walkable heap) ix.listed iy.listed (λ e. omega (arith, ax, ay, e, l))) [
+            | inl under ↦ omega (arith, under, ax, ay)
+            | inr over ↦ absurd (omega (arith, over, ax, ay, l))
+          ]
 
--- what is behind a spot and due
-abbrev pub IsVisited : List TypeRow → HeapView → List ShadeView → ℕ → ℕ → ℕ → Type 0
-IsVisited rows h ss k from y = IsBehind ss k from y × IsDue rows (objects_in rows h) ss y
+-- what is behind a spot, and isn't passed over
+abbrev pub IsVisited : Search → List ShadeView → ℕ → ℕ → ℕ → Type 0
+IsVisited search ss k from y = IsBehind ss k from y × IsSought search ss y
 
--- the next found object is visited where it is due
-module _ (rows : List TypeRow) (h now : HeapView) (heap : IsHeap h) (held : IsHeld rows h) (r : IsRemarked rows h now)
-    (ss : List ShadeView) (k from j a : ℕ) (next : IsNextFound ss k from j a) where
-  pub visited_more : (y : ℕ) → IsFound ss y → IsVisited rows h ss j (a + 8) y → IsVisited rows h ss k from y ⊎ (y ≡ a)
-  visited_more y f v = elim (next.next y f v.0) [ inl was ↦ inl (was, v.1) | inr is ↦ inr is ]
+-- the next found place is visited
+pub visited_more : (search : Search) (ss : List ShadeView) (k from j a : ℕ) → IsNextFound search ss k from j a
+    → (y : ℕ) → IsFound ss y → IsVisited search ss j (a + 8) y → IsVisited search ss k from y ⊎ (y ≡ a)
+visited_more search ss k from j a next y f v = elim (next.next y f v.0) [
+  | inl before ↦ elim before [ inl was ↦ inl (was, v.1) | inr is ↦ inr is ]
+  | inr over ↦ absurd (v.1 over)
+]
 
-  pub visited_same : (IsDue rows (objects_in rows now) ss a → ⊥) → (y : ℕ) → IsFound ss y
-      → IsVisited rows h ss j (a + 8) y → IsVisited rows h ss k from y
-  visited_same none y f v = elim (next.next y f v.0) [
-    | inl was ↦ (was, v.1)
-    | inr is ↦ absurd (none (subst (λ (os : List Object). IsDue rows os ss a)
-        (sym (keeps_objects rows h now heap held r)) (subst (IsDue rows (objects_in rows h) ss) is v.1)))
-  ]
+-- THE TWO SEARCHES FIND WHAT IS DUE: `h` is the heap at the start, `a` that after the search for what is gray, and `b`
+-- that after the one by what is logged
+pub rooted_twice : (rows : List TypeRow) (h a b : HeapView) (m mid mark : MarkerView) → IsHeap h → IsHeld rows h
+    → (ss : List ShadeView) → AreObjects rows h ss → HasRooted rows ss (IsSought Gray ss) h a m mid
+    → HasRooted rows ss (IsSought Logged ss) a b mid mark
+    → HasRooted rows ss (IsDue rows (objects_in rows h) ss) h b m mark
+rooted_twice rows h a b m mid mark heap held ss known one two = record {
+  gray = two.gray;
+  reached =
+      let edges : ℕ → ℕ → ℕ → Type 0 = λ g. LeadsTo rows h g in
+      reached-trans rows (edges m.oldest) (LeadsTo rows a m.oldest) (λ y. Marked rows h y ⊎ IsFound ss y)
+      (λ y. Marked rows a y ⊎ IsFound ss y) h a b heap held one.reached
+      (leads_back rows h a heap held one.reached.remarked m.oldest)
+      (λ y s. elim s [ inl was ↦ one.reached.reached y was | inr f ↦ starts (inr f) ])
+      (subst (λ (g : ℕ). HasReached rows (LeadsTo rows a g) (λ y. Marked rows a y ⊎ IsFound ss y) a b) one.oldest
+      two.reached);
+  due = λ x f due. elim due [
+    | inl gray ↦ two.reached.kept x (one.due x f (λ black. both_ways (is_scanned ss x) gray black))
+    | inr slot ↦ two.due x f (λ c.
+        clear_slots rows h heap held ss x (known.marked x f.0 f.1) c (known.marked c.next c.found.0 c.found.1) slot)
+  ];
+  capacity = two.capacity ∙ one.capacity;
+  oldest = two.oldest ∙ one.oldest;
+}
 
 -- ---- what else is found
 
@@ -151,7 +187,7 @@ after_mark rows h new y heap held s is = subst (λ (k : HeapView). AfterMark row
     ]
 
 pub marking_more : (rows : List TypeRow) (h now new : HeapView) (ss : List ShadeView) (k from j a : ℕ) → IsHeap h
-    → IsHeld rows h → IsMarkingFound rows h now ss k from → IsNextFound ss k from j a → StandsAt rows h a
+    → IsHeld rows h → IsMarkingFound rows h now ss k from → IsNextFound All ss k from j a → StandsAt rows h a
     → new ≡ with_mark now 2 a → IsMarkingFound rows h new ss j (a + 8)
 marking_more rows h now new ss k from j a heap held r next stands is =
     let after = after_mark rows now new a (keeps_heap h now r.words.shape heap)
@@ -164,15 +200,18 @@ marking_more rows h now new ss k from j a heap held r next stands is =
         | inr before ↦ r.only x before
       ];
       done = λ x f b. elim (next.next x f b) [
-        | inl was ↦ after.kept x (r.done x f was)
-        | inr e ↦ subst (Marked rows new) (sym e) (after.there (all_condemned now 2 a (omega arith)))
+        | inl before ↦ elim before [
+          | inl was ↦ after.kept x (r.done x f was)
+          | inr e ↦ subst (Marked rows new) (sym e) (after.there (all_condemned now 2 a (omega arith)))
+        ]
+        | inr never ↦ absurd never
       ];
     }
 
 -- `h` is the heap at the start, `a` that after what is due was marked, and `b` that after all that is found was
 module _ (rows : List TypeRow) (h a b : HeapView) (m mark : MarkerView) (heap : IsHeap h) (held : IsHeld rows h)
     (ss : List ShadeView) (known : AreObjects rows h ss) (log : LogHolds rows (objects_in rows h) ss)
-    (r : HasRooted rows ss h a m mark) (words : IsRemarked rows a b)
+    (r : HasRooted rows ss (IsDue rows (objects_in rows h) ss) h a m mark) (words : IsRemarked rows a b)
     (kept : (x : ℕ) → Marked rows a x → Marked rows b x)
     (only : (x : ℕ) → Marked rows b x → Marked rows a x ⊎ IsFound ss x)
     (found : (x : ℕ) → IsFound ss x → Marked rows b x) where

@@ -53,39 +53,6 @@ module _ (word n : ℕ) (fits : word < 2 ^ 64) where
       let at : i % 64 ≡ n % 64 + (i - n) = omega (arith, low, near) in
       ap (bit_at word) at ∙ sym (rest_bit (i - n)) ∙ ap (λ w. bit_at w (i - n)) empty ∙ bit_at-zero (i - n)
 
--- ---- in a set
-
--- a number is in the set, or isn't, by the bit of its word
-module _ (words : List ℕ) (n word : ℕ) (is : word ≡ get_or words (n / 64) 0) where
-  told : (m : ℕ) → m / 64 ≡ n / 64 → has_bit words m ≡ nat_eq (bit_at word (m % 64)) 1
-  told m near =
-      ap (λ k. nat_eq (bit_at (get_or words k 0) (m % 64)) 1) near ∙ ap (λ w. nat_eq (bit_at w (m % 64)) 1) (sym is)
-
-  pub bit_in : (m : ℕ) → m / 64 ≡ n / 64 → bit_at word (m % 64) ≡ 1 → has_bit words m ≡ true
-  bit_in m near e = told m near ∙ eq-eqb (bit_at word (m % 64)) 1 e
-
-  pub bit_out : (m : ℕ) → m / 64 ≡ n / 64 → bit_at word (m % 64) ≡ 0 → has_bit words m ≡ false
-  bit_out m near e = told m near ∙ ne_eqb (bit_at word (m % 64)) 1 (λ one. omega (arith, e, one))
-
--- what no number from `from` up to n is told of, and none of n's word from there up to m, none up to m is
-pub none_to : (test : ℕ → Bool) (from n m : ℕ) → m / 64 ≡ n / 64 → ((i : ℕ) → from ≤ i → i < n → test i ≡ false)
-    → ((i : ℕ) → n ≤ i → i < m → i / 64 ≡ n / 64 → test i ≡ false) → (i : ℕ) → from ≤ i → i < m → test i ≡ false
-none_to test from n m near before here i low high = go (cases_lt i n)
-  where
-    go : (i < n) ⊎ (n ≤ i) → test i ≡ false
-    go (inl below) = before i low below
-    go (inr above) = here i above high (omega (arith, above, high, near))
-
--- nor up to the next word, where none of the word is
-pub none_on : (test : ℕ → Bool) (from n : ℕ) → ((i : ℕ) → from ≤ i → i < n → test i ≡ false)
-    → ((i : ℕ) → n ≤ i → i / 64 ≡ n / 64 → test i ≡ false) → (i : ℕ) → from ≤ i → i < n + (64 - n % 64)
-    → test i ≡ false
-none_on test from n before here i low high = go (cases_lt i n)
-  where
-    go : (i < n) ⊎ (n ≤ i) → test i ≡ false
-    go (inl below) = before i low below
-    go (inr above) = here i above (omega (arith, above, high))
-
 -- ---- in one set and not in another
 
 module _ (a b i : ℕ) (fits : b < 2 ^ 64) (within : i < 64) where
@@ -105,17 +72,3 @@ module _ (a b i : ℕ) (fits : b < 2 ^ 64) (within : i < 64) where
       go (inr some) =
           let is = both in let low = bit_at-lt a i in let lower = bit_at-lt b i in
           inr (omega (arith, e, is, low, lower, some))
-
--- a number of the one set's word that isn't in the other's, or not
-pub beside_out : (one other : List ℕ) (n a b m : ℕ) → a ≡ get_or one (n / 64) 0 → b ≡ get_or other (n / 64) 0
-    → m / 64 ≡ n / 64 → (bit_at a (m % 64) ≡ 0) ⊎ (bit_at b (m % 64) ≡ 1)
-    → (has_bit one m && not (has_bit other m)) ≡ false
-beside_out one other n a b m is was near (inl none) =
-    ap (λ (x : Bool). x && not (has_bit other m)) (bit_out one n a is m near none)
-beside_out one other n a b m is was near (inr some) =
-    last (has_bit one m) (has_bit other m) (bit_in other n b was m near some)
-  where
-    last : (x y : Bool) → y ≡ true → (x && not y) ≡ false
-    last true true e = refl
-    last false true e = refl
-    last x false e = absurd cc

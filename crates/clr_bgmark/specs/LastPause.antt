@@ -10,9 +10,10 @@ use Rattle.clr_background.specs.Log.{StrictLogLaw}
 use Rattle.clr_mark.specs.Marks.{LeadsTo}
 use Rattle.clr_mark.specs.Markings.{HasReached}
 use Rattle.clr_mark.specs.Waiting.{IsGray, MarkerView}
-use Rattle.clr_bgmark.specs.Pauses.{IsFound}
+use Rattle.clr_bgmark.specs.Pauses.{IsFound, Passes}
 use Rattle.clr_bgmark.specs.Scanning.{marking_in}
 use Rattle.clr_bgmark.specs.Shades.{is_logged, is_scanned, ShadeView}
+use Rattle.clr_bgmark.specs.declared.shade.Search.{Search}
 
 -- In a machine of these types and objects each reference slot of a black object is null, or names what is gray or
 -- black, or is logged.
@@ -35,10 +36,14 @@ abbrev pub IsDue : List TypeRow → List Object → List ShadeView → ℕ → T
 IsDue rows objects ss x = (is_scanned ss x ≡ false) ⊎ HasLoggedSlot rows objects ss x
 
 -- what is found and due is marked, and besides what it reaches, where the law of a marking holds on
-pub record HasRooted (rows : List TypeRow) (ss : List ShadeView) (old new : HeapView)
+pub record HasRooted (rows : List TypeRow) (ss : List ShadeView) (Due : ℕ → Type 0) (old new : HeapView)
     (m mark : MarkerView) : Type 0 where
   pub gray : IsGray rows new mark
   pub reached : HasReached rows (LeadsTo rows old m.oldest) (λ y. Marked rows old y ⊎ IsFound ss y) old new
-  pub due : (x : ℕ) → IsFound ss x → IsDue rows (objects_in rows old) ss x → Marked rows new x
+  pub due : (x : ℕ) → IsFound ss x → Due x → Marked rows new x
   pub capacity : mark.capacity ≡ m.capacity
   pub oldest : mark.oldest ≡ m.oldest
+
+-- what a search doesn't pass over
+abbrev pub IsSought : Search → List ShadeView → ℕ → Type 0
+IsSought search ss x = Passes search ss x → ⊥

@@ -1,6 +1,6 @@
 -- The first and the last pause of a background collection.
-use Rattle.std.specs.Prelude.{◌≡◌, ℕ, zero, suc, ◌+◌, ◌/◌, ◌%◌, ◌<◌, ◌⊎◌, ◌&&◌, not, nat_eq, Bool, true, false, List}
-use Rattle.std.specs.Prelude.{[], ◌∷◌, map}
+use Rattle.std.specs.Prelude.{◌≡◌, ℕ, zero, suc, ◌+◌, ◌/◌, ◌%◌, ◌*◌, ◌<◌, ◌≤◌, ◌⊎◌, ◌&&◌, not, nat_eq, Bool, true}
+use Rattle.std.specs.Prelude.{false, List, [], ◌∷◌, map}
 use Rattle.std.specs.Prelude.{if◌then◌else◌, ◌==◌, get_or, Option, Some, None}
 use Rattle.std.specs.FinMap as finmap
 use Rattle.std.specs.Ordering.{nat_cmp}
@@ -15,8 +15,10 @@ use Rattle.clr_model.specs.Machine.{Machine}
 use Rattle.clr_view.specs.View.{layout_in, objects_in}
 use Rattle.clr_bgmark.specs.Bits.{has_bit}
 use Rattle.clr_bgmark.specs.Scanning.{marking_in}
-use Rattle.clr_bgmark.specs.Shades.{BackgroundView, changed_at, colour_at, covers, grayed, is_marked, is_white}
-use Rattle.clr_bgmark.specs.Shades.{IsAt, ShadeView, with_taken}
+use Rattle.clr_bgmark.specs.Shades.{BackgroundView, changed_at, colour_at, covers, grayed, is_logged, is_marked}
+use Rattle.clr_bgmark.specs.Shades.{is_scanned, is_white, IsAt, ShadeView, with_taken}
+use Rattle.clr_bgmark.specs.declared.shade.Search.{Search}
+use Rattle.clr_bgmark.specs.declared.shade.Search.TheVariants.{Gray, Logged, Marked}
 
 -- ---- the first pause
 
@@ -83,8 +85,35 @@ IsBehind [] k from a = ⊥
 IsBehind (s ∷ ss) zero from a = (covers s a ≡ true) × (a / 8 < from / 8)
 IsBehind (s ∷ ss) (suc k) from a = (covers s a ≡ true) ⊎ IsBehind ss k from a
 
--- the first found place that isn't behind a spot
-pub record IsNextFound (ss : List ShadeView) (k from j a : ℕ) : Type 0 where
+-- another cell behind one of a segment is marked, and no card is logged between the two
+pub record IsUnlogged (s : ShadeView) (i : ℕ) : Type 0 where
+  pub next : ℕ
+  pub further : i < next
+  pub within : next < s.size / 8
+  pub marked : has_bit s.marked next ≡ true
+  pub clear : (k : ℕ) → i / 256 ≤ k → 256 * k < next → has_bit s.logged k ≡ false
+
+-- what a search tells of a marked cell over which it passes
+abbrev pub PassesCell : Search → ShadeView → ℕ → Type 0
+PassesCell Marked s i = ⊥
+PassesCell Gray s i = has_bit s.scanned i ≡ true
+PassesCell Logged s i = IsUnlogged s i
+
+-- another found place stands above this one, and nothing is logged between the two
+pub record IsClear (ss : List ShadeView) (a : ℕ) : Type 0 where
+  pub next : ℕ
+  pub found : IsFound ss next
+  pub further : a < next
+  pub clear : (b : ℕ) → a ≤ b → b < next → is_logged ss b ≡ false
+
+-- what a search tells of a found place over which it passes
+abbrev pub Passes : Search → List ShadeView → ℕ → Type 0
+Passes Marked ss a = ⊥
+Passes Gray ss a = is_scanned ss a ≡ true
+Passes Logged ss a = IsClear ss a
+
+-- a found place, such that a search passes over those between it and a spot
+pub record IsNextFound (search : Search) (ss : List ShadeView) (k from j a : ℕ) : Type 0 where
   pub at : IsAt ss j a
   pub found : IsFound ss a
-  pub next : (b : ℕ) → IsFound ss b → IsBehind ss j (a + 8) b → IsBehind ss k from b ⊎ (b ≡ a)
+  pub next : (b : ℕ) → IsFound ss b → IsBehind ss j (a + 8) b → (IsBehind ss k from b ⊎ (b ≡ a)) ⊎ Passes search ss b

@@ -1,6 +1,8 @@
 // The colours and the log of a background collection.
 ghost use Rattle.std.specs.Prelude.{◌≡◌, ℕ, ◌^◌, ◌/◌, ◌%◌, ◌<◌, ◌&&◌, ◌||◌, nat_eq, true, false, [], length, None};
-ghost use Rattle.std.specs.Prelude.{IfSome, IfNone, OnOk, OnErr, ◌↔◌, ◌⊎◌};
+ghost use Rattle.std.specs.Prelude.{IfSome, IfNone, OnOk, OnErr, Some, ◌↔◌, ◌⊎◌};
+ghost use Rattle.std.specs.FinMap as finmap;
+ghost use Rattle.clr_types.specs.declared.handle.Handle.{Handle as Row};
 ghost use Rattle.clr_view.specs.SlotValues.{StandsAt};
 ghost use Rattle.clr_view.specs.View.{IsHeld, objects_in};
 ghost use Rattle.std.specs.List.{AllByRecursion};
@@ -10,7 +12,7 @@ ghost use Rattle.clr_view.specs.World.{HandlesStand};
 ghost use Rattle.clr_types.specs.Descriptors.{offsets_from};
 ghost use Rattle.clr_heap.specs.Memories.{memory_index};
 ghost use Rattle.clr_heap.specs.Parts.{item_at};
-ghost use Rattle.clr_heap.specs.View.{word_of};
+ghost use Rattle.clr_heap.specs.View.{IsHeap, word_of};
 ghost use Rattle.clr_mark.specs.Marks.{IsClosed, IsRemarked};
 ghost use Rattle.clr_mark.specs.Markings.{references_at};
 ghost use Rattle.clr_mark.specs.Ties.{IsStart, Joins};
@@ -165,7 +167,6 @@ impl Background {
         ensures counted { OnOk result (IsCounted (objects_in types.now heap.now) self.new) }
         ensures err { OnErr result (self.new ≡ self.old) }
     {
-        handles.lawful();
         let mut shades = shades_of(self.alloc, heap)?;
         take_oldest(&mut shades, heap, types);
         self.shades = shades;
@@ -188,21 +189,22 @@ impl Background {
 
     // White targets of strong and pinned handles become gray.
     fn gray_targets(&mut self, handles: &Handles)
-        ensures { self.new ≡ targets_grayed handles.now 65536 self.old }
+        ensures grayed { self.new ≡ targets_grayed handles.now 65536 self.old }
+        ensures below { (h : ℕ) (row : Row) → finmap.get handles.now h ≡ Some row → h < 65536 }
     {
-        for h in 0..65536 {
-            self.gray_target(handles.get(h));
+        let mut from = 0;
+        while let Some((h, handle)) = handles.next_from(from, 0) {
+            self.gray_target(&handle);
+            from = h + 1;
         }
     }
 
     // The target of a handle becomes gray, where the handle is strong or pinned and the target white.
-    fn gray_target(&mut self, handle: Option<Handle>)
-        ensures { self.new ≡ target_grayed handle self.old }
+    fn gray_target(&mut self, handle: &Handle)
+        ensures { self.new ≡ target_grayed (Some handle.now) self.old }
     {
-        if let Some(handle) = handle {
-            if handle.kind.is_root() {
-                self.gray_root(handle.target);
-            }
+        if handle.kind.is_root() {
+            self.gray_root(handle.target);
         }
     }
 
@@ -216,8 +218,8 @@ impl Background {
     }
 
     /// The last pause: marks in the heap what the roots and what is gray or black reach, by slots and by dependent
-    /// handles, where nothing is marked before. None runs then. Of the black objects only those are followed that
-    /// stand on a logged card.
+    /// handles, where nothing is marked before. None runs then. Of the black objects those are followed that stand on
+    /// a logged card, and few others.
     pub fn finish(
         &mut self,
         heap: &mut Heap,
@@ -324,11 +326,11 @@ impl Background {
 
     // Follows what the slots of an object name, and makes it black. Its segment is looked for at `near` first.
     fn scan(&mut self, heap: &Heap, types: &Types, near: usize, obj: u64)
+        requires heap { IsHeap heap.now }
         requires held { IsHeld types.now heap.now }
         requires stands { StandsAt types.now heap.now obj }
         ensures { self.new ≡ followed types.now heap.now self.old obj }
     {
-        heap.lawful();
         let k = heap.segment_near(near, obj);
         let item = heap.item_of_word(types, k, obj, heap.word_at(k, obj));
         self.meet_references(heap, types, near, k, item);
@@ -338,6 +340,7 @@ impl Background {
     // Follows the references of the object that an item in segment `k` is.
     #[inline]
     fn meet_references(&mut self, heap: &Heap, types: &Types, near: usize, k: usize, item: Item)
+        requires heap { IsHeap heap.now }
         requires held { IsHeld types.now heap.now }
         requires stands { StandsAt types.now heap.now item.place }
         requires segment { k ≡ memory_index heap.now.memories item.place }
@@ -345,7 +348,6 @@ impl Background {
         ensures { self.new
             ≡ met_all (word_of heap.now) self.old item.place (references_at types.now heap.now item.place) }
     {
-        heap.lawful();
         match types.reference_run(item.type_id, item.len) {
             Some(run) => self.meet_run(heap, types, near, k, item.place, run),
             None => self.meet_each(heap, types, near, k, item),
@@ -363,13 +365,13 @@ impl Background {
         obj: u64,
         run: ReferenceRun,
     )
+        requires heap { IsHeap heap.now }
         requires held { IsHeld types.now heap.now }
         requires stands { StandsAt types.now heap.now obj }
         requires segment { k ≡ memory_index heap.now.memories obj }
         requires run { references_at types.now heap.now obj ≡ offsets_from run.offset run.count }
         ensures { self.new ≡ met_all (word_of heap.now) self.old obj (references_at types.now heap.now obj) }
     {
-        heap.lawful();
         let _ = types;
         let mut shade = near;
         for i in 0..run.count {
@@ -381,6 +383,7 @@ impl Background {
     // The same for any object, one after the other.
     #[inline(never)]
     fn meet_each(&mut self, heap: &Heap, types: &Types, near: usize, k: usize, item: Item)
+        requires heap { IsHeap heap.now }
         requires held { IsHeld types.now heap.now }
         requires stands { StandsAt types.now heap.now item.place }
         requires segment { k ≡ memory_index heap.now.memories item.place }
@@ -388,7 +391,6 @@ impl Background {
         ensures { self.new
             ≡ met_all (word_of heap.now) self.old item.place (references_at types.now heap.now item.place) }
     {
-        heap.lawful();
         let mut shade = near;
         for offset in types.slots(item.type_id, item.len) {
             let slot = item.place + offset;

@@ -83,6 +83,25 @@ impl Bits {
         None
     }
 
+    /// The last number from `from` on, below `before`, that is in the set.
+    pub(crate) fn last(&self, from: u64, before: u64) -> Option<u64>
+        requires { before < 2 ^ 62 }
+        ensures low { IfSome result (λ n. from ≤ n) }
+        ensures high { IfSome result (λ n. n < before) }
+        ensures here { IfSome result (λ n. has_bit self.now n ≡ true) }
+        ensures last { IfSome result (λ n. (i : ℕ) → n < i → i < before → has_bit self.now i ≡ false) }
+        ensures none { IfNone result ((i : ℕ) → from ≤ i → i < before → has_bit self.now i ≡ false) }
+    {
+        let mut end = before;
+        while from < end {
+            if let Some(m) = last_in(self.word((end - 1) / 64), end - 1) {
+                return if from <= m { Some(m) } else { None };
+            }
+            end -= 1 + (end - 1) % 64;
+        }
+        None
+    }
+
     // The word of this number, and 0 where there is none.
     #[inline]
     fn word(&self, k: u64) -> u64
@@ -120,6 +139,22 @@ fn first_in(word: u64, n: u64) -> Option<u64>
         return None;
     }
     Some(n + rest.trailing_zeros() as u64)
+}
+
+// The last number up to `n` that is among the 64 numbers of its word, and in the word.
+#[inline]
+fn last_in(word: u64, n: u64) -> Option<u64>
+    ensures high { IfSome result (λ m. m ≤ n) }
+    ensures near { IfSome result (λ m. m / 64 ≡ n / 64) }
+    ensures here { IfSome result (λ m. bit_at word (m % 64) ≡ 1) }
+    ensures last { IfSome result (λ m. (i : ℕ) → m < i → i ≤ n → bit_at word (i % 64) ≡ 0) }
+    ensures none { IfNone result ((i : ℕ) → i ≤ n → i / 64 ≡ n / 64 → bit_at word (i % 64) ≡ 0) }
+{
+    let rest = word << (63 - n % 64);
+    if rest == 0 {
+        return None;
+    }
+    Some(n - rest.leading_zeros() as u64)
 }
 
 // The bits of a word that aren't in the other.

@@ -1,27 +1,26 @@
 // What is gray or black is marked in the heap.
-ghost use Rattle.std.specs.Prelude.{◌≡◌, ℕ, ◌^◌, ◌/◌, ◌<◌, ◌≤◌, [], length, true, false, None, IfSome, IfNone};
+ghost use Rattle.std.specs.Prelude.{◌≡◌, ℕ, ◌^◌, ◌/◌, ◌<◌, ◌≤◌, [], length, true, None, IfSome, IfNone};
 ghost use Rattle.std.specs.Prelude.{◌↔◌, ◌⊎◌};
 ghost use Rattle.std.specs.List.{AllByRecursion};
 ghost use Rattle.clr_heap.specs.Memories.{HasWord, memory_index};
+ghost use Rattle.clr_heap.specs.View.{IsHeap};
 ghost use Rattle.clr_model.specs.Reach.{Reach};
 ghost use Rattle.clr_view.specs.Marks.{Marked};
-ghost use Rattle.clr_view.specs.SlotValues.{StandsAt};
 ghost use Rattle.clr_view.specs.View.{IsHeld, objects_in};
 ghost use Rattle.clr_mark.specs.Marks.{is_condemned_place, IsRemarked, LeadsTo, with_mark};
 ghost use Rattle.clr_mark.specs.Waiting.{IsGray};
-ghost use Rattle.clr_bgmark.specs.LastPause.{HasRooted, IsDue, LogHolds};
-ghost use Rattle.clr_bgmark.specs.Pauses.{IsBehind, IsFound, IsNextFound};
+ghost use Rattle.clr_bgmark.specs.LastPause.{HasRooted, IsDue, IsSought, LogHolds};
+ghost use Rattle.clr_bgmark.specs.Pauses.{IsBehind, IsFound, IsNextFound, Passes};
 ghost use Rattle.clr_bgmark.specs.Scanning.{AreObjects};
-ghost use Rattle.clr_bgmark.specs.Shades.{AreApart, IsAt, IsShade};
+ghost use Rattle.clr_bgmark.specs.Shades.{AreApart, IsShade};
 
-use crate::shade::Shade;
-use crate::shades::any_logged;
+use crate::shade::{Search, Shade};
 use clr_heap::Heap;
 use clr_mark::Marker;
 use clr_types::{Types, mark};
 
-/// Marks in the heap what is gray or black, and what that reaches by slots. Of the black objects only those are
-/// followed that stand on a logged card: what the others name is gray or black.
+/// Marks in the heap what is gray or black, and what that reaches by slots. Of the black objects those are followed
+/// that stand on a logged card, and few others: what the rest names is gray or black.
 pub(crate) fn mark_found(shades: &Vec<Shade>, heap: &mut Heap, types: &Types, marker: &mut Marker)
     requires apart { AreApart shades.now.items }
     requires shades { AllByRecursion IsShade shades.now.items }
@@ -35,52 +34,56 @@ pub(crate) fn mark_found(shades: &Vec<Shade>, heap: &mut Heap, types: &Types, ma
     ensures marked { (x : ℕ) → Marked types.now heap.new x ↔ Reach (LeadsTo types.now heap.old marker.old.oldest)
         (λ y. Marked types.now heap.old y ⊎ IsFound shades.now.items y) x }
 {
-    root_found(shades, heap, types, marker);
+    root_due(shades, heap, types, marker);
     mark_each(shades, heap, types);
     marker.drain_slots(heap, types);
 }
 
-// Marks what is gray, and what is black and stands on a logged card, and lets it wait.
-fn root_found(shades: &Vec<Shade>, heap: &mut Heap, types: &Types, marker: &mut Marker)
+// Marks what is gray, and what is black and may stand on a logged card, and lets it wait. Each search looks at words of
+// bits alone where there is nothing to be found: no object over which both pass is read. One search for both would look
+// for the next gray place once for each place by a card.
+fn root_due(shades: &Vec<Shade>, heap: &mut Heap, types: &Types, marker: &mut Marker)
     requires apart { AreApart shades.now.items }
     requires shades { AllByRecursion IsShade shades.now.items }
     requires gray { IsGray types.now heap.old marker.old }
     requires oldest { marker.old.oldest ≡ 2 }
     requires objects { AreObjects types.now heap.old shades.now.items }
-    ensures { HasRooted types.now shades.now.items heap.old heap.new marker.old marker.new }
+    ensures { HasRooted types.now shades.now.items (IsDue types.now (objects_in types.now heap.old) shades.now.items)
+        heap.old heap.new marker.old marker.new }
 {
-    let mut spot = Spot { k: 0, from: 0 };
-    while let Some((k, obj)) = next_found(shades, spot) {
-        spot = Spot { k, from: obj + 8 };
-        if is_due(shades, k, heap, types, obj) {
-            marker.root(heap, types, obj);
-            marker.drain_if_full(heap, types);
-        }
-    }
+    root_found(shades, Search::Gray, heap, types, marker);
+    root_found(shades, Search::Logged, heap, types, marker);
 }
 
-// Whether a found object in segment `k` of the first pause is gray, or a card is logged between its place and its end.
-// Where it is neither, it isn't due.
-fn is_due(shades: &Vec<Shade>, k: usize, heap: &Heap, types: &Types, obj: u64) -> bool
+// Marks what a search finds, and lets it wait.
+fn root_found(
+    shades: &Vec<Shade>,
+    search: Search,
+    heap: &mut Heap,
+    types: &Types,
+    marker: &mut Marker,
+)
     requires apart { AreApart shades.now.items }
     requires shades { AllByRecursion IsShade shades.now.items }
-    requires within { k < length shades.now.items }
-    requires at { IsAt shades.now.items k obj }
-    requires held { IsHeld types.now heap.now }
-    requires stands { StandsAt types.now heap.now obj }
-    ensures { result ≡ false → IsDue types.now (objects_in types.now heap.now) shades.now.items obj → ⊥ }
+    requires gray { IsGray types.now heap.old marker.old }
+    requires oldest { marker.old.oldest ≡ 2 }
+    requires objects { AreObjects types.now heap.old shades.now.items }
+    ensures { HasRooted types.now shades.now.items (IsSought search shades.now.items) heap.old heap.new
+        marker.old marker.new }
 {
-    heap.lawful();
-    if !shades[k].is_scanned(obj) {
-        return true;
+    let mut spot = Spot { k: 0, from: 0 };
+    while let Some((k, obj)) = next_found(shades, search, spot) {
+        spot = Spot { k, from: obj + 8 };
+        marker.root(heap, types, obj);
+        marker.drain_if_full(heap, types);
     }
-    let item = heap.item(types, obj);
-    any_logged(shades, k, obj, obj + item.size)
 }
 
 // Marks what is gray or black, and nothing else.
 fn mark_each(shades: &Vec<Shade>, heap: &mut Heap, types: &Types)
     requires apart { AreApart shades.now.items }
+    requires shades { AllByRecursion IsShade shades.now.items }
+    requires heap { IsHeap heap.old }
     requires held { IsHeld types.now heap.old }
     requires objects { AreObjects types.now heap.old shades.now.items }
     ensures words { IsRemarked types.now heap.old heap.new }
@@ -88,11 +91,10 @@ fn mark_each(shades: &Vec<Shade>, heap: &mut Heap, types: &Types)
     ensures only { (x : ℕ) → Marked types.now heap.new x → Marked types.now heap.old x ⊎ IsFound shades.now.items x }
     ensures found { (x : ℕ) → IsFound shades.now.items x → Marked types.now heap.new x }
 {
-    heap.lawful();
-    let _ = types.count();
+    let _ = types;
     let mut near = 0;
     let mut at = Spot { k: 0, from: 0 };
-    while let Some((k, obj)) = next_found(shades, at) {
+    while let Some((k, obj)) = next_found(shades, Search::Marked, at) {
         near = heap.segment_near(near, obj);
         mark_at(heap, near, obj);
         at = Spot { k, from: obj + 8 };
@@ -121,18 +123,20 @@ struct Spot {
     from: u64,
 }
 
-// The next marked place from a spot on, with the number of its segment.
-fn next_found(shades: &Vec<Shade>, spot: Spot) -> Option<(usize, u64)>
+// The next marked place from a spot on by a search, with the number of its segment.
+fn next_found(shades: &Vec<Shade>, search: Search, spot: Spot) -> Option<(usize, u64)>
     requires apart { AreApart shades.now.items }
-    ensures found { IfSome result (λ f. IsNextFound shades.now.items spot.k spot.from f.0 f.1) }
+    requires shades { AllByRecursion IsShade shades.now.items }
+    ensures found { IfSome result (λ f. IsNextFound search shades.now.items spot.k spot.from f.0 f.1) }
     ensures within { IfSome result (λ f. f.0 < length shades.now.items) }
     ensures low { IfSome result (λ f. f.1 < 2 ^ 63) }
     ensures further { IfSome result (λ f. (spot.k < f.0) ⊎ ((spot.k ≡ f.0) × (spot.from / 8 ≤ f.1 / 8))) }
-    ensures none { IfNone result ((a : ℕ) → IsFound shades.now.items a → IsBehind shades.now.items spot.k spot.from a) }
+    ensures none { IfNone result ((a : ℕ) → IsFound shades.now.items a
+        → IsBehind shades.now.items spot.k spot.from a ⊎ Passes search shades.now.items a) }
 {
     let mut from = spot.from;
     for k in spot.k..shades.len() {
-        if let Some(a) = shades[k].first_marked(from) {
+        if let Some(a) = shades[k].first_marked(search, from) {
             return Some((k, a));
         }
         from = 0;

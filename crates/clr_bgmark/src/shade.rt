@@ -2,6 +2,7 @@
 ghost use Rattle.std.specs.Prelude.{◌≡◌, ℕ, ◌+◌, ◌/◌, ◌%◌, ◌<◌, ◌≤◌, ◌^◌, ◌&&◌, not, true, false, IfOk, IfSome};
 ghost use Rattle.std.specs.Prelude.{IfNone};
 ghost use Rattle.clr_bgmark.specs.Bits.{has_bit};
+ghost use Rattle.clr_bgmark.specs.Pauses.{IsUnlogged, PassesCell};
 ghost use Rattle.clr_bgmark.specs.Shades.{card_of, cell_of, covers, is_gray_cell, with_set};
 
 use crate::bits::Bits;
@@ -14,6 +15,17 @@ pub(crate) enum Bit {
     Taken,
     Marked,
     Scanned,
+    Logged,
+}
+
+/// Which marked places are looked for.
+#[derive(Clone, Copy)]
+pub(crate) enum Search {
+    /// All of them.
+    Marked,
+    /// Those that weren't scanned.
+    Gray,
+    /// Those behind which a card is logged before the next marked place, and the last one of the segment.
     Logged,
 }
 
@@ -157,21 +169,80 @@ impl Shade {
         }
     }
 
-    /// A place from `from` on that is marked, the first one.
-    pub(crate) fn first_marked(&self, from: u64) -> Option<u64>
+    /// A marked place from `from` on. It passes over no marked place that is looked for.
+    pub(crate) fn first_marked(&self, search: Search, from: u64) -> Option<u64>
         ensures covered { IfSome result (λ a. covers self.now a ≡ true) }
         ensures aligned { IfSome result (λ a. a % 8 ≡ 0) }
         ensures low { IfSome result (λ a. from / 8 ≤ a / 8) }
         ensures high { IfSome result (λ a. a < 2 ^ 63) }
         ensures marked { IfSome result (λ a. has_bit self.now.marked (cell_of self.now a) ≡ true) }
         ensures first { IfSome result (λ a. (b : ℕ) → covers self.now b ≡ true → from / 8 ≤ b / 8 → b / 8 < a / 8
-            → has_bit self.now.marked (cell_of self.now b) ≡ false) }
+            → has_bit self.now.marked (cell_of self.now b) ≡ true → PassesCell search self.now (cell_of self.now b)) }
         ensures none { IfNone result ((b : ℕ) → covers self.now b ≡ true → from / 8 ≤ b / 8
-            → has_bit self.now.marked (cell_of self.now b) ≡ false) }
+            → has_bit self.now.marked (cell_of self.now b) ≡ true → PassesCell search self.now (cell_of self.now b)) }
     {
         let start = from.saturating_sub(self.base) / 8;
-        let n = self.marked.first(start, self.size / 8)?;
+        let n = self.first_cell(search, start)?;
         Some(self.base + 8 * n)
+    }
+
+    // The same by the numbers of cells.
+    fn first_cell(&self, search: Search, start: u64) -> Option<u64>
+        ensures low { IfSome result (λ n. start ≤ n) }
+        ensures high { IfSome result (λ n. n < self.now.size / 8) }
+        ensures marked { IfSome result (λ n. has_bit self.now.marked n ≡ true) }
+        ensures first { IfSome result (λ n. (i : ℕ) → start ≤ i → i < n → has_bit self.now.marked i ≡ true
+            → PassesCell search self.now i) }
+        ensures none { IfNone result ((i : ℕ) → start ≤ i → i < self.now.size / 8 → has_bit self.now.marked i ≡ true
+            → PassesCell search self.now i) }
+    {
+        match search {
+            Search::Marked => self.marked.first(start, self.size / 8),
+            Search::Gray => self.first_gray_cell(start),
+            Search::Logged => self.first_logged_cell(start),
+        }
+    }
+
+    // The first gray one.
+    fn first_gray_cell(&self, start: u64) -> Option<u64>
+        ensures low { IfSome result (λ n. start ≤ n) }
+        ensures high { IfSome result (λ n. n < self.now.size / 8) }
+        ensures marked { IfSome result (λ n. has_bit self.now.marked n ≡ true) }
+        ensures first { IfSome result (λ n. (i : ℕ) → start ≤ i → i < n → is_gray_cell self.now i ≡ false) }
+        ensures none { IfNone result ((i : ℕ) → start ≤ i → i < self.now.size / 8 → is_gray_cell self.now i ≡ false) }
+    {
+        self.marked
+            .first_beside(&self.scanned, start.max(self.lowest), self.size / 8)
+    }
+
+    // The last marked one before the next logged card, whose object may reach into it, or else the first one from that
+    // card on. Where no card is logged any more, the end of the segment is taken for one.
+    fn first_logged_cell(&self, start: u64) -> Option<u64>
+        ensures low { IfSome result (λ n. start ≤ n) }
+        ensures high { IfSome result (λ n. n < self.now.size / 8) }
+        ensures marked { IfSome result (λ n. has_bit self.now.marked n ≡ true) }
+        ensures first { IfSome result (λ n. (i : ℕ) → start ≤ i → i < n → has_bit self.now.marked i ≡ true
+            → IsUnlogged self.now i) }
+        ensures none { IfNone result ((i : ℕ) → start ≤ i → i < self.now.size / 8
+            → has_bit self.now.marked i ≡ false) }
+    {
+        let edge = 256 * self.next_logged(start / 256);
+        match self.marked.last(start, edge) {
+            Some(n) => Some(n),
+            None => self.marked.first(start.max(edge), self.size / 8),
+        }
+    }
+
+    // The number of the first logged card from one on, and how many cards there are where none is logged.
+    fn next_logged(&self, card: u64) -> u64
+        ensures high { result ≤ self.now.size / 2048 }
+        ensures few { result < 2 ^ 52 }
+        ensures clear { (k : ℕ) → card ≤ k → k < result → has_bit self.now.logged k ≡ false }
+    {
+        match self.logged.first(card, self.size / 2048) {
+            Some(next) => next,
+            None => self.size / 2048,
+        }
     }
 
     /// Sets a bit of an address.

@@ -1,9 +1,7 @@
 // The bits of all segments that there were at the first pause.
-ghost use Rattle.std.specs.Prelude.{◌≡◌, ℕ, ◌%◌, ◌^◌, ◌<◌, ◌≤◌, true, false, length, get_or, IfSome, IfNone};
-ghost use Rattle.std.specs.List.{AllByRecursion};
+ghost use Rattle.std.specs.Prelude.{◌≡◌, ℕ, ◌%◌, ◌<◌, true, false, length, get_or, IfSome, IfNone};
 ghost use Rattle.clr_bgmark.specs.Shades.{AreApart, changed_at, colour_at, is_covered, is_gray, is_logged, IsAt};
-ghost use Rattle.clr_bgmark.specs.Shades.{covers, IsShade};
-ghost use Rattle.clr_bgmark.specs.Shades.{with_set};
+ghost use Rattle.clr_bgmark.specs.Shades.{covers, with_set};
 ghost use Rattle.clr_bgmark.specs.Shades as shades;
 
 use crate::background::Colour;
@@ -86,35 +84,6 @@ pub(crate) fn logged_in(shades: &Vec<Shade>, k: usize, a: u64) -> bool
     ensures { result ≡ is_logged shades.now.items a }
 {
     shades[k].is_logged(a)
-}
-
-/// Whether a card is logged between these addresses. Segments are looked for at `near` first.
-pub(crate) fn any_logged(shades: &Vec<Shade>, near: usize, low: u64, high: u64) -> bool
-    requires apart { AreApart shades.now.items }
-    requires shades { AllByRecursion IsShade shades.now.items }
-    requires small { high < 2 ^ 63 }
-    ensures { result ≡ false → (a : ℕ) → low ≤ a → a < high → is_logged shades.now.items a ≡ false }
-{
-    let mut a = low;
-    while a < high {
-        if logged_near(shades, near, a) {
-            return true;
-        }
-        a = (a / 2048 + 1) * 2048;
-    }
-    false
-}
-
-// Whether the card of a slot is logged. Its segment is looked for at `near` first.
-#[inline]
-fn logged_near(shades: &Vec<Shade>, near: usize, a: u64) -> bool
-    requires { AreApart shades.now.items }
-    ensures { result ≡ is_logged shades.now.items a }
-{
-    match find_near(shades, near, a) {
-        Some(k) => logged_in(shades, k, a),
-        None => false,
-    }
 }
 
 /// A gray place, the first one of its segment, and the number of the segment, a guess.

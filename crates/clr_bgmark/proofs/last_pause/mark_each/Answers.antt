@@ -1,4 +1,4 @@
-use Rattle.std.proofs.Common.{arith}
+use Rattle.std.proofs.Common.{arith, inl, inr}
 use Rattle.clr_heap.specs.Memories.{HasWord}
 use Rattle.clr_mark.proofs.Graying.{object_word}
 use Rattle.clr_mark.proofs.Held.{keeps_held}
@@ -18,9 +18,9 @@ word c =
     let h = c.args.heap.now in
     let words = c.loop-k.invariant.words in
     let found = c.in-Some.ensures.found.found in
-    object_word rows c.loop-k.heap 2 c.in-Some.obj (keeps_heap h c.loop-k.heap words.shape c.lawful.ensures)
-    (keeps_held rows h c.loop-k.heap c.lawful.ensures c.requires.held words)
-    (keeps_stands rows h c.loop-k.heap c.lawful.ensures c.requires.held words c.in-Some.obj
+    object_word rows c.loop-k.heap 2 c.in-Some.obj (keeps_heap h c.loop-k.heap words.shape c.requires.heap)
+    (keeps_held rows h c.loop-k.heap c.requires.heap c.requires.held words)
+    (keeps_stands rows h c.loop-k.heap c.requires.heap c.requires.held words c.in-Some.obj
     (c.requires.objects.marked c.in-Some.obj found.0 found.1))
 
 pub segment_near-near-requires : goal.segment_near-near-requires
@@ -36,7 +36,7 @@ pub loop-k-preserved : goal.loop-k-preserved
 loop-k-preserved c =
     let found = c.in-Some.ensures.found.found in
     marking_more c.args.types.now c.args.heap.now c.loop-k.heap c.mark_at.new.heap c.args.shades.now.items
-    c.loop-k.at.k c.loop-k.at.from c.in-Some.k c.in-Some.obj c.lawful.ensures c.requires.held c.loop-k.invariant
+    c.loop-k.at.k c.loop-k.at.from c.in-Some.k c.in-Some.obj c.requires.heap c.requires.held c.loop-k.invariant
     c.in-Some.ensures.found (c.requires.objects.marked c.in-Some.obj found.0 found.1) c.mark_at.ensures
 
 pub returns-clause-words : goal.returns-clause-words
@@ -49,4 +49,7 @@ pub returns-clause-only : goal.returns-clause-only
 returns-clause-only c = c.loop-k.invariant.only
 
 pub returns-clause-found : goal.returns-clause-found
-returns-clause-found c = λ x f. c.loop-k.invariant.done x f (c.in_default.ensures.none x f)
+returns-clause-found c = λ x f. elim (c.in_default.ensures.none x f) [
+  | inl behind ↦ c.loop-k.invariant.done x f behind
+  | inr never ↦ absurd never
+]

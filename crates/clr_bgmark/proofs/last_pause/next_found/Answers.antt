@@ -3,16 +3,16 @@ use Rattle.clr_bgmark.proofs.FoundPlaces.{all_passed, found_next, IsPassed, pass
 use Rattle.clr_bgmark.proofs.last_pause.next_found.Goals as goal
 
 pub loop-k-init : goal.loop-k-init
-loop-k-init c = record { passed = λ b found behind. behind; further = inr (refl, refl) }
+loop-k-init c = record { passed = λ b found behind. inl behind; further = inr (refl, refl) }
 
 pub loop-k-preserved : goal.loop-k-preserved
 loop-k-preserved c =
     let ss = c.args.shades.now.items in
     let more : suc c.loop-k.k ≡ c.loop-k.k + 1 = omega arith in
     record {
-      passed = subst (λ k. IsPassed ss c.args.spot.k c.args.spot.from k 0) more
-          (passed_segment ss c.requires.apart c.args.spot.k c.args.spot.from c.loop-k.k c.loop-k.from
-          c.loop-k.invariant.passed c.index.result.now c.index.ensures c.in_default.ensures.none);
+      passed = subst (λ k. IsPassed c.args.search ss c.args.spot.k c.args.spot.from k 0) more
+          (passed_segment c.args.search ss c.requires.apart c.requires.shades c.args.spot.k c.args.spot.from c.loop-k.k
+          c.loop-k.from c.loop-k.invariant.passed c.index.result.now c.index.ensures c.in_default.ensures.none);
       further = elim c.loop-k.invariant.further [
         | inl l ↦ inl (omega (arith, l))
         | inr p ↦ let e = p.0 in inl (omega (arith, e))
@@ -25,8 +25,9 @@ returns-in-Some-clause-found c =
     let below = c.loop-k-test.true in let len = c.len-k-end.ensures in let ok = c.args.shades.now.ok in
     let low : c.loop-k.k < length ss = omega arith in
     let first = c.in-Some.ensures in
-    found_next ss c.requires.apart c.args.spot.k c.args.spot.from c.loop-k.k c.loop-k.from c.loop-k.invariant.passed
-    c.index.result.now c.index.ensures c.in-Some.a low first.covered first.aligned first.marked first.first
+    found_next c.args.search ss c.requires.apart c.requires.shades c.args.spot.k c.args.spot.from c.loop-k.k
+    c.loop-k.from c.loop-k.invariant.passed c.index.result.now c.index.ensures c.in-Some.a low first.covered
+    first.aligned first.marked first.first
 
 pub returns-in-Some-clause-further : goal.returns-in-Some-clause-further
 returns-in-Some-clause-further c = elim c.loop-k.invariant.further [
@@ -40,4 +41,5 @@ pub returns-clause-none : goal.returns-clause-none
 returns-clause-none c =
     let ss = c.args.shades.now.items in
     let above = c.loop-k-test.false in let len = c.len-k-end.ensures in let ok = c.args.shades.now.ok in
-    all_passed ss c.args.spot.k c.args.spot.from c.loop-k.k c.loop-k.from c.loop-k.invariant.passed (omega arith)
+    all_passed c.args.search ss c.args.spot.k c.args.spot.from c.loop-k.k c.loop-k.from c.loop-k.invariant.passed
+    (omega arith)

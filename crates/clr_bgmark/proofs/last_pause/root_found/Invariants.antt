@@ -6,7 +6,7 @@ use Rattle.clr_bgmark.proofs.last_pause.root_found.Given as goal
 
 abbrev pub invariant-loop-k : goal.invariant-loop-k
 invariant-loop-k l = IsRooting l.types l.initial.heap l.heap l.initial.marker l.marker
-    (IsFound l.shades.items) (IsVisited l.types l.initial.heap l.shades.items l.spot.k l.spot.from)
+    (IsFound l.shades.items) (IsVisited l.search l.shades.items l.spot.k l.spot.from)
 
 abbrev pub decreases-loop-k : goal.decreases-loop-k
 decreases-loop-k l = (length l.shades.items - l.spot.k) * 2 ^ 64 + (2 ^ 64 - l.spot.from)

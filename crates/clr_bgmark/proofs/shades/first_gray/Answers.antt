@@ -1,4 +1,4 @@
-use Rattle.std.proofs.Common.{◌≡◌, ℕ, suc, ◌+◌, ◌<◌, List, get_or, length, set, sym, ap, ◌∙◌, subst, arith, true, false}
+use Rattle.std.proofs.Common.{◌≡◌, ℕ, suc, ◌+◌, ◌<◌, length, set, sym, ap, ◌∙◌, subst, arith, true, false}
 use Rattle.std.proofs.lemmas.List.{set-get_or}
 use Rattle.clr_bgmark.specs.Shades.{AreApart, cell_of, covers, is_gray, is_gray_cell, ShadeView}
 use Rattle.clr_bgmark.proofs.GrayPlaces.{found_gray, HaveNoGray, no_gray_at_all, no_gray_more}

@@ -50,7 +50,7 @@ ready_first c =
 
 begun : (c : After-gray_targets) → IsBegunTo c c.gray_targets.new.self.shades
 begun c =
-    subst (λ (v : BackgroundView). IsBegunTo c v.shades) (sym c.gray_targets.ensures)
+    subst (λ (v : BackgroundView). IsBegunTo c v.shades) (sym c.gray_targets.ensures.grayed)
     (targets_first c.args.heap.now (heap_items c.args.types.now c.args.heap.now) c.in_ok-shades.shades.items
     c.args.handles.now 65536 c.gray_roots-2.new.self (ready_first c))
 
@@ -78,7 +78,7 @@ invariant_of-self c =
 
 pub returns-clause-running : goal.returns-clause-running
 returns-clause-running c =
-    ap (λ (v : BackgroundView). v.running) c.gray_targets.ensures
+    ap (λ (v : BackgroundView). v.running) c.gray_targets.ensures.grayed
     ∙ targets_running c.args.handles.now 65536 c.gray_roots-2.new.self
     ∙ ap (λ (v : BackgroundView). v.running) c.gray_roots-2.ensures
     ∙ roots_running c.args.ready.now (length c.args.ready.now) c.gray_roots.new.self
@@ -112,7 +112,8 @@ named_met c =
     (sym c.gray_roots-2.ensures)
     (roots_met rows h heap held bare rs c.requires.ready (length rs) (omega arith) one (locals_first c)) in
     let of_handles : HasMet two.shades three.shades (IsTargetBelow hs 65536) =
-    subst (λ (v : BackgroundView). HasMet two.shades v.shades (IsTargetBelow hs 65536)) (sym c.gray_targets.ensures)
+    subst (λ (v : BackgroundView). HasMet two.shades v.shades (IsTargetBelow hs 65536))
+    (sym c.gray_targets.ensures.grayed)
     (targets_met rows h heap held bare hs c.requires.handles 65536 two (ready_first c)) in
     met_after ss two.shades three.shades either (IsTargetBelow hs 65536) (IsNamed hs ls rs)
     (met_after ss one.shades two.shades (IsMemberBelow ls (length ls)) (IsMemberBelow rs (length rs)) either of_locals
@@ -138,7 +139,7 @@ returns-clause-begun c m objects layout handles locals ready =
     (taking_found h items bare bare items (bare_first c) (λ j l. l) (items_covered rows h heap held bare shapes) i k
     old))
     (IsNamed hs ls rs) (named_met c) m objects layout (named_root m hs ls rs handles locals ready)
-    (root_named m hs ls rs handles locals ready c.lawful.ensures)
+    (root_named m hs ls rs handles locals ready c.gray_targets.ensures.below)
 
 pub returns-clause-log : goal.returns-clause-log
 returns-clause-log c = (begun c).logged
@@ -177,5 +178,5 @@ returns-clause-counted c =
     subst counted (sym c.gray_roots-2.ensures)
     (roots_counted rows h heap held bare rs c.requires.ready (length rs) (omega arith) one (locals_first c) of_locals)
     in
-    subst counted (sym c.gray_targets.ensures)
+    subst counted (sym c.gray_targets.ensures.grayed)
     (targets_counted rows h heap held bare c.args.handles.now c.requires.handles 65536 two (ready_first c) of_ready)

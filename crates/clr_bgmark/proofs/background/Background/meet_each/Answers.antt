@@ -15,13 +15,13 @@ pub slots-offset-items-requires-clause-known : goal.slots-offset-items-requires-
 slots-offset-items-requires-clause-known c =
     let rows = c.args.types.now in
     subst (λ (i : Item). i.type_id.0 ≤ length rows) (sym c.requires.item)
-    (at rows c.args.heap.now c.lawful.ensures c.requires.held c.args.item.place c.requires.stands).known
+    (at rows c.args.heap.now c.requires.heap c.requires.held c.args.item.place c.requires.stands).known
 
 pub slots-offset-items-requires-clause-size : goal.slots-offset-items-requires-clause-size
 slots-offset-items-requires-clause-size c =
     let rows = c.args.types.now in
     subst (λ (i : Item). size_of (form_at rows i.type_id.0) i.len ≤ 1073741824) (sym c.requires.item)
-    (at rows c.args.heap.now c.lawful.ensures c.requires.held c.args.item.place c.requires.stands).small
+    (at rows c.args.heap.now c.requires.heap c.requires.held c.args.item.place c.requires.stands).small
 
 -- the next offset is one of a reference
 next : (c : In-Some) → IsIn c.in-Some.offset (references_at c.args.types.now c.args.heap.now c.args.item.place)
@@ -35,7 +35,7 @@ next c =
 
 pub overflow_add-slot : goal.overflow_add-slot
 overflow_add-slot c =
-    let low = slot_low c.args.types.now c.args.heap.now c.lawful.ensures c.requires.held c.args.item.place
+    let low = slot_low c.args.types.now c.args.heap.now c.requires.heap c.requires.held c.args.item.place
     c.requires.stands c.in-Some.offset (next (goal.at.overflow_add-slot c).In-Some) in
     omega (arith, low)
 
@@ -44,7 +44,7 @@ word_at-requires-clause-word c =
     let rows = c.args.types.now in
     let x = c.args.item.place in
     let yielded = c.loop-offset.yielded in
-    slot_has rows c.args.heap.now c.lawful.ensures c.requires.held x c.requires.stands c.in-Some.offset
+    slot_has rows c.args.heap.now c.requires.heap c.requires.held x c.requires.stands c.in-Some.offset
     (next_listed c.in-Some.offset yielded c.next.new.self (references_at rows c.args.heap.now x)
     (ap (λ (rest : List ℕ). yielded ++ rest) (sym c.in-Some.ensures.steps) ∙ c.loop-offset.invariant.walked
     ∙ c.into_iter-offset-iterator.ensures.into_iter_gives ∙ c.slots-offset-items.ensures
@@ -56,7 +56,7 @@ word_at-requires-clause-segment c =
     let x = c.args.item.place in
     let yielded = c.loop-offset.yielded in
     c.requires.segment
-    ∙ slot_index rows c.args.heap.now c.lawful.ensures c.requires.held x c.requires.stands c.in-Some.offset
+    ∙ slot_index rows c.args.heap.now c.requires.heap c.requires.held x c.requires.stands c.in-Some.offset
     (next_listed c.in-Some.offset yielded c.next.new.self (references_at rows c.args.heap.now x)
     (ap (λ (rest : List ℕ). yielded ++ rest) (sym c.in-Some.ensures.steps) ∙ c.loop-offset.invariant.walked
     ∙ c.into_iter-offset-iterator.ensures.into_iter_gives ∙ c.slots-offset-items.ensures

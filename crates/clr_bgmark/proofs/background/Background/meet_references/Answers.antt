@@ -8,7 +8,7 @@ pub reference_run-requires : goal.reference_run-requires
 reference_run-requires c =
     let rows = c.args.types.now in
     subst (λ (i : Item). i.type_id.0 ≤ length rows) (sym c.requires.item)
-    (at rows c.args.heap.now c.lawful.ensures c.requires.held c.args.item.place c.requires.stands).known
+    (at rows c.args.heap.now c.requires.heap c.requires.held c.args.item.place c.requires.stands).known
 
 pub meet_run-requires-clause-run : goal.meet_run-requires-clause-run
 meet_run-requires-clause-run c =

@@ -8,31 +8,31 @@ use Rattle.clr_bgmark.proofs.background.Background.meet_run.Goals as goal
 
 pub overflow_add-slot : goal.overflow_add-slot
 overflow_add-slot c =
-    let low = (run_slot c.args.types.now c.args.heap.now c.lawful.ensures c.requires.held c.args.obj c.requires.stands
+    let low = (run_slot c.args.types.now c.args.heap.now c.requires.heap c.requires.held c.args.obj c.requires.stands
     c.args.run c.requires.run c.loop-i.i c.loop-i-test.true).low in
     omega (arith, low)
 
 pub overflow_mul-slot : goal.overflow_mul-slot
 overflow_mul-slot c =
-    let low = (run_slot c.args.types.now c.args.heap.now c.lawful.ensures c.requires.held c.args.obj c.requires.stands
+    let low = (run_slot c.args.types.now c.args.heap.now c.requires.heap c.requires.held c.args.obj c.requires.stands
     c.args.run c.requires.run c.loop-i.i c.loop-i-test.true).low in
     omega (arith, low)
 
 pub overflow_add-slot-in-loop-i : goal.overflow_add-slot-in-loop-i
 overflow_add-slot-in-loop-i c =
-    let low = (run_slot c.args.types.now c.args.heap.now c.lawful.ensures c.requires.held c.args.obj c.requires.stands
+    let low = (run_slot c.args.types.now c.args.heap.now c.requires.heap c.requires.held c.args.obj c.requires.stands
     c.args.run c.requires.run c.loop-i.i c.loop-i-test.true).low in
     omega (arith, low)
 
 pub word_at-requires-clause-word : goal.word_at-requires-clause-word
 word_at-requires-clause-word c =
-    (run_slot c.args.types.now c.args.heap.now c.lawful.ensures c.requires.held c.args.obj c.requires.stands c.args.run
+    (run_slot c.args.types.now c.args.heap.now c.requires.heap c.requires.held c.args.obj c.requires.stands c.args.run
     c.requires.run c.loop-i.i c.loop-i-test.true).has
 
 pub word_at-requires-clause-segment : goal.word_at-requires-clause-segment
 word_at-requires-clause-segment c =
     c.requires.segment
-    ∙ (run_slot c.args.types.now c.args.heap.now c.lawful.ensures c.requires.held c.args.obj c.requires.stands
+    ∙ (run_slot c.args.types.now c.args.heap.now c.requires.heap c.requires.held c.args.obj c.requires.stands
     c.args.run c.requires.run c.loop-i.i c.loop-i-test.true).index
 
 pub loop-i-preserved : goal.loop-i-preserved

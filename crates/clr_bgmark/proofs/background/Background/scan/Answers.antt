@@ -12,30 +12,30 @@ use Rattle.clr_bgmark.proofs.background.Background.scan.Goals as goal
 
 pub segment_near-k-requires : goal.segment_near-k-requires
 segment_near-k-requires c =
-    (head c.args.types.now c.args.heap.now c.lawful.ensures c.requires.held c.args.obj c.requires.stands).mt
+    (head c.args.types.now c.args.heap.now c.requires.heap c.requires.held c.args.obj c.requires.stands).mt
 
 pub word_at-requires-clause-word : goal.word_at-requires-clause-word
 word_at-requires-clause-word c =
-    (head c.args.types.now c.args.heap.now c.lawful.ensures c.requires.held c.args.obj c.requires.stands).mt
+    (head c.args.types.now c.args.heap.now c.requires.heap c.requires.held c.args.obj c.requires.stands).mt
 
 pub item_of_word-item-requires-clause-item : goal.item_of_word-item-requires-clause-item
 item_of_word-item-requires-clause-item c =
-    head c.args.types.now c.args.heap.now c.lawful.ensures c.requires.held c.args.obj c.requires.stands
+    head c.args.types.now c.args.heap.now c.requires.heap c.requires.held c.args.obj c.requires.stands
 
 pub item_of_word-item-requires-clause-segment : goal.item_of_word-item-requires-clause-segment
 item_of_word-item-requires-clause-segment c =
     c.segment_near-k.ensures
-    ∙ near c.args.types.now c.args.heap.now c.lawful.ensures c.requires.held c.args.obj c.requires.stands
+    ∙ near c.args.types.now c.args.heap.now c.requires.heap c.requires.held c.args.obj c.requires.stands
 
 pub item_of_word-item-requires-clause-room : goal.item_of_word-item-requires-clause-room
 item_of_word-item-requires-clause-room c =
-    room c.args.types.now c.args.heap.now c.lawful.ensures c.requires.held c.args.obj c.requires.stands
+    room c.args.types.now c.args.heap.now c.requires.heap c.requires.held c.args.obj c.requires.stands
 
 -- the item stands at the object's place
 place : (c : After-item_of_word-item) → c.item_of_word-item.result.place ≡ c.args.obj
 place c =
     ap (λ (i : Item). i.place) c.item_of_word-item.ensures
-    ∙ (at c.args.types.now c.args.heap.now c.lawful.ensures c.requires.held c.args.obj c.requires.stands).at
+    ∙ (at c.args.types.now c.args.heap.now c.requires.heap c.requires.held c.args.obj c.requires.stands).at
 
 pub meet_references-requires-clause-stands : goal.meet_references-requires-clause-stands
 meet_references-requires-clause-stands c =

@@ -1,4 +1,4 @@
-use Rattle.std.proofs.Common.{◌≡◌, ℕ, ◌-◌, ◌*◌, ◌/◌, ◌<◌, List, length, ap, sym, subst, ◌∙◌, true}
+use Rattle.std.proofs.Common.{◌≡◌, ℕ, ◌-◌, ◌/◌, length, ap, sym, subst, ◌∙◌, true}
 use Rattle.clr_bgmark.specs.Bits.{with_bit}
 use Rattle.clr_bgmark.specs.Shades.{covers, HasNoGrayBelow, IsShade, ShadeView}
 use Rattle.clr_bgmark.proofs.GrayPlaces.{marked_below, scanned_below}

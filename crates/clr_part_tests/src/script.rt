@@ -1,6 +1,6 @@
 use clr_model::{Collected, Refusal, Reply, Where};
 use clr_script::{
-    put_refusal, put_reply, read_copy, read_get, read_line, read_new, read_null, read_put,
+    NewLine, put_refusal, put_reply, read_copy, read_get, read_line, read_new, read_null, read_put,
     read_quick, read_set, read_slot, take_thread,
 };
 use std::test::Fail;
@@ -243,33 +243,61 @@ fn reads_frequent_lines_from_the_front(rt: HostRuntime) {
     assert!(rt; matches!(read_slot(b" l2 30\nx"), Some((2, 30, [b'x']))));
     assert!(rt; matches!(read_copy(b" l2 l3\n"), Some((2, 3, []))));
     assert!(rt; matches!(read_null(b" l20\nx"), Some((20, [b'x']))));
+    assert!(rt; read_null(b" l20").is_none());
+    assert!(rt; read_null(b" l20 \n").is_none());
+    assert!(rt; read_copy(b" l02 l3\n").is_none());
+}
+
+#[test]
+fn reads_births_from_the_front(rt: HostRuntime) {
     assert!(rt;
         matches!(
             read_new(b" l12 _9 40\nx", b"N"),
-            Some((12, [b'_', b'9'], false, Some(40), [b'x']))
+            Some(NewLine {
+                local: 12,
+                name: [b'_', b'9'],
+                len: Some(40),
+                hinted: false,
+                rest: [b'x']
+            })
         )
     );
     assert!(rt;
         matches!(
             read_new(b" l12 N\nx", b"N"),
-            Some((12, [b'N'], true, None, [b'x']))
+            Some(NewLine {
+                local: 12,
+                name: [b'N'],
+                len: None,
+                hinted: true,
+                rest: [b'x']
+            })
         )
     );
     assert!(rt;
         matches!(
             read_new(b" l12 N\nx", b"M"),
-            Some((12, [b'N'], false, None, [b'x']))
+            Some(NewLine {
+                local: 12,
+                name: [b'N'],
+                len: None,
+                hinted: false,
+                rest: [b'x']
+            })
         )
     );
     assert!(rt;
         matches!(
             read_new(b" l1 Nodes 4\n", b"Node"),
-            Some((1, [b'N', b'o', b'd', b'e', b's'], false, Some(4), []))
+            Some(NewLine {
+                local: 1,
+                name: [b'N', b'o', b'd', b'e', b's'],
+                len: Some(4),
+                hinted: false,
+                rest: []
+            })
         )
     );
-    assert!(rt; read_null(b" l20").is_none());
-    assert!(rt; read_null(b" l20 \n").is_none());
-    assert!(rt; read_copy(b" l02 l3\n").is_none());
 }
 
 #[test]

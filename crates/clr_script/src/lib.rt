@@ -15,7 +15,7 @@ mod threads;
 
 pub use made::Made;
 pub use quick::{
-    read_copy, read_get, read_new, read_null, read_put, read_quick, read_set, read_slot,
+    NewLine, read_copy, read_get, read_new, read_null, read_put, read_quick, read_set, read_slot,
     take_thread,
 };
 pub use reader::{LONGEST, read_line};

@@ -11,7 +11,7 @@ mod slots;
 
 use crate::reader::LONGEST;
 use births::read_collect;
-pub use births::read_new;
+pub use births::{NewLine, read_new};
 use clr_model::Command;
 pub use digits::take_thread;
 use handles::{read_create, read_fetch, read_free};

@@ -35,10 +35,10 @@ macro_rules! other_rows {
     };
 }
 
-// The lines of a thread, by their verbs.
+// The lines of a thread on objects, by their verbs.
 macro_rules! thread_rows {
     ($t:ident, $verb:ident, $rest:ident) => {
-        by_row! { $verb, read_seldom($t, $verb, $rest);
+        by_row! { $verb, read_rare($t, $verb, $rest);
             b"get": (to, from, index) = read_load($rest) => Command::Get { t: $t, to, from, index },
             b"set": (into, index, from) = read_store($rest) => Command::Set { t: $t, into, index, from },
             b"put": (into, index, value) = read_number_store($rest) => Command::Put { t: $t, into, index, value },
@@ -46,11 +46,27 @@ macro_rules! thread_rows {
             b"read": (from, index) = read_local_and_number($rest) => Command::Read { t: $t, from, index },
             b"copy": (to, from) = read_locals($rest) => Command::Copy { t: $t, to, from },
             b"null": local = read_one_local($rest) => Command::Clear { t: $t, local },
+        }
+    };
+}
+
+// Those on collections and on other threads.
+macro_rules! rare_rows {
+    ($t:ident, $verb:ident, $rest:ident) => {
+        by_row! { $verb, read_rooted($t, $verb, $rest);
             b"begin": command = read_begin($t, $rest) => command,
             b"step": () = no_word($rest) => Command::Step { t: $t },
             b"collect": command = read_collect($t, $rest) => command,
             b"suspend": () = no_word($rest) => Command::Suspend { t: $t },
             b"resume": () = no_word($rest) => Command::Resume { t: $t },
+        }
+    };
+}
+
+// Those on handles and finalisers.
+macro_rules! rooted_rows {
+    ($t:ident, $verb:ident, $rest:ident) => {
+        by_row! { $verb, read_seldom($t, $verb, $rest);
             b"handle": command = read_create($t, $rest) => command,
             b"fetch": (to, h) = read_local_and_handle($rest) => Command::Fetch { t: $t, to, h },
             b"second": (to, h) = read_local_and_handle($rest) => Command::Second { t: $t, to, h },
@@ -86,5 +102,7 @@ macro_rules! begin_rows {
 pub(crate) use begin_rows;
 pub(crate) use by_row;
 pub(crate) use other_rows;
+pub(crate) use rare_rows;
+pub(crate) use rooted_rows;
 pub(crate) use seldom_rows;
 pub(crate) use thread_rows;

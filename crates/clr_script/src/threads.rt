@@ -1,7 +1,7 @@
 //! The lines of threads.
 ghost use Rattle.std.specs.Prelude.{◌≡◌, ℕ};
-ghost use Rattle.clr_model.specs.Parsing.{begin_in, collect_in, create_in, once_in, pause_in, pinned_in, seldom_in};
-ghost use Rattle.clr_model.specs.Parsing.{threaded_in};
+ghost use Rattle.clr_model.specs.Parsing.{begin_in, collect_in, create_in, once_in, pause_in, pinned_in, rarely_in};
+ghost use Rattle.clr_model.specs.Parsing.{rooted_in, seldom_in, threaded_in};
 ghost use Rattle.clr_script.specs.Cuts.{words_left};
 ghost use Rattle.clr_script.specs.Readings.{Reads};
 
@@ -11,7 +11,7 @@ use crate::arguments::{
 };
 use crate::cut::{Rest, no_word, one_word, take_word};
 use crate::fields::{read_generation, read_kind, read_local, read_name};
-use crate::table::{begin_rows, by_row, seldom_rows, thread_rows};
+use crate::table::{begin_rows, by_row, rare_rows, rooted_rows, seldom_rows, thread_rows};
 use clr_model::Command;
 
 // What stands behind `collect`.
@@ -103,8 +103,24 @@ fn read_seldom<'a>(t: u64, verb: &[u8], rest: Rest<'a>) -> Option<Command<'a>>
     seldom_rows!(t, verb, rest)
 }
 
+// What stands behind the verb of a thread's line on handles or finalisers, or of one that is rarer still.
+#[tactic(auto, unfolding(clr_model::specs::Parsing::rooted_in))]
+fn read_rooted<'a>(t: u64, verb: &[u8], rest: Rest<'a>) -> Option<Command<'a>>
+    ensures { Reads result (rooted_in t verb.now (words_left rest.entry)) }
+{
+    rooted_rows!(t, verb, rest)
+}
+
+// What stands behind the verb of a thread's line on collections or other threads, or of one that is rarer still.
+#[tactic(auto, unfolding(clr_model::specs::Parsing::rarely_in))]
+fn read_rare<'a>(t: u64, verb: &[u8], rest: Rest<'a>) -> Option<Command<'a>>
+    ensures { Reads result (rarely_in t verb.now (words_left rest.entry)) }
+{
+    rare_rows!(t, verb, rest)
+}
+
 /// What stands behind the word of a thread.
-#[tactic(auto, unfolding(clr_model::specs::Parsing::threaded_in, clr_model::specs::Parsing::verb_in, clr_model::specs::Parsing::rarely_in, clr_model::specs::Parsing::rooted_in))]
+#[tactic(auto, unfolding(clr_model::specs::Parsing::threaded_in, clr_model::specs::Parsing::verb_in))]
 pub fn read_threaded<'a>(t: u64, rest: Rest<'a>) -> Option<Command<'a>>
     ensures { Reads result (threaded_in t (words_left rest.entry)) }
 {

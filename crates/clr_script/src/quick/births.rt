@@ -123,21 +123,39 @@ fn end_length(text: &[u8]) -> Option<(Option<u64>, &[u8])>
     Some((Some(len), rest))
 }
 
-/// For which local, of which type and how long an object is made, and what is behind the line's feed. The third part
-/// tells whether the type's name was found to be the hint, which costs less than to read another.
+/// The line of a birth, as it was read behind its verb.
+#[derive(Clone, Copy)]
+pub struct NewLine<'a> {
+    /// The local that gets the newborn.
+    pub local: u64,
+    /// The name of its type.
+    pub name: &'a [u8],
+    /// How many elements it has, where the line tells.
+    pub len: Option<u64>,
+    /// Whether the name was found to be the hint, which costs less than to read another.
+    pub hinted: bool,
+    /// What is behind the line's feed.
+    pub rest: &'a [u8],
+}
+
+/// For which local, of which type and how long an object is made, and what is behind that line.
 #[inline(always)]
-pub fn read_new<'a>(
-    text: &'a [u8],
-    hint: &[u8],
-) -> Option<(u64, &'a [u8], bool, Option<u64>, &'a [u8])>
+pub fn read_new<'a>(text: &'a [u8], hint: &[u8]) -> Option<NewLine<'a>>
     requires { IsTrue (is_name hint.now) }
-    ensures line { IfSome result (λ p. Continues (codes "new") (λ t. new_object t p.0 p.1.now p.3) text.now p.4.now) }
-    ensures hinted { IfSome result (λ p. IsTrue p.2 → p.1.now ≡ hint.now) }
+    ensures line { IfSome result (λ l. Continues (codes "new") (λ t. new_object t l.local l.name.now l.len)
+        text.now l.rest.now) }
+    ensures hinted { IfSome result (λ l. IsTrue l.hinted → l.name.now ≡ hint.now) }
 {
     let (local, rest) = take_local(text)?;
-    let (name, same, rest) = take_name(rest, hint)?;
+    let (name, hinted, rest) = take_name(rest, hint)?;
     let (len, rest) = end_length(rest)?;
-    Some((local, name, same, len, rest))
+    Some(NewLine {
+        local,
+        name,
+        len,
+        hinted,
+        rest,
+    })
 }
 
 // How to collect, but for `fitting`: the last word, or nothing.

@@ -1,13 +1,13 @@
--- What words say, from the command that they were read as.
+-- What arguments say, from the command that they were read as.
 use Rattle.std.proofs.Common.{◌≡◌, ◌≢◌, ◌∙◌, ℕ, List, Option, Some, None, sym, ap, inl, inr}
 use Rattle.clr_model.specs.Machine.{Options}
 use Rattle.clr_runtime.specs.Options.{options_of as made_with}
 use Rattle.clr_runtime.specs.declared.options.Options as runtime
-use Rattle.clr_words.specs.Grammar.{SaysInspect, SaysMigrate}
-use Rattle.clr_words.specs.Settings.{options_of}
-use Rattle.clr_words.specs.declared.command_line.CommandLine.{CommandLine}
-use Rattle.clr_words.specs.declared.command_line.CommandLine.TheVariants.{Image, Inspect, Migrate, Run, Soak}
-use Rattle.clr_words.specs.declared.settings.Settings.{Settings}
+use Rattle.clr_args.specs.Grammar.{SaysInspect, SaysMigrate}
+use Rattle.clr_args.specs.Settings.{options_of}
+use Rattle.clr_args.specs.declared.command_line.CommandLine.{CommandLine}
+use Rattle.clr_args.specs.declared.command_line.CommandLine.TheVariants.{Image, Inspect, Migrate, Run, Soak}
+use Rattle.clr_args.specs.declared.settings.Settings.{Settings}
 use Rattle.clr_run.specs.Images.{LooksAtImage}
 
 -- a command that runs a script, with these options
@@ -75,7 +75,7 @@ soak_options options line settings made seed other_seed count other_count is mad
       count_is = same_count other settings seed count other_seed other_count same;
     }
 
--- the words say one command
+-- the arguments say one command
 pub no_other : {A : Type 0} (line : Option CommandLine) (command one other : CommandLine) → line ≡ Some command
     → command ≡ one → line ≡ Some other → one ≢ other → A
 no_other line command one other is here said differ = absurd (differ (same command one other here (sym is ∙ said)))
@@ -83,18 +83,18 @@ no_other line command one other is here said differ = absurd (differ (same comma
     same : (command one other : CommandLine) → command ≡ one → Some command ≡ Some other → one ≡ other
     same command one other here e = cc
 
--- words that say a command don't say none
+-- arguments that say a command don't say none
 pub not_none : {A : Type 0} (line : Option CommandLine) (command : CommandLine) → line ≡ Some command → line ≡ None → A
 not_none line command here none = absurd (clash command (sym here ∙ none))
   where
     clash : (command : CommandLine) → Some command ≡ None → ⊥
     clash command e = cc
 
--- words that look at an image say no other command
-pub no_look : {A : Type 0} (words : List (List ℕ)) (line : Option CommandLine) (command one : CommandLine)
-    → line ≡ Some command → command ≡ one → (SaysInspect words → line ≡ Some Inspect)
-    → (SaysMigrate words → line ≡ Some Migrate) → one ≢ Inspect → one ≢ Migrate → LooksAtImage words → A
-no_look words line command one here is inspects migrates a b (inl says) =
+-- arguments that look at an image say no other command
+pub no_look : {A : Type 0} (arguments : List (List ℕ)) (line : Option CommandLine) (command one : CommandLine)
+    → line ≡ Some command → command ≡ one → (SaysInspect arguments → line ≡ Some Inspect)
+    → (SaysMigrate arguments → line ≡ Some Migrate) → one ≢ Inspect → one ≢ Migrate → LooksAtImage arguments → A
+no_look arguments line command one here is inspects migrates a b (inl says) =
     no_other line command one Inspect here is (inspects says) a
-no_look words line command one here is inspects migrates a b (inr says) =
+no_look arguments line command one here is inspects migrates a b (inr says) =
     no_other line command one Migrate here is (migrates says) b

@@ -32,7 +32,7 @@ too_long (Some bytes) (Some rest) taken byte limit read count some short =
     let e : bytes ≡ taken ++ byte ∷ rest = some_same bytes (taken ++ byte ∷ rest) read in
     let l = simp length-append at (ap length e) in omega (arith, l, count)
 
--- a generated script never ends as faulty words do
+-- a generated script never ends as faulty arguments do
 pub no_usage : (status : Status) → (status ≡ Done) ⊎ ((status ≡ WriteFault) ⊎ (status ≡ Memory)) → status ≡ Usage → ⊥
 no_usage Usage complete usage = clash complete
   where

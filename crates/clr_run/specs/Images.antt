@@ -7,7 +7,7 @@ use Rattle.clr_model.specs.Picture.{picture}
 use Rattle.clr_format.specs.Saved.{image_bytes}
 use Rattle.clr_runtime.specs.RuntimeView.{RuntimeView, StandsFor}
 use Rattle.clr_save.specs.SavedImages.{IsImageOf}
-use Rattle.clr_words.specs.Grammar.{SaysImage, SaysInspect, SaysMigrate}
+use Rattle.clr_args.specs.Grammar.{SaysImage, SaysInspect, SaysMigrate}
 use Rattle.clr_streams.specs.Faults.{Appended}
 use Rattle.clr_streams.specs.Reading.{ReadTooMuch, ReadWhole}
 use Rattle.clr_streams.specs.declared.status.Status.{Status}
@@ -49,12 +49,12 @@ pub record MakesImage (options : Options) (limit : ℕ) (held held_after written
   pub write_before : result ≡ WriteFault → MadePart options limit held held_after written written_after
   pub too_much : result ≡ TooMuch → ReadTooMuch limit held held_after
 
--- ---- the words of these commands
+-- ---- the arguments of these commands
 
 -- an image is read
 abbrev pub LooksAtImage : List (List ℕ) → Type 0
-LooksAtImage words = SaysInspect words ⊎ SaysMigrate words
+LooksAtImage arguments = SaysInspect arguments ⊎ SaysMigrate arguments
 
 -- nothing is written before all is read
 abbrev pub WritesAtEnd : List (List ℕ) → Type 0
-WritesAtEnd words = ((options : Options) × SaysImage words options) ⊎ LooksAtImage words
+WritesAtEnd arguments = ((options : Options) × SaysImage arguments options) ⊎ LooksAtImage arguments

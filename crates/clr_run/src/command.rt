@@ -1,4 +1,4 @@
-//! The top call: a command from its words and its source to its sink.
+//! The top call: a command from its arguments and its source to its sink.
 ghost use Rattle.std.specs.Prelude.{◌≡◌, ◌≢◌, ◌≤◌, ◌∷◌, [], List, ℕ, Some, None, length};
 ghost use Rattle.std.specs.Prelude.{IfSome, IsSome, IsSomeAnd, ◌↔◌, ◌⊎◌, option_map};
 ghost use Rattle.clr_model.specs.Machine.{Machine, Options};
@@ -6,8 +6,8 @@ ghost use Rattle.clr_model.specs.LineGrammar.{script_lines, ended_lines};
 ghost use Rattle.clr_runtime.specs.RuntimeView.{StandsFor};
 ghost use Rattle.clr_runtime.specs.Options.{options_of};
 ghost use Rattle.clr_image.specs.Texts.{Inspected, Migrated};
-ghost use Rattle.clr_words.specs.Grammar.{SaysImage, SaysInspect, SaysMigrate, SaysNothing, SaysRun, SaysSoak};
-ghost use Rattle.clr_words.specs.Settings as settings_said;
+ghost use Rattle.clr_args.specs.Grammar.{SaysImage, SaysInspect, SaysMigrate, SaysNothing, SaysRun, SaysSoak};
+ghost use Rattle.clr_args.specs.Settings as settings_said;
 ghost use Rattle.clr_streams.specs.Faults.{Rose, Appended};
 ghost use Rattle.clr_session.specs.Progress.{Answered, CutShort};
 ghost use Rattle.clr_session.specs.Runs.{IsRunOf};
@@ -16,14 +16,14 @@ ghost use Rattle.clr_image_io.specs.Images.{ShowsImage};
 ghost use Rattle.clr_run.specs.Images.{LooksAtImage, MakesImage, WritesAtEnd};
 
 use crate::making::image_source;
+use clr_args::{Arguments, CommandLine, Settings};
 use clr_image_io::{IMAGE_LIMIT, inspect_source, migrate_source};
 use clr_runtime::Runtime;
 use clr_session::{SCRIPT_LIMIT, run_source, soak};
 use clr_streams::{Sink, Source, Status};
-use clr_words::{CommandLine, Settings, Words};
 use std::alloc::Global;
 
-// What a runtime is made with where the words say these settings.
+// What a runtime is made with where the arguments say these settings.
 fn options_from(settings: Settings) -> clr_runtime::Options
     ensures { options_of result ≡ settings_said.options_of settings }
 {
@@ -39,7 +39,7 @@ fn options_from(settings: Settings) -> clr_runtime::Options
     }
 }
 
-/// Runs the command that the words say. The words are those of the command line, without the program's name.
+/// Runs the command that the arguments say. The arguments are those of the command line, without the program's name.
 ///
 /// - `run` runs the script that the source holds, and writes its replies to the sink.
 /// - `soak` runs a generated script, and writes a summary of what it comes to.
@@ -50,14 +50,14 @@ fn options_from(settings: Settings) -> clr_runtime::Options
 /// After `Done` of `run`, `soak` and `image` the end state is the runtime that ran the lines, and else there is none.
 pub fn run<S: Source, K: Sink>(
     alloc: Global,
-    words: &Words,
+    arguments: &Arguments,
     source: &mut S,
     sink: &mut K,
     end_state: &mut Option<Runtime>,
 ) -> Status
     // What is written is the text of one run of the machine over all lines of the source, which is read to its end, and
     // the runtime that ran them stands for the last state of this run.
-    ensures headline { (options : Options) → SaysRun words.now options → result ≡ Status.Done →
+    ensures headline { (options : Options) → SaysRun arguments.now options → result ≡ Status.Done →
         IfSome (S.held source.old) (λ script. (text : List ℕ) × (last : Machine)
         × IsRunOf options script text last
         × Appended (K.written sink.old) (K.written sink.new) text
@@ -65,84 +65,84 @@ pub fn run<S: Source, K: Sink>(
         × IsSomeAnd end_state.new (λ runtime. StandsFor runtime last)) }
 
     // The same where the source doesn't tell its bytes, of some bytes.
-    ensures done { (options : Options) → SaysRun words.now options → result ≡ Status.Done → (taken : List ℕ)
+    ensures done { (options : Options) → SaysRun arguments.now options → result ≡ Status.Done → (taken : List ℕ)
         × (answered : Answered options script_lines
         (S.held source.old) (S.held source.new) (K.written sink.old) (K.written sink.new) taken)
         × (length taken ≤ SCRIPT_LIMIT) × IsSomeAnd end_state.new (λ runtime. StandsFor runtime answered.last) }
     ensures no_state { result ≢ Status.Done → end_state.new ≡ None }
 
     // The image of the last state of such a run is written, and it is an image.
-    ensures image { (options : Options) → SaysImage words.now options →
+    ensures image { (options : Options) → SaysImage arguments.now options →
         MakesImage options SCRIPT_LIMIT (S.held source.old) (S.held source.new)
         (K.written sink.old) (K.written sink.new) end_state.new result }
 
     // What is shown of an image, and its second version; or the offset of the first fault of other bytes.
-    ensures inspect { SaysInspect words.now → ShowsImage Inspected IMAGE_LIMIT
+    ensures inspect { SaysInspect arguments.now → ShowsImage Inspected IMAGE_LIMIT
         (S.held source.old) (S.held source.new) (K.written sink.old) (K.written sink.new) result }
-    ensures migrate { SaysMigrate words.now → ShowsImage Migrated IMAGE_LIMIT
+    ensures migrate { SaysMigrate arguments.now → ShowsImage Migrated IMAGE_LIMIT
         (S.held source.old) (S.held source.new) (K.written sink.old) (K.written sink.new) result }
-    ensures shown_state { LooksAtImage words.now → end_state.new ≡ None }
+    ensures shown_state { LooksAtImage arguments.now → end_state.new ≡ None }
 
     // Each other answer has its cause.
-    ensures usage { result ≢ Status.Memory → ((result ≡ Status.Usage) ↔ SaysNothing words.now) }
+    ensures usage { result ≢ Status.Memory → ((result ≡ Status.Usage) ↔ SaysNothing arguments.now) }
     ensures read_fault { result ≡ Status.ReadFault → Rose (S.faults source.old) (S.faults source.new) }
     ensures write_fault { result ≡ Status.WriteFault → Rose (K.faults sink.old) (K.faults sink.new) }
-    ensures too_much { (options : Options) → SaysRun words.now options → result ≡ Status.TooMuch →
+    ensures too_much { (options : Options) → SaysRun arguments.now options → result ≡ Status.TooMuch →
         (taken : List ℕ) × (byte : ℕ)
         × Answered options ended_lines (S.held source.old) (option_map (λ rest. byte ∷ rest) (S.held source.new))
         (K.written sink.old) (K.written sink.new) taken
         × (length taken ≡ SCRIPT_LIMIT) }
-    ensures bad_image { result ≡ Status.BadImage → LooksAtImage words.now }
+    ensures bad_image { result ≡ Status.BadImage → LooksAtImage arguments.now }
 
     // A count that rises is answered, and before the first read nothing has changed.
     ensures source_counted { result ≢ Status.ReadFault → S.faults source.new ≡ S.faults source.old }
     ensures sink_counted { result ≢ Status.WriteFault → K.faults sink.new ≡ K.faults sink.old }
     ensures memory { result ≡ Status.Memory → sink.new ≡ sink.old }
-    ensures memory_unread { (WritesAtEnd words.now → ⊥) → result ≡ Status.Memory → source.new ≡ source.old }
-    ensures unwritten { WritesAtEnd words.now → (result ≡ Status.ReadFault) ⊎ (result ≡ Status.TooMuch) →
+    ensures memory_unread { (WritesAtEnd arguments.now → ⊥) → result ≡ Status.Memory → source.new ≡ source.old }
+    ensures unwritten { WritesAtEnd arguments.now → (result ≡ Status.ReadFault) ⊎ (result ≡ Status.TooMuch) →
         sink.new ≡ sink.old }
     ensures unread { result ≡ Status.Usage → (source.new ≡ source.old) × (sink.new ≡ sink.old) }
 
-    // Where the words are right, the script isn't too long and no fault is counted, only memory can be wanting.
-    ensures complete { (options : Options) → SaysRun words.now options →
+    // Where the arguments are right, the script isn't too long and no fault is counted, only memory can be wanting.
+    ensures complete { (options : Options) → SaysRun arguments.now options →
         IfSome (S.held source.old) (λ bytes. length bytes ≤ SCRIPT_LIMIT) →
         IsSome (S.held source.old) → (Rose (S.faults source.old) (S.faults source.new) → ⊥) →
         (Rose (K.faults sink.old) (K.faults sink.new) → ⊥) →
         (result ≡ Status.Done) ⊎ (result ≡ Status.Memory) }
 
-    ensures image_complete { (options : Options) → SaysImage words.now options →
+    ensures image_complete { (options : Options) → SaysImage arguments.now options →
         IfSome (S.held source.old) (λ bytes. length bytes ≤ SCRIPT_LIMIT) →
         IsSome (S.held source.old) → (Rose (S.faults source.old) (S.faults source.new) → ⊥) →
         (Rose (K.faults sink.old) (K.faults sink.new) → ⊥) →
         (result ≡ Status.Done) ⊎ (result ≡ Status.Memory) }
-    ensures shown_complete { LooksAtImage words.now →
+    ensures shown_complete { LooksAtImage arguments.now →
         IfSome (S.held source.old) (λ bytes. length bytes ≤ IMAGE_LIMIT) →
         IsSome (S.held source.old) → (Rose (S.faults source.old) (S.faults source.new) → ⊥) →
         (Rose (K.faults sink.old) (K.faults sink.new) → ⊥) →
         (result ≡ Status.Done) ⊎ ((result ≡ Status.Memory) ⊎ (result ≡ Status.BadImage)) }
 
     // What was written before a fault.
-    ensures read_before { (options : Options) → SaysRun words.now options → result ≡ Status.ReadFault → (taken : List ℕ)
-        × Answered options ended_lines
+    ensures read_before { (options : Options) → SaysRun arguments.now options → result ≡ Status.ReadFault →
+        (taken : List ℕ) × Answered options ended_lines
         (S.held source.old) (S.held source.new) (K.written sink.old) (K.written sink.new) taken
         × (length taken ≤ SCRIPT_LIMIT) }
-    ensures write_before { (options : Options) → SaysRun words.now options → result ≡ Status.WriteFault →
+    ensures write_before { (options : Options) → SaysRun arguments.now options → result ≡ Status.WriteFault →
         CutShort options SCRIPT_LIMIT
         (S.held source.old) (S.held source.new) (K.written sink.old) (K.written sink.new) }
 
     // Of a generated script only the summary of the last state is written, and nothing is read.
-    ensures soak { (options : Options) (seed count : ℕ) → SaysSoak words.now options seed count →
+    ensures soak { (options : Options) (seed count : ℕ) → SaysSoak arguments.now options seed count →
         result ≡ Status.Done → (soaked : Soaked options seed count (K.written sink.old) (K.written sink.new))
         × IsSomeAnd end_state.new (λ runtime. StandsFor runtime soaked.last) }
-    ensures soak_before { (options : Options) (seed count : ℕ) → SaysSoak words.now options seed count →
+    ensures soak_before { (options : Options) (seed count : ℕ) → SaysSoak arguments.now options seed count →
         result ≡ Status.WriteFault → SoakCutShort options seed count (K.written sink.old) (K.written sink.new) }
-    ensures soak_unread { (options : Options) (seed count : ℕ) → SaysSoak words.now options seed count →
+    ensures soak_unread { (options : Options) (seed count : ℕ) → SaysSoak arguments.now options seed count →
         source.new ≡ source.old }
-    ensures soak_complete { (options : Options) (seed count : ℕ) → SaysSoak words.now options seed count →
+    ensures soak_complete { (options : Options) (seed count : ℕ) → SaysSoak arguments.now options seed count →
         (result ≡ Status.Done) ⊎ ((result ≡ Status.WriteFault) ⊎ (result ≡ Status.Memory)) }
 {
     drop(end_state.take());
-    let Ok(said) = words.command() else {
+    let Ok(said) = arguments.command() else {
         return Status::Memory;
     };
     let Some(command) = said else {

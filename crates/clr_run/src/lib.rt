@@ -1,9 +1,10 @@
-//! A command from its words to its bytes.
+//! A command from its arguments to its bytes.
 #![tactic(auto)]
 
 mod command;
 mod making;
 
+pub use clr_args::Arguments;
 pub use clr_image_io::IMAGE_LIMIT;
 pub use clr_runtime::{NoMemory, Runtime};
 pub use clr_session::SCRIPT_LIMIT;
@@ -11,5 +12,4 @@ pub use clr_streams::{
     Failed, MemorySink, MemorySource, PlainSink, PlainSource, ReadAdapter, Sink, Source, Status,
     WriteAdapter,
 };
-pub use clr_words::Words;
 pub use command::run;

@@ -2,14 +2,14 @@
 ghost use Rattle.std.specs.Prelude.{◌<◌};
 
 mod adapters;
+mod arguments;
 mod faults;
 mod images;
 mod lines;
 mod looks;
 mod scripts;
-mod words;
 
-use clr_run::{MemorySink, MemorySource, Sink, Source, Status, Words, run};
+use clr_run::{Arguments, MemorySink, MemorySource, Sink, Source, Status, run};
 use std::alloc::Global;
 use std::process::Abort;
 use std::test::Fail;
@@ -22,26 +22,26 @@ fn bytes_of(alloc: Global, bytes: &[u8]) -> Result<Vec<u8>, Fail> {
     Ok(Vec::from_slice(alloc, bytes)?)
 }
 
-/// The words of a command line.
-fn words_of(alloc: Global, texts: &[&str]) -> Result<Words, Fail> {
-    let mut words = Words::new(alloc)?;
+/// The arguments of a command line.
+fn arguments_of(alloc: Global, texts: &[&str]) -> Result<Arguments, Fail> {
+    let mut arguments = Arguments::new(alloc)?;
     for text in texts {
-        words.push(text)?;
+        arguments.push(text)?;
     }
-    Ok(words)
+    Ok(arguments)
 }
 
-/// How the command of these words ends. It promises nothing, so that what `run` ensures doesn't stand in each test's
-/// goals.
+/// How the command of these arguments ends. It promises nothing, so that what `run` ensures doesn't stand in the goals
+/// of each test.
 fn status_of<S: Source, K: Sink>(
     alloc: Global,
     texts: &[&str],
     source: &mut S,
     sink: &mut K,
 ) -> Result<Status, Fail> {
-    let words = words_of(alloc, texts)?;
+    let arguments = arguments_of(alloc, texts)?;
     let mut end_state = None;
-    let status = run(alloc, &words, source, sink, &mut end_state);
+    let status = run(alloc, &arguments, source, sink, &mut end_state);
     drop(end_state);
     Ok(status)
 }

@@ -1,6 +1,6 @@
--- What a command answers: what its own function does, with the options that the words say.
+-- What a command answers: what its own function does, with the options that the arguments say.
 use Rattle.std.proofs.Common.{◌∙◌, ap, Some}
-use Rattle.clr_words.specs.declared.command_line.CommandLine.TheVariants.{Inspect, Migrate}
+use Rattle.clr_args.specs.declared.command_line.CommandLine.TheVariants.{Inspect, Migrate}
 use Rattle.clr_run.proofs.SaidRuns.{image_options, no_look, no_other, not_none, run_options, soak_options}
 use Rattle.clr_run.proofs.Statuses.{no_usage, read_too_long, status_left, status_shown, too_long}
 use Rattle.clr_run.proofs.command.run.Goals as goal
@@ -129,7 +129,7 @@ returns-in-Migrate-clause-shown_complete g c = λ says short some unread unwritt
     status_shown c.migrate_source.result shown.usage (λ e. unread (shown.read_fault e))
     (λ e. unwritten (shown.write_fault e)) (λ e. read_too_long _ _ _ (shown.shows.too_much e) some short)
 
--- ---- words that say nothing
+-- ---- arguments that say nothing
 
 pub returns-in_default-said-clause-complete : goal.returns-in_default-said-clause-complete
 returns-in_default-said-clause-complete g c = λ options says short some unread unwritten.

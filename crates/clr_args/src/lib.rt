@@ -1,0 +1,16 @@
+//! The arguments of the command line: which command they say, with which options.
+#![tactic(auto)]
+
+mod arguments;
+mod command_line;
+pub mod laws;
+mod no_memory;
+mod parser;
+mod settings;
+#[cfg(test)]
+mod tests;
+
+pub use arguments::Arguments;
+pub use command_line::CommandLine;
+pub use no_memory::NoMemory;
+pub use settings::Settings;

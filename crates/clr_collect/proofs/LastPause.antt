@@ -5,7 +5,7 @@ use Rattle.std.specs.Ordering.{nat_cmp}
 use Rattle.clr_types.specs.declared.handle.Handle.{Handle}
 use Rattle.clr_types.proofs.RisingLists.{all_at}
 use Rattle.clr_final.specs.Queues.{Queues}
-use Rattle.clr_heap.specs.View.{HeapView, IsHeap}
+use Rattle.clr_heap.specs.View.{HeapView}
 use Rattle.clr_model.specs.declared.Collected.{Collected}
 use Rattle.clr_model.specs.declared.How.TheVariants.{Sweep}
 use Rattle.clr_model.specs.Collection.{begun, EndsBackground}
@@ -70,8 +70,7 @@ module _ (m : Machine) (marking : Marking) (answer : Collected) (new : Machine) 
 -- and when empty segments were given back.
 module _ (w : World) (marking : Marking) (marked : HeapView) (handles : FinMap nat_cmp Handle) (queues : Queues)
     (least : 2 ≤ 2) (k : HasMarkedKept w (LastPauseStart marking) marked handles queues 2) (swept : HeapView)
-    (swept_heap : IsHeap swept) (s : HasSwept w.rows marked swept 2) (new : HeapView)
-    (ended : HasReleased w.rows swept new) where
+    (s : HasSwept w.rows marked swept 2) (new : HeapView) (ended : HasReleased w.rows swept new) where
   -- THE END of the background collection, in every machine whose world it is
   pub last_pause_ends : (tally : Tally) → tally ≡ tally_of w.rows marked 2 → (answer : Collected)
       → answer ≡ record {
@@ -88,7 +87,7 @@ module _ (w : World) (marking : Marking) (marked : HeapView) (handles : FinMap n
       → (next : Machine) × EndsBackground m marking answer next
       × IsWorldOf (world_with w.rows new w.locals handles queues) (picture next)
   last_pause_ends tally counted answer same m is named idle =
-      let next : Machine = after w marked handles queues 2 least k swept swept_heap s new ended m is named answer in
+      let next : Machine = after w marked handles queues 2 least k swept s new ended m is named answer in
       let c : EndsBackground m marking answer next =
       ends_from m marking answer next
       (sweep_collects (begun m) (begun_laid w marked handles queues 2 least k m named) 2 least k.first
@@ -103,5 +102,5 @@ module _ (w : World) (marking : Marking) (marked : HeapView) (handles : FinMap n
         next,
         c,
         subst (IsWorldOf (world_with w.rows new w.locals handles queues)) (sym still)
-            (world-after w marked handles queues 2 least k swept swept_heap s new ended m is named answer),
+            (world-after w marked handles queues 2 least k swept s new ended m is named answer),
       )

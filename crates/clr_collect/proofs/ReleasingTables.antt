@@ -54,7 +54,7 @@ module _ (rows : List TypeRow) (old now : HeapView) (base left k : ℕ) (next : 
   -- it is given back
   pub tables_lost : (new : HeapView) (cards' : List (CoverView ℕ)) (bricks' : List (CoverView ℤ))
       → is_needed base (segment_at now k) ≡ false → old.rests ≡ no_rests
-      → new ≡ record now { memories = remove now.memories k; segments = remove now.segments k } → IsHeap new
+      → new ≡ record now { memories = remove now.memories k; segments = remove now.segments k }
       → ((i : ℕ) → is_covered cards' i ≡ true → is_card_set cards' i ≡ is_card_set cards i)
       → ((i : ℕ) → is_covered bricks' i ≡ true → entry_at bricks' i ≡ entry_at bricks i)
       → ((j : ℕ) → j < length cards → (get_or (spans cards) j (0, 0)).0 ≡ (segment_at now k).base / 2048
@@ -62,7 +62,7 @@ module _ (rows : List TypeRow) (old now : HeapView) (base left k : ℕ) (next : 
       → ((j : ℕ) → j < length bricks → (get_or (spans bricks) j (0, 0)).0 ≡ (segment_at now k).base / 4096
       → spans bricks' ≡ remove (spans bricks) j)
       → IsReleasingTables rows old new base k cards' bricks'
-  tables_lost new cards' bricks' off none is heap sets entries card_spans brick_spans =
+  tables_lost new cards' bricks' off none is sets entries card_spans brick_spans =
       let lost = r.releasing.lost in
       let low = (lawful_at now k lost.heap inside).low in
       let idle = spare base (segment_at now k) off in
@@ -70,10 +70,10 @@ module _ (rows : List TypeRow) (old now : HeapView) (base left k : ℕ) (next : 
       let empty : last_of now k ≡ first_of now k = omega arith in
       let rests : now.rests ≡ no_rests = ap (λ (g : HeapView). g.rests) lost.others ∙ none in
       record {
-        releasing = releasing_lost rows old now base left k next r.releasing new off none is heap;
+        releasing = releasing_lost rows old now base left k next r.releasing new off none is;
         tables =
             tables_left rows now lost.heap lost.held k inside empty idle.1 (remove now.memories k) new is
-            (segment_lost rows now lost.heap lost.held k inside empty new is heap rests idle.1) cards bricks r.tables
+            (segment_lost rows now lost.heap lost.held k inside empty new is rests idle.1) cards bricks r.tables
             cards' bricks' sets entries card_spans brick_spans;
       }
 

@@ -14,7 +14,7 @@ use Rattle.clr_types.specs.Types.{TypeRow}
 use Rattle.clr_types.specs.declared.segment.SegInfo.{SegInfo}
 use Rattle.clr_types.proofs.ChangedLists.{IsIn-map}
 use Rattle.clr_types.proofs.ListMembers.{any-map, filter-map, filter-on, map-map, sum-mapped}
-use Rattle.clr_heap.specs.View.{frame, HeapView, IsHeap}
+use Rattle.clr_heap.specs.View.{frame, HeapView}
 use Rattle.clr_model.specs.declared.Collected.{Collected}
 use Rattle.clr_model.specs.declared.How.{How}
 use Rattle.clr_model.specs.declared.How.TheVariants.{Sweep}
@@ -324,16 +324,15 @@ module _ (m : Machine) (h : IsLaid m) (g : ℕ) (least : g ≤ 2) (first kept : 
           ∙ any-map change (λ o. stands_in t o.place) (filter (λ o. kept o.name) m.objects)
           ∙ swept_occupied m h kept t there l
 
-      module _ (swept_heap : IsHeap swept) (new : HeapView)
-          (ended : MatchBool (g == 2) (HasReleased rows swept new) (new ≡ swept)) where
+      module _ (new : HeapView) (ended : MatchBool (g == 2) (HasReleased rows swept new) (new ≡ swept)) where
         -- what the machine has, the heap holds at the end: a full collection gives back the segments in which nothing
         -- stands
         ends : (b : Bool) → (g == 2) ≡ b → MatchBool b (HasReleased rows swept new) (new ≡ swept)
             → (objects_in rows new ≡ objects_in rows swept)
             × (layout_in rows new ≡ (if b then released laid (objects_after m first kept []) else laid))
         ends true e r = (
-          lost_objects rows swept new swept_heap s.held r.lost,
-          released_layout rows swept swept_heap s.held new (swept_full (eqb-true g 2 e)) r
+          lost_objects rows swept new s.heap s.held r.lost,
+          released_layout rows swept s.heap s.held new (swept_full (eqb-true g 2 e)) r
               ∙ ap₂ released layout-swept (sym objects-after),
         )
         ends false e same = (ap (objects_in rows) same, ap (layout_in rows) same ∙ layout-swept)

@@ -9,7 +9,7 @@ use Rattle.clr_types.specs.declared.handle.Handle.{Handle}
 use Rattle.clr_final.specs.Queues.{Queues}
 use Rattle.clr_bricks.specs.Bricks.{entry_at}
 use Rattle.clr_covers.specs.Covers.{CoverView, spans}
-use Rattle.clr_heap.specs.View.{frame, HeapView, IsHeap}
+use Rattle.clr_heap.specs.View.{frame, HeapView}
 use Rattle.clr_model.specs.Lawful.{IsPlaceNamed}
 use Rattle.clr_model.specs.Lookups.{lowest_in_step}
 use Rattle.clr_model.specs.Machine.{Machine}
@@ -29,9 +29,9 @@ use Rattle.clr_collect.proofs.WholeCollection.{clean-swept, whole_tables}
 
 -- no context is left
 pub tidy_given : (rows : List TypeRow) (was : Space) (new : HeapView) → IsTidy rows was
-    → HasGivenUp rows was.heap new → IsHeap new → IsTidy rows (record was { heap = new })
-tidy_given rows was new t given heap = record {
-  heap = heap;
+    → HasGivenUp rows was.heap new → IsTidy rows (record was { heap = new })
+tidy_given rows was new t given = record {
+  heap = given.heap;
   held = given.held;
   clean = given.clean t.clean;
   free_heads = given.free_heads t.free_heads;
@@ -54,19 +54,18 @@ tidy_kept w was now handles queues g same t k tables = record {
 -- what isn't kept is swept
 pub tidy_swept : {start : Machine → ℕ → Type 0} (w : World) (was : Space) (handles : FinMap nat_cmp Handle)
     (queues : Queues) (g : ℕ) (least : g ≤ 2) (k : HasMarkedKept w start was.heap handles queues g)
-    (swept : HeapView) (heap : IsHeap swept) (s : HasSwept w.rows was.heap swept g)
+    (swept : HeapView) (s : HasSwept w.rows was.heap swept g)
     → (m : Machine) × IsWorldOf w m × IsPlaceNamed m × (lowest_in_step m ≡ None) → IsTidy w.rows was
     → (bricks : List (CoverView ℤ)) → spans bricks ≡ spans was.bricks
     → BrickLaw w.rows (frame swept) (objects_in w.rows swept) (entry_at bricks)
     → IsTidy w.rows (record was { heap = swept; bricks = bricks })
-tidy_swept w was handles queues g least k swept heap s known t bricks spans law = record {
-  heap = heap;
+tidy_swept w was handles queues g least k swept s known t bricks spans law = record {
+  heap = s.heap;
   held = s.held;
-  clean = clean-swept w was.heap handles queues g least k swept heap s t.clean;
+  clean = clean-swept w was.heap handles queues g least k swept s t.clean;
   free_heads = s.free_heads (inr t.free_heads);
   tables =
-      whole_tables w was.heap handles queues g least k swept heap s known was.cards was.bricks bricks t.tables spans
-      law;
+      whole_tables w was.heap handles queues g least k swept s known was.cards was.bricks bricks t.tables spans law;
 }
 
 -- segments are given back, or aren't

@@ -18,7 +18,7 @@ use Rattle.clr_types.proofs.ChangedLists.{IsIn-map, out_of_filter}
 use Rattle.clr_types.proofs.ListMembers.{map-map}
 use Rattle.clr_final.specs.Queues.{Queues}
 use Rattle.clr_heap.specs.Parts.{item_at}
-use Rattle.clr_heap.specs.View.{frame, HeapView, IsHeap, no_rests, word_of}
+use Rattle.clr_heap.specs.View.{frame, HeapView, no_rests, word_of}
 use Rattle.clr_model.specs.declared.Collected.{Collected}
 use Rattle.std.proofs.Common.{◌+◌, ◌-◌, not, ◌||◌, nat_le}
 use Rattle.clr_model.specs.Collection.{begun, object_after}
@@ -115,7 +115,7 @@ module _ {start : Machine → ℕ → Type 0} (w : World) (marked : HeapView) (h
 
   -- ---- afterwards
 
-  module _ (swept : HeapView) (swept_heap : IsHeap swept) (s : HasSwept w.rows marked swept g) where
+  module _ (swept : HeapView) (s : HasSwept w.rows marked swept g) where
     -- a sweep gives no context
     pub none_given : Known → swept.rests ≡ no_rests
     none_given (m, is, named, idle) =
@@ -140,8 +140,8 @@ module _ {start : Machine → ℕ → Type 0} (w : World) (marked : HeapView) (h
         → word_of swept x ≡ word_of marked x
     older-word x stands above =
         let i = item_at w.rows (word_of swept) x in
-        let at = stands-item w.rows swept swept_heap s.held x stands in
-        let here = standing w.rows swept swept_heap s.held i at.listed in
+        let at = stands-item w.rows swept s.heap s.held x stands in
+        let here = standing w.rows swept s.heap s.held i at.listed in
         let least = here.least in
         let place = at.at in
         let z : x % 8 ≡ 0 = subst (λ (p : ℕ). p % 8 ≡ 0) at.at here.aligned in
@@ -173,7 +173,7 @@ module _ {start : Machine → ℕ → Type 0} (w : World) (marked : HeapView) (h
     -- all that stays was there before, and the sweep clears only marks
     pub clean-swept : AreClean w.rows marked → AreClean w.rows swept
     clean-swept =
-        clean_but_marks w.rows marked swept k.heap k.held swept_heap s.held (λ o i.
+        clean_but_marks w.rows marked swept k.heap k.held s.heap s.held (λ o i.
         let listed = subst (λ (os : List Object). IsIn o os) s.objects i in
         (out_of_filter (is_left marked g) o (objects_in w.rows marked) listed).1)
         (λ i b was l object aligned low high apart.
@@ -191,7 +191,7 @@ module _ {start : Machine → ℕ → Type 0} (w : World) (marked : HeapView) (h
         where
           go : (b : Bool) → MatchBool b (HasReleased w.rows swept new) (new ≡ swept) → HasLost w.rows swept new
           go true r = r.lost
-          go false same = subst (HasLost w.rows swept) (sym same) (lost-refl w.rows swept swept_heap s.held)
+          go false same = subst (HasLost w.rows swept) (sym same) (lost-refl w.rows swept s.heap s.held)
 
       abbrev pub world : World
       world = world_with w.rows new w.locals handles queues
@@ -211,7 +211,7 @@ module _ {start : Machine → ℕ → Type 0} (w : World) (marked : HeapView) (h
         memory-after : (answer : Collected) → IsMemoryOf w.rows new (after answer)
         memory-after =
             swept_memory (begun m) (begun_laid m named) g least k.first left (older_kept m is named) w.rows marked
-            (due_memory m is named) k.marks swept s swept_heap new ended
+            (due_memory m is named) k.marks swept s new ended
 
         pub world-after : (answer : Collected) → IsWorldOf world (after answer)
         world-after answer = record {
@@ -248,12 +248,12 @@ module _ {start : Machine → ℕ → Type 0} (w : World) (marked : HeapView) (h
       -- nor in what is left of it
       pub none_marked : IsUnmarked w.rows new
       none_marked x u =
-          let objects = lost_objects w.rows swept new swept_heap s.held lost in
+          let objects = lost_objects w.rows swept new s.heap s.held lost in
           let stands : StandsAt w.rows swept x = subst (λ (os : List Object). (o : Object) × IsIn o os × (o.place ≡ x))
           objects u.stands in
           let i = item_at w.rows (word_of swept) x in
-          let at = stands-item w.rows swept swept_heap s.held x stands in
-          let here = standing w.rows swept swept_heap s.held i at.listed in
+          let at = stands-item w.rows swept s.heap s.held x stands in
+          let here = standing w.rows swept s.heap s.held i at.listed in
           let least = here.least in
           let place = at.at in
           let same : word_of new x ≡ word_of swept x = lost.cells i x at.listed (omega arith) (omega arith) in

@@ -27,7 +27,7 @@ use crate::releasing::release_empty;
 use crate::sliding::slide_and_release;
 use crate::workshop::Workshop;
 use clr_compact::Slides;
-use clr_ctx::Contexts;
+use clr_ctx::YoungItems;
 use clr_evacuate::fit_and_move;
 use clr_generations::Space;
 use clr_mark::Marker;
@@ -68,9 +68,9 @@ use clr_types::Types;
 /// as many entries as before. Of the workshop, the queue of saved words is empty before and after, with room for four
 /// entries more than there are pinned handles, and `slides` counts one for a compaction, and each byte of a plug that
 /// went; a slide of the large heap counts neither way. It takes no memory: the finalisation queue and the queue of
-/// saved words have room for no more than they had room for, nor has the marker's stack. The index of the contexts is
-/// that of a heap without free items of generation 0 after a sweep, which leaves none, and after a compaction it is
-/// dropped: it is made anew where room is next wanted.
+/// saved words have room for no more than they had room for, nor has the marker's stack. The index of young free
+/// items is that of none after a sweep, which leaves none, and after a compaction it is dropped: it is made anew where
+/// room is next wanted.
 pub fn collect(
     types: &Types,
     space: &mut Space,
@@ -96,10 +96,10 @@ pub fn collect(
     ensures flag { workshop.new.compacts_large ≡ workshop.old.compacts_large && not (g == 2) }
     ensures tidy { IsTidy types.now space.new }
     ensures unmarked { IsUnmarked types.now space.new.heap }
-    ensures index { IsIndex types.now space.new.heap workshop.new.contexts }
+    ensures index { IsIndex types.now space.new.heap workshop.new.young }
     ensures limit { space.new.heap.limit ≡ space.old.heap.limit }
     ensures marker { workshop.new.marker ≡ record workshop.old.marker { stack = []; range = None; oldest = g } }
-    ensures index_after { MatchBool result.compacted (workshop.new.contexts ≡ None) (workshop.new.contexts ≡ Some []) }
+    ensures index_after { MatchBool result.compacted (workshop.new.young ≡ None) (workshop.new.young ≡ Some []) }
     ensures spare { roots.old.finals.spare ≤ roots.new.finals.spare }
     ensures none_added { roots.new.finals.spare + length roots.new.finals.entries
         ≤ roots.old.finals.spare + length roots.old.finals.entries }
@@ -111,14 +111,13 @@ pub fn collect(
         space,
         roots,
         &mut workshop.marker,
-        &mut workshop.contexts,
+        &mut workshop.young,
         g,
     );
     let Some(tally) = counted_to_compact(&space.heap, types, g, how, threshold) else {
         let swept = sweep(&mut space.heap, types, &mut space.bricks, g);
-        space.heap.lawful();
         slide_and_release(types, space, roots, workshop, g);
-        workshop.contexts.forget();
+        workshop.young.forget();
         return answer(g, false, false, swept);
     };
     let promoted = move_kept(
@@ -131,7 +130,7 @@ pub fn collect(
         how,
     );
     slide_and_release(types, space, roots, workshop, g);
-    workshop.contexts.lose();
+    workshop.young.lose();
     answer(
         g,
         true,
@@ -233,7 +232,7 @@ fn mark_kept(
     space: &mut Space,
     roots: &mut Roots,
     marker: &mut Marker,
-    contexts: &mut Contexts,
+    young: &mut YoungItems,
     g: u8,
 )
     requires generation { g ≤ 2 }
@@ -249,7 +248,7 @@ fn mark_kept(
     ensures none_added { roots.new.finals.spare + length roots.new.finals.entries
         ≤ roots.old.finals.spare + length roots.old.finals.entries }
 {
-    mark_alive(types, space, roots, marker, contexts, g);
+    mark_alive(types, space, roots, marker, young, g);
     leave_kept(
         types,
         &mut space.heap,
@@ -265,7 +264,7 @@ fn mark_alive(
     space: &mut Space,
     roots: &Roots,
     marker: &mut Marker,
-    contexts: &mut Contexts,
+    young: &mut YoungItems,
     g: u8,
 )
     requires generation { g ≤ 2 }
@@ -277,7 +276,7 @@ fn mark_alive(
     ensures marker { marker.new ≡ record marker.old { stack = []; range = None; oldest = g } }
     ensures tables { AreTablesOf types.now space.new.heap space.new.cards space.new.bricks }
 {
-    give_up_contexts(types, space, contexts);
+    give_up_contexts(types, space, young);
     marker.begin(g);
     let ready = roots
         .finals
@@ -293,13 +292,12 @@ fn mark_alive(
     );
 }
 
-// Drops the index of free items, so that none has to go into it, and gives up all contexts.
-pub(crate) fn give_up_contexts(types: &Types, space: &mut Space, contexts: &mut Contexts)
+// Drops the index of young free items, so that none has to go into it, and gives up all contexts.
+pub(crate) fn give_up_contexts(types: &Types, space: &mut Space, young: &mut YoungItems)
     requires tidy { IsTidy types.now space.old }
     ensures given { HasGivenUp types.now space.old.heap space.new.heap }
     ensures tidy { IsTidy types.now space.new }
 {
-    contexts.lose();
-    contexts.give_up_all(&mut space.heap, types);
-    space.heap.lawful();
+    young.lose();
+    young.give_up_all(&mut space.heap, types);
 }

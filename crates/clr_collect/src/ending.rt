@@ -22,7 +22,7 @@ use crate::collecting::{answer, give_up_contexts, release_after};
 use crate::judging::leave_kept;
 use crate::workshop::Workshop;
 use clr_bgmark::Background;
-use clr_ctx::Contexts;
+use clr_ctx::YoungItems;
 use clr_generations::Space;
 use clr_mark::Marker;
 use clr_model::Collected;
@@ -46,9 +46,9 @@ use clr_types::Types;
 ///
 /// The answer counts the objects that stay and those that go, and the bytes that went from generation 0 to 1 and from
 /// 1 to 2. Heap, cards and bricks are tidy before and after, nothing is marked, and as many handles are pinned. Of the
-/// workshop, nothing waits in the marker, and the index of the contexts is that of a heap without free items of
-/// generation 0; the rest of it stays. It takes no memory: the finalisation queue has room for as many entries as
-/// before, and for no more than it had room for.
+/// workshop, nothing waits in the marker, and the index of young free items is that of none; the rest of it stays. It
+/// takes no memory: the finalisation queue has room for as many entries as before, and for no more than it had room
+/// for.
 pub fn end_background(
     types: &Types,
     space: &mut Space,
@@ -69,11 +69,11 @@ pub fn end_background(
     ensures background { background.new ≡ record { running = false; shades = []; gray = 0 } }
     ensures tidy { IsTidy types.now space.new }
     ensures unmarked { IsUnmarked types.now space.new.heap }
-    ensures index { IsIndex types.now space.new.heap workshop.new.contexts }
+    ensures index { IsIndex types.now space.new.heap workshop.new.young }
     ensures limit { space.new.heap.limit ≡ space.old.heap.limit }
     ensures workshop { workshop.new ≡ record workshop.old {
       marker = record workshop.old.marker { stack = []; range = None; oldest = 2 };
-      contexts = Some [];
+      young = Some [];
     } }
     ensures locals { roots.new.locals ≡ roots.old.locals }
     ensures spare { roots.old.finals.spare ≤ roots.new.finals.spare }
@@ -86,13 +86,12 @@ pub fn end_background(
         space,
         roots,
         &mut workshop.marker,
-        &mut workshop.contexts,
+        &mut workshop.young,
         background,
     );
     let swept = sweep(&mut space.heap, types, &mut space.bricks, 2);
-    space.heap.lawful();
     release_after(types, space, 2);
-    workshop.contexts.forget();
+    workshop.young.forget();
     Collected {
         background: true,
         ..answer(2, false, false, swept)
@@ -106,7 +105,7 @@ fn mark_found_kept(
     space: &mut Space,
     roots: &mut Roots,
     marker: &mut Marker,
-    contexts: &mut Contexts,
+    young: &mut YoungItems,
     background: &mut Background,
 )
     requires tidy { IsTidy types.now space.old }
@@ -125,7 +124,7 @@ fn mark_found_kept(
     ensures none_added { roots.new.finals.spare + length roots.new.finals.entries
         ≤ roots.old.finals.spare + length roots.old.finals.entries }
 {
-    mark_found_alive(types, space, roots, marker, contexts, background);
+    mark_found_alive(types, space, roots, marker, young, background);
     leave_kept(
         types,
         &mut space.heap,
@@ -141,7 +140,7 @@ fn mark_found_alive(
     space: &mut Space,
     roots: &Roots,
     marker: &mut Marker,
-    contexts: &mut Contexts,
+    young: &mut YoungItems,
     background: &mut Background,
 )
     requires tidy { IsTidy types.now space.old }
@@ -156,7 +155,7 @@ fn mark_found_alive(
     ensures marker { marker.new ≡ record marker.old { stack = []; range = None; oldest = 2 } }
     ensures tables { AreTablesOf types.now space.new.heap space.new.cards space.new.bricks }
 {
-    give_up_contexts(types, space, contexts);
+    give_up_contexts(types, space, young);
     background.finish(
         &mut space.heap,
         types,

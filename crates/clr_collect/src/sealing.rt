@@ -1,7 +1,7 @@
 // The ephemeral segment, sealed: it becomes a small one, and a new one takes its place.
 ghost use Rattle.std.specs.Prelude.{◌≡◌, ◌↔◌, ◌+◌, ◌%◌, ◌<◌, ◌≤◌, Err, OnErr, OnOk};
 ghost use Rattle.clr_types.specs.Segments.{reserved_sum};
-ghost use Rattle.clr_heap.specs.View.{acquired, frame, no_rests};
+ghost use Rattle.clr_heap.specs.View.{acquired, frame, IsHeap, no_rests};
 ghost use Rattle.clr_model.specs.Allocation.{sealed};
 ghost use Rattle.clr_model.specs.Lawful.{IsLaid};
 ghost use Rattle.clr_model.specs.Machine.{Machine};
@@ -40,6 +40,7 @@ pub fn seal(
     ensures sealed { OnOk result (heap.new ≡ acquired heap.old SegKind.Ephemeral size) }
     ensures objects { objects_in types.now heap.new ≡ objects_in types.now heap.old }
     ensures layout { OnOk result (layout_in types.now heap.new ≡ sealed (layout_in types.now heap.old) size) }
+    ensures lawful { IsHeap heap.new }
     ensures held { IsHeld types.now heap.new }
     ensures unmarked { IsUnmarked types.now heap.old → IsUnmarked types.now heap.new }
     ensures free_heads { AreFreeHeads types.now heap.old → AreFreeHeads types.now heap.new }
@@ -50,9 +51,8 @@ pub fn seal(
     ensures err { OnErr result (heap.new ≡ heap.old) }
 {
     let k = heap.ephemeral();
-    let (_, young) = heap.boundaries();
+    let (_, start0) = heap.boundaries();
     acquire(heap, cards, bricks, SegKind::Ephemeral, size)?;
-    heap.lawful();
-    renew_aged_bricks(heap, types, bricks, k, young);
+    renew_aged_bricks(heap, types, bricks, k, start0);
     Ok(())
 }

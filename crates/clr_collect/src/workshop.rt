@@ -1,6 +1,6 @@
 //! What collections work with beside the heap.
 use clr_compact::Slides;
-use clr_ctx::Contexts;
+use clr_ctx::YoungItems;
 use clr_mark::Marker;
 use clr_pinq::PinQueue;
 
@@ -8,8 +8,8 @@ use clr_pinq::PinQueue;
 #[derive(Drop)]
 pub struct Workshop {
     pub marker: Marker,
-    /// The index of free items for the contexts.
-    pub contexts: Contexts,
+    /// The index of young free items, of which contexts are made.
+    pub young: YoungItems,
     /// The queue of saved words. It is empty between two collections.
     pub pins: PinQueue,
     pub slides: Slides,

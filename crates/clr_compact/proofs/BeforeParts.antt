@@ -13,10 +13,10 @@ use Rattle.clr_plugs.specs.Info.{HasInfo, IsInfoWord}
 use Rattle.clr_moves.specs.Moves.{part_of, takes}
 use Rattle.clr_moves.specs.Overlaid.{IsOutside}
 use Rattle.clr_compact.specs.Overlaid.{AreSavedBefore, IsPartStart, IsPartWord}
-use Rattle.clr_moves.specs.declared.parts.Parts.{Parts}
+use Rattle.clr_moves.specs.declared.condemned.Condemned.{Condemned}
 
 -- the words before the first k parts are those that were saved, and all logical words are as they were
-pub record IsPuttingBefore (old now : HeapView) (es : List PinEntry) (g : Parts) (k : ℕ) : Type 0 where
+pub record IsPuttingBefore (old now : HeapView) (es : List PinEntry) (g : Condemned) (k : ℕ) : Type 0 where
   pub shape : SameShape old now
   pub whole : (b : ℕ) → b % 8 ≡ 0 → logical es (word_of now) b ≡ logical es (word_of old) b
   pub done : (b t : ℕ) → b % 8 ≡ 0 → t < k → t < length old.segments → takes g (segment_at old t) ≡ true
@@ -24,7 +24,7 @@ pub record IsPuttingBefore (old now : HeapView) (es : List PinEntry) (g : Parts)
   pub parts : (b : ℕ) → b % 8 ≡ 0 → IsPartWord old g b → word_of now b ≡ word_of old b
 
 -- all parts are done
-pub put_outside : (old now : HeapView) (es : List PinEntry) (g : Parts) (n : ℕ) → IsPuttingBefore old now es g n
+pub put_outside : (old now : HeapView) (es : List PinEntry) (g : Condemned) (n : ℕ) → IsPuttingBefore old now es g n
     → length old.segments ≤ n → AreSavedBefore old es g → (b : ℕ) → b % 8 ≡ 0 → IsOutside old g b
     → word_of now b ≡ logical es (word_of old) b
 put_outside old now es g n p all saved b z out = go (queue_word es b) refl
@@ -34,7 +34,7 @@ put_outside old now es g n p all saved b z out = go (queue_word es b) refl
     go (Some w) e = let s = saved.saved b z out (subst IsSome (sym e) refl) in let l = s.in_range in
         p.done b s.segment z (omega (arith, l, all)) l s.takes s.info
 
-pub putting_before_begins : (h : HeapView) (es : List PinEntry) (g : Parts) → IsPuttingBefore h h es g 0
+pub putting_before_begins : (h : HeapView) (es : List PinEntry) (g : Condemned) → IsPuttingBefore h h es g 0
 putting_before_begins h es g =
     record {
       shape = SameShape-refl h;
@@ -44,7 +44,7 @@ putting_before_begins h es g =
     }
 
 -- the words before a part lie in its segment
-pub part_info : (old now : HeapView) (g : Parts) (t : ℕ) → IsHeap old → SameShape old now → t < length old.segments
+pub part_info : (old now : HeapView) (g : Condemned) (t : ℕ) → IsHeap old → SameShape old now → t < length old.segments
     → IsPartStart old g t → HasInfo now (part_of old g t)
 part_info old now g t heap shape l start =
     let low = start.low in
@@ -58,7 +58,7 @@ part_info old now g t heap shape l start =
     }
 
 -- no word of a part lies before a part
-apart : (old : HeapView) (es : List PinEntry) (g : Parts) (k b : ℕ) → IsHeap old → AreSavedBefore old es g
+apart : (old : HeapView) (es : List PinEntry) (g : Condemned) (k b : ℕ) → IsHeap old → AreSavedBefore old es g
     → k < length old.segments → takes g (segment_at old k) ≡ true → IsPartWord old g b → IsInfoWord (part_of old g k) b
     → ⊥
 apart old es g k b heap saved l on p (i, j) =
@@ -81,7 +81,7 @@ again None w = refl
 again (Some v) w = refl
 
 -- the words before one part more
-pub put_more : (old now : HeapView) (es : List PinEntry) (g : Parts) (k : ℕ) → IsPuttingBefore old now es g k
+pub put_more : (old now : HeapView) (es : List PinEntry) (g : Condemned) (k : ℕ) → IsPuttingBefore old now es g k
     → IsHeap old
     → AreSavedBefore old es g → k < length old.segments → takes g (segment_at old k) ≡ true
     → (new : HeapView) → SameShape now new
@@ -142,7 +142,7 @@ put_plain es now place up plain b z (i, j) =
     sym (ap (λ o. or_else o (now b)) (plain b (omega (arith, i)) (omega (arith, j, up))))
 
 -- a segment without a part
-pub put_skip : (old now : HeapView) (es : List PinEntry) (g : Parts) (k : ℕ) → IsPuttingBefore old now es g k
+pub put_skip : (old now : HeapView) (es : List PinEntry) (g : Condemned) (k : ℕ) → IsPuttingBefore old now es g k
     → takes g (segment_at old k) ≡ false → IsPuttingBefore old now es g (k + 1)
 put_skip old now es g k p off = record {
   shape = p.shape;
@@ -156,9 +156,9 @@ put_skip old now es g k p off = record {
 }
 
 -- a part begins where it began
-pub part_still : (old now : HeapView) (g : Parts) (t : ℕ) → SameShape old now → part_of now g t ≡ part_of old g t
+pub part_still : (old now : HeapView) (g : Condemned) (t : ℕ) → SameShape old now → part_of now g t ≡ part_of old g t
 part_still old now g t shape = ap (λ (h : HeapView). part_of h g t) shape.others
 
-pub takes_still : (old now : HeapView) (g : Parts) (t : ℕ) → SameShape old now
+pub takes_still : (old now : HeapView) (g : Condemned) (t : ℕ) → SameShape old now
     → takes g (segment_at now t) ≡ takes g (segment_at old t)
 takes_still old now g t shape = ap (λ (h : HeapView). takes g (segment_at h t)) shape.others

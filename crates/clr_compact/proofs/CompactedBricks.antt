@@ -41,8 +41,8 @@ use Rattle.clr_sweep.proofs.SurvivorsSwept.{at-in, seen}
 use Rattle.clr_moves.specs.Moves.{age_of, AreMoves, part_of, takes}
 use Rattle.clr_moves.specs.Objects.{is_in_parts, is_spared, IsUntouched, moved_object}
 use Rattle.clr_moves.specs.Overlaid.{IsCompactionOf}
-use Rattle.clr_moves.specs.declared.parts.Parts.{Parts}
-use Rattle.clr_moves.specs.declared.parts.Parts.TheVariants.{Generations, LargeSegments}
+use Rattle.clr_moves.specs.declared.condemned.Condemned.{Condemned}
+use Rattle.clr_moves.specs.declared.condemned.Condemned.TheVariants.{Generations, LargeSegments}
 use Rattle.clr_moves.proofs.CompactionFills.{fills-parts}
 use Rattle.clr_moves.proofs.FilledParts.{FillsParts}
 use Rattle.clr_moves.proofs.PartPlaces.{into_parts, out_of_parts}
@@ -84,7 +84,7 @@ not-young h g t place heap inside off stands = elim (cases_Bool (stands_in (ephe
 ]
 
 -- a plan touches no brick of a segment without a part
-pub untouched-away : (h : HeapView) (g : Parts) (t b : ℕ) → IsHeap h → t < length h.segments
+pub untouched-away : (h : HeapView) (g : Condemned) (t b : ℕ) → IsHeap h → t < length h.segments
     → takes g (segment_at h t) ≡ false
     → ((u : ℕ) → u < length h.segments → takes g (segment_at h u) ≡ true
     → first_of h u ≤ part_of h g u)
@@ -139,8 +139,8 @@ same_alike layout new place young one two = record {
         then (if nat_lt place (one i) then 2 else (if nat_lt place (two i) then 1 else 0)) else 2
 
 -- WHERE A SEGMENT HAS NO PART its places are alike
-away_alike : (rows : List TypeRow) (old fin : HeapView) (g : Parts) (moves : List Move) (m : Machine) (kept : ℕ → Bool)
-    (after : Layout) → IsCompactionOf rows old g moves m kept after → IsHeap old → IsHeap fin
+away_alike : (rows : List TypeRow) (old fin : HeapView) (g : Condemned) (moves : List Move) (m : Machine)
+    (kept : ℕ → Bool) (after : Layout) → IsCompactionOf rows old g moves m kept after → IsHeap old → IsHeap fin
     → length fin.segments ≡ length old.segments
     → ((t : ℕ) → t < length old.segments → takes g (segment_at old t) ≡ false → segment_at fin t ≡ segment_at old t)
     → after.start1 ≡ fin.start1 → after.start0 ≡ fin.start0 → (t place : ℕ) → t < length old.segments
@@ -167,7 +167,7 @@ away_alike rows old fin LargeSegments moves m kept after p heap fin_heap count s
     same_alike (frame old) (frame fin) place (sym young ∙ same ∙ found.2)
     (sym one ∙ ap (λ (l : Layout). l.start1) slid.laid) (sym two ∙ ap (λ (l : Layout). l.start0) slid.laid)
 
-module _ (rows : List TypeRow) (old : HeapView) (g : Parts) (moves : List Move) (m : Machine) (kept : ℕ → Bool)
+module _ (rows : List TypeRow) (old : HeapView) (g : Condemned) (moves : List Move) (m : Machine) (kept : ℕ → Bool)
     (after : Layout)
     (p : IsCompactionOf rows old g moves m kept after) (heap : IsHeap old) (held : IsHeld rows old)
     (none : old.rests ≡ no_rests) (least : age_of g ≤ 2) (mid : HeapView) (slid : HasSlid old mid g moves)

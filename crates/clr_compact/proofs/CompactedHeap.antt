@@ -41,10 +41,10 @@ use Rattle.clr_compact.proofs.PartsSlid.{carried_words, now_listed_other, outsid
 use Rattle.clr_compact.proofs.PartsSlid.{slid_walkable, takes_same}
 use Rattle.clr_compact.proofs.Relisted.{below_listed, gone_in_part, HasGone, item_there, listed_from_where, part_from}
 use Rattle.clr_compact.proofs.Relisted.{part_in_listing}
-use Rattle.clr_moves.specs.declared.parts.Parts.{Parts}
+use Rattle.clr_moves.specs.declared.condemned.Condemned.{Condemned}
 
 module _ (rows : List TypeRow) (old : HeapView) (base : Machine) (heap : IsHeap old) (held : IsHeld rows old)
-    (none : old.rests ≡ no_rests) (laid : IsLaid (seen rows old base)) (g : Parts) (keeps : ℕ → Bool)
+    (none : old.rests ≡ no_rests) (laid : IsLaid (seen rows old base)) (g : Condemned) (keeps : ℕ → Bool)
     (moves : List Move) (after : Layout) (c : FillsParts rows old base g keeps moves after) (mid : HeapView)
     (slid : HasSlid old mid g moves) (tests : TestsMarks rows old (age_of g) keeps) (mid_heap : IsHeap mid)
     (clean : HeapView) (shape : SameShape mid clean)

@@ -30,8 +30,8 @@ use Rattle.clr_compact.specs.Entered.{AreEnteredBelow, forgotten, kept_below}
 use Rattle.clr_compact.specs.PartBricks.{both_restored, restored}
 use Rattle.clr_compact.proofs.Forgetting.{forgotten-before, forgotten-outside}
 use Rattle.clr_compact.proofs.PartBricks.{bricks-apart}
-use Rattle.clr_moves.specs.declared.parts.Parts.{Parts}
-use Rattle.clr_moves.specs.declared.parts.Parts.TheVariants.{Generations}
+use Rattle.clr_moves.specs.declared.condemned.Condemned.{Condemned}
+use Rattle.clr_moves.specs.declared.condemned.Condemned.TheVariants.{Generations}
 
 -- ---- no entries
 
@@ -58,13 +58,14 @@ entered-none rows layout objects entry s homes none = record {
 -- ---- one segment after the other
 
 -- bricks of segments without a part are as before
-pub record AreKeptElsewhere (h : HeapView) (g : Parts) (old now : List (CoverView ℤ)) : Type 0 where
+pub record AreKeptElsewhere (h : HeapView) (g : Condemned) (old now : List (CoverView ℤ)) : Type 0 where
   pub others : (t b : ℕ) → t < length h.segments → takes g (segment_at h t) ≡ false → IsBrickOf (segment_at h t) b
       → entry_at now b ≡ entry_at old b
   pub spans : spans now ≡ spans old
 
 -- where the bricks of a segment with a part are entered
-pub kept-more : (h : HeapView) (g : Parts) (k : ℕ) (old now new : List (CoverView ℤ)) → IsHeap h → k < length h.segments
+pub kept-more : (h : HeapView) (g : Condemned) (k : ℕ) (old now new : List (CoverView ℤ)) → IsHeap h
+    → k < length h.segments
     → takes g (segment_at h k) ≡ true → AreKeptElsewhere h g old now
     → ((b : ℕ) → (IsBrickOf (segment_at h k) b → ⊥) → entry_at new b ≡ entry_at now b) → spans new ≡ spans now
     → AreKeptElsewhere h g old new

@@ -12,6 +12,7 @@ use Rattle.clr_moves.specs.Moves.{part_of, takes}
 use Rattle.clr_moves.specs.declared.planned.Planned.{Planned}
 use Rattle.clr_moves.specs.Objects.{AreRemembered}
 use Rattle.clr_moves.specs.Overlaid.{HoldsPlan}
+use Rattle.clr_moves.proofs.Kept.{heap-kept}
 use Rattle.clr_pinq.specs.declared.entry.PinEntry.{PinEntry}
 use Rattle.clr_plugs.specs.BrickEntries.{BricksView}
 use Rattle.clr_compact.specs.Compacted.{HasCompacted, part_items}
@@ -23,7 +24,7 @@ use Rattle.clr_compact.proofs.PartWalks.{heap-bounds, whole-part}
 use Rattle.clr_compact.proofs.SlidBricks.{is-young-part, mid-part, mid-same, mid-young}
 use Rattle.clr_compact.proofs.WholeCompacted.{has_compacted}
 use Rattle.clr_compact.proofs.YoungBricks.{can-enter-young}
-use Rattle.clr_moves.specs.declared.parts.Parts.TheVariants.{Generations}
+use Rattle.clr_moves.specs.declared.condemned.Condemned.TheVariants.{Generations}
 
 module _ (rows : List TypeRow) (old planned_heap : HeapView) (covers : BricksView) (entries : List PinEntry) (g : ℕ)
     (moves : List Move) (start1 start0 : ℕ)
@@ -78,8 +79,10 @@ module _ (rows : List TypeRow) (old planned_heap : HeapView) (covers : BricksVie
 
   module _ (fin : HeapView) (shape : SameShape now fin)
       (words : Rewrites (cleared (part_items rows mid (Generations g) (length mid.segments))) (word_of mid)
-      (word_of fin))
-      (fin_heap : IsHeap fin) where
+      (word_of fin)) where
+    fin_heap : IsHeap fin
+    fin_heap = heap-kept now fin shape (heap-bounds now mid.start1 mid.start0 mid_heap)
+
     -- the same heap with the boundaries that were
     abbrev clean : HeapView
     clean = record fin { start1 = mid.start1; start0 = mid.start0 }

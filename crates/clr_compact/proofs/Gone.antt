@@ -24,7 +24,7 @@ use Rattle.clr_sweep.proofs.SurvivorsSwept.{seen}
 use Rattle.clr_moves.specs.Objects.{is_in_parts}
 use Rattle.clr_moves.specs.Moves.{age_of, AreMoves, IsInPart, move_at, plug_stop, room_end, start_of}
 use Rattle.clr_moves.specs.Moves.{takes}
-use Rattle.clr_moves.specs.declared.parts.Parts.{Parts}
+use Rattle.clr_moves.specs.declared.condemned.Condemned.{Condemned}
 use Rattle.clr_moves.proofs.FilledParts.{FillsParts}
 use Rattle.clr_moves.proofs.FromMachine.{number_of}
 use Rattle.clr_moves.proofs.PartPlaces.{into_parts, out_of_parts}
@@ -34,7 +34,7 @@ use Rattle.clr_compact.proofs.PartsSlid.{carried, IsCarried, refill}
 use Rattle.clr_compact.proofs.Relisted.{HasGone}
 
 module _ (rows : List TypeRow) (old : HeapView) (base : Machine) (heap : IsHeap old) (held : IsHeld rows old)
-    (none : old.rests ≡ no_rests) (laid : IsLaid (seen rows old base)) (g : Parts) (keeps : ℕ → Bool)
+    (none : old.rests ≡ no_rests) (laid : IsLaid (seen rows old base)) (g : Condemned) (keeps : ℕ → Bool)
     (moves : List Move) (after : Layout) (c : FillsParts rows old base g keeps moves after) (mid : HeapView)
     (slid : HasSlid old mid g moves) (tests : TestsMarks rows old (age_of g) keeps) where
   abbrev m : Machine

@@ -42,11 +42,11 @@ use Rattle.clr_compact.proofs.PartEnds.{free_range}
 use Rattle.clr_compact.proofs.PartsClean.{part_unmarked, word_kept}
 use Rattle.clr_compact.proofs.PartsSlid.{now_ends, slid_parts, slid_walkable}
 use Rattle.clr_compact.proofs.Relisted.{free_in_part}
-use Rattle.clr_moves.specs.declared.parts.Parts.{Parts}
+use Rattle.clr_moves.specs.declared.condemned.Condemned.{Condemned}
 use Rattle.clr_moves.proofs.FilledParts.{FillsParts}
 
 module _ (rows : List TypeRow) (old : HeapView) (base : Machine) (heap : IsHeap old) (held : IsHeld rows old)
-    (none : old.rests ≡ no_rests) (laid : IsLaid (seen rows old base)) (g : Parts) (keeps : ℕ → Bool)
+    (none : old.rests ≡ no_rests) (laid : IsLaid (seen rows old base)) (g : Condemned) (keeps : ℕ → Bool)
     (moves : List Move) (after : Layout) (c : FillsParts rows old base g keeps moves after) (mid : HeapView)
     (slid : HasSlid old mid g moves) (tests : TestsMarks rows old (age_of g) keeps) (mid_heap : IsHeap mid)
     (clean : HeapView) (shape : SameShape mid clean)

@@ -26,7 +26,7 @@ use Rattle.clr_view.proofs.Listed.{listed-in, listed-sized}
 use Rattle.clr_view.proofs.Listings.{listing-are}
 use Rattle.clr_sweep.proofs.SurvivorsSwept.{listed-from, seen}
 use Rattle.clr_moves.specs.Moves.{part_of, takes}
-use Rattle.clr_moves.specs.declared.parts.Parts.{Parts}
+use Rattle.clr_moves.specs.declared.condemned.Condemned.{Condemned}
 use Rattle.clr_moves.proofs.FilledParts.{FillsParts}
 
 module _ (rows : List TypeRow) (old : HeapView) (base : Machine) (heap : IsHeap old) (held : IsHeld rows old)
@@ -100,7 +100,7 @@ module _ (rows : List TypeRow) (old : HeapView) (base : Machine) (heap : IsHeap 
       }
 
   -- no item crosses the place where a part starts
-  pub part_whole : (g : Parts) (keeps : ℕ → Bool) (moves : List Move) (after : Layout)
+  pub part_whole : (g : Condemned) (keeps : ℕ → Bool) (moves : List Move) (after : Layout)
       (c : FillsParts rows old base g keeps moves after) (t : ℕ) → t < length old.segments
       → takes g (segment_at old t) ≡ true → (i : Item) → IsIn i (listing rows old t)
       → (part_of old g t ≤ i.place) ⊎ (i.place + i.size ≤ part_of old g t)

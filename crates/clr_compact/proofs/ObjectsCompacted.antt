@@ -30,12 +30,12 @@ use Rattle.clr_compact.proofs.CompactedHeap.{gone_object, IsBelow, stayed, went}
 use Rattle.clr_compact.proofs.Gone.{goes_with, land_apart, lands_at, LandsAt, unmoved, was_there}
 use Rattle.clr_compact.proofs.MemoryItems.{IsItemOf, item_of, object_of}
 use Rattle.clr_moves.specs.Moves.{age_of}
-use Rattle.clr_moves.specs.declared.parts.Parts.{Parts}
+use Rattle.clr_moves.specs.declared.condemned.Condemned.{Condemned}
 use Rattle.clr_moves.proofs.FilledParts.{FillsParts}
 use Rattle.clr_moves.proofs.PartPlaces.{into_parts}
 
 module _ (rows : List TypeRow) (old : HeapView) (base : Machine) (heap : IsHeap old) (held : IsHeld rows old)
-    (none : old.rests ≡ no_rests) (laid : IsLaid (seen rows old base)) (g : Parts) (keeps : ℕ → Bool)
+    (none : old.rests ≡ no_rests) (laid : IsLaid (seen rows old base)) (g : Condemned) (keeps : ℕ → Bool)
     (moves : List Move) (after : Layout) (c : FillsParts rows old base g keeps moves after) (mid : HeapView)
     (slid : HasSlid old mid g moves) (tests : TestsMarks rows old (age_of g) keeps) (mid_heap : IsHeap mid)
     (clean : HeapView) (shape : SameShape mid clean)

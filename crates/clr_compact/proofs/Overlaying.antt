@@ -26,8 +26,8 @@ use Rattle.clr_compact.specs.Order.{Order}
 use Rattle.clr_compact.specs.declared.fronts.Front.{Front}
 use Rattle.clr_compact.proofs.SlidingFronts.{IsSliding, next_here, sliding_more, sliding_on, sliding_starts, slid_all}
 use Rattle.clr_compact.proofs.Placing.{outside_sides, IsNext, IsTop, next_gap, top_more}
-use Rattle.clr_moves.specs.declared.parts.Parts.{Parts}
-use Rattle.clr_moves.specs.declared.parts.Parts.TheVariants.{Generations, LargeSegments}
+use Rattle.clr_moves.specs.declared.condemned.Condemned.{Condemned}
+use Rattle.clr_moves.specs.declared.condemned.Condemned.TheVariants.{Generations, LargeSegments}
 
 -- the words of one function from `low` up to `high`, and those of another elsewhere
 abbrev pub within : ℕ → ℕ → (ℕ → ℕ) → (ℕ → ℕ) → ℕ → ℕ
@@ -51,18 +51,18 @@ within_out low high inner outer b (inr h) =
     go false = refl
 
 -- a segment that ends elsewhere has its part where it had it
-pub ended_start : (layout : Layout) (g : Parts) (e : ℕ) (s : SegInfo) → start_of layout g (ended_at e s)
+pub ended_start : (layout : Layout) (g : Condemned) (e : ℕ) (s : SegInfo) → start_of layout g (ended_at e s)
     ≡ start_of layout g s
 ended_start layout (Generations g) e s = refl
 ended_start layout LargeSegments e s = refl
 
-pub ended_takes : (g : Parts) (e : ℕ) (s : SegInfo) → takes g (ended_at e s) ≡ takes g s
+pub ended_takes : (g : Condemned) (e : ℕ) (s : SegInfo) → takes g (ended_at e s) ≡ takes g s
 ended_takes (Generations g) e s = refl
 ended_takes LargeSegments e s = refl
 
 -- The loop's words are those of `view` that count. Below the front the heap holds them in the parts, and from it on the
 -- heap is as it was.
-pub record IsSlidingWhole (view before now : HeapView) (g : Parts) (vs : List Move) (q : Order)
+pub record IsSlidingWhole (view before now : HeapView) (g : Condemned) (vs : List Move) (q : Order)
     (f : Front) : Type 0 where
   pub words : ℕ → ℕ
   pub sliding : IsSliding view now words g vs q f
@@ -70,7 +70,7 @@ pub record IsSlidingWhole (view before now : HeapView) (g : Parts) (vs : List Mo
   pub above : (b : ℕ) → b % 8 ≡ 0 → f.top ≤ b + 8 → word_of now b ≡ word_of before b
   pub outside : (b : ℕ) → b % 8 ≡ 0 → IsOutside view g b → word_of now b ≡ word_of before b
 
-module _ (view before : HeapView) (es : List PinEntry) (g : Parts) (vs : List Move)
+module _ (view before : HeapView) (es : List PinEntry) (g : Condemned) (vs : List Move)
     (o : IsOverlaid view before es g vs) where
   -- ---- what is saved in the cells of a plug
 
@@ -157,6 +157,7 @@ module _ (view before : HeapView) (es : List PinEntry) (g : Parts) (vs : List Mo
   front_same start f from =
       let n = ap length segments_same in
       record {
+        heap = o.heap;
         above = from.above;
         within = let w = from.within in omega arith;
         is_part = λ l. subst (λ (s : SegInfo). takes g s ≡ true) (at_same f.segment) (from.is_part (omega arith));

@@ -20,7 +20,7 @@ use Rattle.clr_model.specs.Machine.{Machine}
 use Rattle.clr_model.proofs.PlugsApart.{piece_of_move}
 use Rattle.clr_sweep.proofs.SurvivorsSwept.{at-in}
 use Rattle.clr_moves.specs.Moves.{AreMoves, IsInPart, landing_end, move_at, no_move, part_of, takes}
-use Rattle.clr_moves.specs.declared.parts.Parts.{Parts}
+use Rattle.clr_moves.specs.declared.condemned.Condemned.{Condemned}
 use Rattle.clr_moves.proofs.FilledParts.{FillsParts}
 use Rattle.clr_moves.proofs.FromMachine.{number_of}
 use Rattle.clr_compact.specs.Slides.{EndsAt, HasSlid, IsBare, IsEdge, IsFreeRange}
@@ -43,7 +43,7 @@ end_of_last-in low (p ∷ ps) = elim (end_of_last-in (piece_end p) ps) [
   | inr (q, j, e) ↦ inr (q, later j, e)
 ]
 
-module _ (rows : List TypeRow) (old : HeapView) (base : Machine) (g : Parts) (keeps : ℕ → Bool) (moves : List Move)
+module _ (rows : List TypeRow) (old : HeapView) (base : Machine) (g : Condemned) (keeps : ℕ → Bool) (moves : List Move)
     (after : Layout) (c : FillsParts rows old base g keeps moves after) (heap : IsHeap old) (t : ℕ)
     (inside : t < length old.segments) (part : takes g (segment_at old t) ≡ true) where
   abbrev s : SegInfo

@@ -23,8 +23,8 @@ use Rattle.clr_compact.specs.PartBricks.{AreWhole, HasMovedBounds}
 use Rattle.clr_compact.specs.Rewrites.{cleared, Rewrites}
 use Rattle.clr_compact.proofs.EnteringParts.{young-part, young-takes}
 use Rattle.clr_compact.proofs.PartBricks.{bricks-apart, entered_elsewhere}
-use Rattle.clr_moves.specs.declared.parts.Parts.{Parts}
-use Rattle.clr_moves.specs.declared.parts.Parts.TheVariants.{Generations, LargeSegments}
+use Rattle.clr_moves.specs.declared.condemned.Condemned.{Condemned}
+use Rattle.clr_moves.specs.declared.condemned.Condemned.TheVariants.{Generations, LargeSegments}
 
 -- ---- where a part starts
 
@@ -39,24 +39,24 @@ whole-part h t = go (same_kind Ephemeral (segment_at h t).kind)
 -- ---- whole segments
 
 -- a part that is a whole segment begins at its first place
-whole_start : (h : HeapView) (t : ℕ) (g : Parts) → AreWhole g → part_of h g t ≡ first_of h t
+whole_start : (h : HeapView) (t : ℕ) (g : Condemned) → AreWhole g → part_of h g t ≡ first_of h t
 whole_start h t (Generations g) two = ap (λ (n : ℕ). part_of h (Generations n) t) two ∙ whole-part h t
 whole_start h t LargeSegments full = refl
 
 -- every whole segment can be entered for a heap that this one is to become
-abbrev pub CanEnterWhole : List TypeRow → Parts → HeapView → HeapView → Type 0
+abbrev pub CanEnterWhole : List TypeRow → Condemned → HeapView → HeapView → Type 0
 CanEnterWhole rows g now final =
     (t : ℕ) → t < length now.segments → takes g (segment_at now t) ≡ true
     → CanEnterFrom rows now final t (first_of now t)
 
 -- the whole segments below k are entered, for each such heap
-abbrev pub AreWholeUpTo : List TypeRow → Parts → HeapView → List (CoverView ℤ) → ℕ → Type 0
+abbrev pub AreWholeUpTo : List TypeRow → Condemned → HeapView → List (CoverView ℤ) → ℕ → Type 0
 AreWholeUpTo rows g h now k =
     (final : HeapView) → CanEnterWhole rows g h final
     → (t : ℕ) → t < k → t < length h.segments → takes g (segment_at h t) ≡ true
     → AreEntered rows (frame final) (objects_in rows final) (entry_at now) (segment_at final t)
 
-module _ (rows : List TypeRow) (g : Parts) (full : AreWhole g) (old mid : HeapView) (heap : IsHeap old)
+module _ (rows : List TypeRow) (g : Condemned) (full : AreWhole g) (old mid : HeapView) (heap : IsHeap old)
     (w : ArePartsWalkable rows old g) (k : ℕ)
     (inside : k < length old.segments) (u : IsUnmarking rows old mid g k) where
   at-mid : segment_at mid k ≡ segment_at old k

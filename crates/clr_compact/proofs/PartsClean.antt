@@ -21,7 +21,7 @@ use Rattle.clr_sweep.proofs.SurvivorsSwept.{listed-from}
 use Rattle.clr_moves.specs.Moves.{part_of, takes}
 use Rattle.clr_compact.specs.Compacted.{ArePartsWalkable, items_of_part, part_items}
 use Rattle.clr_compact.proofs.AllParts.{part_items-from, part_items-in, place-on, place-out}
-use Rattle.clr_moves.specs.declared.parts.Parts.{Parts}
+use Rattle.clr_moves.specs.declared.condemned.Condemned.{Condemned}
 
 -- heads that stay on all items
 pub agrees_all : (s : Sight) (w : ℕ → ℕ) (ps : List Part)
@@ -34,8 +34,8 @@ same_head : (b : Bool) (w : ℕ) → unmarked (if b then unmarked w else w) ≡ 
 same_head true w = omega arith
 same_head false w = refl
 
-module _ (rows : List TypeRow) (mid clean : HeapView) (g : Parts) (heap : IsHeap mid) (walkable : AreWalkable rows mid)
-    (parts_walk : ArePartsWalkable rows mid g)
+module _ (rows : List TypeRow) (mid clean : HeapView) (g : Condemned) (heap : IsHeap mid)
+    (walkable : AreWalkable rows mid) (parts_walk : ArePartsWalkable rows mid g)
     (part_in : (t : ℕ) → t < length mid.segments → (i : Item) → IsIn i (items_of_part rows mid g t)
     → IsIn i (listing rows mid t)) (shape : SameShape mid clean)
     (words : Rewrites (cleared (part_items rows mid g (length mid.segments))) (word_of mid)

@@ -43,7 +43,7 @@ use Rattle.clr_compact.specs.Compacted.{ArePartsWalkable, items_of_part}
 use Rattle.clr_sweep.proofs.PassEnds.{none_starts}
 use Rattle.clr_sweep.proofs.SurvivorsSwept.{seen}
 use Rattle.clr_moves.specs.Moves.{AreMoves, IsInPart, move_at, part_of, room_end, start_of, takes}
-use Rattle.clr_moves.specs.declared.parts.Parts.{Parts}
+use Rattle.clr_moves.specs.declared.condemned.Condemned.{Condemned}
 use Rattle.clr_moves.proofs.FilledParts.{FillsParts}
 use Rattle.clr_moves.proofs.FromMachine.{number_of}
 use Rattle.clr_compact.specs.Slides.{HasSlid}
@@ -55,7 +55,7 @@ use Rattle.clr_compact.proofs.Respelled.{boundary_at, item_moved, items_over, na
 use Rattle.clr_compact.proofs.SlidBricks.{mid-part, mid-same}
 
 module _ (rows : List TypeRow) (old : HeapView) (base : Machine) (heap : IsHeap old) (held : IsHeld rows old)
-    (none : old.rests ≡ no_rests) (laid : IsLaid (seen rows old base)) (g : Parts) (keeps : ℕ → Bool)
+    (none : old.rests ≡ no_rests) (laid : IsLaid (seen rows old base)) (g : Condemned) (keeps : ℕ → Bool)
     (moves : List Move) (after : Layout) (c : FillsParts rows old base g keeps moves after) where
   abbrev m : Machine
   m = seen rows old base

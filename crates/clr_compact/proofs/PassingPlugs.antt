@@ -8,13 +8,13 @@ use Rattle.clr_types.specs.Types.{TypeRow}
 use Rattle.clr_heap.specs.View.{HeapView}
 use Rattle.clr_model.specs.Compaction.{Move}
 use Rattle.clr_plugs.specs.BrickEntries.{BricksView}
-use Rattle.clr_moves.specs.Lines.{Gives, HasGiven, LineView}
+use Rattle.clr_moves.specs.PlugMoves.{Gives, HasGiven, PlugMovesView}
 use Rattle.clr_moves.specs.Moves.{goes, move_at, moved_bytes}
 use Rattle.clr_compact.specs.Order.{cursor, HasPassed, IsFirstFrom, IsOrder, next_of, Order}
 use Rattle.clr_compact.specs.NextPlugs.{AreFirst, AreNext, AreRising, bytes_of, GivesFrom, HasFound, HavePassed}
 use Rattle.clr_compact.specs.NextPlugs.{is_lower, IsThere, next_plug}
 use Rattle.clr_compact.specs.declared.next_plugs.NextPlugs.{NextPlugs}
-use Rattle.clr_moves.specs.declared.parts.Parts.{Parts}
+use Rattle.clr_moves.specs.declared.condemned.Condemned.{Condemned}
 
 -- ---- lists
 
@@ -67,9 +67,8 @@ kind-differs v to start kind a b e = sym (ap₂ ltb a b) ∙ flags-differ (ltb t
 
 -- a line has given the moves from number `start` on up to number `count`, none of them of this kind, and stands at or
 -- above the last one
-pub record IsPassing (rows : List TypeRow) (h : HeapView) (bricks : BricksView) (g : Parts) (going : Bool)
-    (vs : List Move)
-    (start : ℕ) (line : LineView) (place : ℕ) : Type 0 where
+pub record IsPassing (rows : List TypeRow) (h : HeapView) (bricks : BricksView) (g : Condemned) (going : Bool)
+    (vs : List Move) (start : ℕ) (line : PlugMovesView) (place : ℕ) : Type 0 where
   pub count : ℕ
   pub above : start ≤ count
   pub within : count ≤ length vs
@@ -77,9 +76,9 @@ pub record IsPassing (rows : List TypeRow) (h : HeapView) (bricks : BricksView) 
   pub none : (j : ℕ) → start ≤ j → j < count → goes (move_at vs j) ≡ not going
   pub ahead : (j : ℕ) → count ≤ j → j < length vs → place < (move_at vs j).start
 
-module _ (rows : List TypeRow) (h : HeapView) (bricks : BricksView) (g : Parts) (going : Bool) (vs : List Move)
+module _ (rows : List TypeRow) (h : HeapView) (bricks : BricksView) (g : Condemned) (going : Bool) (vs : List Move)
     (start : ℕ) where
-  pub passing-starts : (line : LineView) → GivesFrom rows h bricks g vs start line
+  pub passing-starts : (line : PlugMovesView) → GivesFrom rows h bricks g vs start line
       → IsPassing rows h bricks g going vs start line 0
   passing-starts line from = record {
     count = start;
@@ -90,9 +89,9 @@ module _ (rows : List TypeRow) (h : HeapView) (bricks : BricksView) (g : Parts) 
     ahead = λ j low l. from.rising.low j l;
   }
 
-  module _ (rising : AreRising h.top vs) (line : LineView) (place : ℕ)
+  module _ (rising : AreRising h.top vs) (line : PlugMovesView) (place : ℕ)
       (p : IsPassing rows h bricks g going vs start line place) where
-    module _ (after : LineView) (v : Move) (given : HasGiven rows h bricks g after (drop p.count vs) v) where
+    module _ (after : PlugMovesView) (v : Move) (given : HasGiven rows h bricks g after (drop p.count vs) v) where
       is : (p.count < length vs) × (v ≡ move_at vs p.count) × (given.rest ≡ drop (suc p.count) vs)
       is = drop_cons vs p.count v given.rest given.first
 
@@ -143,7 +142,8 @@ module _ (rows : List TypeRow) (h : HeapView) (bricks : BricksView) (g : Parts) 
           (omega arith, omega arith)
 
     -- no plug is left
-    pub passing-ends : (after : LineView) → drop p.count vs ≡ [] → HasFound rows h bricks g going vs start after None
+    pub passing-ends : (after : PlugMovesView) → drop p.count vs ≡ []
+        → HasFound rows h bricks g going vs start after None
     passing-ends after e =
         let past = drop_none vs p.count e in
         let low = p.within in
@@ -231,9 +231,9 @@ cursor-going q v e = ap (λ (t : Bool). if t then q.going else q.staying) e
 cursor-staying : (q : Order) (v : Move) → goes v ≡ false → cursor q v ≡ q.staying
 cursor-staying q v e = ap (λ (t : Bool). if t then q.going else q.staying) e
 
-module _ (rows : List TypeRow) (h : HeapView) (bricks : BricksView) (g : Parts) (vs : List Move) where
+module _ (rows : List TypeRow) (h : HeapView) (bricks : BricksView) (g : Condemned) (vs : List Move) where
   -- the first plugs of both kinds
-  pub are-first : AreRising h.top vs → (goers stayers : LineView) (going staying : Option Move)
+  pub are-first : AreRising h.top vs → (goers stayers : PlugMovesView) (going staying : Option Move)
       → HasFound rows h bricks g true vs 0 goers going → HasFound rows h bricks g false vs 0 stayers staying
       → AreFirst rows h bricks g vs
       (record { goers = goers; stayers = stayers; going = going; staying = staying })
@@ -292,7 +292,7 @@ module _ (rows : List TypeRow) (h : HeapView) (bricks : BricksView) (g : Parts) 
     pub next-is : (v : Move) → next_plug plugs ≡ Some v → (next_of vs q < length vs) × (v ≡ move_at vs (next_of vs q))
     next-is v e = go (is_lower plugs.staying plugs.going) next-by e
       where
-        there : (s : Option Move) (line : LineView) (k : ℕ)
+        there : (s : Option Move) (line : PlugMovesView) (k : ℕ)
             → MatchOption s (k ≡ length vs) (IsThere rows h bricks g vs line k)
             → s ≡ Some v → (k < length vs) × (v ≡ move_at vs k)
         there None line k t f = absurd cc
@@ -312,7 +312,7 @@ module _ (rows : List TypeRow) (h : HeapView) (bricks : BricksView) (g : Parts) 
     pub next-none : next_plug plugs ≡ None → length vs ≤ next_of vs q
     next-none e = go (is_lower plugs.staying plugs.going) next-by e
       where
-        none : (s : Option Move) (line : LineView) (k : ℕ)
+        none : (s : Option Move) (line : PlugMovesView) (k : ℕ)
             → MatchOption s (k ≡ length vs) (IsThere rows h bricks g vs line k)
             → s ≡ None → length vs ≤ k
         none None line k t f = omega arith
@@ -325,7 +325,7 @@ module _ (rows : List TypeRow) (h : HeapView) (bricks : BricksView) (g : Parts) 
 
     -- ---- the line of the next plug goes on
 
-    gives-behind : (s : Option Move) (line : LineView) (k : ℕ) → k < length vs
+    gives-behind : (s : Option Move) (line : PlugMovesView) (k : ℕ) → k < length vs
         → MatchOption s (k ≡ length vs) (IsThere rows h bricks g vs line k) → GivesFrom rows h bricks g vs (suc k) line
     gives-behind None line k l t = absurd (omega arith)
     gives-behind (Some v) line k l t = record { within = t.within; rising = n.rising; gives = t.gives }
@@ -343,7 +343,7 @@ module _ (rows : List TypeRow) (h : HeapView) (bricks : BricksView) (g : Parts) 
           let at = next-by ∙ ap (λ (b : Bool). if b then q.staying else q.going) e in
           gives-behind plugs.going plugs.goers q.going (omega arith) n.goer
 
-      pub stayer-passed : is_lower plugs.staying plugs.going ≡ true → (line : LineView) (found : Option Move)
+      pub stayer-passed : is_lower plugs.staying plugs.going ≡ true → (line : PlugMovesView) (found : Option Move)
           → HasFound rows h bricks g false vs (suc q.staying) line found
           → HavePassed rows h bricks g vs q
           (record { goers = plugs.goers; stayers = line; going = plugs.going; staying = found })
@@ -380,7 +380,7 @@ module _ (rows : List TypeRow) (h : HeapView) (bricks : BricksView) (g : Parts) 
             staying_is = f.first.is;
           }
 
-      pub goer-passed : is_lower plugs.staying plugs.going ≡ false → (line : LineView) (found : Option Move)
+      pub goer-passed : is_lower plugs.staying plugs.going ≡ false → (line : PlugMovesView) (found : Option Move)
           → HasFound rows h bricks g true vs (suc q.going) line found
           → HavePassed rows h bricks g vs q
           (record { goers = line; stayers = plugs.stayers; going = found; staying = plugs.staying })
@@ -421,6 +421,6 @@ module _ (rows : List TypeRow) (h : HeapView) (bricks : BricksView) (g : Parts) 
           }
 
   -- a line that has given nothing
-  pub gives-all : AreRising h.top vs → (line : LineView) → Gives rows h bricks g line vs
+  pub gives-all : AreRising h.top vs → (line : PlugMovesView) → Gives rows h bricks g line vs
       → GivesFrom rows h bricks g vs 0 line
   gives-all rising line gives = record { within = omega arith; rising = rising; gives = gives }

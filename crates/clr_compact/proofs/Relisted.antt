@@ -25,7 +25,7 @@ use Rattle.clr_view.proofs.Items.{IsItem, items-are}
 use Rattle.clr_sweep.proofs.SurvivorsSwept.{seen}
 use Rattle.clr_compact.specs.Compacted.{items_of_part}
 use Rattle.clr_moves.specs.Moves.{part_of, takes}
-use Rattle.clr_moves.specs.declared.parts.Parts.{Parts}
+use Rattle.clr_moves.specs.declared.condemned.Condemned.{Condemned}
 use Rattle.clr_moves.proofs.FilledParts.{FillsParts}
 use Rattle.clr_compact.specs.Slides.{HasSlid}
 use Rattle.clr_compact.proofs.MemoryItems.{IsItemOf, item_of, standing}
@@ -80,7 +80,7 @@ in_until s (rest_part lo hi ∷ ps) p e x z h i n l =
     rw (lt-ltb lo x (omega arith)) (in_until s ps hi e x h.3 h.4 i n l)
 
 module _ (rows : List TypeRow) (old : HeapView) (base : Machine) (heap : IsHeap old) (held : IsHeld rows old)
-    (none : old.rests ≡ no_rests) (laid : IsLaid (seen rows old base)) (g : Parts) (keeps : ℕ → Bool)
+    (none : old.rests ≡ no_rests) (laid : IsLaid (seen rows old base)) (g : Condemned) (keeps : ℕ → Bool)
     (moves : List Move) (after : Layout) (c : FillsParts rows old base g keeps moves after) (mid : HeapView)
     (slid : HasSlid old mid g moves) where
   -- an item where it goes

@@ -25,8 +25,8 @@ use Rattle.clr_moves.proofs.PlannedMoves.{are-moves, seen-laid}
 use Rattle.clr_compact.specs.PartBricks.{IsYoungPart}
 use Rattle.clr_compact.specs.Slides.{HasSlid}
 use Rattle.clr_compact.proofs.EnteringParts.{is-young, young-kind, young-part}
-use Rattle.clr_moves.specs.declared.parts.Parts.{Parts}
-use Rattle.clr_moves.specs.declared.parts.Parts.TheVariants.{Generations}
+use Rattle.clr_moves.specs.declared.condemned.Condemned.{Condemned}
+use Rattle.clr_moves.specs.declared.condemned.Condemned.TheVariants.{Generations}
 use Rattle.clr_compact.proofs.Overlaying.{ended_start}
 
 -- lists of segments that are alike at each place
@@ -40,7 +40,7 @@ map-alike f (x ∷ xs) (y ∷ ys) e same =
     let rest = map-alike f xs ys (omega arith) (λ k l. same (suc k) (omega arith)) in
     λ i. here i ∷ rest i
 
-module _ (old : HeapView) (g : Parts) (moves : List Move) (mid : HeapView) (slid : HasSlid old mid g moves) where
+module _ (old : HeapView) (g : Condemned) (moves : List Move) (mid : HeapView) (slid : HasSlid old mid g moves) where
   -- each segment is as it was, but for its end
   mid-ended : (t : ℕ) → t < length old.segments → (e : ℕ) × (segment_at mid t ≡ ended_at e (segment_at old t))
   mid-ended t l = elim (cases_Bool (takes g (segment_at old t))) [

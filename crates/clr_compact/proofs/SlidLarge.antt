@@ -11,7 +11,8 @@ use Rattle.clr_generations.specs.Laws.{AreEntered, BrickLaw, IsBrickOf}
 use Rattle.clr_moves.specs.Moves.{part_of, takes}
 use Rattle.clr_moves.specs.Objects.{IsUntouched}
 use Rattle.clr_moves.specs.Overlaid.{HoldsPlan}
-use Rattle.clr_moves.specs.declared.parts.Parts.TheVariants.{LargeSegments}
+use Rattle.clr_moves.specs.declared.condemned.Condemned.TheVariants.{LargeSegments}
+use Rattle.clr_moves.proofs.Kept.{heap-kept}
 use Rattle.clr_pinq.specs.declared.entry.PinEntry.{PinEntry}
 use Rattle.clr_plugs.specs.BrickEntries.{BricksView}
 use Rattle.clr_compact.specs.Compacted.{ArePartsWalkable, HasCompacted, part_items}
@@ -35,8 +36,11 @@ module _ (rows : List TypeRow) (old planned_heap : HeapView) (covers : BricksVie
       plan.overlaid.heap plan.held plan.no_contexts all_ages mid slid
 
   module _ (mid_heap : IsHeap mid) (fin : HeapView) (shape : SameShape mid fin)
-      (words : Rewrites (cleared (part_items rows mid LargeSegments (length mid.segments))) (word_of mid) (word_of fin))
-      (fin_heap : IsHeap fin) where
+      (words : Rewrites (cleared (part_items rows mid LargeSegments (length mid.segments))) (word_of mid)
+      (word_of fin)) where
+    fin_heap : IsHeap fin
+    fin_heap = heap-kept mid fin shape mid_heap
+
     -- generations begin where they did
     pub start1_same : fin.start1 ≡ planned_heap.start1
     start1_same =

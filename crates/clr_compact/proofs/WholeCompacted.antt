@@ -31,9 +31,9 @@ use Rattle.clr_compact.proofs.LayoutCompacted.{marks_left}
 use Rattle.clr_compact.proofs.LayoutCompacted.{rests_same, segments_compacted, top_same, walkable_now}
 use Rattle.clr_compact.proofs.ObjectsCompacted.{objects_compacted}
 use Rattle.clr_compact.proofs.PartsSlid.{slid_parts}
-use Rattle.clr_moves.specs.declared.parts.Parts.{Parts}
+use Rattle.clr_moves.specs.declared.condemned.Condemned.{Condemned}
 
-module _ (rows : List TypeRow) (old : HeapView) (g : Parts) (moves : List Move) (m : Machine) (kept : ℕ → Bool)
+module _ (rows : List TypeRow) (old : HeapView) (g : Condemned) (moves : List Move) (m : Machine) (kept : ℕ → Bool)
     (after : Layout) (p : IsCompactionOf rows old g moves m kept after) where
   seen_laid : IsLaid (seen rows old m)
   seen_laid = seen-laid rows old g moves m kept after p
@@ -122,7 +122,7 @@ module _ (rows : List TypeRow) (old : HeapView) (g : Parts) (moves : List Move) 
           mid_heap clean shape words clean_heap heads)
 
 -- THE COMPACTION, whatever machine's memory the heap is
-pub has_compacted : (rows : List TypeRow) (old : HeapView) (g : Parts) (moves : List Move) (m : Machine)
+pub has_compacted : (rows : List TypeRow) (old : HeapView) (g : Condemned) (moves : List Move) (m : Machine)
     (kept : ℕ → Bool) (after : Layout) (p : IsCompactionOf rows old g moves m kept after) (heap : IsHeap old)
     (held : IsHeld rows old) (none : old.rests ≡ no_rests) (least : age_of g ≤ 2) (mid : HeapView)
     (slid : HasSlid old mid g moves) (mid_heap : IsHeap mid) (clean : HeapView) (shape : SameShape mid clean)

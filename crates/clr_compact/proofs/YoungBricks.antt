@@ -26,7 +26,7 @@ use Rattle.clr_moves.specs.Moves.{AreMoves, part_of, takes}
 use Rattle.clr_moves.specs.Objects.{AreRemembered, is_in_parts, IsUntouched}
 use Rattle.clr_moves.specs.Overlaid.{IsCompactionOf}
 use Rattle.clr_moves.specs.declared.planned.Planned.{Planned}
-use Rattle.clr_moves.specs.declared.parts.Parts.TheVariants.{Generations}
+use Rattle.clr_moves.specs.declared.condemned.Condemned.TheVariants.{Generations}
 use Rattle.clr_moves.proofs.FromMachine.{is_ready}
 use Rattle.clr_moves.proofs.PartPlaces.{out_of_parts}
 use Rattle.clr_moves.proofs.PlannedMoves.{are-moves, seen-compacted, seen-laid}

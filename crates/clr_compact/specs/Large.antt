@@ -11,7 +11,7 @@ use Rattle.clr_pinq.specs.declared.entry.PinEntry.{PinEntry}
 use Rattle.clr_plugs.specs.BrickEntries.{BricksView}
 use Rattle.clr_moves.specs.Objects.{IsUntouched}
 use Rattle.clr_moves.specs.Overlaid.{HoldsPlan}
-use Rattle.clr_moves.specs.declared.parts.Parts.TheVariants.{LargeSegments}
+use Rattle.clr_moves.specs.declared.condemned.Condemned.TheVariants.{LargeSegments}
 
 -- The heap holds the plan of a slide, which leaves the generations where they begin, and the entries of bricks that the
 -- plan hasn't touched obey their law.

@@ -7,16 +7,15 @@ use Rattle.clr_types.specs.Types.{TypeRow}
 use Rattle.clr_heap.specs.View.{HeapView, segment_at}
 use Rattle.clr_model.specs.Compaction.{Move}
 use Rattle.clr_plugs.specs.BrickEntries.{BricksView}
-use Rattle.clr_moves.specs.Lines.{Gives, LineView}
+use Rattle.clr_moves.specs.PlugMoves.{Gives, PlugMovesView}
 use Rattle.clr_moves.specs.Moves.{goes, move_at, moved_bytes}
 use Rattle.clr_compact.specs.Order.{HasPassed, IsFirstFrom, IsLeft, IsOrder, next_of, Order}
 use Rattle.clr_compact.specs.declared.next_plugs.NextPlugs.{NextPlugs}
-use Rattle.clr_moves.specs.declared.parts.Parts.{Parts}
+use Rattle.clr_moves.specs.declared.condemned.Condemned.{Condemned}
 
 -- the plug is that of move k, and its line, which has given it, is to give the moves behind it
-pub record IsThere (rows : List TypeRow) (h : HeapView) (bricks : BricksView) (g : Parts) (vs : List Move)
-    (line : LineView)
-    (k : ℕ) (plug : Move) : Type 0 where
+pub record IsThere (rows : List TypeRow) (h : HeapView) (bricks : BricksView) (g : Condemned) (vs : List Move)
+    (line : PlugMovesView) (k : ℕ) (plug : Move) : Type 0 where
   pub within : k < length vs
   pub is : plug ≡ move_at vs k
   pub segment : plug.start < reserved_end (segment_at h line.segment)
@@ -29,30 +28,29 @@ pub record AreRising (top : ℕ) (vs : List Move) : Type 0 where
   pub rise : (j k : ℕ) → j < k → k < length vs → (move_at vs j).start < (move_at vs k).start
 
 -- a line is to give these moves but for the first ones
-pub record GivesFrom (rows : List TypeRow) (h : HeapView) (bricks : BricksView) (g : Parts) (vs : List Move) (start : ℕ)
-    (line : LineView) : Type 0 where
+pub record GivesFrom (rows : List TypeRow) (h : HeapView) (bricks : BricksView) (g : Condemned) (vs : List Move)
+    (start : ℕ) (line : PlugMovesView) : Type 0 where
   pub within : start ≤ length vs
   pub rising : AreRising h.top vs
   pub gives : Gives rows h bricks g line (drop start vs)
 
 -- of the moves that a line was to give this is the first one of a kind, and none where it gives no such move
-pub record HasFound (rows : List TypeRow) (h : HeapView) (bricks : BricksView) (g : Parts) (going : Bool)
-    (vs : List Move)
-    (start : ℕ) (line : LineView) (found : Option Move) : Type 0 where
+pub record HasFound (rows : List TypeRow) (h : HeapView) (bricks : BricksView) (g : Condemned) (going : Bool)
+    (vs : List Move) (start : ℕ) (line : PlugMovesView) (found : Option Move) : Type 0 where
   pub number : ℕ
   pub first : IsFirstFrom going vs start number
   pub there : MatchOption found (number ≡ length vs) (IsThere rows h bricks g vs line number)
 
 -- the plugs are the next ones of both kinds in this order
-pub record AreNext (rows : List TypeRow) (h : HeapView) (bricks : BricksView) (g : Parts) (vs : List Move) (q : Order)
-    (plugs : NextPlugs) : Type 0 where
+pub record AreNext (rows : List TypeRow) (h : HeapView) (bricks : BricksView) (g : Condemned) (vs : List Move)
+    (q : Order) (plugs : NextPlugs) : Type 0 where
   pub order : IsOrder vs q
   pub rising : AreRising h.top vs
   pub goer : MatchOption plugs.going (q.going ≡ length vs) (IsThere rows h bricks g vs plugs.goers q.going)
   pub stayer : MatchOption plugs.staying (q.staying ≡ length vs) (IsThere rows h bricks g vs plugs.stayers q.staying)
 
 -- they are the first ones of both kinds: no plug is placed, and so nothing has moved
-pub record AreFirst (rows : List TypeRow) (h : HeapView) (bricks : BricksView) (g : Parts) (vs : List Move)
+pub record AreFirst (rows : List TypeRow) (h : HeapView) (bricks : BricksView) (g : Condemned) (vs : List Move)
     (plugs : NextPlugs) : Type 0 where
   pub order : Order
   pub next : AreNext rows h bricks g vs order plugs
@@ -74,9 +72,8 @@ abbrev pub bytes_of : Move → ℕ
 bytes_of v = if goes v then v.size else 0
 
 -- the plug that was next in this order is passed over
-pub record HavePassed (rows : List TypeRow) (h : HeapView) (bricks : BricksView) (g : Parts) (vs : List Move)
-    (q : Order)
-    (plugs : NextPlugs) : Type 0 where
+pub record HavePassed (rows : List TypeRow) (h : HeapView) (bricks : BricksView) (g : Condemned) (vs : List Move)
+    (q : Order) (plugs : NextPlugs) : Type 0 where
   pub order : Order
   pub next : AreNext rows h bricks g vs order plugs
   pub passed : HasPassed vs q order (next_of vs q)

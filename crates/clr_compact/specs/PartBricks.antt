@@ -10,8 +10,8 @@ use Rattle.clr_moves.specs.declared.planned.Planned.{Planned}
 use Rattle.clr_plugs.specs.BrickEntries.{BricksView}
 use Rattle.clr_view.specs.View.{objects_in}
 use Rattle.clr_compact.specs.Entered.{AreEnteredBelow, CanEnterFrom, forgotten}
-use Rattle.clr_moves.specs.declared.parts.Parts.{Parts}
-use Rattle.clr_moves.specs.declared.parts.Parts.TheVariants.{Generations, LargeSegments}
+use Rattle.clr_moves.specs.declared.condemned.Condemned.{Condemned}
+use Rattle.clr_moves.specs.declared.condemned.Condemned.TheVariants.{Generations, LargeSegments}
 
 -- an entry that is given back: one that led back leads to the brick below
 abbrev pub restored : ℤ → ℤ
@@ -53,7 +53,7 @@ pub record CanEnterYoung (rows : List TypeRow) (now final : HeapView) (bricks : 
       from end) (segment_at final k) from
 
 -- these parts are whole segments
-abbrev pub AreWhole : Parts → Type 0
+abbrev pub AreWhole : Condemned → Type 0
 AreWhole (Generations g) = g ≡ 2
 AreWhole LargeSegments = Unit {0}
 

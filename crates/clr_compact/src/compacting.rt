@@ -2,7 +2,7 @@
 ghost use Rattle.std.specs.Prelude.{◌≡◌, ℕ, ◌+◌, ◌-◌, ◌≤◌, ◌^◌, List, [], length, min};
 ghost use Rattle.clr_covers.specs.Covers.{spans};
 ghost use Rattle.clr_bricks.specs.Bricks.{entry_at};
-ghost use Rattle.clr_heap.specs.View.{frame, HeapView};
+ghost use Rattle.clr_heap.specs.View.{frame, HeapView, IsHeap};
 ghost use Rattle.clr_model.specs.Compaction.{Move};
 ghost use Rattle.clr_view.specs.View.{objects_in};
 ghost use Rattle.clr_generations.specs.Laws.{BrickLaw};
@@ -10,14 +10,14 @@ ghost use Rattle.clr_moves.specs.Moves.{moved_bytes};
 ghost use Rattle.clr_moves.specs.Overlaid.{HoldsPlan};
 ghost use Rattle.clr_moves.specs.Promoted.{bytes_between};
 ghost use Rattle.clr_compact.specs.Compacted.{CanCompact, HasCompacted};
-ghost use Rattle.clr_moves.specs.declared.parts.Parts.TheVariants.{Generations};
+ghost use Rattle.clr_moves.specs.declared.condemned.Condemned.TheVariants.{Generations};
 
 use crate::part_bricks::{enter_parts, young_part};
 use crate::slide_plan::slide_plan;
 use crate::slides::Slides;
 use clr_bricks::Bricks;
 use clr_heap::Heap;
-use clr_moves::{Parts, Planned, Promoted};
+use clr_moves::{Condemned, Planned, Promoted};
 use clr_pinq::PinQueue;
 use clr_types::Types;
 
@@ -44,6 +44,7 @@ pub fn compact(
         → HoldsPlan types.now view heap.old bricks.old pins.old.entries (Generations g) vs planned.now.start1
         planned.now.start0
         → HasCompacted types.now view heap.new (Generations g) vs }
+    ensures lawful { IsHeap heap.new }
     ensures start1 { heap.new.start1 ≡ planned.now.start1 }
     ensures start0 { heap.new.start0 ≡ planned.now.start0 }
     ensures empty { pins.new.entries ≡ [] }
@@ -69,14 +70,12 @@ pub fn compact(
         types,
         bricks,
         pins,
-        Parts::Generations(g),
+        Condemned::Generations(g),
         planned,
         slides,
     );
     pins.clear();
-    heap.lawful();
     heap.set_boundaries(planned.start1, planned.start0);
     enter_parts(heap, types, bricks, g, planned, part);
-    heap.lawful();
     promoted
 }

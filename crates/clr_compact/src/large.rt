@@ -2,12 +2,12 @@
 ghost use Rattle.std.specs.Prelude.{◌≡◌, ℕ, ◌+◌, List, [], length};
 ghost use Rattle.clr_covers.specs.Covers.{spans};
 ghost use Rattle.clr_bricks.specs.Bricks.{entry_at};
-ghost use Rattle.clr_heap.specs.View.{frame, HeapView};
+ghost use Rattle.clr_heap.specs.View.{frame, HeapView, IsHeap};
 ghost use Rattle.clr_model.specs.Compaction.{Move};
 ghost use Rattle.clr_view.specs.View.{objects_in};
 ghost use Rattle.clr_generations.specs.Laws.{BrickLaw};
 ghost use Rattle.clr_moves.specs.Overlaid.{HoldsPlan};
-ghost use Rattle.clr_moves.specs.declared.parts.Parts.TheVariants.{LargeSegments};
+ghost use Rattle.clr_moves.specs.declared.condemned.Condemned.TheVariants.{LargeSegments};
 ghost use Rattle.clr_compact.specs.Compacted.{HasCompacted};
 ghost use Rattle.clr_compact.specs.Large.{CanSlideLarge};
 
@@ -16,7 +16,7 @@ use crate::slide_plan::slide_plan;
 use crate::slides::Slides;
 use clr_bricks::Bricks;
 use clr_heap::Heap;
-use clr_moves::{Parts, Planned};
+use clr_moves::{Condemned, Planned};
 use clr_pinq::PinQueue;
 use clr_types::Types;
 
@@ -32,6 +32,7 @@ pub fn slide_large(heap: &mut Heap, types: &Types, bricks: &mut Bricks, pins: &m
     ensures compacted { (view : HeapView) (vs : List Move)
         → HoldsPlan types.now view heap.old bricks.old pins.old.entries LargeSegments vs heap.old.start1 heap.old.start0
         → HasCompacted types.now view heap.new LargeSegments vs }
+    ensures lawful { IsHeap heap.new }
     ensures start1 { heap.new.start1 ≡ heap.old.start1 }
     ensures start0 { heap.new.start0 ≡ heap.old.start0 }
     ensures empty { pins.new.entries ≡ [] }
@@ -39,30 +40,17 @@ pub fn slide_large(heap: &mut Heap, types: &Types, bricks: &mut Bricks, pins: &m
     ensures brick_law { BrickLaw types.now (frame heap.new) (objects_in types.now heap.new) (entry_at bricks.new) }
     ensures spans { spans bricks.new ≡ spans bricks.old }
 {
-    let planned = kept_boundaries(heap);
+    let planned = Planned::unmoved(heap);
     let mut uncounted = Slides::new();
     slide_plan(
         heap,
         types,
         bricks,
         pins,
-        Parts::LargeSegments,
+        Condemned::LargeSegments,
         &planned,
         &mut uncounted,
     );
     pins.clear();
-    heap.lawful();
-    enter_whole_parts(heap, types, bricks, Parts::LargeSegments);
-    heap.lawful();
-}
-
-// What a plan answers that leaves the generations where they begin, and overwrites no entries of the ephemeral segment.
-fn kept_boundaries(heap: &Heap) -> Planned {
-    let (start1, start0) = heap.boundaries();
-    Planned {
-        start1,
-        start0,
-        below: 0,
-        first: 0,
-    }
+    enter_whole_parts(heap, types, bricks, Condemned::LargeSegments);
 }

@@ -17,12 +17,12 @@ ghost use Rattle.clr_compact.specs.PartBricks.{AreWhole, both_restored, CanEnter
 ghost use Rattle.clr_compact.specs.PartBricks.{IsEntry};
 ghost use Rattle.clr_compact.specs.PartBricks.{IsYoungPart, restored_at};
 ghost use Rattle.clr_compact.specs.Rewrites.{cleared, Rewrites};
-ghost use Rattle.clr_moves.specs.declared.parts.Parts.TheVariants.{Generations};
+ghost use Rattle.clr_moves.specs.declared.condemned.Condemned.TheVariants.{Generations};
 
 use crate::entering::{enter_bricks, forget_bricks};
 use clr_bricks::Bricks;
 use clr_heap::Heap;
-use clr_moves::{Parts, Planned, part_start, takes_part};
+use clr_moves::{Condemned, Planned, part_start, takes_part};
 use clr_types::{FIRST_OFFSET, Types};
 
 // Where the part of the ephemeral segment starts, and where the segment ends.
@@ -40,7 +40,7 @@ pub(crate) fn young_part(heap: &Heap, g: u8) -> YoungPart
 {
     let young = heap.ephemeral();
     YoungPart {
-        start: part_start(heap, Parts::Generations(g), young),
+        start: part_start(heap, Condemned::Generations(g), young),
         end: heap.info(young).end,
     }
 }
@@ -57,6 +57,7 @@ pub(crate) fn enter_parts(
     part: YoungPart,
 )
     requires least { g ≤ 2 }
+    requires heap { IsHeap heap.old }
     requires no_contexts { heap.old.rests ≡ no_rests }
     requires parts { (was : HeapView) × HasMovedBounds g part.start was heap.old
         × ArePartsWalkable types.now was (Generations g) }
@@ -77,9 +78,8 @@ pub(crate) fn enter_parts(
         → IsBrickOf (segment_at heap.old t) brick → entry_at bricks.new brick ≡ entry_at bricks.old brick }
     ensures spans { spans bricks.new ≡ spans bricks.old }
 {
-    heap.lawful();
     if g == 2 {
-        enter_whole_parts(heap, types, bricks, Parts::Generations(2));
+        enter_whole_parts(heap, types, bricks, Condemned::Generations(2));
     } else {
         enter_young_part(heap, types, bricks, planned, part);
     }
@@ -158,7 +158,7 @@ fn restore(bricks: &mut Bricks, brick: u64, entry: i16)
 }
 
 // Clears the marks of the items of all parts, which are whole segments, and enters their bricks anew.
-pub(crate) fn enter_whole_parts(heap: &mut Heap, types: &Types, bricks: &mut Bricks, g: Parts)
+pub(crate) fn enter_whole_parts(heap: &mut Heap, types: &Types, bricks: &mut Bricks, g: Condemned)
     requires whole { AreWhole g }
     requires parts { ArePartsWalkable types.now heap.old g }
     requires no_contexts { heap.old.rests ≡ no_rests }
@@ -184,6 +184,7 @@ pub(crate) fn enter_whole_parts(heap: &mut Heap, types: &Types, bricks: &mut Bri
 
 // Clears the marks of the items of segment `k`, and enters its bricks anew.
 fn enter_whole_part(heap: &mut Heap, types: &Types, bricks: &mut Bricks, k: usize)
+    requires heap { IsHeap heap.old }
     requires in_range { k < length heap.old.segments }
     requires no_contexts { heap.old.rests ≡ no_rests }
     requires walk { CanWalk (sight types.now heap.old k) heap.old.memories (first_of heap.old k) (last_of heap.old k) }
@@ -196,7 +197,6 @@ fn enter_whole_part(heap: &mut Heap, types: &Types, bricks: &mut Bricks, k: usiz
         → entry_at bricks.new brick ≡ entry_at bricks.old brick }
     ensures spans { spans bricks.new ≡ spans bricks.old }
 {
-    heap.lawful();
     clear_bricks(heap, bricks, k);
     let from = heap.info(k).base + FIRST_OFFSET;
     enter_bricks(heap, types, bricks, k, from);

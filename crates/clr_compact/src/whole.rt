@@ -44,7 +44,8 @@ pub(crate) fn land_plug(
 
 // The three words that end 8 bytes before a place, as they were saved.
 pub(crate) fn words_before(heap: &Heap, pins: &PinQueue, near: usize, place: u64) -> Saved
-    requires { HasInfo heap.now place }
+    requires heap { IsHeap heap.now }
+    requires info { HasInfo heap.now place }
     ensures { result ≡ record {
       at = place - 32;
       w0 = logical pins.now.entries (word_of heap.now) (place - 32);
@@ -52,7 +53,6 @@ pub(crate) fn words_before(heap: &Heap, pins: &PinQueue, near: usize, place: u64
       w2 = logical pins.now.entries (word_of heap.now) (place - 16);
     } }
 {
-    heap.lawful();
     Saved {
         at: place - 32,
         w0: pins.logical_word(heap, near, place - 32),
@@ -63,7 +63,8 @@ pub(crate) fn words_before(heap: &Heap, pins: &PinQueue, near: usize, place: u64
 
 // Writes three words so that they end 8 bytes before a place.
 pub(crate) fn put_before(heap: &mut Heap, place: u64, words: Saved)
-    requires { HasInfo heap.old place }
+    requires heap { IsHeap heap.old }
+    requires info { HasInfo heap.old place }
     ensures first { word_of heap.new (place - 32) ≡ words.w0 }
     ensures second { word_of heap.new (place - 24) ≡ words.w1 }
     ensures third { word_of heap.new (place - 16) ≡ words.w2 }
@@ -71,7 +72,6 @@ pub(crate) fn put_before(heap: &mut Heap, place: u64, words: Saved)
         → word_of heap.new b ≡ word_of heap.old b }
     ensures shape { SameShape heap.old heap.new }
 {
-    heap.lawful();
     let k = heap.segment_of(place - 32);
     heap.set_word_at(k, place - 32, words.w0);
     heap.set_word_at(k, place - 24, words.w1);

@@ -99,6 +99,7 @@ refilled_by rows h mid new t size laid a b refilled = record {
   free_heads = λ heads. b.free_heads (a.free_heads heads);
   clean = λ clean. b.clean (a.clean clean);
   limit = b.limit ∙ a.limit;
+  heap = b.heap;
   held = b.held;
 }
 

@@ -1,6 +1,6 @@
 -- All contexts are given up, one thread after the other.
-use Rattle.std.proofs.Common.{◌≡◌, ℕ, zero, suc, ◌-◌, List, [], ◌∷◌, ◌++◌, length, get_or, set, replicate, refl, ap}
-use Rattle.std.proofs.Common.{sym, ◌∙◌, subst, arith, filter, Option, None, Some}
+use Rattle.std.proofs.Common.{◌≡◌, ℕ, zero, suc, ◌-◌, ◌<◌, List, [], ◌∷◌, ◌++◌, length, get_or, set, replicate}
+use Rattle.std.proofs.Common.{refl, ap, sym, ◌∙◌, subst, arith, filter, Option, None, Some}
 use Rattle.std.proofs.lemmas.List.{append-nil, append_assoc}
 use Rattle.clr_types.specs.Types.{TypeRow}
 use Rattle.clr_types.specs.Ranges.{by_place, Piece}
@@ -49,6 +49,11 @@ next_piece (suc n) (r ∷ rs) =
     ap (λ (ps : List Piece). pieces_of_option r ++ ps) (next_piece n rs)
     ∙ sym (append_assoc (pieces_of_option r) (pieces_before n rs) (pieces_of_option (get_or rs n None)))
 
+rests_stay : (n : ℕ) (rs : List (Option Piece)) → length (rests_after n rs) ≡ length rs
+rests_stay zero rs = refl
+rests_stay (suc n) [] = refl
+rests_stay (suc n) (r ∷ rs) = ap suc (rests_stay n rs)
+
 all_rests : (rs : List (Option Piece)) → rests_after (length rs) rs ≡ replicate (length rs) None
 all_rests [] = refl
 all_rests (r ∷ rs) = ap (λ (os : List (Option Piece)). None ∷ os) (all_rests rs)
@@ -58,9 +63,9 @@ all_pieces [] = refl
 all_pieces (None ∷ rs) = all_pieces rs
 all_pieces (Some r ∷ rs) = ap (λ (ps : List Piece). r ∷ ps) (all_pieces rs)
 
--- the contexts of the first n threads are given up
+-- The contexts of the first n threads are given up. That the heap is lawful is told by the first of them.
 pub record IsGivingUp (rows : List TypeRow) (h now : HeapView) (n : ℕ) : Type 0 where
-  pub heap : IsHeap now
+  pub heap : 0 < n → IsHeap now
   pub kept : filter is_object (heap_items rows now) ≡ filter is_object (heap_items rows h)
   pub cells : KeepsObjects rows h now
   pub free_heads : AreFreeHeads rows h → AreFreeHeads rows now
@@ -70,9 +75,9 @@ pub record IsGivingUp (rows : List TypeRow) (h now : HeapView) (n : ℕ) : Type 
   pub layout : layout_in rows now ≡ record (layout_in rows h) { free = free_in rows now; rests = rests_after n h.rests }
   pub free : IsShuffled (free_in rows now) (free_in rows h ++ pieces_before n h.rests)
 
-pub giving_starts : (rows : List TypeRow) (h : HeapView) → IsHeap h → IsHeld rows h → IsGivingUp rows h h 0
-giving_starts rows h heap held = record {
-  heap = heap;
+pub giving_starts : (rows : List TypeRow) (h : HeapView) → IsHeld rows h → IsGivingUp rows h h 0
+giving_starts rows h held = record {
+  heap = λ some. absurd (omega arith);
   kept = refl;
   cells = λ i b listed object z low high. refl;
   free_heads = λ heads. heads;
@@ -100,7 +105,7 @@ giving_step rows h now new n t number f r =
     append_assoc (free_in rows h) (pieces_before n h.rests) ps
     ∙ ap (λ (qs : List Piece). free_in rows h ++ qs) (sym (next_piece n h.rests)) in
     record {
-      heap = r.heap;
+      heap = λ some. r.heap;
       kept = r.kept ∙ f.kept;
       cells = keeps_both rows h now new f.kept f.cells r.cells;
       free_heads = λ heads. r.free_heads (f.free_heads heads);
@@ -121,10 +126,13 @@ giving_step rows h now new n t number f r =
     }
 
 -- GIVING UP ALL
-pub giving_ends : (rows : List TypeRow) (h now : HeapView) (n : ℕ) → IsHeld rows h → n ≡ length h.rests
+pub giving_ends : (rows : List TypeRow) (h now : HeapView) (n : ℕ) → IsHeld rows h → n ≡ 16
     → IsGivingUp rows h now n → HasGivenUp rows h now
-giving_ends rows h now n held all f =
-    let rises = free_rises rows now f.held.walkable f.heap in
+giving_ends rows h now n held last f =
+    let heap = f.heap (omega (arith, last)) in
+    let all : n ≡ length h.rests = last ∙ sym heap.threads ∙ ap (λ (l : Layout). length l.rests) f.layout
+    ∙ rests_stay n h.rests in
+    let rises = free_rises rows now f.held.walkable heap in
     let pieces : pieces_before n h.rests ≡ rest_pieces h.rests = ap (λ (k : ℕ). pieces_before k h.rests) all
     ∙ all_pieces h.rests in
     let rests : rests_after n h.rests ≡ replicate (length h.rests) None = ap (λ (k : ℕ). rests_after k h.rests) all
@@ -140,5 +148,6 @@ giving_ends rows h now n held all f =
       free_heads = f.free_heads;
       clean = f.clean;
       limit = f.limit;
+      heap = heap;
       held = f.held;
     }

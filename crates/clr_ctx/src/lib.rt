@@ -1,10 +1,10 @@
 //! Allocation contexts: ranges of generation 0 that one thread fills with objects from the front.
 #![tactic(auto)]
 
-pub use crate::contexts::Contexts;
+pub use crate::young_items::YoungItems;
 
-mod contexts;
 mod ranges;
 mod rooms;
 #[cfg(test)]
 mod tests;
+mod young_items;

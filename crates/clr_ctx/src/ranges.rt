@@ -3,7 +3,7 @@ ghost use Rattle.std.specs.Prelude.{◌≡◌, ℕ, ◌+◌, ◌-◌, ◌%◌, �
 ghost use Rattle.clr_types.specs.Rising.{insert_by, IsIn};
 ghost use Rattle.clr_types.specs.Ranges.{fits};
 ghost use Rattle.clr_types.specs.Segments.{ephemeral, fits_in_tail, rest_of};
-ghost use Rattle.clr_heap.specs.View.{frame};
+ghost use Rattle.clr_heap.specs.View.{frame, IsHeap};
 ghost use Rattle.clr_model.specs.Allocation.{from_item, from_tail, taken_from};
 ghost use Rattle.clr_model.specs.Updates.{given_up};
 ghost use Rattle.clr_view.specs.View.{IsHeld, layout_in};
@@ -14,6 +14,7 @@ use clr_types::{Span, Types};
 
 /// Gives up a thread's context: what was left of it is a free item now, which is answered.
 pub fn close(heap: &mut Heap, types: &Types, t: usize) -> Option<Span>
+    requires heap { IsHeap heap.old }
     requires held { IsHeld types.now heap.old }
     requires positive { 0 < t }
     requires few { t ≤ 16 }
@@ -25,7 +26,6 @@ pub fn close(heap: &mut Heap, types: &Types, t: usize) -> Option<Span>
         young_items (layout_in types.now heap.new)
         ≡ insert_by (λ q. q.place) p (young_items (layout_in types.now heap.old))) }
 {
-    heap.lawful();
     let (low, high) = heap.hole(t)?;
     heap.make_free(low, high - low);
     heap.set_hole(t, low, low);
@@ -35,6 +35,7 @@ pub fn close(heap: &mut Heap, types: &Types, t: usize) -> Option<Span>
 /// Makes the front of a free item the context of a thread that has none. Its words are clear, and what is left of the
 /// item stays free.
 pub fn open_in_item(heap: &mut Heap, types: &Types, t: usize, item: Span, taken: u64)
+    requires heap { IsHeap heap.old }
     requires held { IsHeld types.now heap.old }
     requires positive { 0 < t }
     requires few { t ≤ 16 }
@@ -47,7 +48,6 @@ pub fn open_in_item(heap: &mut Heap, types: &Types, t: usize, item: Span, taken:
     ensures young { young_items (layout_in types.now heap.new)
         ≡ taken_from item.place taken (young_items (layout_in types.now heap.old)) }
 {
-    heap.lawful();
     let low = item.place();
     let middle = low + taken;
     if taken < item.size() {

@@ -4,7 +4,7 @@ ghost use Rattle.clr_heap.specs.View.{opening_heap};
 ghost use Rattle.clr_view.specs.View.{IsHeld};
 ghost use Rattle.clr_ctx.specs.Contexts.{IsIndex};
 
-use crate::Contexts;
+use crate::YoungItems;
 use clr_heap::Heap;
 use clr_items::{first_in, insert_item};
 use clr_types::{Span, Types};
@@ -14,7 +14,7 @@ use std::process::Abort;
 use std::test::Fail;
 
 // A new heap, and what its contexts need.
-fn started(alloc: Global) -> Result<(Types, Heap, Contexts), Fail>
+fn started(alloc: Global) -> Result<(Types, Heap, YoungItems), Fail>
     ensures held { IfOk result (λ p. IsHeld p.0 p.1) }
     ensures index { IfOk result (λ p. IsIndex p.0 p.1 p.2) }
     ensures no_types { IfOk result (λ p. p.0 ≡ []) }
@@ -22,87 +22,87 @@ fn started(alloc: Global) -> Result<(Types, Heap, Contexts), Fail>
 {
     let types = Types::new(alloc)?;
     let heap = Heap::new(alloc, 262_144, 1_048_576)?;
-    let contexts = Contexts::new(alloc);
-    Ok((types, heap, contexts))
+    let young = YoungItems::new(alloc);
+    Ok((types, heap, young))
 }
 
 // A refill, and the context that the thread has then: `None` where there is no room.
 fn refilled(
     rt: &impl Abort,
-    contexts: &mut Contexts,
+    young: &mut YoungItems,
     heap: &mut Heap,
     types: &Types,
     t: usize,
     size: u64,
 ) -> Option<(u64, u64)>
     requires held { IsHeld types.now heap.old }
-    requires index { IsIndex types.now heap.old contexts.old }
+    requires index { IsIndex types.now heap.old young.old }
     ensures held { IsHeld types.now heap.new }
-    ensures index { IsIndex types.now heap.new contexts.new }
+    ensures index { IsIndex types.now heap.new young.new }
 {
     assert!(rt; 0 < t && t <= 16);
     assert!(rt; 24 <= size && size % 8 == 0 && size <= 0x4000_0000);
-    contexts.refill(heap, types, t, size)?;
+    young.refill(heap, types, t, size)?;
     heap.hole(t)
 }
 
 // Refills, each of a thread for a size, that are to give these contexts.
 fn refill_each(
     rt: &impl Abort,
-    contexts: &mut Contexts,
+    young: &mut YoungItems,
     heap: &mut Heap,
     types: &Types,
     cases: &[(usize, u64, Option<(u64, u64)>)],
 )
     requires held { IsHeld types.now heap.old }
-    requires index { IsIndex types.now heap.old contexts.old }
+    requires index { IsIndex types.now heap.old young.old }
 {
     for &(t, size, want) in cases {
-        let context = refilled(rt, contexts, heap, types, t, size);
+        let context = refilled(rt, young, heap, types, t, size);
         assert_eq!(rt; context, want, "of thread {t}");
     }
 }
 
 // Gives two threads of a new heap contexts and gives them up, and makes the index anew, whatever it says.
-fn renewed(contexts: &mut Contexts, heap: &mut Heap, types: &Types)
+fn renewed(young: &mut YoungItems, heap: &mut Heap, types: &Types)
     requires held { IsHeld types.now heap.old }
-    requires index { IsIndex types.now heap.old contexts.old }
+    requires index { IsIndex types.now heap.old young.old }
     requires no_types { types.now ≡ [] }
     requires opening { heap.old ≡ opening_heap 262144 1048576 }
     ensures held { IsHeld types.now heap.new }
-    ensures index { IsIndex types.now heap.new contexts.new }
+    ensures index { IsIndex types.now heap.new young.new }
 {
-    let Some(()) = contexts.refill(heap, types, 1, 20_000) else {
+    let Some(()) = young.refill(heap, types, 1, 20_000) else {
         return;
     };
-    let Some(()) = contexts.refill(heap, types, 2, 104) else {
+    let Some(()) = young.refill(heap, types, 2, 104) else {
         return;
     };
-    contexts.give_up_all(heap, types);
-    contexts.forget();
-    contexts.renew(heap, types);
+    young.give_up_all(heap, types);
+    young.forget();
+    young.renew(heap, types);
 }
 
 #[test]
 fn a_size_fits_in_a_context(rt: HostRuntime) -> Result<(), Fail> {
-    let (types, mut heap, mut contexts) = started(rt.alloc())?;
-    assert!(rt; !contexts.fits(&heap, 1, 24));
-    let context = refilled(&rt, &mut contexts, &mut heap, &types, 1, 24);
+    let (types, mut heap, mut young) = started(rt.alloc())?;
+    assert!(rt; !young.fits(&heap, 1, 24));
+    let context = refilled(&rt, &mut young, &mut heap, &types, 1, 24);
     assert_eq!(rt; context, Some((0x1000_1000, 0x1000_3000)));
-    assert!(rt; contexts.fits(&heap, 1, 24));
-    assert!(rt; contexts.fits(&heap, 1, 8168));
-    assert!(rt; !contexts.fits(&heap, 1, 8176));
-    assert!(rt; contexts.fits(&heap, 1, 8192));
-    assert!(rt; !contexts.fits(&heap, 1, 8200));
+    assert!(rt; young.fits(&heap, 1, 24));
+    assert!(rt; young.fits(&heap, 1, 8168));
+    assert!(rt; !young.fits(&heap, 1, 8176));
+    assert!(rt; young.fits(&heap, 1, 8192));
+    assert!(rt; !young.fits(&heap, 1, 8200));
     Ok(())
 }
 
 #[test]
 fn contexts_come_from_free_items(rt: HostRuntime) -> Result<(), Fail> {
-    let (types, mut heap, mut contexts) = started(rt.alloc())?;
-    let first = refilled(&rt, &mut contexts, &mut heap, &types, 1, 20_000);
+    let (types, mut heap, mut young) = started(rt.alloc())?;
+    let first = refilled(&rt, &mut young, &mut heap, &types, 1, 20_000);
     assert_eq!(rt; first, Some((0x1000_1000, 0x1000_5e20)));
-    contexts.give_up_all(&mut heap, &types);
+    young.give_up_all(&mut heap, &types);
     assert_eq!(rt; heap.hole(1), None);
     let cases = [
         (2, 104, Some((0x1000_1000, 0x1000_3000))),
@@ -114,21 +114,21 @@ fn contexts_come_from_free_items(rt: HostRuntime) -> Result<(), Fail> {
         (7, 217_864, None),
         (7, 217_856, Some((0x1000_ad00, 0x1004_0000))),
     ];
-    refill_each(&rt, &mut contexts, &mut heap, &types, &cases);
+    refill_each(&rt, &mut young, &mut heap, &types, &cases);
     Ok(())
 }
 
 #[test]
 fn an_index_is_made_anew(rt: HostRuntime) -> Result<(), Fail> {
-    let (types, mut heap, mut contexts) = started(rt.alloc())?;
-    renewed(&mut contexts, &mut heap, &types);
+    let (types, mut heap, mut young) = started(rt.alloc())?;
+    renewed(&mut young, &mut heap, &types);
     let cases = [
         (3, 12_000, Some((0x1000_1000, 0x1000_3ee0))),
         (4, 104, Some((0x1000_3ee0, 0x1000_5e20))),
         (5, 104, Some((0x1000_5e20, 0x1000_7e20))),
         (6, 104, Some((0x1000_7e20, 0x1000_9e20))),
     ];
-    refill_each(&rt, &mut contexts, &mut heap, &types, &cases);
+    refill_each(&rt, &mut young, &mut heap, &types, &cases);
     Ok(())
 }
 

@@ -9,16 +9,17 @@ use clr_heap::{Heap, Item};
 use clr_types::mark::unmarked;
 use clr_types::{Span, Types};
 
-/// Carries an object to the front of a free item below it, in which its size fits. Its mark stays behind. What is left
-/// of the item stays free, and so is the range where the object stood: a free item, whose header says where the object
-/// went. References to it still name its old place.
-pub fn carry_object(heap: &mut Heap, types: &Types, object: Item, item: Span)
+// Carries an object to the front of a free item below it, in which its size fits. Its mark stays behind. What is left
+// of the item stays free, and so is the range where the object stood: a free item, whose header says where the object
+// went. References to it still name its old place.
+pub(crate) fn carry_object(heap: &mut Heap, types: &Types, object: Item, item: Span)
+    requires heap { IsHeap heap.old }
     requires held { IsHeld types.now heap.old }
     requires no_contexts { heap.old.rests ≡ no_rests }
     requires can { CanCarry types.now heap.old object item }
-    ensures { HasCarried types.now heap.old heap.new object item }
+    ensures carried { HasCarried types.now heap.old heap.new object item }
+    ensures heap { IsHeap heap.new }
 {
-    heap.lawful();
     copy_object(heap, types, object, item);
     vacate(heap, object, item.place());
 }

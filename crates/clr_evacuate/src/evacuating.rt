@@ -2,7 +2,7 @@
 ghost use Rattle.std.specs.Prelude.{◌≡◌, ℕ, ◌<◌, ◌≤◌, Bool, length};
 ghost use Rattle.clr_bricks.specs.Bricks.{entry_at};
 ghost use Rattle.clr_covers.specs.Covers.{spans};
-ghost use Rattle.clr_heap.specs.View.{frame, no_rests};
+ghost use Rattle.clr_heap.specs.View.{frame, IsHeap, no_rests};
 ghost use Rattle.clr_model.specs.Fitting.{fit, older_items};
 ghost use Rattle.clr_model.specs.Lawful.{IsLaid};
 ghost use Rattle.clr_model.specs.Machine.{Machine};
@@ -22,13 +22,13 @@ use clr_bricks::Bricks;
 use clr_heap::Heap;
 use clr_types::Types;
 
-/// Carries the marked objects of generation 1 that aren't pinned, run by run and low to high, each run to the front of
-/// the lowest free item of generation 2 of the small heap in which it then fits, where there is one. Answers how many
-/// bytes went.
-///
-/// It makes the fit of every lawful machine that has this memory, and whose pinned handles headers tell. Where each
-/// object stood that went, a free item says where, and references still name its old place. Bricks keep their law.
-pub fn carry_all(heap: &mut Heap, types: &Types, bricks: &mut Bricks) -> u64
+// Carries the marked objects of generation 1 that aren't pinned, run by run and low to high, each run to the front of
+// the lowest free item of generation 2 of the small heap in which it then fits, where there is one. Answers how many
+// bytes went.
+//
+// It makes the fit of every lawful machine that has this memory, and whose pinned handles headers tell. Where each
+// object stood that went, a free item says where, and references still name its old place. Bricks keep their law.
+pub(crate) fn carry_all(heap: &mut Heap, types: &Types, bricks: &mut Bricks) -> u64
     requires held { IsHeld types.now heap.old }
     requires no_contexts { heap.old.rests ≡ no_rests }
     requires free_heads { AreFreeHeads types.now heap.old }
@@ -46,9 +46,9 @@ pub fn carry_all(heap: &mut Heap, types: &Types, bricks: &mut Bricks) -> u64
     carry_between(heap, types, bricks, k, start1, start0)
 }
 
-/// Carries each run of segment `k` from `from` to `end` that may go into an older item to the lowest one in which it
-/// then fits, where there is one. Answers how many bytes went. Bricks keep their law.
-pub fn carry_between(
+// Carries each run of segment `k` from `from` to `end` that may go into an older item to the lowest one in which it
+// then fits, where there is one. Answers how many bytes went. Bricks keep their law.
+fn carry_between(
     heap: &mut Heap,
     types: &Types,
     bricks: &mut Bricks,
@@ -56,6 +56,7 @@ pub fn carry_between(
     from: u64,
     end: u64,
 ) -> u64
+    requires heap { IsHeap heap.old }
     requires held { IsHeld types.now heap.old }
     requires no_contexts { heap.old.rests ≡ no_rests }
     requires order { heap.old.start1 ≤ heap.old.start0 }
@@ -68,7 +69,6 @@ pub fn carry_between(
         → BrickLaw types.now (frame heap.new) (objects_in types.now heap.new) (entry_at bricks.new) }
     ensures spans { spans bricks.new ≡ spans bricks.old }
 {
-    heap.lawful();
     let mut hints = Hints::new();
     let mut place = from;
     let mut bytes = 0;

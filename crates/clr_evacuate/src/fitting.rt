@@ -33,16 +33,16 @@ use clr_heap::Heap;
 use clr_survivors::{Roots, set_pins};
 use clr_types::Types;
 
-/// Puts what survives generation 1, plug by plug and low to high, to the front of the lowest free item of generation 2
-/// of the small heap in which the plug then fits, where there is one; what pinned handles name stays. Locals, handles,
-/// entries, the f-reachable queue and all references name the new places then. Answers how many bytes went.
-///
-/// What went is of generation 2 and not marked any more, and where it stood is free. All else stays where it is, marked
-/// as it was. Cards and bricks obey their laws. Where nothing went it reads no reference, and no name from outside.
-///
-/// The heap is that of a lawful machine whose contexts are given up, and what a collection of generation 1 leaves is
-/// all that locals, handles and queues name.
-pub fn fit_survivors(types: &Types, space: &mut Space, roots: &mut Roots) -> u64
+// Puts what survives generation 1, plug by plug and low to high, to the front of the lowest free item of generation 2
+// of the small heap in which the plug then fits, where there is one; what pinned handles name stays. Locals, handles,
+// entries, the f-reachable queue and all references name the new places then. Answers how many bytes went.
+//
+// What went is of generation 2 and not marked any more, and where it stood is free. All else stays where it is, marked
+// as it was. Cards and bricks obey their laws. Where nothing went it reads no reference, and no name from outside.
+//
+// The heap is that of a lawful machine whose contexts are given up, and what a collection of generation 1 leaves is
+// all that locals, handles and queues name.
+pub(crate) fn fit_survivors(types: &Types, space: &mut Space, roots: &mut Roots) -> u64
     requires tidy { IsTidy types.now space.old }
     requires marked { IsMarkedFor (world_of types.now space.old.heap roots.old) 1 }
     ensures fitted { (n : Machine) (kept : ℕ → Bool) → IsMemoryOf types.now space.old.heap n → IsLaid n
@@ -80,7 +80,6 @@ fn carry_unpinned(types: &Types, heap: &mut Heap, bricks: &mut Bricks, handles: 
         → BrickLaw types.now (frame heap.new) (objects_in types.now heap.new) (entry_at bricks.new) }
     ensures spans { spans bricks.new ≡ spans bricks.old }
 {
-    handles.lawful();
     set_pins(heap, types, handles, 1, true);
     let bytes = carry_all(heap, types, bricks);
     set_pins(heap, types, handles, 1, false);

@@ -18,12 +18,18 @@ struct Seen {
     may_fit: bool,
 }
 
-/// The first plug of segment `k` from `from` to `end` that may go into an older item: the longest run side by side,
-/// from the first one on, of marked objects of generation 1 that aren't pinned. The next one is to be looked for where
-/// it ends.
-///
-/// It reads nothing below `from` but that item's header.
-pub fn next_fitting(heap: &Heap, types: &Types, k: usize, from: u64, end: u64) -> Option<Span>
+// The first plug of segment `k` from `from` to `end` that may go into an older item: the longest run side by side,
+// from the first one on, of marked objects of generation 1 that aren't pinned. The next one is to be looked for where
+// it ends.
+//
+// It reads nothing below `from` but that item's header.
+pub(crate) fn next_fitting(
+    heap: &Heap,
+    types: &Types,
+    k: usize,
+    from: u64,
+    end: u64,
+) -> Option<Span>
     requires in_range { k < length heap.now.segments }
     requires scan { CanScan types.now heap.now k from end }
     ensures { MatchOption result (fitting_between types.now heap.now k from end ≡ [])

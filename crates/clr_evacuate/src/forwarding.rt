@@ -1,5 +1,6 @@
 // Where what stood at a place went.
 ghost use Rattle.std.specs.Prelude.{◌≡◌, ℕ};
+ghost use Rattle.clr_heap.specs.View.{IsHeap};
 ghost use Rattle.clr_view.specs.View.{IsHeld};
 ghost use Rattle.clr_evacuate.specs.Forwarding.{CanForward, LeadsBy};
 
@@ -9,11 +10,11 @@ use clr_types::{FREE_MT, Types};
 // Where what stood at a place went: the place itself where that is null, where an object stands there, or where the
 // free item that begins there has no forward.
 pub(crate) fn forward(heap: &Heap, types: &Types, place: u64) -> u64
+    requires heap { IsHeap heap.now }
     requires held { IsHeld types.now heap.now }
     requires can { CanForward types.now heap.now place }
     ensures { (go : ℕ → ℕ) → LeadsBy types.now heap.now go → result ≡ go place }
 {
-    heap.lawful();
     let _ = types;
     if place == 0 {
         return 0;

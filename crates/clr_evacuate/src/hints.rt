@@ -17,16 +17,16 @@ struct Hint {
     place: u64,
 }
 
-/// Places below which older items have no room, each for one size, and where a search may begin. They stay right while
-/// plugs go into items.
+// Places below which older items have no room, each for one size, and where a search may begin. They stay right while
+// plugs go into items.
 #[derive(Drop)]
-pub struct Hints {
+pub(crate) struct Hints {
     hints: [Hint; 128],
 }
 
 impl Hints {
-    /// Nothing is known yet.
-    pub fn new() -> Hints
+    // Nothing is known yet.
+    pub(crate) fn new() -> Hints
         ensures { (rows : List TypeRow) (h : HeapView) → AreHints rows h result.hints }
     {
         Hints {
@@ -66,9 +66,9 @@ impl Hints {
     }
 }
 
-/// The lowest free item of generation 2 of the small heap in which a size fits: `None` where it fits in none. The
-/// search begins where an earlier one for the same size ended, if that is known.
-pub fn find_lowest(heap: &Heap, types: &Types, hints: &mut Hints, size: u64) -> Option<Span>
+// The lowest free item of generation 2 of the small heap in which a size fits: `None` where it fits in none. The
+// search begins where an earlier one for the same size ended, if that is known.
+pub(crate) fn find_lowest(heap: &Heap, types: &Types, hints: &mut Hints, size: u64) -> Option<Span>
     requires held { IsHeld types.now heap.now }
     requires no_contexts { heap.now.rests ≡ no_rests }
     requires order { heap.now.start1 ≤ heap.now.start0 }

@@ -1,9 +1,10 @@
 // What bricks tell where an object is gone.
 ghost use Rattle.std.specs.Prelude.{◌≡◌, ◌≢◌, ◌+◌, ◌*◌, ◌/◌, ◌%◌, ◌<◌, ◌≤◌, List, MatchOption, ℕ, false, length, min};
 ghost use Rattle.std.specs.Prelude.{true};
+ghost use Rattle.clr_types.specs.Segments.{ephemeral};
 ghost use Rattle.clr_bricks.specs.Bricks.{entry_at, root_entry};
 ghost use Rattle.clr_covers.specs.Covers.{is_covered, spans};
-ghost use Rattle.clr_heap.specs.View.{frame, IsHeap, last_of, no_rests};
+ghost use Rattle.clr_heap.specs.View.{frame, IsHeap, last_of, no_rests, segment_at};
 ghost use Rattle.clr_model.specs.Machine.{Object};
 ghost use Rattle.clr_view.specs.View.{IsHeld, objects_in};
 ghost use Rattle.clr_generations.specs.Laws.{BrickLaw};
@@ -15,10 +16,10 @@ use clr_bricks::Bricks;
 use clr_heap::Heap;
 use clr_types::Types;
 
-/// Lets the bricks forget an object that stood at a place of the ephemeral segment, below generation 0, where another
-/// item begins now: where its brick named it, that names the next object that starts in it, or leads one brick back
-/// where it may name none. All other entries stay. Only items of that brick are looked at, up to the next object.
-pub fn leave_brick(heap: &Heap, types: &Types, bricks: &mut Bricks, place: u64)
+// Lets the bricks forget an object that stood at a place of the ephemeral segment, below generation 0, where another
+// item begins now: where its brick named it, that names the next object that starts in it, or leads one brick back
+// where it may name none. All other entries stay. Only items of that brick are looked at, up to the next object.
+pub(crate) fn leave_brick(heap: &Heap, types: &Types, bricks: &mut Bricks, place: u64)
     requires held { IsHeld types.now heap.now }
     requires no_contexts { heap.now.rests ≡ no_rests }
     requires order { heap.now.start1 ≤ heap.now.start0 }
@@ -31,12 +32,12 @@ pub fn leave_brick(heap: &Heap, types: &Types, bricks: &mut Bricks, place: u64)
     ensures others { (i : ℕ) → i ≢ place / 4096 → entry_at bricks.new i ≡ entry_at bricks.old i }
     ensures spans { spans bricks.new ≡ spans bricks.old }
 {
-    heap.lawful();
+    let k = heap.ephemeral();
     if !is_named(bricks, place) {
         return;
     }
     let brick = place / 4096;
-    match next_leader(heap, types, place) {
+    match next_leader(heap, types, k, place) {
         Some(next) => bricks.set_root(brick, (next % 4096) as u16),
         None => bricks.set_back(brick, 1),
     }
@@ -51,8 +52,12 @@ fn is_named(bricks: &Bricks, place: u64) -> bool
     bricks.entry(place / 4096) == (place % 4096) as i16 + 1
 }
 
-// The place of the first object that starts in the brick of a place, from there on and below generation 0.
-fn next_leader(heap: &Heap, types: &Types, place: u64) -> Option<u64>
+// The place of the first object that starts in the brick of a place of segment `k`, the ephemeral one, from there on
+// and below generation 0.
+fn next_leader(heap: &Heap, types: &Types, k: usize, place: u64) -> Option<u64>
+    requires heap { IsHeap heap.now }
+    requires in_range { k < length heap.now.segments }
+    requires segment { segment_at heap.now k ≡ ephemeral (frame heap.now) }
     requires held { IsHeld types.now heap.now }
     requires no_contexts { heap.now.rests ≡ no_rests }
     requires item { IsOldItemAt types.now heap.now place }
@@ -60,7 +65,6 @@ fn next_leader(heap: &Heap, types: &Types, place: u64) -> Option<u64>
         (NoneCounted types.now heap.now is_any place (min heap.now.start0 (4096 * (place / 4096) + 4096)))
         (IsFirstFrom types.now heap.now is_any place (min heap.now.start0 (4096 * (place / 4096) + 4096))) }
 {
-    let k = heap.ephemeral();
     let (_, start0) = heap.boundaries();
     first_object(
         heap,

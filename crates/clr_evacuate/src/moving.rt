@@ -17,10 +17,10 @@ use clr_pinq::PinQueue;
 use clr_survivors::{Roots, move_survivors};
 use clr_types::Types;
 
-/// Moves what is marked in a collection of generation 1 that fits: first into older free items, as `fit_survivors`
-/// does, and what finds no room there to where a compaction takes it, as `move_survivors` does. Locals, handles,
-/// entries, the f-reachable queue and all references of what is left name the new places then. It answers the bytes
-/// that went to generations 1 and 2.
+/// Moves what is marked in a collection of generation 1 that fits: first each plug that isn't pinned, low to high, to
+/// the front of the lowest older free item in which it then fits, and then what found no room to where a compaction
+/// takes it, as `move_survivors` does. Locals, handles, entries, the f-reachable queue and all references of what is
+/// left name the new places then. It answers the bytes that went to generations 1 and 2.
 ///
 /// `slides` counts one, and each byte of a plug that went. The other conditions, and what is so afterwards, are those
 /// of `move_survivors`.

@@ -23,13 +23,14 @@ use clr_bricks::Bricks;
 use clr_heap::Heap;
 use clr_types::{Span, Types};
 
-/// Carries the objects of a run, low to high, one behind the other to the front of a free item below it, in which the
-/// run fits. Their marks stay behind. What is left of the item stays free, and so is where each object stood: a free
-/// item, whose header says where the object went. References to them still name their old places. Bricks keep their
-/// law.
-///
-/// The run stands in generation 1 of the ephemeral segment, and the item in generation 2.
-pub fn carry_plug(heap: &mut Heap, types: &Types, bricks: &mut Bricks, plug: Span, item: Span)
+// Carries the objects of a run, low to high, one behind the other to the front of a free item below it, in which the
+// run fits. Their marks stay behind. What is left of the item stays free, and so is where each object stood: a free
+// item, whose header says where the object went. References to them still name their old places. Bricks keep their
+// law.
+//
+// The run stands in generation 1 of the ephemeral segment, and the item in generation 2.
+fn carry_plug(heap: &mut Heap, types: &Types, bricks: &mut Bricks, plug: Span, item: Span)
+    requires heap { IsHeap heap.old }
     requires held { IsHeld types.now heap.old }
     requires no_contexts { heap.old.rests ≡ no_rests }
     requires order { heap.old.start1 ≤ heap.old.start0 }
@@ -46,7 +47,6 @@ pub fn carry_plug(heap: &mut Heap, types: &Types, bricks: &mut Bricks, plug: Spa
         → BrickLaw types.now (frame heap.new) (objects_in types.now heap.new) (entry_at bricks.new) }
     ensures spans { spans bricks.new ≡ spans bricks.old }
 {
-    heap.lawful();
     let mut place = plug.place();
     while place < plug.end() {
         let to = place - (plug.place() - item.place());
@@ -78,9 +78,9 @@ fn carry_next(heap: &mut Heap, types: &Types, bricks: &mut Bricks, place: u64, i
     object.size
 }
 
-/// Carries the objects of a run to the lowest older free item in which the run fits, as `carry_plug` does, where there
-/// is one. Answers how many bytes went.
-pub fn carry_fitting(
+// Carries the objects of a run to the lowest older free item in which the run fits, as `carry_plug` does, where there
+// is one. Answers how many bytes went.
+pub(crate) fn carry_fitting(
     heap: &mut Heap,
     types: &Types,
     bricks: &mut Bricks,

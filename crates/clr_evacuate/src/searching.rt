@@ -11,12 +11,12 @@ use clr_heap::{Heap, SegKind};
 use clr_items::fits_in;
 use clr_types::{Span, Types};
 
-/// The lowest free item of generation 2 of the small heap at `from` or above it in which a size fits: `None` where it
-/// fits in none. Where it fits in none below `from`, that is the lowest of all.
-///
-/// It reads no item below `from`, and none of a generation below 2. Where `from` is the place of one of generation 2
-/// in a segment, an item begins there.
-pub fn find_item(heap: &Heap, types: &Types, size: u64, from: u64) -> Option<Span>
+// The lowest free item of generation 2 of the small heap at `from` or above it in which a size fits: `None` where it
+// fits in none. Where it fits in none below `from`, that is the lowest of all.
+//
+// It reads no item below `from`, and none of a generation below 2. Where `from` is the place of one of generation 2
+// in a segment, an item begins there.
+pub(crate) fn find_item(heap: &Heap, types: &Types, size: u64, from: u64) -> Option<Span>
     requires held { IsHeld types.now heap.now }
     requires no_contexts { heap.now.rests ≡ no_rests }
     requires begins { CanSearchFrom types.now heap.now from }

@@ -69,7 +69,6 @@ at-youngest layout p e one none =
 -- an object was born where the thread's context began
 pub record IsBornIn (rows : List TypeRow) (old new : HeapView) (thread t n : ℕ) : Type 0 where
   pub before : IsHeap old
-  pub after : IsHeap new
   pub held : IsHeld rows old
   pub positive : 0 < thread
   pub few : thread ≤ 16
@@ -84,7 +83,7 @@ module _ (rows : List TypeRow) (old new : HeapView) (thread t n : ℕ) (f : IsBo
   more : HasOneMore rows old new (context_front (frame old) thread) t n
   more = record {
     before = f.before;
-    after = f.after;
+    after = f.born.heap;
     held = f.held;
     now_held = f.born.held;
     objects = f.born.objects;
@@ -226,14 +225,14 @@ module _ (rows : List TypeRow) (old new : HeapView) (thread t n : ℕ) (f : IsBo
   pub newborn-covered : (bricks : List (CoverView ℤ)) → AreBricksOf (frame old) bricks
       → is_covered bricks (place / 4096) ≡ true
   newborn-covered bricks e =
-      let there = stands-item rows new f.after f.born.held place (born-stands rows old new thread t n f.born) in
-      let home_is = standing rows new f.after f.born.held (item_at rows (word_of new) place) there.listed in
+      let there = stands-item rows new f.born.heap f.born.held place (born-stands rows old new thread t n f.born) in
+      let home_is = standing rows new f.born.heap f.born.held (item_at rows (word_of new) place) there.listed in
       let at = there.at in
       let above = home_is.above in
       let below = home_is.below in
       let least = home_is.least in
       let all = home_is.reserved in
-      brick-covered new home_is.segment place f.after home_is.in_range (omega arith) (omega arith) bricks
+      brick-covered new home_is.segment place f.born.heap home_is.in_range (omega arith) (omega arith) bricks
       (e ∙ sym (units-same (frame old) (frame new) bounds 4096))
 
   -- THE BRICK LAW is kept

@@ -8,6 +8,7 @@ pub mod FoundItems
 pub mod AddedObjects
 pub mod CardBirths
 pub mod BirthLaws
+pub mod BeforeBirth
 pub mod BirthFacts
 pub mod OldBirthLaws
 pub mod OldBirthFacts

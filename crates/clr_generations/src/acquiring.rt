@@ -4,7 +4,7 @@ ghost use Rattle.clr_types.specs.Segments.{reserved_sum};
 ghost use Rattle.clr_bricks.specs.Bricks.{entry_at, new_bricks};
 ghost use Rattle.clr_cards.specs.Cards.{clear_cards, is_card_set};
 ghost use Rattle.clr_covers.specs.Covers.{spans, with_cover};
-ghost use Rattle.clr_heap.specs.View.{acquired, frame, no_rests};
+ghost use Rattle.clr_heap.specs.View.{acquired, frame, IsHeap, no_rests};
 ghost use Rattle.clr_generations.specs.Acquiring.{AreBelow};
 ghost use Rattle.clr_generations.specs.Tables.{AreBricksOf, AreCardsOf};
 
@@ -41,17 +41,21 @@ pub fn acquire(
     ensures over_limit { (result ≡ Err AcquireFault.OverLimit)
         ↔ (heap.old.limit < reserved_sum (frame heap.old) + size) }
     ensures heap { OnErr result (heap.new ≡ heap.old) }
+    ensures lawful { IsHeap heap.new }
     ensures same_cards { OnErr result (cards.new ≡ cards.old) }
     ensures same_bricks { OnErr result (bricks.new ≡ bricks.old) }
 {
+    heap.lawful();
     if !heap.allows(size) {
         return Err(AcquireFault::OverLimit);
     }
-    heap.lawful();
     let base = heap.top();
     cover(cards, bricks, base, size)?;
     match heap.acquire(kind, size) {
-        Ok(_) => Ok(()),
+        Ok(_) => {
+            heap.lawful();
+            Ok(())
+        }
         Err(fault) => {
             cards.remove(base);
             bricks.remove(base);

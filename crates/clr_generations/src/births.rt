@@ -60,9 +60,7 @@ pub fn bear(
         → NamesNoMore types.now (frame heap.old) (objects_in types.now heap.old) (frame heap.new)
         (objects_in types.now heap.new) }
 {
-    heap.lawful();
     let place = clr_view::bear(heap, types, thread, t, len, size);
-    heap.lawful();
     enter_newborn(heap, bricks, place);
     place
 }

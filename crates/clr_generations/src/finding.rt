@@ -3,7 +3,7 @@ ghost use Rattle.std.specs.Prelude.{◌≡◌, ℕ, ◌^◌, ◌<◌, ◌≤◌,
 ghost use Rattle.clr_bricks.specs.Bricks.{entry_at, root_entry};
 ghost use Rattle.clr_heap.specs.Parts.{hole_from};
 ghost use Rattle.clr_heap.specs.View.{CanWalk, first_of, frame, heap_items, item_with_place, items_between, last_of};
-ghost use Rattle.clr_heap.specs.View.{holes_of, only_object, sight};
+ghost use Rattle.clr_heap.specs.View.{holes_of, IsHeap, only_object, sight};
 ghost use Rattle.clr_view.specs.View.{IsHeld, objects_in};
 ghost use Rattle.clr_generations.specs.Finding.{IsStart};
 ghost use Rattle.clr_generations.specs.Laws.{BrickLaw};
@@ -21,7 +21,6 @@ pub fn object_at(heap: &Heap, types: &Types, bricks: &Bricks, a: u64) -> Option<
     requires law { BrickLaw types.now (frame heap.now) (objects_in types.now heap.now) (entry_at bricks.now) }
     ensures { result ≡ only_object (item_with_place (heap_items types.now heap.now) a) }
 {
-    heap.lawful();
     let k = segment_with(heap, a)?;
     let start = walk_start(heap, types, bricks, k, a);
     let found = item_from(heap, types, k, start, a)?;
@@ -34,6 +33,7 @@ pub fn object_at(heap: &Heap, types: &Types, bricks: &Bricks, a: u64) -> Option<
 
 // The number of the segment in which an item may have the place `a`.
 fn segment_with(heap: &Heap, a: u64) -> Option<usize>
+    ensures heap { IsHeap heap.now }
     ensures in_range { IfSome result (λ k. k < length heap.now.segments) }
     ensures low { IfSome result (λ k. first_of heap.now k ≤ a) }
     ensures high { IfSome result (λ k. a < last_of heap.now k) }
@@ -60,7 +60,6 @@ fn walk_start(heap: &Heap, types: &Types, bricks: &Bricks, k: usize, a: u64) -> 
     requires law { BrickLaw types.now (frame heap.now) (objects_in types.now heap.now) (entry_at bricks.now) }
     ensures { IsStart types.now heap.now k a result }
 {
-    heap.lawful();
     let first = heap.info(k).first_place();
     let lowest = first / 4096;
     let mut brick = a / 4096;

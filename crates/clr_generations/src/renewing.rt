@@ -3,7 +3,7 @@ ghost use Rattle.std.specs.Prelude.{◌≡◌, ℕ, ◌+◌, ◌*◌, ◌/◌, �
 ghost use Rattle.std.specs.Prelude.{Bool, ◌&&◌, MatchOption, true};
 ghost use Rattle.clr_bricks.specs.Bricks.{entry_at};
 ghost use Rattle.clr_covers.specs.Covers.{is_covered, spans};
-ghost use Rattle.clr_heap.specs.View.{first_of, frame, last_of, no_rests, segment_at};
+ghost use Rattle.clr_heap.specs.View.{first_of, frame, IsHeap, last_of, no_rests, segment_at};
 ghost use Rattle.clr_model.specs.Machine.{Object};
 ghost use Rattle.clr_types.specs.Segments.{generation, Layout, stands_in};
 ghost use Rattle.clr_view.specs.View.{IsHeld, is_object, objects_in};
@@ -117,7 +117,6 @@ fn renew_part(
         → entry_at bricks.new brick ≡ entry_at bricks.old brick }
     ensures spans { spans bricks.new ≡ spans bricks.old }
 {
-    heap.lawful();
     let end = heap.info(k).end;
     let mut next = first_open(bricks, from, end);
     let mut brick = next;
@@ -175,7 +174,6 @@ fn first_in(
     ensures { MatchOption result (NoneCountedIn types.now heap.now (renewing.passes counted) brick)
         (IsFirstIn types.now heap.now (renewing.passes counted) brick) }
 {
-    heap.lawful();
     let end = heap.info(k).end;
     match search_start(bricks, brick, young) {
         Some(start) => first_counted(heap, types, k, start, end.min(4096 * brick + 4096), counted),
@@ -211,6 +209,7 @@ fn first_counted(
     past: u64,
     counted: Counted,
 ) -> Option<u64>
+    requires heap { IsHeap heap.now }
     requires held { IsHeld types.now heap.now }
     requires in_range { k < length heap.now.segments }
     requires no_contexts { heap.now.rests ≡ no_rests }
@@ -219,7 +218,6 @@ fn first_counted(
     ensures { MatchOption result (NoneCounted types.now heap.now (renewing.passes counted) start past)
         (IsFirstFrom types.now heap.now (renewing.passes counted) start past) }
 {
-    heap.lawful();
     let mut place = start;
     while place < past {
         let mt = heap.word_at(k, place);

@@ -1,5 +1,5 @@
 // The handles that name places from a bound on.
-ghost use Rattle.std.specs.Prelude.{◌≡◌, false, true, IfNone, IfSome, None, Some};
+ghost use Rattle.std.specs.Prelude.{◌≡◌, ◌<◌, ℕ, false, true, IfNone, IfSome, None, Some};
 ghost use Rattle.std.specs.FinMap as finmap;
 ghost use Rattle.clr_types.specs.declared.handle.Handle.{Handle as Row};
 ghost use Rattle.clr_handles.specs.Places.{IsNext, IsPrevious, names_from, NoneNames};
@@ -17,6 +17,7 @@ impl Handles {
     pub fn next_from(&self, from: u64, low: u64) -> Option<(u64, Handle)>
         ensures found { IfSome result (λ found. IsNext self.now low from found.0 found.1) }
         ensures none { IfNone result (NoneNames self.now low from 65536) }
+        ensures below { (h : ℕ) (row : Row) → finmap.get self.now h ≡ Some row → h < 65536 }
     {
         let end = CHUNK * self.tops.len() as u64;
         let mut h = from;
@@ -41,6 +42,7 @@ impl Handles {
     pub fn previous_below(&self, before: u64, low: u64) -> Option<(u64, Handle)>
         ensures found { IfSome result (λ found. IsPrevious self.now low before found.0 found.1) }
         ensures none { IfNone result (NoneNames self.now low 0 before) }
+        ensures below { (h : ℕ) (row : Row) → finmap.get self.now h ≡ Some row → h < 65536 }
     {
         let mut end = before.min(CHUNK * self.tops.len() as u64);
         while end > 0 {

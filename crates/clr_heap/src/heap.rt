@@ -122,6 +122,7 @@ impl Heap {
         ensures lawful { IsLawfulSegment (segment_at self.now k) }
         ensures below_top { reserved_end (segment_at self.now k) ≤ self.now.top }
         ensures fits { self.now.top ≤ 2 ^ 61 + 2 ^ 30 }
+        ensures heap { IsHeap self.now }
     {
         self.segments[k]
     }

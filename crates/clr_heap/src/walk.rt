@@ -3,7 +3,7 @@ ghost use Rattle.std.specs.Prelude.{◌≡◌, ℕ, ◌+◌, ◌<◌, ◌≤◌,
 ghost use Rattle.clr_heap.specs.ObjectKinds.{IsObjectKind};
 ghost use Rattle.clr_heap.specs.Parts.{hole_from, item_at};
 ghost use Rattle.clr_heap.specs.View.{AfterItem, AreWalkable, CanWalk, heap_items, holes_of, item_with_place};
-ghost use Rattle.clr_heap.specs.View.{items_between, IsWalkable, listing, only_object, sight, word_of};
+ghost use Rattle.clr_heap.specs.View.{IsHeap, items_between, IsWalkable, listing, only_object, sight, word_of};
 
 use crate::heap::Heap;
 use crate::{Item, ObjectKind, SegKind};
@@ -87,6 +87,7 @@ impl Heap {
         requires walkable { IsWalkable types.now self.now k }
         ensures items { result ≡ listing types.now self.now k }
         ensures few { length result < 2 ^ 64 }
+        ensures heap { IsHeap self.now }
     {
         let segment = self.info(k);
         let place = segment.first_place();
@@ -154,6 +155,7 @@ impl Heap {
 }
 
 // The first spot from this one on where no hole starts.
+#[inline(always)]
 fn past_holes(heap: &Heap, types: &Types, k: usize, spot: Spot, end: u64) -> Spot
     requires in_range { k < length heap.now.segments }
     requires walk { CanWalk (sight types.now heap.now k) heap.now.memories spot.place end }
@@ -196,6 +198,7 @@ fn skip_holes(heap: &Heap, types: &Types, k: usize, from: u64, end: u64) -> u64
 }
 
 // The item at `place`, on a walk to `end`, and the kind that is known behind it.
+#[inline(always)]
 fn item_on(
     heap: &Heap,
     types: &Types,

@@ -22,7 +22,6 @@ pub fn list_free(
     requires no_contexts { HasNoRests heap.now k }
     ensures { result ≡ true → items.new.items ≡ items.old.items ++ free_among (items_from types.now heap.now k from) }
 {
-    heap.lawful();
     let end = heap.info(k).end;
     let mut place = from;
     while place < end {

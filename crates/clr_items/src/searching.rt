@@ -16,7 +16,6 @@ pub fn first_free(heap: &Heap, types: &Types, k: usize, from: u64, size: u64) ->
     requires small { size < 2 ^ 62 }
     ensures { result ≡ first_fitting size (free_from from (listing types.now heap.now k)) }
 {
-    heap.lawful();
     for found in heap.walk(types, k) {
         if found.type_id.0 == 0 && found.place >= from && fits_in(size, found.size) {
             return Some(Span::between(found.place, found.place + found.size));

@@ -23,11 +23,12 @@ use Rattle.clr_generations.proofs.AllBricks.{number-in, number-of}
 use Rattle.clr_sweep.proofs.LargeSwept.{listed_at, listed_stands, one_segment}
 use Rattle.clr_large.specs.Births.{HasNewbornIn}
 use Rattle.clr_large.specs.Places.{address_of, items_left, kind_items, with_place_taken}
-use Rattle.clr_large.specs.declared.places.Place.{Place}
+use Rattle.clr_large.specs.declared.places.Birthplace.{Birthplace}
 use Rattle.clr_large.proofs.OldKinds.{kind-is, kind-same}
 
 -- what a birth at a place promises
-pub record IsBorneAt (group : SegKind) (rows : List TypeRow) (h new : HeapView) (place : Place) (t n : ℕ) : Type 0 where
+pub record IsBorneAt (group : SegKind) (rows : List TypeRow) (h new : HeapView) (place : Birthplace) (t n : ℕ)
+    : Type 0 where
   pub born : HasNewbornIn group rows h new (address_of h place) t n
   pub layout : layout_in rows new ≡ with_place_taken rows h (size_of (form_at rows t) n) place
   pub items : kind_items group (layout_in rows new)

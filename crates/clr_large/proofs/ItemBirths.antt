@@ -33,7 +33,7 @@ use Rattle.clr_sweep.proofs.LayoutSwept.{free-rise}
 use Rattle.clr_items.proofs.Lists.{apart_around, place, taken-between}
 use Rattle.clr_large.specs.Births.{HasNewbornIn}
 use Rattle.clr_large.specs.Places.{IsOldKind, items_left, kind_items, with_place_taken}
-use Rattle.clr_large.specs.declared.places.Place.TheVariants.{Item as AtItem}
+use Rattle.clr_large.specs.declared.places.Birthplace.TheVariants.{Item as AtItem}
 use Rattle.clr_large.proofs.Homes.{head_shapes, in_kind, IsBorneAt, kind_item, KindItemAt, no_holes}
 use Rattle.clr_large.proofs.OldKinds.{old-other}
 use Rattle.clr_large.proofs.Newborns.{cells_borne, clean_borne, free_after, free_before, heads_borne, held_borne}
@@ -339,6 +339,7 @@ module _ (group : SegKind) (rows : List TypeRow) (h : HeapView) (p : Piece) (t n
         free_heads = heads_borne rows h new k low high t n (x ∷ []) ls swaps borne;
         clean = clean_borne rows h new k low high t n (x ∷ []) ls swaps borne;
         limit = ap (λ (g : HeapView). g.limit) to_new.others;
+        heap = new_heap;
         held = held_borne rows h new k low high t n (x ∷ []) ls swaps borne;
       }
 

@@ -21,8 +21,8 @@ use Rattle.clr_sweep.proofs.SurvivorsSwept.{at-in}
 use Rattle.clr_items.proofs.FoundItems.{found_lowest, found_passes, none_found}
 use Rattle.clr_large.specs.Places.{address_of, IsLowest, IsPlace, kind_items}
 use Rattle.clr_large.specs.Searches.{first_of_kind, has_tail_of, IsFirstTail, IsLower}
-use Rattle.clr_large.specs.declared.places.Place.{Place}
-use Rattle.clr_large.specs.declared.places.Place.TheVariants.{Item, Tail}
+use Rattle.clr_large.specs.declared.places.Birthplace.{Birthplace}
+use Rattle.clr_large.specs.declared.places.Birthplace.TheVariants.{Item, Tail}
 use Rattle.clr_large.proofs.KindLists.{kind_rise}
 use Rattle.clr_large.proofs.OldKinds.{kind-is, kind-same}
 
@@ -136,7 +136,7 @@ module _ (group : SegKind) (rows : List TypeRow) (h : HeapView) (size : ℕ) whe
       let (kind, f) = and_parts (same_kind group (segment_at h k).kind) (fits_in_tail (segment_at h k) size) has in
       (inside, kind-is group (segment_at h k).kind kind, f)
 
-  pub lower_place : (p : Piece) (k : ℕ) (place : Place) → Some p ≡ first_of_kind group (layout_in rows h) size
+  pub lower_place : (p : Piece) (k : ℕ) (place : Birthplace) → Some p ≡ first_of_kind group (layout_in rows h) size
       → IsFirstTail group h size (Some k)
       → IsLower h p k place → IsPlace group rows h size place
   lower_place p k place first_item first_tail lower = elim lower.0 [
@@ -145,7 +145,7 @@ module _ (group : SegKind) (rows : List TypeRow) (h : HeapView) (size : ℕ) whe
   ]
 
   -- where there is a place, there is room
-  pub place_has_room : (place : Place) → IsPlace group rows h size place
+  pub place_has_room : (place : Birthplace) → IsPlace group rows h size place
       → has_room_in group (layout_in rows h) size ≡ true
   place_has_room (Item p) (i, f) =
       let (stands, there) = out_of_filter (λ (q : Piece). stands_in_kind group (layout_in rows h) q.place) p
@@ -165,7 +165,7 @@ module _ (group : SegKind) (rows : List TypeRow) (h : HeapView) (size : ℕ) whe
       or_true false e = e
 
   -- whether one was found says whether there is room
-  pub room_told : (found : Option Place) → IfSome found (λ p. IsPlace group rows h size p
+  pub room_told : (found : Option Birthplace) → IfSome found (λ p. IsPlace group rows h size p
       × IsLowest group (layout_in rows h) size (address_of h p))
       → (found ≡ None → has_room_in group (layout_in rows h) size ≡ false)
       → is_some found ≡ has_room_in group (layout_in rows h) size

@@ -25,11 +25,10 @@ index_rises group rows h index items complete heap held is view all =
 
 -- the heap has one object more
 pub one_more : (group : SegKind) (rows : List TypeRow) (old new : HeapView) (place t n : ℕ) → IsHeap old
-    → IsHeld rows old → IsHeap new
-    → HasNewbornIn group rows old new place t n → HasOneMore rows old new place t n
-one_more group rows old new place t n before held after born = record {
+    → IsHeld rows old → HasNewbornIn group rows old new place t n → HasOneMore rows old new place t n
+one_more group rows old new place t n before held born = record {
   before = before;
-  after = after;
+  after = born.heap;
   held = held;
   now_held = born.held;
   objects = born.objects;

@@ -41,7 +41,7 @@ use Rattle.clr_generations.proofs.AllBricks.{number-in}
 use Rattle.clr_sweep.proofs.LargeSwept.{ephemerals-alike}
 use Rattle.clr_large.specs.Births.{HasNewbornIn}
 use Rattle.clr_large.specs.Places.{IsOldKind, kind_items, with_place_taken}
-use Rattle.clr_large.specs.declared.places.Place.TheVariants.{Tail}
+use Rattle.clr_large.specs.declared.places.Birthplace.TheVariants.{Tail}
 use Rattle.clr_large.proofs.Homes.{head_shapes, IsBorneAt, no_holes}
 use Rattle.clr_large.proofs.OldKinds.{kind-same, old-not_ephemeral, old-other}
 use Rattle.clr_large.proofs.Newborns.{cells_borne, clean_borne, free_after, free_before, heads_borne, held_borne}
@@ -310,6 +310,7 @@ module _ (group : SegKind) (rows : List TypeRow) (h : HeapView) (k t n : ℕ) (a
         free_heads = heads_borne rows h grown k low mid t n [] [] swaps borne;
         clean = clean_borne rows h grown k low mid t n [] [] swaps borne;
         limit = refl;
+        heap = heap_grown;
         held = held_borne rows h grown k low mid t n [] [] swaps borne;
       }
 

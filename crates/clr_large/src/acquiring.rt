@@ -4,7 +4,7 @@ ghost use Rattle.clr_types.specs.Segments.{reserved_sum};
 ghost use Rattle.clr_types.specs.declared.segment.SegKind.{SegKind};
 ghost use Rattle.clr_bricks.specs.Bricks.{entry_at};
 ghost use Rattle.clr_cards.specs.Cards.{is_card_set};
-ghost use Rattle.clr_heap.specs.View.{acquired, frame};
+ghost use Rattle.clr_heap.specs.View.{acquired, frame, IsHeap};
 ghost use Rattle.clr_model.specs.Allocation.{with_segment};
 ghost use Rattle.clr_view.specs.Clean.{AreClean};
 ghost use Rattle.clr_view.specs.Marks.{IsUnmarked};
@@ -46,6 +46,7 @@ pub fn acquire_of_kind(
         (layout_in types.now heap.new ≡ with_segment (layout_in types.now heap.old) kind size) }
     ensures items { (other : SegKind)
         → kind_items other (layout_in types.now heap.new) ≡ kind_items other (layout_in types.now heap.old) }
+    ensures lawful { IsHeap heap.new }
     ensures held { IsHeld types.now heap.new }
     ensures unmarked { IsUnmarked types.now heap.old → IsUnmarked types.now heap.new }
     ensures free_heads { AreFreeHeads types.now heap.old → AreFreeHeads types.now heap.new }
@@ -63,6 +64,5 @@ pub fn acquire_of_kind(
 {
     heap.lawful();
     acquire(heap, cards, bricks, kind, size)?;
-    heap.lawful();
     Ok(())
 }

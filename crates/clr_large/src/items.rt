@@ -4,7 +4,7 @@ ghost use Rattle.clr_types.specs.Rising.{IsRisingBy};
 ghost use Rattle.clr_types.specs.Types.{form_at, size_of};
 ghost use Rattle.clr_bricks.specs.Bricks.{entry_at};
 ghost use Rattle.clr_heap.specs.Parts.{IsMakeable};
-ghost use Rattle.clr_heap.specs.View.{frame, heap_items, word_of};
+ghost use Rattle.clr_heap.specs.View.{frame, heap_items, IsHeap, word_of};
 ghost use Rattle.clr_model.specs.Allocation.{has_room_in};
 ghost use Rattle.clr_view.specs.Among.{AreClosedAmong};
 ghost use Rattle.clr_view.specs.View.{IsHeld, layout_in, objects_in};
@@ -16,7 +16,7 @@ ghost use Rattle.clr_large.specs.Searches.{first_of_kind};
 
 use crate::births::bear_at;
 use crate::listing::list_of_kind;
-use crate::places::{Place, first_tail, first_walked, lower};
+use crate::places::{Birthplace, first_tail, first_walked, lower};
 use clr_bricks::Bricks;
 use clr_generations::enter_old_newborn;
 use clr_heap::{Heap, SegKind};
@@ -134,32 +134,36 @@ impl KindItems {
             → NamesNoMore types.now (frame heap.old) (objects_in types.now heap.old) (frame heap.new)
             (objects_in types.now heap.new) }
     {
-        heap.lawful();
         let size = types.item_size(t, len);
         let found = self.lowest_place(heap, types, kind, size)?;
         let place = self.bear_placed(heap, types, kind, found, t, len);
-        heap.lawful();
         enter_old_newborn(bricks, place, size);
         Some(place)
     }
 
     // The lowest place in the segments of the kind at which a size fits: first fit. `None` where it fits in no free
     // item of one and behind the end of none.
-    fn lowest_place(&self, heap: &Heap, types: &Types, kind: SegKind, size: u64) -> Option<Place>
+    fn lowest_place(
+        &self,
+        heap: &Heap,
+        types: &Types,
+        kind: SegKind,
+        size: u64,
+    ) -> Option<Birthplace>
         requires held { IsHeld types.now heap.now }
         requires index { IsKindIndex kind types.now heap.now self.now }
         requires small { size < 2 ^ 62 }
         ensures some { IfSome result (λ p. IsPlace kind types.now heap.now size p
             × IsLowest kind (layout_in types.now heap.now) size (address_of heap.now p)) }
         ensures none { result ≡ None → has_room_in kind (layout_in types.now heap.now) size ≡ false }
+        ensures heap { IsHeap heap.now }
     {
-        heap.lawful();
         let item = self.first_fit(heap, types, kind, size);
         let tail = first_tail(heap, kind, size);
         match (item, tail) {
             (Some(item), Some(k)) => Some(lower(heap, item, k)),
-            (Some(item), None) => Some(Place::Item(item)),
-            (None, Some(k)) => Some(Place::Tail(k)),
+            (Some(item), None) => Some(Birthplace::Item(item)),
+            (None, Some(k)) => Some(Birthplace::Tail(k)),
             (None, None) => None,
         }
     }
@@ -184,11 +188,12 @@ impl KindItems {
         heap: &mut Heap,
         types: &Types,
         kind: SegKind,
-        place: Place,
+        place: Birthplace,
         t: TypeId,
         len: u64,
     ) -> u64
         requires old { IsOldKind kind }
+        requires heap { IsHeap heap.old }
         requires held { IsHeld types.now heap.old }
         requires index { IsKindIndex kind types.now heap.old self.old }
         requires item { IsMakeable types.now t.0 len }
@@ -198,7 +203,6 @@ impl KindItems {
         ensures born { HasNewbornIn kind types.now heap.old heap.new result t.0 len }
         ensures index { IsKindIndex kind types.now heap.new self.new }
     {
-        heap.lawful();
         let size = types.item_size(t, len);
         if self.complete {
             take_place(&mut self.items, &place, size);
@@ -208,12 +212,12 @@ impl KindItems {
 }
 
 // Takes so many bytes from the front of an item, where the place is one.
-fn take_place(items: &mut VecDeque<Span>, place: &Place, taken: u64)
+fn take_place(items: &mut VecDeque<Span>, place: &Birthplace, taken: u64)
     requires rising { IsRisingBy (λ p. p.place) items.old.items }
     requires listed { IsListed taken place.now items.old.items }
     ensures { items.new.items ≡ items_left taken place.now items.old.items }
 {
-    if let Place::Item(item) = place {
+    if let Birthplace::Item(item) = place {
         take_front(items, *item, taken);
     }
 }

@@ -1,7 +1,7 @@
 // Where a size fits in a segment of a kind: first fit.
 ghost use Rattle.std.specs.Prelude.{◌≡◌, ◌^◌, ◌+◌, ◌<◌, ◌≤◌, length, IfSome, None, Some};
 ghost use Rattle.clr_view.specs.View.{IsHeld, layout_in};
-ghost use Rattle.clr_heap.specs.View.{segment_at};
+ghost use Rattle.clr_heap.specs.View.{IsHeap, segment_at};
 ghost use Rattle.clr_items.specs.Items.{first_fitting};
 ghost use Rattle.clr_large.specs.Places.{address_of};
 ghost use Rattle.clr_large.specs.Searches.{first_of_kind, has_tail_of, IsFirstTail, IsLower, items_of_kind};
@@ -12,7 +12,7 @@ use clr_types::{Span, Types};
 
 /// A place for an object in the segments of a kind.
 #[derive(Clone, Copy)]
-pub enum Place {
+pub enum Birthplace {
     /// The front of a free item of such a segment.
     Item(Span),
     /// The bytes behind the end of such a segment, by its number.
@@ -20,14 +20,14 @@ pub enum Place {
 }
 
 /// The lower of the front of a free item and the bytes behind the end of segment `k`.
-pub fn lower(heap: &Heap, item: Span, k: usize) -> Place
+pub fn lower(heap: &Heap, item: Span, k: usize) -> Birthplace
     requires { k < length heap.now.segments }
     ensures { IsLower heap.now item k result }
 {
     if item.place() < heap.info(k).end {
-        Place::Item(item)
+        Birthplace::Item(item)
     } else {
-        Place::Tail(k)
+        Birthplace::Tail(k)
     }
 }
 
@@ -66,7 +66,8 @@ fn first_if_of(heap: &Heap, types: &Types, kind: SegKind, k: usize, size: u64) -
 /// none.
 pub fn first_tail(heap: &Heap, kind: SegKind, size: u64) -> Option<usize>
     requires { size < 2 ^ 62 }
-    ensures { IsFirstTail kind heap.now size result }
+    ensures first { IsFirstTail kind heap.now size result }
+    ensures heap { IsHeap heap.now }
 {
     let count = heap.segments();
     for k in 0..count {

@@ -6,7 +6,7 @@ use Rattle.clr_bricks.specs.Bricks.{entry_at}
 use Rattle.clr_model.specs.Lawful.{IsPlaceNamed}
 use Rattle.clr_model.specs.Machine.{Machine, Object}
 use Rattle.clr_types.specs.Segments.{Layout}
-use Rattle.clr_heap.specs.View.{frame, HeapView}
+use Rattle.clr_heap.specs.View.{frame, HeapView, IsHeap}
 use Rattle.clr_view.specs.Clean.{AreClean}
 use Rattle.clr_view.specs.Marks.{IsUnmarked}
 use Rattle.clr_view.specs.View.{AreFreeHeads, IsHeld, layout_in, objects_in}
@@ -24,6 +24,7 @@ pub record IsTakenFrom (v : View) (m : Machine) : Type 0 where
   pub types : v.types.now ≡ m.types
   pub objects : m.objects ≡ objects_in m.types v.heap.now
   pub layout : m.layout ≡ layout_in m.types v.heap.now
+  pub heap : IsHeap v.heap.now
   pub held : IsHeld m.types v.heap.now
   pub unmarked : IsUnmarked m.types v.heap.now
   pub free_heads : AreFreeHeads m.types v.heap.now
@@ -84,6 +85,7 @@ module _ (v : View) (m : Machine) (is : IsTakenFrom v m) where
 
   pub taken_lawful : IsLawfulView v
   taken_lawful = record {
+    heap = is.heap;
     held = held-here;
     bricks = subst (λ (l : Layout). AreBricksOf l v.bricks.now) layout-is is.bricks;
     brick_law = law-framed v.types.now v.heap.now v.bricks.now law-here;

@@ -7,7 +7,7 @@ use Rattle.clr_model.specs.declared.command.Command.TheVariants.{Fetch, Finalize
 use Rattle.clr_model.specs.declared.command.Command.TheVariants.{DumpHeap, DumpObj, EeHeap, FinalizeQueue, GcHandles}
 use Rattle.clr_model.specs.declared.command.Command.TheVariants.{GcRoot, GcWhere, Suppress, VerifyHeap}
 use Rattle.clr_model.specs.declared.command.Command.TheVariants.{BackgroundBegin, BackgroundEnd, BackgroundStep}
-use Rattle.clr_model.specs.declared.command.Command.TheVariants.{CompactLarge, NewPinned, ObjSize}
+use Rattle.clr_model.specs.declared.command.Command.TheVariants.{Collect, CompactLarge, Define, New, NewPinned, ObjSize}
 
 -- slots of objects, and locals
 abbrev pub is_on_slots : Command → Bool
@@ -39,11 +39,14 @@ is_on_threads (BeginNew t local name len) = true
 is_on_threads (Step t) = true
 is_on_threads _ = false
 
--- the large heap, and the pinned one
-abbrev pub is_on_heaps : Command → Bool
-is_on_heaps (CompactLarge t) = true
-is_on_heaps (NewPinned t local name len) = true
-is_on_heaps _ = false
+-- types, births and collections
+abbrev pub is_on_heap : Command → Bool
+is_on_heap (Define name shape finalizer) = true
+is_on_heap (New t local name len) = true
+is_on_heap (NewPinned t local name len) = true
+is_on_heap (Collect t g how) = true
+is_on_heap (CompactLarge t) = true
+is_on_heap _ = false
 
 -- background collections
 abbrev pub is_in_background : Command → Bool

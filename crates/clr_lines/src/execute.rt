@@ -6,9 +6,9 @@ ghost use Rattle.clr_lines.specs.Outcomes.{outcome_of, CanShow};
 
 use crate::background::obey_background;
 use crate::handles::obey_handle;
-use crate::heaps::obey_heap;
+use crate::heap::obey_heap;
 use crate::looks::obey_look;
-use crate::outcome::{Outcome, told_collected, told_mt, told_place};
+use crate::outcome::Outcome;
 use crate::slots::obey_slot;
 use crate::threads::obey_thread;
 use clr_model::Command;
@@ -56,18 +56,11 @@ fn obey(runtime: &mut Runtime, alloc: Global, line: &[u8], command: Command<'_>)
 {
     let _ = line;
     match command {
-        Command::Define {
-            name,
-            shape,
-            finalizer,
-        } => told_mt(runtime.define(name, shape, finalizer)),
-        Command::New {
-            t,
-            local,
-            name,
-            len,
-        } => told_place(runtime.new_object(t, local, name, len)),
-        Command::Collect { t, g, how } => told_collected(runtime.collect(t, g, how)),
+        Command::Define { .. }
+        | Command::New { .. }
+        | Command::NewPinned { .. }
+        | Command::Collect { .. }
+        | Command::CompactLarge { .. } => obey_heap(runtime, command),
         Command::Get { .. }
         | Command::Set { .. }
         | Command::Put { .. }
@@ -95,7 +88,6 @@ fn obey(runtime: &mut Runtime, alloc: Global, line: &[u8], command: Command<'_>)
         | Command::BeginSet { .. }
         | Command::BeginNew { .. }
         | Command::Step { .. } => obey_thread(runtime, command),
-        Command::CompactLarge { .. } | Command::NewPinned { .. } => obey_heap(runtime, command),
         Command::BackgroundBegin { .. }
         | Command::BackgroundStep { .. }
         | Command::BackgroundEnd { .. } => obey_background(runtime, command),

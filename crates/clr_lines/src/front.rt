@@ -181,10 +181,13 @@ fn answer_new<'a>(
         (thread_word t ++ ((32 ∷ codes "new") ++ text.now)) p.1.now (take p.0 into.new) runtime.new.machine) }
 {
     let (recent, hint) = runtime.recent();
-    let (local, name, same, len, rest) = read_new(text, hint)?;
-    let known = if same { recent } else { None };
-    let written = tell_place(runtime.new_known(t, local, name, known, len), into);
-    Some((written, rest))
+    let line = read_new(text, hint)?;
+    let known = if line.hinted { recent } else { None };
+    let written = tell_place(
+        runtime.new_known(t, line.local, line.name, known, line.len),
+        into,
+    );
+    Some((written, line.rest))
 }
 
 // The line of thread `t` whose verb stands in front of the text.

@@ -6,7 +6,7 @@ mod background;
 pub mod execute;
 mod front;
 mod handles;
-mod heaps;
+mod heap;
 mod looks;
 mod outcome;
 mod slots;

@@ -48,7 +48,6 @@ fn verify(runtime: &Runtime) -> Outcome
 {
     clean_states_are_lawful();
     let view = view_of(runtime);
-    view.heap.lawful();
     match verifyheap(&view) {
         Ok(()) => Outcome::Reply(Reply::Clean),
         Err(_) => unreachable!(),
@@ -61,9 +60,11 @@ fn view_of(runtime: &Runtime) -> View<'_>
     ensures lawful { IsLawfulView result }
     ensures clean { IsCleanState result runtime.now.machine }
 {
+    let heap = runtime.heap();
+    heap.lawful();
     View {
         types: runtime.types(),
-        heap: runtime.heap(),
+        heap,
         bricks: runtime.bricks(),
         handles: runtime.handles(),
         finals: runtime.finals(),

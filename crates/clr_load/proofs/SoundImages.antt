@@ -152,6 +152,7 @@ module _ (bytes : List ℕ) (p : Parts) (n : ℕ) (fields : fields_of bytes ≡ 
   -- ALL THAT IS LOADED is sound
   pub image_sound : IsSound image
   image_sound = record {
+    heap = heap;
     held = shown IsHeld held;
     alone = none_at image.heap (ap (λ (h : HeapView). h.rests) shows.heap ∙ parts.body.made.rests);
     inside = subst AreInside (sym shows.heap) (are_inside p.body.heap parts.body.made.rests);

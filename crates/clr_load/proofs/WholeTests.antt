@@ -70,45 +70,44 @@ module _ (bytes : List ℕ) (w : Whole) (p : Parts) (is : IsWhole bytes w p) whe
       subst (λ (x : Rest). AllByRecursion (λ (e : ℕ × Handle). e.0 < 65536) x.tables.handles) (sym is.rest)
       parts.rest.tables.below
 
-  module _ (heap : IsHeap w.heap) where
-    heap_is : IsHeap p.body.heap
-    heap_is = subst IsHeap is.heap heap
+  heap_is : IsHeap p.body.heap
+  heap_is = subst IsHeap is.heap is.lawful
 
-    items_is : heap_items p.types p.body.heap ≡ p.body.items
-    items_is = items_are bytes p.head.large p.types p.body parts.body.segs parts.body.made heap_is
+  items_is : heap_items p.types p.body.heap ≡ p.body.items
+  items_is = items_are bytes p.head.large p.types p.body parts.body.segs parts.body.made heap_is
 
-    pub items_kept : heap_items w.types w.heap ≡ p.body.items
-    items_kept =
-        ap (λ (rows : List TypeRow). heap_items rows w.heap) is.types
-        ∙ ap (λ (h : HeapView). heap_items p.types h) is.heap ∙ items_is
+  pub items_kept : heap_items w.types w.heap ≡ p.body.items
+  items_kept =
+      ap (λ (rows : List TypeRow). heap_items rows w.heap) is.types
+      ∙ ap (λ (h : HeapView). heap_items p.types h) is.heap ∙ items_is
 
-    pub starts_kept : AreStarts w.starts (heap_items w.types w.heap)
-    starts_kept = subst (AreStarts w.starts) (sym items_kept) is.starts
+  pub starts_kept : AreStarts w.starts (heap_items w.types w.heap)
+  starts_kept = subst (AreStarts w.starts) (sym items_kept) is.starts
 
-    pub alone_kept : w.heap.rests ≡ no_rests
-    alone_kept = ap (λ (h : HeapView). h.rests) is.heap ∙ parts.body.made.rests
+  pub alone_kept : w.heap.rests ≡ no_rests
+  alone_kept = ap (λ (h : HeapView). h.rests) is.heap ∙ parts.body.made.rests
 
-    faultless : IsFaultless p.types p.head.large p.body.heap []
-    faultless =
-        is_faultless bytes p.head.large p.types p.body parts.body.segs parts.body.made heap_is []
-        (names_passed p.body.items p.body.references is.references) (λ x m. elim m [ ])
+  faultless : IsFaultless p.types p.head.large p.body.heap []
+  faultless =
+      is_faultless bytes p.head.large p.types p.body parts.body.segs parts.body.made heap_is []
+      (names_passed p.body.items p.body.references is.references) (λ x m. elim m [ ])
 
-    pub held_kept : IsHeld w.types w.heap
-    held_kept =
-        subst (λ (rows : List TypeRow). IsHeld rows w.heap) (sym is.types)
-        (subst (λ (h : HeapView). IsHeld p.types h) (sym is.heap)
-        (is_held bytes p.head.large p.types p.body parts.body.segs parts.body.made heap_is [] faultless))
+  pub held_kept : IsHeld w.types w.heap
+  held_kept =
+      subst (λ (rows : List TypeRow). IsHeld rows w.heap) (sym is.types)
+      (subst (λ (h : HeapView). IsHeld p.types h) (sym is.heap)
+      (is_held bytes p.head.large p.types p.body parts.body.segs parts.body.made heap_is [] faultless))
 
-    -- THE SECOND PASS, over what is kept
-    pub tests_kept : first_failed (tests_in p)
-        ≡ first_in_tables (rest_of w.rest) w.types w.heap (heap_items w.types w.heap)
-    tests_kept =
-        tests_are p
-        ∙ ap (λ (o : Option ℕ). or_else o (first_in_tables p.rest p.types p.body.heap p.body.items)) is.references
-        ∙ ap (λ (r : Rest). first_in_tables r p.types p.body.heap p.body.items) (sym is.rest)
-        ∙ ap (λ (rows : List TypeRow). first_in_tables (rest_of w.rest) rows p.body.heap p.body.items) (sym is.types)
-        ∙ ap (λ (h : HeapView). first_in_tables (rest_of w.rest) w.types h p.body.items) (sym is.heap)
-        ∙ ap (first_in_tables (rest_of w.rest) w.types w.heap) (sym items_kept)
+  -- THE SECOND PASS, over what is kept
+  pub tests_kept : first_failed (tests_in p)
+      ≡ first_in_tables (rest_of w.rest) w.types w.heap (heap_items w.types w.heap)
+  tests_kept =
+      tests_are p
+      ∙ ap (λ (o : Option ℕ). or_else o (first_in_tables p.rest p.types p.body.heap p.body.items)) is.references
+      ∙ ap (λ (r : Rest). first_in_tables r p.types p.body.heap p.body.items) (sym is.rest)
+      ∙ ap (λ (rows : List TypeRow). first_in_tables (rest_of w.rest) rows p.body.heap p.body.items) (sym is.types)
+      ∙ ap (λ (h : HeapView). first_in_tables (rest_of w.rest) w.types h p.body.items) (sym is.heap)
+      ∙ ap (first_in_tables (rest_of w.rest) w.types w.heap) (sym items_kept)
 
 -- ---- the heap can be made
 

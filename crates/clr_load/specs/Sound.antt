@@ -1,6 +1,7 @@
 -- What holds of a loaded image.
 use Rattle.std.specs.Prelude.{◌≡◌, ℕ, true}
 use Rattle.clr_types.specs.Rising.{IsIn}
+use Rattle.clr_heap.specs.View.{IsHeap}
 use Rattle.clr_view.specs.Flags.{is_final_at}
 use Rattle.clr_view.specs.SlotValues.{StandsAt}
 use Rattle.clr_view.specs.View.{IsHeld}
@@ -15,9 +16,10 @@ pub record IsFinal (image : Image) (place : ℕ) : Type 0 where
   pub stands : StandsAt image.types image.heap place
   pub final : is_final_at image.types image.heap place ≡ true
 
--- Objects and free items fill the heap, in which no thread has a context, and nothing is wrong with it and the locals:
--- `verifyheap` answers Ok. All that names objects from outside of the heap names objects that are there.
+-- The heap is lawful, objects and free items fill it, no thread has a context in it, and nothing is wrong with it and
+-- the locals: `verifyheap` answers Ok. All that names objects from outside of the heap names objects that are there.
 pub record IsSound (image : Image) : Type 0 where
+  pub heap : IsHeap image.heap
   pub held : IsHeld image.types image.heap
   pub alone : HasNoContexts image.heap
   pub inside : AreInside image.heap

@@ -3,13 +3,15 @@ use Rattle.std.specs.Prelude.{◌≡◌, ℕ, ◌<◌, ◌^◌, length, List, ma
 use Rattle.clr_fields.specs.Fields.{found}
 use Rattle.clr_fields.specs.declared.fault.LoadFault.{LoadFault}
 use Rattle.clr_fields.specs.declared.fault.LoadFault.TheVariants.{At, NoMemory}
+use Rattle.clr_heap.specs.View.{IsHeap}
 use Rattle.clr_format.specs.Images.{fields_of, Parts}
 use Rattle.clr_format.specs.NameTests.{first_failed, reference_test}
 use Rattle.clr_load.specs.KnownStarts.{AreStarts}
 use Rattle.clr_load.specs.ReadTables.{rest_of}
 use Rattle.clr_load.specs.declared.whole.Whole.{Whole}
 
--- what is kept stands for the parts of these bytes, in which each reference is null or names an object
+-- what is kept stands for the parts of these bytes, in a lawful heap, in which each reference is null or names an
+-- object
 pub record IsWhole (bytes : List ℕ) (w : Whole) (p : Parts) : Type 0 where
   pub next : ℕ
   pub fields : fields_of bytes ≡ found p next
@@ -17,6 +19,7 @@ pub record IsWhole (bytes : List ℕ) (w : Whole) (p : Parts) : Type 0 where
   pub head : w.head ≡ p.head
   pub types : w.types ≡ p.types
   pub heap : w.heap ≡ p.body.heap
+  pub lawful : IsHeap w.heap
   pub starts : AreStarts w.starts p.body.items
   pub rest : rest_of w.rest ≡ p.rest
   pub references : first_failed (map (reference_test p.body.items) p.body.references) ≡ None

@@ -77,6 +77,7 @@ fn read_memory(
 ) -> Result<(), LoadFault>
     requires lawful { IsNextHead body.old.draft segment }
     requires limit { head.now.limit ≡ body.old.draft.limit }
+    requires small { body.old.draft.limit ≤ 1073741824 }
     requires room { LeavesRoom body.old }
     ensures loads { (b : fields.Body) → IsBody reader.old.bytes types.now body.old b
         → Loads (IsBody reader.old.bytes types.now body.new)
@@ -85,7 +86,6 @@ fn read_memory(
     ensures limit { OnOk result (body.new.draft.limit ≡ body.old.draft.limit) }
     ensures room { OnOk result (LeavesRoom body.new) }
 {
-    body.draft.lawful();
     let at = reader.at();
     let bytes = reader.bytes();
     let scan = Scan {

@@ -31,6 +31,5 @@ pub fn load(alloc: Global, bytes: &[u8]) -> Result<Image, LoadFault>
     let Ok(image) = restore(alloc, whole) else {
         return Err(LoadFault::NoMemory);
     };
-    image.heap.lawful();
     Ok(image)
 }

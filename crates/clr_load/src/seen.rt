@@ -25,7 +25,6 @@ impl<'a> Seen<'a> {
         ensures known { IfSome result (λ i. i.type_id.0 ≤ length self.now.types.now) }
         ensures small { IfSome result (λ i. size_of (form_at self.now.types.now i.type_id.0) i.len ≤ 1073741824) }
     {
-        self.heap.lawful();
         if self.starts.has(place) {
             Some(object_item(self.heap, self.types, place))
         } else {

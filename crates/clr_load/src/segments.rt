@@ -137,6 +137,7 @@ pub fn read_segment_head(
     requires { head.now.limit ≡ draft.now.limit }
     ensures finds { Finds (segment_head_fields head.now draft.now) reader.old reader.new result }
     ensures lawful { IfOk result (λ s. IsNextHead draft.now s) }
+    ensures small { OnOk result (draft.now.limit ≤ 1073741824) }
 {
     let base = read_base(reader, draft)?;
     let reserved = read_reserved(reader, draft, head)?;

@@ -40,7 +40,6 @@ fn bad_store(seen: &Seen<'_>, object: u64, slot: u64) -> Option<usize>
         ≡ first_failed (map (test_from q) (step_tests seen.now.types.now (items_seen seen.now) seen.now.heap.now
         (earlier, Step.Store object slot))) }
 {
-    seen.heap.lawful();
     let Some(item) = seen.object_at(object) else {
         return Some(8);
     };
@@ -58,7 +57,6 @@ fn is_front(seen: &Seen<'_>, type_id: TypeId, len: u64, place: u64) -> bool
     ensures { result ≡ tests.is_front (items_seen seen.now) seen.now.heap.now
         (size_of (form_at seen.now.types.now type_id.0) len) place }
 {
-    seen.heap.lawful();
     if seen.heap.gen_of(place) != 0 {
         return false;
     }

@@ -60,10 +60,12 @@ pub fn make_whole(bytes: &[u8], kept: Kept) -> Result<Whole, LoadFault>
         rest,
     } = kept;
     let Body { draft, starts, .. } = body;
+    let heap = draft.finish();
+    heap.lawful();
     Ok(Whole {
         head,
         types,
-        heap: draft.finish(),
+        heap,
         starts,
         rest,
     })
@@ -102,7 +104,6 @@ pub fn whole_fault(whole: &Whole) -> Option<usize>
     requires { (bytes : List ℕ) × (p : images.Parts) × IsWhole bytes whole.now p }
     ensures { (bytes : List ℕ) → (p : images.Parts) → IsWhole bytes whole.now p → result ≡ first_failed (tests_in p) }
 {
-    whole.heap.lawful();
     let seen = Seen {
         types: &whole.types,
         heap: &whole.heap,

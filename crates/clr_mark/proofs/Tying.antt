@@ -161,17 +161,17 @@ pub record IsTying (rows : List TypeRow) (h now : HeapView) (m mark : MarkerView
   pub marker : mark ≡ m
   pub reached : HasReached rows (Draws rows h handles m.oldest) (MarkedOrTied rows h handles m.oldest) h now
   pub fewer : marked ≡ true → unmarked_count rows now < unmarked_count rows h
-  pub behind : marked ≡ false → (k : ℕ) (row : Handle) → finmap.get handles k ≡ Some row → IsBehind ahead k
-      → is_tie_due now m.oldest row ≡ false
+  pub behind : marked ≡ false → (k : ℕ) (row : Handle) → finmap.get handles k ≡ Some row → k < 65536
+      → IsBehind ahead k → is_tie_due now m.oldest row ≡ false
 
 pub tying_starts : (rows : List TypeRow) (h : HeapView) (m : MarkerView) (handles : Table) (ahead : Ahead)
-    → IsGray rows h m → NoneIsBehind handles ahead → IsTying rows h h m m handles ahead false
+    → IsGray rows h m → NoneIsBehind ahead → IsTying rows h h m m handles ahead false
 tying_starts rows h m handles ahead gray none = record {
   gray = gray;
   marker = refl;
   reached = reached-refl rows (Draws rows h handles m.oldest) (MarkedOrTied rows h handles m.oldest) h (λ x s. inl s);
   fewer = λ e. absurd (true≢false (sym e));
-  behind = λ e k row is b. absurd (none k row is b);
+  behind = λ e k row is few b. absurd (none k few b);
 }
 
 module _ (rows : List TypeRow) (h now : HeapView) (m mark : MarkerView) (handles : Table) (ahead : Ahead)
@@ -264,7 +264,7 @@ module _ (rows : List TypeRow) (h now : HeapView) (m mark : MarkerView) (handles
       marker = r.marker;
       reached = r.reached;
       fewer = r.fewer;
-      behind = λ none k other e b. elim (t.passed k other e b) [
+      behind = λ none k other e few b. elim (t.passed k other e b) [
         | inl same ↦
             let oldest : mark.oldest ≡ m.oldest = ap (λ (n : MarkerView). n.oldest) r.marker in
             let is = same_row handles t.number k row other t.in_use e (sym same) in
@@ -272,18 +272,19 @@ module _ (rows : List TypeRow) (h now : HeapView) (m mark : MarkerView) (handles
             let P : Handle → Type 0 = λ o. is_tie_due now m.oldest o ≡ false in
             subst P is (subst D oldest not_due)
         | inr passed ↦ elim passed [
-          | inl before ↦ r.behind none k other e before
+          | inl before ↦ r.behind none k other e few before
           | inr far ↦ far_not_due now m.oldest low other lowest_now far
         ]
       ];
     }
 
     -- where nothing was marked each tie is followed
-    pub tying_ends : AllArePassed handles low ahead → marked ≡ false → AreTiesFollowed rows now handles m.oldest
-    tying_ends all none =
+    pub tying_ends : ((k : ℕ) (row : Handle) → finmap.get handles k ≡ Some row → k < 65536)
+        → AllArePassed handles low ahead → marked ≡ false → AreTiesFollowed rows now handles m.oldest
+    tying_ends below all none =
         ties_followed rows now handles m.oldest (handles_on rows h now heap held r.reached.remarked handles stand)
         (λ k row e. elim (all k row e) [
-          | inl behind ↦ r.behind none k row e behind
+          | inl behind ↦ r.behind none k row e (below k row e) behind
           | inr far ↦ far_not_due now m.oldest low row lowest_now far
         ])
 

@@ -17,9 +17,9 @@ abbrev pub ahead_count : Ahead → ℕ
 ahead_count (From n) = 65536 - n
 ahead_count (Below n) = n
 
--- the pass has come past no handle
-abbrev pub NoneIsBehind : Table → Ahead → Type 0
-NoneIsBehind handles ahead = (k : ℕ) (row : Handle) → finmap.get handles k ≡ Some row → IsBehind ahead k → ⊥
+-- the pass has come past no number
+abbrev pub NoneIsBehind : Ahead → Type 0
+NoneIsBehind ahead = (k : ℕ) → k < 65536 → IsBehind ahead k → ⊥
 
 -- the pass has come past this handle, or it names no place from `low` on
 abbrev pub IsPassed : ℕ → Ahead → ℕ → Handle → Type 0

@@ -112,7 +112,6 @@ impl Marker {
         requires stands { StandsAt types.now heap.now obj }
         ensures { result ≡ is_left_name types.now heap.now self.now.oldest obj }
     {
-        heap.lawful();
         let _ = types;
         !self.is_new(heap, obj)
     }
@@ -131,7 +130,7 @@ impl Marker {
         ensures marked { (x : ℕ) → Marked types.now heap.new x
             ↔ (((x ≡ obj) × (is_condemned_place heap.old self.old.oldest obj ≡ true)) ⊎ Marked types.now heap.old x) }
     {
-        let _ = types.count();
+        let _ = types;
         self.mark_condemned(heap, obj);
     }
 

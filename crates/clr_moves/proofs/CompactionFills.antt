@@ -42,8 +42,8 @@ use Rattle.clr_view.specs.View.{layout_in}
 use Rattle.clr_sweep.proofs.SurvivorsSwept.{at-in, seen}
 use Rattle.clr_moves.specs.Moves.{age_of, move_at, no_move, start_of}
 use Rattle.clr_moves.specs.Overlaid.{IsCompactionOf}
-use Rattle.clr_moves.specs.declared.parts.Parts.{Parts}
-use Rattle.clr_moves.specs.declared.parts.Parts.TheVariants.{Generations, LargeSegments}
+use Rattle.clr_moves.specs.declared.condemned.Condemned.{Condemned}
+use Rattle.clr_moves.specs.declared.condemned.Condemned.TheVariants.{Generations, LargeSegments}
 use Rattle.clr_moves.proofs.FilledParts.{FillsParts}
 use Rattle.clr_moves.proofs.FromMachine.{are_moves, is_ready, move_start, part_number, part_segment, tiles}
 use Rattle.clr_moves.proofs.FromSlide.{are_slides, large_number, large_segment, slide_start}
@@ -226,8 +226,8 @@ module _ (rows : List TypeRow) (old : HeapView) (base : Machine) (laid : IsLaid 
 -- ---- either
 
 -- THE COMPACTION of a machine whose memory the heap is fills its parts
-pub fills-parts : (rows : List TypeRow) (h : HeapView) (g : Parts) (moves : List Move) (m : Machine) (kept : ℕ → Bool)
-    (after : Layout) → IsCompactionOf rows h g moves m kept after → age_of g ≤ 2
+pub fills-parts : (rows : List TypeRow) (h : HeapView) (g : Condemned) (moves : List Move) (m : Machine)
+    (kept : ℕ → Bool) (after : Layout) → IsCompactionOf rows h g moves m kept after → age_of g ≤ 2
     → FillsParts rows h m g kept moves after
 fills-parts rows h (Generations g) moves m kept after p least =
     compaction_fills rows h m (seen-laid rows h (Generations g) moves m kept after p) g least kept moves after

@@ -9,15 +9,16 @@ use Rattle.clr_plugs.specs.BrickEntries.{BricksView}
 use Rattle.clr_plugs.specs.Cursors.{AreLeft, starts_between}
 use Rattle.clr_plugs.specs.Plans.{past_bricks, PlannedPlug, plug_starts}
 use Rattle.clr_plugs.proofs.Walking.{walk_begins, walk_whole}
-use Rattle.clr_moves.specs.Lines.{CanEnter, CanRead, Gives, HasRead, IsAtHand, LineView}
+use Rattle.clr_moves.proofs.SegmentsBelow.{some_segments}
+use Rattle.clr_moves.specs.PlugMoves.{CanEnter, CanRead, Gives, HasRead, IsAtHand, PlugMovesView}
 use Rattle.clr_moves.specs.Moves.{part_of, takes}
 use Rattle.clr_moves.specs.Told.{IsPartPlanned, moves_at, moves_from, moves_of, TellMoves}
-use Rattle.clr_moves.specs.declared.parts.Parts.{Parts}
+use Rattle.clr_moves.specs.declared.condemned.Condemned.{Condemned}
 
 -- ---- entering a segment
 
-module _ (rows : List TypeRow) (h : HeapView) (bricks : BricksView) (g : Parts) (line : LineView) (vs : List Move)
-    (can : CanEnter rows h bricks g line vs) where
+module _ (rows : List TypeRow) (h : HeapView) (bricks : BricksView) (g : Condemned) (line : PlugMovesView)
+    (vs : List Move) (can : CanEnter rows h bricks g line vs) where
   split_moves : vs ≡ moves_at h g can.parts can.lasts line.segment
       ++ moves_from h g can.parts can.lasts (suc line.segment) (length h.segments - suc line.segment)
   split_moves =
@@ -26,13 +27,14 @@ module _ (rows : List TypeRow) (h : HeapView) (bricks : BricksView) (g : Parts) 
       can.moves ∙ ap (λ (m : ℕ). moves_from h g can.parts can.lasts line.segment m) n
 
   -- a segment without a part is passed over
-  pub entered_none : takes g (segment_at h line.segment) ≡ false → (now : LineView) → now.segment ≡ line.segment
+  pub entered_none : takes g (segment_at h line.segment) ≡ false → (now : PlugMovesView) → now.segment ≡ line.segment
       → now.start ≡ 0 → Gives rows h bricks g now vs
   entered_none off now same start =
       let P : ℕ → Type 0 = λ n.
       Gives rows h bricks g (record { segment = n; cursor = now.cursor; start = now.start; to = now.to }) vs in
       let rest = moves_from h g can.parts can.lasts (suc line.segment) (length h.segments - suc line.segment) in
       subst P (sym same) (record {
+        heap = can.heap;
         part = can.parts line.segment;
         last = 0;
         left = [];
@@ -50,19 +52,20 @@ module _ (rows : List TypeRow) (h : HeapView) (bricks : BricksView) (g : Parts) 
     planned = can.each line.segment (omega arith) can.within on
 
     -- the cursor before the first plug of the segment's part
-    pub enter_can : IsHeap h → (low high : ℕ) → low ≡ part_of h g line.segment → high ≡ last_of h line.segment
+    pub enter_can : (low high : ℕ) → low ≡ part_of h g line.segment → high ≡ last_of h line.segment
         → CanRead h bricks (record { at_hand = []; brick = low / 4096; past = (high + 4095) / 4096 })
         (can.parts line.segment) (can.parts line.segment).plugs
-    enter_can heap low high low_is high_is =
+    enter_can low high low_is high_is =
         let part = can.parts line.segment in
         let b : part.low / 4096 ≡ low / 4096 = ap (λ (n : ℕ). n / 4096) (planned.low ∙ sym low_is) in
         let e : past_bricks part ≡ (high + 4095) / 4096 =
         ap (λ (n : ℕ). (n + 4095) / 4096) (planned.high ∙ sym high_is) in
         let plan = planned.planned in
         let P : ℕ → ℕ → Type 0 = λ n m. AreLeft h bricks n m in
-        let left = walk_begins h bricks part heap plan in
+        let left = walk_begins h bricks part can.heap plan in
         let left2 = subst (λ (n : ℕ). P n (past_bricks part)) b left in
         record {
+          heap = can.heap;
           lies = plan.lies;
           among = λ p i. i;
           left = subst (λ (m : ℕ). P (low / 4096) m) e left2;
@@ -78,17 +81,19 @@ module _ (rows : List TypeRow) (h : HeapView) (bricks : BricksView) (g : Parts) 
         }
 
     -- its first plug is at hand
-    pub entered_part : (now : LineView) (end : Option ℕ) → now.segment ≡ line.segment
+    pub entered_part : (now : PlugMovesView) (end : Option ℕ) → now.segment ≡ line.segment
         → HasRead h bricks now (can.parts line.segment) (can.parts line.segment).plugs end
         → Gives rows h bricks g now vs
     entered_part now end same read =
         let part = can.parts line.segment in
         let last = can.lasts line.segment in
-        let at : LineView = record { segment = line.segment; cursor = now.cursor; start = now.start; to = now.to } in
+        let at : PlugMovesView =
+        record { segment = line.segment; cursor = now.cursor; start = now.start; to = now.to } in
         let P : ℕ → Type 0 = λ n.
         Gives rows h bricks g (record { segment = n; cursor = now.cursor; start = now.start; to = now.to }) vs in
         let rest = moves_from h g can.parts can.lasts (suc line.segment) (length h.segments - suc line.segment) in
         subst P (sym same) (record {
+          heap = can.heap;
           part = part;
           last = last;
           left = part.plugs;
@@ -117,17 +122,16 @@ module _ (rows : List TypeRow) (h : HeapView) (bricks : BricksView) (g : Parts) 
 -- ---- before all segments
 
 -- the plans of all parts are to be given from the first segment on
-pub enter_first : (rows : List TypeRow) (h : HeapView) (bricks : BricksView) (g : Parts) (line : LineView)
-    (vs : List Move)
-    → TellMoves rows h bricks g vs → 0 < length h.segments → line.segment ≡ 0
-    → CanEnter rows h bricks g line vs
-enter_first rows h bricks g line vs tell some zero =
+pub enter_first : (rows : List TypeRow) (h : HeapView) (bricks : BricksView) (g : Condemned) (line : PlugMovesView)
+    (vs : List Move) → IsHeap h → TellMoves rows h bricks g vs → line.segment ≡ 0 → CanEnter rows h bricks g line vs
+enter_first rows h bricks g line vs heap tell zero =
     let P : ℕ → Type 0 = λ n.
     CanEnter rows h bricks g (record { segment = n; cursor = line.cursor; start = line.start; to = line.to }) vs in
     subst P (sym zero) (record {
+      heap = heap;
       parts = tell.parts;
       lasts = tell.lasts;
-      within = some;
+      within = some_segments h heap;
       each = λ t low high takes_it. tell.each t high takes_it;
       moves = tell.moves ∙ ap (λ (n : ℕ). moves_from h g tell.parts tell.lasts 0 n) (omega arith);
     })

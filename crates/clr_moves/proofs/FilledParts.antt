@@ -17,12 +17,12 @@ use Rattle.clr_view.specs.View.{free_in}
 use Rattle.clr_sweep.proofs.SurvivorsSwept.{seen}
 use Rattle.clr_moves.specs.Moves.{age_of, AreMoves, IsInPart, move_at, start_of, takes}
 use Rattle.clr_moves.specs.Objects.{is_in_parts}
-use Rattle.clr_moves.specs.declared.parts.Parts.{Parts}
+use Rattle.clr_moves.specs.declared.condemned.Condemned.{Condemned}
 
 -- The plugs of what is kept in the parts land in the parts by these moves. Each part is tiled from its start to its new
 -- end by them and by new free ranges, each of which lies right before a plug. The layout `after` has these ends and
 -- these free ranges, and outside of the parts it is as before.
-pub record FillsParts (rows : List TypeRow) (old : HeapView) (base : Machine) (g : Parts) (keeps : ℕ → Bool)
+pub record FillsParts (rows : List TypeRow) (old : HeapView) (base : Machine) (g : Condemned) (keeps : ℕ → Bool)
     (moves : List Move) (after : Layout) : Type 0 where
   -- the segments that have a part
   pub segments : List SegInfo

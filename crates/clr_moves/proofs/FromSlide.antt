@@ -24,7 +24,7 @@ use Rattle.clr_model.proofs.SlidPlugs.{are, slid_landings, slid_tiles, source, s
 use Rattle.clr_view.specs.View.{layout_in}
 use Rattle.clr_sweep.proofs.SurvivorsSwept.{at-in, seen}
 use Rattle.clr_moves.specs.Moves.{AreMoves, IsInPart, IsMove, move_at, no_move, takes}
-use Rattle.clr_moves.specs.declared.parts.Parts.TheVariants.{LargeSegments}
+use Rattle.clr_moves.specs.declared.condemned.Condemned.TheVariants.{LargeSegments}
 use Rattle.clr_moves.proofs.FromMachine.{all_follow, index_of}
 
 module _ (rows : List TypeRow) (old : HeapView) (base : Machine) (laid : IsLaid (seen rows old base))

@@ -30,16 +30,18 @@ use Rattle.clr_plugs.proofs.Keeping.{planned-words, tells-words, told-words}
 use Rattle.clr_plugs.proofs.Starts.{into_filter, spaced-above}
 use Rattle.clr_moves.proofs.Giving.{hand_place, hand_positive, hand_within, plug_at}
 use Rattle.clr_moves.proofs.KeptRuns.{HeadStays, run_kept}
-use Rattle.clr_moves.proofs.PlugMoves.{IsMoveOf, last_number, number_plug, plug_number}
-use Rattle.clr_moves.specs.Lines.{CanRead, Gives, HasReadAhead, IsAtHand, LineView}
+use Rattle.clr_moves.proofs.ToldMoves.{IsMoveOf, last_number, number_plug, plug_number}
+use Rattle.clr_moves.specs.PlugMoves.{CanRead, Gives, HasReadAhead, IsAtHand, PlugMovesView}
 use Rattle.clr_moves.specs.Moves.{move_at, part_of, plug_stop, start_of, takes}
 use Rattle.clr_moves.specs.Told.{IsMarkedRun, IsPartPlanned, moves_at, moves_from, moves_of, TellMoves}
-use Rattle.clr_moves.specs.declared.parts.Parts.{Parts}
+use Rattle.clr_moves.specs.declared.condemned.Condemned.{Condemned}
 
 -- ---- what a line is to give
 
--- From a segment on, segments stay, and so do the words of cells from `low` on. Below, segments may end elsewhere.
+-- From a segment on, segments stay, and so do the words of cells from `low` on. Below, segments may end elsewhere. A
+-- lawful heap stays lawful.
 pub record AgreesFrom (old now : HeapView) (segment low : ℕ) : Type 0 where
+  pub heap : IsHeap old → IsHeap now
   pub shape : shapes now.memories ≡ shapes old.memories
   pub others : now ≡ record old { memories = now.memories; segments = now.segments }
   pub count : length now.segments ≡ length old.segments
@@ -48,11 +50,11 @@ pub record AgreesFrom (old now : HeapView) (segment low : ℕ) : Type 0 where
 
 -- Below this place a line reads nothing any more: the start of the plug at hand, and where there is none, the end of
 -- the line's segment.
-abbrev pub low_of : HeapView → LineView → ℕ
+abbrev pub low_of : HeapView → PlugMovesView → ℕ
 low_of h line = if eqb line.start 0 then reserved_end (segment_at h line.segment) else line.start
 
-module _ (rows : List TypeRow) (h : HeapView) (bricks : BricksView) (g : Parts) (line : LineView) (vs : List Move)
-    (gives : Gives rows h bricks g line vs) where
+module _ (rows : List TypeRow) (h : HeapView) (bricks : BricksView) (g : Condemned) (line : PlugMovesView)
+    (vs : List Move) (gives : Gives rows h bricks g line vs) where
   -- it isn't above the line's segment
   pub low_within : low_of h line ≤ reserved_end (segment_at h line.segment)
   low_within = go (eqb line.start 0) refl where
@@ -85,8 +87,25 @@ module _ (rows : List TypeRow) (h : HeapView) (bricks : BricksView) (g : Parts) 
 
 -- ---- what stays
 
+-- a heap stays lawful where words alone change
+pub heap-kept : (old now : HeapView) → SameShape old now → IsHeap old → IsHeap now
+heap-kept old now shape heap = subst IsHeap (sym shape.others) (record {
+  memories = shape.memories ∙ heap.memories;
+  segments = heap.segments;
+  highest = heap.highest;
+  disjoint = heap.disjoint;
+  below_top = heap.below_top;
+  one_ephemeral = heap.one_ephemeral;
+  ephemeral_last = heap.ephemeral_last;
+  top_aligned = heap.top_aligned;
+  top_small = heap.top_small;
+  within_limit = heap.within_limit;
+  limit_small = heap.limit_small;
+  threads = heap.threads;
+})
+
 -- the moves of parts depend on which segments have one
-moves-same : (old now : HeapView) (g : Parts) (parts : ℕ → PlannedPart) (lasts : ℕ → ℕ) (t n : ℕ)
+moves-same : (old now : HeapView) (g : Condemned) (parts : ℕ → PlannedPart) (lasts : ℕ → ℕ) (t n : ℕ)
     → ((u : ℕ) → t ≤ u → takes g (segment_at now u) ≡ takes g (segment_at old u))
     → moves_from now g parts lasts t n ≡ moves_from old g parts lasts t n
 moves-same old now g parts lasts t zero same = refl
@@ -164,8 +183,8 @@ heads_above rows old now t from walk words i k =
 
 -- ---- the part at hand
 
-module _ (rows : List TypeRow) (old now : HeapView) (bricks : BricksView) (line : LineView) (part : PlannedPart)
-    (last : ℕ) (low : ℕ) (agrees : AgreesFrom old now line.segment low)
+module _ (rows : List TypeRow) (old now : HeapView) (bricks : BricksView) (line : PlugMovesView) (part : PlannedPart)
+    (last : ℕ) (low : ℕ) (heap : IsHeap now) (agrees : AgreesFrom old now line.segment low)
     (le : low ≤ low_of old line) where
   module _ (p : PlannedPlug) (ps : List PlannedPlug) (hand : HasReadAhead rows old bricks line part last p ps) where
     low_at_hand : low ≤ p.start
@@ -216,6 +235,7 @@ module _ (rows : List TypeRow) (old now : HeapView) (bricks : BricksView) (line 
         (λ x j is. ahead_words x 16 (is_ahead x j (omega (arith, from, is)) (omega (arith, to, is))) (omega arith) refl)
         (c.tell i from to) in
         record {
+          heap = heap;
           lies = lies;
           among = c.among;
           left = record { part = part; lies = lies; covered = c.left.covered; tell = tell; fits = c.left.fits };
@@ -262,12 +282,12 @@ module _ (rows : List TypeRow) (old now : HeapView) (bricks : BricksView) (line 
 
 -- a part begins at its place in each heap of the same boundaries
 part_same : (old now : HeapView) (t : ℕ) → now ≡ record old { memories = now.memories; segments = now.segments }
-    → segment_at now t ≡ segment_at old t → (g : Parts) → part_of now g t ≡ part_of old g t
+    → segment_at now t ≡ segment_at old t → (g : Condemned) → part_of now g t ≡ part_of old g t
 part_same old now t others same g =
     ap (λ (v : HeapView). start_of (frame v) g (segment_at now t)) others
     ∙ ap (λ (s : SegInfo). start_of (frame old) g s) same
 
-module _ (rows : List TypeRow) (old now : HeapView) (bricks : BricksView) (g : Parts) (t : ℕ) (part : PlannedPart)
+module _ (rows : List TypeRow) (old now : HeapView) (bricks : BricksView) (g : Condemned) (t : ℕ) (part : PlannedPart)
     (last segment low : ℕ) (agrees : AgreesFrom old now segment low) (above : low ≤ (segment_at old t).base)
     (from : segment ≤ t) (p : IsPartPlanned rows old bricks g t part last) where
   above_words : (x d : ℕ) → IsIn x (plug_starts part.plugs) → d ≤ 32 → d % 8 ≡ 0
@@ -315,7 +335,7 @@ module _ (rows : List TypeRow) (old now : HeapView) (bricks : BricksView) (g : P
       }
 
 -- A line goes on to give its moves where what it reads stays.
-pub gives-kept : (rows : List TypeRow) (old now : HeapView) (bricks : BricksView) (g : Parts) (line : LineView)
+pub gives-kept : (rows : List TypeRow) (old now : HeapView) (bricks : BricksView) (g : Condemned) (line : PlugMovesView)
     (vs : List Move) (low : ℕ) → IsHeap old → Gives rows old bricks g line vs → AgreesFrom old now line.segment low
     → low ≤ low_of old line → Gives rows now bricks g line vs
 gives-kept rows old now bricks g line vs low heap gives agrees le =
@@ -325,14 +345,16 @@ gives-kept rows old now bricks g line vs low heap gives agrees le =
     let n : length now.segments - suc line.segment ≡ length old.segments - suc line.segment =
     ap (λ (m : ℕ). m - suc line.segment) count in
     let front = moves_of left gives.last in
+    let new_heap = agrees.heap heap in
     record {
+      heap = new_heap;
       part = gives.part;
       last = gives.last;
       left = left;
       parts = gives.parts;
       lasts = gives.lasts;
       within = omega (arith, within, count);
-      at_hand = hand_kept rows old now bricks line gives.part gives.last low agrees le left gives.at_hand;
+      at_hand = hand_kept rows old now bricks line gives.part gives.last low new_heap agrees le left gives.at_hand;
       above = λ t from to on.
           (let end = low_within rows old bricks g line vs gives in
           let to_old : t < length old.segments = omega (arith, to, count) in
@@ -354,6 +376,7 @@ pub agrees-shape : (old now : HeapView) (segment low : ℕ) → SameShape old no
 agrees-shape old now segment low shape words =
     let same = ap (λ (h : HeapView). h.segments) shape.others in
     record {
+      heap = heap-kept old now shape;
       shape = shape.memories;
       others = shape.others ∙ ap (λ (ss : List SegInfo). record old { memories = now.memories; segments = ss })
           (sym same);
@@ -390,7 +413,7 @@ last_highest low (p ∷ ps) q s r i = elim (in_cons i) [
   | inr more ↦ last_highest (p.start + 24) ps q s.1 r more
 ]
 
-module _ (rows : List TypeRow) (old now : HeapView) (bricks : BricksView) (g : Parts) (vs : List Move)
+module _ (rows : List TypeRow) (old now : HeapView) (bricks : BricksView) (g : Condemned) (vs : List Move)
     (heap : IsHeap old)
     (shape : SameShape old now)
     (info : (k b : ℕ) → k < length vs → b % 8 ≡ 0 → IsInfoWord (move_at vs k).start b → word_of now b ≡ word_of old b)

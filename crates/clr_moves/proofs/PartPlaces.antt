@@ -14,8 +14,8 @@ use Rattle.clr_model.proofs.LargeSurvivors.{all-take}
 use Rattle.clr_sweep.proofs.SurvivorsSwept.{at-in}
 use Rattle.clr_moves.specs.Moves.{IsInPart, room_end}
 use Rattle.clr_moves.specs.Objects.{is_in_parts}
-use Rattle.clr_moves.specs.declared.parts.Parts.{Parts}
-use Rattle.clr_moves.specs.declared.parts.Parts.TheVariants.{Generations, LargeSegments}
+use Rattle.clr_moves.specs.declared.condemned.Condemned.{Condemned}
+use Rattle.clr_moves.specs.declared.condemned.Condemned.TheVariants.{Generations, LargeSegments}
 use Rattle.clr_moves.proofs.FromMachine.{index_of}
 use Rattle.clr_moves.proofs.SegmentsBelow.{part_of_two}
 
@@ -65,7 +65,7 @@ module _ (kinds : SegKind → Bool) (h : HeapView) (g place : ℕ) where
         },
       )
 
-pub into_parts : (h : HeapView) (g : Parts) (t place : ℕ) → IsInPart h g t place → first_of h t ≤ place
+pub into_parts : (h : HeapView) (g : Condemned) (t place : ℕ) → IsInPart h g t place → first_of h t ≤ place
     → is_in_parts h g place ≡ true
 into_parts h (Generations g) t place is up =
     let s = segment_at h t in
@@ -90,7 +90,7 @@ into_parts h LargeSegments t place is up =
       low = omega (arith, start, up);
     })
 
-pub out_of_parts : (h : HeapView) (g : Parts) (place : ℕ) → is_in_parts h g place ≡ true
+pub out_of_parts : (h : HeapView) (g : Condemned) (place : ℕ) → is_in_parts h g place ≡ true
     → (t : ℕ) × IsInPart h g t place × (first_of h t ≤ place)
 out_of_parts h (Generations g) place e =
     let (t, is) = out is_small_or_ephemeral h g place e in

@@ -14,13 +14,13 @@ use Rattle.clr_model.proofs.MovedPlaces.{moved-is}
 use Rattle.clr_pinq.specs.declared.entry.PinEntry.{PinEntry}
 use Rattle.clr_plugs.specs.BrickEntries.{BricksView}
 use Rattle.clr_plugs.specs.Plans.{back_number, PlannedPart, PlannedPlug}
-use Rattle.clr_moves.proofs.PlugMoves.{in_moves, IsPlugMove, number_of, number_plug, plug_number}
+use Rattle.clr_moves.proofs.ToldMoves.{in_moves, IsPlugMove, number_of, number_plug, plug_number}
 use Rattle.clr_moves.proofs.Reading.{back_is}
 use Rattle.clr_moves.specs.Going.{IsNearest, IsNearPlug}
 use Rattle.clr_moves.specs.Moves.{AreInLine, IsInPart, IsInPlug, move_at, part_of, plug_stop, room_end, takes}
 use Rattle.clr_moves.specs.Overlaid.{HoldsPlan, MayGo}
 use Rattle.clr_moves.specs.Told.{end_before, IsPartPlanned, moves_of, TellMoves}
-use Rattle.clr_moves.specs.declared.parts.Parts.{Parts}
+use Rattle.clr_moves.specs.declared.condemned.Condemned.{Condemned}
 
 -- ---- where plugs end
 
@@ -49,7 +49,7 @@ last_split p (r ∷ ps) =
     let (qs, q, e) = last_split r ps in (p ∷ qs, q, ap (λ (xs : List PlannedPlug). p ∷ xs) e)
 
 -- where a plug is, the last one of its part ends within the segment
-last_within : (rows : List TypeRow) (h : HeapView) (bricks : BricksView) (g : Parts) (t : ℕ) (part : PlannedPart)
+last_within : (rows : List TypeRow) (h : HeapView) (bricks : BricksView) (g : Condemned) (t : ℕ) (part : PlannedPart)
     (last : ℕ)
     → IsPartPlanned rows h bricks g t part last → (p : PlannedPlug) → IsIn p part.plugs → last ≤ last_of h t
 last_within rows h bricks g t part last plan p i = go part.plugs refl i where
@@ -88,7 +88,7 @@ moved_in_plug vs line k place i =
     ]
 
 -- a place is in the part of one segment at most
-pub one_part : (h : HeapView) (g : Parts) (t u place : ℕ) → IsHeap h → first_of h t ≤ place → first_of h u ≤ place
+pub one_part : (h : HeapView) (g : Condemned) (t u place : ℕ) → IsHeap h → first_of h t ≤ place → first_of h u ≤ place
     → IsInPart h g t place → IsInPart h g u place → t ≡ u
 one_part h g t u place heap low_t low_u a b =
     let high_t = a.high in
@@ -103,7 +103,7 @@ one_part h g t u place heap low_t low_u a b =
       ]
     ]
 
-module _ (rows : List TypeRow) (h : HeapView) (bricks : BricksView) (g : Parts) (vs : List Move) (heap : IsHeap h)
+module _ (rows : List TypeRow) (h : HeapView) (bricks : BricksView) (g : Condemned) (vs : List Move) (heap : IsHeap h)
     (tell : TellMoves rows h bricks g vs) where
   -- the plug whose move has a number
   abbrev pub plug_of : (k : ℕ) → k < length vs → IsPlugMove h g tell.parts tell.lasts (length h.segments) (move_at vs k)
@@ -256,7 +256,7 @@ module _ (rows : List TypeRow) (h : HeapView) (bricks : BricksView) (g : Parts) 
 -- ---- in the heap and in the view
 
 -- parts are the same in heaps of the same shape
-pub in_part-same : (view h : HeapView) (g : Parts) (t place : ℕ) → SameShape view h → IsInPart h g t place
+pub in_part-same : (view h : HeapView) (g : Condemned) (t place : ℕ) → SameShape view h → IsInPart h g t place
     → IsInPart view g t place
 in_part-same view h g t place shape i =
     let count = ap (λ (v : HeapView). length v.segments) shape.others in
@@ -272,7 +272,7 @@ in_part-same view h g t place shape i =
       high = omega (arith, high, end);
     }
 
-module _ (rows : List TypeRow) (view h : HeapView) (bricks : BricksView) (entries : List PinEntry) (g : Parts)
+module _ (rows : List TypeRow) (view h : HeapView) (bricks : BricksView) (entries : List PinEntry) (g : Condemned)
     (vs : List Move) (start1 start0 : ℕ) (heap : IsHeap h)
     (plan : HoldsPlan rows view h bricks entries g vs start1 start0) (place : ℕ) where
   -- parts start within their segments

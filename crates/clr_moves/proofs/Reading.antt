@@ -6,14 +6,14 @@ use Rattle.std.specs.List.{AllByRecursion}
 use Rattle.std.specs.Prelude.{unsigned_abs}
 use Rattle.clr_types.specs.Rising.{first, IsIn, later}
 use Rattle.clr_types.proofs.ChangedLists.{IsIn-map}
-use Rattle.clr_heap.specs.View.{HeapView, IsHeap, word_of}
+use Rattle.clr_heap.specs.View.{HeapView, word_of}
 use Rattle.clr_plugs.specs.BrickEntries.{BricksView}
 use Rattle.clr_plugs.specs.Cursors.{ahead, AreLeft, CursorView}
 use Rattle.clr_plugs.specs.Info.{HasInfo}
 use Rattle.clr_plugs.specs.Plans.{back_number, IsTold, PlannedPart, PlannedPlug, plug_starts}
 use Rattle.clr_plugs.proofs.Stepping.{later_left}
 use Rattle.clr_plugs.proofs.Writing.{place_info}
-use Rattle.clr_moves.specs.Lines.{CanRead, HasRead, LineView}
+use Rattle.clr_moves.specs.PlugMoves.{CanRead, HasRead, PlugMovesView}
 use Rattle.clr_moves.specs.Told.{GoesDown}
 
 -- how far a plug goes down
@@ -35,7 +35,7 @@ pub record HasDistance (h : HeapView) (start : ℕ) (p : PlannedPlug) : Type 0 w
 module _ (h : HeapView) (bricks : BricksView) (cursor : CursorView) (part : PlannedPart) where
   -- where nothing is ahead, no plug was left
   pub read_none : (ps : List PlannedPlug) → CanRead h bricks cursor part ps
-      → ahead cursor (plug_starts part.plugs) ≡ [] → (line : LineView) → line.start ≡ 0
+      → ahead cursor (plug_starts part.plugs) ≡ [] → (line : PlugMovesView) → line.start ≡ 0
       → HasRead h bricks line part ps None
   read_none [] c e line start = (start, refl)
   read_none (p ∷ ps) c e line start = absurd (none p.start (plug_starts ps) (sym c.rest ∙ e)) where
@@ -50,12 +50,12 @@ module _ (h : HeapView) (bricks : BricksView) (cursor : CursorView) (part : Plan
     pub words : HasDistance h start plug
     pub rest : plug_starts others ≡ more
 
-  pub next_is : (ps : List PlannedPlug) (start : ℕ) (rest : List ℕ) → IsHeap h → CanRead h bricks cursor part ps
+  pub next_is : (ps : List PlannedPlug) (start : ℕ) (rest : List ℕ) → CanRead h bricks cursor part ps
       → ahead cursor (plug_starts part.plugs) ≡ start ∷ rest → IsNext ps start rest
-  next_is [] start rest heap c e = absurd (none start rest (sym c.rest ∙ e)) where
+  next_is [] start rest c e = absurd (none start rest (sym c.rest ∙ e)) where
     none : (x : ℕ) (xs : List ℕ) → [] ≡ (x ∷ xs) → ⊥
     none x xs e = cc
-  next_is (p ∷ ps) start rest heap c e =
+  next_is (p ∷ ps) start rest c e =
       let same : (p.start ∷ plug_starts ps) ≡ (start ∷ rest) = sym c.rest ∙ e in
       let at : start ≡ p.start = cc in
       let told = c.told.0 in
@@ -68,7 +68,7 @@ module _ (h : HeapView) (bricks : BricksView) (cursor : CursorView) (part : Plan
         are = refl;
         words = record {
           is = at;
-          info = subst (HasInfo h) (sym at) (place_info h part p.start heap c.lies place);
+          info = subst (HasInfo h) (sym at) (place_info h part p.start c.heap c.lies place);
           gap = ap (λ n. word_of h (n - 32)) at ∙ told.gap;
           back = ap (λ n. unsigned_abs (cast_signed w64 (word_of h (n - 24)))) at ∙ ap unsigned_abs told.distance
               ∙ down.0;
@@ -78,19 +78,20 @@ module _ (h : HeapView) (bricks : BricksView) (cursor : CursorView) (part : Plan
       }
 
   -- the plug was read, and the cursor is behind it
-  pub read_some : (ps : List PlannedPlug) (start : ℕ) (after : CursorView) → IsHeap h → CanRead h bricks cursor part ps
+  pub read_some : (ps : List PlannedPlug) (start : ℕ) (after : CursorView) → CanRead h bricks cursor part ps
       → ahead cursor (plug_starts part.plugs) ≡ start ∷ ahead after (plug_starts part.plugs)
-      → cursor.brick ≤ after.brick → after.past ≡ cursor.past → (line : LineView) → line.cursor ≡ after
+      → cursor.brick ≤ after.brick → after.past ≡ cursor.past → (line : PlugMovesView) → line.cursor ≡ after
       → line.start ≡ start → line.to ≡ start - unsigned_abs (cast_signed w64 (word_of h (start - 24))) → (end : ℕ)
       → end ≡ start - word_of h (start - 32) → HasRead h bricks line part ps (Some end)
-  read_some ps start after heap c e brick past line cursor_is start_is to_is end end_is =
-      let n = next_is ps start (ahead after (plug_starts part.plugs)) heap c e in
+  read_some ps start after c e brick past line cursor_is start_is to_is end end_is =
+      let n = next_is ps start (ahead after (plug_starts part.plugs)) c e in
       let w = n.words in
       let P : CursorView → Type 0 = λ v. CanRead h bricks v part n.others in
       let Q : ℕ → Type 0 = λ m. AreLeft h bricks after.brick m in
       let among : (p : PlannedPlug) → IsIn p n.others → IsIn p ps =
       λ p i. (let R : List PlannedPlug → Type 0 = λ qs. IsIn p qs in subst R (sym n.are) (later i)) in
       let others : CanRead h bricks line.cursor part n.others = subst P (sym cursor_is) (record {
+        heap = c.heap;
         lies = c.lies;
         among = λ p i. c.among p (among p i);
         left = subst Q (sym past) (later_left h bricks cursor.brick after.brick cursor.past brick c.left);

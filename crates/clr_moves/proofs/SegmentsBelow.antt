@@ -14,7 +14,7 @@ use Rattle.clr_heap.proofs.Staying.{segment_order}
 use Rattle.clr_heap.proofs.Young.{young_number}
 use Rattle.clr_model.specs.Sweep.{has_condemned_part, part_start}
 use Rattle.clr_moves.specs.Moves.{IsInPart, part_of, room_end, takes}
-use Rattle.clr_moves.specs.declared.parts.Parts.TheVariants.{Generations, LargeSegments}
+use Rattle.clr_moves.specs.declared.condemned.Condemned.TheVariants.{Generations, LargeSegments}
 
 some_young : (ss : List SegInfo) (k : ℕ) → k < length ss → same_kind Ephemeral (get_or ss k empty_segment).kind ≡ true
     → 0 < length (ephemerals ss)

@@ -14,7 +14,7 @@ use Rattle.clr_pinq.specs.declared.entry.PinEntry.{PinEntry}
 use Rattle.clr_plugs.specs.BrickEntries.{BricksView}
 use Rattle.clr_plugs.specs.Plans.{IsPlanned, PlannedPart, PlannedPlug, plug_starts}
 use Rattle.clr_plugs.specs.Searches.{IsNearestPlug}
-use Rattle.clr_plugs.specs.declared.search.Plug.{Plug}
+use Rattle.clr_plugs.specs.declared.search.NearestPlug.{NearestPlug}
 use Rattle.clr_plugs.proofs.Starts.{spaced-rises}
 use Rattle.clr_moves.proofs.PlacesInPlugs.{goes_down, nearest_here, one_part, part_at, plug_at_place, plug_in_part}
 use Rattle.clr_moves.proofs.PlacesInPlugs.{plug_lies, plug_of}
@@ -22,7 +22,7 @@ use Rattle.clr_moves.proofs.Reading.{back_is}
 use Rattle.clr_moves.specs.Going.{IsStretchAt, IsStretchOf}
 use Rattle.clr_moves.specs.Moves.{IsInPart, IsInPlug}
 use Rattle.clr_moves.specs.Overlaid.{HoldsPlan, MayGo}
-use Rattle.clr_moves.specs.declared.parts.Parts.{Parts}
+use Rattle.clr_moves.specs.declared.condemned.Condemned.{Condemned}
 use Rattle.clr_moves.specs.declared.stretch.Stretch.{Stretch}
 
 rising_plugs : (plugs : List PlannedPlug) → IsRisingBy (λ x. x) (plug_starts plugs) → IsRisingBy (λ p. p.start) plugs
@@ -32,7 +32,7 @@ rising_plugs (p ∷ ps) r =
 
 -- from the start of the plug that is found up to the next start of its brick, it is the nearest one
 pub found_stretch : (h : HeapView) (bricks : BricksView) (part : PlannedPart) → IsPlanned h bricks part
-    → (place : ℕ) (found : Plug) → IsNearestPlug part.plugs place found → (s : Stretch) → s.low ≡ found.start
+    → (place : ℕ) (found : NearestPlug) → IsNearestPlug part.plugs place found → (s : Stretch) → s.low ≡ found.start
     → s.stop ≡ found.stop → s.down ≡ unsigned_abs found.distance → IsStretchAt part place s
 found_stretch h bricks part plan place found f s low stop down =
     let at = f.start in
@@ -59,7 +59,7 @@ found_stretch h bricks part plan place found f s low stop down =
           down ∙ ap unsigned_abs (f.distance ∙ ap (λ (p : PlannedPlug). p.distance) is);
     }
 
-module _ (rows : List TypeRow) (view h : HeapView) (bricks : BricksView) (entries : List PinEntry) (g : Parts)
+module _ (rows : List TypeRow) (view h : HeapView) (bricks : BricksView) (entries : List PinEntry) (g : Condemned)
     (vs : List Move) (start1 start0 : ℕ) (heap : IsHeap h)
     (plan : HoldsPlan rows view h bricks entries g vs start1 start0) (place : ℕ) (may : MayGo view g vs place)
     (inside : (t : ℕ) × IsInPart h g t place) (s : Stretch)

@@ -7,7 +7,7 @@ use Rattle.clr_plugs.specs.BrickEntries.{BricksView}
 use Rattle.clr_plugs.specs.Plans.{back_number, IsPlanned, PlannedPart, PlannedPlug}
 use Rattle.clr_moves.specs.Overlaid.{MayGo}
 use Rattle.clr_moves.specs.Told.{GoesDown}
-use Rattle.clr_moves.specs.declared.parts.Parts.{Parts}
+use Rattle.clr_moves.specs.declared.condemned.Condemned.{Condemned}
 use Rattle.clr_moves.specs.declared.stretch.Stretch.{Stretch}
 
 -- the plug is the nearest one at the place or below it
@@ -36,5 +36,5 @@ pub record IsStretchAt (part : PlannedPart) (place : ℕ) (s : Stretch) : Type 0
       → s.down ≡ unsigned_abs plug.distance
 
 -- each place of the stretch that goes, goes as far down as the stretch tells
-abbrev pub IsStretchOf : HeapView → Parts → List Move → Stretch → Type 0
+abbrev pub IsStretchOf : HeapView → Condemned → List Move → Stretch → Type 0
 IsStretchOf view g vs s = (x : ℕ) → s.low ≤ x → x < s.stop → MayGo view g vs x → x - s.down ≡ moved_by vs x

@@ -1,7 +1,7 @@
 pub mod Moves
 pub mod Told
 pub mod Overlaid
-pub mod Lines
+pub mod PlugMoves
 pub mod Going
 pub mod Objects
 pub mod Promoted

@@ -17,15 +17,15 @@ use Rattle.clr_pinq.specs.Queue.{logical, queue_word}
 use Rattle.clr_pinq.specs.declared.entry.PinEntry.{PinEntry}
 use Rattle.clr_moves.specs.Moves.{age_of, AreInLine, AreMoves, IsInPart, IsInPlug, move_at, part_of, plug_stop}
 use Rattle.clr_moves.specs.Moves.{room_end, takes}
-use Rattle.clr_moves.specs.declared.parts.Parts.{Parts}
-use Rattle.clr_moves.specs.declared.parts.Parts.TheVariants.{Generations, LargeSegments}
+use Rattle.clr_moves.specs.declared.condemned.Condemned.{Condemned}
+use Rattle.clr_moves.specs.declared.condemned.Condemned.TheVariants.{Generations, LargeSegments}
 use Rattle.clr_moves.specs.Told.{TellMoves}
 
 -- ---- words
 
 -- The word at b belongs to no part: it is one of another segment, or stands below the part, but not before the
 -- segment's first place, where no cell stands.
-abbrev pub IsOutside : HeapView → Parts → ℕ → Type 0
+abbrev pub IsOutside : HeapView → Condemned → ℕ → Type 0
 IsOutside h g b =
     (t : ℕ) → t < length h.segments → takes g (segment_at h t) ≡ true
     → (b + 8 < (segment_at h t).base)
@@ -40,7 +40,7 @@ pub record IsPlugWord (vs : List Move) (k b : ℕ) : Type 0 where
 -- The heap and what is saved hold the words of `view` that count: those of the cells of all plugs, and those outside of
 -- the parts. What is saved lies before the start of a plug or before its end, and what stands under the information of
 -- a plug and counts is saved.
-pub record IsOverlaid (view h : HeapView) (entries : List PinEntry) (g : Parts) (vs : List Move) : Type 0 where
+pub record IsOverlaid (view h : HeapView) (entries : List PinEntry) (g : Condemned) (vs : List Move) : Type 0 where
   pub heap : IsHeap view
   pub moves : AreMoves view g vs
   pub line : AreInLine vs
@@ -56,19 +56,19 @@ pub record IsOverlaid (view h : HeapView) (entries : List PinEntry) (g : Parts) 
       ⊎ (((j : ℕ) → IsPlugWord vs j b → ⊥) × (IsOutside view g b → ⊥))
 
 -- the place is in no part, or in a plug
-abbrev pub MayGo : HeapView → Parts → List Move → ℕ → Type 0
+abbrev pub MayGo : HeapView → Condemned → List Move → ℕ → Type 0
 MayGo h g vs place = ((t : ℕ) → IsInPart h g t place → ⊥) ⊎ ((k : ℕ) × IsInPlug vs k place)
 
 -- ---- the compaction of a machine
 
 -- the layout that compacts these parts
-abbrev pub IsLaidBy : Parts → Layout → List Survivor → List Move → Layout → Type 0
+abbrev pub IsLaidBy : Condemned → Layout → List Survivor → List Move → Layout → Type 0
 IsLaidBy (Generations g) layout kept vs after = IsCompacted layout g kept vs after
 IsLaidBy LargeSegments layout kept vs after = IsLargeSlid layout kept vs after
 
 -- these moves and the layout `after` are the compaction of a machine whose memory the heap is, and in which of the
 -- objects of the parts' generations the marked ones are kept
-pub record IsCompactionOf (rows : List TypeRow) (h : HeapView) (g : Parts) (vs : List Move) (m : Machine)
+pub record IsCompactionOf (rows : List TypeRow) (h : HeapView) (g : Condemned) (vs : List Move) (m : Machine)
     (kept : ℕ → Bool) (after : Layout) : Type 0 where
   pub memory : IsMemoryOf rows h m
   pub laid : IsLaid m
@@ -78,7 +78,7 @@ pub record IsCompactionOf (rows : List TypeRow) (h : HeapView) (g : Parts) (vs :
 -- The heap holds the plan of a compaction of `view` by these moves, after which generations 1 and 0 begin at these
 -- places: its words and the saved ones are those of `view`, and plugs and bricks tell the moves.
 pub record HoldsPlan (rows : List TypeRow) (view h : HeapView) (bricks : BricksView) (entries : List PinEntry)
-    (g : Parts) (vs : List Move) (start1 start0 : ℕ) : Type 0 where
+    (g : Condemned) (vs : List Move) (start1 start0 : ℕ) : Type 0 where
   pub overlaid : IsOverlaid view h entries g vs
   pub told : TellMoves rows h bricks g vs
   pub held : IsHeld rows view

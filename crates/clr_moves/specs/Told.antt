@@ -12,7 +12,7 @@ use Rattle.clr_view.specs.Marks.{has_mark}
 use Rattle.clr_plugs.specs.BrickEntries.{BricksView}
 use Rattle.clr_plugs.specs.Plans.{back_number, IsPlanned, PlannedPart, PlannedPlug}
 use Rattle.clr_moves.specs.Moves.{part_of, takes}
-use Rattle.clr_moves.specs.declared.parts.Parts.{Parts}
+use Rattle.clr_moves.specs.declared.condemned.Condemned.{Condemned}
 
 -- where the plug before these ends: where the unused bytes before the first of them begin, and at `last` where there
 -- is none
@@ -28,11 +28,11 @@ moves_of (p ∷ ps) last =
     ∷ moves_of ps last
 
 -- the moves of the part of one segment, where it has one
-abbrev pub moves_at : HeapView → Parts → (ℕ → PlannedPart) → (ℕ → ℕ) → ℕ → List Move
+abbrev pub moves_at : HeapView → Condemned → (ℕ → PlannedPart) → (ℕ → ℕ) → ℕ → List Move
 moves_at h g parts lasts t = if takes g (segment_at h t) then moves_of (parts t).plugs (lasts t) else []
 
 -- the moves of the parts of n segments from number t on
-abbrev pub moves_from : HeapView → Parts → (ℕ → PlannedPart) → (ℕ → ℕ) → ℕ → ℕ → List Move
+abbrev pub moves_from : HeapView → Condemned → (ℕ → PlannedPart) → (ℕ → ℕ) → ℕ → ℕ → List Move
 moves_from h g parts lasts t zero = []
 moves_from h g parts lasts t (suc n) = moves_at h g parts lasts t ++ moves_from h g parts lasts (suc t) n
 
@@ -54,9 +54,8 @@ abbrev pub GoesDown : PlannedPlug → Type 0
 GoesDown p = (p.distance ≡ pos 0) ⊎ ((n : ℕ) × (p.distance ≡ negsuc n) × (n + 1 ≤ p.start))
 
 -- the plan of one part stands in the heap and the bricks: no plug goes up, and the marks tell where the last one ends
-pub record IsPartPlanned (rows : List TypeRow) (h : HeapView) (bricks : BricksView) (g : Parts) (t : ℕ)
-    (part : PlannedPart)
-    (last : ℕ) : Type 0 where
+pub record IsPartPlanned (rows : List TypeRow) (h : HeapView) (bricks : BricksView) (g : Condemned) (t : ℕ)
+    (part : PlannedPart) (last : ℕ) : Type 0 where
   pub planned : IsPlanned h bricks part
   pub segment : part.segment ≡ t
   pub low : part.low ≡ part_of h g t
@@ -65,7 +64,7 @@ pub record IsPartPlanned (rows : List TypeRow) (h : HeapView) (bricks : BricksVi
   pub run : (ps : List PlannedPlug) (p : PlannedPlug) → part.plugs ≡ ps ++ p ∷ [] → IsMarkedRun rows h t p.start last
 
 -- The plans of all parts stand in the heap and the bricks, and they tell these moves.
-pub record TellMoves (rows : List TypeRow) (h : HeapView) (bricks : BricksView) (g : Parts) (vs : List Move)
+pub record TellMoves (rows : List TypeRow) (h : HeapView) (bricks : BricksView) (g : Condemned) (vs : List Move)
     : Type 0 where
   pub parts : ℕ → PlannedPart
   pub lasts : ℕ → ℕ

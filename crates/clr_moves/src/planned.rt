@@ -1,4 +1,7 @@
 // What a plan answers.
+ghost use Rattle.std.specs.Prelude.{◌≡◌};
+
+use clr_heap::Heap;
 
 /// The boundaries of the generations after a compaction, and the entries of bricks
 /// that a plan has overwritten.
@@ -12,4 +15,20 @@ pub struct Planned {
     pub below: i16,
     /// The entry that the first brick of that part had.
     pub first: i16,
+}
+
+impl Planned {
+    /// The answer of a plan after which the generations begin where they do now, and which has overwritten no entry.
+    pub fn unmoved(heap: &Heap) -> Planned
+        ensures start1 { result.start1 ≡ heap.now.start1 }
+        ensures start0 { result.start0 ≡ heap.now.start0 }
+    {
+        let (start1, start0) = heap.boundaries();
+        Planned {
+            start1,
+            start0,
+            below: 0,
+            first: 0,
+        }
+    }
 }

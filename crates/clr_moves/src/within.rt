@@ -3,15 +3,15 @@ ghost use Rattle.std.specs.Prelude.{◌≡◌, ◌⊎◌, ℕ, ◌+◌, ◌<◌,
 ghost use Rattle.clr_types.specs.Segments.{ephemeral, stands_in};
 ghost use Rattle.clr_heap.specs.View.{first_of, frame, IsHeap, segment_at};
 ghost use Rattle.clr_moves.specs.Moves.{age_of, IsInPart, part_of, takes};
-ghost use Rattle.clr_moves.specs.declared.parts.Parts.TheVariants.{Generations, LargeSegments};
+ghost use Rattle.clr_moves.specs.declared.condemned.Condemned.TheVariants.{Generations, LargeSegments};
 
-use crate::parts::Parts;
+use crate::condemned::Condemned;
 use clr_heap::Heap;
 use clr_types::{FIRST_OFFSET, SegKind};
 
 // Whether a place is in a part.
 #[inline]
-pub(crate) fn is_in_part(heap: &Heap, g: Parts, place: u64) -> bool
+pub(crate) fn is_in_part(heap: &Heap, g: Condemned, place: u64) -> bool
     requires heap { IsHeap heap.now }
     requires least { age_of g ≤ 2 }
     requires starts { (t : ℕ) → t < length heap.now.segments → takes g (segment_at heap.now t) ≡ true
@@ -20,8 +20,8 @@ pub(crate) fn is_in_part(heap: &Heap, g: Parts, place: u64) -> bool
     ensures outside { result ≡ false → (t : ℕ) → IsInPart heap.now g t place → ⊥ }
 {
     match g {
-        Parts::Generations(oldest) => is_in_generations(heap, oldest, place),
-        Parts::LargeSegments => is_in_large(heap, place),
+        Condemned::Generations(oldest) => is_in_generations(heap, oldest, place),
+        Condemned::LargeSegments => is_in_large(heap, place),
     }
 }
 

@@ -26,7 +26,7 @@ use Rattle.clr_view.proofs.ObjectItems.{stands-item}
 use Rattle.clr_view.proofs.Rises.{objects-rise}
 use Rattle.clr_sos.specs.Reaching.{entry_of, HasGrown, is_listed, IsListed, IsSearch, IsSound, no_entry, place_at}
 use Rattle.clr_sos.specs.Views.{IsViewOf}
-use Rattle.clr_sos.specs.declared.reach.Entry.{Entry}
+use Rattle.clr_sos.specs.declared.reach.FoundObject.{FoundObject}
 use Rattle.clr_sos.specs.declared.view.View.{View}
 use Rattle.clr_sos.proofs.ReachedAll.{listed-told, unlisted}
 use Rattle.clr_objsize.specs.Sizes.{HasTotal, IsSizeOf}
@@ -42,7 +42,7 @@ sum-none weight (x ∷ xs) =
     omega (arith, one, rest)
 
 -- lists that agree up to n begin alike
-take-same : (xs ys : List Entry) (n : ℕ) → n ≤ length xs → n ≤ length ys
+take-same : (xs ys : List FoundObject) (n : ℕ) → n ≤ length xs → n ≤ length ys
     → ((i : ℕ) → i < n → entry_of xs i ≡ entry_of ys i) → take n xs ≡ take n ys
 take-same xs ys zero l k same = refl
 take-same [] ys (suc n) l k same = absurd (omega (arith, l))
@@ -51,27 +51,27 @@ take-same (x ∷ xs) (y ∷ ys) (suc n) l k same =
     let here : x ≡ y = same 0 (omega arith) in
     let rest = take-same xs ys n (omega (arith, l)) (omega (arith, k))
     (λ i low. same (suc i) (omega (arith, low))) in
-    ap₂ (λ (z : Entry) (zs : List Entry). z ∷ zs) here rest
+    ap₂ (λ (z : FoundObject) (zs : List FoundObject). z ∷ zs) here rest
 
 -- whether one of the first n entries has the place
-abbrev pub is_among : List Entry → ℕ → ℕ → Bool
+abbrev pub is_among : List FoundObject → ℕ → ℕ → Bool
 is_among es n x = is_listed (take n es) x
 
 -- what the objects count that are among the first n entries
-abbrev pub sum_among : View → List Entry → ℕ → (Object → ℕ) → ℕ
+abbrev pub sum_among : View → List FoundObject → ℕ → (Object → ℕ) → ℕ
 sum_among v es n weight =
     sum_by (counted (λ (o : Object). is_among es n o.name) weight) (objects_in v.types.now v.heap.now)
 
 -- at first that is nothing
-pub none-among : (v : View) (es : List Entry) (weight : Object → ℕ) → 0 ≡ sum_among v es 0 weight
+pub none-among : (v : View) (es : List FoundObject) (weight : Object → ℕ) → 0 ≡ sum_among v es 0 weight
 none-among v es weight = sym (sum-none weight (objects_in v.types.now v.heap.now))
 
-module _ (es : List Entry) where
+module _ (es : List FoundObject) where
   -- an entry more
   among-more : (n : ℕ) → n < length es → (x : ℕ) → is_among es (n + 1) x ≡ (is_among es n x || nat_eq (place_at es n) x)
   among-more n l x =
-      let test : Entry → Bool = λ e. nat_eq e.place x in
-      ap (λ (xs : List Entry). is_listed xs x) (take_more es n no_entry l)
+      let test : FoundObject → Bool = λ e. nat_eq e.place x in
+      ap (λ (xs : List FoundObject). is_listed xs x) (take_more es n no_entry l)
       ∙ list_any-append test (take n es) (entry_of es n ∷ [])
       ∙ ap (λ (b : Bool). is_among es n x || b) (or_false (nat_eq (place_at es n) x))
 
@@ -81,22 +81,22 @@ module _ (es : List Entry) where
   among-fresh n l distinct = unlisted (take n es) (place_at es n) (λ j k.
       let count = length-take-le n es (omega (arith, l)) in
       let low : j < n = omega (arith, k, count) in
-      ap (λ (e : Entry). nat_eq e.place (place_at es n)) (get_or-take n es j no_entry low)
+      ap (λ (e : FoundObject). nat_eq e.place (place_at es n)) (get_or-take n es j no_entry low)
       ∙ ne_eqb (place_at es j) (place_at es n) (distinct j n low l))
 
 -- the first n entries are the same ones, when some are added
-among-grown : (old new : List Entry) → HasGrown old new → (n : ℕ) → n ≤ length old → take n new ≡ take n old
+among-grown : (old new : List FoundObject) → HasGrown old new → (n : ℕ) → n ≤ length old → take n new ≡ take n old
 among-grown old new g n l =
     let longer = g.longer in
     take-same new old n (omega (arith, l, longer)) l (λ i low. g.same i (omega (arith, low, l)))
 
-pub sum-grown : (v : View) (old new : List Entry) → HasGrown old new → (n : ℕ) → n ≤ length old
+pub sum-grown : (v : View) (old new : List FoundObject) → HasGrown old new → (n : ℕ) → n ≤ length old
     → (weight : Object → ℕ) → sum_among v new n weight ≡ sum_among v old n weight
 sum-grown v old new g n l weight =
-    ap (λ (xs : List Entry). sum_by (counted (λ (o : Object). is_listed xs o.name) weight)
+    ap (λ (xs : List FoundObject). sum_by (counted (λ (o : Object). is_listed xs o.name) weight)
     (objects_in v.types.now v.heap.now)) (among-grown old new g n l)
 
-module _ (v : View) (sound : IsSound v) (seen : List (List ℕ)) (es : List Entry) (s : IsSearch v seen es) where
+module _ (v : View) (sound : IsSound v) (seen : List (List ℕ)) (es : List FoundObject) (s : IsSearch v seen es) where
   heap : IsHeap v.heap.now
   heap = sound.closed.heap
 
@@ -152,7 +152,7 @@ module _ (v : View) (sound : IsSound v) (seen : List (List ℕ)) (es : List Entr
   sums-all : (weight : Object → ℕ) → sum_among v es (length es) weight
       ≡ sum_by (counted (λ (o : Object). is_listed es o.name) weight) (objects_in v.types.now v.heap.now)
   sums-all weight =
-      ap (λ (xs : List Entry). sum_by (counted (λ (o : Object). is_listed xs o.name) weight)
+      ap (λ (xs : List FoundObject). sum_by (counted (λ (o : Object). is_listed xs o.name) weight)
       (objects_in v.types.now v.heap.now)) (take-length es)
 
   -- THE TOTAL, where the entries are what is reached

@@ -17,7 +17,7 @@ use Rattle.clr_mark.specs.Roots.{IsRoot}
 use Rattle.clr_mark.proofs.Graying.{reach_on}
 use Rattle.clr_sos.specs.Reaching.{HasAdded, IsFollowed, IsListed, IsObjectOf, IsRootOf, IsSearch, IsSound, Leads}
 use Rattle.clr_sos.specs.Reaching.{place_at}
-use Rattle.clr_sos.specs.declared.reach.Entry.{Entry}
+use Rattle.clr_sos.specs.declared.reach.FoundObject.{FoundObject}
 use Rattle.clr_sos.specs.declared.view.View.{View}
 use Rattle.clr_sos.proofs.Adding.{added-starts}
 use Rattle.clr_sos.proofs.ReachedAll.{followed-more, reached-exactly}
@@ -63,14 +63,14 @@ module _ (v : View) (sound : IsSound v) (bare : v.handles.now ≡ finmap.empty) 
   leads-slot x y (inr tie) = absurd (untied x y tie)
 
   -- one entry more was followed by its slots
-  pub slots-followed : (a b : List Entry) (s : List (List ℕ)) (n : ℕ) → n < length a → IsFollowed v a n
+  pub slots-followed : (a b : List FoundObject) (s : List (List ℕ)) (n : ℕ) → n < length a → IsFollowed v a n
       → HasAdded v a s b (SlotNames (objects_in v.types.now v.heap.now) (place_at a n)) → IsFollowed v b (n + 1)
   slots-followed a b s n inside before slots =
       followed-more v a b b s s n inside before slots
       (added-starts v s b (SecondOf v.handles.now (place_at b n)) slots.search (untied (place_at b n)))
 
   -- WHERE ALL ENTRIES ARE FOLLOWED, the entries are what the locals reach by slots
-  pub slots-exactly : (seen : List (List ℕ)) (es : List Entry) → IsSearch v seen es
+  pub slots-exactly : (seen : List (List ℕ)) (es : List FoundObject) → IsSearch v seen es
       → ((x : ℕ) → IsRoot v.locals.now x → IsListed es x) → (n : ℕ) → length es ≤ n → IsFollowed v es n → (x : ℕ)
       → IsListed es x ↔ Reach (SlotNames (objects_in v.types.now v.heap.now)) (IsRoot v.locals.now) x
   slots-exactly seen es s roots n all followed x =

@@ -34,7 +34,6 @@ pub fn objsize(alloc: Global, view: &View<'_>, a: u64) -> Result<Total, SosFault
         → ((result ≡ Err SosFault.NoObject) ↔ (object_of m.objects a ≡ None)) }
     ensures no_type { result ≢ Err SosFault.UnknownType }
 {
-    view.heap.lawful();
     let Some(_) = object_at(view.heap, view.types, view.bricks, a) else {
         return Err(SosFault::NoObject);
     };
@@ -49,7 +48,6 @@ fn total_from(alloc: Global, view: &View<'_>, place: u64) -> Result<Total, Alloc
     requires stands { IsObjectOf view.now place }
     ensures { IfOk result (HasTotal view.now (λ y. y ≡ place)) }
 {
-    view.heap.lawful();
     let locals = [place];
     let handles = Handles::new(alloc);
     let finals = Finals::new(alloc);

@@ -21,7 +21,7 @@ use Rattle.clr_plugs.specs.BrickEntries.{BricksView}
 use Rattle.clr_plugs.specs.Info.{IsInfoWord}
 use Rattle.clr_moves.specs.Moves.{AreInLine, AreMoves, move_at, part_of, plug_stop, takes}
 use Rattle.clr_moves.specs.Overlaid.{IsOutside, IsOverlaid, IsPlugWord}
-use Rattle.clr_moves.specs.declared.parts.Parts.{Parts}
+use Rattle.clr_moves.specs.declared.condemned.Condemned.{Condemned}
 use Rattle.clr_moves.specs.Told.{IsMarkedRun, IsPartPlanned, moves_from, TellMoves}
 use Rattle.clr_plan.specs.LaidParts.{end_behind}
 use Rattle.clr_plan.specs.PartLists.{AreFor, AreLaid, moves_in, opened_in, plan_in, plugs_in}
@@ -38,7 +38,7 @@ use Rattle.clr_plan.proofs.Pins.{before}
 use Rattle.clr_plan.proofs.Telling.{AreDown, last-of-plans, moves-told, plans-down, told-above, told-below}
 
 module _ (rows : List TypeRow) (old now : HeapView) (bricks0 bricks : BricksView) (queue0 queue : QueueView)
-    (g : Parts) (plugs : ℕ → List Plug) (count : ℕ) (homes : HaveHomes old g plugs count) (moves : List Move)
+    (g : Condemned) (plugs : ℕ → List Plug) (count : ℕ) (homes : HaveHomes old g plugs count) (moves : List Move)
     (laid : AreLaid (state old bricks0 queue0) (state now bricks queue) g plugs count moves) where
   abbrev all : List Plug
   all = plugs_in old g plugs count

@@ -24,7 +24,7 @@ use Rattle.clr_plan.specs.Pointing.{IsAt}
 use Rattle.clr_plan.specs.Stages.{are_alike, IsAmong, IsListed}
 use Rattle.clr_plan.specs.Firsts.{IsLowest}
 use Rattle.clr_plan.specs.Plans.{CanPlanHeap, condemned_plugs, parts_in, start_of_part}
-use Rattle.clr_moves.specs.declared.parts.Parts.TheVariants.{Generations}
+use Rattle.clr_moves.specs.declared.condemned.Condemned.TheVariants.{Generations}
 use Rattle.clr_plan.specs.declared.pointer.Pointer.{Pointer}
 use Rattle.clr_plan.proofs.Alike.{alike-small}
 

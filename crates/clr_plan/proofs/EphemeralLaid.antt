@@ -41,7 +41,7 @@ use Rattle.clr_plan.proofs.Reaching.{part-reached}
 use Rattle.clr_plan.proofs.Takes.{older-is, part-lower, plugs-young, takes-young}
 use Rattle.clr_plan.proofs.Writing.{shape-on, written-children, written-raised}
 use Rattle.clr_plan.proofs.YoungPlan.{around_all, ready, young_around, young_can}
-use Rattle.clr_moves.specs.declared.parts.Parts.TheVariants.{Generations}
+use Rattle.clr_moves.specs.declared.condemned.Condemned.TheVariants.{Generations}
 use Rattle.clr_plan.proofs.EphemeralPart
 use Rattle.clr_plan.proofs.EphemeralPart.{Setting, older-same, young-same, order, low-covered, older-plan, room}
 use Rattle.clr_plan.proofs.EphemeralPart.{older-few}

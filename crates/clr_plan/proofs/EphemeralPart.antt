@@ -25,7 +25,7 @@ use Rattle.clr_plan.proofs.Beginning.{among-at, plugs-lie, start-is, young-small
 use Rattle.clr_plan.proofs.Covering.{brick-there}
 use Rattle.clr_plan.proofs.PushCount.{pinned-append, pushes-aged}
 use Rattle.clr_plan.proofs.Reaching.{around, can-plan}
-use Rattle.clr_moves.specs.declared.parts.Parts.TheVariants.{Generations}
+use Rattle.clr_moves.specs.declared.condemned.Condemned.TheVariants.{Generations}
 
 -- no place is older than generation 2
 age-most : (h : HeapView) (x : ℕ) → generation (frame h) x ≤ 2

@@ -9,7 +9,7 @@ use Rattle.clr_heap.specs.View.{first_of, HeapView, last_of, segment_at}
 use Rattle.clr_model.specs.Compaction.{Plug}
 use Rattle.clr_model.proofs.PlugRoom.{ArePlugs}
 use Rattle.clr_moves.specs.Moves.{part_of, takes}
-use Rattle.clr_moves.specs.declared.parts.Parts.TheVariants.{Generations}
+use Rattle.clr_moves.specs.declared.condemned.Condemned.TheVariants.{Generations}
 use Rattle.clr_plan.specs.Heaps.{part_plugs, plugs_below}
 use Rattle.clr_plan.specs.Plans.{CanPlanHeap, old_part, parts_in, young_plugs}
 use Rattle.clr_plan.proofs.Ages.{start-order}

@@ -18,7 +18,7 @@ use Rattle.clr_plugs.specs.Info.{IsInfoWord}
 use Rattle.clr_plugs.proofs.Keeping.{in_pushed}
 use Rattle.clr_moves.specs.Moves.{part_of, takes}
 use Rattle.clr_moves.specs.Overlaid.{IsOutside}
-use Rattle.clr_moves.specs.declared.parts.Parts.{Parts}
+use Rattle.clr_moves.specs.declared.condemned.Condemned.{Condemned}
 use Rattle.clr_plan.specs.LaidParts.{opened_by}
 use Rattle.clr_plan.specs.PartLists.{AreFor, moves_in, opened_in, plugs_in}
 use Rattle.clr_plan.specs.Scans.{CanScan, plugs_between}
@@ -119,14 +119,14 @@ open-place free begin low (p ∷ ps) g x i = step (open-place (opened free begin
 -- ---- where they stand
 
 -- where a plug of the part of segment t lies
-pub record LiesInPart (h : HeapView) (g : Parts) (t : ℕ) (q : Plug) : Type 0 where
+pub record LiesInPart (h : HeapView) (g : Condemned) (t : ℕ) (q : Plug) : Type 0 where
   pub low : part_of h g t ≤ q.start
   pub high : plug_end q ≤ last_of h t
   pub aligned : q.start % 8 ≡ 0
   pub ends : plug_end q % 8 ≡ 0
   pub segment : q.segment ≡ (segment_at h t).base
 
-pub in-stretch : (rows : List TypeRow) (h : HeapView) (g : Parts) (t p c : ℕ) → CanScan rows h t p c → (q : Plug)
+pub in-stretch : (rows : List TypeRow) (h : HeapView) (g : Condemned) (t p c : ℕ) → CanScan rows h t p c → (q : Plug)
     → IsIn q (plugs_between rows h t p c) → part_of h g t ≤ p → c ≤ last_of h t → LiesInPart h g t q
 in-stretch rows h g t p c s q i low high =
     let lies = all_at (λ (w : Plug). seen.LiesUpTo c w.start (plug_end w)) i (seen.plugs-lie rows h t p c s) in
@@ -141,7 +141,7 @@ in-stretch rows h g t p c s q i low high =
     }
 
 -- the plugs of a part among those of all
-pub in-plugs : (h : HeapView) (g : Parts) (plugs : ℕ → List Plug) (k t : ℕ) (q : Plug) → t < k
+pub in-plugs : (h : HeapView) (g : Condemned) (plugs : ℕ → List Plug) (k t : ℕ) (q : Plug) → t < k
     → takes g (segment_at h t) ≡ true → IsIn q (plugs t) → IsIn q (plugs_in h g plugs k)
 in-plugs h g plugs zero t q l on i = absurd (omega arith)
 in-plugs h g plugs (suc k) t q l on i = elim (cases_lt t k) [
@@ -154,7 +154,7 @@ in-plugs h g plugs (suc k) t q l on i = elim (cases_lt t k) [
 ]
 
 -- the parts are among those of the `count` lowest segments, and these are their plugs
-pub record HaveHomes (h : HeapView) (g : Parts) (plugs : ℕ → List Plug) (count : ℕ) : Type 0 where
+pub record HaveHomes (h : HeapView) (g : Condemned) (plugs : ℕ → List Plug) (count : ℕ) : Type 0 where
   pub heap : IsHeap h
   pub inside : count ≤ length h.segments
   pub above : (t : ℕ) → count ≤ t → t < length h.segments → takes g (segment_at h t) ≡ false
@@ -166,7 +166,7 @@ pub record HaveHomes (h : HeapView) (g : Parts) (plugs : ℕ → List Plug) (cou
   pub gapped : (t : ℕ) → t < count → takes g (segment_at h t) ≡ true → (q : Plug) → IsIn q (plugs t)
       → IsGapped (part_of h g t) q.start
 
-module _ (h : HeapView) (g : Parts) (plugs : ℕ → List Plug) (count : ℕ) (homes : HaveHomes h g plugs count) where
+module _ (h : HeapView) (g : Condemned) (plugs : ℕ → List Plug) (count : ℕ) (homes : HaveHomes h g plugs count) where
   abbrev pub all : List Plug
   all = plugs_in h g plugs count
 

@@ -29,7 +29,7 @@ use Rattle.clr_plan.specs.States.{progress, stretch, Written}
 use Rattle.clr_plan.specs.Waiting.{move_to, ranges_from}
 use Rattle.clr_plan.specs.Writes.{AreSavedAt, CanWrite, distance_of, entries_for, HasWritten, IsWritingAmong, opened}
 use Rattle.clr_plan.specs.declared.pointer.Pointer.{Pointer}
-use Rattle.clr_plan.specs.declared.scan.Found.{Found}
+use Rattle.clr_plan.specs.declared.scan.NextPlug.{NextPlug}
 use Rattle.clr_plan.proofs.LaidLists.{end-more, last-append, last-one, opened-more, planned-more, pushes-append}
 use Rattle.clr_plan.proofs.LaidLists.{pushes-one}
 use Rattle.clr_plan.proofs.PartPlan.{can-settle, IsPlanning, plan-ends, plan-more, plan-starts, stage}
@@ -119,7 +119,7 @@ module _ (w : Around) (rows : List TypeRow) (old : HeapView) (begin : Written) (
           within = l.within;
         }
 
-    module _ (found : Found) (read : HasNext rows now.heap k place e found) where
+    module _ (found : NextPlug) (read : HasNext rows now.heap k place e found) where
       abbrev plug : Plug
       plug = found.plug
 
@@ -208,6 +208,7 @@ module _ (w : Around) (rows : List TypeRow) (old : HeapView) (begin : Written) (
           let wide = l.s.scan.high in
           let brick = l.laying.brick in
           record {
+            heap = l.laying.heap;
             writing = record {
               part = here;
               writing = l.laying.writing;

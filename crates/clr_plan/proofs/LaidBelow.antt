@@ -18,7 +18,7 @@ use Rattle.clr_pinq.specs.declared.entry.PinEntry.{PinEntry}
 use Rattle.clr_plugs.specs.BrickEntries.{BricksView}
 use Rattle.clr_plugs.specs.Plans.{IsPlanned}
 use Rattle.clr_moves.specs.Moves.{part_of, takes}
-use Rattle.clr_moves.specs.declared.parts.Parts.{Parts}
+use Rattle.clr_moves.specs.declared.condemned.Condemned.{Condemned}
 use Rattle.clr_plan.specs.PartLists.{AreFor, AreLaid, moves_in, opened_in, plan_in, plugs_in}
 use Rattle.clr_plan.specs.LaidParts.{opened_by}
 use Rattle.clr_plan.specs.States.{state}
@@ -45,7 +45,7 @@ nothing-saved entries none b h = absurd (never (subst (λ es. IsSome (queue_word
     never : IsSome {T = ℕ} None → ⊥
     never s = cc
 
-module _ (old : HeapView) (bricks : BricksView) (queue : QueueView) (g : Parts) (plugs : ℕ → List Plug) (k : ℕ)
+module _ (old : HeapView) (bricks : BricksView) (queue : QueueView) (g : Condemned) (plugs : ℕ → List Plug) (k : ℕ)
     (empty : queue.entries ≡ []) (off : (t : ℕ) → t < k → takes g (segment_at old t) ≡ false) where
   pub no-plugs : (j : ℕ) → j ≤ k → plugs_in old g plugs j ≡ []
   no-plugs zero l = refl
@@ -91,14 +91,14 @@ module _ (old : HeapView) (bricks : BricksView) (queue : QueueView) (g : Parts) 
 
 -- ---- one segment more
 
-moves-same : (old : HeapView) (g : Parts) (each other : ℕ → List Move) (k : ℕ) → ((t : ℕ) → t < k → other t ≡ each t)
-    → moves_in old g other k ≡ moves_in old g each k
+moves-same : (old : HeapView) (g : Condemned) (each other : ℕ → List Move) (k : ℕ)
+    → ((t : ℕ) → t < k → other t ≡ each t) → moves_in old g other k ≡ moves_in old g each k
 moves-same old g each other zero same = refl
 moves-same old g each other (suc k) same =
     ap₂ (λ xs ys. xs ++ (if takes g (segment_at old k) then ys else []))
     (moves-same old g each other k (λ t l. same t (omega arith))) (same k (omega arith))
 
-module _ (old now : HeapView) (bricks0 bricks : BricksView) (queue0 queue : QueueView) (g : Parts)
+module _ (old now : HeapView) (bricks0 bricks : BricksView) (queue0 queue : QueueView) (g : Condemned)
     (plugs : ℕ → List Plug) (k : ℕ) (vs : List Move)
     (s : AreLaid (state old bricks0 queue0) (state now bricks queue) g plugs k vs) where
   -- a segment without a part

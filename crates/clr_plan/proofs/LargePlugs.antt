@@ -21,7 +21,7 @@ use Rattle.clr_view.specs.View.{IsHeld, layout_in}
 use Rattle.clr_view.specs.Memory.{TestsMarks}
 use Rattle.clr_sweep.specs.SweptItems.{stays}
 use Rattle.clr_sweep.proofs.SurvivorsSwept.{seen}
-use Rattle.clr_moves.specs.declared.parts.Parts.TheVariants.{LargeSegments}
+use Rattle.clr_moves.specs.declared.condemned.Condemned.TheVariants.{LargeSegments}
 use Rattle.clr_plan.specs.PartLists.{plugs_in, whole_plugs}
 use Rattle.clr_plan.specs.Pinned.{TellsPins}
 use Rattle.clr_plan.specs.Scans.{survivor_in, survivors_between}

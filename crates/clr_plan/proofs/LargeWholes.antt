@@ -27,7 +27,7 @@ use Rattle.clr_pinq.specs.Queue.{QueueView}
 use Rattle.clr_plugs.specs.BrickEntries.{BricksView}
 use Rattle.clr_moves.specs.Moves.{takes}
 use Rattle.clr_moves.specs.Overlaid.{IsCompactionOf}
-use Rattle.clr_moves.specs.declared.parts.Parts.TheVariants.{LargeSegments}
+use Rattle.clr_moves.specs.declared.condemned.Condemned.TheVariants.{LargeSegments}
 use Rattle.clr_moves.proofs.PlannedMoves.{memory-seen}
 use Rattle.clr_plan.specs.Firsts.{IsLowest}
 use Rattle.clr_plan.specs.PartLists.{AreLaid, plugs_in, whole_plugs}

@@ -18,7 +18,7 @@ use Rattle.clr_sweep.specs.SweptItems.{stays}
 use Rattle.clr_sweep.proofs.DeadKinds.{dead-stays}
 use Rattle.clr_plan.specs.Scans.{CanLook, CanScan, survivor_in, kept_plug, is_alike, plugs_between}
 use Rattle.clr_plan.specs.Runs.{merged, IsRun, HasRun, HasNext}
-use Rattle.clr_plan.specs.declared.scan.Found.{Found}
+use Rattle.clr_plan.specs.declared.scan.NextPlug.{NextPlug}
 use Rattle.clr_plan.proofs.Scanning.{it, after, AtItem, at_item, survivors-done, survivors-more, survivors-over}
 use Rattle.clr_plan.proofs.Scanning.{plugs-above}
 use Rattle.clr_plan.proofs.GrowingRuns.{beq-from, merged-one, run-grows, run-other, run-apart}
@@ -292,7 +292,7 @@ module _ (rows : List TypeRow) (h : HeapView) (k p e place : ℕ) (s : IsPassing
   pub first-begins : (q : Plug) → ◌≡◌ {A = Option Plug} (Some q) (kept_plug h k passed_item) → IsRun rows h k e q
   first-begins q some = (begins rows h k place e s.0 below q some).0
 
-  pub first-found : (q : Plug) → ◌≡◌ {A = Option Plug} (Some q) (kept_plug h k passed_item) → (found : Found)
+  pub first-found : (q : Plug) → ◌≡◌ {A = Option Plug} (Some q) (kept_plug h k passed_item) → (found : NextPlug)
       → HasRun rows h k e q found → HasNext rows h k p e found
   first-found q some found run =
       let (begin, ends) = begins rows h k place e s.0 below q some in

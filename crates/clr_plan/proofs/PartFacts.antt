@@ -15,18 +15,18 @@ use Rattle.clr_model.specs.Sweep.{Survivor}
 use Rattle.clr_sweep.proofs.SurvivorsSwept.{listed-from}
 use Rattle.clr_sweep.specs.SweptItems.{stays}
 use Rattle.clr_moves.specs.Moves.{part_of, takes}
-use Rattle.clr_moves.specs.declared.parts.Parts.{Parts}
+use Rattle.clr_moves.specs.declared.condemned.Condemned.{Condemned}
 use Rattle.clr_plan.specs.Heaps.{part_plugs}
 use Rattle.clr_plan.specs.Plans.{CanPlanHeap, old_part, young_plugs}
 use Rattle.clr_plan.specs.Scans.{CanScan, plugs_between, survivor_in, survivors_between}
 use Rattle.clr_plan.proofs.MarkedRuns.{HasPlugOf, IsCovered, plug-of-survivor, plugs-covered}
 use Rattle.clr_plan.proofs.SplitScans.{IsSplit}
 use Rattle.clr_plan.proofs.Takes.{part-lower, plugs-lower, plugs-young}
-use Rattle.clr_moves.specs.declared.parts.Parts.TheVariants.{Generations}
+use Rattle.clr_moves.specs.declared.condemned.Condemned.TheVariants.{Generations}
 
 -- The part of segment t can be scanned, its items are the heap's, each of its plugs is covered by survivors, and each
 -- survivor lies in a plug.
-pub record HasFacts (rows : List TypeRow) (h : HeapView) (g : Parts) (plugs : ℕ → List Plug) (t : ℕ) : Type 0 where
+pub record HasFacts (rows : List TypeRow) (h : HeapView) (g : Condemned) (plugs : ℕ → List Plug) (t : ℕ) : Type 0 where
   pub scan : CanScan rows h t (part_of h g t) (last_of h t)
   pub listed : (i : Item) → IsIn i (items_between (sight rows h t) (part_of h g t) (last_of h t))
       → IsIn i (heap_items rows h)
@@ -35,7 +35,7 @@ pub record HasFacts (rows : List TypeRow) (h : HeapView) (g : Parts) (plugs : �
       → HasPlugOf (plugs t) k
 
 -- a part that is a whole segment
-pub whole-facts : (rows : List TypeRow) (h : HeapView) (g : Parts) (plugs : ℕ → List Plug) (t : ℕ)
+pub whole-facts : (rows : List TypeRow) (h : HeapView) (g : Condemned) (plugs : ℕ → List Plug) (t : ℕ)
     → t < length h.segments → part_of h g t ≡ first_of h t
     → plugs t ≡ plugs_between rows h t (first_of h t) (last_of h t)
     → CanScan rows h t (first_of h t) (last_of h t) → HasFacts rows h g plugs t

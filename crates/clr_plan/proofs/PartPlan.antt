@@ -15,7 +15,7 @@ use Rattle.clr_plan.specs.Runs.{HasNext}
 use Rattle.clr_plan.specs.Stages.{Stage, all_plugs, IsAmong, CanGo, HasGone}
 use Rattle.clr_plan.specs.Parts.{Around, plugs_around, CanPlan, HasPlacedPart}
 use Rattle.clr_plan.specs.declared.pointer.Pointer.{Pointer}
-use Rattle.clr_plan.specs.declared.scan.Found.{Found}
+use Rattle.clr_plan.specs.declared.scan.NextPlug.{NextPlug}
 
 -- placed from one pointer to the next, and on from there
 pub placed_append : (segments : List SegInfo) (all : List Plug) (pointer : ℕ) (ps : List Plug) (vs : List Move)
@@ -94,7 +94,7 @@ module _ (w : Around) (rows : List TypeRow) (h : HeapView) (entries : List PinEn
               (ranges_from at.passed now)) none s.stands);
         }
 
-    module _ (found : Found) (next : HasNext rows h k place e found) where
+    module _ (found : NextPlug) (next : HasNext rows h k place e found) where
       abbrev rest : List Plug
       rest = plugs_between rows h k found.next e
 

@@ -13,7 +13,7 @@ use Rattle.clr_view.specs.Memory.{IsMemoryOf, TestsMarks}
 use Rattle.clr_view.specs.View.{IsHeld, layout_in}
 use Rattle.clr_sweep.proofs.SurvivorsSwept.{seen}
 use Rattle.clr_moves.specs.Moves.{takes}
-use Rattle.clr_moves.specs.declared.parts.Parts.TheVariants.{Generations}
+use Rattle.clr_moves.specs.declared.condemned.Condemned.TheVariants.{Generations}
 use Rattle.clr_moves.proofs.PlannedMoves.{memory-seen}
 use Rattle.clr_plan.specs.Compactions.{compacted_layout, small_heap_plugs}
 use Rattle.clr_plan.specs.Heaps.{part_plugs}

@@ -20,7 +20,7 @@ use Rattle.clr_plan.specs.Runs.{HasNext}
 use Rattle.clr_plan.specs.Scans.{CanScan, plugs_between, survivor_in, survivors_between}
 use Rattle.clr_plan.specs.Stages.{CanGo, HasGone, Stage}
 use Rattle.clr_plan.specs.declared.pointer.Pointer.{Pointer}
-use Rattle.clr_plan.specs.declared.scan.Found.{Found}
+use Rattle.clr_plan.specs.declared.scan.NextPlug.{NextPlug}
 use Rattle.clr_heap.proofs.Spelling.{item_size}
 use Rattle.clr_plan.proofs.Scanning.{plugs-above}
 use Rattle.clr_plan.proofs.BehindTheWalk.{plugs-same, scans-on}
@@ -43,7 +43,7 @@ module _ (rows : List TypeRow) (old now : HeapView) (k p e below : ℕ) (shape :
   plugs-now = plugs-same rows old now k p e shape (λ b z low high. ahead b z (omega (arith, low, up))) s
 
   -- the plug that was read in the heap as it is, is the next one of the heap as it was
-  pub next-old : (found : Found) → HasNext rows now k p e found → HasNext rows old k p e found
+  pub next-old : (found : NextPlug) → HasNext rows now k p e found → HasNext rows old k p e found
   next-old found n =
       let above = n.above in
       let back : (b : ℕ) → b % 8 ≡ 0 → found.next ≤ b + 8 → b + 8 < e → word_of old b ≡ word_of now b =

@@ -10,7 +10,7 @@ use Rattle.clr_model.proofs.PlugRoom.{ArePlugs}
 use Rattle.clr_generations.specs.Tables.{AreBricksOf}
 use Rattle.clr_pinq.specs.Queue.{QueueView}
 use Rattle.clr_plugs.specs.BrickEntries.{BricksView}
-use Rattle.clr_moves.specs.declared.parts.Parts.TheVariants.{Generations}
+use Rattle.clr_moves.specs.declared.condemned.Condemned.TheVariants.{Generations}
 use Rattle.clr_plan.specs.Heaps.{part_plugs, plugs_below}
 use Rattle.clr_plan.specs.Planned.{pinned_count}
 use Rattle.clr_plan.specs.Plans.{CanPlanHeap, condemned_plugs, old_part, parts_in, young_plugs}

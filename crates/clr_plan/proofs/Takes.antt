@@ -23,7 +23,7 @@ use Rattle.clr_plan.specs.Scans.{plugs_between}
 use Rattle.clr_plan.proofs.Beginning.{start-is, young-small}
 use Rattle.clr_plan.proofs.Scanning.{survivors-done}
 use Rattle.clr_model.specs.Compaction.{plugs_of}
-use Rattle.clr_moves.specs.declared.parts.Parts.TheVariants.{Generations}
+use Rattle.clr_moves.specs.declared.condemned.Condemned.TheVariants.{Generations}
 
 -- the segment behind those that were planned
 small-next : (rows : List TypeRow) (h : HeapView) (i k : ℕ) → small_plugs rows h i (suc k) ≡ small_plugs rows h i k

@@ -10,7 +10,7 @@ use Rattle.clr_heap.specs.View.{HeapView, segment_at}
 use Rattle.clr_model.specs.Compaction.{Move, Plug, plug_end}
 use Rattle.clr_plugs.specs.Plans.{back_number, PlannedPart, PlannedPlug}
 use Rattle.clr_moves.specs.Moves.{takes}
-use Rattle.clr_moves.specs.declared.parts.Parts.{Parts}
+use Rattle.clr_moves.specs.declared.condemned.Condemned.{Condemned}
 use Rattle.clr_moves.specs.Told.{end_before, GoesDown, moves_at, moves_from, moves_of}
 use Rattle.clr_plan.specs.PartLists.{AreFor, moves_in}
 use Rattle.clr_plan.specs.LaidParts.{end_behind, planned_plugs}
@@ -128,7 +128,7 @@ last-of-plans below (p ∷ (q ∷ ps)) (v ∷ (u ∷ vs)) (y ∷ xs) x f e =
 
 -- ---- of all parts
 
-module _ (old now : HeapView) (g : Parts) (parts : ℕ → PlannedPart) (lasts : ℕ → ℕ) (each : ℕ → List Move)
+module _ (old now : HeapView) (g : Condemned) (parts : ℕ → PlannedPart) (lasts : ℕ → ℕ) (each : ℕ → List Move)
     (same : (t : ℕ) → takes g (segment_at now t) ≡ takes g (segment_at old t)) where
   from-more : (t n : ℕ)
       → moves_from now g parts lasts t (suc n) ≡ moves_from now g parts lasts t n

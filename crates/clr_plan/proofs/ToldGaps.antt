@@ -13,7 +13,7 @@ use Rattle.clr_pinq.specs.Queue.{QueueView}
 use Rattle.clr_plugs.specs.BrickEntries.{BricksView}
 use Rattle.clr_plugs.specs.Plans.{IsTold}
 use Rattle.clr_moves.specs.Moves.{IsInPart, move_at, part_of, takes}
-use Rattle.clr_moves.specs.declared.parts.Parts.{Parts}
+use Rattle.clr_moves.specs.declared.condemned.Condemned.{Condemned}
 use Rattle.clr_plan.specs.LaidParts.{planned_plugs}
 use Rattle.clr_plan.specs.PartLists.{AreFor, AreLaid, plugs_in}
 use Rattle.clr_plan.specs.Planned.{TellGaps}
@@ -67,7 +67,7 @@ gap-of word below (p ∷ ps) (v ∷ vs) f g told q (later i) =
     others r w (later j) = r.others w j
 
 module _ (rows : List TypeRow) (old now : HeapView) (bricks0 bricks : BricksView) (queue0 queue : QueueView)
-    (g : Parts) (plugs : ℕ → List Plug) (count : ℕ) (homes : HaveHomes old g plugs count) (moves : List Move)
+    (g : Condemned) (plugs : ℕ → List Plug) (count : ℕ) (homes : HaveHomes old g plugs count) (moves : List Move)
     (laid : AreLaid (state old bricks0 queue0) (state now bricks queue) g plugs count moves) where
   abbrev all : List Plug
   all = plugs_in old g plugs count

@@ -14,8 +14,8 @@ use Rattle.clr_pinq.specs.Queue.{QueueView}
 use Rattle.clr_plugs.specs.BrickEntries.{BricksView}
 use Rattle.clr_moves.specs.Moves.{age_of, move_at, takes}
 use Rattle.clr_moves.specs.Overlaid.{IsCompactionOf}
-use Rattle.clr_moves.specs.declared.parts.Parts.{Parts}
-use Rattle.clr_moves.specs.declared.parts.Parts.TheVariants.{Generations}
+use Rattle.clr_moves.specs.declared.condemned.Condemned.{Condemned}
+use Rattle.clr_moves.specs.declared.condemned.Condemned.TheVariants.{Generations}
 use Rattle.clr_plan.specs.Compactions.{compacted_layout, small_heap_plugs}
 use Rattle.clr_plan.specs.Heaps.{HasLaidHeap, IsLaidBelow, part_plugs}
 use Rattle.clr_plan.specs.PartLists.{AreLaid}
@@ -37,7 +37,7 @@ all-down (v ∷ vs) down = (down 0 (omega arith), all-down vs (λ k l. down (suc
 
 -- the plan of any parts, where its moves are those of a compaction
 pub planned-in : (rows : List TypeRow) (old now : HeapView) (bricks0 bricks : BricksView) (queue0 queue : QueueView)
-    (g : Parts) (plugs : ℕ → List Plug) (count : ℕ) (homes : HaveHomes old g plugs count) (moves : List Move)
+    (g : Condemned) (plugs : ℕ → List Plug) (count : ℕ) (homes : HaveHomes old g plugs count) (moves : List Move)
     → AreLaid (state old bricks0 queue0) (state now bricks queue) g plugs count moves → (m : Machine) (kept : ℕ → Bool)
     (after : Layout) → IsCompactionOf rows old g moves m kept after → age_of g ≤ 2 → ((t : ℕ) → t < count
     → takes g (segment_at old t) ≡ true → HasFacts rows old g plugs t) → AreFreeHeads rows old

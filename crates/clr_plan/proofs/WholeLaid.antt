@@ -14,7 +14,7 @@ use Rattle.clr_pinq.specs.Queue.{last_end, QueueView}
 use Rattle.clr_plugs.specs.BrickEntries.{BricksView}
 use Rattle.clr_plugs.specs.Plans.{IsPlanned}
 use Rattle.clr_moves.specs.Moves.{part_of, takes}
-use Rattle.clr_moves.specs.declared.parts.Parts.{Parts}
+use Rattle.clr_moves.specs.declared.condemned.Condemned.{Condemned}
 use Rattle.clr_plan.specs.Firsts.{IsLowest}
 use Rattle.clr_plan.specs.LaidParts.{CanLaySegment, end_behind, HasLaidSegment, opened_by, planned_plugs, pushes_for}
 use Rattle.clr_plan.specs.PartLists.{AreFor, AreLaid, opened_in, plan_in, plugs_in}
@@ -41,7 +41,7 @@ plugs-end : (c : ℕ) (ps : List Plug) → AllByRecursion (λ (q : Plug). LiesUp
 plugs-end c [] a = tt
 plugs-end c (p ∷ ps) a = (a.0.high, plugs-end c ps a.1)
 
-module _ (w : Wholes) (rows : List TypeRow) (old : HeapView) (bricks0 : BricksView) (queue0 : QueueView) (g : Parts)
+module _ (w : Wholes) (rows : List TypeRow) (old : HeapView) (bricks0 : BricksView) (queue0 : QueueView) (g : Condemned)
     (count : ℕ) (lay : CanLayWhole w rows old bricks0 queue0 g count) where
   pub whole-laid-starts : (at : Pointer) → IsLowest old g at.segment → at.place ≡ first_of old at.segment
       → at.high ≡ reserved_end (segment_at old at.segment) → at.passed ≡ 0

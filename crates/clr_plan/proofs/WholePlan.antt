@@ -9,7 +9,7 @@ use Rattle.clr_heap.specs.View.{HeapView, first_of, last_of, segment_at}
 use Rattle.clr_model.specs.Compaction.{Move, Plug}
 use Rattle.clr_pinq.specs.declared.entry.PinEntry.{PinEntry}
 use Rattle.clr_moves.specs.Moves.{takes}
-use Rattle.clr_moves.specs.declared.parts.Parts.{Parts}
+use Rattle.clr_moves.specs.declared.condemned.Condemned.{Condemned}
 use Rattle.clr_plan.specs.Firsts.{IsLowest}
 use Rattle.clr_plan.specs.PartLists.{plugs_from, plugs_in}
 use Rattle.clr_plan.specs.Parts.{Around, CanPlan, HasPlacedPart}
@@ -24,7 +24,7 @@ use Rattle.clr_plan.proofs.Reaching.{around, can-plan, part-reached}
 -- ---- lists of plugs
 
 -- the plugs of the k lowest segments, and those of n more
-pub plugs-more : (h : HeapView) (g : Parts) (plugs : ℕ → List Plug) (k n : ℕ)
+pub plugs-more : (h : HeapView) (g : Condemned) (plugs : ℕ → List Plug) (k n : ℕ)
     → plugs_in h g plugs (k + n) ≡ plugs_in h g plugs k ++ plugs_from h (takes g) plugs k n
 plugs-more h g plugs k zero =
     let same : k + 0 ≡ k = omega arith in
@@ -37,12 +37,12 @@ plugs-more h g plugs k (suc n) =
     ∙ append_assoc (plugs_in h g plugs k) (if takes g (segment_at h k) then plugs k else [])
     (plugs_from h (takes g) plugs (k + 1) n)
 
-pub plugs-all : (h : HeapView) (g : Parts) (plugs : ℕ → List Plug) (n : ℕ)
+pub plugs-all : (h : HeapView) (g : Condemned) (plugs : ℕ → List Plug) (n : ℕ)
     → plugs_in h g plugs n ≡ plugs_from h (takes g) plugs 0 n
 plugs-all h g plugs n = let same : n ≡ 0 + n = omega arith in ap (plugs_in h g plugs) same ∙ plugs-more h g plugs 0 n
 
 -- the same plugs by another name
-pub plugs-same : (h : HeapView) (g : Parts) (plugs other : ℕ → List Plug) (k : ℕ)
+pub plugs-same : (h : HeapView) (g : Condemned) (plugs other : ℕ → List Plug) (k : ℕ)
     → ((t : ℕ) → t < k → takes g (segment_at h t) ≡ true → plugs t ≡ other t)
     → plugs_in h g plugs k ≡ plugs_in h g other k
 plugs-same h g plugs other zero same = refl
@@ -55,7 +55,7 @@ plugs-same h g plugs other (suc k) same =
     go true on = same k (omega arith) on
     go false off = refl
 
-module _ (w : Wholes) (rows : List TypeRow) (h : HeapView) (g : Parts) (count : ℕ)
+module _ (w : Wholes) (rows : List TypeRow) (h : HeapView) (g : Condemned) (count : ℕ)
     (can : CanPlanWhole w rows h g count) where
   abbrev all : List Plug
   all = wholes w h g count

@@ -8,7 +8,7 @@ use Rattle.clr_generations.specs.Tables.{AreBricksOf}
 use Rattle.clr_pinq.specs.declared.entry.PinEntry.{PinEntry}
 use Rattle.clr_plugs.specs.Plans.{PlannedPart}
 use Rattle.clr_moves.specs.Moves.{part_of}
-use Rattle.clr_moves.specs.declared.parts.Parts.TheVariants.{Generations}
+use Rattle.clr_moves.specs.declared.condemned.Condemned.TheVariants.{Generations}
 use Rattle.clr_plan.specs.PartLists.{AreLaid, opened_in, plan_in, plugs_in, whole_plugs}
 use Rattle.clr_plan.specs.Planned.{pinned_count}
 use Rattle.clr_plan.specs.Plans.{CanPlanHeap, condemned_plugs, HasPlannedHeap, HasReached, IsBetween}

@@ -9,14 +9,14 @@ use Rattle.clr_heap.specs.View.{first_of, HeapView, last_of, segment_at}
 use Rattle.clr_model.specs.Compaction.{Move, Plug}
 use Rattle.clr_plugs.specs.Plans.{IsPlanned, PlannedPart}
 use Rattle.clr_moves.specs.Moves.{part_of, takes}
-use Rattle.clr_moves.specs.declared.parts.Parts.{Parts}
+use Rattle.clr_moves.specs.declared.condemned.Condemned.{Condemned}
 use Rattle.clr_plan.specs.LaidParts.{opened_by, planned_plugs}
 use Rattle.clr_plan.specs.Scans.{plugs_between}
 use Rattle.clr_plan.specs.States.{PlanState}
 use Rattle.clr_plan.specs.Writes.{AreSavedAt, HasWritten}
 
 -- the plugs of the parts of the k lowest segments, where each segment has these
-abbrev pub plugs_in : HeapView → Parts → (ℕ → List Plug) → ℕ → List Plug
+abbrev pub plugs_in : HeapView → Condemned → (ℕ → List Plug) → ℕ → List Plug
 plugs_in h g plugs zero = []
 plugs_in h g plugs (suc k) = plugs_in h g plugs k ++ (if takes g (segment_at h k) then plugs k else [])
 
@@ -30,19 +30,19 @@ abbrev pub whole_plugs : List TypeRow → HeapView → ℕ → List Plug
 whole_plugs rows h t = plugs_between rows h t (first_of h t) (last_of h t)
 
 -- the moves of the k lowest
-abbrev pub moves_in : HeapView → Parts → (ℕ → List Move) → ℕ → List Move
+abbrev pub moves_in : HeapView → Condemned → (ℕ → List Move) → ℕ → List Move
 moves_in h g each zero = []
 moves_in h g each (suc k) = moves_in h g each k ++ (if takes g (segment_at h k) then each k else [])
 
 -- the places of those of their plugs whose information stands in bytes that no live cell has
-abbrev pub opened_in : HeapView → Parts → (ℕ → List Plug) → ℕ → List ℕ
+abbrev pub opened_in : HeapView → Condemned → (ℕ → List Plug) → ℕ → List ℕ
 opened_in h g plugs zero = []
 opened_in h g plugs (suc k) =
     if takes g (segment_at h k) then opened_by (opened_in h g plugs k) (first_of h k) (part_of h g k) (plugs k)
     else opened_in h g plugs k
 
 -- the plan of the part of segment t by these moves
-abbrev pub plan_in : HeapView → Parts → (ℕ → List Plug) → ℕ → List Move → PlannedPart
+abbrev pub plan_in : HeapView → Condemned → (ℕ → List Plug) → ℕ → List Move → PlannedPart
 plan_in h g plugs t vs = record {
   segment = t;
   low = part_of h g t;
@@ -59,8 +59,8 @@ AreFor (p ∷ ps) (v ∷ vs) = (v.start ≡ p.start) × (v.size ≡ p.size) × A
 
 -- The plans of the parts of the k lowest segments, by these moves, stand in the heap, the bricks and the queue. From
 -- segment k on all is as it was.
-pub record AreLaid (old now : PlanState) (g : Parts) (plugs : ℕ → List Plug) (k : ℕ) (moves : List Move) : Type
-    0 where
+pub record AreLaid (old now : PlanState) (g : Condemned) (plugs : ℕ → List Plug) (k : ℕ) (moves : List Move)
+    : Type 0 where
   pub each : ℕ → List Move
   pub moves_are : moves ≡ moves_in old.heap g each k
   pub fit : (t : ℕ) → t < k → takes g (segment_at old.heap t) ≡ true → AreFor (plugs t) (each t)

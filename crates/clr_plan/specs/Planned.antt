@@ -13,7 +13,7 @@ use Rattle.clr_moves.specs.Moves.{IsInPart, move_at, part_of, plug_stop}
 use Rattle.clr_moves.specs.Overlaid.{IsCompactionOf, IsOverlaid}
 use Rattle.clr_moves.specs.Told.{TellMoves}
 use Rattle.clr_plan.specs.Scans.{has_pin}
-use Rattle.clr_moves.specs.declared.parts.Parts.{Parts}
+use Rattle.clr_moves.specs.declared.condemned.Condemned.{Condemned}
 
 -- how many marked objects are pinned
 abbrev pub pinned_marked : List TypeRow → HeapView → ℕ
@@ -25,7 +25,7 @@ pinned_count ps = length (filter (λ p. p.pinned) ps)
 
 -- This many bytes right below the place are unused: down to the end of the plug before it in its part, or to where the
 -- part begins.
-pub record AreUnusedBelow (h : HeapView) (g : Parts) (vs : List Move) (place bytes : ℕ) : Type 0 where
+pub record AreUnusedBelow (h : HeapView) (g : Condemned) (vs : List Move) (place bytes : ℕ) : Type 0 where
   pub part : ℕ
   pub inside : IsInPart h g part place
   pub within : part_of h g part + bytes ≤ place
@@ -34,7 +34,7 @@ pub record AreUnusedBelow (h : HeapView) (g : Parts) (vs : List Move) (place byt
       ⊎ ((j : ℕ) × (j < length vs) × (plug_stop (move_at vs j) + bytes ≡ place))
 
 -- the word before each plug tells how many bytes below it are unused
-abbrev pub TellGaps : HeapView → Parts → List Move → Type 0
+abbrev pub TellGaps : HeapView → Condemned → List Move → Type 0
 TellGaps h g vs =
     (k : ℕ) → k < length vs → AreUnusedBelow h g vs (move_at vs k).start (word_of h ((move_at vs k).start - 32))
 
@@ -42,8 +42,7 @@ TellGaps h g vs =
 -- and bricks tell the moves and the unused bytes before each plug, and the heap's words and the saved ones together are
 -- those of the old heap.
 pub record HasPlanned (rows : List TypeRow) (old new : HeapView) (bricks : BricksView) (entries : List PinEntry)
-    (g : Parts)
-    (m : Machine) (kept : ℕ → Bool) (start1 start0 : ℕ) : Type 0 where
+    (g : Condemned) (m : Machine) (kept : ℕ → Bool) (start1 start0 : ℕ) : Type 0 where
   pub moves : List Move
   pub after : Layout
   pub compaction : IsCompactionOf rows old g moves m kept after

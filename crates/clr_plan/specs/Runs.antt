@@ -5,7 +5,7 @@ use Rattle.clr_types.specs.Types.{TypeRow}
 use Rattle.clr_heap.specs.View.{HeapView, segment_at}
 use Rattle.clr_model.specs.Compaction.{Plug, plug_end}
 use Rattle.clr_plan.specs.Scans.{CanScan, plugs_between}
-use Rattle.clr_plan.specs.declared.scan.Found.{Found}
+use Rattle.clr_plan.specs.declared.scan.NextPlug.{NextPlug}
 
 -- the second plug follows the first and is of its kind
 abbrev pub touches : Plug → Plug → Bool
@@ -23,14 +23,14 @@ pub record IsRun (rows : List TypeRow) (h : HeapView) (k e : ℕ) (run : Plug) :
   pub scan : CanScan rows h k (plug_end run) e
 
 -- the run has become a plug, behind which the others of the segment are ahead
-pub record HasRun (rows : List TypeRow) (h : HeapView) (k e : ℕ) (run : Plug) (found : Found) : Type 0 where
+pub record HasRun (rows : List TypeRow) (h : HeapView) (k e : ℕ) (run : Plug) (found : NextPlug) : Type 0 where
   pub plugs : merged run (plugs_between rows h k (plug_end run) e) ≡ found.plug ∷ plugs_between rows h k found.next e
   pub segment : found.plug.segment ≡ (segment_at h k).base
   pub scan : CanScan rows h k found.next e
   pub above : plug_end run ≤ found.next
 
 -- the first plug of segment k from p to e
-pub record HasNext (rows : List TypeRow) (h : HeapView) (k p e : ℕ) (found : Found) : Type 0 where
+pub record HasNext (rows : List TypeRow) (h : HeapView) (k p e : ℕ) (found : NextPlug) : Type 0 where
   pub plugs : plugs_between rows h k p e ≡ found.plug ∷ plugs_between rows h k found.next e
   pub segment : found.plug.segment ≡ (segment_at h k).base
   pub scan : CanScan rows h k found.next e

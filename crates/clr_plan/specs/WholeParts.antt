@@ -11,7 +11,7 @@ use Rattle.clr_pinq.specs.Queue.{QueueView}
 use Rattle.clr_pinq.specs.declared.entry.PinEntry.{PinEntry}
 use Rattle.clr_plugs.specs.BrickEntries.{BricksView}
 use Rattle.clr_moves.specs.Moves.{part_of, takes}
-use Rattle.clr_moves.specs.declared.parts.Parts.{Parts}
+use Rattle.clr_moves.specs.declared.condemned.Condemned.{Condemned}
 use Rattle.clr_plan.specs.Firsts.{IsLowest}
 use Rattle.clr_plan.specs.PartLists.{AreLaid, plugs_from, plugs_in, whole_plugs}
 use Rattle.clr_plan.specs.Planned.{pinned_count}
@@ -31,12 +31,12 @@ pub record Wholes : Type 0 where
   pub behind : List Plug
 
 -- the plugs of the collection, where the parts are those of the `count` lowest segments
-abbrev pub wholes : Wholes → HeapView → Parts → ℕ → List Plug
+abbrev pub wholes : Wholes → HeapView → Condemned → ℕ → List Plug
 wholes w h g count = plugs_in h g w.plugs count ++ w.behind
 
 -- The heap can be read, some segment has a part, and the plugs lie as a lawful machine's do. Of the `count` lowest
 -- segments the parts are the whole segments, of generation 2.
-pub record CanPlanWhole (w : Wholes) (rows : List TypeRow) (h : HeapView) (g : Parts) (count : ℕ) : Type 0 where
+pub record CanPlanWhole (w : Wholes) (rows : List TypeRow) (h : HeapView) (g : Condemned) (count : ℕ) : Type 0 where
   pub heap : IsHeap h
   pub inside : count ≤ length h.segments
   pub some : (t : ℕ) × (t < length h.segments) × (takes g (segment_at h t) ≡ true)
@@ -52,7 +52,7 @@ pub record CanPlanWhole (w : Wholes) (rows : List TypeRow) (h : HeapView) (g : P
       → generation (frame h) x ≡ 2
 
 -- the plugs of the parts of the k lowest segments are placed
-pub record HasReachedWhole (w : Wholes) (h : HeapView) (g : Parts) (count k : ℕ) (entries : List PinEntry)
+pub record HasReachedWhole (w : Wholes) (h : HeapView) (g : Condemned) (count k : ℕ) (entries : List PinEntry)
     (moves : List Move) (at : Pointer) : Type 0 where
   pub reached : HasReached h w.segments (wholes w h g count) entries w.pointer [] (plugs_in h g w.plugs k)
       (plugs_from h (takes g) w.plugs k (count - k) ++ w.behind) moves at
@@ -60,14 +60,14 @@ pub record HasReachedWhole (w : Wholes) (h : HeapView) (g : Parts) (count k : �
 
 -- these parts can be planned and written, and the queue has room for their pins
 pub record CanLayWhole (w : Wholes) (rows : List TypeRow) (h : HeapView) (bricks : BricksView) (queue : QueueView)
-    (g : Parts) (count : ℕ) : Type 0 where
+    (g : Condemned) (count : ℕ) : Type 0 where
   pub can : CanPlanWhole w rows h g count
   pub bricks_of : AreBricksOf (frame h) bricks
   pub empty : queue.entries ≡ []
   pub spare : pinned_count (wholes w h g count) + 4 ≤ queue.spare
 
 -- the parts of the k lowest segments are laid, and the pointer stands behind them
-pub record AreLaidWhole (w : Wholes) (old now : PlanState) (g : Parts) (count k : ℕ) (at : Pointer) : Type 0 where
+pub record AreLaidWhole (w : Wholes) (old now : PlanState) (g : Condemned) (count k : ℕ) (at : Pointer) : Type 0 where
   pub moves : List Move
   pub reached : HasReachedWhole w old.heap g count k now.queue.entries moves at
   pub laid : AreLaid old now g w.plugs k moves

@@ -2,7 +2,7 @@
 use Rattle.std.specs.Prelude.{◌≡◌, ◌⊎◌, ℕ, ◌+◌, ◌-◌, ◌%◌, ◌^◌, ◌<◌, ◌≤◌, ℤ, Bool, ◌&&◌, not, List, [], ◌∷◌, ◌++◌}
 use Rattle.std.specs.Prelude.{nat_le, negsuc, ◌||◌, Option, Some, None, IsSome, if◌then◌else◌, ◌==◌, pos}
 use Rattle.clr_types.specs.Rising.{IsIn}
-use Rattle.clr_heap.specs.View.{HeapView, SameShape, word_of}
+use Rattle.clr_heap.specs.View.{HeapView, IsHeap, SameShape, word_of}
 use Rattle.clr_model.specs.Compaction.{Plug, plug_end}
 use Rattle.clr_pinq.specs.Queue.{last_end, logical, queue_word, QueueView}
 use Rattle.clr_pinq.specs.declared.entry.PinEntry.{PinEntry}
@@ -92,6 +92,7 @@ distance_of start to = if nat_le start to then pos (to - start) else negsuc (sta
 -- `below`, and no entry ends inside the words before it.
 pub record CanWrite (h : HeapView) (bricks : BricksView) (queue : QueueView) (writer : WriterView) (p : Plug)
     (to first below : ℕ) : Type 0 where
+  pub heap : IsHeap h
   pub writing : CanWritePlug h bricks writer p.start
   pub room : 1 ≤ queue.spare
   pub live : below ≤ p.start

@@ -9,14 +9,14 @@ ghost use Rattle.clr_view.specs.Memory.{IsMemoryOf, TestsMarks};
 ghost use Rattle.clr_view.specs.View.{AreFreeHeads, IsHeld};
 ghost use Rattle.clr_generations.specs.Tables.{AreBricksOf};
 ghost use Rattle.clr_moves.specs.Moves.{part_of, takes};
-ghost use Rattle.clr_moves.specs.declared.parts.Parts.TheVariants.{LargeSegments};
+ghost use Rattle.clr_moves.specs.declared.condemned.Condemned.TheVariants.{LargeSegments};
 ghost use Rattle.clr_plan.specs.Pinned.{TellsPins};
 ghost use Rattle.clr_plan.specs.Planned.{HasPlanned, pinned_marked};
 
 use crate::whole_parts::lay_whole;
 use clr_bricks::Bricks;
 use clr_heap::Heap;
-use clr_moves::{Parts, next_part};
+use clr_moves::{Condemned, next_part};
 use clr_pinq::PinQueue;
 use clr_types::Types;
 
@@ -49,7 +49,7 @@ pub fn plan_large(heap: &mut Heap, types: &Types, bricks: &mut Bricks, pins: &mu
     ensures spans { spans bricks.new ≡ spans bricks.old }
 {
     let count = heap.segments();
-    if next_part(heap, Parts::LargeSegments, 0) < count {
-        let _ = lay_whole(heap, types, bricks, pins, Parts::LargeSegments, count);
+    if next_part(heap, Condemned::LargeSegments, 0) < count {
+        let _ = lay_whole(heap, types, bricks, pins, Condemned::LargeSegments, count);
     }
 }

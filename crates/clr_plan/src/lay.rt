@@ -106,7 +106,6 @@ pub fn lay_part(
     ensures shape { SameShape heap.old heap.new }
     ensures spans { spans bricks.new ≡ spans bricks.old }
 {
-    let _ = heap.segments();
     let home = Home {
         segment: k,
         first: heap.info(k).base + FIRST_OFFSET,
@@ -115,7 +114,6 @@ pub fn lay_part(
     while let Some(found) = next_plug(heap, types, k, place, end) {
         lay_plug(heap, bricks, queue, laying, home, found.plug);
         place = found.next;
-        let _ = heap.segments();
     }
 }
 
@@ -137,7 +135,6 @@ pub fn lay_segment(
     ensures shape { SameShape heap.old heap.new }
     ensures spans { spans bricks.new ≡ spans bricks.old }
 {
-    let _ = heap.segments();
     let segment = heap.info(k);
     let first = segment.base + FIRST_OFFSET;
     let writer = PlanWriter::new(bricks, first);

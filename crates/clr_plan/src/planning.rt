@@ -12,12 +12,12 @@ ghost use Rattle.clr_generations.specs.Tables.{AreBricksOf};
 ghost use Rattle.clr_moves.specs.Moves.{part_of, takes};
 ghost use Rattle.clr_plan.specs.Pinned.{TellsPins};
 ghost use Rattle.clr_plan.specs.Planned.{HasPlanned, pinned_marked};
-ghost use Rattle.clr_moves.specs.declared.parts.Parts.TheVariants.{Generations};
+ghost use Rattle.clr_moves.specs.declared.condemned.Condemned.TheVariants.{Generations};
 
 use crate::heaps::{entries_at, lay_ephemeral, lay_lower};
 use clr_bricks::Bricks;
 use clr_heap::Heap;
-use clr_moves::{Parts, Planned, part_start};
+use clr_moves::{Condemned, Planned, part_start};
 use clr_pinq::PinQueue;
 use clr_types::Types;
 
@@ -62,7 +62,7 @@ pub fn plan(
     ensures spans { spans bricks.new ≡ spans bricks.old }
 {
     let e = heap.ephemeral();
-    let low = part_start(heap, Parts::Generations(g), e);
+    let low = part_start(heap, Condemned::Generations(g), e);
     let (below, first) = entries_at(heap, bricks, e, low);
     let at = lay_lower(heap, types, bricks, pins, e, low, g);
     let (start1, start0) = lay_ephemeral(heap, types, bricks, pins, at, e, low, g);

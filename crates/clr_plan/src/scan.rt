@@ -17,7 +17,7 @@ use clr_types::{Types, header, mark};
 
 /// A plug, and a place behind it from which the next one is to be looked for.
 #[derive(Clone, Copy)]
-pub struct Found {
+pub struct NextPlug {
     pub plug: Plug,
     pub next: u64,
 }
@@ -32,7 +32,7 @@ struct Seen {
 /// The first plug of segment `k` from `from` to `end`, where there is one: the longest run of marked objects side by
 /// side, from the first one on, of one generation and one pinned state. It reads nothing below `from` but that item's
 /// header.
-pub fn next_plug(heap: &Heap, types: &Types, k: usize, from: u64, end: u64) -> Option<Found>
+pub fn next_plug(heap: &Heap, types: &Types, k: usize, from: u64, end: u64) -> Option<NextPlug>
     requires in_range { k < length heap.now.segments }
     requires scan { CanScan types.now heap.now k from end }
     ensures plugs { MatchOption result (plugs_between types.now heap.now k from end ≡ [])
@@ -59,7 +59,7 @@ pub fn next_plug(heap: &Heap, types: &Types, k: usize, from: u64, end: u64) -> O
 }
 
 // The run that begins with a plug, as far as it goes.
-fn whole_run(heap: &Heap, types: &Types, k: usize, base: u64, plug: Plug, end: u64) -> Found
+fn whole_run(heap: &Heap, types: &Types, k: usize, base: u64, plug: Plug, end: u64) -> NextPlug
     requires base { base ≡ (segment_at heap.now k).base }
     requires run { IsRun types.now heap.now k end plug }
     ensures next { HasRun types.now heap.now k end plug result }
@@ -71,7 +71,7 @@ fn whole_run(heap: &Heap, types: &Types, k: usize, base: u64, plug: Plug, end: u
         match seen.kept {
             Some(other) => {
                 if !run.is_alike(other) {
-                    return Found {
+                    return NextPlug {
                         plug: run,
                         next: run.end(),
                     };
@@ -79,14 +79,14 @@ fn whole_run(heap: &Heap, types: &Types, k: usize, base: u64, plug: Plug, end: u
                 run = run.joined(other);
             }
             None => {
-                return Found {
+                return NextPlug {
                     plug: run,
                     next: run.end() + seen.size,
                 };
             }
         }
     }
-    Found {
+    NextPlug {
         plug: run,
         next: run.end(),
     }

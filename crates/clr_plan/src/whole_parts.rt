@@ -11,7 +11,7 @@ use crate::lay::lay_segment;
 use crate::pointer::Pointer;
 use clr_bricks::Bricks;
 use clr_heap::Heap;
-use clr_moves::{Parts, next_part, takes_part};
+use clr_moves::{Condemned, next_part, takes_part};
 use clr_pinq::PinQueue;
 use clr_types::{FIRST_OFFSET, Types};
 
@@ -21,7 +21,7 @@ pub fn lay_whole(
     types: &Types,
     bricks: &mut Bricks,
     queue: &mut PinQueue,
-    parts: Parts,
+    parts: Condemned,
     count: usize,
 ) -> Pointer
     requires can { (w : Wholes) × CanLayWhole w types.now heap.old bricks.old queue.old parts count }
@@ -38,7 +38,7 @@ pub fn lay_whole(
 }
 
 // The first place of the lowest segment that has a part.
-fn lowest_place(heap: &Heap, parts: Parts) -> Pointer
+fn lowest_place(heap: &Heap, parts: Condemned) -> Pointer
     requires some { (t : ℕ) × (t < length heap.now.segments) × (takes parts (segment_at heap.now t) ≡ true) }
     ensures lowest { IsLowest heap.now parts result.segment }
     ensures place { result.place ≡ first_of heap.now result.segment }

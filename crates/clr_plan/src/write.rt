@@ -3,7 +3,7 @@ ghost use Rattle.std.specs.Prelude.{◌≡◌, ℕ, ◌+◌, ◌-◌, ◌%◌, �
 ghost use Rattle.clr_types.specs.Rising.{IsIn};
 ghost use Rattle.clr_covers.specs.Covers.{spans};
 ghost use Rattle.clr_bricks.specs.Bricks.{entry_at};
-ghost use Rattle.clr_heap.specs.View.{HeapView, SameShape, word_of};
+ghost use Rattle.clr_heap.specs.View.{HeapView, IsHeap, SameShape, word_of};
 ghost use Rattle.clr_model.specs.Compaction.{plug_end};
 ghost use Rattle.clr_pinq.specs.Queue.{last_end};
 ghost use Rattle.clr_plugs.specs.Info.{HasInfo};
@@ -57,7 +57,6 @@ pub fn write_plug(
         ≡ entry_at bricks.old i }
     ensures spans { spans bricks.new ≡ spans bricks.old }
 {
-    let _ = heap.segments();
     let start = plug.start();
     save_words(heap, queue, home, plug, below);
     writer.add(
@@ -73,6 +72,7 @@ pub fn write_plug(
 // Saves what the information of a plug overwrites of a live neighbour, and what that of a neighbour would overwrite of
 // a pinned plug.
 fn save_words(heap: &Heap, queue: &mut PinQueue, home: Home, plug: Plug, below: u64)
+    requires heap { IsHeap heap.now }
     requires info { HasInfo heap.now plug.start }
     requires ending { HasInfo heap.now (plug_end plug) }
     requires least { 24 ≤ plug.size }
@@ -125,10 +125,10 @@ fn end_of_queue(queue: &PinQueue) -> u64
 // The three words that the information of a plug at `plug` overwrites. `near` guesses their segment.
 #[inline(always)]
 fn saved_at(heap: &Heap, near: usize, plug: u64) -> Saved
-    requires { HasInfo heap.now plug }
+    requires heap { IsHeap heap.now }
+    requires info { HasInfo heap.now plug }
     ensures { result ≡ words_before (word_of heap.now) plug }
 {
-    let _ = heap.segments();
     let at = plug - 32;
     let k = heap.segment_near(near, at);
     Saved {

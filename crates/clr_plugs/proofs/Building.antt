@@ -10,14 +10,14 @@ use Rattle.clr_types.proofs.RisingLists.{all_at, in_cons}
 use Rattle.clr_types.proofs.ListMembers.{append_right, from-map}
 use Rattle.clr_types.proofs.ChangedLists.{append_left, IsIn-map}
 use Rattle.clr_heap.specs.Memories.{HasWord}
-use Rattle.clr_heap.specs.View.{HeapView, IsHeap, SameShape, stored, word_of}
+use Rattle.clr_heap.specs.View.{HeapView, SameShape, stored, word_of}
 use Rattle.clr_heap.proofs.Rewrite.{SameShape-stored}
 use Rattle.clr_heap.proofs.Storing.{HasWord-shapes, word_in-store_in_other, word_in-store_in_same}
 use Rattle.clr_plugs.specs.Builders.{AreOffsets, HaveChildren, IsNoChildren, places_from}
 use Rattle.clr_plugs.specs.Info.{children_word, HasInfo}
 use Rattle.clr_plugs.specs.Plans.{AreSpaced}
 use Rattle.clr_plugs.specs.Trees.{in_order, IsBrickTree, leaf, levels, node, Stands, Tree}
-use Rattle.clr_plugs.proofs.Information.{info_words}
+use Rattle.clr_plugs.proofs.Information.{inner_has}
 use Rattle.clr_plugs.proofs.Starts.{spaced-above}
 
 -- ---- offsets around one of them
@@ -332,7 +332,12 @@ pushed base xs o plug a at small above =
     }
 
 -- the words of the plugs' children are among their information
-pub info_children : (h : HeapView) (plugs : List ℕ) → IsHeap h → ((x : ℕ) → IsIn x plugs → HasInfo h x)
-    → HaveChildren h plugs
-info_children h plugs heap has = λ x i. let w = info_words h x heap (has x i) in let above = w.above in
-    (omega (arith, above), w.children.word)
+pub info_children : (h : HeapView) (plugs : List ℕ) → ((x : ℕ) → IsIn x plugs → HasInfo h x) → HaveChildren h plugs
+info_children h plugs has = λ x i. (
+    let info = has x i in
+    let above = info.above in
+    let z = info.bytes.word.aligned in (
+      omega (arith, above),
+      inner_has h.memories (x - 32) 24 (x - 16) info.bytes (omega (arith, above))
+          (omega (arith, above)) (omega (arith, above, z)),
+    ))

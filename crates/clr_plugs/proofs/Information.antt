@@ -1,5 +1,5 @@
 -- The words before a plug: what writing them makes of the heap.
-use Rattle.std.proofs.Common.{◌≡◌, ◌≢◌, ℕ, ◌+◌, ◌-◌, ◌/◌, ◌%◌, ◌<◌, ◌≤◌, [], get_or, true, ap, sym, ◌∙◌, arith}
+use Rattle.std.proofs.Common.{◌≡◌, ◌≢◌, ℕ, ◌+◌, ◌-◌, ◌/◌, ◌%◌, ◌<◌, ◌≤◌, List, [], get_or, true, ap, sym, ◌∙◌, arith}
 use Rattle.clr_mem.specs.Words.{Memory}
 use Rattle.clr_heap.specs.Memories.{contains, HasWord, InOne, memory_index}
 use Rattle.clr_heap.specs.View.{HeapView, IsHeap, SameShape, stored, word_of}
@@ -7,12 +7,30 @@ use Rattle.clr_heap.proofs.Rewrite.{SameShape-refl, SameShape-stored}
 use Rattle.clr_heap.proofs.Framing.{memories_apart}
 use Rattle.clr_heap.proofs.Moving.{index_unique}
 use Rattle.clr_heap.proofs.Storing.{contains_at_index, contains_bounds, contains_from, HasWord-store_in}
-use Rattle.clr_heap.proofs.Storing.{memory_index-store_in, word_in-store_in_other, word_in-store_in_same}
+use Rattle.clr_heap.proofs.Storing.{index_below, memory_index-store_in, word_in-store_in_other, word_in-store_in_same}
 use Rattle.std.specs.Int.{cast_signed, cast_unsigned, w64}
 use mir.Val.{SFits}
 use Rattle.std.proofs.lemmas.Int.{to_z-of_z}
 use Rattle.clr_plugs.specs.Info.{children_word, HasInfo, info_at}
 use Rattle.clr_plugs.specs.declared.words.PlugInfo.{PlugInfo}
+
+-- an address of a range in one memory lies in that memory
+inner_contained : (ms : List Memory) (a n b : ℕ) → InOne ms a n → a ≤ b → b < a + n → (d : Memory)
+    → contains (get_or ms (memory_index ms a) d) b ≡ true
+inner_contained ms a n b one low high d =
+    let m = get_or ms (memory_index ms a) d in
+    let here = contains_bounds m a (contains_at_index ms a d one.word.inside) in
+    let within = one.within d in
+    contains_from m b (omega (arith, here.0)) (omega (arith, within))
+
+-- so there is such a word, whether or not other memories stand apart
+pub inner_has : (ms : List Memory) (a n b : ℕ) → InOne ms a n → a ≤ b → b < a + n → b % 8 ≡ 0 → HasWord ms b
+inner_has ms a n b one low high z =
+    let d : Memory = record { base = 0; words = [] } in
+    record {
+      aligned = z;
+      inside = index_below ms (memory_index ms a) b d one.word.inside (inner_contained ms a n b one low high d);
+    }
 
 -- a word of a range in one memory lies in that memory
 pub record IsInner (h : HeapView) (a b : ℕ) : Type 0 where
@@ -23,14 +41,12 @@ pub inner_word : (h : HeapView) (a n b : ℕ) → IsHeap h → InOne h.memories 
     → IsInner h a b
 inner_word h a n b heap one low high z =
     let d : Memory = record { base = 0; words = [] } in
-    let k = memory_index h.memories a in
-    let inside = one.word.inside in
-    let here = contains_bounds (get_or h.memories k d) a (contains_at_index h.memories a d inside) in
-    let within = one.within d in
-    let there : contains (get_or h.memories k d) b ≡ true =
-    contains_from (get_or h.memories k d) b (omega (arith, here.0)) (omega (arith, within)) in
-    let at = index_unique h.memories k b d (memories_apart h heap) inside there in
-    record { word = record { aligned = z; inside = omega (arith, at, inside) }; same = sym at }
+    let there = inner_contained h.memories a n b one low high d in
+    record {
+      word = inner_has h.memories a n b one low high z;
+      same = sym (index_unique h.memories (memory_index h.memories a) b d (memories_apart h heap) one.word.inside
+          there);
+    }
 
 -- the three words before a plug
 pub record AreInfoWords (h : HeapView) (plug : ℕ) : Type 0 where

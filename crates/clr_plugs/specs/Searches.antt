@@ -8,7 +8,7 @@ use Rattle.clr_heap.specs.View.{HeapView, word_of}
 use Rattle.clr_plugs.specs.BrickEntries.{BricksView}
 use Rattle.clr_plugs.specs.Trees.{IsBrickTree, IsWithinDigits, starts_in}
 use Rattle.clr_plugs.specs.Plans.{IsBrickOf, IsPlanned, past_bricks, PlannedPart, PlannedPlug, plug_starts}
-use Rattle.clr_plugs.specs.declared.search.Plug.{Plug}
+use Rattle.clr_plugs.specs.declared.search.NearestPlug.{NearestPlug}
 
 -- the last of the places, which rise, that isn't above a, and `other` where there is none
 abbrev pub nearest : List ℕ → ℕ → ℕ → ℕ
@@ -29,7 +29,7 @@ IsStopIn brick a stop = (stop ≤ brick * 4096 + 4096) × (a < brick * 4096 + 40
 
 -- What was found is the plug with the greatest start at the place or below it, and where the next plug of the place's
 -- brick starts, or the brick's end.
-pub record IsNearestPlug (plugs : List PlannedPlug) (a : ℕ) (found : Plug) : Type 0 where
+pub record IsNearestPlug (plugs : List PlannedPlug) (a : ℕ) (found : NearestPlug) : Type 0 where
   pub plug : PlannedPlug
   pub among : IsIn plug plugs
   pub start : found.start ≡ plug.start

@@ -88,7 +88,6 @@ impl TreeBuilder {
         ensures words { (b : ℕ) → b % 8 ≡ 0 → IsNoChildren self.plugs b → word_of heap.new b ≡ word_of heap.old b }
         ensures shape { SameShape heap.old heap.new }
     {
-        let _ = heap.segments();
         let root = build(heap, 0, self.brick, &self.offsets[..self.count]);
         if root == 0 {
             bricks.set_none(self.brick);

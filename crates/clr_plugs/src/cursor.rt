@@ -97,7 +97,7 @@ impl PlugCursor {
         ensures brick { self.new.brick ≡ self.old.brick + 1 }
         ensures past { self.new.past ≡ self.old.past }
     {
-        let _ = heap.segments();
+        heap.lawful();
         let brick = self.brick;
         let base = brick * BRICK;
         let (root, _) = lead(bricks, near, brick);

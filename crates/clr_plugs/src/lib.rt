@@ -8,7 +8,7 @@
 
 pub use crate::builder::TreeBuilder;
 pub use crate::cursor::PlugCursor;
-pub use crate::search::{Plug, find_plug};
+pub use crate::search::{NearestPlug, find_plug};
 pub use crate::words::{PlugInfo, info, put_info};
 pub use crate::writer::PlanWriter;
 

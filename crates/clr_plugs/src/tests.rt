@@ -5,7 +5,7 @@ ghost use Rattle.clr_heap.specs.View.{first_of, HeapView, segment_at};
 ghost use Rattle.clr_types.specs.Segments.{reserved_end};
 ghost use Rattle.clr_plugs.specs.Laying.{IsLaid};
 
-use crate::{PlanWriter, Plug, PlugCursor, find_plug};
+use crate::{NearestPlug, PlanWriter, PlugCursor, find_plug};
 use clr_bricks::Bricks;
 use clr_heap::Heap;
 use clr_nums::Steps;
@@ -58,7 +58,7 @@ fn lay(
 }
 
 // The plug that is found for an address, with a count of its own.
-fn found<L: Ledger>(heap: &Heap, bricks: &Bricks, a: u64, blank: Blank) -> Option<Plug>
+fn found<L: Ledger>(heap: &Heap, bricks: &Bricks, a: u64, blank: Blank) -> Option<NearestPlug>
     requires laid { (low : ℕ) × (high : ℕ) × IsLaid heap.now bricks.now low high × (low ≤ a) × (a < high) }
     requires name { blank.name ≡ L.name }
     requires parts { blank.parts ≡ L.parts }

@@ -40,7 +40,7 @@ pub fn put_info(heap: &mut Heap, near: usize, plug: u64, info: PlugInfo)
     ensures words { (b : ℕ) → b % 8 ≡ 0 → (b + 32 < plug) ⊎ (plug ≤ b + 8) → word_of heap.new b ≡ word_of heap.old b }
     ensures shape { SameShape heap.old heap.new }
 {
-    let _ = heap.segments();
+    heap.lawful();
     let k = heap.segment_near(near, plug - GAP);
     heap.set_word_at(k, plug - GAP, info.gap);
     heap.set_word_at(k, plug - DISTANCE, info.distance.cast_unsigned());
@@ -53,7 +53,7 @@ pub fn info(heap: &Heap, near: usize, plug: u64) -> PlugInfo
     requires { HasInfo heap.now plug }
     ensures { result ≡ info_at (word_of heap.now) plug }
 {
-    let _ = heap.segments();
+    heap.lawful();
     let k = heap.segment_near(near, plug - GAP);
     let children = heap.word_at(k, plug - CHILDREN);
     PlugInfo {

@@ -18,7 +18,7 @@ use Rattle.clr_view.proofs.SlotReads.{slot-told}
 use Rattle.clr_mark.proofs.References.{value_ref}
 use Rattle.clr_generations.specs.Laws.{CardLaw}
 use Rattle.clr_moves.specs.Objects.{is_left_by, moved_object, relocated_object, relocated_value}
-use Rattle.clr_moves.specs.declared.parts.Parts.{Parts}
+use Rattle.clr_moves.specs.declared.condemned.Condemned.{Condemned}
 use Rattle.clr_reloc.specs.References.{references_of}
 use Rattle.clr_reloc.specs.Relocated.{left_objects}
 use Rattle.clr_reloc.specs.Relocating.{IsCarded, IsLeftItem}
@@ -42,7 +42,7 @@ was_reference : (vs : List Move) (v : Value) (x : ℕ) → relocated_value vs v 
 was_reference vs (ref y) x e = (y, refl, cc)
 was_reference vs (num n) x e = absurd cc
 
-module _ (rows : List TypeRow) (view : HeapView) (g : Parts) (vs : List Move) (layout : Layout) (is_set : ℕ → Bool)
+module _ (rows : List TypeRow) (view : HeapView) (g : Condemned) (vs : List Move) (layout : Layout) (is_set : ℕ → Bool)
     (carded : (i : Item) (offset : ℕ) → IsLeftItem rows view g i → IsIn offset (references_of rows i)
     → IsCarded view vs layout is_set i.place offset) where
   -- an object that is left, and the item that it is

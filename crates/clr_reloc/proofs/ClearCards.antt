@@ -15,7 +15,7 @@ use Rattle.clr_view.proofs.ObjectItems.{stands-item}
 use Rattle.clr_view.proofs.Standing.{standing}
 use Rattle.clr_scan.specs.Entries.{IsEntryPlace}
 use Rattle.clr_scan.specs.SetCards.{AreClear}
-use Rattle.clr_moves.specs.declared.parts.Parts.{Parts}
+use Rattle.clr_moves.specs.declared.condemned.Condemned.{Condemned}
 use Rattle.clr_reloc.specs.Relocating.{AreCarded, GoesDown, HasGone, IsAhead}
 use Rattle.clr_reloc.specs.Relocating.{Tracks}
 use Rattle.clr_reloc.specs.Scanning.{AreEntriesSound, AreQuietWhereClear}
@@ -63,8 +63,8 @@ was_clear old new kept c off = elim (cases_Bool (old c)) [
   | inl on ↦ absurd (both_ways (new c) off (kept c on))
 ]
 
-module _ (rows : List TypeRow) (view now : HeapView) (g : Parts) (vs : List Move) (layout : Layout) (heap : IsHeap view)
-    (held : IsHeld rows view) (is_set : ℕ → Bool) (first end p q : ℕ)
+module _ (rows : List TypeRow) (view now : HeapView) (g : Condemned) (vs : List Move) (layout : Layout)
+    (heap : IsHeap view) (held : IsHeld rows view) (is_set : ℕ → Bool) (first end p q : ℕ)
     (quiet : AreQuietWhereClear rows view g vs layout is_set first end) (low : first ≤ p) (high : q ≤ end)
     (clear : AreClear is_set p q)
     (untouched : (b : ℕ) → b % 8 ≡ 0 → p ≤ b + 8 → b + 8 < q → word_of now b ≡ word_of view b)
@@ -104,7 +104,7 @@ module _ (rows : List TypeRow) (view now : HeapView) (g : Parts) (vs : List Move
       absurd (older (subst (λ x. generation layout x < generation layout i.place) still
       (subst (λ x. generation layout (moved_by vs (word_of view (i.place + offset))) < generation layout x) here less)))
 
-pub quiet_on : (rows : List TypeRow) (view : HeapView) (g : Parts) (vs : List Move) (layout : Layout)
+pub quiet_on : (rows : List TypeRow) (view : HeapView) (g : Condemned) (vs : List Move) (layout : Layout)
     (old new : ℕ → Bool) (first end : ℕ) → ((c : ℕ) → old c ≡ true → new c ≡ true)
     → AreQuietWhereClear rows view g vs layout old first end → AreQuietWhereClear rows view g vs layout new first end
 quiet_on rows view g vs layout old new first end kept quiet i offset left a b m off =
@@ -112,7 +112,7 @@ quiet_on rows view g vs layout old new first end kept quiet i offset left a b m 
 
 -- ---- a scan by set cards
 
-module _ (rows : List TypeRow) (view now next : HeapView) (g : Parts) (vs : List Move) (layout : Layout)
+module _ (rows : List TypeRow) (view now next : HeapView) (g : Condemned) (vs : List Move) (layout : Layout)
     (heap : IsHeap view) (held : IsHeld rows view) (old_set now_set : ℕ → Bool)
     (kept : (c : ℕ) → old_set c ≡ true → now_set c ≡ true) (first end cursor : ℕ) (low : first ≤ cursor)
     (quiet : AreQuietWhereClear rows view g vs layout old_set first end)
@@ -211,7 +211,7 @@ entry_stands rows view entry first end lo from cursor less sound found = elim fo
 ]
 
 -- a stretch that begins further up
-pub sub_ahead : (view now next : HeapView) (g : Parts) (vs : List Move) (rows : List TypeRow) (first end from : ℕ)
+pub sub_ahead : (view now next : HeapView) (g : Condemned) (vs : List Move) (rows : List TypeRow) (first end from : ℕ)
     → first ≤ from → IsAhead view now g vs first end → HasGone rows view now next g vs first from
     → IsAhead view next g vs from end
 sub_ahead view now next g vs rows first end from low ahead gone = record {

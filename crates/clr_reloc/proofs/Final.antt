@@ -16,7 +16,7 @@ use Rattle.clr_pinq.specs.declared.entry.PinEntry.{PinEntry}
 use Rattle.clr_generations.specs.Laws.{CardLaw}
 use Rattle.clr_moves.specs.Objects.{AreFollowed}
 use Rattle.clr_moves.specs.Overlaid.{HoldsPlan, IsPlugWord}
-use Rattle.clr_moves.specs.declared.parts.Parts.{Parts}
+use Rattle.clr_moves.specs.declared.condemned.Condemned.{Condemned}
 use Rattle.clr_moves.specs.Moves.{age_of}
 use Rattle.clr_reloc.specs.Partial.{HaveOldPartsOf}
 use Rattle.clr_reloc.specs.Outside.{AreAheadOutside, AreCardedOutside, AreCardedPlugs, HaveGoneOutside, HaveGonePlugs}
@@ -31,7 +31,7 @@ use Rattle.clr_reloc.proofs.NewObjects.{has_relocated}
 use Rattle.clr_reloc.proofs.Outer.{no_plug}
 use Rattle.clr_reloc.proofs.PlugItems.{in_plug}
 
-module _ (rows : List TypeRow) (view h : HeapView) (bricks : BricksView) (entries : List PinEntry) (g : Parts)
+module _ (rows : List TypeRow) (view h : HeapView) (bricks : BricksView) (entries : List PinEntry) (g : Condemned)
     (vs : List Move) (start1 start0 : ℕ) (least : age_of g ≤ 2)
     (plan : HoldsPlan rows view h bricks entries g vs start1 start0)
     (followed : AreFollowed rows view g vs)

@@ -20,7 +20,7 @@ use Rattle.clr_view.proofs.Listed.{type-named}
 use Rattle.clr_view.proofs.Listings.{listings-agree}
 use Rattle.clr_view.proofs.Standing.{listed_from, standing}
 use Rattle.clr_scan.proofs.SlotScans.{slot_number}
-use Rattle.clr_moves.specs.declared.parts.Parts.{Parts}
+use Rattle.clr_moves.specs.declared.condemned.Condemned.{Condemned}
 use Rattle.clr_reloc.specs.References.{references_of}
 use Rattle.clr_reloc.specs.Relocating.{IsLeftReference, IsUnderway}
 use Rattle.clr_reloc.proofs.Cells.{left_inside, one_item}
@@ -43,7 +43,7 @@ array_reference form len offset l on = let n = slot_number form len offset l in 
     go bytes_form j o e f = omega arith
     go (structs_form pattern) j o e f = omega arith
 
-module _ (rows : List TypeRow) (view now : HeapView) (g : Parts) (vs : List Move) (heap : IsHeap view)
+module _ (rows : List TypeRow) (view now : HeapView) (g : Condemned) (vs : List Move) (heap : IsHeap view)
     (held : IsHeld rows view) (u : IsUnderway rows view now g vs) where
   -- a word at which no reference of what is left stands
   pub word_left : (b : ℕ) → b % 8 ≡ 0 → (IsLeftReference rows view g b → ⊥) → word_of now b ≡ word_of view b

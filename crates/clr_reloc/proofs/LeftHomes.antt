@@ -27,8 +27,8 @@ use Rattle.clr_mark.specs.Marks.{is_condemned_place}
 use Rattle.clr_scan.specs.OldParts.{HaveOldParts, old_end}
 use Rattle.clr_moves.specs.Moves.{age_of, IsInPart, IsInPlug, move_at, part_of, plug_stop, takes}
 use Rattle.clr_moves.specs.Objects.{is_in_parts}
-use Rattle.clr_moves.specs.declared.parts.Parts.{Parts}
-use Rattle.clr_moves.specs.declared.parts.Parts.TheVariants.{Generations, LargeSegments}
+use Rattle.clr_moves.specs.declared.condemned.Condemned.{Condemned}
+use Rattle.clr_moves.specs.declared.condemned.Condemned.TheVariants.{Generations, LargeSegments}
 use Rattle.clr_moves.proofs.PartPlaces.{into_parts, out_of_parts}
 use Rattle.clr_reloc.specs.Outside.{HaveNoneOver, outside_end}
 use Rattle.clr_reloc.specs.Partial.{HaveOldPartsOf}
@@ -112,7 +112,7 @@ condemned_reached h g x b e = e
 
 module _ (rows : List TypeRow) (h : HeapView) (age : ℕ) (least : age ≤ 2) (heap : IsHeap h) (held : IsHeld rows h)
     (old : age < 2 → HaveOldParts rows h age) where
-  abbrev g : Parts
+  abbrev g : Condemned
   g = Generations age
 
   end_old : (t : ℕ) → age < 2 → outside_end h g t ≡ old_end h age t
@@ -324,13 +324,13 @@ module _ (rows : List TypeRow) (h : HeapView) (heap : IsHeap h) (held : IsHeld r
 -- ---- any parts
 
 -- no item reaches over the start of a part
-pub none_over : (rows : List TypeRow) (h : HeapView) (g : Parts) → age_of g ≤ 2 → IsHeap h → IsHeld rows h
+pub none_over : (rows : List TypeRow) (h : HeapView) (g : Condemned) → age_of g ≤ 2 → IsHeap h → IsHeld rows h
     → HaveOldPartsOf rows h g → HaveNoneOver rows h g
 none_over rows h (Generations age) least heap held old = young_over rows h age least heap held old
 none_over rows h LargeSegments least heap held old = large_over rows h heap held
 
 -- a collection goes over what stands in a part
-pub reached : (rows : List TypeRow) (h : HeapView) (g : Parts) → age_of g ≤ 2 → IsHeap h → IsHeld rows h
+pub reached : (rows : List TypeRow) (h : HeapView) (g : Condemned) → age_of g ≤ 2 → IsHeap h → IsHeld rows h
     → HaveOldPartsOf rows h g → (t x : ℕ) → t < length h.segments → outside_end h g t ≤ x → x < last_of h t
     → is_gone_over h g x ≡ true
 reached rows h (Generations age) least heap held old t x l low high =
@@ -338,20 +338,20 @@ reached rows h (Generations age) least heap held old t x l low high =
 reached rows h LargeSegments least heap held old t x l low high = large_reached rows h heap held t x l low high
 
 -- the limit of a segment tells what is left
-pub keeps_told : (rows : List TypeRow) (h : HeapView) (g : Parts) → age_of g ≤ 2 → IsHeap h → IsHeld rows h
+pub keeps_told : (rows : List TypeRow) (h : HeapView) (g : Condemned) → age_of g ≤ 2 → IsHeap h → IsHeld rows h
     → HaveOldPartsOf rows h g → (i : Item) (t : ℕ) → t < length h.segments → IsIn i (listing rows h t)
     → keeps (word_of h) (limit_of h g t) i ≡ (is_object i && is_left_at h g i.place)
 keeps_told rows h (Generations age) least heap held old i t l m = young_told rows h age least heap held old i t l m
 keeps_told rows h LargeSegments least heap held old i t l m = large_keeps rows h heap held i t l m
 
 -- the segment of a place tells whether a collection goes over it
-pub gone_over_told : (rows : List TypeRow) (h : HeapView) (g : Parts) → IsHeap h → IsHeld rows h → (t x : ℕ)
+pub gone_over_told : (rows : List TypeRow) (h : HeapView) (g : Condemned) → IsHeap h → IsHeld rows h → (t x : ℕ)
     → t < length h.segments → first_of h t ≤ x → x < reserved_end (segment_at h t)
     → is_gone_over_in h g t x ≡ is_gone_over h g x
 gone_over_told rows h (Generations age) heap held t x l low high = refl
 gone_over_told rows h LargeSegments heap held t x l low high = sym (large_told rows h heap held t x l low high)
 
-module _ (rows : List TypeRow) (h : HeapView) (g : Parts) (least : age_of g ≤ 2) (heap : IsHeap h)
+module _ (rows : List TypeRow) (h : HeapView) (g : Condemned) (least : age_of g ≤ 2) (heap : IsHeap h)
     (held : IsHeld rows h) (old : HaveOldPartsOf rows h g) where
   -- where an object that is left stands
   pub record InsidePlug (vs : List Move) (i : Item) : Type 0 where

@@ -17,7 +17,7 @@ use Rattle.clr_model.specs.Compaction.{Move, moved_by}
 use Rattle.clr_view.specs.View.{IsHeld}
 use Rattle.clr_view.proofs.Standing.{cell_has, mt_in, standing}
 use Rattle.clr_pinq.specs.Queue.{QueueView}
-use Rattle.clr_moves.specs.declared.parts.Parts.{Parts}
+use Rattle.clr_moves.specs.declared.condemned.Condemned.{Condemned}
 use Rattle.clr_moves.specs.declared.stretch.Stretch.{Stretch}
 use Rattle.clr_reloc.specs.Relocated.{rebounded}
 use Rattle.clr_reloc.specs.Relocations.{AreRelocated, IsRelocatingBy, KeepsBeside}
@@ -57,20 +57,20 @@ track_has rows view h heap held same is p e t l =
     (subst (HasWord view.memories) f.at
     (cell_has rows view heap held f.item f.item.place f.listed (mt_in rows view heap held f.item f.listed)))
 
-pub gone_none : (rows : List TypeRow) (view now : HeapView) (g : Parts) (vs : List Move) (p : ℕ)
+pub gone_none : (rows : List TypeRow) (view now : HeapView) (g : Condemned) (vs : List Move) (p : ℕ)
     → HasGone rows view now now g vs p p
 gone_none rows view now g vs p = record {
   done = λ b r low high. absurd (omega (arith, low, high));
   others = λ b z out. refl;
 }
 
-pub carded_none : (rows : List TypeRow) (view : HeapView) (g : Parts) (vs : List Move) (layout : Layout)
+pub carded_none : (rows : List TypeRow) (view : HeapView) (g : Condemned) (vs : List Move) (layout : Layout)
     (is_set : ℕ → Bool) (p : ℕ) → AreCarded rows view g vs layout is_set p p
 carded_none rows view g vs layout is_set p i offset left low high m = absurd (omega (arith, low, high))
 
 -- two stretches side by side
-pub gone_both : (rows : List TypeRow) (view now mid next : HeapView) (g : Parts) (vs : List Move) (heap : IsHeap view)
-    (held : IsHeld rows view) (p q e : ℕ) → p ≤ q → q ≤ e → HasGone rows view now mid g vs p q
+pub gone_both : (rows : List TypeRow) (view now mid next : HeapView) (g : Condemned) (vs : List Move)
+    (heap : IsHeap view) (held : IsHeld rows view) (p q e : ℕ) → p ≤ q → q ≤ e → HasGone rows view now mid g vs p q
     → HasGone rows view mid next g vs q e → HasGone rows view now next g vs p e
 gone_both rows view now mid next g vs heap held p q e low high a b = record {
   done = λ x r from to. elim (cases_lt (x + 8) q) [
@@ -83,7 +83,7 @@ gone_both rows view now mid next g vs heap held p q e low high a b = record {
   ];
 }
 
-pub carded_both : (rows : List TypeRow) (view : HeapView) (g : Parts) (vs : List Move) (layout : Layout)
+pub carded_both : (rows : List TypeRow) (view : HeapView) (g : Condemned) (vs : List Move) (layout : Layout)
     (old new : ℕ → Bool) (p q e : ℕ) → ((c : ℕ) → old c ≡ true → new c ≡ true)
     → AreCarded rows view g vs layout old p q → AreCarded rows view g vs layout new q e
     → AreCarded rows view g vs layout new p e
@@ -124,7 +124,7 @@ relocated_both work view now vs old mid new pins queue saved cards flags set nea
     }
 
 -- the next item is still ahead
-module _ (rows : List TypeRow) (view now next : HeapView) (g : Parts) (vs : List Move) (heap : IsHeap view)
+module _ (rows : List TypeRow) (view now next : HeapView) (g : Condemned) (vs : List Move) (heap : IsHeap view)
     (held : IsHeld rows view) (from place e down : ℕ) (cards : List (CoverView ℕ)) (low : from ≤ place)
     (below : place < e)
     (ahead : IsAhead view now g vs from e) (goes : GoesDown vs from e down)

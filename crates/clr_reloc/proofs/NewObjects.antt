@@ -25,7 +25,7 @@ use Rattle.clr_view.proofs.Slots.{same-value, slot-inside, slot_word}
 use Rattle.clr_view.proofs.Standing.{listed_from, standing}
 use Rattle.clr_view.proofs.StoredSlots.{kind-there, offset-apart, slot-word-is, value-is}
 use Rattle.clr_moves.specs.Objects.{is_left_by, relocated_object, relocated_value}
-use Rattle.clr_moves.specs.declared.parts.Parts.{Parts}
+use Rattle.clr_moves.specs.declared.condemned.Condemned.{Condemned}
 use Rattle.clr_reloc.specs.References.{is_reference_at, keeps, leads_to, limit_of, references_of, relocated}
 use Rattle.clr_reloc.specs.References.{staying_items}
 use Rattle.clr_reloc.specs.Relocated.{HasRelocated}
@@ -106,7 +106,7 @@ slots_relocated form old new moves place (s ∷ slots) refs nums =
 
 -- ---- the items that are left
 
-module _ (rows : List TypeRow) (h : HeapView) (g : Parts) where
+module _ (rows : List TypeRow) (h : HeapView) (g : Condemned) where
   abbrev kept_of : ℕ → List Item
   kept_of t = filter (keeps (word_of h) (limit_of h g t)) (listing rows h t)
 
@@ -126,7 +126,7 @@ module _ (rows : List TypeRow) (h : HeapView) (g : Parts) where
         append_right (staying_items rows h g n) (subst (λ k. IsIn i (kept_of k)) e m)
   ]
 
-module _ (rows : List TypeRow) (view now : HeapView) (g : Parts) (vs : List Move) (heap : IsHeap view)
+module _ (rows : List TypeRow) (view now : HeapView) (g : Condemned) (vs : List Move) (heap : IsHeap view)
     (held : IsHeld rows view) (none : view.rests ≡ no_rests) (u : IsUnderway rows view now g vs)
     (told : (i : Item) (t : ℕ) → t < length view.segments → IsIn i (listing rows view t)
     → keeps (word_of view) (limit_of view g t) i ≡ (is_object i && is_left_at view g i.place))

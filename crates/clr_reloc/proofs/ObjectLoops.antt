@@ -15,7 +15,7 @@ use Rattle.clr_heap.proofs.Storing.{HasWord-shapes}
 use Rattle.clr_model.specs.Compaction.{Move, moved_by}
 use Rattle.clr_pinq.specs.Queue.{QueueView}
 use Rattle.clr_moves.specs.declared.stretch.Stretch.{Stretch}
-use Rattle.clr_moves.specs.declared.parts.Parts.{Parts}
+use Rattle.clr_moves.specs.declared.condemned.Condemned.{Condemned}
 use Rattle.clr_reloc.specs.References.{references_of}
 use Rattle.clr_reloc.specs.Relocated.{rebounded}
 use Rattle.clr_reloc.specs.Relocating.{IsSlotAhead, KeepsTelling}
@@ -48,7 +48,7 @@ module _ (work : Relocation) (object : LeftObject) (h : HeapView) (pins : QueueV
   abbrev rows : List TypeRow
   rows = work.types.now
 
-  abbrev g : Parts
+  abbrev g : Condemned
   g = work.g
 
   abbrev found : Item

@@ -35,8 +35,8 @@ use Rattle.clr_reloc.specs.Partial.{HaveEntriesOf, HaveOldPartsOf, IsPartial}
 use Rattle.clr_moves.specs.Moves.{age_of, IsInPart, IsInPlug, move_at, part_of, plug_stop, room_end, takes}
 use Rattle.clr_moves.specs.Objects.{AreRemembered}
 use Rattle.clr_moves.specs.Overlaid.{HoldsPlan}
-use Rattle.clr_moves.specs.declared.parts.Parts.{Parts}
-use Rattle.clr_moves.specs.declared.parts.Parts.TheVariants.{Generations, LargeSegments}
+use Rattle.clr_moves.specs.declared.condemned.Condemned.{Condemned}
+use Rattle.clr_moves.specs.declared.condemned.Condemned.TheVariants.{Generations, LargeSegments}
 use Rattle.clr_moves.specs.declared.planned.Planned.{Planned}
 use Rattle.clr_reloc.specs.Outside.{HaveNoneOver, outside_end}
 use Rattle.clr_reloc.specs.Relocated.{rebounded}
@@ -52,7 +52,7 @@ module _ (rows : List TypeRow) (view h : HeapView) (bricks : BricksView) (entrie
     (vs : List Move) (planned : Planned) (least : oldest ≤ 2) (young : oldest < 2)
     (plan : HoldsPlan rows view h bricks entries (Generations oldest) vs planned.start1 planned.start0)
     (old : oldest < 2 → HaveOldParts rows view oldest) where
-  abbrev g : Parts
+  abbrev g : Condemned
   g = Generations oldest
 
   heap : IsHeap view
@@ -322,7 +322,7 @@ module _ (rows : List TypeRow) (view h : HeapView) (bricks : BricksView) (entrie
 
 -- in a compaction of less than all generations
 pub can_scan_part : (rows : List TypeRow) (view h : HeapView) (bricks : BricksView) (entries : List PinEntry)
-    (g : Parts) (vs : List Move) (planned : Planned) → age_of g ≤ 2 → IsPartial g
+    (g : Condemned) (vs : List Move) (planned : Planned) → age_of g ≤ 2 → IsPartial g
     → HoldsPlan rows view h bricks entries g vs planned.start1 planned.start0 → HaveOldPartsOf rows view g
     → ((x y : ℕ) → SlotNames (objects_in rows view) x y → StandsAt rows view y) → (cards : List (CoverView ℕ))
     → CardLaw rows (frame view) (objects_in rows view) (is_card_set cards) → (is_set : ℕ → Bool)

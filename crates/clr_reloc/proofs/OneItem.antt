@@ -19,7 +19,7 @@ use Rattle.clr_view.proofs.Listed.{listed-low, listed-spelled}
 use Rattle.clr_view.proofs.Standing.{cell_has, cell_index, len_in, mt_in, standing}
 use Rattle.clr_pinq.specs.Queue.{logical, QueueView}
 use Rattle.clr_pinq.specs.declared.entry.PinEntry.{PinEntry}
-use Rattle.clr_moves.specs.declared.parts.Parts.{Parts}
+use Rattle.clr_moves.specs.declared.condemned.Condemned.{Condemned}
 use Rattle.clr_moves.specs.declared.stretch.Stretch.{Stretch}
 use Rattle.clr_reloc.specs.Relocated.{rebounded}
 use Rattle.clr_reloc.specs.Relocating.{AreCarded, HasGone, is_gone_over, is_gone_over_in, is_left_at, IsAhead}
@@ -62,7 +62,7 @@ module _ (work : Relocation) (view now h : HeapView) (pins : QueueView) (vs : Li
   abbrev rows : List TypeRow
   rows = work.types.now
 
-  abbrev g : Parts
+  abbrev g : Condemned
   g = work.g
 
   abbrev entries : List PinEntry

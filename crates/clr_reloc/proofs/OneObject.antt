@@ -21,7 +21,7 @@ use Rattle.clr_view.proofs.Standing.{standing}
 use Rattle.clr_covers.specs.Covers.{CoverView}
 use Rattle.clr_pinq.specs.Queue.{QueueView}
 use Rattle.clr_pinq.specs.declared.entry.PinEntry.{PinEntry}
-use Rattle.clr_moves.specs.declared.parts.Parts.{Parts}
+use Rattle.clr_moves.specs.declared.condemned.Condemned.{Condemned}
 use Rattle.clr_reloc.specs.References.{references_of}
 use Rattle.clr_reloc.specs.Relocations.{KeepsBeside}
 use Rattle.clr_reloc.specs.Relocating.{AreCarded, HasGone, IsAhead, IsCarded, IsLeftItem}
@@ -36,13 +36,14 @@ saves_refl entries b = ((λ s. s), (λ s. s))
 pub saves_trans : (a b c : List PinEntry) → SavesSame a b → SavesSame b c → SavesSame a c
 saves_trans a b c s t x = ((λ y. (t x).0 ((s x).0 y)), (λ y. (s x).1 ((t x).1 y)))
 
-pub keeps_refl : (rows : List TypeRow) (view : HeapView) (g : Parts) (vs : List Move) (entries : List PinEntry)
+pub keeps_refl : (rows : List TypeRow) (view : HeapView) (g : Condemned) (vs : List Move) (entries : List PinEntry)
     (h : HeapView) → KeepsTelling rows view g vs entries h h
 keeps_refl rows view g vs entries h = record { shape = SameShape-refl h; words = λ b z. inl refl }
 
-pub keeps_trans : (rows : List TypeRow) (view : HeapView) (g : Parts) (vs : List Move) (entries other : List PinEntry)
-    (a b c : HeapView) → SavesSame entries other → KeepsTelling rows view g vs entries a b
-    → KeepsTelling rows view g vs other b c → KeepsTelling rows view g vs entries a c
+pub keeps_trans : (rows : List TypeRow) (view : HeapView) (g : Condemned) (vs : List Move)
+    (entries other : List PinEntry) (a b c : HeapView) → SavesSame entries other
+    → KeepsTelling rows view g vs entries a b → KeepsTelling rows view g vs other b c
+    → KeepsTelling rows view g vs entries a c
 keeps_trans rows view g vs entries other a b c s k l = record {
   shape = SameShape-trans a b c k.shape l.shape;
   words = λ x z. elim (l.words x z) [
@@ -75,7 +76,7 @@ pub listed_next_of : (offset : ℕ) (yielded rest all : List ℕ) → yielded ++
 listed_next_of offset yielded rest all e = subst (IsIn offset) e (append_right yielded first)
 
 -- what is seen once the references at these offsets have become the places where their targets go
-pub record HasGoneAt (rows : List TypeRow) (view now next : HeapView) (g : Parts) (vs : List Move) (found : Item)
+pub record HasGoneAt (rows : List TypeRow) (view now next : HeapView) (g : Condemned) (vs : List Move) (found : Item)
     (offsets : List ℕ) (layout : Layout) (is_set : ℕ → Bool) : Type 0 where
   pub done : (offset : ℕ) → IsIn offset offsets
       → word_of next (found.place + offset) ≡ moved_by vs (word_of view (found.place + offset))
@@ -83,7 +84,7 @@ pub record HasGoneAt (rows : List TypeRow) (view now next : HeapView) (g : Parts
       → word_of next b ≡ word_of now b
   pub carded : (offset : ℕ) → IsIn offset offsets → IsCarded view vs layout is_set found.place offset
 
-pub gone_nowhere : (rows : List TypeRow) (view now : HeapView) (g : Parts) (vs : List Move) (found : Item)
+pub gone_nowhere : (rows : List TypeRow) (view now : HeapView) (g : Condemned) (vs : List Move) (found : Item)
     (layout : Layout) (is_set : ℕ → Bool) → HasGoneAt rows view now now g vs found [] layout is_set
 gone_nowhere rows view now g vs found layout is_set = record {
   done = λ offset i. elim i [ ];
@@ -96,7 +97,7 @@ rising-new [] x ys r y i = elim i [ ]
 rising-new (z ∷ xs) x ys r y first = all_at (λ (n : ℕ). y < n) (append_right xs first) r.0
 rising-new (z ∷ xs) x ys r y (later i) = rising-new xs x ys r.1 y i
 
-module _ (rows : List TypeRow) (view now next : HeapView) (g : Parts) (vs : List Move) (found : Item)
+module _ (rows : List TypeRow) (view now next : HeapView) (g : Condemned) (vs : List Move) (found : Item)
     (layout : Layout) (is_set : ℕ → Bool) (heap : IsHeap view) (held : IsHeld rows view)
     (left : IsLeftItem rows view g found) (ahead : IsAhead view now g vs found.place (found.place + found.size))
     (yielded : List ℕ) (offset : ℕ) (rest : List ℕ) (walked : yielded ++ offset ∷ rest ≡ references_of rows found)
@@ -163,7 +164,7 @@ module _ (rows : List TypeRow) (view now next : HeapView) (g : Parts) (vs : List
       v = moved_by vs (word_of view a)
 
 -- all of them have
-module _ (rows : List TypeRow) (view now next : HeapView) (g : Parts) (vs : List Move) (found : Item)
+module _ (rows : List TypeRow) (view now next : HeapView) (g : Condemned) (vs : List Move) (found : Item)
     (layout : Layout) (is_set : ℕ → Bool) (heap : IsHeap view) (held : IsHeld rows view)
     (left : IsLeftItem rows view g found) (offsets : List ℕ) (all : offsets ≡ references_of rows found)
     (gone : HasGoneAt rows view now next g vs found offsets layout is_set) where

@@ -16,7 +16,7 @@ use Rattle.clr_generations.specs.Tables.{AreCardsOf}
 use Rattle.clr_generations.proofs.Covered.{card-covered}
 use Rattle.clr_moves.specs.Moves.{AreInLine, AreMoves, IsInPlug, move_at, plug_stop}
 use Rattle.clr_moves.specs.Overlaid.{IsPlugWord}
-use Rattle.clr_moves.specs.declared.parts.Parts.{Parts}
+use Rattle.clr_moves.specs.declared.condemned.Condemned.{Condemned}
 use Rattle.clr_reloc.specs.Outside.{AreCardedPlugs, HaveGonePlugs}
 use Rattle.clr_reloc.specs.Relocating.{AreCarded, GoesDown, HasGone, HaveCardsDown, IsAhead, Tracks}
 use Rattle.clr_reloc.proofs.Cells.{left_inside}
@@ -66,14 +66,14 @@ moved_with (v ∷ vs) (suc k) x line p =
 
 -- ---- the walk
 
-pub no_plugs_gone : (rows : List TypeRow) (view : HeapView) (g : Parts) (vs : List Move)
+pub no_plugs_gone : (rows : List TypeRow) (view : HeapView) (g : Condemned) (vs : List Move)
     → HaveGonePlugs rows view view g vs 0
 no_plugs_gone rows view g vs = record {
   done = λ k b l w r. absurd (omega arith);
   others = λ b z none. refl;
 }
 
-module _ (rows : List TypeRow) (view next : HeapView) (g : Parts) (vs : List Move) (line : AreInLine vs)
+module _ (rows : List TypeRow) (view next : HeapView) (g : Condemned) (vs : List Move) (line : AreInLine vs)
     (heap : IsHeap view) (held : IsHeld rows view) (n : ℕ) (within : n < length vs)
     (gone : HaveGonePlugs rows view next g vs n) where
   abbrev v : Move
@@ -122,7 +122,7 @@ module _ (rows : List TypeRow) (view next : HeapView) (g : Parts) (vs : List Mov
         ]
       ]
 
-pub carded_more : (rows : List TypeRow) (view : HeapView) (g : Parts) (vs : List Move) (layout : Layout)
+pub carded_more : (rows : List TypeRow) (view : HeapView) (g : Condemned) (vs : List Move) (layout : Layout)
     (old new : ℕ → Bool) (n : ℕ) → ((c : ℕ) → old c ≡ true → new c ≡ true)
     → AreCardedPlugs rows view g vs layout old n
     → AreCarded rows view g vs layout new (move_at vs n).start (plug_stop (move_at vs n))
@@ -200,7 +200,7 @@ few_plugs vs line each = elim (cases_lt (length vs) (2 ^ 64 - 1)) [
 
 -- ---- where plugs stand
 
-module _ (view : HeapView) (g : Parts) (vs : List Move) (heap : IsHeap view) (moves : AreMoves view g vs)
+module _ (view : HeapView) (g : Condemned) (vs : List Move) (heap : IsHeap view) (moves : AreMoves view g vs)
     (k : ℕ)
     (l : k < length vs) where
   pub plug_high : plug_stop (move_at vs k) ≤ 2 ^ 62
@@ -227,7 +227,7 @@ module _ (view : HeapView) (g : Parts) (vs : List Move) (heap : IsHeap view) (mo
       (omega arith) cards of
 
 -- what a plug that was read asks for
-pub stretch_can : (rows : List TypeRow) (view next : HeapView) (g : Parts) (vs : List Move) (n : ℕ) (v : Move)
+pub stretch_can : (rows : List TypeRow) (view next : HeapView) (g : Condemned) (vs : List Move) (n : ℕ) (v : Move)
     → move_at vs n ≡ v → AreInLine vs → (is : List Item)
     → Tracks rows view is (move_at vs n).start (plug_stop (move_at vs n))
     → IsAhead view next g vs (move_at vs n).start (plug_stop (move_at vs n))

@@ -33,7 +33,7 @@ use Rattle.clr_moves.specs.Moves.{IsInPart, move_at, plug_stop, room_end}
 use Rattle.clr_moves.specs.Overlaid.{IsPlugWord}
 use Rattle.clr_moves.proofs.Kept.{IsLastRun}
 use Rattle.clr_moves.proofs.KeptRuns.{HeadStays}
-use Rattle.clr_moves.specs.declared.parts.Parts.{Parts}
+use Rattle.clr_moves.specs.declared.condemned.Condemned.{Condemned}
 use Rattle.clr_moves.specs.Moves.{age_of}
 use Rattle.clr_reloc.specs.References.{references_of}
 use Rattle.clr_reloc.specs.Relocating.{IsKept, IsLeftReference, IsRelocating, KeepsTelling, Tracks}
@@ -98,7 +98,7 @@ in_both s none (item_part x ∷ ps) (item_part y ∷ qs) p e l z whole run i m b
     ]
 
 module _ (rows : List TypeRow) (view now h new : HeapView) (bricks : BricksView) (entries : List PinEntry)
-    (g : Parts) (vs : List Move) (start1 start0 : ℕ)
+    (g : Condemned) (vs : List Move) (start1 start0 : ℕ)
     (r : IsRelocating rows view now h bricks entries g vs start1 start0) (least_g : age_of g ≤ 2)
     (k : KeepsTelling rows view g vs entries h new) (t from last : ℕ)
     (run : IsLastRun rows h vs t from last) where

@@ -28,7 +28,7 @@ use Rattle.clr_pinq.specs.declared.entry.PinEntry.{PinEntry}
 use Rattle.clr_moves.specs.Going.{IsStretchOf}
 use Rattle.clr_moves.specs.Moves.{age_of, AreMoves, IsInPart, move_at}
 use Rattle.clr_moves.specs.Overlaid.{HoldsPlan, IsLaidBy, IsOutside, MayGo}
-use Rattle.clr_moves.specs.declared.parts.Parts.{Parts}
+use Rattle.clr_moves.specs.declared.condemned.Condemned.{Condemned}
 use Rattle.clr_moves.specs.declared.stretch.Stretch.{Stretch}
 use Rattle.clr_reloc.specs.Relocating.{IsRelocating, IsUnderway}
 use Rattle.clr_reloc.proofs.Heads.{count_same, head_left, items_same, parts_left}
@@ -39,13 +39,13 @@ module _ (view : HeapView) (ms : List Memory) where
   abbrev W : HeapView
   W = record view { memories = ms }
 
-  in_part : (g : Parts) (t x : ℕ) → IsInPart view g t x → IsInPart W g t x
+  in_part : (g : Condemned) (t x : ℕ) → IsInPart view g t x → IsInPart W g t x
   in_part g t x p = record { in_range = p.in_range; takes = p.takes; low = p.low; high = p.high }
 
-  in_part_back : (g : Parts) (t x : ℕ) → IsInPart W g t x → IsInPart view g t x
+  in_part_back : (g : Condemned) (t x : ℕ) → IsInPart W g t x → IsInPart view g t x
   in_part_back g t x p = record { in_range = p.in_range; takes = p.takes; low = p.low; high = p.high }
 
-  moves_of_shape : (g : Parts) (vs : List Move) → AreMoves view g vs → AreMoves W g vs
+  moves_of_shape : (g : Condemned) (vs : List Move) → AreMoves view g vs → AreMoves W g vs
   moves_of_shape g vs m = record {
     each = λ k l. let v = m.each k l in record {
       lower = v.lower;
@@ -83,40 +83,40 @@ module _ (view : HeapView) (ms : List Memory) where
   }
 
 module _ (view now : HeapView) (shape : SameShape view now) where
-  pub part_now : (g : Parts) (t x : ℕ) → IsInPart view g t x → IsInPart now g t x
+  pub part_now : (g : Condemned) (t x : ℕ) → IsInPart view g t x → IsInPart now g t x
   part_now g t x p = subst (λ h. IsInPart h g t x) (sym shape.others) (in_part view now.memories g t x p)
 
-  pub part_before : (g : Parts) (t x : ℕ) → IsInPart now g t x → IsInPart view g t x
+  pub part_before : (g : Condemned) (t x : ℕ) → IsInPart now g t x → IsInPart view g t x
   part_before g t x p =
       in_part_back view now.memories g t x (subst (λ h. IsInPart h g t x) shape.others p)
 
-  pub may_go_now : (g : Parts) (vs : List Move) (x : ℕ) → MayGo view g vs x → MayGo now g vs x
+  pub may_go_now : (g : Condemned) (vs : List Move) (x : ℕ) → MayGo view g vs x → MayGo now g vs x
   may_go_now g vs x may = elim may [
     | inl none ↦ inl (λ t p. none t (part_before g t x p))
     | inr plug ↦ inr plug
   ]
 
   -- a stretch of the moves is one wherever the parts are the same
-  pub stretch_now : (g : Parts) (vs : List Move) (s : Stretch) → IsStretchOf view g vs s → IsStretchOf now g vs s
+  pub stretch_now : (g : Condemned) (vs : List Move) (s : Stretch) → IsStretchOf view g vs s → IsStretchOf now g vs s
   stretch_now g vs s met x low high may = met x low high (elim may [
     | inl none ↦ inl (λ t p. none t (part_now g t x p))
     | inr plug ↦ inr plug
   ])
 
-  pub stretch_before : (g : Parts) (vs : List Move) (s : Stretch) → IsStretchOf now g vs s → IsStretchOf view g vs s
+  pub stretch_before : (g : Condemned) (vs : List Move) (s : Stretch) → IsStretchOf now g vs s → IsStretchOf view g vs s
   stretch_before g vs s met x low high may = met x low high (may_go_now g vs x may)
 
-  moves_now : (g : Parts) (vs : List Move) → AreMoves view g vs → AreMoves now g vs
+  moves_now : (g : Condemned) (vs : List Move) → AreMoves view g vs → AreMoves now g vs
   moves_now g vs m =
       subst (λ h. AreMoves h g vs) (sym shape.others) (moves_of_shape view now.memories g vs m)
 
   pub heap_now : IsHeap view → IsHeap now
   heap_now h = subst IsHeap (sym shape.others) (heap_of_shape view now.memories shape.memories h)
 
-  outside_now : (g : Parts) (b : ℕ) → IsOutside now g b → IsOutside view g b
+  outside_now : (g : Condemned) (b : ℕ) → IsOutside now g b → IsOutside view g b
   outside_now g b o = subst (λ h. IsOutside h g b) shape.others o
 
-  outside_before : (g : Parts) (b : ℕ) → IsOutside view g b → IsOutside now g b
+  outside_before : (g : Condemned) (b : ℕ) → IsOutside view g b → IsOutside now g b
   outside_before g b o = subst (λ h. IsOutside h g b) (sym shape.others) o
 
 -- ---- the machine
@@ -129,7 +129,7 @@ none_at (suc n) (suc i) r e = none_at n i r e
 pub no_rest : (h : HeapView) → h.rests ≡ no_rests → (i : ℕ) (r : Piece) → get_or h.rests i None ≡ Some r → ⊥
 no_rest h same i r e = none_at 16 i r (ap (λ rs. get_or rs i None) (sym same) ∙ e)
 
-module _ (rows : List TypeRow) (view now : HeapView) (g : Parts) (vs : List Move) (heap : IsHeap view)
+module _ (rows : List TypeRow) (view now : HeapView) (g : Condemned) (vs : List Move) (heap : IsHeap view)
     (held : IsHeld rows view) (none : view.rests ≡ no_rests) (u : IsUnderway rows view now g vs) where
   rests_now : now.rests ≡ no_rests
   rests_now = ap (λ (h : HeapView). h.rests) u.shape.others ∙ none
@@ -249,8 +249,9 @@ shape_between view now h a b = record {
 }
 
 -- THE PLAN is still held, of what is seen now
-pub plan_now : (rows : List TypeRow) (view now h : HeapView) (bricks : BricksView) (entries : List PinEntry) (g : Parts)
-    (vs : List Move) (start1 start0 : ℕ) → IsRelocating rows view now h bricks entries g vs start1 start0
+pub plan_now : (rows : List TypeRow) (view now h : HeapView) (bricks : BricksView) (entries : List PinEntry)
+    (g : Condemned) (vs : List Move) (start1 start0 : ℕ)
+    → IsRelocating rows view now h bricks entries g vs start1 start0
     → HoldsPlan rows now h bricks entries g vs start1 start0
 plan_now rows view now h bricks entries g vs start1 start0 r =
     let plan = r.begun.plan in

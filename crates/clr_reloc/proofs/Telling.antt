@@ -12,11 +12,11 @@ use Rattle.clr_plugs.specs.BrickEntries.{BricksView}
 use Rattle.clr_plugs.specs.Info.{IsInfoWord}
 use Rattle.clr_pinq.specs.Queue.{logical, or_else, queue_word}
 use Rattle.clr_pinq.specs.declared.entry.PinEntry.{PinEntry}
-use Rattle.clr_moves.specs.Lines.{Gives, LineView}
+use Rattle.clr_moves.specs.PlugMoves.{Gives, PlugMovesView}
 use Rattle.clr_moves.specs.Moves.{AreInLine, AreMoves, move_at, plug_stop}
 use Rattle.clr_moves.specs.Told.{TellMoves}
 use Rattle.clr_moves.proofs.Kept.{agrees-shape, gives-kept, low_enough, tells-kept}
-use Rattle.clr_moves.specs.declared.parts.Parts.{Parts}
+use Rattle.clr_moves.specs.declared.condemned.Condemned.{Condemned}
 use Rattle.clr_moves.specs.Moves.{age_of}
 use Rattle.clr_reloc.specs.Relocating.{IsRelocating, KeepsTelling, SavesSame}
 use Rattle.clr_reloc.proofs.RunHeads.{head_stays}
@@ -25,7 +25,7 @@ use Rattle.clr_reloc.proofs.Seen.{heap_now}
 -- ---- all moves
 
 pub tells_on : (rows : List TypeRow) (view now h new : HeapView) (bricks : BricksView) (entries : List PinEntry)
-    (g : Parts) (vs : List Move) (start1 start0 : ℕ) → age_of g ≤ 2
+    (g : Condemned) (vs : List Move) (start1 start0 : ℕ) → age_of g ≤ 2
     → IsRelocating rows view now h bricks entries g vs start1 start0
     → KeepsTelling rows view g vs entries h new → TellMoves rows new bricks g vs
 tells_on rows view now h new bricks entries g vs start1 start0 least r k =
@@ -42,7 +42,7 @@ tells_on rows view now h new bricks entries g vs start1 start0 least r k =
       ]
     ]
 
--- ---- a line over them
+-- ---- reading them one by one
 
 not_saved : (es : List PinEntry) (word : ℕ → ℕ) (b : ℕ) → (IsSome (queue_word es b) → ⊥) → logical es word b ≡ word b
 not_saved es word b none = go (queue_word es b) none
@@ -52,18 +52,19 @@ not_saved es word b none = go (queue_word es b) none
     go (Some w) no_one = absurd (no_one refl)
 
 pub gives_on : (rows : List TypeRow) (view now after h new : HeapView) (bricks : BricksView)
-    (entries saved : List PinEntry) (g : Parts) (vs : List Move) (start1 start0 : ℕ)
+    (entries saved : List PinEntry) (g : Condemned) (vs : List Move) (start1 start0 : ℕ)
     → IsRelocating rows view now h bricks entries g vs start1 start0
     → IsRelocating rows view after new bricks saved g vs start1 start0
     → SavesSame entries saved → KeepsTelling rows view g vs entries h new
-    → (line : LineView) (ws : List Move) (low : ℕ)
+    → (moves : PlugMovesView) (ws : List Move) (low : ℕ)
     → ((b : ℕ) → b % 8 ≡ 0 → low ≤ b + 8 → word_of after b ≡ word_of now b)
-    → Gives rows h bricks g line ws → ((k : ℕ) → k < length ws → low ≤ (move_at ws k).start)
-    → low ≤ reserved_end (segment_at h line.segment) → Gives rows new bricks g line ws
-gives_on rows view now after h new bricks entries saved g vs start1 start0 r q s k line ws low same gives above within =
-    gives-kept rows h new bricks g line ws low (heap_now view h r.shape r.begun.plan.overlaid.heap) gives
-    (agrees-shape h new line.segment low k.shape words)
-    (low_enough rows h bricks g line ws gives low above within)
+    → Gives rows h bricks g moves ws → ((k : ℕ) → k < length ws → low ≤ (move_at ws k).start)
+    → low ≤ reserved_end (segment_at h moves.segment) → Gives rows new bricks g moves ws
+gives_on rows view now after h new bricks entries saved g vs start1 start0 r q s k moves ws low same gives above
+    within =
+    gives-kept rows h new bricks g moves ws low (heap_now view h r.shape r.begun.plan.overlaid.heap) gives
+    (agrees-shape h new moves.segment low k.shape words)
+    (low_enough rows h bricks g moves ws gives low above within)
   where
     words : (b : ℕ) → b % 8 ≡ 0 → low ≤ b + 8 → word_of new b ≡ word_of h b
     words b z up = elim (k.words b z) [
@@ -98,7 +99,7 @@ rest_above vs line done v rest e k l =
         (ap (move_at (d ∷ (ds ++ v ∷ rest))) z ∙ f.0, omega arith)
 
 -- a plug that starts below a segment's end stops there or below
-pub stop_within : (view : HeapView) (g : Parts) (vs : List Move) → IsHeap view → AreMoves view g vs
+pub stop_within : (view : HeapView) (g : Condemned) (vs : List Move) → IsHeap view → AreMoves view g vs
     → (h : HeapView)
     → SameShape view h → (segment n : ℕ) → n < length vs → segment < length h.segments
     → (move_at vs n).start < reserved_end (segment_at h segment)

@@ -5,12 +5,12 @@ use Rattle.clr_heap.specs.View.{frame, HeapView, word_of}
 use Rattle.clr_pinq.specs.Queue.{queue_word}
 use Rattle.clr_pinq.specs.declared.entry.PinEntry.{PinEntry}
 use Rattle.clr_moves.specs.Moves.{start_of}
-use Rattle.clr_moves.specs.declared.parts.Parts.{Parts}
+use Rattle.clr_moves.specs.declared.condemned.Condemned.{Condemned}
 
 -- The reference at a, of an object of this age, goes to the address `to`, and names what stays: its word is no saved
 -- one, and names no place of the ephemeral segment's part. Where that is of a lower generation, the card of `to` is
 -- set.
-pub record MayRest (h : HeapView) (entries : List PinEntry) (g : Parts) (layout : Layout) (is_set : ℕ → Bool)
+pub record MayRest (h : HeapView) (entries : List PinEntry) (g : Condemned) (layout : Layout) (is_set : ℕ → Bool)
     (age a to : ℕ) : Type 0 where
   pub plain : queue_word entries a ≡ None
   pub stays : stands_in (ephemeral (frame h)) (word_of h a) ≡ true

@@ -4,7 +4,7 @@ ghost use Rattle.clr_reloc.specs.Partial.{IsPartial};
 
 use clr_bricks::Bricks;
 use clr_heap::Item;
-use clr_moves::{Parts, Planned, Stretch};
+use clr_moves::{Condemned, Planned, Stretch};
 use clr_types::Types;
 
 // What a relocation goes by: the types, the bricks, in which the trees of plugs begin, the answer of the plan, and the
@@ -14,7 +14,7 @@ pub struct Relocation<'a> {
     pub types: &'a Types,
     pub bricks: &'a Bricks,
     pub planned: Planned,
-    pub g: Parts,
+    pub g: Condemned,
 }
 
 // What was met last, where the next ones most often are: the segment and the entry of the queue, which are guesses, and
@@ -39,12 +39,12 @@ pub struct LeftObject {
 
 // Whether the parts are those of less than all generations, so that set cards tell which references of what stands
 // outside of them count.
-pub(crate) fn is_partial(g: Parts) -> bool
+pub(crate) fn is_partial(g: Condemned) -> bool
     ensures yes { result ≡ true → IsPartial g }
     ensures no { result ≡ false → IsPartial g → ⊥ }
 {
     match g {
-        Parts::Generations(oldest) => oldest < 2,
-        Parts::LargeSegments => false,
+        Condemned::Generations(oldest) => oldest < 2,
+        Condemned::LargeSegments => false,
     }
 }

@@ -4,9 +4,9 @@ ghost use Rattle.clr_types.specs.Segments.{ephemeral, generation, Layout, stands
 ghost use Rattle.clr_cards.specs.Cards.{is_card_set};
 ghost use Rattle.clr_covers.specs.Covers.{is_covered};
 ghost use Rattle.clr_heap.specs.Memories.{HasWord, memory_index};
-ghost use Rattle.clr_heap.specs.View.{frame, IsHeap};
+ghost use Rattle.clr_heap.specs.View.{frame};
 ghost use Rattle.clr_moves.specs.Moves.{start_of};
-ghost use Rattle.clr_moves.specs.declared.parts.Parts.TheVariants.{Generations};
+ghost use Rattle.clr_moves.specs.declared.condemned.Condemned.TheVariants.{Generations};
 ghost use Rattle.clr_reloc.specs.Partial.{IsPartial};
 ghost use Rattle.clr_reloc.specs.Relocated.{rebounded};
 ghost use Rattle.clr_reloc.specs.Resting.{MayRest};
@@ -14,7 +14,7 @@ ghost use Rattle.clr_reloc.specs.Resting.{MayRest};
 use crate::relocation::{LeftObject, Relocation};
 use clr_cards::Cards;
 use clr_heap::Heap;
-use clr_moves::{Parts, Planned};
+use clr_moves::{Condemned, Planned};
 use clr_pinq::PinQueue;
 
 // Of `count` references of an object side by side, how many of the first ones may stay as they are: those before the
@@ -43,9 +43,7 @@ pub(crate) fn resting_words(
     ensures rest { (j : ℕ) → j < result → MayRest heap.now pins.now.entries work.now.g
         (rebounded (frame heap.now) work.now.planned) (is_card_set cards.now) object.now.age
         (object.now.found.place + offset + 8 * j) (object.now.to + offset + 8 * j) }
-    ensures heap { IsHeap heap.now }
 {
-    heap.lawful();
     let a = object.found.place + offset;
     let to = object.to + offset;
     let low = lowest_met(heap, work, object.age, cards.is_set(to));
@@ -73,13 +71,13 @@ fn lowest_met(heap: &Heap, work: &Relocation<'_>, age: u8, carded: bool) -> u64
 
 // Where the part of the ephemeral segment begins in a compaction of generation 0, or of generations 1 and 0.
 #[inline]
-fn young_part(heap: &Heap, g: Parts) -> u64
+fn young_part(heap: &Heap, g: Condemned) -> u64
     requires { IsPartial g }
     ensures { result ≡ start_of (frame heap.now) g (ephemeral (frame heap.now)) }
 {
     match g {
-        Parts::Generations(oldest) => young_generations(heap, oldest),
-        Parts::LargeSegments => unreachable!(),
+        Condemned::Generations(oldest) => young_generations(heap, oldest),
+        Condemned::LargeSegments => unreachable!(),
     }
 }
 

@@ -17,7 +17,7 @@ use crate::objects::relocate_object;
 use crate::relocation::{LeftObject, Met, Relocation};
 use clr_cards::Cards;
 use clr_heap::{Heap, Item};
-use clr_moves::Parts;
+use clr_moves::Condemned;
 use clr_pinq::PinQueue;
 use clr_types::{SegKind, mark};
 
@@ -131,7 +131,7 @@ fn relocate_item(
 // Whether a collection leaves an item of segment `k` with this method table word: it is an object, and marked or not
 // gone over.
 #[inline]
-fn is_left(heap: &Heap, g: Parts, k: usize, found: Item, mt: u64) -> bool
+fn is_left(heap: &Heap, g: Condemned, k: usize, found: Item, mt: u64) -> bool
     requires { k < length heap.now.segments }
     ensures { result ≡ (is_object found && (not (is_gone_over_in heap.now g k found.place) || has_mark mt)) }
 {
@@ -141,12 +141,12 @@ fn is_left(heap: &Heap, g: Parts, k: usize, found: Item, mt: u64) -> bool
 // Whether a collection goes over an object at a place of segment `k`: it is of its generations, or, before large
 // segments are compacted, in one of them.
 #[inline]
-fn is_gone_over(heap: &Heap, g: Parts, k: usize, place: u64) -> bool
+fn is_gone_over(heap: &Heap, g: Condemned, k: usize, place: u64) -> bool
     requires { k < length heap.now.segments }
     ensures { result ≡ is_gone_over_in heap.now g k place }
 {
     match g {
-        Parts::Generations(oldest) => heap.gen_of(place) <= oldest,
-        Parts::LargeSegments => heap.info(k).kind == SegKind::Large,
+        Condemned::Generations(oldest) => heap.gen_of(place) <= oldest,
+        Condemned::LargeSegments => heap.info(k).kind == SegKind::Large,
     }
 }

@@ -88,11 +88,11 @@ module _ {w : World} {sums : Sums} {options : Options} {threads : Threads} {ahea
 
 -- ---- what a refill answers
 
--- the parts with another heap and another index of the contexts
+-- the parts with another heap and another index of young items
 abbrev pub relaid_parts : Parts → HeapView → Option (List Piece) → Parts
 relaid_parts p heap index = record p {
   space = record p.space { heap = heap };
-  workshop = record p.workshop { contexts = index };
+  workshop = record p.workshop { young = index };
 }
 
 module _ (p : Parts) (is : IsRuntime p) (t size : ℕ) (low : 0 < t) (high : t ≤ 16)
@@ -101,18 +101,18 @@ module _ (p : Parts) (is : IsRuntime p) (t size : ℕ) (low : 0 < t) (high : t �
   -- A refill gives the thread a new context, or nothing has changed. What holds of a runtime holds of its parts.
   pub refill_answers : (r : Option (Unit {0}))
       → (r ≡ None → (has_room (layout_in p.types p.space.heap) size ≡ false) × (mid ≡ p.space.heap)
-      × (index ≡ p.workshop.contexts))
-      → IfSome r (λ _. HasRefilled p.types p.space.heap mid t size) → IsIndex p.types mid index → IsHeap mid
+      × (index ≡ p.workshop.young))
+      → IfSome r (λ _. HasRefilled p.types p.space.heap mid t size) → IsIndex p.types mid index
       → IsRefill p (relaid_parts p mid index) t size (is_some r) × IsRuntime (relaid_parts p mid index)
-  refill_answers None none some listed heap =
+  refill_answers None none some listed =
       let (full, same, kept) = none refl in
       let parts : relaid_parts p mid index ≡ p = λ k. relaid_parts p (same k) (kept k) in
       ((full, parts), subst IsRuntime (sym parts) is)
-  refill_answers (Some _) none refilled listed heap = (
+  refill_answers (Some _) none refilled listed = (
     has_context is.shown t size low high idle sized mid refilled,
     record {
       shown = refill_kept is.shown t size low high idle sized mid refilled is.heap;
-      heap = heap;
+      heap = refilled.heap;
       tables = tables-told p.space.cards p.safe p.space.bricks p.types p.types p.space.heap mid
           (stayed-same p.types (objects_in p.types p.space.heap) (objects_in p.types mid) refilled.objects)
           (tables-refilled p.space.cards p.space.bricks p.types p.space.heap mid t size refilled is.tables);

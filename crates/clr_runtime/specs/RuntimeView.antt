@@ -113,10 +113,10 @@ TellsFinalizer rows Nothing = Unit {0}
 TellsFinalizer rows (Store object slot) = Unit {0}
 TellsFinalizer rows (Birth type len local finalizer) = finalizer ≡ has_finalizer (type_row rows type.0)
 
--- What holds of each runtime: that, its heap is lawful, its cards and bricks are those of this heap, its contexts and
--- its large and pinned items keep its indexes, and segments are limited as the options say. Cards tell all references
--- to younger objects but those of begun stores. There is room for the finalisation entries of the objects that are
--- begun. No words are saved, and there is room for what a collection saves.
+-- What holds of each runtime: that, its heap is lawful, its cards and bricks are those of this heap, its indexes list
+-- the young, the large and the pinned free items, and segments are limited as the options say. Cards tell all
+-- references to younger objects but those of begun stores. There is room for the finalisation entries of the objects
+-- that are begun. No words are saved, and there is room for what a collection saves.
 pub record IsRuntime (r : Parts) : Type 0 where
   pub shown : IsShown (world_of r) (sums_of r.sums) (options_of r.options) r.safe (ahead_of r)
   pub heap : IsHeap r.space.heap
@@ -124,7 +124,7 @@ pub record IsRuntime (r : Parts) : Type 0 where
       (IsToldBy r.types r.space.heap r.space.cards r.safe)
   pub owed : births_owed r.safe ≤ r.roots.finals.spare
   pub finalizers : AllByRecursion (TellsFinalizer r.types) r.safe.begun
-  pub index : IsIndex r.types r.space.heap r.workshop.contexts
+  pub index : IsIndex r.types r.space.heap r.workshop.young
   pub large : IsKindIndex Large r.types r.space.heap r.large
   pub pinned : IsKindIndex Pinned r.types r.space.heap r.pinned
   pub limit : r.space.heap.limit ≡ r.options.limit

@@ -7,7 +7,7 @@ use Rattle.clr_heap.specs.View.{HeapView}
 use Rattle.clr_view.specs.SlotValues.{IsObjectAt, IsSlot}
 use Rattle.clr_model.specs.declared.Refusal.{Refusal}
 use Rattle.clr_model.specs.declared.Refusal.TheVariants.{Index, IsReference, NotReference, Null}
-use Rattle.clr_runtime.specs.declared.slots.Found.{Found}
+use Rattle.clr_runtime.specs.declared.slots.FoundSlot.{FoundSlot}
 
 -- slot j of the object that stands at the place
 pub record HasItsSlot (rows : List TypeRow) (h : HeapView) (place j : ℕ) (i : Item) (s : Slot) : Type 0 where
@@ -30,7 +30,7 @@ pub record HasOtherKind (rows : List TypeRow) (h : HeapView) (place j : ℕ) (wa
   pub other : slot.reference ≡ not wants
 
 -- the first of the checks on a local's object and its slot that fails, or the slot
-abbrev pub IsFound : List TypeRow → HeapView → ℕ → ℕ → Bool → Result Found Refusal → Type 0
+abbrev pub IsFound : List TypeRow → HeapView → ℕ → ℕ → Bool → Result FoundSlot Refusal → Type 0
 IsFound rows h place j wants (Ok found) =
     HasItsSlot rows h place j found.item found.slot × (found.slot.reference ≡ wants)
 IsFound rows h place j wants (Err Null) = place ≡ 0

@@ -1,5 +1,7 @@
 //! The line that makes an object.
 ghost use Rattle.std.specs.Prelude.{◌≡◌, ◌+◌, ◌<◌, ◌≤◌, ◌++◌, [], ◌∷◌, None, OnErr, OnOk, true, if◌then◌else◌};
+ghost use Rattle.std.specs.List.{AllByRecursion};
+ghost use Rattle.clr_types.specs.Table.{IsLawfulRow};
 ghost use Rattle.clr_safe.specs.Threads.{births_owed};
 ghost use Rattle.clr_runtime.specs.Births.{FollowsAsked, IsAsked, IsDefined, IsKnown, Measured};
 ghost use Rattle.clr_runtime.specs.Checks.{thread_refusal};
@@ -173,7 +175,6 @@ fn make_large(parts: &mut Parts, t: u64, local: u64, request: Request) -> Result
     else {
         unreachable!()
     };
-    parts.space.heap.lawful();
     register_entry(&mut parts.roots.finals, request.finalizer, place);
     parts.roots.locals[index_of(t, local)] = place;
     parts.sums.spent_large += request.size;
@@ -183,9 +184,9 @@ fn make_large(parts: &mut Parts, t: u64, local: u64, request: Request) -> Result
 // The type that a script defined under this name.
 #[inline(always)]
 pub(crate) fn defined(types: &Types, name: &[u8]) -> Option<TypeId>
+    requires { AllByRecursion IsLawfulRow types.now }
     ensures { IsDefined types.now name.now result }
 {
-    let _ = types.count();
     match types.by_name(name) {
         Some(t) if t.0 != 0 => Some(t),
         _ => None,
@@ -195,7 +196,8 @@ pub(crate) fn defined(types: &Types, name: &[u8]) -> Option<TypeId>
 // The same, where it may be known.
 #[inline(always)]
 fn defined_or_known(types: &Types, name: &[u8], known: Option<TypeId>) -> Option<TypeId>
-    requires { IsKnown types.now name.now known }
+    requires lawful { AllByRecursion IsLawfulRow types.now }
+    requires known { IsKnown types.now name.now known }
     ensures { IsDefined types.now name.now result }
 {
     if known.is_some() {
@@ -213,7 +215,8 @@ pub(crate) fn measure(
     known: Option<TypeId>,
     len: Option<u64>,
 ) -> Result<Request, Refusal>
-    requires { IsKnown types.now name.now known }
+    requires lawful { AllByRecursion IsLawfulRow types.now }
+    requires known { IsKnown types.now name.now known }
     ensures { Measured types.now local name.now len result }
 {
     let Some(type_id) = defined_or_known(types, name, known) else {

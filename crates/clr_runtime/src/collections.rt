@@ -63,8 +63,8 @@ impl Runtime {
 // Collects generation `g` and all younger ones, as `how` says. No thread is in mid-step, and none has a context
 // afterwards. The finalisation queue still has room for as many entries. It takes no memory: no queue has room for
 // more than it had room for, nor has the marker's stack. One of all generations ends a background collection that
-// runs. The indexes of free items of large and of pinned segments are dropped, and after a compaction that of the
-// contexts; each is made anew where room is next wanted there.
+// runs. The indexes of free items of large and of pinned segments are dropped, and after a compaction that of young
+// ones; each is made anew where room is next wanted there.
 pub(crate) fn collect_parts(parts: &mut Parts, g: u8, how: How) -> Collected
     requires generation { g ≤ 2 }
     requires usual { IsUsual g how }
@@ -81,8 +81,8 @@ pub(crate) fn collect_parts(parts: &mut Parts, g: u8, how: How) -> Collected
         ≤ parts.old.roots.finals.spare + length parts.old.roots.finals.entries }
     ensures pins_room { parts.new.workshop.pins.spare ≡ parts.old.workshop.pins.spare }
     ensures stack { parts.new.workshop.marker.capacity ≡ parts.old.workshop.marker.capacity }
-    ensures index_after { MatchBool result.compacted (parts.new.workshop.contexts ≡ None)
-        (parts.new.workshop.contexts ≡ Some []) }
+    ensures index_after { MatchBool result.compacted (parts.new.workshop.young ≡ None)
+        (parts.new.workshop.young ≡ Some []) }
     ensures large_index { parts.new.large ≡ None }
     ensures pinned_index { parts.new.pinned ≡ None }
     ensures types { parts.new.types ≡ parts.old.types }

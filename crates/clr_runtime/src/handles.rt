@@ -9,7 +9,8 @@ ghost use Rattle.clr_runtime.specs.Handles.{held_in};
 ghost use Rattle.clr_runtime.specs.Outcomes.{refusal_of_create};
 
 use crate::checks::index_of;
-use crate::runtime::{Runtime, SPARE_SAVES};
+use crate::opening::SPARE_SAVES;
+use crate::runtime::Runtime;
 use clr_handles::{CreateFault, Handles, Kind};
 use clr_model::Refusal;
 use clr_pinq::PinQueue;

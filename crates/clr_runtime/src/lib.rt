@@ -13,6 +13,7 @@ mod collections;
 mod finalizers;
 mod handles;
 mod large;
+mod opening;
 mod options;
 mod parts;
 mod pinned;

@@ -1,5 +1,7 @@
 //! The line that makes an object that never moves.
 ghost use Rattle.std.specs.Prelude.{◌≡◌, ◌≤◌, None};
+ghost use Rattle.std.specs.List.{AllByRecursion};
+ghost use Rattle.clr_types.specs.Table.{IsLawfulRow};
 ghost use Rattle.clr_runtime.specs.Checks.{thread_refusal};
 ghost use Rattle.clr_runtime.specs.PinnedBirths.{FollowsAskedPinned, IsAskedPinned, MeasuredPinned};
 ghost use Rattle.clr_runtime.specs.RuntimeView.{IsRuntime, seen};
@@ -57,6 +59,7 @@ impl Runtime {
 
 // What a line that makes a pinned object asks for, or the first of the checks on it that fails.
 fn measure_pinned(types: &Types, local: u64, name: &[u8], len: u64) -> Result<Request, Refusal>
+    requires { AllByRecursion IsLawfulRow types.now }
     ensures { MeasuredPinned types.now local name.now len result }
 {
     let Some(type_id) = defined(types, name) else {
@@ -106,7 +109,6 @@ fn make_pinned(parts: &mut Parts, t: u64, local: u64, request: Request) -> Resul
     else {
         unreachable!()
     };
-    parts.space.heap.lawful();
     parts.roots.locals[index_of(t, local)] = place;
     Ok(place)
 }

@@ -101,23 +101,23 @@ fn find_room(parts: &mut Parts, thread: usize, size: u64) -> Result<(), NoRoom>
     }
 }
 
-// Makes the index of the contexts anew, where a compaction has dropped it and no thread has a context yet. Nothing else
+// Makes the index of young items anew, where a compaction has dropped it and no thread has a context yet. Nothing else
 // changes.
 #[cold]
 #[inline(never)]
 fn renew_index(parts: &mut Parts)
     requires { IsRuntime parts.old }
     ensures others { parts.new
-        ≡ record parts.old { workshop = record parts.old.workshop { contexts = parts.new.workshop.contexts } } }
+        ≡ record parts.old { workshop = record parts.old.workshop { young = parts.new.workshop.young } } }
     ensures runtime { IsRuntime parts.new }
 {
     parts
         .workshop
-        .contexts
+        .young
         .renew_lost(&parts.space.heap, &parts.types);
 }
 
-// Collects as `collect_parts` does, and makes the index of the contexts anew.
+// Collects as `collect_parts` does, and makes the index of young items anew.
 fn collect_for_room(parts: &mut Parts, g: u8, how: How) -> Collected
     requires generation { g ≤ 2 }
     requires usual { IsUsual g how }
@@ -146,10 +146,7 @@ fn fits_in_context(parts: &Parts, thread: usize, size: u64) -> bool
     requires most { size ≤ 1073741824 }
     ensures { result ≡ own_fits (seen parts.now).layout thread size }
 {
-    parts
-        .workshop
-        .contexts
-        .fits(&parts.space.heap, thread, size)
+    parts.workshop.young.fits(&parts.space.heap, thread, size)
 }
 
 // The generation that an allocation collects: 0, or 1 where more bytes went to it than its budget has, or 2 where more
@@ -207,12 +204,11 @@ fn refill(parts: &mut Parts, thread: usize, size: u64) -> bool
     ensures types { parts.new.types ≡ parts.old.types }
     ensures safe { parts.new.safe ≡ parts.old.safe }
 {
-    let refilled = parts
+    parts
         .workshop
-        .contexts
-        .refill(&mut parts.space.heap, &parts.types, thread, size);
-    parts.space.heap.lawful();
-    refilled.is_some()
+        .young
+        .refill(&mut parts.space.heap, &parts.types, thread, size)
+        .is_some()
 }
 
 // Gives the thread a context in a new segment, where the limit allows one and there is memory for it. No thread has a

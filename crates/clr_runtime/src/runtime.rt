@@ -1,45 +1,35 @@
 //! What the lines of a script work on: types, heap, locals, handles, and the finalisation queue.
-ghost use Rattle.std.specs.Prelude.{◌≡◌, ◌≤◌, ◌/◌, ◌⊎◌, ℕ, IfOk, length, replicate, true};
+ghost use Rattle.std.specs.Prelude.{◌≡◌, ◌≤◌, ◌/◌, ◌⊎◌, ℕ, IfOk, length, true};
 ghost use Rattle.clr_types.specs.Types.{form_of};
 ghost use Rattle.clr_runtime.specs.Options.{options_of};
 ghost use Rattle.clr_runtime.specs.Outcomes.{refusal_of_fault};
 
 use crate::NoMemory;
+use crate::opening::{first_roots, first_space, first_workshop};
 use crate::options::Options;
 use crate::parts::Parts;
 use crate::sums::Sums;
 use clr_bgmark::Background;
 use clr_bricks::Bricks;
 use clr_cards::Cards;
-use clr_collect::Workshop;
-use clr_compact::Slides;
-use clr_ctx::Contexts;
 use clr_final::Finals;
-use clr_generations::{Space, cover_segments};
 use clr_handles::Handles;
 use clr_heap::Heap;
 use clr_large::KindItems;
-use clr_mark::Marker;
 use clr_model::Refusal;
-use clr_pinq::PinQueue;
 use clr_safe::Safe;
-use clr_survivors::Roots;
 use clr_types::{DefineFault, Shape, TypeId, Types};
-use std::alloc::{AllocError, Global};
+use std::alloc::Global;
 use std::marker::Model;
 
 /// So many objects may wait on the stack of a marking. What has no room on it is found again by a walk.
 const MARK_STACK: usize = 1024;
 
-/// So many entries of saved words a compaction may need beside one for each pinned handle: two at boundaries of
-/// generations, one at the start of what it compacts, and one to spare.
-pub(crate) const SPARE_SAVES: usize = 4;
-
 /// So many locals has each of the 16 threads.
 pub(crate) const LOCALS_OF_A_THREAD: u64 = 64;
 
-/// The types, the heap with its cards and bricks, the contexts, the marker, the locals, the handles and the
-/// finalisation queue of a script that runs. Each call is one line.
+/// The types, the heap with its cards and bricks, the indexes of free items, the marker, the locals, the handles and
+/// the finalisation queue of a script that runs. Each call is one line.
 ///
 /// Contracts see the machine whose objects are named by their places, and the count of what compactions have moved.
 /// After each call the machine stands for the next state of each graph machine that it stood for before, and the answer
@@ -109,39 +99,21 @@ impl Runtime {
         requires some { 1 ≤ capacity }
         ensures { IfOk result (λ runtime. StandsFor runtime (opening (options_of options))) }
     {
-        let (Ok(types), Ok(heap), Ok(marker), Ok(locals)) = (
+        let (Ok(types), Ok(space), Ok(roots), Ok(workshop)) = (
             Types::new(alloc),
-            Heap::new(alloc, options.segment, options.limit),
-            Marker::new(alloc, capacity),
-            null_locals(alloc, 1024),
+            first_space(alloc, options),
+            first_roots(alloc, 1024),
+            first_workshop(alloc, capacity),
         ) else {
             return Err(NoMemory);
         };
-        let (mut cards, mut bricks) = (Cards::new(alloc), Bricks::new(alloc));
-        cover_segments(&heap, &mut cards, &mut bricks)?;
-        let mut pins = PinQueue::new(alloc)?;
-        pins.reserve(SPARE_SAVES)?;
         let parts = Parts {
             types,
-            space: Space {
-                heap,
-                cards,
-                bricks,
-            },
+            space,
             large: KindItems::new(alloc),
             pinned: KindItems::new(alloc),
-            roots: Roots {
-                locals,
-                handles: Handles::new(alloc),
-                finals: Finals::new(alloc),
-            },
-            workshop: Workshop {
-                marker,
-                contexts: Contexts::new(alloc),
-                pins,
-                slides: Slides::new(),
-                compacts_large: false,
-            },
+            roots,
+            workshop,
             safe: Safe::new(),
             background: Background::new(alloc),
             sums: Sums::NONE,
@@ -306,11 +278,4 @@ fn refusal_of(fault: DefineFault) -> Refusal
         DefineFault::TooManyTypes => Refusal::TooManyTypes,
         DefineFault::NoMemory => Refusal::NoMemory,
     }
-}
-
-// So many locals, each null.
-fn null_locals(alloc: Global, count: usize) -> Result<Vec<u64>, AllocError>
-    ensures { IfOk result (λ locals. locals.items ≡ replicate count 0) }
-{
-    vec![in alloc; 0u64; count]
 }

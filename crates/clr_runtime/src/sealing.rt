@@ -32,7 +32,6 @@ pub(crate) fn seal_parts(parts: &mut Parts) -> Result<(), AcquireFault>
         &mut parts.space.bricks,
         parts.options.segment,
     )?;
-    parts.space.heap.lawful();
-    parts.workshop.contexts.forget();
+    parts.workshop.young.forget();
     Ok(())
 }

@@ -30,14 +30,12 @@ pub(crate) fn acquire_for(parts: &mut Parts, kind: SegKind, size: u64) -> Result
 {
     let pages = (size + PAGE - 1) / PAGE;
     let reserved = parts.options.segment.max(PAGE + pages * PAGE);
-    let acquired = acquire_of_kind(
+    acquire_of_kind(
         &mut parts.space.heap,
         &parts.types,
         &mut parts.space.cards,
         &mut parts.space.bricks,
         kind,
         reserved,
-    );
-    parts.space.heap.lawful();
-    acquired
+    )
 }

@@ -16,7 +16,7 @@ use clr_view::{object_item, set_slot_value, slot_value};
 
 /// A slot of an object, and what its type says of it.
 #[derive(Clone, Copy)]
-pub struct Found {
+pub struct FoundSlot {
     pub(crate) item: Item,
     pub(crate) slot: Slot,
 }
@@ -195,7 +195,7 @@ pub(crate) fn find_slot(
     place: u64,
     index: u64,
     reference: bool,
-) -> Result<Found, Refusal>
+) -> Result<FoundSlot, Refusal>
     requires held { IsHeld types.now heap.now }
     requires object { place ≢ 0 → StandsAt types.now heap.now place }
     ensures { IsFound types.now heap.now place index reference result }
@@ -209,7 +209,7 @@ pub(crate) fn find_slot(
     }
     let slot = types.slot(item.type_id, item.len, index);
     if slot.reference == reference {
-        Ok(Found { item, slot })
+        Ok(FoundSlot { item, slot })
     } else if reference {
         Err(Refusal::NotReference)
     } else {

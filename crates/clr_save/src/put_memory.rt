@@ -79,7 +79,6 @@ pub fn put_memory(out: &mut Vec<u8>, heap: &Heap, types: &Types, k: usize) -> Re
     requires walkable { IsWalkable types.now heap.now k }
     ensures { OnOk result (out.new.items ≡ out.old.items ++ words_bytes (memory_words types.now heap.now k)) }
 {
-    heap.lawful();
     let segment = heap.info(k);
     let end = segment.end;
     let mut place = segment.first_place();

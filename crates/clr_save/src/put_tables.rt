@@ -76,7 +76,6 @@ fn put_handle(out: &mut Vec<u8>, h: u64, handle: &Handle) -> Result<(), AllocErr
 pub fn count_handles(handles: &Handles) -> u64
     ensures { result ≡ finmap.len handles.now }
 {
-    handles.lawful();
     let mut count = 0;
     let mut from = 0;
     while let Some((number, _handle)) = handles.next_from(from, 0) {
@@ -91,7 +90,6 @@ fn put_handles(out: &mut Vec<u8>, handles: &Handles) -> Result<(), AllocError>
     ensures { OnOk result
         (out.new.items ≡ out.old.items ++ flat_map handle_bytes (finmap.entries handles.now)) }
 {
-    handles.lawful();
     let mut from = 0;
     while let Some((number, handle)) = handles.next_from(from, 0) {
         put_handle(out, number, &handle)?;

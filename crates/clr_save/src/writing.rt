@@ -1,6 +1,6 @@
 //! Images are written.
 ghost use Rattle.std.specs.Prelude.{◌≡◌, ℕ, ◌<◌, ◌^◌, ◌++◌, length, IfOk, OnOk};
-ghost use Rattle.clr_heap.specs.View.{AreWalkable};
+ghost use Rattle.clr_heap.specs.View.{AreWalkable, IsHeap};
 ghost use Rattle.clr_model.specs.Lawful.{IsPlaceNamed};
 ghost use Rattle.clr_model.specs.Machine.{Machine};
 ghost use Rattle.clr_format.specs.Saved.{image_bytes};
@@ -14,7 +14,6 @@ use crate::put_segments::put_segments;
 use crate::put_tables::{count_handles, put_tables};
 use crate::put_types::put_types;
 use crate::snapshot::Snapshot;
-use clr_final::Finals;
 use clr_format::Head;
 use clr_handles::Handles;
 use clr_heap::Heap;
@@ -68,24 +67,18 @@ pub fn save(alloc: Global, snapshot: &Snapshot<'_>) -> Result<Vec<u8>, NoMemory>
     ensures lawful { IfOk result (λ image. (m : Machine) → Shows snapshot.now m → IsPlaceNamed m
         → IsImageOf m image.items) }
 {
-    snapshot.heap.lawful();
-    queues_fit(snapshot.finals);
     let mut out = Vec::with_capacity(alloc, image_len(snapshot))?;
     put_image(&mut out, snapshot)?;
     Ok(out)
 }
 
-// Nothing: a call for the evidence alone that a word holds the lengths of both queues.
-fn queues_fit(finals: &Finals)
-    ensures entries { length finals.now.entries < 2 ^ 64 }
-    ensures ready { length finals.now.ready < 2 ^ 64 }
+// How many bytes the image has, so that memory for it is taken once. The heap is lawful, and a word holds the lengths
+// of both queues.
+fn image_len(snapshot: &Snapshot<'_>) -> usize
+    ensures heap { IsHeap snapshot.now.heap.now }
+    ensures entries { length snapshot.now.finals.now.entries < 2 ^ 64 }
+    ensures ready { length snapshot.now.finals.now.ready < 2 ^ 64 }
 {
-    let _ = finals.entries().len();
-    let _ = finals.ready().len();
-}
-
-// How many bytes the image has, so that memory for it is taken once.
-fn image_len(snapshot: &Snapshot<'_>) -> usize {
     let fixed: usize = 24 + 8 + 8 + 8 + 8 + 8 + 8;
     fixed
         .saturating_add(types_len(snapshot.types))
@@ -116,8 +109,10 @@ fn types_len(types: &Types) -> usize {
     len
 }
 
-// How many bytes all segments have.
-fn segments_len(heap: &Heap) -> usize {
+// How many bytes all segments have. The heap is lawful.
+fn segments_len(heap: &Heap) -> usize
+    ensures { IsHeap heap.now }
+{
     let mut len: usize = 0;
     for k in 0..heap.segments() {
         let segment = heap.info(k);

@@ -71,7 +71,7 @@ fn refusal_behind(buffer: &mut [u8], at: usize, refusal: &Refusal) -> usize
 // Does the line in front of a text where it is one that is done at once, and writes its reply to the front. Gives how
 // much of the text that was, and how long the reply is.
 #[inline]
-fn answer_line(into: &mut [u8], runtime: &mut Runtime, text: &[u8]) -> Option<(usize, usize)>
+fn answer_into(into: &mut [u8], runtime: &mut Runtime, text: &[u8]) -> Option<(usize, usize)>
     requires { 256 ≤ length into.old }
     ensures within { IfSome result (λ p. p.1 ≤ length into.new) }
     ensures answered { MatchOption result (runtime.new ≡ runtime.old)
@@ -100,13 +100,13 @@ fn answer_behind(
         × (take p.1 buffer.new ≡ take at buffer.old ++ reply)) }
     ensures grows { runtime.new.machine.layout.top ≤ runtime.old.machine.layout.top + 2 ^ 30 }
 {
-    let (read, written) = answer_line(&mut buffer[at..], runtime, text)?;
+    let (read, written) = answer_into(&mut buffer[at..], runtime, text)?;
     Some((read, at + written))
 }
 
 // Writes the first `filled` bytes where there is no room for a line behind them, and gives how many wait then.
 #[inline]
-fn make_room<K: Sink>(buffer: &[u8], filled: usize, sink: &mut K) -> Result<usize, Failed>
+fn write_if_full<K: Sink>(buffer: &[u8], filled: usize, sink: &mut K) -> Result<usize, Failed>
     requires within { filled ≤ length buffer.now }
     requires line { 256 ≤ length buffer.now }
     ensures room { IfOk result (λ left. left + 256 ≤ length buffer.now) }
@@ -200,7 +200,7 @@ impl Pending {
         let Some((read, end)) = answer_behind(&mut self.buffer, self.filled, runtime, text) else {
             return Ok(None);
         };
-        self.filled = make_room(&self.buffer, end, sink)?;
+        self.filled = write_if_full(&self.buffer, end, sink)?;
         Ok(Some(read))
     }
 
@@ -217,7 +217,7 @@ impl Pending {
         ensures cause { OnErr result (Rose (K.faults sink.old) (K.faults sink.new)) }
     {
         let end = reply_behind(&mut self.buffer, self.filled, reply);
-        self.filled = make_room(&self.buffer, end, sink)?;
+        self.filled = write_if_full(&self.buffer, end, sink)?;
         Ok(())
     }
 
@@ -232,7 +232,7 @@ impl Pending {
         ensures cause { OnErr result (Rose (K.faults sink.old) (K.faults sink.new)) }
     {
         let end = refusal_behind(&mut self.buffer, self.filled, refusal);
-        self.filled = make_room(&self.buffer, end, sink)?;
+        self.filled = write_if_full(&self.buffer, end, sink)?;
         Ok(())
     }
 }

@@ -10,29 +10,32 @@ use Rattle.clr_types.specs.Rising.{IsIn}
 use Rattle.clr_types.specs.declared.handle.Handle.{Handle as Row}
 use Rattle.clr_types.proofs.ListMembers.{in_append}
 use Rattle.clr_types.proofs.RisingLists.{in_cons}
+use Rattle.clr_handles.specs.Places.{IsNext}
 use Rattle.clr_mark.specs.Roots.{IsRoot}
 use Rattle.clr_mark.specs.Ties.{IsTarget}
 use Rattle.clr_mark.proofs.Rooting.{in_at}
 use Rattle.clr_sos.specs.Reaching.{HasAdded, HasGrown, IsListed, IsSearch}
-use Rattle.clr_sos.specs.declared.reach.Entry.{Entry}
+use Rattle.clr_sos.specs.declared.reach.FoundObject.{FoundObject}
 use Rattle.clr_sos.specs.declared.reach.ties.Tie.{Tie}
 use Rattle.clr_sos.specs.declared.view.View.{View}
+use Rattle.clr_sos.proofs.NumberedEntries.{next-or-before}
 use Rattle.clr_sos.proofs.Searching.{grown-refl, grown-trans, listed-on}
 
 -- nothing is wanted yet
-pub added-starts : (v : View) (seen : List (List ℕ)) (es : List Entry) (Wanted : ℕ → Type 0) → IsSearch v seen es
+pub added-starts : (v : View) (seen : List (List ℕ)) (es : List FoundObject) (Wanted : ℕ → Type 0) → IsSearch v seen es
     → ((x : ℕ) → Wanted x → ⊥) → HasAdded v es seen es Wanted
 added-starts v seen es Wanted s none =
     record { search = s; grown = grown-refl es; added = λ x w. absurd (none x w) }
 
-module _ (v : View) (old now : List Entry) (seen : List (List ℕ)) (Wanted : ℕ → Type 0)
+module _ (v : View) (old now : List FoundObject) (seen : List (List ℕ)) (Wanted : ℕ → Type 0)
     (a : HasAdded v old seen now Wanted) where
   -- the same, where no more is wanted
   pub added-on : (Next : ℕ → Type 0) → ((x : ℕ) → Next x → Wanted x) → HasAdded v old seen now Next
   added-on Next wants = record { search = a.search; grown = a.grown; added = λ x w. a.added x (wants x w) }
 
   -- one object more was met
-  pub added-more : (Next : ℕ → Type 0) (place : ℕ) (after : List (List ℕ)) (new : List Entry) → IsSearch v after new
+  pub added-more : (Next : ℕ → Type 0) (place : ℕ) (after : List (List ℕ)) (new : List FoundObject)
+      → IsSearch v after new
       → HasGrown now new → IsListed new place → ((x : ℕ) → Next x → Wanted x ⊎ (x ≡ place))
       → HasAdded v old after new Next
   added-more Next place after new s g l wants = record {
@@ -78,7 +81,7 @@ named-all places n x past r =
 
 -- ---- handles
 
--- the target of one of the first n handles, a strong or pinned one
+-- the target of a handle with a number below n, a strong or pinned one
 pub record IsHeldBelow (handles : FinMap nat_cmp Row) (n x : ℕ) : Type 0 where
   pub number : ℕ
   pub below : number < n
@@ -88,24 +91,27 @@ pub record IsHeldBelow (handles : FinMap nat_cmp Row) (n x : ℕ) : Type 0 where
   pub target : row.target ≡ x
   pub not_null : 0 < x
 
--- what handle n may add
-pub held-back : (handles : FinMap nat_cmp Row) (n x : ℕ) → IsHeldBelow handles (n + 1) x
-    → IsHeldBelow handles n x ⊎ ((row : Row) × (finmap.get handles n ≡ Some row) × IsTrue (is_root_kind row.kind)
-    × (row.target ≡ x) × (0 < x))
-held-back handles n x w = elim (cases_eq w.number n) [
-  | inl same ↦ inr (w.row, sym (ap (finmap.get handles) same) ∙ w.in_use, w.holds, w.target, w.not_null)
-  | inr other ↦
-      let l = w.below in
-      inl (record {
+-- what the next handle may add
+pub held-back : (handles : FinMap nat_cmp Row) (from n : ℕ) (row : Row) → IsNext handles 0 from n row → (x : ℕ)
+    → IsHeldBelow handles (n + 1) x
+    → IsHeldBelow handles from x ⊎ (IsTrue (is_root_kind row.kind) × (row.target ≡ x) × (0 < x))
+held-back handles from n row next x w =
+    elim (next-or-before handles from n row next w.number w.row w.below w.in_use) [
+      | inl is ↦ inr (
+        subst (λ (r : Row). IsTrue (is_root_kind r.kind)) is w.holds,
+        sym (ap (λ (r : Row). r.target) is) ∙ w.target,
+        w.not_null,
+      )
+      | inr before ↦ inl (record {
         number = w.number;
-        below = omega (arith, l, other);
+        below = before;
         row = w.row;
         in_use = w.in_use;
         holds = w.holds;
         target = w.target;
         not_null = w.not_null;
       })
-]
+    ]
 
 pub held-all : (handles : FinMap nat_cmp Row) (n x : ℕ)
     → ((k : ℕ) (row : Row) → finmap.get handles k ≡ Some row → k < n) → IsTarget handles x → IsHeldBelow handles n x
@@ -142,9 +148,10 @@ word-back word place offset x done w = elim (in_append done w.listed) [
 ]
 
 -- one word more was met, where it isn't null
-pub added-word : (v : View) (word : ℕ → ℕ) (place : ℕ) (old now : List Entry) (seen : List (List ℕ)) (done : List ℕ)
+pub added-word : (v : View) (word : ℕ → ℕ) (place : ℕ) (old now : List FoundObject) (seen : List (List ℕ))
+    (done : List ℕ)
     → HasAdded v old seen now (IsWordAmong word place done) → (offset target : ℕ) → target ≡ word (place + offset)
-    → (new : List Entry) (after : List (List ℕ)) → IsSearch v after new → HasGrown now new
+    → (new : List FoundObject) (after : List (List ℕ)) → IsSearch v after new → HasGrown now new
     → (target ≢ 0 → IsListed new target) → HasAdded v old after new (IsWordAmong word place (done ++ offset ∷ []))
 added-word v word place old now seen done a offset target read new after s g met = record {
   search = s;

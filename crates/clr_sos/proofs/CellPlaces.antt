@@ -61,8 +61,8 @@ offset_facts rows h k i offset heap walkable l m among =
     let least = is.least in
     let sized = is.sized in
     let low = facts.low in
-    let at : IsPlace h k i.place = record { in_range = l; aligned = z; low = above; high = omega arith } in
-    let words = cell_words h k i.place (i.place + offset) heap at (omega arith) (omega arith) (omega arith) in
+    let at : IsPlace h k i.place = record { heap = heap; in_range = l; aligned = z; low = above; high = omega arith } in
+    let words = cell_words h k i.place (i.place + offset) at (omega arith) (omega arith) (omega arith) in
     record { low = omega arith; word = words.0; segment = words.1 }
 
 pub in_middle_of : (xs : List ℕ) (n : ℕ) (ys zs : List ℕ) → xs ++ n ∷ ys ≡ zs → IsIn n zs

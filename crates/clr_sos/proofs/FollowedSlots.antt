@@ -16,17 +16,18 @@ use Rattle.clr_mark.proofs.References.{no_references, reference_has, reference_i
 use Rattle.clr_mark.proofs.References.{refers_to}
 use Rattle.clr_sos.specs.Reaching.{HasAdded, HasGrown, IsItemOf, IsObjectOf, IsOrigin, IsSearch, IsSound}
 use Rattle.clr_sos.specs.Reaching.{no_entry, place_at}
-use Rattle.clr_sos.specs.declared.reach.Entry.{Entry}
+use Rattle.clr_sos.specs.declared.reach.FoundObject.{FoundObject}
 use Rattle.clr_sos.specs.declared.reach.Origin.TheVariants.{Through}
 use Rattle.clr_sos.specs.declared.view.View.{View}
 use Rattle.clr_sos.proofs.Adding.{added-on, added-starts, IsWordAmong, word-none}
 
 -- an entry that was read is that of its index
-pub place-read : (es : List Entry) (i : ℕ) (e : Entry) → i < length es → e ≡ get_or es i e → e.place ≡ place_at es i
-place-read es i e l read = ap (λ (x : Entry). x.place) (read ∙ get_or_default es i e no_entry l)
+pub place-read : (es : List FoundObject) (i : ℕ) (e : FoundObject) → i < length es → e ≡ get_or es i e
+    → e.place ≡ place_at es i
+place-read es i e l read = ap (λ (x : FoundObject). x.place) (read ∙ get_or_default es i e no_entry l)
 
 -- the object at its place has its item
-pub item-read : (v : View) (es : List Entry) (n place : ℕ) (i : Item) → n < length es → place ≡ place_at es n
+pub item-read : (v : View) (es : List FoundObject) (n place : ℕ) (i : Item) → n < length es → place ≡ place_at es n
     → IsObjectAt v.types.now v.heap.now place i → IsItemOf v es n i
 item-read v es n place i l own at = record {
   below = l;
@@ -35,7 +36,7 @@ item-read v es n place i l own at = record {
 }
 
 -- what the code asks to follow the reference at an offset of entry n of the old ones, when some were added since
-pub record CanMeet (v : View) (now : List Entry) (n place offset : ℕ) : Type 0 where
+pub record CanMeet (v : View) (now : List FoundObject) (n place offset : ℕ) : Type 0 where
   pub has : HasWord v.heap.now.memories (place + offset)
   pub segment : memory_index v.heap.now.memories place ≡ memory_index v.heap.now.memories (place + offset)
   pub fits : place + offset < 2 ^ 64
@@ -43,7 +44,7 @@ pub record CanMeet (v : View) (now : List Entry) (n place offset : ℕ) : Type 0
   pub origin : word_of v.heap.now (place + offset) ≢ 0
       → IsOrigin v now (length now) (word_of v.heap.now (place + offset)) (Through n)
 
-module _ (v : View) (sound : IsSound v) (old : List Entry) (n : ℕ) (i : Item) (is : IsItemOf v old n i) where
+module _ (v : View) (sound : IsSound v) (old : List FoundObject) (n : ℕ) (i : Item) (is : IsItemOf v old n i) where
   abbrev names : ℕ → ℕ → Type 0
   names = SlotNames (objects_in v.types.now v.heap.now)
 
@@ -65,7 +66,7 @@ module _ (v : View) (sound : IsSound v) (old : List Entry) (n : ℕ) (i : Item) 
   slots-start seen s = added-starts v seen old (among []) s (λ x w. word-none (word_of v.heap.now) i.place x w)
 
   -- WHERE ALL REFERENCES WERE FOLLOWED, all that its slots name was found
-  pub slots-all : (seen : List (List ℕ)) (now : List Entry) (done : List ℕ) → done ≡ item_references v.types.now i
+  pub slots-all : (seen : List (List ℕ)) (now : List FoundObject) (done : List ℕ) → done ≡ item_references v.types.now i
       → HasAdded v old seen now (among done) → HasAdded v old seen now (names (place_at old n))
   slots-all seen now done all added = added-on v old now seen (among done) added (names (place_at old n)) (λ y named.
       let f = refers_from v.types.now v.heap.now sound.closed.heap sound.closed.held i.place i is.stands y
@@ -78,7 +79,8 @@ module _ (v : View) (sound : IsSound v) (old : List Entry) (n : ℕ) (i : Item) 
       })
 
   -- each reference can be followed
-  pub can_meet : (offset : ℕ) → IsIn offset (item_references v.types.now i) → (now : List Entry) → HasGrown old now
+  pub can_meet : (offset : ℕ) → IsIn offset (item_references v.types.now i) → (now : List FoundObject)
+      → HasGrown old now
       → CanMeet v now n i.place offset
   can_meet offset l now g =
       let rows = v.types.now in
@@ -90,7 +92,7 @@ module _ (v : View) (sound : IsSound v) (old : List Entry) (n : ℕ) (i : Item) 
       let longer = g.longer in
       let name : word_of h (i.place + offset) ≢ 0 → names i.place (word_of h (i.place + offset)) =
       λ some. refers_to rows h heap held i.place i is.stands offset l some in
-      let same : i.place ≡ place_at now n = is.place ∙ sym (ap (λ (e : Entry). e.place) (g.same n below)) in
+      let same : i.place ≡ place_at now n = is.place ∙ sym (ap (λ (e : FoundObject). e.place) (g.same n below)) in
       record {
         has = reference_has rows h heap held i.place i listed is.stands.at offset l;
         segment = reference_index rows h heap held i.place i listed is.stands.at offset l;

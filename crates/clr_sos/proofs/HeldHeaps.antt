@@ -96,6 +96,7 @@ faultless_shown v heap none faultless named =
     let h = v.heap.now in
     let held = faultless_held rows v.large h v.locals.now heap none faultless in
     record {
+      heap = heap;
       held = held;
       slots = faultless_slots rows v.large h v.locals.now heap held faultless;
       locals = λ x r. above_null rows h x r.not_null (faultless.locals_named x r.listed);

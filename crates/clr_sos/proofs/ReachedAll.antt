@@ -25,7 +25,7 @@ use Rattle.clr_sos.specs.Reaching.{HasAdded}
 use Rattle.clr_sos.specs.Reaching.{entry_of, is_listed, is_seen, IsFollowed, IsListed, IsObjectOf}
 use Rattle.clr_sos.specs.Reaching.{IsOrigin, IsRootOf, IsSearch, IsSound, Leads, no_entry, place_at}
 use Rattle.clr_sos.specs.Views.{IsViewOf}
-use Rattle.clr_sos.specs.declared.reach.Entry.{Entry}
+use Rattle.clr_sos.specs.declared.reach.FoundObject.{FoundObject}
 use Rattle.clr_sos.specs.declared.reach.Origin.{Origin}
 use Rattle.clr_sos.specs.declared.reach.Origin.TheVariants.{Local, Handle, Ready, Through}
 use Rattle.clr_sos.specs.declared.view.View.{View}
@@ -46,7 +46,7 @@ object-not_null v sound x stands =
     let place = at.at in
     omega (arith, high, place)
 
-module _ (v : View) (sound : IsSound v) (seen : List (List ℕ)) (es : List Entry) (s : IsSearch v seen es) where
+module _ (v : View) (sound : IsSound v) (seen : List (List ℕ)) (es : List FoundObject) (s : IsSearch v seen es) where
   -- what led to an entry is reached, or a root
   from_origin : (n place : ℕ) (o : Origin) → IsObjectOf v place → IsOrigin v es n place o
       → ((q : ℕ) → q < n → Reach (Leads v) (IsRootOf v) (place_at es q)) → Reach (Leads v) (IsRootOf v) place
@@ -91,13 +91,19 @@ module _ (v : View) (sound : IsSound v) (seen : List (List ℕ)) (es : List Entr
 
 -- ---- the test
 
-pub listed-told : (es : List Entry) (x : ℕ) → (is_listed es x ≡ true) ↔ IsListed es x
+pub listed-told : (es : List FoundObject) (x : ℕ) → (is_listed es x ≡ true) ↔ IsListed es x
 listed-told es x = (
-  λ e. let found = Any-from_list_any (λ (y : Entry). nat_eq y.place x) es e in
+  λ e. let found = Any-from_list_any (λ (y : FoundObject). nat_eq y.place x) es e in
       let i = found.0 in
       let at : get_or es i no_entry ≡ found.1 = get_or_default es i no_entry found.1 found.2 ∙ found.3 in
-      record { index = i; below = found.2; is = ap (λ (y : Entry). y.place) at ∙ eqb-true found.1.place x found.4 },
-  λ l. list_any_at (λ (y : Entry). nat_eq y.place x) es l.index no_entry l.below (eq-eqb (place_at es l.index) x l.is),
+      record {
+        index = i;
+        below = found.2;
+        is = ap (λ (y : FoundObject). y.place) at
+            ∙ eqb-true found.1.place x found.4;
+      },
+  λ l. list_any_at (λ (y : FoundObject). nat_eq y.place x) es l.index no_entry l.below
+      (eq-eqb (place_at es l.index) x l.is),
 )
 
 -- tests that hold of the same are the same
@@ -107,7 +113,8 @@ same-tests false true P f g = absurd (false≢true (f.1 (g.0 refl)))
 same-tests false false P f g = refl
 
 -- the bits of objects tell what is listed
-pub seen-told : (v : View) (seen : List (List ℕ)) (es : List Entry) → IsSearch v seen es → (x : ℕ) → IsObjectOf v x
+pub seen-told : (v : View) (seen : List (List ℕ)) (es : List FoundObject) → IsSearch v seen es → (x : ℕ)
+    → IsObjectOf v x
     → is_seen v.heap.now seen x ≡ is_listed es x
 seen-told v seen es s x stands = same-tests (is_seen v.heap.now seen x) (is_listed es x) (IsListed es x)
     (s.listed x stands, s.marked x) (listed-told es x)
@@ -151,7 +158,7 @@ module _ (v : View) (m : Machine) (is : IsViewOf v m) where
   )
 
 -- THE TEST of what is listed tells what is alive
-pub tests-live : (v : View) (es : List Entry) → ((x : ℕ) → IsListed es x ↔ Reach (Leads v) (IsRootOf v) x)
+pub tests-live : (v : View) (es : List FoundObject) → ((x : ℕ) → IsListed es x ↔ Reach (Leads v) (IsRootOf v) x)
     → (m : Machine) → IsViewOf v m → Tests (is_listed es) (Live m)
 tests-live v es exact m is x = (
   λ e. (live-shown v m is x).0 ((exact x).0 ((listed-told es x).0 e)),
@@ -159,15 +166,16 @@ tests-live v es exact m is x = (
 )
 
 -- where no entry has the place, it isn't listed
-pub unlisted : (es : List Entry) (x : ℕ) → ((j : ℕ) → j < length es → nat_eq (place_at es j) x ≡ false)
+pub unlisted : (es : List FoundObject) (x : ℕ) → ((j : ℕ) → j < length es → nat_eq (place_at es j) x ≡ false)
     → is_listed es x ≡ false
-unlisted es x none = list_any_none (λ (e : Entry). nat_eq e.place x) es
-    (λ k d l. ap (λ (e : Entry). nat_eq e.place x) (get_or_default es k d no_entry l) ∙ none k l)
+unlisted es x none = list_any_none (λ (e : FoundObject). nat_eq e.place x) es
+    (λ k d l. ap (λ (e : FoundObject). nat_eq e.place x) (get_or_default es k d no_entry l) ∙ none k l)
 
 -- ---- the parts of a search
 
 -- after locals, handles and the queue all roots are listed
-pub roots-listed : (v : View) (a b c d : List Entry) (s t u : List (List ℕ)) → HasAdded v a s b (IsRoot v.locals.now)
+pub roots-listed : (v : View) (a b c d : List FoundObject) (s t u : List (List ℕ))
+    → HasAdded v a s b (IsRoot v.locals.now)
     → HasAdded v b t c (IsTarget v.handles.now) → HasAdded v c u d (IsRoot v.finals.now.ready) → (x : ℕ)
     → IsRootOf v x → IsListed d x
 roots-listed v a b c d s t u locals targets ready x root = elim root.1 [
@@ -181,17 +189,18 @@ roots-listed v a b c d s t u locals targets ready x root = elim root.1 [
 ]
 
 -- one entry more was followed: by its slots, and then by dependent handles
-pub followed-more : (v : View) (a b c : List Entry) (s t : List (List ℕ)) (n : ℕ) → n < length a → IsFollowed v a n
+pub followed-more : (v : View) (a b c : List FoundObject) (s t : List (List ℕ)) (n : ℕ) → n < length a
+    → IsFollowed v a n
     → HasAdded v a s b (SlotNames (objects_in v.types.now v.heap.now) (place_at a n))
     → HasAdded v b t c (SecondOf v.handles.now (place_at b n)) → IsFollowed v c (n + 1)
 followed-more v a b c s t n inside before slots ties i y low l leads =
     let g = grown-trans a b c slots.grown ties.grown in
     let place : (j : ℕ) → j < length a → place_at c j ≡ place_at a j =
-    λ j k. ap (λ (e : Entry). e.place) (g.same j k) in
+    λ j k. ap (λ (e : FoundObject). e.place) (g.same j k) in
     elim (cases_eq i n) [
       | inl same ↦
           let here : place_at c i ≡ place_at a n = ap (place_at c) same ∙ place n inside in
-          let mid : place_at b n ≡ place_at a n = ap (λ (e : Entry). e.place) (slots.grown.same n inside) in
+          let mid : place_at b n ≡ place_at a n = ap (λ (e : FoundObject). e.place) (slots.grown.same n inside) in
           elim leads [
             | inl slot ↦
                 listed-on b c y ties.grown (slots.added y

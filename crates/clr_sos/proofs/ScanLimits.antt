@@ -9,8 +9,8 @@ use Rattle.clr_types.specs.declared.segment.SegKind.{SegKind}
 use Rattle.clr_types.specs.declared.segment.SegKind.TheVariants.{Small, Ephemeral, Large, Pinned}
 use Rattle.clr_heap.specs.Memories.{HasWord, memory_index}
 use Rattle.clr_heap.proofs.Addresses.{has_word, index_is_segment}
-use Rattle.clr_heap.proofs.Framing.{lawful_at}
-use Rattle.clr_heap.specs.View.{HeapView, holes_of, IsHeap, last_of, segment_at, word_of}
+use Rattle.clr_heap.proofs.Framing.{below_top_at, lawful_at}
+use Rattle.clr_heap.specs.View.{HeapView, holes_of, last_of, segment_at, word_of}
 use Rattle.clr_sos.specs.CheckedCells.{checked_item, is_header, typed_item, checked_size, crosses, is_inside, is_whole}
 use Rattle.clr_sos.specs.CheckedCells.{number_in, suits, type_of_word}
 use Rattle.clr_sos.specs.Faults.{rules_of, words_in}
@@ -87,9 +87,10 @@ module _ (rows : List TypeRow) (large : ℕ) (h : HeapView) (k place next : ℕ)
   size_is t len = rw (whole_is t (size_of (form_at rows t) len)) refl
 
 -- the words of a cell are the segment's
-pub cell_words : (h : HeapView) (k p a : ℕ) → IsHeap h → IsPlace h k p → a % 8 ≡ 0 → p ≤ a + 8 → a < last_of h k
+pub cell_words : (h : HeapView) (k p a : ℕ) → IsPlace h k p → a % 8 ≡ 0 → p ≤ a + 8 → a < last_of h k
     → HasWord h.memories a × (k ≡ memory_index h.memories a)
-cell_words h k p a heap at z low high =
+cell_words h k p a at z low high =
+    let heap = at.heap in
     let down = at.low in
     let lawful = lawful_at h k heap at.in_range in
     let up = lawful.high in (
@@ -97,6 +98,15 @@ cell_words h k p a heap at z low high =
       sym
           (index_is_segment h k a heap at.in_range (omega arith) (omega arith)),
     )
+
+-- and end low
+pub end_low : (h : HeapView) (k p : ℕ) → IsPlace h k p → last_of h k ≤ 2 ^ 61 + 2 ^ 30
+end_low h k p at =
+    let lawful = lawful_at h k at.heap at.in_range in
+    let up = lawful.high in
+    let top = below_top_at h k at.heap at.in_range in
+    let small = at.heap.top_small in
+    omega arith
 
 -- an item whose first 24 bytes are inside, with a lawful header
 pub item_from : (rows : List TypeRow) (large : ℕ) (h : HeapView) (k p : ℕ)

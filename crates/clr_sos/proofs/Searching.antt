@@ -5,17 +5,17 @@ use Rattle.std.proofs.lemmas.Bool.{cases_Bool, cases_lt, eqb-true, false≢true}
 use Rattle.std.proofs.lemmas.List.{get_or_append_left, get_or_at, length-append}
 use Rattle.clr_sos.specs.Reaching.{entry_of, HasGrown, HasRoom, is_seen, IsEntry, IsListed, IsObjectOf, IsOrigin}
 use Rattle.clr_sos.specs.Reaching.{IsSearch, Leads, no_entry, place_at}
-use Rattle.clr_sos.specs.declared.reach.Entry.{Entry}
+use Rattle.clr_sos.specs.declared.reach.FoundObject.{FoundObject}
 use Rattle.clr_sos.specs.declared.reach.Origin.{Origin}
 use Rattle.clr_sos.specs.declared.reach.Origin.TheVariants.{Local, Handle, Ready, Through}
 use Rattle.clr_sos.specs.declared.view.View.{View}
 
 -- ---- entries at the end
 
-pub grown-refl : (es : List Entry) → HasGrown es es
+pub grown-refl : (es : List FoundObject) → HasGrown es es
 grown-refl es = record { longer = omega arith; same = λ i l. refl }
 
-pub grown-trans : (a b c : List Entry) → HasGrown a b → HasGrown b c → HasGrown a c
+pub grown-trans : (a b c : List FoundObject) → HasGrown a b → HasGrown b c → HasGrown a c
 grown-trans a b c p q =
     let first = p.longer in
     let second = q.longer in
@@ -24,51 +24,52 @@ grown-trans a b c p q =
       same = λ i l. q.same i (omega (arith, l, first)) ∙ p.same i l;
     }
 
-longer-push : (es : List Entry) (e : Entry) → length (es ++ e ∷ []) ≡ length es + 1
+longer-push : (es : List FoundObject) (e : FoundObject) → length (es ++ e ∷ []) ≡ length es + 1
 longer-push es e = length-append es (e ∷ [])
 
-grown-push : (es : List Entry) (e : Entry) → HasGrown es (es ++ e ∷ [])
+grown-push : (es : List FoundObject) (e : FoundObject) → HasGrown es (es ++ e ∷ [])
 grown-push es e = record {
   longer = let n = longer-push es e in omega (arith, n);
   same = λ i l. get_or_append_left es (e ∷ []) no_entry i l;
 }
 
-last-push : (es : List Entry) (e : Entry) → entry_of (es ++ e ∷ []) (length es) ≡ e
+last-push : (es : List FoundObject) (e : FoundObject) → entry_of (es ++ e ∷ []) (length es) ≡ e
 last-push es e = get_or_at es e [] no_entry (length es) refl
 
-pub listed-on : (old new : List Entry) (x : ℕ) → HasGrown old new → IsListed old x → IsListed new x
+pub listed-on : (old new : List FoundObject) (x : ℕ) → HasGrown old new → IsListed old x → IsListed new x
 listed-on old new x g l =
     let below = l.below in
     let longer = g.longer in
     record {
       index = l.index;
       below = omega (arith, below, longer);
-      is = ap (λ (e : Entry). e.place) (g.same l.index l.below) ∙ l.is;
+      is = ap (λ (e : FoundObject). e.place) (g.same l.index l.below) ∙ l.is;
     }
 
-pub listed-push : (es : List Entry) (e : Entry) → IsListed (es ++ e ∷ []) e.place
+pub listed-push : (es : List FoundObject) (e : FoundObject) → IsListed (es ++ e ∷ []) e.place
 listed-push es e = record {
   index = length es;
   below = let n = longer-push es e in omega (arith, n);
-  is = ap (λ (x : Entry). x.place) (last-push es e);
+  is = ap (λ (x : FoundObject). x.place) (last-push es e);
 }
 
 -- the place of an entry is one from before, or the last
-listed-back : (es : List Entry) (e : Entry) (x : ℕ) → IsListed (es ++ e ∷ []) x → IsListed es x ⊎ (x ≡ e.place)
+listed-back : (es : List FoundObject) (e : FoundObject) (x : ℕ) → IsListed (es ++ e ∷ []) x
+    → IsListed es x ⊎ (x ≡ e.place)
 listed-back es e x l = elim (cases_lt l.index (length es)) [
   | inl early ↦ inl (record {
     index = l.index;
     below = early;
-    is = sym (ap (λ (y : Entry). y.place) ((grown-push es e).same l.index early)) ∙ l.is;
+    is = sym (ap (λ (y : FoundObject). y.place) ((grown-push es e).same l.index early)) ∙ l.is;
   })
   | inr late ↦
       let n = longer-push es e in
       let below = l.below in
       let last : l.index ≡ length es = omega (arith, late, below, n) in
-      inr (sym l.is ∙ ap (place_at (es ++ e ∷ [])) last ∙ ap (λ (y : Entry). y.place) (last-push es e))
+      inr (sym l.is ∙ ap (place_at (es ++ e ∷ [])) last ∙ ap (λ (y : FoundObject). y.place) (last-push es e))
 ]
 
-origin-on : (v : View) (old new : List Entry) (n place : ℕ) (o : Origin) → HasGrown old new → n ≤ length old
+origin-on : (v : View) (old new : List FoundObject) (n place : ℕ) (o : Origin) → HasGrown old new → n ≤ length old
     → IsOrigin v old n place o → IsOrigin v new n place o
 origin-on v old new n place (Local i) g l is = is
 origin-on v old new n place (Handle h) g l is = is
@@ -76,21 +77,21 @@ origin-on v old new n place (Ready i) g l is = is
 origin-on v old new n place (Through q) g l is =
     let below = is.0 in
     let same : place_at new q ≡ place_at old q =
-    ap (λ (e : Entry). e.place) (g.same q (omega (arith, below, l))) in
+    ap (λ (e : FoundObject). e.place) (g.same q (omega (arith, below, l))) in
     (below, subst (λ (p : ℕ). Leads v p place) (sym same) is.1)
 
-entry-on : (v : View) (old new : List Entry) (i : ℕ) → HasGrown old new → i < length old → IsEntry v old i
+entry-on : (v : View) (old new : List FoundObject) (i : ℕ) → HasGrown old new → i < length old → IsEntry v old i
     → IsEntry v new i
 entry-on v old new i g l is =
     let same = g.same i l in
-    let P : Entry → Type 0 = λ e. IsObjectOf v e.place × IsOrigin v new i e.place e.origin in
+    let P : FoundObject → Type 0 = λ e. IsObjectOf v e.place × IsOrigin v new i e.place e.origin in
     let both = subst P (sym same)
     (is.stands, origin-on v old new i (place_at old i) (entry_of old i).origin g (omega (arith, l)) is.origin) in
     record { stands = both.0; origin = both.1 }
 
 -- ---- one entry more
 
-module _ (v : View) (seen : List (List ℕ)) (es : List Entry) (s : IsSearch v seen es) where
+module _ (v : View) (seen : List (List ℕ)) (es : List FoundObject) (s : IsSearch v seen es) where
   -- what is listed is an object
   pub listed-stands : (x : ℕ) → IsListed es x → IsObjectOf v x
   listed-stands x l = subst (IsObjectOf v) l.is (s.sound l.index l.below).stands
@@ -98,10 +99,10 @@ module _ (v : View) (seen : List (List ℕ)) (es : List Entry) (s : IsSearch v s
   module _ (x : ℕ) (o : Origin) (stands : IsObjectOf v x) (origin : IsOrigin v es (length es) x o)
       (fresh : is_seen v.heap.now seen x ≡ false) (new : List (List ℕ)) (room : HasRoom v.heap.now new)
       (law : (y : ℕ) → IsObjectOf v y → is_seen v.heap.now new y ≡ (nat_eq y x || is_seen v.heap.now seen y)) where
-    abbrev e : Entry
+    abbrev e : FoundObject
     e = record { place = x; origin = o }
 
-    abbrev after : List Entry
+    abbrev after : List FoundObject
     after = es ++ e ∷ []
 
     listed : (y : ℕ) → IsObjectOf v y → is_seen v.heap.now new y ≡ true → IsListed after y
@@ -132,7 +133,7 @@ module _ (v : View) (seen : List (List ℕ)) (es : List Entry) (s : IsSearch v s
       | inr late ↦
           let n = longer-push es e in
           let is : i ≡ length es = omega (arith, late, l, n) in
-          let P : Entry → Type 0 = λ z. IsObjectOf v z.place × IsOrigin v after (length es) z.place z.origin in
+          let P : FoundObject → Type 0 = λ z. IsObjectOf v z.place × IsOrigin v after (length es) z.place z.origin in
           let both = subst P (sym (last-push es e))
           (stands, origin-on v es after (length es) x o (grown-push es e) (omega arith) origin) in
           let here : IsEntry v after (length es) = record { stands = both.0; origin = both.1 } in
@@ -144,15 +145,15 @@ module _ (v : View) (seen : List (List ℕ)) (es : List Entry) (s : IsSearch v s
         let n = longer-push es e in
         let g = grown-push es e in
         let first : place_at after i ≡ place_at es i =
-        ap (λ (z : Entry). z.place) (g.same i (omega (arith, before, l, n))) in
+        ap (λ (z : FoundObject). z.place) (g.same i (omega (arith, before, l, n))) in
         elim (cases_lt j (length es)) [
           | inl early ↦
               s.distinct i j before early
-              (sym first ∙ same ∙ ap (λ (z : Entry). z.place) (g.same j early))
+              (sym first ∙ same ∙ ap (λ (z : FoundObject). z.place) (g.same j early))
           | inr late ↦
               let is : j ≡ length es = omega (arith, late, l, n) in
               let here : place_at es i ≡ x =
-              sym first ∙ same ∙ ap (place_at after) is ∙ ap (λ (z : Entry). z.place) (last-push es e) in
+              sym first ∙ same ∙ ap (place_at after) is ∙ ap (λ (z : FoundObject). z.place) (last-push es e) in
               let was : IsListed es x = record { index = i; below = omega (arith, before, l, n); is = here } in
               false≢true (sym fresh ∙ s.marked x was)
         ]

@@ -6,26 +6,28 @@ use Rattle.std.specs.List.Sorted.{IsNonDecreasingBy, IsPartitionedBy}
 use Rattle.std.specs.FinMap as finmap
 use Rattle.std.specs.FinMap.{FinMap}
 use Rattle.std.specs.Ordering.{nat_cmp}
-use Rattle.std.proofs.lemmas.Bool.{cases_eq, cases_lt, lt-ltb, ltb-true}
+use Rattle.std.proofs.lemmas.Bool.{cases_lt, lt-ltb, ltb-true}
 use Rattle.std.proofs.lemmas.List.{get_or_default}
 use Rattle.std.proofs.lemmas.List.Elements.{All-push, Contains-append_left, Contains-push}
 use Rattle.clr_types.specs.Kinds.{is_dependent}
 use Rattle.clr_types.specs.declared.handle.Handle.{Handle as Row}
+use Rattle.clr_handles.specs.Places.{IsNext}
 use Rattle.clr_model.specs.Reach.{SecondOf}
 use Rattle.clr_sos.specs.Reaching.{AreTies, HasAdded, HasGrown, IsObjectOf, IsOrigin, IsSearch, IsSound}
 use Rattle.clr_sos.specs.Reaching.{ListsTies, place_at}
-use Rattle.clr_sos.specs.declared.reach.Entry.{Entry}
+use Rattle.clr_sos.specs.declared.reach.FoundObject.{FoundObject}
 use Rattle.clr_sos.specs.declared.reach.Origin.TheVariants.{Through}
 use Rattle.clr_sos.specs.declared.reach.ties.Tie.{Tie}
 use Rattle.clr_sos.specs.declared.view.View.{View}
 use Rattle.clr_sos.proofs.Adding.{added-on, added-starts, IsTiedBelow}
+use Rattle.clr_sos.proofs.NumberedEntries.{next-or-before}
 
 abbrev pub no_tie : Tie
 no_tie = record { primary = 0; second = 0 }
 
 -- ---- the list
 
--- the ties of the first n handles
+-- the ties of the handles with numbers below n
 pub record ListsBelow (handles : FinMap nat_cmp Row) (n : ℕ) (ties : List Tie) : Type 0 where
   pub only : All (λ (t : Tie). SecondOf handles t.primary t.second) ties
   pub all : (k : ℕ) (row : Row) → k < n → finmap.get handles k ≡ Some row → is_dependent row.kind ≡ true
@@ -34,40 +36,38 @@ pub record ListsBelow (handles : FinMap nat_cmp Row) (n : ℕ) (ties : List Tie)
 abbrev tie_of : Row → Tie
 tie_of row = record { primary = row.target; second = row.second }
 
-module _ (handles : FinMap nat_cmp Row) (n : ℕ) (ties : List Tie) (s : ListsBelow handles n ties) where
-  -- handle n has no second
-  pub list-skip : ((row : Row) → finmap.get handles n ≡ Some row → is_dependent row.kind ≡ true → 0 < row.second → ⊥)
-      → ListsBelow handles (n + 1) ties
+module _ (handles : FinMap nat_cmp Row) (from n : ℕ) (row : Row) (next : IsNext handles 0 from n row) (ties : List Tie)
+    (s : ListsBelow handles from ties) where
+  -- the next handle has no second
+  pub list-skip : (is_dependent row.kind ≡ true → 0 < row.second → ⊥) → ListsBelow handles (n + 1) ties
   list-skip none = record {
     only = s.only;
-    all = λ k row l e dependent some. elim (cases_eq k n) [
-      | inl same ↦ absurd (none row (sym (ap (finmap.get handles) same) ∙ e) dependent some)
-      | inr other ↦ s.all k row (omega (arith, l, other)) e dependent some
+    all = λ k other l e dependent some. elim (next-or-before handles from n row next k other l e) [
+      | inl is ↦
+          absurd (none (subst (λ (r : Row). is_dependent r.kind ≡ true) is dependent)
+          (subst (λ (r : Row). 0 < r.second) is some))
+      | inr before ↦ s.all k other before e dependent some
     ];
   }
 
   -- it has one
-  pub list-push : (row : Row) → finmap.get handles n ≡ Some row → is_dependent row.kind ≡ true → 0 < row.second
-      → ListsBelow handles (n + 1) (ties ++ tie_of row ∷ [])
-  list-push row in_use dependent some = record {
+  pub list-push : is_dependent row.kind ≡ true → 0 < row.second → ListsBelow handles (n + 1) (ties ++ tie_of row ∷ [])
+  list-push dependent some = record {
     only = All-push (λ (t : Tie). SecondOf handles t.primary t.second) ties (tie_of row) s.only (record {
       handle = n;
       row = row;
-      in_use = in_use;
+      in_use = next.in_use;
       dependent = dependent;
       primary = refl;
       secondary = refl;
       not_null = some;
     });
-    all = λ k other l e own more. elim (cases_eq k n) [
-      | inl same ↦
-          let both : Some other ≡ Some row = sym e ∙ ap (finmap.get handles) same ∙ in_use in
-          let is : other ≡ row = cc in
+    all = λ k other l e own more. elim (next-or-before handles from n row next k other l e) [
+      | inl is ↦
           subst (λ (r : Row). Contains (ties ++ tie_of row ∷ []) (tie_of r)) (sym is)
           (Contains-push ties (tie_of row))
-      | inr apart ↦
-          Contains-append_left ties (tie_of row ∷ []) (tie_of other)
-          (s.all k other (omega (arith, l, apart)) e own more)
+      | inr before ↦
+          Contains-append_left ties (tie_of row ∷ []) (tie_of other) (s.all k other before e own more)
     ];
   }
 
@@ -108,7 +108,7 @@ module _ (v : View) (sound : IsSound v) (ties : List Tie) (a : AreTies v.handles
         | inr stands ↦ subst (IsObjectOf v) is stands
       ]
 
-  module _ (old : List Entry) (i x start : ℕ) (own : x ≡ place_at old i)
+  module _ (old : List FoundObject) (i x start : ℕ) (own : x ≡ place_at old i)
       (below : (k : ℕ) (d : Tie) → k < start → (get_or ties k d).primary < x)
       (above : (k : ℕ) (d : Tie) → start ≤ k → k < length ties → x ≤ (get_or ties k d).primary) where
     -- the search starts at the first tie
@@ -120,18 +120,18 @@ module _ (v : View) (sound : IsSound v) (ties : List Tie) (a : AreTies v.handles
         omega (arith, low, is))
 
     -- what tie j leads to
-    pub tie-origin : (now : List Entry) (j : ℕ) (t : Tie) → HasGrown old now → i < length old → j < length ties
+    pub tie-origin : (now : List FoundObject) (j : ℕ) (t : Tie) → HasGrown old now → i < length old → j < length ties
         → t ≡ get_or ties j t → t.primary ≡ x → IsOrigin v now (length now) t.second (Through i)
     tie-origin now j t g l inside read is =
         let longer = g.longer in
-        let same : t.primary ≡ place_at now i = is ∙ own ∙ sym (ap (λ (e : Entry). e.place) (g.same i l)) in (
+        let same : t.primary ≡ place_at now i = is ∙ own ∙ sym (ap (λ (e : FoundObject). e.place) (g.same i l)) in (
           omega (arith, l, longer),
           inr (subst (λ (p : ℕ). SecondOf v.handles.now p t.second) same
               (tie-only j t inside read)),
         )
 
     -- all ties of the primary were followed, where the next one is of another, or there is none
-    pub ties-end : (now : List Entry) (seen : List (List ℕ)) (j : ℕ)
+    pub ties-end : (now : List FoundObject) (seen : List (List ℕ)) (j : ℕ)
         → ((k : ℕ) (d : Tie) → j ≤ k → k < length ties → (get_or ties k d).primary ≡ x → ⊥)
         → HasAdded v old seen now (IsTiedBelow ties x j)
         → HasAdded v old seen now (SecondOf v.handles.now (place_at old i))

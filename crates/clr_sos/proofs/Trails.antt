@@ -21,7 +21,7 @@ use Rattle.clr_model.specs.Sos.{ready_root, RootWords, StartsAt, type_of_place}
 use Rattle.clr_sos.specs.Reaching.{entry_of, IsObjectOf, IsOrigin, IsSearch, IsSound, Leads, place_at}
 use Rattle.clr_sos.specs.RootTexts.{ends, IsRootOrigin, IsTrail, leads, origin_line, place_line}
 use Rattle.clr_sos.specs.Views.{IsViewOf}
-use Rattle.clr_sos.specs.declared.reach.Entry.{Entry}
+use Rattle.clr_sos.specs.declared.reach.FoundObject.{FoundObject}
 use Rattle.clr_sos.specs.declared.reach.Origin.{Origin}
 use Rattle.clr_sos.specs.declared.reach.Origin.TheVariants.{Local, Handle, Ready, Through}
 use Rattle.clr_sos.specs.declared.view.View.{View}
@@ -30,20 +30,20 @@ use Rattle.clr_sos.proofs.ReachedAll.{edge-shown, object-not_null}
 -- ---- the chain
 
 -- the place of entry i or of a later one
-pub record IsFrom (es : List Entry) (i x : ℕ) : Type 0 where
+pub record IsFrom (es : List FoundObject) (i x : ℕ) : Type 0 where
   pub index : ℕ
   pub from : i ≤ index
   pub below : index < length es
   pub is : place_at es index ≡ x
 
-pub record IsChainFrom (m : Machine) (es : List Entry) (last i : ℕ) (places : List ℕ) : Type 0 where
+pub record IsChainFrom (m : Machine) (es : List FoundObject) (last i : ℕ) (places : List ℕ) : Type 0 where
   pub inside : i < length es
   pub starts : StartsAt places (place_at es i)
   pub linked : IsChain m places last
   pub later : AllByRecursion (IsFrom es i) places
   pub distinct : IsWithoutRepeats places
 
-module _ (v : View) (m : Machine) (shown : IsViewOf v m) (seen : List (List ℕ)) (es : List Entry)
+module _ (v : View) (m : Machine) (shown : IsViewOf v m) (seen : List (List ℕ)) (es : List FoundObject)
     (s : IsSearch v seen es) (last : ℕ) where
   -- an entry before a chain
   chain-more : (q i : ℕ) (places : List ℕ) → q < i → (entry_of es i).origin ≡ Through q
@@ -100,7 +100,7 @@ pub record IsRootedBy (m : Machine) (o : Origin) (place : ℕ) : Type 0 where
   pub told : origin_line o ≡ line words
 
 module _ (v : View) (m : Machine) (shown : IsViewOf v m) (count : length v.locals.now ≡ 1024) where
-  rooted-by : (es : List Entry) (n place : ℕ) (o : Origin) → IsRootOrigin o → IsOrigin v es n place o
+  rooted-by : (es : List FoundObject) (n place : ℕ) (o : Origin) → IsRootOrigin o → IsOrigin v es n place o
       → IsRootedBy m o place
   rooted-by es n place (Local k) root is =
       let low = slice_get_within v.locals.now k place is in
@@ -130,7 +130,7 @@ module _ (v : View) (m : Machine) (shown : IsViewOf v m) (count : length v.local
   rooted-by es n place (Through q) root is = absurd root
 
   -- THE TEXT OF A ROOT AND A CHAIN
-  pub root-told : (seen : List (List ℕ)) (es : List Entry) → IsSound v → IsSearch v seen es → (a last i : ℕ)
+  pub root-told : (seen : List (List ℕ)) (es : List FoundObject) → IsSound v → IsSearch v seen es → (a last i : ℕ)
       (places : List ℕ) (root : Origin) (text : List ℕ) → place_at es last ≡ a
       → IsTrail es (place_at es last) i places → root ≡ (entry_of es i).origin → IsRootOrigin root
       → text ≡ origin_line root ++ flat_map (place_line v) places → IsRootText m a text

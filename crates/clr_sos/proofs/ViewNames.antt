@@ -6,7 +6,6 @@ use Rattle.std.specs.Ordering.{nat_cmp}
 use Rattle.clr_types.specs.Rising.{IsIn}
 use Rattle.clr_types.specs.declared.handle.Handle.{Handle}
 use Rattle.clr_types.proofs.RisingLists.{all_at}
-use Rattle.clr_heap.specs.View.{IsHeap}
 use Rattle.clr_model.specs.Lawful.{HasItsSecond, IsPlaceNamed}
 use Rattle.clr_model.specs.Machine.{Machine, Object}
 use Rattle.clr_model.specs.Reach.{SlotNames}
@@ -68,6 +67,7 @@ shown_view v lawful =
     let is = lawful.machine.1 in
     let named = lawful.machine.2 in
     record {
+      heap = lawful.heap;
       held = lawful.held;
       slots = slots-stand v m is named;
       locals = locals-stand v m is named;
@@ -77,16 +77,16 @@ shown_view v lawful =
     }
 
 -- so a search may follow what it names
-pub sound_shown : (v : View) → IsHeap v.heap.now → IsShownView v → IsSound v
-sound_shown v heap shown = record {
-  closed = record { heap = heap; held = shown.held; named = shown.slots };
+pub sound_shown : (v : View) → IsShownView v → IsSound v
+sound_shown v shown = record {
+  closed = record { heap = shown.heap; held = shown.held; named = shown.slots };
   handles = shown.handles;
   locals = shown.locals;
   ready = λ x r. shown.ready x r.listed;
 }
 
-pub sound_view : (v : View) → IsHeap v.heap.now → IsLawfulView v → IsSound v
-sound_view v heap lawful = sound_shown v heap (shown_view v lawful)
+pub sound_view : (v : View) → IsLawfulView v → IsSound v
+sound_view v lawful = sound_shown v (shown_view v lawful)
 
 -- it shows 64 locals of each of 16 threads
 pub count_locals : (v : View) → IsLawfulView v → length v.locals.now ≡ 1024

@@ -8,7 +8,7 @@ use Rattle.clr_types.specs.Types.{form_at, size_of, TypeRow}
 use Rattle.clr_types.specs.declared.segment.SegInfo.{SegInfo}
 use Rattle.clr_types.specs.declared.segment.SegKind.{SegKind}
 use Rattle.clr_types.specs.declared.segment.SegKind.TheVariants.{Small, Ephemeral, Large, Pinned}
-use Rattle.clr_heap.specs.View.{first_of, HeapView, last_of, segment_at}
+use Rattle.clr_heap.specs.View.{first_of, HeapView, IsHeap, last_of, segment_at}
 use Rattle.clr_sos.specs.CheckedCells.{begins_in, crosses, is_length, Rules}
 use Rattle.clr_sos.specs.Faults.{is_between, is_young, rules_of}
 use Rattle.clr_sos.specs.declared.verify.cells.Limits.{Limits}
@@ -28,8 +28,9 @@ limits_of large h k = record {
 abbrev pub rules_in : Scan → Rules
 rules_in s = rules_of s.types.now s.limits.large s.heap.now s.k
 
--- a place of segment k below its end
+-- a place of segment k of a heap, below the segment's end
 pub record IsPlace (h : HeapView) (k p : ℕ) : Type 0 where
+  pub heap : IsHeap h
   pub in_range : k < length h.segments
   pub aligned : p % 8 ≡ 0
   pub low : first_of h k ≤ p

@@ -20,7 +20,7 @@ use Rattle.clr_mark.specs.Marks.{IsClosed}
 use Rattle.clr_mark.specs.Roots.{AreObjects}
 use Rattle.clr_mark.specs.Ties.{Joins}
 use Rattle.clr_sos.specs.Bits.{has_bit}
-use Rattle.clr_sos.specs.declared.reach.Entry.{Entry}
+use Rattle.clr_sos.specs.declared.reach.FoundObject.{FoundObject}
 use Rattle.clr_sos.specs.declared.reach.Origin.{Origin}
 use Rattle.clr_sos.specs.declared.reach.Origin.TheVariants.{Local, Handle, Ready, Through}
 use Rattle.clr_sos.specs.declared.reach.ties.Tie.{Tie}
@@ -69,27 +69,28 @@ pub record HasRoom (h : HeapView) (seen : List (List ℕ)) : Type 0 where
 
 -- ---- what was found
 
-abbrev pub no_entry : Entry
+-- each object that was found is an entry; this one stands for none
+abbrev pub no_entry : FoundObject
 no_entry = record { place = 0; origin = Local 0 }
 
-abbrev pub entry_of : List Entry → ℕ → Entry
+abbrev pub entry_of : List FoundObject → ℕ → FoundObject
 entry_of es i = get_or es i no_entry
 
 -- the place of an entry
-abbrev pub place_at : List Entry → ℕ → ℕ
+abbrev pub place_at : List FoundObject → ℕ → ℕ
 place_at es i = (entry_of es i).place
 
 -- the place is that of an entry
-pub record IsListed (es : List Entry) (x : ℕ) : Type 0 where
+pub record IsListed (es : List FoundObject) (x : ℕ) : Type 0 where
   pub index : ℕ
   pub below : index < length es
   pub is : place_at es index ≡ x
 
-abbrev pub is_listed : List Entry → ℕ → Bool
+abbrev pub is_listed : List FoundObject → ℕ → Bool
 is_listed es x = list_any (λ e. e.place == x) es
 
 -- the item is that of entry i
-pub record IsItemOf (v : View) (es : List Entry) (i : ℕ) (item : Item) : Type 0 where
+pub record IsItemOf (v : View) (es : List FoundObject) (i : ℕ) (item : Item) : Type 0 where
   pub below : i < length es
   pub place : item.place ≡ place_at es i
   pub stands : IsObjectAt v.types.now v.heap.now item.place item
@@ -102,20 +103,20 @@ pub record IsHandleRoot (v : View) (h place : ℕ) : Type 0 where
   pub target : row.target ≡ place
 
 -- what led to the place: a root, or one of the first n entries
-abbrev pub IsOrigin : View → List Entry → ℕ → ℕ → Origin → Type 0
+abbrev pub IsOrigin : View → List FoundObject → ℕ → ℕ → Origin → Type 0
 IsOrigin v es n place (Local i) = slice_get v.locals.now i ≡ Some place
 IsOrigin v es n place (Handle h) = IsHandleRoot v h place
 IsOrigin v es n place (Ready i) = slice_get v.finals.now.ready i ≡ Some place
 IsOrigin v es n place (Through q) = (q < n) × Leads v (place_at es q) place
 
 -- entry i is an object, by a root or by an entry before it
-pub record IsEntry (v : View) (es : List Entry) (i : ℕ) : Type 0 where
+pub record IsEntry (v : View) (es : List FoundObject) (i : ℕ) : Type 0 where
   pub stands : IsObjectOf v (place_at es i)
   pub origin : IsOrigin v es i (place_at es i) (entry_of es i).origin
 
 -- THE LAW OF A SEARCH: the entries are objects, each once, and have their bits, and each came from a root or by an
 -- entry before it
-pub record IsSearch (v : View) (seen : List (List ℕ)) (es : List Entry) : Type 0 where
+pub record IsSearch (v : View) (seen : List (List ℕ)) (es : List FoundObject) : Type 0 where
   pub room : HasRoom v.heap.now seen
   pub listed : (x : ℕ) → IsObjectOf v x → is_seen v.heap.now seen x ≡ true → IsListed es x
   pub marked : (x : ℕ) → IsListed es x → is_seen v.heap.now seen x ≡ true
@@ -123,23 +124,23 @@ pub record IsSearch (v : View) (seen : List (List ℕ)) (es : List Entry) : Type
   pub distinct : (i j : ℕ) → i < j → j < length es → place_at es i ≢ place_at es j
 
 -- entries were added at the end
-pub record HasGrown (old new : List Entry) : Type 0 where
+pub record HasGrown (old new : List FoundObject) : Type 0 where
   pub longer : length old ≤ length new
   pub same : (i : ℕ) → i < length old → entry_of new i ≡ entry_of old i
 
 -- whatever the places of the first n entries lead to was found
-abbrev pub IsFollowed : View → List Entry → ℕ → Type 0
+abbrev pub IsFollowed : View → List FoundObject → ℕ → Type 0
 IsFollowed v es n = (i y : ℕ) → i < n → i < length es → Leads v (place_at es i) y → IsListed es y
 
 -- entries were added, among them whatever is to be found
-pub record HasAdded (v : View) (old : List Entry) (seen : List (List ℕ)) (new : List Entry)
+pub record HasAdded (v : View) (old : List FoundObject) (seen : List (List ℕ)) (new : List FoundObject)
     (Wanted : ℕ → Type 0) : Type 0 where
   pub search : IsSearch v seen new
   pub grown : HasGrown old new
   pub added : (x : ℕ) → Wanted x → IsListed new x
 
 -- entries were added, among them whatever the slots of entry i name
-abbrev pub HasFollowed : View → List Entry → ℕ → List (List ℕ) → List Entry → Type 0
+abbrev pub HasFollowed : View → List FoundObject → ℕ → List (List ℕ) → List FoundObject → Type 0
 HasFollowed v old i seen new =
     HasAdded v old seen new (SlotNames (objects_in v.types.now v.heap.now) (place_at old i))
 

@@ -8,7 +8,7 @@ use Rattle.clr_model.specs.Machine.{Machine}
 use Rattle.clr_model.specs.Reach.{Live}
 use Rattle.clr_model.specs.Sos.{IsRootText, line, type_of_place}
 use Rattle.clr_sos.specs.Reaching.{entry_of, place_at}
-use Rattle.clr_sos.specs.declared.reach.Entry.{Entry}
+use Rattle.clr_sos.specs.declared.reach.FoundObject.{FoundObject}
 use Rattle.clr_sos.specs.declared.reach.Origin.{Origin}
 use Rattle.clr_sos.specs.declared.reach.Origin.TheVariants.{Local, Handle, Ready, Through}
 use Rattle.clr_sos.specs.declared.view.View.{View}
@@ -43,12 +43,12 @@ IsBefore n (Handle h) = Unit {0}
 IsBefore n (Ready i) = Unit {0}
 IsBefore n (Through q) = q < n
 
-abbrev pub AreBehind : List Entry → Type 0
+abbrev pub AreBehind : List FoundObject → Type 0
 AreBehind es = (i : ℕ) → i < length es → IsBefore i (entry_of es i).origin
 
 -- Entry i leads over the places to the entry with the last: each place is that of an entry which was found through the
 -- one before it.
-pub data IsTrail (es : List Entry) (last : ℕ) : ℕ → List ℕ → Type 0 where
+pub data IsTrail (es : List FoundObject) (last : ℕ) : ℕ → List ℕ → Type 0 where
   ends : (i : ℕ) → i < length es → place_at es i ≡ last → IsTrail es last i (place_at es i ∷ [])
   leads : (q i : ℕ) (places : List ℕ) → q < i → (entry_of es i).origin ≡ Through q → IsTrail es last i places
       → IsTrail es last q (place_at es q ∷ places)

@@ -3,7 +3,7 @@ use Rattle.std.specs.Prelude.{◌≡◌, ℕ, List}
 use Rattle.clr_types.specs.Rising.{IsIn}
 use Rattle.clr_types.specs.Types.{TypeRow}
 use Rattle.clr_bricks.specs.Bricks.{entry_at}
-use Rattle.clr_heap.specs.View.{frame, HeapView}
+use Rattle.clr_heap.specs.View.{frame, HeapView, IsHeap}
 use Rattle.clr_model.specs.Lawful.{IsPlaceNamed}
 use Rattle.clr_model.specs.Machine.{Machine}
 use Rattle.clr_model.specs.Reach.{SlotNames}
@@ -29,6 +29,7 @@ pub record IsViewOf (v : View) (m : Machine) : Type 0 where
 
 -- a view of a lawful machine, whose words hold its objects and whose bricks tell of them
 pub record IsLawfulView (v : View) : Type 0 where
+  pub heap : IsHeap v.heap.now
   pub held : IsHeld v.types.now v.heap.now
   pub bricks : AreBricksOf (frame v.heap.now) v.bricks.now
   pub brick_law : BrickLaw v.types.now (frame v.heap.now) (objects_in v.types.now v.heap.now) (entry_at v.bricks.now)
@@ -42,6 +43,7 @@ AllStand rows h places = (place : ℕ) → IsIn place places → StandsAt rows h
 -- by finalisation entries and the f-reachable queue. So it is in a view of a lawful machine, and also in one of an
 -- image that was loaded, which has no bricks, and whose segments may be longer than a machine's.
 pub record IsShownView (v : View) : Type 0 where
+  pub heap : IsHeap v.heap.now
   pub held : IsHeld v.types.now v.heap.now
   pub slots : (x y : ℕ) → SlotNames (objects_in v.types.now v.heap.now) x y → StandsAt v.types.now v.heap.now y
   pub locals : AreObjects v.types.now v.heap.now v.locals.now

@@ -4,7 +4,7 @@ use Rattle.std.specs.Prelude.{filter, length, get_or, nat_eq, nat_le, nat_lt, Op
 use Rattle.std.specs.Int.{bit_at}
 use Rattle.clr_types.specs.Types.{TypeRow}
 use Rattle.clr_types.specs.declared.item.Item.{Item}
-use Rattle.clr_heap.specs.View.{AreWalkable, first_of, heap_items, HeapView, last_of, word_of}
+use Rattle.clr_heap.specs.View.{AreWalkable, first_of, heap_items, HeapView, IsHeap, last_of, word_of}
 use Rattle.clr_view.specs.View.{is_object}
 use Rattle.clr_sos.specs.Faults.{is_name, lowest, stands}
 use Rattle.clr_sos.specs.declared.verify.references.Judge.{Judge}
@@ -49,6 +49,7 @@ is_bad_by window bits name = not (name == 0) && (in_window window name && not (m
 
 -- what names are judged by: the bits of the window are those of the heap
 pub record IsJudging (rows : List TypeRow) (h : HeapView) (window : Window) (bits : List ℕ) : Type 0 where
+  pub heap : IsHeap h
   pub walkable : AreWalkable rows h
   pub aligned : window.start % 8 ≡ 0
   pub marked : IsMarked (heap_items rows h) window bits

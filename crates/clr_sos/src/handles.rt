@@ -40,7 +40,6 @@ fn put_handles(text: &mut Vec<u8>, handles: &Handles) -> Result<u64, AllocError>
         (text.new.items ≡ text.old.items ++ flat_map handle_line (finmap.entries handles.now)) }
     ensures count { IfOk result (λ count. count ≡ finmap.len handles.now) }
 {
-    handles.lawful();
     let mut count = 0;
     let mut from = 0;
     while let Some((number, handle)) = handles.next_from(from, 0) {

@@ -2,7 +2,7 @@
 ghost use Rattle.std.specs.Prelude.{◌≡◌, List};
 ghost use Rattle.std.specs.Iterator.{YieldsFirst};
 ghost use Rattle.clr_types.specs.declared.item.Item.{Item};
-ghost use Rattle.clr_heap.specs.View.{AreWalkable, heap_items};
+ghost use Rattle.clr_heap.specs.View.{AreWalkable, heap_items, IsHeap};
 
 use clr_heap::{Heap, Walk};
 use clr_types::{Item, Types};
@@ -68,7 +68,8 @@ impl<'a> HeapItems<'a> {
 /// The items of a heap.
 pub(crate) fn items_of<'a>(types: &'a Types, heap: &'a Heap) -> HeapItems<'a>
     requires { AreWalkable types.now heap.now }
-    ensures { result ≡ heap_items types.now heap.now }
+    ensures items { result ≡ heap_items types.now heap.now }
+    ensures heap { IsHeap heap.now }
 {
     let count = heap.segments();
     HeapItems {

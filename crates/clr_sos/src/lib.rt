@@ -6,7 +6,7 @@ pub use crate::handles::gchandles;
 pub use crate::listing::dumpheap;
 pub use crate::object_text::dumpobj;
 pub use crate::queues::finalizequeue;
-pub use crate::reach::{Entry, Reached};
+pub use crate::reach::{FoundObject, Reached};
 pub use crate::roots::gcroot;
 pub use crate::segments::eeheap;
 pub use crate::verify::{

@@ -1,7 +1,7 @@
 // The command that shows the items of the heap.
 ghost use Rattle.std.specs.Prelude.{◌≡◌, ◌≢◌, ◌↔◌, ℕ, Bool, Err, IfOk, Some, filter};
 ghost use Rattle.clr_types.specs.Rising.{Tests};
-ghost use Rattle.clr_heap.specs.View.{heap_items};
+ghost use Rattle.clr_heap.specs.View.{heap_items, IsHeap};
 ghost use Rattle.clr_view.specs.View.{IsHeld};
 ghost use Rattle.clr_model.specs.declared.Life.TheVariants.{Any};
 ghost use Rattle.clr_model.specs.declared.Refusal.TheVariants as refusal;
@@ -52,7 +52,6 @@ pub fn dumpheap(alloc: Global, view: &View<'_>, filter: &Filter<'_>) -> Result<V
     let Some(wanted) = wanted_by(view.types, filter) else {
         return Err(SosFault::UnknownType);
     };
-    view.heap.lawful();
     match filter.life {
         Life::Any => {
             let text = listing_of_all(alloc, view, filter.mode, &wanted)?;
@@ -74,8 +73,9 @@ fn listing_of_all(
 ) -> Result<Vec<u8>, AllocError>
     requires any { wanted.now.life ≡ Any }
     requires held { IsHeld view.now.types.now view.now.heap.now }
-    ensures { IfOk result (λ text. (live : ℕ → Bool) → text.items ≡ dump_by_mode mode view.now.types.now
+    ensures text { IfOk result (λ text. (live : ℕ → Bool) → text.items ≡ dump_by_mode mode view.now.types.now
         (filter (is_wanted wanted.now live) (heap_items view.now.types.now view.now.heap.now))) }
+    ensures heap { IsHeap view.now.heap.now }
 {
     listing_where(alloc, view.types, view.heap, mode, wanted, &|_| false)
 }
@@ -92,7 +92,6 @@ fn listing_by_life(
         → text.items ≡ dump_by_mode mode view.now.types.now
         (filter (is_wanted wanted.now live) (heap_items view.now.types.now view.now.heap.now))) }
 {
-    view.heap.lawful();
     let reached = reach(alloc, view)?;
     listing_where(
         alloc,

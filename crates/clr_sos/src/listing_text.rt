@@ -1,6 +1,6 @@
 // The listing of the heap.
 ghost use Rattle.std.specs.Prelude.{◌≡◌, ℕ, ◌++◌, Bool, filter, IfOk, OnOk};
-ghost use Rattle.clr_heap.specs.View.{heap_items};
+ghost use Rattle.clr_heap.specs.View.{heap_items, IsHeap};
 ghost use Rattle.clr_view.specs.View.{IsHeld};
 ghost use Rattle.clr_model.specs.Sos.{dump_by_mode};
 ghost use Rattle.clr_sos.specs.Dumping.{AreListed};
@@ -27,12 +27,12 @@ pub(crate) fn listing_where<F: Fn(u64) -> bool>(
 ) -> Result<Vec<u8>, AllocError>
     requires held { IsHeld types.now heap.now }
     requires ask { MayAskOf (λ place. F.pre live.now place) (heap_items types.now heap.now) }
-    ensures { IfOk result (λ text. (test : ℕ → Bool)
+    ensures text { IfOk result (λ text. (test : ℕ → Bool)
         → AnswersFor (λ place answer. F.post live.now place answer) test (heap_items types.now heap.now)
         → text.items ≡ dump_by_mode mode types.now
         (filter (is_wanted wanted.now test) (heap_items types.now heap.now))) }
+    ensures heap { IsHeap heap.now }
 {
-    heap.lawful();
     let mut text = Vec::new(alloc);
     let items = items_of(types, heap);
     put_shown(&mut text, alloc, types, items, mode, wanted, live)?;

@@ -3,7 +3,7 @@ ghost use Rattle.std.specs.Prelude.{◌≡◌, ◌≢◌, ◌≤◌, ◌↔◌, 
 ghost use Rattle.clr_types.specs.Rising.{IsIn};
 ghost use Rattle.clr_types.specs.Types.{form_at, slot_kinds};
 ghost use Rattle.clr_bricks.specs.Bricks.{entry_at};
-ghost use Rattle.clr_heap.specs.View.{frame, heap_items};
+ghost use Rattle.clr_heap.specs.View.{frame, heap_items, IsHeap};
 ghost use Rattle.clr_model.specs.Lookups.{object_at as object_of};
 ghost use Rattle.clr_model.specs.Machine.{Machine};
 ghost use Rattle.clr_model.specs.Sos.{dumpobj_text, length_words, line, more_line, slot_words};
@@ -65,11 +65,11 @@ pub fn dumpobj(alloc: Global, view: &View<'_>, a: u64) -> Result<Vec<u8>, SosFau
 
 // The text of an object.
 fn text_of(alloc: Global, types: &Types, heap: &Heap, item: &Item) -> Result<Vec<u8>, AllocError>
+    requires heap { IsHeap heap.now }
     requires held { IsHeld types.now heap.now }
     requires listed { IsIn item.now (heap_items types.now heap.now) }
     ensures { IfOk result (λ text. text.items ≡ item_text types.now heap.now item.now) }
 {
-    heap.lawful();
     let mut text = Vec::with_capacity(alloc, ROOM)?;
     put_head(&mut text, types, item, heap.gen_of(item.place))?;
     let count = types.slot_count(item.type_id, item.len);
@@ -129,13 +129,13 @@ fn put_slots(
     item: &Item,
     count: u64,
 ) -> Result<(), AllocError>
+    requires heap { IsHeap heap.now }
     requires held { IsHeld types.now heap.now }
     requires listed { IsIn item.now (heap_items types.now heap.now) }
     requires count { count ≡ length (slot_kinds (form_at types.now item.now.type_id.0) item.now.len) }
     ensures { OnOk result (text.new.items
         ≡ text.old.items ++ slot_lines 16 (slots_in types.now heap.now item.now)) }
 {
-    heap.lawful();
     for i in 0..count.min(SHOWN_SLOTS) {
         let slot = types.slot(item.type_id, item.len, i);
         let value = slot_value(heap, types, item, slot);

@@ -3,6 +3,7 @@ ghost use Rattle.std.specs.Prelude.{◌≡◌, ◌≢◌, ℕ, ◌+◌, ◌<◌,
 ghost use Rattle.clr_types.specs.Descriptors.{offsets_from};
 ghost use Rattle.clr_types.specs.Rising.{Tests};
 ghost use Rattle.clr_heap.specs.Memories.{HasWord, memory_index};
+ghost use Rattle.clr_heap.specs.View.{IsHeap};
 ghost use Rattle.clr_model.specs.Machine.{Machine};
 ghost use Rattle.clr_model.specs.Reach.{Live, SecondOf};
 ghost use Rattle.clr_view.specs.SlotValues.{IsObjectAt};
@@ -17,7 +18,6 @@ ghost use Rattle.clr_sos.specs.Views.{IsViewOf};
 use crate::View;
 use crate::reach::bits::Bits;
 use crate::reach::ties::{Tie, first_tie, ties_of};
-use clr_handles::MOST_HANDLES;
 use clr_heap::{Heap, Item};
 use clr_types::ReferenceRun;
 use std::alloc::{AllocError, Global};
@@ -40,7 +40,7 @@ pub(crate) enum Origin {
 
 /// An object that was found.
 #[derive(Clone, Copy)]
-pub struct Entry {
+pub struct FoundObject {
     pub place: u64,
     pub(crate) origin: Origin,
 }
@@ -50,7 +50,7 @@ pub struct Entry {
 #[derive(Drop)]
 pub struct Reached {
     pub(crate) seen: Vec<Bits>,
-    pub entries: Vec<Entry>,
+    pub entries: Vec<FoundObject>,
 }
 
 /// What the roots of a view reach. The roots come first: what locals name by threads and numbers, what strong and
@@ -138,10 +138,10 @@ impl Reached {
 
     /// Whether an object was found.
     pub(crate) fn has(&self, heap: &Heap, place: u64) -> bool
-        requires { HasWord heap.now.memories place }
+        requires heap { IsHeap heap.now }
+        requires word { HasWord heap.now.memories place }
         ensures { result ≡ is_seen heap.now self.now.seen.items place }
     {
-        heap.lawful();
         let k = heap.segment_of(place);
         let base = heap.info(k).base;
         match self.seen.get(k) {
@@ -200,7 +200,7 @@ impl Reached {
         let bits = &mut self.seen[k];
         if !bits.has(number) {
             bits.add(number);
-            self.entries.push(Entry { place, origin })?;
+            self.entries.push(FoundObject { place, origin })?;
         }
         Ok(())
     }
@@ -254,13 +254,12 @@ impl Reached {
         ensures { OnOk result (HasAdded view.now self.old.entries.items self.new.seen.items self.new.entries.items
             (IsTarget view.now.handles.now)) }
     {
-        view.handles.lawful();
-        for h in 0..MOST_HANDLES as u64 {
-            if let Some(handle) = view.handles.get(h) {
-                if handle.kind.is_root() && handle.target != 0 {
-                    self.meet(view, handle.target, Origin::Handle(h))?;
-                }
+        let mut from = 0;
+        while let Some((number, handle)) = view.handles.next_from(from, 0) {
+            if handle.kind.is_root() && handle.target != 0 {
+                self.meet(view, handle.target, Origin::Handle(number))?;
             }
+            from = number + 1;
         }
         Ok(())
     }

@@ -9,7 +9,7 @@ ghost use Rattle.clr_sos.specs.Reaching.{entry_of, IsObjectOf, place_at};
 ghost use Rattle.clr_sos.specs.RootTexts.{AreBehind, IsRootOrigin, IsTrail, origin_line, place_line, TellsRoot};
 ghost use Rattle.clr_sos.specs.Views.{IsLawfulView, IsViewOf};
 
-use crate::reach::{Entry, Origin, reach_to};
+use crate::reach::{FoundObject, Origin, reach_to};
 use crate::text::{put_address, put_number};
 use crate::{SosFault, View};
 use clr_generations::object_at;
@@ -41,7 +41,6 @@ pub fn gcroot(alloc: Global, view: &View<'_>, a: u64) -> Result<Vec<u8>, SosFaul
         → ((result ≡ Err SosFault.NoObject) ↔ (object_of m.objects a ≡ None)) }
     ensures no_type { result ≢ Err SosFault.UnknownType }
 {
-    view.heap.lawful();
     let Some(_) = object_at(view.heap, view.types, view.bricks, a) else {
         return Err(SosFault::NoObject);
     };
@@ -55,7 +54,6 @@ fn text_of(alloc: Global, view: &View<'_>, a: u64) -> Result<Vec<u8>, AllocError
     requires stands { IsObjectOf view.now a }
     ensures { IfOk result (λ text. (m : Machine) → IsViewOf view.now m → TellsRoot m a text.items) }
 {
-    view.heap.lawful();
     let reached = reach_to(alloc, view, a)?;
     let mut text = Vec::new(alloc);
     let Some(last) = reached.find(a) else {
@@ -76,7 +74,7 @@ struct Trail {
 }
 
 // The root and the chain by which entry `last` was found.
-fn trail_to(alloc: Global, entries: &[Entry], last: usize) -> Result<Trail, AllocError>
+fn trail_to(alloc: Global, entries: &[FoundObject], last: usize) -> Result<Trail, AllocError>
     requires below { last < length entries.now }
     requires back { AreBehind entries.now }
     ensures { IfOk result (λ trail. (i : ℕ) × IsTrail entries.now (place_at entries.now last) i trail.places.items

@@ -2,7 +2,7 @@
 ghost use Rattle.std.specs.Prelude.{◌≡◌, ◌<◌, ◌≤◌, ◌++◌, ◌∷◌, [], codes, decimal, IfOk, OnOk};
 ghost use Rattle.std.specs.List.{enumerate_from, flat_map};
 ghost use Rattle.clr_types.specs.Segments.{reserved_sum, rest_of};
-ghost use Rattle.clr_heap.specs.View.{frame};
+ghost use Rattle.clr_heap.specs.View.{frame, IsHeap};
 ghost use Rattle.clr_model.specs.Machine.{Machine};
 ghost use Rattle.clr_model.specs.ReplyText.{segment_word};
 ghost use Rattle.clr_model.specs.Sos.{boundary_words, context_line, eeheap_text, kind_number, line, segment_line};
@@ -48,6 +48,7 @@ fn put_segments(text: &mut Vec<u8>, heap: &Heap) -> Result<u64, AllocError>
     ensures text { OnOk result
         (text.new.items ≡ text.old.items ++ flat_map (segment_line (frame heap.now)) heap.now.segments) }
     ensures reserved { IfOk result (λ bytes. bytes ≡ reserved_sum (frame heap.now)) }
+    ensures heap { IsHeap heap.now }
 {
     let mut reserved = 0;
     for k in 0..heap.segments() {
@@ -105,10 +106,10 @@ fn put_boundaries(text: &mut Vec<u8>, heap: &Heap, kind: SegKind) -> Result<(), 
 
 // Puts a line for each thread of whose context something is left at the end.
 fn put_contexts(text: &mut Vec<u8>, heap: &Heap) -> Result<(), AllocError>
+    requires { IsHeap heap.now }
     ensures { OnOk result
         (text.new.items ≡ text.old.items ++ flat_map context_line (enumerate_from 1 heap.now.rests)) }
 {
-    heap.lawful();
     for k in 0..THREADS {
         put_context(text, heap, k + 1)?;
     }

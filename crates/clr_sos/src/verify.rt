@@ -69,7 +69,6 @@ fn fault(view: &View<'_>, room: &mut [u64]) -> Option<u64>
     ensures heap { IsHeap view.now.heap.now }
     ensures fault { result ≡ first_fault view.now.types.now view.now.large view.now.heap.now view.now.locals.now }
 {
-    view.heap.lawful();
     match segments_fault(view.heap, view.types, view.large) {
         Some(address) => Some(address),
         None => names_fault(view.heap, view.types, view.locals, room),

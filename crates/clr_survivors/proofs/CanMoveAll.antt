@@ -44,7 +44,7 @@ use Rattle.clr_survivors.specs.declared.roots.Roots.{Roots}
 use Rattle.clr_survivors.proofs.LeftGoes.{left-goes, none-null}
 use Rattle.clr_survivors.proofs.OldParts.{memory_old_parts}
 use Rattle.clr_survivors.proofs.PinsTold.{frame-kept, marked-kept}
-use Rattle.clr_moves.specs.declared.parts.Parts.TheVariants.{Generations}
+use Rattle.clr_moves.specs.declared.condemned.Condemned.TheVariants.{Generations}
 
 -- one of the objects stands at the place
 abbrev StandsIn : List Object → ℕ → Type 0

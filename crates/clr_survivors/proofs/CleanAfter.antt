@@ -58,7 +58,7 @@ use Rattle.clr_survivors.proofs.PartsAbove.{moves-above}
 use Rattle.clr_survivors.proofs.PaddingWords.{no-reference, none-starts}
 use Rattle.clr_survivors.proofs.CanMoveAll.{left-stands, left-view}
 use Rattle.clr_survivors.proofs.PinsTold.{none-pinned}
-use Rattle.clr_moves.specs.declared.parts.Parts.TheVariants.{Generations}
+use Rattle.clr_moves.specs.declared.condemned.Condemned.TheVariants.{Generations}
 
 -- ---- headers
 

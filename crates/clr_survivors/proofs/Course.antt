@@ -15,7 +15,7 @@ use Rattle.clr_model.specs.Machine.{Machine}
 use Rattle.clr_model.specs.Sweep.{has_condemned_part, segments_after, survivors}
 use Rattle.clr_view.specs.Memory.{is_left_name, IsMemoryOf, TestsMarks}
 use Rattle.clr_view.specs.View.{AreFreeHeads, layout_in}
-use Rattle.clr_moves.specs.declared.parts.Parts.TheVariants.{Generations}
+use Rattle.clr_moves.specs.declared.condemned.Condemned.TheVariants.{Generations}
 use Rattle.clr_moves.specs.declared.planned.Planned.{Planned}
 use Rattle.clr_moves.specs.declared.promoted.Promoted.{Promoted}
 use Rattle.clr_pinq.specs.declared.entry.PinEntry.{PinEntry}

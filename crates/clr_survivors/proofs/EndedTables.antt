@@ -23,7 +23,7 @@ use Rattle.clr_view.specs.Memory.{is_left}
 use Rattle.clr_view.specs.View.{layout_in, objects_in}
 use Rattle.clr_moves.specs.Objects.{moved_object, relocated_object}
 use Rattle.clr_plugs.specs.BrickEntries.{BricksView}
-use Rattle.clr_moves.specs.declared.parts.Parts.TheVariants.{Generations}
+use Rattle.clr_moves.specs.declared.condemned.Condemned.TheVariants.{Generations}
 use Rattle.clr_reloc.specs.Relocated as relocated
 use Rattle.clr_reloc.specs.Relocated.{rebounded}
 use Rattle.clr_survivors.specs.Phases.{HasSettled}

@@ -35,7 +35,7 @@ use Rattle.clr_survivors.proofs.ItemsOf.{place-high}
 use Rattle.clr_survivors.proofs.PinsTold.{marked-kept}
 use Rattle.clr_survivors.proofs.RelocatedPlan.{turned, turned-mark, turned-place}
 use Rattle.clr_survivors.proofs.Standings.{full-home, large-outside, segment-of}
-use Rattle.clr_moves.specs.declared.parts.Parts.TheVariants.{Generations}
+use Rattle.clr_moves.specs.declared.condemned.Condemned.TheVariants.{Generations}
 
 -- ---- lists
 

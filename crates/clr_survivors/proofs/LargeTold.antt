@@ -37,7 +37,7 @@ use Rattle.clr_survivors.proofs.MovedList.{filter-alike, moved-list, now-in-view
 use Rattle.clr_survivors.proofs.RelocatedPlan.{turned-place}
 use Rattle.clr_survivors.proofs.Standings.{large-outside}
 use Rattle.clr_types.specs.Segments.{is_large_or_pinned}
-use Rattle.clr_moves.specs.declared.parts.Parts.TheVariants.{Generations}
+use Rattle.clr_moves.specs.declared.condemned.Condemned.TheVariants.{Generations}
 
 -- ---- lists
 

@@ -28,7 +28,7 @@ use Rattle.clr_moves.specs.Overlaid.{IsCompactionOf, MayGo}
 use Rattle.clr_moves.proofs.FromMachine.{number_of, part_segment}
 use Rattle.clr_moves.proofs.PartPlaces.{into_parts, out_of_parts}
 use Rattle.clr_moves.proofs.PlannedMoves.{are-moves, seen-compacted, seen-laid}
-use Rattle.clr_moves.specs.declared.parts.Parts.TheVariants.{Generations}
+use Rattle.clr_moves.specs.declared.condemned.Condemned.TheVariants.{Generations}
 
 -- a place that is condemned, as what a collection goes over
 pub condemned-is : (h : HeapView) (g x : ℕ) → is_condemned_place h g x ≡ nat_le (generation (frame h) x) g

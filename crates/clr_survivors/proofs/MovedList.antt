@@ -27,7 +27,7 @@ use Rattle.clr_survivors.proofs.LeftGoes.{condemned-is, part-young}
 use Rattle.clr_survivors.proofs.RelocatedPlan.{turned, turned-mark, turned-place, turned-spared}
 use Rattle.clr_survivors.proofs.Standings.{young-home}
 use Rattle.clr_types.specs.Segments.{is_large_or_pinned}
-use Rattle.clr_moves.specs.declared.parts.Parts.TheVariants.{Generations}
+use Rattle.clr_moves.specs.declared.condemned.Condemned.TheVariants.{Generations}
 
 -- ---- lists
 

@@ -24,7 +24,7 @@ use Rattle.clr_types.specs.Types.{TypeRow}
 use Rattle.clr_plugs.specs.BrickEntries.{BricksView}
 use Rattle.clr_survivors.specs.Roots.{Guides, HasMoved, NamesGo, Plan}
 use Rattle.clr_survivors.specs.declared.roots.Roots.{Roots}
-use Rattle.clr_moves.specs.declared.parts.Parts.{Parts}
+use Rattle.clr_moves.specs.declared.condemned.Condemned.{Condemned}
 
 -- ---- handles
 
@@ -109,12 +109,12 @@ le-refl n = omega arith
 
 -- ---- what is told of one place
 
-pub told : (p : Plan) (h : HeapView) (bricks : BricksView) (g : Parts) (place moved : ℕ) → Guides p h bricks g
+pub told : (p : Plan) (h : HeapView) (bricks : BricksView) (g : Condemned) (place moved : ℕ) → Guides p h bricks g
     → MayGo p.view g p.moves place → HasMoved h bricks g place moved → moved ≡ moved_by p.moves place
 told p h bricks g place moved guides may has = has.by p guides may
 
 -- what a destination says of all that holds a plan
-pub gone-by : (h : HeapView) (bricks : BricksView) (g : Parts) (place moved : ℕ)
+pub gone-by : (h : HeapView) (bricks : BricksView) (g : Condemned) (place moved : ℕ)
     → ((rows : List TypeRow) (view : HeapView) (entries : List PinEntry) (vs : List Move) (start1 start0 : ℕ)
     → HoldsPlan rows view h bricks entries g vs start1 start0 → MayGo view g vs place
     → moved ≡ moved_by vs place)
@@ -124,7 +124,7 @@ gone-by h bricks g place moved goes = record {
 }
 
 -- what a plan takes along, another of the same moves takes along
-pub names-on : (p q : Plan) (g : Parts) → q.moves ≡ p.moves
+pub names-on : (p q : Plan) (g : Condemned) → q.moves ≡ p.moves
     → ((x : ℕ) → MayGo p.view g p.moves x → MayGo q.view g q.moves x)
     → (roots : Roots) → NamesGo p g roots → NamesGo q g roots
 names-on p q g same on roots names = record {

@@ -27,7 +27,7 @@ use Rattle.clr_view.proofs.ObjectItems.{stands-item}
 use Rattle.clr_view.proofs.Padding.{padding-word, slot-below-padding}
 use Rattle.clr_view.proofs.Standing.{listed_from}
 use Rattle.clr_scan.proofs.SlotScans.{slot_number}
-use Rattle.clr_moves.specs.declared.parts.Parts.{Parts}
+use Rattle.clr_moves.specs.declared.condemned.Condemned.{Condemned}
 use Rattle.clr_reloc.specs.References.{is_reference_at, keeps, leads_to, limit_of, references_of, staying_items}
 
 -- a slot that is a reference is none of an array of bytes
@@ -64,7 +64,7 @@ module _ (rows : List TypeRow) (h : HeapView) (heap : IsHeap h) (held : IsHeld r
       let equal = ap (λ (k : Item). k.place) same in
       omega (arith, equal, place, low)
 
-  staying-listed : (g : Parts) (n : ℕ) → n ≤ length h.segments → (i : Item) → IsIn i (staying_items rows h g n)
+  staying-listed : (g : Condemned) (n : ℕ) → n ≤ length h.segments → (i : Item) → IsIn i (staying_items rows h g n)
       → IsIn i (heap_items rows h)
   staying-listed g zero most i l = elim l [ ]
   staying-listed g (suc n) most i l = elim (in_append (staying_items rows h g n) l) [
@@ -75,7 +75,7 @@ module _ (rows : List TypeRow) (h : HeapView) (heap : IsHeap h) (held : IsHeld r
   ]
 
   -- PADDING holds no reference
-  pub no-reference : (g : Parts) (j : Item) (a : ℕ) → IsIn j (heap_items rows h)
+  pub no-reference : (g : Condemned) (j : Item) (a : ℕ) → IsIn j (heap_items rows h)
       → j.place + slots_end (form_at rows j.type_id.0) j.len ≤ a → a < j.place + j.size - 8
       → is_reference_at rows (staying_items rows h g (length h.segments)) (word_address a) ≡ false
   no-reference g j a l low high =

@@ -13,11 +13,11 @@ use Rattle.clr_model.proofs.MovedPlaces.{moved-is}
 use Rattle.clr_plugs.specs.BrickEntries.{BricksView}
 use Rattle.clr_moves.specs.Moves.{AreMoves, IsInPart, move_at, takes}
 use Rattle.clr_moves.specs.Told.{TellMoves}
+use Rattle.clr_moves.proofs.FromMachine.{number_of}
 use Rattle.clr_moves.proofs.PlacesInPlugs.{outside_stays}
-use Rattle.clr_moves.proofs.PlugMoves.{number_of}
 use Rattle.clr_survivors.specs.Condemned.{condemned_from, parts_from}
-use Rattle.clr_moves.specs.declared.parts.Parts.{Parts}
-use Rattle.clr_moves.specs.declared.parts.Parts.TheVariants.{Generations, LargeSegments}
+use Rattle.clr_moves.specs.declared.condemned.Condemned.{Condemned}
+use Rattle.clr_moves.specs.declared.condemned.Condemned.TheVariants.{Generations, LargeSegments}
 
 -- the part of a segment that has one starts there or above it
 start-above : (h : HeapView) (g : ℕ) (s : SegInfo) → takes (Generations g) s ≡ true
@@ -47,7 +47,7 @@ part-above h g t place i =
     omega (arith, start, low)
 
 -- what stands below it stays
-pub below-stays : (rows : List TypeRow) (h : HeapView) (bricks : BricksView) (g : Parts) (vs : List Move) → IsHeap h
+pub below-stays : (rows : List TypeRow) (h : HeapView) (bricks : BricksView) (g : Condemned) (vs : List Move) → IsHeap h
     → TellMoves rows h bricks g vs → (place : ℕ) → place < parts_from h g → place ≡ moved_by vs place
 below-stays rows h bricks (Generations g) vs heap tell place under =
     outside_stays rows h bricks (Generations g) vs heap tell place

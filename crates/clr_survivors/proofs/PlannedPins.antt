@@ -22,7 +22,7 @@ use Rattle.clr_view.proofs.LeftNames.{name-is-place}
 use Rattle.clr_moves.specs.Moves.{age_of, part_of}
 use Rattle.clr_moves.specs.Objects.{AreRemembered, IsUntouched}
 use Rattle.clr_moves.specs.Overlaid.{IsLaidBy}
-use Rattle.clr_moves.specs.declared.parts.Parts.{Parts}
+use Rattle.clr_moves.specs.declared.condemned.Condemned.{Condemned}
 use Rattle.clr_pinq.specs.declared.entry.PinEntry.{PinEntry}
 use Rattle.clr_plan.specs.Planned.{HasPlanned}
 use Rattle.clr_plugs.specs.BrickEntries.{BricksView}
@@ -31,7 +31,7 @@ use Rattle.clr_survivors.specs.Pins.{HasPins}
 use Rattle.clr_survivors.proofs.ItemsOf.{place-high}
 use Rattle.clr_survivors.proofs.PartsAbove.{young-above}
 use Rattle.clr_survivors.proofs.PinnedFrom.{pins-above, table_from}
-use Rattle.clr_moves.specs.declared.parts.Parts.TheVariants.{Generations}
+use Rattle.clr_moves.specs.declared.condemned.Condemned.TheVariants.{Generations}
 
 -- the machine with this table of handles
 abbrev pub with_handles : Machine → FinMap nat_cmp Handle → Machine
@@ -80,8 +80,8 @@ survivors-from rows h g heap held m kept memory =
         (pins-above (condemned_from h g) o.name (omega (arith, up, name)) (omega (arith, high, name)) m.handles)
 
 -- so what is planned for the one machine is planned for the other
-pub planned-from : (rows : List TypeRow) (h new : HeapView) (bricks : BricksView) (entries : List PinEntry) (g : Parts)
-    (m : Machine) (table : FinMap nat_cmp Handle) (kept : ℕ → Bool) (start1 start0 : ℕ)
+pub planned-from : (rows : List TypeRow) (h new : HeapView) (bricks : BricksView) (entries : List PinEntry)
+    (g : Condemned) (m : Machine) (table : FinMap nat_cmp Handle) (kept : ℕ → Bool) (start1 start0 : ℕ)
     → survivors (with_handles m table) (age_of g) kept ≡ survivors m (age_of g) kept
     → HasPlanned rows h new bricks entries g (with_handles m table) kept start1 start0
     → HasPlanned rows h new bricks entries g m kept start1 start0

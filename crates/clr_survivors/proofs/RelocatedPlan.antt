@@ -30,10 +30,10 @@ use Rattle.clr_moves.proofs.PlacesInPlugs.{in_part-same}
 use Rattle.clr_plugs.specs.BrickEntries.{BricksView}
 use Rattle.clr_reloc.specs.Relocated.{HasRelocated}
 use Rattle.clr_survivors.proofs.ItemsOf.{item-of}
-use Rattle.clr_moves.specs.declared.parts.Parts.{Parts}
+use Rattle.clr_moves.specs.declared.condemned.Condemned.{Condemned}
 
 module _
-    (rows : List TypeRow) (view mid : HeapView) (g : Parts) (vs : List Move)
+    (rows : List TypeRow) (view mid : HeapView) (g : Condemned) (vs : List Move)
     (r : HasRelocated rows view mid g vs)
   where
     pub shape-between : SameShape view mid

@@ -9,7 +9,7 @@ use Rattle.clr_model.specs.Compaction.{Move}
 use Rattle.clr_compact.specs.Large.{CanSlideLarge}
 use Rattle.clr_moves.specs.Objects.{IsUntouched}
 use Rattle.clr_moves.specs.Overlaid.{HoldsPlan}
-use Rattle.clr_moves.specs.declared.parts.Parts.TheVariants.{LargeSegments}
+use Rattle.clr_moves.specs.declared.condemned.Condemned.TheVariants.{LargeSegments}
 use Rattle.clr_moves.specs.declared.planned.Planned.{Planned}
 use Rattle.clr_pinq.specs.declared.entry.PinEntry.{PinEntry}
 use Rattle.clr_reloc.specs.Relocated.{HasRelocated}

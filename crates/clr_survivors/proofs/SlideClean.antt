@@ -32,7 +32,7 @@ use Rattle.clr_plan.specs.Pinned.{has_pin}
 use Rattle.clr_moves.specs.Moves.{takes}
 use Rattle.clr_moves.specs.Objects.{is_in_parts}
 use Rattle.clr_moves.specs.Overlaid.{IsOutside}
-use Rattle.clr_moves.specs.declared.parts.Parts.TheVariants.{LargeSegments}
+use Rattle.clr_moves.specs.declared.condemned.Condemned.TheVariants.{LargeSegments}
 use Rattle.clr_moves.proofs.PartPlaces.{into_parts}
 use Rattle.clr_survivors.specs.Pins.{HasPins, IsPinnedBelow, pinned_header}
 use Rattle.clr_survivors.proofs.CleanAfter.{pin-back, pin-none, pinned-moved}

@@ -38,7 +38,7 @@ use Rattle.clr_mark.proofs.Remarking.{keeps_heap}
 use Rattle.clr_moves.specs.Moves.{IsInPlug, start_of}
 use Rattle.clr_moves.specs.Objects.{is_in_parts, is_spared}
 use Rattle.clr_moves.specs.Overlaid.{HoldsPlan, MayGo}
-use Rattle.clr_moves.specs.declared.parts.Parts.TheVariants.{LargeSegments}
+use Rattle.clr_moves.specs.declared.condemned.Condemned.TheVariants.{LargeSegments}
 use Rattle.clr_moves.specs.declared.planned.Planned.{Planned}
 use Rattle.clr_moves.proofs.CompactionFills.{fills-parts}
 use Rattle.clr_moves.proofs.FilledParts.{FillsParts}

@@ -31,7 +31,7 @@ use Rattle.clr_view.specs.SlotValues.{StandsAt}
 use Rattle.clr_view.specs.View.{AreFreeHeads, layout_in, objects_in}
 use Rattle.clr_view.proofs.LeftNames.{name-is-place}
 use Rattle.clr_moves.specs.Objects.{is_in_parts, is_spared, moved_object, relocated_object}
-use Rattle.clr_moves.specs.declared.parts.Parts.TheVariants.{LargeSegments}
+use Rattle.clr_moves.specs.declared.condemned.Condemned.TheVariants.{LargeSegments}
 use Rattle.clr_moves.proofs.SegmentsBelow.{part_of_two}
 use Rattle.clr_survivors.specs.Pins.{HasPins, PinsStand}
 use Rattle.clr_survivors.proofs.FullObjects.{filter-both, filter-sorted}

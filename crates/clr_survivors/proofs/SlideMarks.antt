@@ -24,7 +24,7 @@ use Rattle.clr_view.specs.View.{IsHeld, objects_in}
 use Rattle.clr_view.proofs.CleanWords.{clean_remarked}
 use Rattle.clr_view.proofs.LeftNames.{name-is-place}
 use Rattle.clr_moves.specs.Objects.{is_in_parts, is_spared}
-use Rattle.clr_moves.specs.declared.parts.Parts.TheVariants.{LargeSegments}
+use Rattle.clr_moves.specs.declared.condemned.Condemned.TheVariants.{LargeSegments}
 use Rattle.clr_survivors.specs.Pins.{HasPins}
 use Rattle.clr_survivors.proofs.PinsTold.{marked-kept}
 

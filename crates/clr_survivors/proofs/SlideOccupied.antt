@@ -22,10 +22,10 @@ use Rattle.clr_view.specs.View.{objects_in}
 use Rattle.clr_sweep.proofs.SurvivorsSwept.{at-in}
 use Rattle.clr_moves.specs.Moves.{IsInPlug}
 use Rattle.clr_moves.specs.Objects.{is_in_parts}
-use Rattle.clr_moves.specs.declared.parts.Parts.TheVariants.{LargeSegments}
+use Rattle.clr_moves.specs.declared.condemned.Condemned.TheVariants.{LargeSegments}
+use Rattle.clr_moves.proofs.FromMachine.{number_of}
 use Rattle.clr_moves.proofs.PartPlaces.{out_of_parts}
 use Rattle.clr_moves.proofs.PlacesInPlugs.{moved_in_plug}
-use Rattle.clr_moves.proofs.PlugMoves.{number_of}
 use Rattle.clr_survivors.specs.Pins.{HasPins}
 use Rattle.clr_survivors.specs.Survivors.{HasObjects}
 use Rattle.clr_survivors.proofs.Occupied.{plug-first, some-piece}

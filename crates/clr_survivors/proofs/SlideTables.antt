@@ -15,7 +15,7 @@ use Rattle.clr_model.specs.Machine.{Machine, Object}
 use Rattle.clr_model.specs.Slide.{slid_end}
 use Rattle.clr_view.specs.View.{objects_in}
 use Rattle.clr_moves.specs.Objects.{is_left_by, moved_object, relocated_object}
-use Rattle.clr_moves.specs.declared.parts.Parts.TheVariants.{LargeSegments}
+use Rattle.clr_moves.specs.declared.condemned.Condemned.TheVariants.{LargeSegments}
 use Rattle.clr_plugs.specs.BrickEntries.{BricksView}
 use Rattle.clr_reloc.specs.Relocated as relocated
 use Rattle.clr_reloc.specs.Relocated.{rebounded}

@@ -29,7 +29,7 @@ use Rattle.clr_scan.specs.OldParts.{HaveOldParts, old_end}
 use Rattle.clr_survivors.proofs.ItemsOf.{item-of}
 use Rattle.clr_survivors.proofs.LeftGoes.{condemned-is}
 use Rattle.clr_types.specs.Segments.{is_large_or_pinned}
-use Rattle.clr_moves.specs.declared.parts.Parts.TheVariants.{Generations}
+use Rattle.clr_moves.specs.declared.condemned.Condemned.TheVariants.{Generations}
 
 -- ---- kinds
 

@@ -21,7 +21,7 @@ use Rattle.clr_generations.specs.Laws.{BrickLaw, CardLaw}
 use Rattle.clr_generations.specs.declared.space.Space.{Space}
 use Rattle.clr_mark.specs.Marks.{IsRemarked}
 use Rattle.clr_moves.specs.Objects.{is_in_parts, IsUntouched, moved_object, relocated_object}
-use Rattle.clr_moves.specs.declared.parts.Parts.TheVariants.{LargeSegments}
+use Rattle.clr_moves.specs.declared.condemned.Condemned.TheVariants.{LargeSegments}
 use Rattle.clr_moves.specs.declared.planned.Planned.{Planned}
 use Rattle.clr_pinq.specs.declared.entry.PinEntry.{PinEntry}
 use Rattle.clr_plan.specs.Planned.{HasPlanned}

@@ -14,7 +14,7 @@ use Rattle.clr_model.specs.Compaction.{Move, moved_by}
 use Rattle.clr_pinq.specs.declared.entry.PinEntry.{PinEntry}
 use Rattle.clr_plugs.specs.BrickEntries.{BricksView}
 use Rattle.clr_moves.specs.Overlaid.{HoldsPlan, MayGo}
-use Rattle.clr_moves.specs.declared.parts.Parts.{Parts}
+use Rattle.clr_moves.specs.declared.condemned.Condemned.{Condemned}
 use Rattle.clr_survivors.specs.declared.roots.Roots.{Roots}
 
 -- a plan: types, the heap with all its words, what is saved, the moves, and where generations 1 and 0 begin afterwards
@@ -27,31 +27,31 @@ pub record Plan : Type 0 where
   pub start0 : ℕ
 
 -- a heap and bricks hold it
-abbrev pub Guides : Plan → HeapView → BricksView → Parts → Type 0
+abbrev pub Guides : Plan → HeapView → BricksView → Condemned → Type 0
 Guides p h bricks g = HoldsPlan p.rows p.view h bricks p.entries g p.moves p.start1 p.start0
 
 -- one that they hold takes the place along, or leaves it
-abbrev pub CanGo : HeapView → BricksView → Parts → ℕ → Type 0
+abbrev pub CanGo : HeapView → BricksView → Condemned → ℕ → Type 0
 CanGo h bricks g place = (p : Plan) × Guides p h bricks g × MayGo p.view g p.moves place
 
 -- the place becomes `moved` by every plan that they hold and that takes it along, or leaves it
-pub record HasMoved (h : HeapView) (bricks : BricksView) (g : Parts) (place moved : ℕ) : Type 0 where
+pub record HasMoved (h : HeapView) (bricks : BricksView) (g : Condemned) (place moved : ℕ) : Type 0 where
   pub by : (p : Plan) → Guides p h bricks g → MayGo p.view g p.moves place
       → moved ≡ moved_by p.moves place
 
 -- it takes each of these places along, or leaves it
-abbrev pub AllGo : Plan → Parts → List ℕ → Type 0
+abbrev pub AllGo : Plan → Condemned → List ℕ → Type 0
 AllGo p g places = (x : ℕ) → IsIn x places → MayGo p.view g p.moves x
 
 -- and all that handles name, of which the targets of pinned ones stay
-pub record HandlesGo (p : Plan) (g : Parts) (table : FinMap nat_cmp Handle) : Type 0 where
+pub record HandlesGo (p : Plan) (g : Condemned) (table : FinMap nat_cmp Handle) : Type 0 where
   pub targets : (k : ℕ) (row : Handle) → finmap.get table k ≡ Some row → MayGo p.view g p.moves row.target
   pub seconds : (k : ℕ) (row : Handle) → finmap.get table k ≡ Some row → MayGo p.view g p.moves row.second
   pub pinned : (k : ℕ) (row : Handle) → finmap.get table k ≡ Some row → is_pinned_kind row.kind ≡ true
       → moved_by p.moves row.target ≡ row.target
 
 -- so it is with locals, handles, entries and the f-reachable queue
-pub record NamesGo (p : Plan) (g : Parts) (roots : Roots) : Type 0 where
+pub record NamesGo (p : Plan) (g : Condemned) (roots : Roots) : Type 0 where
   pub locals_go : AllGo p g roots.locals.items
   pub handles_go : HandlesGo p g roots.handles
   pub entries_go : AllGo p g roots.finals.entries

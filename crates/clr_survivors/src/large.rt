@@ -23,7 +23,7 @@ use clr_compact::slide_large;
 use clr_generations::Space;
 use clr_heap::Heap;
 use clr_mark::mark_large;
-use clr_moves::{Parts, Planned};
+use clr_moves::{Condemned, Planned};
 use clr_pinq::PinQueue;
 use clr_plan::plan_large;
 use clr_reloc::relocate;
@@ -57,7 +57,7 @@ pub fn slide_large_heap(types: &Types, space: &mut Space, roots: &mut Roots, pin
     ensures numbers { KeepsNumbers roots.old roots.new }
 {
     plan_slide(types, space, roots, pins);
-    let planned = kept_boundaries(&space.heap);
+    let planned = Planned::unmoved(&space.heap);
     slide_by_plan(types, space, roots, pins, &planned);
     set_pins(&mut space.heap, types, &roots.handles, 1, false);
 }
@@ -73,24 +73,9 @@ fn plan_slide(types: &Types, space: &mut Space, roots: &Roots, pins: &mut PinQue
         → HasPlannedSlide types.now space.old space.new pins.new.entries roots.now.handles m }
     ensures spare { pins.old.spare ≡ pins.new.spare + length pins.new.entries }
 {
-    roots.handles.lawful();
     mark_large(&mut space.heap, types);
     set_pins(&mut space.heap, types, &roots.handles, 1, true);
     plan_large(&mut space.heap, types, &mut space.bricks, pins);
-}
-
-// The answer of a plan after which the generations begin where they do.
-fn kept_boundaries(heap: &Heap) -> Planned
-    ensures start1 { result.start1 ≡ heap.now.start1 }
-    ensures start0 { result.start0 ≡ heap.now.start0 }
-{
-    let (start1, start0) = heap.boundaries();
-    Planned {
-        start1,
-        start0,
-        below: 0,
-        first: 0,
-    }
 }
 
 // Slides large objects by the plan, and all names with them.
@@ -122,10 +107,9 @@ fn slide_by_plan(
         &mut space.cards,
         &space.bricks,
         pins,
-        Parts::LargeSegments,
+        Condemned::LargeSegments,
         planned,
     );
-    move_roots(&space.heap, &space.bricks, Parts::LargeSegments, roots);
+    move_roots(&space.heap, &space.bricks, Condemned::LargeSegments, roots);
     slide_large(&mut space.heap, types, &mut space.bricks, pins);
-    space.heap.lawful();
 }

@@ -24,7 +24,7 @@ use crate::roots::{Roots, move_roots};
 use clr_compact::{Slides, compact};
 use clr_generations::Space;
 use clr_handles::Handles;
-use clr_moves::{Parts, Planned, Promoted};
+use clr_moves::{Condemned, Planned, Promoted};
 use clr_pinq::PinQueue;
 use clr_plan::plan;
 use clr_reloc::relocate;
@@ -71,7 +71,6 @@ pub fn move_survivors(
     let planned = plan_pinned(types, space, roots, pins, g, low);
     let promoted = move_by_plan(types, space, roots, pins, slides, g, &planned);
     settle(types, space, &roots.handles, g, low);
-    space.heap.lawful();
     promoted
 }
 
@@ -94,7 +93,6 @@ fn plan_pinned(
         → HasPlannedPinned types.now space.old space.new pins.new.entries roots.now.handles g m kept result }
     ensures spare { pins.old.spare ≡ pins.new.spare + length pins.new.entries }
 {
-    roots.handles.lawful();
     set_pins(&mut space.heap, types, &roots.handles, low, true);
     plan(&mut space.heap, types, &mut space.bricks, pins, g)
 }
@@ -125,18 +123,18 @@ fn move_by_plan(
     ensures cards { spans space.new.cards ≡ spans space.old.cards }
     ensures bricks { spans space.new.bricks ≡ spans space.old.bricks }
 {
-    let parts = Parts::Generations(g);
+    let condemned = Condemned::Generations(g);
     relocate(
         &mut space.heap,
         types,
         &mut space.cards,
         &space.bricks,
         pins,
-        parts,
+        condemned,
         planned,
     );
-    move_roots(&space.heap, &space.bricks, parts, roots);
-    let promoted = compact(
+    move_roots(&space.heap, &space.bricks, condemned, roots);
+    compact(
         &mut space.heap,
         types,
         &mut space.bricks,
@@ -144,9 +142,7 @@ fn move_by_plan(
         g,
         planned,
         slides,
-    );
-    space.heap.lawful();
-    promoted
+    )
 }
 
 // Takes the marks of what pinned handles name from `low` on from the headers, and sweeps large segments where `g` is 2.

@@ -1,5 +1,7 @@
 // The header bits of pinned objects.
-ghost use Rattle.std.specs.Prelude.{◌≡◌, ◌-◌, ◌<◌, ◌≤◌, MatchBool, true};
+ghost use Rattle.std.specs.Prelude.{◌≡◌, ◌-◌, ◌<◌, ◌≤◌, ℕ, MatchBool, Some, true};
+ghost use Rattle.std.specs.FinMap as finmap;
+ghost use Rattle.clr_types.specs.declared.handle.Handle.{Handle as Row};
 ghost use Rattle.clr_heap.specs.View.{IsHeap, stored, word_of};
 ghost use Rattle.clr_view.specs.SlotValues.{StandsAt};
 ghost use Rattle.clr_view.specs.View.{IsHeld};
@@ -16,9 +18,9 @@ use clr_types::{Handle, Types, header};
 pub fn set_pins(heap: &mut Heap, types: &Types, handles: &Handles, low: u64, on: bool)
     requires held { IsHeld types.now heap.old }
     requires stand { PinsStand types.now heap.old handles.now }
-    ensures { HasPins types.now heap.old heap.new handles.now low 65536 on }
+    ensures pins { HasPins types.now heap.old heap.new handles.now low 65536 on }
+    ensures below { (h : ℕ) (row : Row) → finmap.get handles.now h ≡ Some row → h < 65536 }
 {
-    handles.lawful();
     let near = heap.ephemeral();
     let mut from = 0;
     while let Some((number, handle)) = handles.next_from(from, low) {

@@ -95,6 +95,7 @@ module _ (rows : List TypeRow) (old : HeapView) (heap : IsHeap old) (held : IsHe
       free_heads = large-heads rows old mid heap held none heap_low a;
       limit = large-limit rows old mid heap held none heap_low a;
       rests = large-rests rows old mid heap held none heap_low a;
+      heap = new_heap;
       held = large-held rows old mid heap held none heap_low a;
     }
 

@@ -1,4 +1,5 @@
 pub mod Rules
+pub mod LawfulHeaps
 pub mod Filters
 pub mod FreeHeads
 pub mod Filling

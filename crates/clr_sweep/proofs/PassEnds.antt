@@ -31,6 +31,7 @@ use Rattle.clr_sweep.specs.declared.pass.Pass.{Pass}
 use Rattle.clr_sweep.specs.declared.tally.Tally.{Tally}
 use Rattle.clr_view.proofs.FreeHeads.{heads_none}
 use Rattle.clr_sweep.proofs.FreeHeads.{items_of_parts}
+use Rattle.clr_sweep.proofs.LawfulHeaps.{ended_heap, shaped_heap}
 use Rattle.clr_sweep.proofs.Passing.{Bounds, bounds, IsHome, IsPassing}
 use Rattle.clr_sweep.proofs.Tallies.{at_most_up, plus-none}
 
@@ -206,6 +207,11 @@ module _ (rows : List TypeRow) (old : HeapView) (k : ℕ) (heap : IsHeap old) (f
           free_heads = subst (HaveFreeHeads (word_of now)) (sym list_is) s.low_heads;
           outside = s.outside;
         })
+
+    pub pass_lawful : IsHeap (record now { segments = set now.segments k (ended_at pass.last (segment_at now k)) })
+    pass_lawful =
+        let can = can_end in
+        ended_heap now k pass.last (shaped_heap old now s.shape heap) can.in_range can.above can.below can.aligned
 
     -- and all its items are counted
     pub pass_counts : pass.tally ≡ plus before (tally_among old (items_from rows old k from))

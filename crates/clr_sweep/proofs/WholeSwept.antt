@@ -46,8 +46,8 @@ module _ (rows : List TypeRow) (old new : HeapView) (swept : HasSweptItems rows 
       ∙ ap (λ (x : Machine). swept_layout x.layout 2 (survivors x 2 kept)) (sym (memory-seen rows old m memory_too))
 
   -- THE SWEEP of all generations, in the machine's words
-  pub has_swept : (base : Machine) × IsMemoryOf rows old base × IsLaid base → HasSwept rows old new 2
-  has_swept (base, memory, laid) = record {
+  pub has_swept : IsHeap new → (base : Machine) × IsMemoryOf rows old base × IsLaid base → HasSwept rows old new 2
+  has_swept new_heap (base, memory, laid) = record {
     objects = swept_objects rows old new swept heap held
         ∙ filter-on (is_marked old) (is_left old 2) (objects_in rows old)
         (λ o l. sym (ap (λ (b : Bool). not b || is_marked old o) (all_swept_over old o.place)));
@@ -59,6 +59,7 @@ module _ (rows : List TypeRow) (old new : HeapView) (swept : HasSweptItems rows 
     unmarked = λ x marked. absurd (swept_unmarked rows old new swept heap held x marked);
     free_heads = λ _. swept.free_heads;
     limit = swept_limit rows old new swept heap held;
+    heap = new_heap;
     held = swept_held rows old new swept heap held none;
   }
 

@@ -44,6 +44,7 @@ module _ (rows : List TypeRow) (old : HeapView) (heap : IsHeap old) (held : IsHe
       unmarked = young-unmarked rows old laid.0 heap held none as-seen g young w.k w.in_range w.young w.between w.swept;
       free_heads = young-heads rows old laid.0 heap held none as-seen g young w.k w.in_range w.young w.between w.swept;
       limit = young-limit rows old laid.0 heap held none as-seen g young w.k w.in_range w.young w.between w.swept;
+      heap = swept_heap;
       held = young-held rows old laid.0 heap held none as-seen g young w.k w.in_range w.young w.between w.swept;
     }
 

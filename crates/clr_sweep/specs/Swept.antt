@@ -7,7 +7,7 @@ use Rattle.clr_types.specs.Segments.{generation, Layout}
 use Rattle.clr_types.specs.Types.{TypeRow}
 use Rattle.clr_types.specs.declared.item.Item.{Item}
 use Rattle.clr_types.specs.declared.segment.SegKind.TheVariants.{Large}
-use Rattle.clr_heap.specs.View.{frame, heap_items, HeapView, last_of, segment_at, word_of}
+use Rattle.clr_heap.specs.View.{frame, heap_items, HeapView, IsHeap, last_of, segment_at, word_of}
 use Rattle.clr_model.specs.Lookups.{object_size}
 use Rattle.clr_model.specs.Machine.{Machine, Object}
 use Rattle.clr_model.specs.Sweep.{has_condemned_part, part_start, Survivor, survivors, swept_others, swept_small}
@@ -48,6 +48,7 @@ pub record HasSwept (rows : List TypeRow) (old new : HeapView) (g : ℕ) : Type 
   pub unmarked : (x : ℕ) → Marked rows new x → g < generation (frame old) x
   pub free_heads : (g ≡ 2) ⊎ AreFreeHeads rows old → AreFreeHeads rows new
   pub limit : new.limit ≡ old.limit
+  pub heap : IsHeap new
   pub held : IsHeld rows new
 
 -- whether a sweep of generation g goes over the object and finds it marked

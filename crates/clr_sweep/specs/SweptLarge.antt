@@ -12,7 +12,7 @@ use Rattle.clr_bricks.specs.Bricks.{entry_at}
 use Rattle.clr_covers.specs.Covers.{CoverView, spans}
 use Rattle.clr_generations.specs.Laws.{AreEntered, IsBrickOf}
 use Rattle.clr_generations.specs.Renewing.{AreLeft, left_in}
-use Rattle.clr_heap.specs.View.{first_of, frame, heap_items, HeapView, segment_at, word_of}
+use Rattle.clr_heap.specs.View.{first_of, frame, heap_items, HeapView, IsHeap, segment_at, word_of}
 use Rattle.clr_model.specs.Lookups.{object_piece}
 use Rattle.clr_model.specs.Machine.{Object}
 use Rattle.clr_model.specs.Sweep.{Survivor, survivor_pieces, swept_others}
@@ -46,6 +46,7 @@ pub record HasSweptLarge (rows : List TypeRow) (old new : HeapView) : Type 0 whe
   pub free_heads : AreFreeHeads rows old → AreFreeHeads rows new
   pub limit : new.limit ≡ old.limit
   pub rests : new.rests ≡ old.rests
+  pub heap : IsHeap new
   pub held : IsHeld rows new
 
 -- ---- one segment after the other

@@ -1,6 +1,6 @@
 // The bytes that a collection would keep, and those of the parts of the small heap that it would go over.
 ghost use Rattle.std.specs.Prelude.{◌≡◌, ℕ, ◌+◌, ◌<◌, ◌≤◌, ◌^◌, ◌&&◌, Bool, true, false, if◌then◌else◌, length};
-ghost use Rattle.clr_heap.specs.View.{first_of, frame, heap_items, IsWalkable, last_of, listing, no_rests, segment_at};
+ghost use Rattle.clr_heap.specs.View.{first_of, frame, heap_items, IsHeap, last_of, listing, no_rests, segment_at};
 ghost use Rattle.clr_model.specs.Collection as collection;
 ghost use Rattle.clr_model.specs.Lawful.{IsLaid};
 ghost use Rattle.clr_model.specs.Machine.{Machine};
@@ -31,7 +31,6 @@ pub fn kept_bytes(heap: &Heap, types: &Types, g: u8) -> u64
     ensures { (m : Machine) (kept : ℕ → Bool) → IsMemoryOf types.now heap.now m → TestsMarks types.now heap.now g kept
         → result ≡ collection.kept_bytes m.layout (survivors m g kept) }
 {
-    heap.lawful();
     if g == 2 {
         return small_bytes(heap, types);
     }
@@ -44,7 +43,8 @@ pub fn kept_bytes(heap: &Heap, types: &Types, g: u8) -> u64
 fn small_bytes(heap: &Heap, types: &Types) -> u64
     requires held { IsHeld types.now heap.now }
     requires no_contexts { heap.now.rests ≡ no_rests }
-    ensures { result ≡ kept_small heap.now (heap_items types.now heap.now) }
+    ensures bytes { result ≡ kept_small heap.now (heap_items types.now heap.now) }
+    ensures heap { IsHeap heap.now }
 {
     let count = heap.segments();
     let mut bytes = 0;
@@ -92,7 +92,6 @@ fn part_bytes(heap: &Heap, types: &Types, k: usize, from: u64, before: u64) -> u
     ensures bytes { result ≡ before + kept_size heap.now (items_from types.now heap.now k from) }
     ensures fits { result ≤ last_of heap.now k }
 {
-    heap.lawful();
     let end = heap.info(k).end;
     let mut place = from;
     let mut bytes = before;

@@ -1,6 +1,6 @@
 // Counting what a collection would keep and free.
 ghost use Rattle.std.specs.Prelude.{◌≡◌, ℕ, ◌+◌, ◌<◌, ◌≤◌, Bool, length};
-ghost use Rattle.clr_heap.specs.View.{first_of, heap_items, last_of, no_rests};
+ghost use Rattle.clr_heap.specs.View.{first_of, last_of, no_rests};
 ghost use Rattle.clr_model.specs.Collection.{kept_bytes};
 ghost use Rattle.clr_model.specs.Lawful.{IsLaid};
 ghost use Rattle.clr_model.specs.Machine.{Machine};
@@ -34,7 +34,6 @@ pub fn count(heap: &Heap, types: &Types, g: u8) -> Tally
         → TestsMarks types.now heap.now g kept
         → result.promoted1 + result.promoted2 ≡ kept_bytes m.layout (survivors m g kept) }
 {
-    heap.lawful();
     if g == 2 {
         return count_whole(heap, types);
     }
@@ -43,11 +42,11 @@ pub fn count(heap: &Heap, types: &Types, g: u8) -> Tally
     count_part(heap, types, k, from, Tally::NONE)
 }
 
-// The same for all generations, told by the items of each segment.
+// The same for all generations.
 fn count_whole(heap: &Heap, types: &Types) -> Tally
     requires held { IsHeld types.now heap.now }
     requires no_contexts { heap.now.rests ≡ no_rests }
-    ensures { result ≡ tally_among heap.now (heap_items types.now heap.now) }
+    ensures { result ≡ tally_of types.now heap.now 2 }
 {
     let count = heap.segments();
     let mut tally = Tally::NONE;
@@ -67,7 +66,6 @@ fn count_part(heap: &Heap, types: &Types, k: usize, from: u64, before: Tally) ->
     ensures tally { result ≡ plus before (tally_among heap.now (items_from types.now heap.now k from)) }
     ensures counted { IsAtMost result (last_of heap.now k) }
 {
-    heap.lawful();
     let end = heap.info(k).end;
     let mut place = from;
     let mut tally = before;

@@ -35,19 +35,20 @@ pub fn sweep_large(heap: &mut Heap, types: &Types, bricks: &mut Bricks)
     ensures brick_law { BrickLaw types.now (frame heap.new) (objects_in types.now heap.new) (entry_at bricks.new) }
     ensures spans { spans bricks.new ≡ spans bricks.old }
 {
-    heap.lawful();
+    let count = heap.segments();
     let (start1, start0) = heap.boundaries();
     // No generation begins in a large segment. Below all segments, the boundaries cut no free item in two.
     heap.set_boundaries(0, 0);
-    heap.lawful();
-    renew_large_bricks(heap, types, bricks);
-    sweep_large_segments(heap, types);
+    renew_large_bricks(heap, types, bricks, count);
+    sweep_large_segments(heap, types, count);
     heap.set_boundaries(start1, start0);
-    heap.lawful();
 }
 
-// Renews the bricks of the large segments while the marks stand, where no generation begins in any segment.
-fn renew_large_bricks(heap: &Heap, types: &Types, bricks: &mut Bricks)
+// Renews the bricks of the large ones of the `count` segments while the marks stand, where no generation begins in any
+// segment.
+fn renew_large_bricks(heap: &Heap, types: &Types, bricks: &mut Bricks, count: usize)
+    requires heap { IsHeap heap.now }
+    requires count { count ≡ length heap.now.segments }
     requires held { IsHeld types.now heap.now }
     requires no_contexts { heap.now.rests ≡ no_rests }
     requires below { heap.now.start0 ≡ 0 }
@@ -55,7 +56,6 @@ fn renew_large_bricks(heap: &Heap, types: &Types, bricks: &mut Bricks)
     requires law { HaveLargeBricks types.now heap.now bricks.old }
     ensures { AreLargeRenewed types.now heap.now bricks.old bricks.new }
 {
-    let count = heap.segments();
     for k in 0..count {
         renew_if_large(heap, types, bricks, k);
     }
@@ -96,13 +96,15 @@ fn renew_if_large(heap: &Heap, types: &Types, bricks: &mut Bricks, k: usize)
     }
 }
 
-// Sweeps each large segment, where no generation begins in any segment.
-fn sweep_large_segments(heap: &mut Heap, types: &Types)
+// Sweeps each large one of the `count` segments, where no generation begins in any segment.
+fn sweep_large_segments(heap: &mut Heap, types: &Types, count: usize)
+    requires heap { IsHeap heap.old }
+    requires count { count ≡ length heap.old.segments }
     requires held { IsHeld types.now heap.old }
     requires no_contexts { heap.old.rests ≡ no_rests }
-    ensures { AreSwept types.now heap.old heap.new (is_large heap.old) }
+    ensures swept { AreSwept types.now heap.old heap.new (is_large heap.old) }
+    ensures lawful { IsHeap heap.new }
 {
-    let count = heap.segments();
     for k in 0..count {
         sweep_if_large(heap, types, k);
     }
@@ -116,6 +118,7 @@ fn sweep_if_large(heap: &mut Heap, types: &Types, k: usize)
     ensures large { is_large heap.old k ≡ true
         → HasSweptSegment types.now heap.old heap.new k (first_of heap.old k) }
     ensures small { is_large heap.old k ≡ false → heap.new ≡ heap.old }
+    ensures lawful { IsHeap heap.new }
 {
     let segment = heap.info(k);
     if is_large_or_pinned(segment.kind) {

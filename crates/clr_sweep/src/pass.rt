@@ -2,7 +2,7 @@
 ghost use Rattle.std.specs.Prelude.{◌≡◌, ℕ, ◌+◌, ◌-◌, ◌<◌, ◌≤◌, ◌^◌, ◌⊎◌, ◌&&◌, length, if◌then◌else◌};
 ghost use Rattle.clr_heap.specs.Memories.{HasWord, memory_index};
 ghost use Rattle.clr_heap.specs.Parts.{item_at, unmarked};
-ghost use Rattle.clr_heap.specs.View.{freed, last_of, no_rests, stored, word_of};
+ghost use Rattle.clr_heap.specs.View.{freed, IsHeap, last_of, no_rests, stored, word_of};
 ghost use Rattle.clr_view.specs.Marks.{has_mark};
 ghost use Rattle.clr_view.specs.View.{is_object};
 ghost use Rattle.clr_sweep.specs.Passes.{CanFill, CanStep, filled, IsAtMost, item_tally, plus, stepped, stepped_heap};
@@ -39,8 +39,8 @@ pub(crate) fn sweep_segment(
     ensures swept { HasSweptSegment types.now heap.old heap.new k from }
     ensures tally { result ≡ plus tally (tally_among heap.old (items_from types.now heap.old k from)) }
     ensures counted { IsAtMost result (last_of heap.old k) }
+    ensures lawful { IsHeap heap.new }
 {
-    heap.lawful();
     let segment = heap.info(k);
     let mut pass = Pass {
         place: from,

@@ -42,7 +42,6 @@ pub fn sweep(heap: &mut Heap, types: &Types, bricks: &mut Bricks, g: u8) -> Tall
     ensures brick_law { BrickLaw types.now (frame heap.new) (objects_in types.now heap.new) (entry_at bricks.new) }
     ensures spans { spans bricks.new ≡ spans bricks.old }
 {
-    heap.lawful();
     if g == 2 {
         sweep_whole(heap, types, bricks)
     } else {
@@ -50,26 +49,24 @@ pub fn sweep(heap: &mut Heap, types: &Types, bricks: &mut Bricks, g: u8) -> Tall
     }
 }
 
-// The same for all generations, told by the items of each segment.
+// The same for all generations.
 fn sweep_whole(heap: &mut Heap, types: &Types, bricks: &mut Bricks) -> Tally
     requires held { IsHeld types.now heap.old }
     requires no_contexts { heap.old.rests ≡ no_rests }
     requires laid { (m : Machine) × IsMemoryOf types.now heap.old m × IsLaid m }
     requires bricks { AreBricksOf (frame heap.old) bricks.old }
     requires brick_law { BrickLaw types.now (frame heap.old) (objects_in types.now heap.old) (entry_at bricks.old) }
-    ensures swept { HasSweptItems types.now heap.old heap.new }
-    ensures tally { result ≡ tally_among heap.old (heap_items types.now heap.old) }
+    ensures swept { HasSwept types.now heap.old heap.new 2 }
+    ensures tally { result ≡ tally_of types.now heap.old 2 }
     ensures brick_law { BrickLaw types.now (frame heap.new) (objects_in types.now heap.new) (entry_at bricks.new) }
     ensures spans { spans bricks.new ≡ spans bricks.old }
 {
-    heap.lawful();
+    let count = heap.segments();
     renew_all_bricks(heap, types, bricks);
-    let tally = sweep_segments(heap, types);
-    heap.lawful();
-    tally
+    sweep_segments(heap, types, count)
 }
 
-// The same for generation 0 or for the generations 0 and 1, told by the items of the ephemeral segment.
+// The same for generation 0 or for the generations 0 and 1.
 fn sweep_part(heap: &mut Heap, types: &Types, bricks: &mut Bricks, g: u8) -> Tally
     requires held { IsHeld types.now heap.old }
     requires no_contexts { heap.old.rests ≡ no_rests }
@@ -77,8 +74,8 @@ fn sweep_part(heap: &mut Heap, types: &Types, bricks: &mut Bricks, g: u8) -> Tal
     requires generation { g ≤ 1 }
     requires bricks { AreBricksOf (frame heap.old) bricks.old }
     requires brick_law { BrickLaw types.now (frame heap.old) (objects_in types.now heap.old) (entry_at bricks.old) }
-    ensures swept { HasSweptYoung types.now heap.old heap.new g result }
-    ensures heap { IsHeap heap.new }
+    ensures swept { HasSwept types.now heap.old heap.new g }
+    ensures tally { result ≡ tally_of types.now heap.old g }
     ensures brick_law { BrickLaw types.now (frame heap.new) (objects_in types.now heap.new) (entry_at bricks.new) }
     ensures spans { spans bricks.new ≡ spans bricks.old }
 {
@@ -88,15 +85,17 @@ fn sweep_part(heap: &mut Heap, types: &Types, bricks: &mut Bricks, g: u8) -> Tal
     sweep_young(heap, types, g)
 }
 
-// Sweeps each segment, whatever the bricks say.
-fn sweep_segments(heap: &mut Heap, types: &Types) -> Tally
+// Sweeps each of the `count` segments, whatever the bricks say. The clauses speak of the items of each.
+fn sweep_segments(heap: &mut Heap, types: &Types, count: usize) -> Tally
+    requires heap { IsHeap heap.old }
+    requires count { count ≡ length heap.old.segments }
     requires held { IsHeld types.now heap.old }
     requires no_contexts { heap.old.rests ≡ no_rests }
     ensures swept { HasSweptItems types.now heap.old heap.new }
     ensures tally { result ≡ tally_among heap.old (heap_items types.now heap.old) }
+    ensures lawful { IsHeap heap.new }
 {
     let mut tally = Tally::NONE;
-    let count = heap.segments();
     for k in 0..count {
         let from = heap.info(k).base + FIRST_OFFSET;
         tally = sweep_segment(heap, types, k, from, tally);
@@ -105,19 +104,18 @@ fn sweep_segments(heap: &mut Heap, types: &Types) -> Tally
     tally
 }
 
-// Sweeps the young part of the ephemeral segment, whatever the bricks say.
+// Sweeps the young part of the ephemeral segment, whatever the bricks say. The clauses speak of the items there.
 fn sweep_young(heap: &mut Heap, types: &Types, g: u8) -> Tally
     requires no_contexts { heap.old.rests ≡ no_rests }
     requires parted { (k : ℕ) → k < length heap.old.segments → segment_at heap.old k ≡ ephemeral (frame heap.old)
         → IsParted types.now heap.old k (young_start heap.old g) }
     ensures swept { HasSweptYoung types.now heap.old heap.new g result }
-    ensures heap { IsHeap heap.new }
+    ensures lawful { IsHeap heap.new }
 {
     let k = heap.ephemeral();
     let from = start_of(heap, g);
     let tally = sweep_segment(heap, types, k, from, Tally::NONE);
     age(heap, g);
-    heap.lawful();
     tally
 }
 
@@ -132,7 +130,8 @@ pub(crate) fn start_of(heap: &Heap, g: u8) -> u64
 // What was generation 0 begins where generation 1 ends, what was generation 1 is older now, and generation 0 begins at
 // the end of the ephemeral segment.
 fn age(heap: &mut Heap, g: u8)
-    ensures { heap.new ≡ aged heap.old g }
+    ensures aged { heap.new ≡ aged heap.old g }
+    ensures lawful { IsHeap heap.new }
 {
     let tail = heap.info(heap.ephemeral()).end;
     let (start1, start0) = heap.boundaries();

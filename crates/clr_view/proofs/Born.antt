@@ -455,6 +455,7 @@ module _ (rows : List TypeRow) (h : HeapView) (thread : ℕ) (r : Piece) (t n : 
     objects = objects-born
         ∙ ap (λ q. sorted_by (λ (o : Object). o.name) (objects_in rows h ++ newborn_at rows q t n ∷ [])) (sym front-is);
     layout = layout-born;
+    heap = heap-grown;
     held = held-grown;
   }
 

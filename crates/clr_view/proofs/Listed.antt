@@ -7,6 +7,7 @@ use Rattle.clr_types.specs.declared.item.Item.{Item}
 use Rattle.clr_types.proofs.RisingLists.{all_at, in_cons}
 use Rattle.clr_heap.specs.Parts.{Among, item_at, item_part, items_in, NamesItem, Part, rest_part, Sight, Spells}
 use Rattle.clr_heap.specs.Parts.{type_number}
+use Rattle.clr_heap.specs.Memories.{HasWord}
 use Rattle.clr_heap.specs.View.{first_of, HasItem, heap_items, HeapView, IsHeap, last_of, listing, listings, parts_of}
 use Rattle.clr_heap.specs.View.{sight, word_of}
 use Rattle.clr_heap.proofs.Framing.{below_top_at, lawful_at}
@@ -126,3 +127,10 @@ module _ (rows : List TypeRow) (h : HeapView) (i : Item) (heap : IsHeap h) (held
       let same = ap (λ (x : Item). x.size) listed-spelled.0 in
       let most = listed-spelled.1.most in
       omega (arith, sized, same, most)
+
+-- whether the heap is lawful or not, its method table word can be read
+pub listed_word : (rows : List TypeRow) (h : HeapView) (i : Item) → IsHeld rows h → IsIn i (heap_items rows h)
+    → HasWord h.memories i.place
+listed_word rows h i held listed =
+    let (k, in_range, there) = listed-in rows h i 0 (length h.segments) listed in
+    (words_of_item rows h k i (held.walkable k (omega (arith, in_range))) (part-among (parts_of rows h k) i there)).0

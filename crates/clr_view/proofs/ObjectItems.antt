@@ -6,12 +6,13 @@ use Rattle.clr_types.specs.declared.item.Item.{Item}
 use Rattle.clr_types.proofs.ChangedLists.{into_filter, IsIn-map, out_of_filter, rising-distinct}
 use Rattle.clr_types.proofs.RisingLists.{in_cons}
 use Rattle.clr_types.proofs.SortedLists.{find_by-member}
+use Rattle.clr_heap.specs.Memories.{HasWord}
 use Rattle.clr_heap.specs.Parts.{item_at}
 use Rattle.clr_heap.specs.View.{HasItem, heap_items, HeapView, IsHeap, word_of}
 use Rattle.clr_model.specs.Machine.{Object}
 use Rattle.clr_view.specs.View.{IsHeld, is_object, object_in, objects_in}
 use Rattle.clr_view.specs.SlotValues.{IsObjectAt, StandsAt}
-use Rattle.clr_view.proofs.Listed.{listed-head, listed-known, listed-small, listed-spelled}
+use Rattle.clr_view.proofs.Listed.{listed-head, listed-known, listed-small, listed-spelled, listed_word}
 use Rattle.clr_view.proofs.Listings.{heap-rise}
 use Rattle.clr_view.proofs.Rises.{objects-rise}
 
@@ -71,3 +72,12 @@ module _ (rows : List TypeRow) (h : HeapView) (heap : IsHeap h) (held : IsHeld r
     -- THE OBJECT AT A PLACE: the item that the words there spell
     pub stands-item : IsObjectAt rows h place (item_at rows (word_of h) place)
     stands-item = subst (IsObjectAt rows h place) spelled this
+
+-- whether the heap is lawful or not, the word at an object's place can be read
+pub stands_word : (rows : List TypeRow) (h : HeapView) (place : ℕ) → IsHeld rows h → StandsAt rows h place
+    → HasWord h.memories place
+stands_word rows h place held stands =
+    let (i, among, is) = in_map (object_in rows (word_of h)) stands.0 (filter is_object (heap_items rows h)) stands.1 in
+    let at : i.place ≡ place = ap (λ (o : Object). o.place) is ∙ stands.2 in
+    let listed = (out_of_filter is_object i (heap_items rows h) among).1 in
+    subst (HasWord h.memories) at (listed_word rows h i held listed)

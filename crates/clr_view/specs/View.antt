@@ -12,7 +12,7 @@ use Rattle.clr_types.specs.declared.shape.Slot.{Slot}
 use Rattle.clr_heap.specs.Memories.{word_address}
 use Rattle.clr_types.specs.declared.segment.SegKind.TheVariants.{Ephemeral}
 use Rattle.clr_heap.specs.Parts.{Among, item_piece, rest_part}
-use Rattle.clr_heap.specs.View.{AreWalkable, frame, heap_items, HeapView, parts_of, segment_at, word_of}
+use Rattle.clr_heap.specs.View.{AreWalkable, frame, heap_items, HeapView, IsHeap, parts_of, segment_at, word_of}
 use Rattle.clr_model.specs.Machine.{Value, ref, num, Object}
 use Rattle.clr_model.specs.Allocation.{context_front, front_taken, IsRefilled}
 use Rattle.clr_model.specs.Updates.{all_given_up, empty_slots, with_slot_of}
@@ -134,6 +134,7 @@ pub record HasNewborn (rows : List TypeRow) (old new : HeapView) (thread t n : �
   pub objects : objects_in rows new
       ≡ sorted_by (λ o. o.name) (objects_in rows old ++ newborn_at rows (context_front (frame old) thread) t n ∷ [])
   pub layout : layout_in rows new ≡ front_taken (layout_in rows old) thread (size_of (form_at rows t) n)
+  pub heap : IsHeap new
   pub held : IsHeld rows new
 
 -- ---- contexts
@@ -147,6 +148,7 @@ pub record HasRefilled (rows : List TypeRow) (old new : HeapView) (thread size :
   pub free_heads : AreFreeHeads rows old → AreFreeHeads rows new
   pub clean : AreClean rows old → AreClean rows new
   pub limit : new.limit ≡ old.limit
+  pub heap : IsHeap new
   pub held : IsHeld rows new
 
 -- the old heap where every context is given up
@@ -157,6 +159,7 @@ pub record HasGivenUp (rows : List TypeRow) (old new : HeapView) : Type 0 where
   pub free_heads : AreFreeHeads rows old → AreFreeHeads rows new
   pub clean : AreClean rows old → AreClean rows new
   pub limit : new.limit ≡ old.limit
+  pub heap : IsHeap new
   pub held : IsHeld rows new
 
 -- ---- stores

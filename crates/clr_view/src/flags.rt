@@ -1,5 +1,6 @@
 // Whether objects have finalisers, and whether these are suppressed.
-ghost use Rattle.std.specs.Prelude.{◌≡◌, true};
+ghost use Rattle.std.specs.Prelude.{◌≡◌, ◌-◌, true};
+ghost use Rattle.clr_heap.specs.View.{IsHeap, word_of};
 ghost use Rattle.clr_view.specs.Clean.{AreClean};
 ghost use Rattle.clr_view.specs.Flags.{HasFlagged, is_final_at, is_suppressed_at, with_flag_at};
 ghost use Rattle.clr_view.specs.Marks.{IsUnmarked};
@@ -26,8 +27,7 @@ pub fn is_suppressed(heap: &Heap, types: &Types, place: u64) -> bool
     requires stands { StandsAt types.now heap.now place }
     ensures { result ≡ is_suppressed_at types.now heap.now place }
 {
-    heap.lawful();
-    header::is_suppressed(heap.word(place - 8))
+    header::is_suppressed(header_of(heap, types, place))
 }
 
 /// Says in the header of the object at a place whether its finaliser is suppressed.
@@ -45,8 +45,18 @@ pub fn set_suppressed(heap: &mut Heap, types: &Types, place: u64, flag: bool)
     ensures clean { (flag ≡ true → is_final_at types.now heap.old place ≡ true) →
         AreClean types.now heap.old → AreClean types.now heap.new }
 {
+    let word = header_of(heap, types, place);
+    heap.set_word(place - 8, header::with_suppressed(word, flag));
+}
+
+// The header of the object at a place.
+#[inline]
+fn header_of(heap: &Heap, types: &Types, place: u64) -> u64
+    requires held { IsHeld types.now heap.now }
+    requires stands { StandsAt types.now heap.now place }
+    ensures value { result ≡ word_of heap.now (place - 8) }
+    ensures heap { IsHeap heap.now }
+{
     heap.lawful();
-    let at = place - 8;
-    let word = heap.word(at);
-    heap.set_word(at, header::with_suppressed(word, flag));
+    heap.word(place - 8)
 }

@@ -1,8 +1,8 @@
 // Objects by their places, and the values of their slots.
-ghost use Rattle.std.specs.Prelude.{◌≡◌, ◌<◌, ◌≤◌, true, length};
+ghost use Rattle.std.specs.Prelude.{◌≡◌, ◌<◌, true};
 ghost use Rattle.clr_types.specs.Rising.{IsIn};
 ghost use Rattle.clr_types.specs.Types.{form_at, is_bytes};
-ghost use Rattle.clr_heap.specs.View.{heap_items, word_of};
+ghost use Rattle.clr_heap.specs.View.{heap_items, IsHeap, word_of};
 ghost use Rattle.clr_view.specs.View.{AreFreeHeads, IsHeld};
 ghost use Rattle.clr_view.specs.Clean.{AreClean};
 ghost use Rattle.clr_view.specs.Marks.{IsUnmarked};
@@ -32,9 +32,9 @@ pub fn slot_value(heap: &Heap, types: &Types, item: &Item, slot: Slot) -> u64
     requires slot { HasSlot types.now item.now slot }
     ensures { HasSlotValue types.now (word_of heap.now) item.now slot result }
 {
-    heap.lawful();
+    let byte = is_byte(heap, types, item, slot);
     let address = item.place + slot.offset;
-    if is_byte(types, item, slot) {
+    if byte {
         u64::from(heap.byte(address))
     } else {
         heap.word(address)
@@ -58,22 +58,25 @@ pub fn set_slot_value(heap: &mut Heap, types: &Types, item: &Item, slot: Slot, v
     ensures free_heads { AreFreeHeads types.now heap.old → AreFreeHeads types.now heap.new }
     ensures clean { AreClean types.now heap.old → AreClean types.now heap.new }
 {
-    heap.lawful();
+    let byte = is_byte(heap, types, item, slot);
     let target = item.place + slot.offset;
-    if is_byte(types, item, slot) {
+    if byte {
         heap.set_byte(target, value as u8);
     } else {
         heap.set_word(target, value);
     }
 }
 
-// Whether a slot of an item is a byte.
+// Whether a slot of an item of the heap is a byte.
 #[inline(always)]
-fn is_byte(types: &Types, item: &Item, slot: Slot) -> bool
-    requires known { item.now.type_id.0 ≤ length types.now }
+fn is_byte(heap: &Heap, types: &Types, item: &Item, slot: Slot) -> bool
+    requires held { IsHeld types.now heap.now }
+    requires listed { IsIn item.now (heap_items types.now heap.now) }
     requires slot { HasSlot types.now item.now slot }
-    ensures { result ≡ is_bytes (form_at types.now item.now.type_id.0) }
+    ensures value { result ≡ is_bytes (form_at types.now item.now.type_id.0) }
+    ensures heap { IsHeap heap.now }
 {
+    heap.lawful();
     if slot.reference {
         return false;
     }

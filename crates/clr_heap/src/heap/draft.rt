@@ -7,7 +7,7 @@ ghost use Rattle.clr_types.specs.declared.segment.SegInfo.{SegInfo as Segment};
 ghost use Rattle.clr_heap.specs.Drafts.{drafted, empty_heap, has_kind, is_young, IsNextHead};
 ghost use Rattle.clr_heap.specs.Memories.{shape_of};
 
-use super::segments::{make_room, push_both};
+use super::segments::{push_both, reserve_both};
 use super::{Heap, no_contexts};
 use clr_mem::{Mem, NoMemory};
 use clr_types::{FIRST_OFFSET, SegInfo, SegKind, Span};
@@ -149,7 +149,7 @@ impl HeapDraft {
         ensures added { OnOk result (self.new ≡ drafted self.old head memory) }
         ensures err { OnErr result (self.new ≡ self.old) }
     {
-        make_room(&mut self.memories, &mut self.segments)?;
+        reserve_both(&mut self.memories, &mut self.segments)?;
         push_both(&mut self.memories, &mut self.segments, memory, head.info);
         (self.start1, self.start0) = boundaries_with(&head, self.start1, self.start0);
         self.top = head.info.base + head.info.reserved;

@@ -67,7 +67,7 @@ impl Heap {
             return Err(AcquireFault::NoMemory);
         }
         let memory = Mem::new(self.alloc, base, size)?;
-        make_room(&mut self.memories, &mut self.segments)?;
+        reserve_both(&mut self.memories, &mut self.segments)?;
         let k = self.segments.len();
         let segment = SegInfo::empty(kind, base, size);
         if kind == SegKind::Ephemeral {
@@ -116,7 +116,7 @@ fn reserved_by(segments: &Vec<SegInfo>) -> u64
 /// Makes room for one more of each.
 ///
 /// `NoMemory` comes where there is no memory for it. Both keep their items always.
-pub fn make_room(memories: &mut Vec<Mem>, segments: &mut Vec<SegInfo>) -> Result<(), NoMemory>
+pub fn reserve_both(memories: &mut Vec<Mem>, segments: &mut Vec<SegInfo>) -> Result<(), NoMemory>
     ensures memories { memories.new.items ≡ memories.old.items }
     ensures segments { segments.new.items ≡ segments.old.items }
     ensures room { OnOk result ((vec_len memories.new < vec_capacity memories.new)

@@ -1,5 +1,7 @@
 // Passes over the handles that may name condemned objects.
-ghost use Rattle.std.specs.Prelude.{IfNone, IfSome};
+ghost use Rattle.std.specs.Prelude.{◌≡◌, ◌<◌, ℕ, IfNone, IfSome, Some};
+ghost use Rattle.std.specs.FinMap as finmap;
+ghost use Rattle.clr_types.specs.declared.handle.Handle.{Handle as Row};
 ghost use Rattle.clr_mark.specs.HandlePasses.{AllArePassed, HasTaken};
 
 use clr_handles::Handles;
@@ -18,8 +20,8 @@ impl Ahead {
     pub(crate) fn next(&mut self, handles: &Handles, low: u64) -> Option<Handle>
         ensures taken { IfSome result (λ row. HasTaken handles.now low self.old self.new row) }
         ensures none { IfNone result (AllArePassed handles.now low self.old) }
+        ensures below { (h : ℕ) (row : Row) → finmap.get handles.now h ≡ Some row → h < 65536 }
     {
-        handles.lawful();
         match *self {
             Ahead::From(number) => {
                 let (found, handle) = handles.next_from(number, low)?;

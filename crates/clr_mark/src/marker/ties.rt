@@ -33,7 +33,6 @@ impl Marker {
             ↔ Reach (Draws types.now heap.old handles.now self.old.oldest)
             (λ y. Marked types.now heap.old y ⊎ IsTiedToOld types.now heap.old handles.now self.old.oldest y) x }
     {
-        handles.lawful();
         self.drain_slots(heap, types);
         // Passes in both directions by turns: a chain whose numbers rise or fall takes two or three, any other about
         // one for each turn of its numbers.
@@ -54,7 +53,7 @@ impl Marker {
         requires gray { IsGray types.now heap.old self.old }
         requires idle { IsIdle self.old }
         requires handles { HandlesStand types.now heap.old handles.now }
-        requires all { NoneIsBehind handles.now ahead }
+        requires all { NoneIsBehind ahead }
         ensures marker { self.new ≡ self.old }
         ensures gray { IsGray types.now heap.new self.new }
         ensures reached { HasReached types.now (Draws types.now heap.old handles.now self.old.oldest)

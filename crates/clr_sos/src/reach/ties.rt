@@ -4,7 +4,7 @@ ghost use Rattle.std.specs.List.Sorted.{IsNonDecreasingBy};
 ghost use Rattle.clr_sos.specs.Reaching.{AreTies, ListsTies};
 ghost use Rattle.clr_sos.specs.declared.reach.ties.Tie.{Tie as Row};
 
-use clr_handles::{Handles, MOST_HANDLES};
+use clr_handles::Handles;
 use std::alloc::{AllocError, Global};
 
 /// What a dependent handle ties: the place of its second object to that of its primary.
@@ -27,17 +27,16 @@ pub(crate) fn ties_of(alloc: Global, handles: &Handles) -> Result<Vec<Tie>, Allo
 fn list_ties(alloc: Global, handles: &Handles) -> Result<Vec<Tie>, AllocError>
     ensures { IfOk result (λ ties. ListsTies handles.now ties.items) }
 {
-    handles.lawful();
     let mut ties = Vec::new(alloc);
-    for h in 0..MOST_HANDLES as u64 {
-        if let Some(handle) = handles.get(h) {
-            if handle.kind.is_dependent() && handle.second != 0 {
-                ties.push(Tie {
-                    primary: handle.target,
-                    second: handle.second,
-                })?;
-            }
+    let mut from = 0;
+    while let Some((number, handle)) = handles.next_from(from, 0) {
+        if handle.kind.is_dependent() && handle.second != 0 {
+            ties.push(Tie {
+                primary: handle.target,
+                second: handle.second,
+            })?;
         }
+        from = number + 1;
     }
     Ok(ties)
 }

@@ -42,8 +42,6 @@ pub fn checked_item(scan: &Scan<'_>, next: u64, place: u64) -> Result<Item, u64>
     requires next { IsNext (holes_of scan.now.heap.now scan.now.k) place next }
     ensures { result ≡ cells.checked_item (rules_in scan.now) (words_in scan.now.heap.now) place }
 {
-    scan.heap.lawful();
-    let _ = scan.heap.info(scan.k);
     let header = scan.heap.word_at(scan.k, place - 8);
     if !is_inside(scan.limits.end, next, place, 24) {
         return Err(place - 8);
@@ -80,7 +78,6 @@ fn typed_item(
     if !may_hold(scan.types, scan.limits.kind, type_id) {
         return Err(place);
     }
-    scan.heap.lawful();
     let len = if scan.types.has_length(type_id) {
         scan.heap.word_at(scan.k, place + 8)
     } else {
@@ -119,7 +116,6 @@ fn sized_item(
     ensures { result ≡ cells.sized_item (rules_in scan.now) (words_in scan.now.heap.now) place type_id.0 len
         (cells.checked_size (rules_in scan.now) place type_id.0 len) }
 {
-    let _ = scan.heap.info(scan.k);
     let size = checked_size(scan.types, scan.limits, next, place, type_id, len)?;
     match contents_fault(scan, place, type_id, len, size) {
         Some(a) => Err(a),
@@ -221,8 +217,6 @@ fn contents_fault(scan: &Scan<'_>, place: u64, type_id: TypeId, len: u64, size: 
     if padding == 0 {
         return None;
     }
-    scan.heap.lawful();
-    let _ = scan.heap.info(scan.k);
     let last = place + size - 16;
     first_byte(
         place + size - 8 - padding,

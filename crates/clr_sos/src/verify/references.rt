@@ -5,7 +5,7 @@ ghost use Rattle.clr_types.specs.ReferenceRuns.{SpellsReferences};
 ghost use Rattle.clr_types.specs.Rising.{IsIn};
 ghost use Rattle.clr_types.specs.Types.{form_at};
 ghost use Rattle.clr_heap.specs.Memories.{HasWord, memory_index};
-ghost use Rattle.clr_heap.specs.View.{AreWalkable, heap_items, listing, word_of};
+ghost use Rattle.clr_heap.specs.View.{AreWalkable, heap_items, IsHeap, listing, word_of};
 ghost use Rattle.clr_sos.specs.CheckedCells.{or_else};
 ghost use Rattle.clr_sos.specs.Faults.{addresses, item_addresses, locals_fault, lower, references_fault};
 ghost use Rattle.clr_sos.specs.Windows.{CanJudge, is_bad_by, lowest_bad};
@@ -27,6 +27,7 @@ pub struct Judge<'a> {
 // The first fault of the references, and else that of the locals. The bits are room to work in, one for each word of a
 // window.
 pub fn names_fault(heap: &Heap, types: &Types, locals: &[u64], bits: &mut [u64]) -> Option<u64>
+    requires heap { IsHeap heap.now }
     requires walkable { AreWalkable types.now heap.now }
     requires some { 0 < length bits.old }
     ensures { result
@@ -93,7 +94,6 @@ fn judge_item(judge: &Judge<'_>, k: usize, item: Item, low: Option<u64>) -> Opti
     requires listed { IsIn item (listing judge.now.types.now judge.now.heap.now k) }
     ensures { result ≡ lowest_bad judge.now low (item_addresses judge.now.types.now item) }
 {
-    judge.heap.lawful();
     match judge.types.reference_run(item.type_id, item.len) {
         Some(run) => judge_run(judge, k, item, run, low),
         None => judge_slots(judge, k, item, low),
@@ -115,7 +115,6 @@ fn judge_run(
     requires run { SpellsReferences (form_at judge.now.types.now item.type_id.0) item.len run }
     ensures { result ≡ lowest_bad judge.now low (item_addresses judge.now.types.now item) }
 {
-    judge.heap.lawful();
     let mut low = low;
     for i in 0..run.count {
         let a = item.place + (run.offset + 8 * i);
@@ -131,8 +130,6 @@ fn judge_slots(judge: &Judge<'_>, k: usize, item: Item, low: Option<u64>) -> Opt
     requires listed { IsIn item (listing judge.now.types.now judge.now.heap.now k) }
     ensures { result ≡ lowest_bad judge.now low (item_addresses judge.now.types.now item) }
 {
-    judge.heap.lawful();
-    let _ = judge.types.count();
     let mut low = low;
     for offset in judge.types.slots(item.type_id, item.len) {
         let a = item.place + offset;

@@ -1,7 +1,7 @@
 // The first pass: ends, boundaries and items.
 ghost use Rattle.std.specs.Prelude.{◌≡◌, ℕ, ◌+◌, ◌*◌, ◌-◌, ◌<◌, ◌≤◌, ◌^◌, length};
 ghost use Rattle.clr_heap.specs.Parts.{hole_from};
-ghost use Rattle.clr_heap.specs.View.{holes_of};
+ghost use Rattle.clr_heap.specs.View.{holes_of, IsHeap};
 ghost use Rattle.clr_sos.specs.Faults as verify;
 ghost use Rattle.clr_sos.specs.Faults.{AreInside, items_fault_of};
 ghost use Rattle.clr_sos.specs.CellScans.{are_ordered, IsNext, limits_of};
@@ -13,7 +13,8 @@ use clr_types::Types;
 // The first fault of the segments, where objects of `large` bytes and more are large.
 pub fn segments_fault(heap: &Heap, types: &Types, large: u64) -> Option<u64>
     requires { AreInside heap.now }
-    ensures { result ≡ verify.segments_fault types.now large heap.now 0 (length heap.now.segments) }
+    ensures fault { result ≡ verify.segments_fault types.now large heap.now 0 (length heap.now.segments) }
+    ensures heap { IsHeap heap.now }
 {
     for k in 0..heap.segments() {
         match segment_fault(heap, types, large, k) {
@@ -86,7 +87,6 @@ fn items_fault(scan: &Scan<'_>) -> Option<u64>
     requires rests { AreInside scan.now.heap.now }
     ensures { result ≡ items_fault_of scan.now.types.now scan.now.limits.large scan.now.heap.now scan.now.k }
 {
-    scan.heap.lawful();
     let mut place = scan.heap.info(scan.k).first_place();
     let mut next = first_hole(scan.heap, scan.k, place);
     while place < scan.limits.end {

@@ -40,21 +40,20 @@ pub slide_and_release-requires-clause-tidy : goal.slide_and_release-requires-cla
 slide_and_release-requires-clause-tidy c =
     tidy_swept (world_of c.args.types.now c.args.space.now.heap c.args.roots.now) c.mark_kept.new.space
     c.mark_kept.new.roots.handles c.mark_kept.new.roots.finals c.args.g c.requires.generation c.mark_kept.ensures.kept
-    c.sweep-swept.new.heap c.lawful.ensures c.sweep-swept.ensures.swept c.requires.world c.mark_kept.ensures.tidy
+    c.sweep-swept.new.heap c.sweep-swept.ensures.swept c.requires.world c.mark_kept.ensures.tidy
     c.sweep-swept.new.bricks c.sweep-swept.ensures.spans c.sweep-swept.ensures.brick_law
 
 pub slide_and_release-requires-clause-no_contexts : goal.slide_and_release-requires-clause-no_contexts
 slide_and_release-requires-clause-no_contexts c =
     none_given (world_of c.args.types.now c.args.space.now.heap c.args.roots.now)
     c.mark_kept.new.space.heap c.mark_kept.new.roots.handles c.mark_kept.new.roots.finals c.args.g c.requires.generation
-    c.mark_kept.ensures.kept c.sweep-swept.new.heap c.lawful.ensures c.sweep-swept.ensures.swept
-    c.requires.world
+    c.mark_kept.ensures.kept c.sweep-swept.new.heap c.sweep-swept.ensures.swept c.requires.world
 
 pub slide_and_release-requires-clause-unmarked : goal.slide_and_release-requires-clause-unmarked
 slide_and_release-requires-clause-unmarked c =
     swept-unmarked (world_of c.args.types.now c.args.space.now.heap c.args.roots.now)
     c.mark_kept.new.space.heap c.mark_kept.new.roots.handles c.mark_kept.new.roots.finals c.args.g c.requires.generation
-    c.mark_kept.ensures.kept c.sweep-swept.new.heap c.lawful.ensures c.sweep-swept.ensures.swept
+    c.mark_kept.ensures.kept c.sweep-swept.new.heap c.sweep-swept.ensures.swept
 
 pub slide_and_release-requires-clause-world : goal.slide_and_release-requires-clause-world
 slide_and_release-requires-clause-world c =

@@ -26,16 +26,15 @@ pub release_after-requires-clause-tidy : goal.release_after-requires-clause-tidy
 release_after-requires-clause-tidy c =
     tidy_swept (world_of c.args.types.now c.args.space.now.heap c.args.roots.now) c.mark_found_kept.new.space
     c.mark_found_kept.new.roots.handles c.mark_found_kept.new.roots.finals 2 (omega arith)
-    c.mark_found_kept.ensures.kept c.sweep-swept.new.heap c.lawful.ensures c.sweep-swept.ensures.swept
-    c.requires.world c.mark_found_kept.ensures.tidy c.sweep-swept.new.bricks c.sweep-swept.ensures.spans
+    c.mark_found_kept.ensures.kept c.sweep-swept.new.heap c.sweep-swept.ensures.swept c.requires.world
+    c.mark_found_kept.ensures.tidy c.sweep-swept.new.bricks c.sweep-swept.ensures.spans
     c.sweep-swept.ensures.brick_law
 
 pub release_after-requires-clause-no_contexts : goal.release_after-requires-clause-no_contexts
 release_after-requires-clause-no_contexts c =
     none_given (world_of c.args.types.now c.args.space.now.heap c.args.roots.now)
     c.mark_found_kept.new.space.heap c.mark_found_kept.new.roots.handles c.mark_found_kept.new.roots.finals 2 (omega
-    arith) c.mark_found_kept.ensures.kept c.sweep-swept.new.heap c.lawful.ensures c.sweep-swept.ensures.swept
-    c.requires.world
+    arith) c.mark_found_kept.ensures.kept c.sweep-swept.new.heap c.sweep-swept.ensures.swept c.requires.world
 
 pub returns-clause-collected : goal.returns-clause-collected
 returns-clause-collected c =
@@ -43,7 +42,7 @@ returns-clause-collected c =
     let (next, ends, world) = last_pause_ends (world_of c.args.types.now c.args.space.now.heap c.args.roots.now)
     (marking_in (objects_in c.args.types.now c.args.space.now.heap) c.args.background.now.shades)
     c.mark_found_kept.new.space.heap c.mark_found_kept.new.roots.handles c.mark_found_kept.new.roots.finals (omega
-    arith) c.mark_found_kept.ensures.kept c.sweep-swept.new.heap c.lawful.ensures c.sweep-swept.ensures.swept
+    arith) c.mark_found_kept.ensures.kept c.sweep-swept.new.heap c.sweep-swept.ensures.swept
     c.release_after.new.space.heap c.release_after.ensures.released
     c.sweep-swept.result c.sweep-swept.ensures.tally _
     (ap (λ (a : Collected). record a { background = true }) c.answer.ensures) m is named idle in (
@@ -58,21 +57,21 @@ pub returns-clause-unmarked : goal.returns-clause-unmarked
 returns-clause-unmarked c =
     none_marked (world_of c.args.types.now c.args.space.now.heap c.args.roots.now)
     c.mark_found_kept.new.space.heap c.mark_found_kept.new.roots.handles c.mark_found_kept.new.roots.finals 2 (omega
-    arith) c.mark_found_kept.ensures.kept c.sweep-swept.new.heap c.lawful.ensures c.sweep-swept.ensures.swept
+    arith) c.mark_found_kept.ensures.kept c.sweep-swept.new.heap c.sweep-swept.ensures.swept
     c.release_after.new.space.heap c.release_after.ensures.released
 
 pub returns-clause-index : goal.returns-clause-index
 returns-clause-index c =
     new_index (world_of c.args.types.now c.args.space.now.heap c.args.roots.now)
     c.mark_found_kept.new.space.heap c.mark_found_kept.new.roots.handles c.mark_found_kept.new.roots.finals 2 (omega
-    arith) c.mark_found_kept.ensures.kept c.sweep-swept.new.heap c.lawful.ensures c.sweep-swept.ensures.swept
+    arith) c.mark_found_kept.ensures.kept c.sweep-swept.new.heap c.sweep-swept.ensures.swept
     c.release_after.new.space.heap c.release_after.ensures.released c.requires.world c.forget.new.self c.forget.ensures
 
 pub returns-clause-limit : goal.returns-clause-limit
 returns-clause-limit c =
     limit_after (world_of c.args.types.now c.args.space.now.heap c.args.roots.now)
     c.mark_found_kept.new.space.heap c.mark_found_kept.new.roots.handles c.mark_found_kept.new.roots.finals 2 (omega
-    arith) c.mark_found_kept.ensures.kept c.sweep-swept.new.heap c.lawful.ensures c.sweep-swept.ensures.swept
+    arith) c.mark_found_kept.ensures.kept c.sweep-swept.new.heap c.sweep-swept.ensures.swept
     c.release_after.new.space.heap c.release_after.ensures.released
 
 pub returns-clause-pinned : goal.returns-clause-pinned

@@ -4,14 +4,15 @@ use Rattle.clr_heap.proofs.Rewrite.{SameShape-refl}
 use Rattle.clr_plugs.specs.Info.{HasInfo, IsInfoWord}
 use Rattle.clr_pinq.specs.Queue.{IsPlain, logical}
 use Rattle.clr_moves.specs.Moves.{part_of, takes}
+use Rattle.clr_moves.proofs.Kept.{heap-kept}
 use Rattle.clr_compact.proofs.BeforeParts.{IsPuttingBefore, part_info, part_still, put_more, put_outside, put_plain}
 use Rattle.clr_compact.proofs.BeforeParts.{put_skip, putting_before_begins, takes_still, three_words}
 use Rattle.clr_compact.proofs.before.put_before_parts.Goals as goal
 use Rattle.clr_compact.proofs.before.put_before_parts.Goals.{then-takes_part+then-next_saved-start}
 use Rattle.clr_compact.proofs.before.put_before_parts.Goals.{then-takes_part+else-next_saved-start, else-takes_part}
 
-pub words_before-saved-requires : goal.words_before-saved-requires
-words_before-saved-requires c =
+pub words_before-saved-requires-clause-info : goal.words_before-saved-requires-clause-info
+words_before-saved-requires-clause-info c =
     let h = c.args.heap.now in
     let p = c.loop-k.invariant in
     let n = c.segments-count.ensures.count in
@@ -27,8 +28,8 @@ words_before-saved-requires c =
     (part_info h c.loop-k.heap c.args.g k c.segments-count.ensures.heap p.shape inside
     (c.requires.starts k inside on))
 
-pub put_before-requires : goal.put_before-requires
-put_before-requires c =
+pub put_before-requires-clause-info : goal.put_before-requires-clause-info
+put_before-requires-clause-info c =
     let h = c.args.heap.now in
     let p = c.loop-k.invariant in
     let n = c.segments-count.ensures.count in
@@ -95,6 +96,10 @@ loop-k-preserved c =
 
 pub loop-k-init : goal.loop-k-init
 loop-k-init c = putting_before_begins c.args.heap.now c.args.pins.now.entries c.args.g
+
+pub returns-clause-lawful : goal.returns-clause-lawful
+returns-clause-lawful c =
+    heap-kept c.args.heap.now c.loop-k.heap c.loop-k.invariant.shape c.segments-count.ensures.heap
 
 pub returns-clause-outside : goal.returns-clause-outside
 returns-clause-outside c = let n = c.segments-count.ensures.count in let l = c.loop-k-test.false in

@@ -2,7 +2,8 @@ use Rattle.std.proofs.Common.{subst}
 use Rattle.clr_bricks.specs.Bricks.{entry_at}
 use Rattle.clr_heap.specs.View.{frame, HeapView}
 use Rattle.clr_generations.specs.Tables.{AreBricksOf}
-use Rattle.clr_moves.specs.declared.parts.Parts.TheVariants.{LargeSegments}
+use Rattle.clr_moves.specs.declared.condemned.Condemned.TheVariants.{LargeSegments}
+use Rattle.clr_moves.proofs.Kept.{heap-kept}
 use Rattle.clr_compact.proofs.SlidBricks.{mid-bricks}
 use Rattle.clr_compact.proofs.SlidLarge.{slid_walkable, slide_done, slide_enters, slide_law}
 use Rattle.clr_compact.proofs.large.slide_large.Goals as goal
@@ -26,8 +27,13 @@ enter_whole_parts-requires-clause-bricks c =
 pub returns-clause-compacted : goal.returns-clause-compacted
 returns-clause-compacted c = λ view vs plan.
     slide_done c.args.types.now view c.args.heap.now c.args.bricks.now c.args.pins.now.entries vs plan
-    c.slide_plan.new.heap (c.slide_plan.ensures.slid view vs plan.overlaid plan.told) c.lawful.ensures
-    c.enter_whole_parts.new.heap c.enter_whole_parts.ensures.shape c.enter_whole_parts.ensures.words c.lawful-2.ensures
+    c.slide_plan.new.heap (c.slide_plan.ensures.slid view vs plan.overlaid plan.told) c.slide_plan.ensures.lawful
+    c.enter_whole_parts.new.heap c.enter_whole_parts.ensures.shape c.enter_whole_parts.ensures.words
+
+pub returns-clause-lawful : goal.returns-clause-lawful
+returns-clause-lawful c =
+    heap-kept c.slide_plan.new.heap c.enter_whole_parts.new.heap c.enter_whole_parts.ensures.shape
+    c.slide_plan.ensures.lawful
 
 pub returns-clause-brick_law : goal.returns-clause-brick_law
 returns-clause-brick_law c =
@@ -38,11 +44,12 @@ returns-clause-brick_law c =
     let mid = c.slide_plan.new.heap in
     let fin = c.enter_whole_parts.new.heap in
     let slid = c.slide_plan.ensures.slid can.view can.moves plan.overlaid plan.told in
+    let heap = c.slide_plan.ensures.lawful in
     let done = c.enter_whole_parts.ensures in
-    slide_law rows can.view c.args.heap.now old c.args.pins.now.entries can.moves plan mid slid c.lawful.ensures fin
-    done.shape done.words c.lawful-2.ensures old can.entry can.law can.others
+    slide_law rows can.view c.args.heap.now old c.args.pins.now.entries can.moves plan mid slid heap fin
+    done.shape done.words old can.entry can.law can.others
     (entry_at c.enter_whole_parts.new.bricks)
     (done.parts fin
-    (slide_enters rows can.view c.args.heap.now old c.args.pins.now.entries can.moves plan mid slid c.lawful.ensures fin
-    done.shape done.words c.lawful-2.ensures))
+    (slide_enters rows can.view c.args.heap.now old c.args.pins.now.entries can.moves plan mid slid heap fin
+    done.shape done.words))
     done.others

@@ -1,12 +1,12 @@
 use Rattle.std.proofs.Common.{◌≡◌, [], drop, arith, subst, sym, ℕ}
-use Rattle.clr_moves.specs.Lines.{HasGiven}
+use Rattle.clr_moves.specs.PlugMoves.{HasGiven}
 use Rattle.clr_compact.proofs.PassingPlugs.{IsPassing, kind-differs, kind-same, of-none, of-some}
 use Rattle.clr_compact.proofs.PassingPlugs.{passing-ends, passing-finds, passing-more, passing-starts, passing-up}
 use Rattle.clr_compact.proofs.next_plugs.next_of_kind.Goals as goal
 
 pub loop-plug-init : goal.loop-plug-init
 loop-plug-init c = λ vs start from.
-    passing-starts c.args.types.now c.args.heap.now c.args.bricks.now c.args.g c.args.going vs start c.args.line.now
+    passing-starts c.args.types.now c.args.heap.now c.args.bricks.now c.args.g c.args.going vs start c.args.moves.now
     from
 
 pub next-requires : goal.next-requires
@@ -23,7 +23,7 @@ returns-then-to-start c = λ vs start from.
     (HasGiven c.args.types.now c.args.heap.now c.args.bricks.now c.args.g c.next.new.self (drop p.count vs))
     c.next.result c.in-Some.plug c.in-Some.is (c.next.ensures (drop p.count vs) p.gives) in
     passing-finds c.args.types.now c.args.heap.now c.args.bricks.now c.args.g c.args.going vs start from.rising
-    c.loop-plug.line c.loop-plug.place p c.next.new.self c.in-Some.plug given
+    c.loop-plug.moves c.loop-plug.place p c.next.new.self c.in-Some.plug given
     (kind-same c.in-Some.plug c.to.result c.start.result c.args.going c.to.ensures c.start.ensures c.if-to-start.true)
 
 pub loop-plug-smaller : goal.loop-plug-smaller
@@ -36,7 +36,7 @@ loop-plug-smaller c =
     c.next.result c.in-Some.plug c.in-Some.is (c.next.ensures (drop p.count vs) p.gives) in
     let (up, high) =
     passing-up c.args.types.now c.args.heap.now c.args.bricks.now c.args.g c.args.going vs start from.rising
-    c.loop-plug.line c.loop-plug.place p c.next.new.self c.in-Some.plug given in
+    c.loop-plug.moves c.loop-plug.place p c.next.new.self c.in-Some.plug given in
     let at = c.start-place.ensures in
     omega (arith, up, high, at)
 
@@ -52,7 +52,7 @@ loop-plug-preserved c = λ vs start from.
     n in
     subst P (sym c.start-place.ensures)
     (passing-more c.args.types.now c.args.heap.now c.args.bricks.now c.args.g c.args.going vs start from.rising
-    c.loop-plug.line c.loop-plug.place p c.next.new.self c.in-Some.plug given
+    c.loop-plug.moves c.loop-plug.place p c.next.new.self c.in-Some.plug given
     (kind-differs c.in-Some.plug c.to.result c.start.result c.args.going c.to.ensures c.start.ensures
     c.if-to-start.false))
 
@@ -64,4 +64,4 @@ returns c = λ vs start from.
     (HasGiven c.args.types.now c.args.heap.now c.args.bricks.now c.args.g c.next.new.self (drop p.count vs))
     c.next.result c.in_default.is (c.next.ensures (drop p.count vs) p.gives) in
     passing-ends c.args.types.now c.args.heap.now c.args.bricks.now c.args.g c.args.going vs start from.rising
-    c.loop-plug.line c.loop-plug.place p c.next.new.self none
+    c.loop-plug.moves c.loop-plug.place p c.next.new.self none

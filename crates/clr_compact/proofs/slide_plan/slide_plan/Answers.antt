@@ -40,7 +40,7 @@ pass-requires c =
           c.args.planned.now
           c.loop-front.heap c.loop-front.plugs c.loop-front.front c.args.slides.now c.loop-front.slides
           c.loop-front.promoted
-          (c.loop-front.invariant view vs o told) c.lawful.ensures c.room_end.result c.room_end.ensures
+          (c.loop-front.invariant view vs o told) c.room_end.ensures.heap c.room_end.result c.room_end.ensures.value
           (omega (arith, n, test)) c.in-Some.plug lands,
     )
 
@@ -56,7 +56,7 @@ with_plug-promoted-requires-clause-to1 c =
     c.args.planned.now
     c.loop-front.heap c.loop-front.plugs c.loop-front.front c.args.slides.now c.loop-front.slides
     c.loop-front.promoted
-    (c.loop-front.invariant view vs o told) c.lawful.ensures c.room_end.result c.room_end.ensures
+    (c.loop-front.invariant view vs o told) c.room_end.ensures.heap c.room_end.result c.room_end.ensures.value
     (omega (arith, n, test)) c.in-Some.plug lands in
     few.0
 
@@ -72,7 +72,7 @@ with_plug-promoted-requires-clause-to2 c =
     c.args.planned.now
     c.loop-front.heap c.loop-front.plugs c.loop-front.front c.args.slides.now c.loop-front.slides
     c.loop-front.promoted
-    (c.loop-front.invariant view vs o told) c.lawful.ensures c.room_end.result c.room_end.ensures
+    (c.loop-front.invariant view vs o told) c.room_end.ensures.heap c.room_end.result c.room_end.ensures.value
     (omega (arith, n, test)) c.in-Some.plug lands in
     few.1
 
@@ -87,7 +87,7 @@ land_plug-near-requires-clause-can c =
     c.args.planned.now
     c.loop-front.heap c.loop-front.plugs c.loop-front.front c.args.slides.now c.loop-front.slides
     c.loop-front.promoted
-    (c.loop-front.invariant view vs o told) c.lawful.ensures c.room_end.result c.room_end.ensures
+    (c.loop-front.invariant view vs o told) c.room_end.ensures.heap c.room_end.result c.room_end.ensures.value
     (omega (arith, n, test)) c.in-Some.plug lands
 
 pub land_plug-near-requires-clause-end : goal.land_plug-near-requires-clause-end
@@ -101,7 +101,7 @@ land_plug-near-requires-clause-end c =
     c.args.planned.now
     c.loop-front.heap c.loop-front.plugs c.loop-front.front c.args.slides.now c.loop-front.slides
     c.loop-front.promoted
-    (c.loop-front.invariant view vs o told) c.lawful.ensures c.room_end.result c.room_end.ensures
+    (c.loop-front.invariant view vs o told) c.room_end.ensures.heap c.room_end.result c.room_end.ensures.value
     (omega (arith, n, test)) c.in-Some.plug lands
 
 pub land_plug-near-requires-clause-fits : goal.land_plug-near-requires-clause-fits
@@ -115,7 +115,7 @@ land_plug-near-requires-clause-fits c =
     c.args.planned.now
     c.loop-front.heap c.loop-front.plugs c.loop-front.front c.args.slides.now c.loop-front.slides
     c.loop-front.promoted
-    (c.loop-front.invariant view vs o told) c.lawful.ensures c.room_end.result c.room_end.ensures
+    (c.loop-front.invariant view vs o told) c.room_end.ensures.heap c.room_end.result c.room_end.ensures.value
     (omega (arith, n, test)) c.in-Some.plug lands
 
 pub overflow_add-front : goal.overflow_add-front
@@ -130,7 +130,7 @@ overflow_add-front c =
     c.args.planned.now
     c.loop-front.heap c.loop-front.plugs c.loop-front.front c.args.slides.now c.loop-front.slides
     c.loop-front.promoted
-    (c.loop-front.invariant view vs o told) c.lawful.ensures c.room_end.result c.room_end.ensures
+    (c.loop-front.invariant view vs o told) c.room_end.ensures.heap c.room_end.result c.room_end.ensures.value
     (omega (arith, n, test)) c.in-Some.plug lands in
     let to = c.to.ensures in
     let size = c.size.ensures in
@@ -148,7 +148,7 @@ loop-front-smaller-in-Some c =
     c.args.planned.now
     c.loop-front.heap c.loop-front.plugs c.loop-front.front c.args.slides.now c.loop-front.slides
     c.loop-front.promoted
-    (c.loop-front.invariant view vs o told) c.lawful.ensures c.room_end.result c.room_end.ensures
+    (c.loop-front.invariant view vs o told) c.room_end.ensures.heap c.room_end.result c.room_end.ensures.value
     (omega (arith, n, test)) c.in-Some.plug lands in
     let top = ap (λ (h : HeapView). h.top) o.shape.others in
     let to = c.to.ensures in
@@ -167,13 +167,13 @@ loop-front-preserved-in-Some c = λ view vs o told.
     c.args.planned.now
     c.loop-front.heap c.loop-front.plugs c.loop-front.front c.args.slides.now c.loop-front.slides
     c.loop-front.promoted
-    (c.loop-front.invariant view vs o told) c.lawful.ensures c.room_end.result c.room_end.ensures
+    (c.loop-front.invariant view vs o told) c.room_end.ensures.heap c.room_end.result c.room_end.ensures.value
     (omega (arith, n, test)) c.in-Some.plug lands in
     turn-placed c.args.types.now c.args.bricks.now view c.args.heap.now c.args.pins.now.entries c.args.g vs o
     c.args.planned.now
     c.loop-front.heap c.loop-front.plugs c.loop-front.front c.args.slides.now c.loop-front.slides
     c.loop-front.promoted
-    (c.loop-front.invariant view vs o told) c.lawful.ensures c.room_end.result c.room_end.ensures
+    (c.loop-front.invariant view vs o told) c.room_end.ensures.heap c.room_end.result c.room_end.ensures.value
     (omega (arith, n, test)) c.in-Some.plug lands
     c.pass.new.self c.land_plug-near.new.heap c.to.result c.size.result c.add_plug.new.self
     c.with_plug-promoted.result c.to.ensures c.size.ensures
@@ -192,7 +192,7 @@ loop-front-smaller c =
     c.args.planned.now
     c.loop-front.heap c.loop-front.plugs c.loop-front.front c.args.slides.now c.loop-front.slides
     c.loop-front.promoted
-    (c.loop-front.invariant view vs o told) c.lawful.ensures c.room_end.result c.room_end.ensures
+    (c.loop-front.invariant view vs o told) c.room_end.ensures.heap c.room_end.result c.room_end.ensures.value
     (omega (arith, n, test)) none
     c.set_end.new.self c.front_of-front-in-None.result c.set_end.ensures c.front_of-front-in-None.ensures in
     let above = c.front_of-front-in-None.ensures.above in
@@ -208,7 +208,7 @@ loop-front-preserved c = λ view vs o told.
     c.args.planned.now
     c.loop-front.heap c.loop-front.plugs c.loop-front.front c.args.slides.now c.loop-front.slides
     c.loop-front.promoted
-    (c.loop-front.invariant view vs o told) c.lawful.ensures c.room_end.result c.room_end.ensures
+    (c.loop-front.invariant view vs o told) c.room_end.ensures.heap c.room_end.result c.room_end.ensures.value
     (omega (arith, n, test)) none
     c.set_end.new.self c.front_of-front-in-None.result c.set_end.ensures c.front_of-front-in-None.ensures
 

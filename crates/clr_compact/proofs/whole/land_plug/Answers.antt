@@ -2,13 +2,14 @@ use Rattle.std.proofs.Common.{◌≡◌, ℕ, ◌+◌, ◌-◌, arith, inl, inr,
 use Rattle.clr_heap.specs.View.{word_of}
 use Rattle.clr_model.specs.Compaction.{Move}
 use Rattle.clr_moves.specs.Moves.{landing_end}
+use Rattle.clr_moves.proofs.Kept.{heap-kept}
 use Rattle.clr_pinq.specs.Queue.{IsPlain, logical}
 use Rattle.clr_plugs.specs.Info.{HasInfo}
 use Rattle.clr_compact.proofs.WholeLanding.{has_last, info-shapes, landed_plain, landed_put}
 use Rattle.clr_compact.proofs.whole.land_plug.Goals as goal
 
-pub words_before-saved-requires : goal.words_before-saved-requires
-words_before-saved-requires c =
+pub words_before-saved-requires-clause-info : goal.words_before-saved-requires-clause-info
+words_before-saved-requires-clause-info c =
     let can = c.requires.can in
     let up = can.up in
     let lower = can.lower in
@@ -18,8 +19,12 @@ words_before-saved-requires c =
     subst P e (has_last c.args.heap.now c.args.plug.start c.args.plug.size c.requires.heap (omega arith)
     can.aligned.0 can.least can.from)
 
-pub put_before-requires : goal.put_before-requires
-put_before-requires c =
+pub put_before-requires-clause-heap : goal.put_before-requires-clause-heap
+put_before-requires-clause-heap c =
+    heap-kept c.args.heap.now c.slide_plug.new.heap c.slide_plug.ensures.shape c.requires.heap
+
+pub put_before-requires-clause-info : goal.put_before-requires-clause-info
+put_before-requires-clause-info c =
     let can = c.requires.can in
     let e : c.args.plug.to + c.args.plug.size ≡ c.to.result + c.size-then-next_saved-end.result =
     (let a = c.to.ensures in let b = c.size-then-next_saved-end.ensures in omega arith) in

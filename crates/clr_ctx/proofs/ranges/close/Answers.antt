@@ -11,7 +11,7 @@ use Rattle.clr_ctx.proofs.ranges.close.Goals as goal
 pub returns-in_err-low-clause-relaid : goal.returns-in_err-low-clause-relaid
 returns-in_err-low-clause-relaid c =
     let h = c.args.heap.now in
-    none_step c.args.types.now h c.args.t c.lawful.ensures c.requires.held
+    none_step c.args.types.now h c.args.t c.requires.heap c.requires.held
     (bounds_none (rest_of (frame h) c.args.t) (sym c.hole.ensures ∙ c.in_err-low.was))
 
 pub make_free-requires-clause-least : goal.make_free-requires-clause-least
@@ -20,7 +20,7 @@ make_free-requires-clause-least c =
     let r : Piece = record { place = c.in_ok-low.low; size = c.in_ok-low.high - c.in_ok-low.low } in
     let rest = bounds_some (rest_of (frame h) c.args.t) c.in_ok-low.low c.in_ok-low.high
     (sym c.hole.ensures ∙ c.in_ok-low.was) in
-    closed_least c.args.types.now h c.args.t c.lawful.ensures c.requires.held c.requires.positive c.requires.few
+    closed_least c.args.types.now h c.args.t c.requires.heap c.requires.held c.requires.positive c.requires.few
     r rest
 
 pub make_free-requires-clause-head : goal.make_free-requires-clause-head
@@ -29,7 +29,7 @@ make_free-requires-clause-head c =
     let r : Piece = record { place = c.in_ok-low.low; size = c.in_ok-low.high - c.in_ok-low.low } in
     let rest = bounds_some (rest_of (frame h) c.args.t) c.in_ok-low.low c.in_ok-low.high
     (sym c.hole.ensures ∙ c.in_ok-low.was) in
-    closed_head c.args.types.now h c.args.t c.lawful.ensures c.requires.held c.requires.positive c.requires.few r
+    closed_head c.args.types.now h c.args.t c.requires.heap c.requires.held c.requires.positive c.requires.few r
     rest
 
 pub returns-clause-relaid : goal.returns-clause-relaid
@@ -38,7 +38,7 @@ returns-clause-relaid c =
     let r : Piece = record { place = c.in_ok-low.low; size = c.in_ok-low.high - c.in_ok-low.low } in
     let rest = bounds_some (rest_of (frame h) c.args.t) c.in_ok-low.low c.in_ok-low.high
     (sym c.hole.ensures ∙ c.in_ok-low.was) in
-    (closed_step c.args.types.now h c.args.t c.lawful.ensures c.requires.held c.requires.positive c.requires.few
+    (closed_step c.args.types.now h c.args.t c.requires.heap c.requires.held c.requires.positive c.requires.few
     r rest c.make_free.new.self c.set_hole.new.self c.make_free.ensures.words c.set_hole.ensures).0
 
 pub returns-clause-young : goal.returns-clause-young
@@ -47,7 +47,7 @@ returns-clause-young c =
     let r : Piece = record { place = c.in_ok-low.low; size = c.in_ok-low.high - c.in_ok-low.low } in
     let rest = bounds_some (rest_of (frame h) c.args.t) c.in_ok-low.low c.in_ok-low.high
     (sym c.hole.ensures ∙ c.in_ok-low.was) in
-    (closed_step c.args.types.now h c.args.t c.lawful.ensures c.requires.held c.requires.positive c.requires.few
+    (closed_step c.args.types.now h c.args.t c.requires.heap c.requires.held c.requires.positive c.requires.few
     r rest c.make_free.new.self c.set_hole.new.self c.make_free.ensures.words c.set_hole.ensures).1
     ∙ ap (λ (p : Piece). insert_by (λ q. q.place) p (young_items (layout_in c.args.types.now h)))
     (sym c.between.ensures)

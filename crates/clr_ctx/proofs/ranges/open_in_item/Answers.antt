@@ -11,13 +11,13 @@ make_free-requires-clause-head c =
     let less : c.args.taken < c.args.item.size =
     subst (λ n. c.args.taken < n) c.size.ensures.value c.if-taken-size.true in
     subst (λ q. HasHead c.args.heap.now (q + c.args.taken)) (sym c.place-low.ensures)
-    (drawn_head c.args.types.now c.args.heap.now c.args.t c.lawful.ensures c.requires.held c.requires.positive
+    (drawn_head c.args.types.now c.args.heap.now c.args.t c.requires.heap c.requires.held c.requires.positive
     c.requires.few c.args.item c.args.taken c.requires.none c.requires.listed c.requires.least c.requires.aligned
     c.requires.within less)
 
 pub overflow_sub-low : goal.overflow_sub-low
 overflow_sub-low c =
-    let low = drawn_low c.args.types.now c.args.heap.now c.args.t c.lawful.ensures c.requires.held
+    let low = drawn_low c.args.types.now c.args.heap.now c.args.t c.requires.heap c.requires.held
     c.requires.positive c.requires.few c.args.item c.args.taken c.requires.none c.requires.listed c.requires.least
     c.requires.aligned c.requires.within in
     let at = c.place-low.ensures in
@@ -29,7 +29,7 @@ clear_cells-requires c =
     let p = c.args.item in
     let n = c.args.taken in
     let size = c.size.ensures.value in
-    let fit = drawn_within c.args.types.now c.args.heap.now c.args.t c.lawful.ensures c.requires.held
+    let fit = drawn_within c.args.types.now c.args.heap.now c.args.t c.requires.heap c.requires.held
     c.requires.positive c.requires.few c.args.item c.args.taken c.requires.none c.requires.listed c.requires.least
     c.requires.aligned c.requires.within in
     let carves : Carves h p n c.if-taken-size.heap =
@@ -41,7 +41,7 @@ clear_cells-requires c =
       | else-taken-size w ↦ let not_less = w.if-taken-size.false in inl (omega (arith, not_less, size, fit), w.heap-is)
     ] in
     subst (λ a. InOne c.if-taken-size.heap.memories (a - 8) n) (sym c.place-low.ensures)
-    (drawn_cells c.args.types.now c.args.heap.now c.args.t c.lawful.ensures c.requires.held c.requires.positive
+    (drawn_cells c.args.types.now c.args.heap.now c.args.t c.requires.heap c.requires.held c.requires.positive
     c.requires.few c.args.item c.args.taken c.requires.none c.requires.listed c.requires.least c.requires.aligned
     c.requires.within c.if-taken-size.heap carves)
 
@@ -51,7 +51,7 @@ returns-clause-relaid c =
     let p = c.args.item in
     let n = c.args.taken in
     let size = c.size.ensures.value in
-    let fit = drawn_within c.args.types.now c.args.heap.now c.args.t c.lawful.ensures c.requires.held
+    let fit = drawn_within c.args.types.now c.args.heap.now c.args.t c.requires.heap c.requires.held
     c.requires.positive c.requires.few c.args.item c.args.taken c.requires.none c.requires.listed c.requires.least
     c.requires.aligned c.requires.within in
     let carves : Carves h p n c.if-taken-size.heap =
@@ -62,7 +62,7 @@ returns-clause-relaid c =
           c.place-low.ensures w.size-then-taken-size.ensures.value less w.heap-is w.make_free.ensures.words
       | else-taken-size w ↦ let not_less = w.if-taken-size.false in inl (omega (arith, not_less, size, fit), w.heap-is)
     ] in
-    (drawn_step c.args.types.now c.args.heap.now c.args.t c.lawful.ensures c.requires.held c.requires.positive
+    (drawn_step c.args.types.now c.args.heap.now c.args.t c.requires.heap c.requires.held c.requires.positive
     c.requires.few c.args.item c.args.taken c.requires.none c.requires.listed c.requires.least c.requires.aligned
     c.requires.within
     c.if-taken-size.heap c.clear_cells.new.self c.set_hole.new.self carves c.clear_cells.ensures.shape
@@ -79,7 +79,7 @@ returns-clause-young c =
     let p = c.args.item in
     let n = c.args.taken in
     let size = c.size.ensures.value in
-    let fit = drawn_within c.args.types.now c.args.heap.now c.args.t c.lawful.ensures c.requires.held
+    let fit = drawn_within c.args.types.now c.args.heap.now c.args.t c.requires.heap c.requires.held
     c.requires.positive c.requires.few c.args.item c.args.taken c.requires.none c.requires.listed c.requires.least
     c.requires.aligned c.requires.within in
     let carves : Carves h p n c.if-taken-size.heap =
@@ -90,7 +90,7 @@ returns-clause-young c =
           c.place-low.ensures w.size-then-taken-size.ensures.value less w.heap-is w.make_free.ensures.words
       | else-taken-size w ↦ let not_less = w.if-taken-size.false in inl (omega (arith, not_less, size, fit), w.heap-is)
     ] in
-    (drawn_step c.args.types.now c.args.heap.now c.args.t c.lawful.ensures c.requires.held c.requires.positive
+    (drawn_step c.args.types.now c.args.heap.now c.args.t c.requires.heap c.requires.held c.requires.positive
     c.requires.few c.args.item c.args.taken c.requires.none c.requires.listed c.requires.least c.requires.aligned
     c.requires.within
     c.if-taken-size.heap c.clear_cells.new.self c.set_hole.new.self carves c.clear_cells.ensures.shape

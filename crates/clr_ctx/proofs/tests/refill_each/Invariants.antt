@@ -3,4 +3,4 @@ use Rattle.clr_ctx.specs.Contexts.{IsIndex}
 use Rattle.clr_ctx.proofs.tests.refill_each.Given as goal
 
 abbrev pub invariant-loop-t : goal.invariant-loop-t
-invariant-loop-t g l = IsHeld l.types l.heap × IsIndex l.types l.heap l.contexts
+invariant-loop-t g l = IsHeld l.types l.heap × IsIndex l.types l.heap l.young

@@ -1,4 +1,6 @@
 use Rattle.std.proofs.Common.{subst}
+use Rattle.clr_heap.proofs.Framing.{SameShape-trans}
+use Rattle.clr_mark.proofs.Remarking.{keeps_heap}
 use Rattle.clr_evacuate.specs.Carried.{HasVacated}
 use Rattle.clr_evacuate.proofs.Copying.{carried_head, carried_least, head_kept}
 use Rattle.clr_evacuate.proofs.CarriedHeap.{carried}
@@ -6,19 +8,22 @@ use Rattle.clr_evacuate.proofs.carrying.carry_object.Goals as goal
 
 pub vacate-requires-clause-least : goal.vacate-requires-clause-least
 vacate-requires-clause-least c = carried_least c.args.types.now c.args.heap.now c.args.object c.args.item
-    c.lawful.ensures c.requires.held c.requires.can
+    c.requires.heap c.requires.held c.requires.can
 
 pub vacate-requires-clause-head : goal.vacate-requires-clause-head
 vacate-requires-clause-head c =
     head_kept c.args.heap.now c.copy_object.new.heap c.args.object.place c.copy_object.ensures.shape
-    (carried_head c.args.types.now c.args.heap.now c.args.object c.args.item c.lawful.ensures c.requires.held
+    (carried_head c.args.types.now c.args.heap.now c.args.object c.args.item c.requires.heap c.requires.held
     c.requires.can)
 
-pub returns : goal.returns
-returns c =
+pub returns-clause-carried : goal.returns-clause-carried
+returns-clause-carried c =
     carried c.args.types.now c.args.heap.now c.copy_object.new.heap c.vacate.new.heap c.args.object c.args.item
-    c.lawful.ensures c.requires.held c.requires.no_contexts c.requires.can c.copy_object.ensures
+    c.requires.heap c.requires.held c.requires.no_contexts c.requires.can c.copy_object.ensures
     (subst (HasVacated c.copy_object.new.heap c.vacate.new.heap c.args.object) c.place.ensures c.vacate.ensures)
 
-pub copy_object-requires-clause-heap : goal.copy_object-requires-clause-heap
-copy_object-requires-clause-heap c = c.lawful.ensures
+pub returns-clause-heap : goal.returns-clause-heap
+returns-clause-heap c =
+    keeps_heap c.args.heap.now c.vacate.new.heap
+    (SameShape-trans c.args.heap.now c.copy_object.new.heap c.vacate.new.heap c.copy_object.ensures.shape
+    c.vacate.ensures.shape) c.requires.heap

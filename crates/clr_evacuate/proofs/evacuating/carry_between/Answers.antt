@@ -9,7 +9,7 @@ use Rattle.clr_evacuate.proofs.evacuating.carry_between.Goals as goal
 pub loop-plug-init : goal.loop-plug-init
 loop-plug-init c = (
   going_starts c.args.types.now c.args.heap.now c.args.k c.args.from c.args.end c.new-hints.result.hints
-      c.lawful.ensures c.requires.held c.requires.can
+      c.requires.heap c.requires.held c.requires.can
       (c.new-hints.ensures c.args.types.now c.args.heap.now),
   bricks_start c.args.types.now c.args.heap.now c.args.bricks.now,
 )
@@ -81,5 +81,5 @@ returns-clause-spans c = c.loop-plug.invariant.1.spans
 pub returns-clause-made : goal.returns-clause-made
 returns-clause-made c =
     going_ends c.args.types.now c.args.heap.now c.loop-plug.heap c.args.k c.args.from c.args.end c.loop-plug.place
-    c.loop-plug.bytes c.loop-plug.hints.hints c.lawful.ensures c.requires.held c.loop-plug.invariant.0
+    c.loop-plug.bytes c.loop-plug.hints.hints c.requires.heap c.requires.held c.loop-plug.invariant.0
     c.in_default.ensures

@@ -17,20 +17,20 @@ use Rattle.clr_evacuate.proofs.fitting.carry_unpinned.Goals.{After-carry_all-byt
 
 pub carry_all-bytes-requires-clause-no_contexts : goal.carry_all-bytes-requires-clause-no_contexts
 carry_all-bytes-requires-clause-no_contexts c =
-    ap (λ (h : HeapView). h.rests) c.set_pins.ensures.shape.others ∙ c.requires.no_contexts
+    ap (λ (h : HeapView). h.rests) c.set_pins.ensures.pins.shape.others ∙ c.requires.no_contexts
 
 pub carry_all-bytes-requires-clause-laid : goal.carry_all-bytes-requires-clause-laid
 carry_all-bytes-requires-clause-laid c =
     let (n, memory, laid) = c.requires.laid in (
       n,
       memory-kept c.args.types.now c.args.heap.now c.set_pins.new.heap c.args.handles.now 1 c.requires.heap
-          c.requires.held true c.set_pins.ensures n memory,
+          c.requires.held true c.set_pins.ensures.pins n memory,
       laid,
     )
 
 pub carry_all-bytes-requires-clause-bricks : goal.carry_all-bytes-requires-clause-bricks
 carry_all-bytes-requires-clause-bricks c =
-    subst (λ l. AreBricksOf l c.args.bricks.now) (sym (ap frame c.set_pins.ensures.shape.others)) c.requires.bricks
+    subst (λ l. AreBricksOf l c.args.bricks.now) (sym (ap frame c.set_pins.ensures.pins.shape.others)) c.requires.bricks
 
 -- the fit of a machine whose memory and handles these are
 ran : (c : After-carry_all-bytes) → (n : Machine) (kept : ℕ → Bool) → IsMemoryOf c.args.types.now c.args.heap.now n
@@ -44,7 +44,7 @@ ran c n kept memory laid same tests =
     let table = c.args.handles.now in
     let heap = c.requires.heap in
     let held = c.requires.held in
-    let pins = c.set_pins.ensures in
+    let pins = c.set_pins.ensures.pins in
     record {
       heap = heap;
       held = held;
@@ -56,7 +56,7 @@ ran c n kept memory laid same tests =
       handles = same;
       pins = pins;
       made = c.carry_all-bytes.ensures.made n kept (memory-kept rows old view table 1 heap held true pins n memory) laid
-          (tells_all rows old view table heap held c.requires.clean c.lawful.ensures pins n same)
+          (tells_all rows old view table heap held c.requires.clean c.set_pins.ensures.below pins n same)
           (tests-kept rows old view table 1 heap held true pins 1 kept tests);
     }
 
@@ -89,20 +89,20 @@ pub returns-clause-made : goal.returns-clause-made
 returns-clause-made c = λ n kept memory laid same tests.
     made_back c.args.types.now c.args.heap.now c.set_pins.new.heap c.carry_all-bytes.new.heap c.args.handles.now n kept
     c.carry_all-bytes.result (ran (goal.at.returns-clause-made c).After-carry_all-bytes n kept memory laid same tests)
-    c.set_pins-2.new.heap c.set_pins-2.ensures
+    c.set_pins-2.new.heap c.set_pins-2.ensures.pins
 
 pub returns-clause-clean : goal.returns-clause-clean
 returns-clause-clean c =
     let rows = c.args.types.now in
     let (n, f) = some (goal.at.returns-clause-clean c).After-carry_all-bytes in
     clean_back rows c.args.heap.now c.set_pins.new.heap c.carry_all-bytes.new.heap c.args.handles.now n
-    (is_left_name rows c.args.heap.now 1) c.carry_all-bytes.result f c.set_pins-2.new.heap c.set_pins-2.ensures
+    (is_left_name rows c.args.heap.now 1) c.carry_all-bytes.result f c.set_pins-2.new.heap c.set_pins-2.ensures.pins
 
 pub returns-clause-brick_law : goal.returns-clause-brick_law
 returns-clause-brick_law c = λ law.
     let rows = c.args.types.now in
-    pinned_law rows c.carry_all-bytes.new.heap c.set_pins-2.new.heap c.args.handles.now false c.set_pins-2.ensures
+    pinned_law rows c.carry_all-bytes.new.heap c.set_pins-2.new.heap c.args.handles.now false c.set_pins-2.ensures.pins
     (entry_at c.carry_all-bytes.new.bricks)
     (c.carry_all-bytes.ensures.bricks
-    (pinned_law rows c.args.heap.now c.set_pins.new.heap c.args.handles.now true c.set_pins.ensures
+    (pinned_law rows c.args.heap.now c.set_pins.new.heap c.args.handles.now true c.set_pins.ensures.pins
     (entry_at c.args.bricks.now) law))

@@ -3,7 +3,6 @@ use Rattle.clr_types.specs.Segments.{ephemeral, stands_in}
 use Rattle.clr_types.specs.declared.item.Item.{Item}
 use Rattle.clr_heap.specs.View.{frame, word_of}
 use Rattle.clr_heap.proofs.Spelling.{place-item_at}
-use Rattle.clr_mark.proofs.Remarking.{keeps_heap}
 use Rattle.clr_evacuate.proofs.plugs.carry_next.Goals as goal
 
 pub carry_entered-requires-clause-inside : goal.carry_entered-requires-clause-inside
@@ -19,5 +18,4 @@ carry_entered-requires-clause-old c =
     ∙ place-item_at c.args.types.now (word_of c.args.heap.now) c.args.place)) c.requires.old
 
 pub returns-clause-heap : goal.returns-clause-heap
-returns-clause-heap c =
-    keeps_heap c.args.heap.now c.carry_entered.new.heap c.carry_entered.ensures.carried.shape c.requires.heap
+returns-clause-heap c = c.carry_entered.ensures.heap

@@ -17,13 +17,10 @@ pub loop-place-init : goal.loop-place-init
 loop-place-init c = (
   subst (IsCarrying c.args.types.now c.args.heap.now c.args.heap.now c.args.plug c.args.item)
       (sym c.place-place.ensures)
-      (carrying_starts c.args.types.now c.args.heap.now c.args.plug c.args.item c.lawful.ensures c.requires.held
+      (carrying_starts c.args.types.now c.args.heap.now c.args.plug c.args.item c.requires.heap c.requires.held
       c.requires.can),
   bricks_start c.args.types.now c.args.heap.now c.args.bricks.now,
 )
-
-pub carry_next-place-requires-clause-heap : goal.carry_next-place-requires-clause-heap
-carry_next-place-requires-clause-heap c = c.loop-place.invariant.0.heap
 
 pub carry_next-place-requires-clause-head : goal.carry_next-place-requires-clause-head
 carry_next-place-requires-clause-head c =
@@ -119,4 +116,4 @@ pub returns-clause-carried : goal.returns-clause-carried
 returns-clause-carried c run can =
     let past : piece_end c.args.plug ≤ c.loop-place.place = omega (arith, c.loop-place-test.false, c.end.ensures) in
     run_done c.args.types.now c.args.heap.now c.loop-place.heap c.args.plug c.args.item c.loop-place.place
-    c.lawful.ensures c.requires.held c.loop-place.invariant.0 past run can
+    c.requires.heap c.requires.held c.loop-place.invariant.0 past run can

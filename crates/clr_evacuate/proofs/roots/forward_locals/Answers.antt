@@ -13,6 +13,7 @@ forward-requires c =
     let (long, all, so_far) = c.loop-i.invariant in
     let same = all c.loop-i.i (le-refl c.loop-i.i) in
     record {
+      heap = c.requires.heap;
       held = c.requires.held;
       can = subst (CanForward c.args.types.now c.args.heap.now) (sym same)
           (c.requires.named _ (at_in c.args.locals.now c.loop-i.i 0 c.loop-i-test.true));

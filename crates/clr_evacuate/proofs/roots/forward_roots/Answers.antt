@@ -8,17 +8,23 @@ use Rattle.clr_evacuate.proofs.roots.forward_roots.Goals as goal
 
 pub relocate-requires : goal.relocate-requires
 relocate-requires c = λ h row found. (
-  λ some high. (c.requires.held, c.requires.named.targets h row found),
-  λ some high. (c.requires.held, c.requires.named.seconds h row found),
+  λ some high. (c.requires.heap, (c.requires.held, c.requires.named.targets h row found)),
+  λ some high. (c.requires.heap, (c.requires.held, c.requires.named.seconds h row found)),
 )
 
 pub relocate-requires-2-clause-entries : goal.relocate-requires-2-clause-entries
 relocate-requires-2-clause-entries c =
-    λ i l low. (c.requires.held, c.requires.named.entries_can _ (at_in c.args.roots.now.finals.entries i 0 l))
+    λ i l low. (
+      c.requires.heap,
+      (c.requires.held, c.requires.named.entries_can _ (at_in c.args.roots.now.finals.entries i 0 l)),
+    )
 
 pub relocate-requires-2-clause-ready : goal.relocate-requires-2-clause-ready
 relocate-requires-2-clause-ready c =
-    λ i l low. (c.requires.held, c.requires.named.ready_can _ (at_in c.args.roots.now.finals.ready i 0 l))
+    λ i l low. (
+      c.requires.heap,
+      (c.requires.held, c.requires.named.ready_can _ (at_in c.args.roots.now.finals.ready i 0 l)),
+    )
 
 pub returns : goal.returns
 returns c = λ go leads. record {

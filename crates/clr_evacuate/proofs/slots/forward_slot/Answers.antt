@@ -24,6 +24,7 @@ word-named-requires c =
 
 pub forward-target-requires : goal.forward-target-requires
 forward-target-requires c = record {
+  heap = c.requires.heap;
   held = c.requires.held;
   can = subst (CanForward c.args.types.now c.args.heap.now) (sym c.word-named.ensures.value) c.requires.named;
 }

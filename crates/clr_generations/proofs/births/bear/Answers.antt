@@ -3,6 +3,7 @@ use Rattle.clr_bricks.specs.Bricks.{entry_at}
 use Rattle.clr_covers.specs.Covers.{is_covered}
 use Rattle.clr_heap.specs.View.{frame}
 use Rattle.clr_generations.specs.Born.{with_place}
+use Rattle.clr_generations.proofs.BeforeBirth.{heap-before}
 use Rattle.clr_generations.proofs.BirthFacts.{bricks-born, cards-born, IsBornIn, newborn-covered}
 use Rattle.clr_generations.proofs.births.bear.Goals as goal
 use Rattle.clr_generations.proofs.births.bear.Goals.{After-enter_newborn}
@@ -11,8 +12,8 @@ pub enter_newborn-requires : goal.enter_newborn-requires
 enter_newborn-requires c =
     let f : IsBornIn c.args.types.now c.args.heap.now c.bear-place.new.heap c.args.thread c.args.t.0 c.args.len =
     record {
-      before = c.lawful.ensures;
-      after = c.lawful-2.ensures;
+      before = heap-before c.args.types.now c.args.heap.now c.bear-place.new.heap c.args.thread c.args.t.0 c.args.len
+          c.bear-place.ensures.born.heap c.bear-place.ensures.words;
       held = c.requires.held;
       positive = c.requires.positive;
       few = c.requires.few;
@@ -27,8 +28,8 @@ enter_newborn-requires c =
 birth : (c : After-enter_newborn) → IsBornIn c.args.types.now c.args.heap.now c.bear-place.new.heap c.args.thread
     c.args.t.0 c.args.len
 birth c = record {
-  before = c.lawful.ensures;
-  after = c.lawful-2.ensures;
+  before = heap-before c.args.types.now c.args.heap.now c.bear-place.new.heap c.args.thread c.args.t.0 c.args.len
+      c.bear-place.ensures.born.heap c.bear-place.ensures.words;
   held = c.requires.held;
   positive = c.requires.positive;
   few = c.requires.few;

@@ -10,27 +10,27 @@ returns-in_err-k c =
 
 pub item_from-requires-clause-walk : goal.item_from-requires-clause-walk
 item_from-requires-clause-walk c =
-    (walk-from-start c.args.types.now c.args.heap.now c.lawful.ensures c.requires.held c.in_ok-k.k c.args.a
+    (walk-from-start c.args.types.now c.args.heap.now c.in_ok-k.ensures.heap c.requires.held c.in_ok-k.k c.args.a
     c.walk_start-start.result c.in_ok-k.ensures.in_range c.in_ok-k.ensures.high c.walk_start-start.ensures).walk
 
 pub returns-in_err-found : goal.returns-in_err-found
 returns-in_err-found c =
     c.from_residual-in_err-found.ensures
     ∙ ap only_object (sym c.in_err-found.was
-    ∙ start-found c.args.types.now c.args.heap.now c.lawful.ensures c.requires.held c.in_ok-k.k c.args.a
+    ∙ start-found c.args.types.now c.args.heap.now c.in_ok-k.ensures.heap c.requires.held c.in_ok-k.k c.args.a
     c.walk_start-start.result c.in_ok-k.ensures.in_range c.in_ok-k.ensures.low c.in_ok-k.ensures.high
     c.walk_start-start.ensures c.item_from.result c.item_from.ensures)
 
 pub returns-then-found-eq0 : goal.returns-then-found-eq0
 returns-then-found-eq0 c =
     only-free c.in_ok-found.found _ (sym c.in_ok-found.was
-    ∙ start-found c.args.types.now c.args.heap.now c.lawful.ensures c.requires.held c.in_ok-k.k c.args.a
+    ∙ start-found c.args.types.now c.args.heap.now c.in_ok-k.ensures.heap c.requires.held c.in_ok-k.k c.args.a
     c.walk_start-start.result c.in_ok-k.ensures.in_range c.in_ok-k.ensures.low c.in_ok-k.ensures.high
     c.walk_start-start.ensures c.item_from.result c.item_from.ensures) c.if-found-eq0.true
 
 pub returns-else-found-eq0 : goal.returns-else-found-eq0
 returns-else-found-eq0 c =
     only-other c.in_ok-found.found _ (sym c.in_ok-found.was
-    ∙ start-found c.args.types.now c.args.heap.now c.lawful.ensures c.requires.held c.in_ok-k.k c.args.a
+    ∙ start-found c.args.types.now c.args.heap.now c.in_ok-k.ensures.heap c.requires.held c.in_ok-k.k c.args.a
     c.walk_start-start.result c.in_ok-k.ensures.in_range c.in_ok-k.ensures.low c.in_ok-k.ensures.high
     c.walk_start-start.ensures c.item_from.result c.item_from.ensures) c.if-found-eq0.false

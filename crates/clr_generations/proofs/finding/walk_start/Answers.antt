@@ -18,7 +18,7 @@ pub entry_near-entry-requires : goal.entry_near-entry-requires
 entry_near-entry-requires c =
     let h = c.args.heap.now in
     let first = c.first_place-first.ensures ∙ ap first_place c.info.ensures.value in
-    let lawful = lawful_at h c.args.k c.lawful.ensures c.requires.in_range in
+    let lawful = lawful_at h c.args.k c.info.ensures.heap c.requires.in_range in
     let base = lawful.base in
     let end = lawful.high in
     let low = c.loop-brick-test.true in
@@ -26,7 +26,7 @@ entry_near-entry-requires c =
     let high = c.requires.high in
     let at : 4096 * c.loop-brick.brick / 4096 ≡ c.loop-brick.brick = omega arith in
     subst (λ n. is_covered c.args.bricks.now n ≡ true) at
-    (brick-covered h c.args.k (4096 * c.loop-brick.brick) c.lawful.ensures c.requires.in_range
+    (brick-covered h c.args.k (4096 * c.loop-brick.brick) c.info.ensures.heap c.requires.in_range
     (omega (arith, first, base, low)) (omega (arith, up, high, end)) c.args.bricks.now c.requires.bricks)
 
 pub returns-then-place-a : goal.returns-then-place-a
@@ -36,7 +36,7 @@ returns-then-place-a c =
     c.first_place-first.ensures ∙ ap first_place c.info.ensures.value in
     let low = c.loop-brick-test.true in
     start-named c.args.types.now h (entry_at c.args.bricks.now) c.args.k c.args.a c.loop-brick.brick c.offset_of.result
-    c.lawful.ensures c.requires.law c.requires.in_range c.requires.high (omega (arith, first, low))
+    c.info.ensures.heap c.requires.law c.requires.in_range c.requires.high (omega (arith, first, low))
     c.loop-brick.invariant
     (sym c.entry_near-entry.ensures ∙ sym (read-entry c.entry_near-entry.result (search rules))
     ∙ c.offset_of.ensures.named)

@@ -21,7 +21,7 @@ word_at-mt-requires-clause-word c =
     let test = c.loop-place-test.true in
     let most = c.requires.end in
     let below : place < last_of h k = omega (arith, test, most) in
-    let can = can_go_on rows h c.lawful.ensures c.requires.held c.requires.no_contexts k c.requires.in_range
+    let can = can_go_on rows h c.requires.heap c.requires.held c.requires.no_contexts k c.requires.in_range
     (renewing.passes c.args.counted) c.args.start place c.loop-place.invariant below in
     can.item.mt
 
@@ -34,7 +34,7 @@ word_at-mt-requires-clause-segment c =
     let test = c.loop-place-test.true in
     let most = c.requires.end in
     let below : place < last_of h k = omega (arith, test, most) in
-    let can = can_go_on rows h c.lawful.ensures c.requires.held c.requires.no_contexts k c.requires.in_range
+    let can = can_go_on rows h c.requires.heap c.requires.held c.requires.no_contexts k c.requires.in_range
     (renewing.passes c.args.counted) c.args.start place c.loop-place.invariant below in
     can.mt_in
 
@@ -47,7 +47,7 @@ item_of_word-found-requires-clause-item c =
     let test = c.loop-place-test.true in
     let most = c.requires.end in
     let below : place < last_of h k = omega (arith, test, most) in
-    let can = can_go_on rows h c.lawful.ensures c.requires.held c.requires.no_contexts k c.requires.in_range
+    let can = can_go_on rows h c.requires.heap c.requires.held c.requires.no_contexts k c.requires.in_range
     (renewing.passes c.args.counted) c.args.start place c.loop-place.invariant below in
     can.item
 
@@ -60,7 +60,7 @@ item_of_word-found-requires-clause-segment c =
     let test = c.loop-place-test.true in
     let most = c.requires.end in
     let below : place < last_of h k = omega (arith, test, most) in
-    let can = can_go_on rows h c.lawful.ensures c.requires.held c.requires.no_contexts k c.requires.in_range
+    let can = can_go_on rows h c.requires.heap c.requires.held c.requires.no_contexts k c.requires.in_range
     (renewing.passes c.args.counted) c.args.start place c.loop-place.invariant below in
     can.len_in
 
@@ -77,7 +77,7 @@ returns-then-is_counted c =
     c.item_of_word-found.ensures)
     ∙ sym c.is_counted.ensures ∙ c.if-is_counted.true in
     let M : ℕ → Type 0 = λ w. (is_object (item_at rows (word_of h) place) && renewing.passes c.args.counted w) ≡ true in
-    search_found rows h c.lawful.ensures c.requires.held c.requires.no_contexts k c.requires.in_range
+    search_found rows h c.requires.heap c.requires.held c.requires.no_contexts k c.requires.in_range
     (renewing.passes c.args.counted) c.args.start place c.loop-place.invariant below c.args.past test
     (subst M c.word_at-mt.ensures told)
 
@@ -90,7 +90,7 @@ overflow_add-place c =
     let test = c.loop-place-test.true in
     let most = c.requires.end in
     let below : place < last_of h k = omega (arith, test, most) in
-    let can = can_go_on rows h c.lawful.ensures c.requires.held c.requires.no_contexts k c.requires.in_range
+    let can = can_go_on rows h c.requires.heap c.requires.held c.requires.no_contexts k c.requires.in_range
     (renewing.passes c.args.counted) c.args.start place c.loop-place.invariant below in
     let size = ap (λ (i : Item). i.size) c.item_of_word-found.ensures in
     let within = can.within in
@@ -106,7 +106,7 @@ loop-place-smaller c =
     let test = c.loop-place-test.true in
     let most = c.requires.end in
     let below : place < last_of h k = omega (arith, test, most) in
-    let can = can_go_on rows h c.lawful.ensures c.requires.held c.requires.no_contexts k c.requires.in_range
+    let can = can_go_on rows h c.requires.heap c.requires.held c.requires.no_contexts k c.requires.in_range
     (renewing.passes c.args.counted) c.args.start place c.loop-place.invariant below in
     let size = ap (λ (i : Item). i.size) c.item_of_word-found.ensures in
     let least = can.least in
@@ -128,6 +128,6 @@ loop-place-preserved c =
     in
     let P : Item → Type 0 = λ i. IsSearch rows h (renewing.passes c.args.counted) k c.args.start (place + i.size) in
     subst P (sym c.item_of_word-found.ensures)
-    (search_on rows h c.lawful.ensures c.requires.held c.requires.no_contexts k c.requires.in_range
+    (search_on rows h c.requires.heap c.requires.held c.requires.no_contexts k c.requires.in_range
     (renewing.passes c.args.counted) c.args.start place c.loop-place.invariant below
     (subst M c.word_at-mt.ensures told))

@@ -17,8 +17,8 @@ first_open-next-requires-clause-covered c =
     let end = ap (λ (s : SegInfo). s.end) c.info-end.ensures.value in
     let bricks = c.args.bricks.now in
     let low = c.requires.low in
-    λ below. brick-covered h bricks bricks k (c.args.from / 4096) c.lawful.ensures c.requires.in_range
-    c.requires.bricks refl (brick-in h k (c.args.from / 4096) c.lawful.ensures c.requires.in_range
+    λ below. brick-covered h bricks bricks k (c.args.from / 4096) c.info-end.ensures.heap c.requires.in_range
+    c.requires.bricks refl (brick-in h k (c.args.from / 4096) c.info-end.ensures.heap c.requires.in_range
     (omega (arith, low)) (omega (arith, end, below)))
 
 pub loop-brick-init : goal.loop-brick-init
@@ -34,9 +34,9 @@ loop-brick-init c =
     × (next ≡ from / 4096 + 1))
     ⊎ (((e ≤ 4096 * (from / 4096)) ⊎ (NamesBelow (entry (from / 4096)) (from / 4096) from → ⊥))
     × (next ≡ from / 4096)) in
-    renewing_starts rows h c.lawful.ensures c.requires.held k c.requires.in_range (renewing.passes c.args.counted)
-    c.args.from c.args.young c.requires.low c.requires.high c.args.bricks.now c.requires.told next
-    (subst P end c.first_open-next.ensures)
+    renewing_starts rows h c.info-end.ensures.heap c.requires.held k c.requires.in_range
+    (renewing.passes c.args.counted) c.args.from c.args.young c.requires.low c.requires.high c.args.bricks.now
+    c.requires.told next (subst P end c.first_open-next.ensures)
 
 pub first_in-first-requires-clause-low : goal.first_in-first-requires-clause-low
 first_in-first-requires-clause-low c =
@@ -46,9 +46,9 @@ first_in-first-requires-clause-low c =
     let end = ap (λ (s : SegInfo). s.end) c.info-end.ensures.value in
     let test = c.loop-brick-test.true in
     let below : 4096 * c.loop-brick.brick < last_of h k = omega (arith, end, test) in
-    low_here rows h c.lawful.ensures c.requires.held k c.requires.in_range (renewing.passes c.args.counted) c.args.from
-    c.args.young c.requires.low c.requires.high c.args.bricks.now c.requires.told c.loop-brick.bricks c.loop-brick.brick
-    c.loop-brick.next c.loop-brick.invariant below
+    low_here rows h c.info-end.ensures.heap c.requires.held k c.requires.in_range (renewing.passes c.args.counted)
+    c.args.from c.args.young c.requires.low c.requires.high c.args.bricks.now c.requires.told c.loop-brick.bricks
+    c.loop-brick.brick c.loop-brick.next c.loop-brick.invariant below
 
 pub first_in-first-requires-clause-covered : goal.first_in-first-requires-clause-covered
 first_in-first-requires-clause-covered c =
@@ -58,7 +58,7 @@ first_in-first-requires-clause-covered c =
     let end = ap (λ (s : SegInfo). s.end) c.info-end.ensures.value in
     let test = c.loop-brick-test.true in
     let below : 4096 * c.loop-brick.brick < last_of h k = omega (arith, end, test) in
-    covered_here rows h c.lawful.ensures c.requires.held k c.requires.in_range (renewing.passes c.args.counted)
+    covered_here rows h c.info-end.ensures.heap c.requires.held k c.requires.in_range (renewing.passes c.args.counted)
     c.args.from c.args.young c.requires.low c.requires.high c.args.bricks.now c.requires.told c.loop-brick.bricks
     c.loop-brick.brick c.loop-brick.next c.loop-brick.invariant c.requires.bricks c.loop-brick.brick
     c.loop-brick.invariant.order below
@@ -71,9 +71,9 @@ first_in-first-requires-clause-told c =
     let end = ap (λ (s : SegInfo). s.end) c.info-end.ensures.value in
     let test = c.loop-brick-test.true in
     let below : 4096 * c.loop-brick.brick < last_of h k = omega (arith, end, test) in
-    told_here rows h c.lawful.ensures c.requires.held k c.requires.in_range (renewing.passes c.args.counted) c.args.from
-    c.args.young c.requires.low c.requires.high c.args.bricks.now c.requires.told c.loop-brick.bricks c.loop-brick.brick
-    c.loop-brick.next c.loop-brick.invariant below
+    told_here rows h c.info-end.ensures.heap c.requires.held k c.requires.in_range (renewing.passes c.args.counted)
+    c.args.from c.args.young c.requires.low c.requires.high c.args.bricks.now c.requires.told c.loop-brick.bricks
+    c.loop-brick.brick c.loop-brick.next c.loop-brick.invariant below
 
 pub name_first-next-requires-clause-covered : goal.name_first-next-requires-clause-covered
 name_first-next-requires-clause-covered c =
@@ -83,7 +83,7 @@ name_first-next-requires-clause-covered c =
     let end = ap (λ (s : SegInfo). s.end) c.info-end.ensures.value in
     let test = c.loop-brick-test.true in
     let below : 4096 * c.loop-brick.brick < last_of h k = omega (arith, end, test) in
-    λ i low high. covered_here rows h c.lawful.ensures c.requires.held k c.requires.in_range
+    λ i low high. covered_here rows h c.info-end.ensures.heap c.requires.held k c.requires.in_range
     (renewing.passes c.args.counted) c.args.from c.args.young c.requires.low c.requires.high c.args.bricks.now
     c.requires.told c.loop-brick.bricks c.loop-brick.brick c.loop-brick.next c.loop-brick.invariant c.requires.bricks
     i low (omega (arith, below, high))
@@ -99,7 +99,7 @@ loop-brick-preserved c =
     let P : ℕ → Type 0 = λ n. IsRenewing rows h (renewing.passes c.args.counted) k c.args.from c.args.bricks.now
     c.name_first-next.new.bricks (c.loop-brick.brick + 1) n in
     subst P (sym c.name_first-next.ensures.next)
-    (renewing_more rows h c.lawful.ensures c.requires.held k c.requires.in_range (renewing.passes c.args.counted)
+    (renewing_more rows h c.info-end.ensures.heap c.requires.held k c.requires.in_range (renewing.passes c.args.counted)
     c.args.from c.args.young c.requires.low c.requires.high c.args.bricks.now c.requires.told c.loop-brick.bricks
     c.loop-brick.brick c.loop-brick.next c.loop-brick.invariant below c.name_first-next.new.bricks
     c.first_in-first.result c.first_in-first.ensures c.name_first-next.ensures.entries
@@ -111,9 +111,9 @@ lead_back-requires-clause-covered c =
     let h = c.args.heap.now in
     let k = c.args.k in
     let end = ap (λ (s : SegInfo). s.end) c.info-end.ensures.value in
-    covered_between rows h c.lawful.ensures c.requires.held k c.requires.in_range (renewing.passes c.args.counted)
-    c.args.from c.args.young c.requires.low c.requires.high c.args.bricks.now c.requires.told c.loop-brick.bricks
-    c.loop-brick.brick c.loop-brick.next c.loop-brick.invariant c.requires.bricks
+    covered_between rows h c.info-end.ensures.heap c.requires.held k c.requires.in_range
+    (renewing.passes c.args.counted) c.args.from c.args.young c.requires.low c.requires.high c.args.bricks.now
+    c.requires.told c.loop-brick.bricks c.loop-brick.brick c.loop-brick.next c.loop-brick.invariant c.requires.bricks
 
 pub returns-clause-entered : goal.returns-clause-entered
 returns-clause-entered c =
@@ -123,9 +123,9 @@ returns-clause-entered c =
     let end = ap (λ (s : SegInfo). s.end) c.info-end.ensures.value in
     let test = c.loop-brick-test.false in
     let past : last_of h k ≤ 4096 * c.loop-brick.brick = omega (arith, end, test) in
-    renewed rows h c.lawful.ensures c.requires.held k c.requires.in_range (renewing.passes c.args.counted) c.args.from
-    c.args.young c.requires.low c.requires.high c.args.bricks.now c.requires.told c.loop-brick.bricks c.loop-brick.brick
-    c.loop-brick.next c.loop-brick.invariant past c.lead_back.new.bricks c.lead_back.ensures.entries
+    renewed rows h c.info-end.ensures.heap c.requires.held k c.requires.in_range (renewing.passes c.args.counted)
+    c.args.from c.args.young c.requires.low c.requires.high c.args.bricks.now c.requires.told c.loop-brick.bricks
+    c.loop-brick.brick c.loop-brick.next c.loop-brick.invariant past c.lead_back.new.bricks c.lead_back.ensures.entries
 
 pub returns-clause-others : goal.returns-clause-others
 returns-clause-others c =
@@ -135,6 +135,6 @@ returns-clause-others c =
     let end = ap (λ (s : SegInfo). s.end) c.info-end.ensures.value in
     let test = c.loop-brick-test.false in
     let past : last_of h k ≤ 4096 * c.loop-brick.brick = omega (arith, end, test) in
-    renewed_others rows h c.lawful.ensures c.requires.held k c.requires.in_range (renewing.passes c.args.counted)
+    renewed_others rows h c.info-end.ensures.heap c.requires.held k c.requires.in_range (renewing.passes c.args.counted)
     c.args.from c.args.young c.requires.low c.requires.high c.args.bricks.now c.requires.told c.loop-brick.bricks
     c.loop-brick.brick c.loop-brick.next c.loop-brick.invariant past c.lead_back.new.bricks c.lead_back.ensures.entries

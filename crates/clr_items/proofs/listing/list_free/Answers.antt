@@ -17,18 +17,18 @@ below c =
 
 can : (c : goal.In-loop-place) → CanCount c.args.types.now c.args.heap.now c.args.k c.args.from
     (last_of c.args.heap.now c.args.k) c.loop-place.place
-    (home_unholed c.args.types.now c.args.heap.now c.args.k c.lawful.ensures c.args.from c.requires.in_range
+    (home_unholed c.args.types.now c.args.heap.now c.args.k c.info-end.ensures.heap c.args.from c.requires.in_range
     c.requires.parted c.requires.no_contexts) c.loop-place.invariant.low c.loop-place.invariant.walk
 can c = can_count c.args.types.now c.args.heap.now c.args.k c.args.from
     (last_of c.args.heap.now c.args.k) c.loop-place.place
-    (home_unholed c.args.types.now c.args.heap.now c.args.k c.lawful.ensures c.args.from c.requires.in_range
+    (home_unholed c.args.types.now c.args.heap.now c.args.k c.info-end.ensures.heap c.args.from c.requires.in_range
     c.requires.parted c.requires.no_contexts) c.loop-place.invariant.low c.loop-place.invariant.walk (below c)
 
 pub loop-place-init : goal.loop-place-init
 loop-place-init c =
     listing_starts c.args.types.now c.args.heap.now c.args.k c.args.from (last_of c.args.heap.now c.args.k)
     c.args.items.now.items
-    (home_unholed c.args.types.now c.args.heap.now c.args.k c.lawful.ensures c.args.from c.requires.in_range
+    (home_unholed c.args.types.now c.args.heap.now c.args.k c.info-end.ensures.heap c.args.from c.requires.in_range
     c.requires.parted c.requires.no_contexts)
 
 pub word_at-mt-requires-clause-word : goal.word_at-mt-requires-clause-word
@@ -56,7 +56,7 @@ loop-place-preserved c =
     let rows = c.args.types.now in
     let h = c.args.heap.now in
     let e = last_of h c.args.k in
-    let home = home_unholed rows h c.args.k c.lawful.ensures c.args.from c.requires.in_range c.requires.parted
+    let home = home_unholed rows h c.args.k c.info-end.ensures.heap c.args.from c.requires.in_range c.requires.parted
     c.requires.no_contexts in
     let adds = c.add_free.ensures c.if-not-add_free.false
     ∙ ap (λ (i : Item). c.loop-place.items.items ++ free_among (i ∷ [])) c.item_of_word-found.ensures in
@@ -72,5 +72,5 @@ returns c = λ _.
     let l = c.loop-place-test.false in
     listing_ends c.args.types.now c.args.heap.now c.args.k c.args.from (last_of c.args.heap.now c.args.k)
     c.loop-place.place c.args.items.now.items c.loop-place.items.items
-    (home_unholed c.args.types.now c.args.heap.now c.args.k c.lawful.ensures c.args.from c.requires.in_range
+    (home_unholed c.args.types.now c.args.heap.now c.args.k c.info-end.ensures.heap c.args.from c.requires.in_range
     c.requires.parted c.requires.no_contexts) c.loop-place.invariant (omega (arith, end, l))

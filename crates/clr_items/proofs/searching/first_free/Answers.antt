@@ -13,7 +13,7 @@ loop-found-init c =
     c.into_iter-found-iterator.ensures.into_iter_gives ∙ c.walk-found-items.ensures.items in (
       refl,
       subst (AllByRecursion EndsWithin) (sym walked)
-          (all_within c.args.types.now h c.args.k c.lawful.ensures c.requires.held c.requires.in_range),
+          (all_within c.args.types.now h c.args.k c.walk-found-items.ensures.heap c.requires.held c.requires.in_range),
     )
 
 pub returns-then-fits_in : goal.returns-then-fits_in

@@ -11,11 +11,11 @@ use Rattle.clr_large.proofs.AcquiredKind.{acquired_bricks}
 use Rattle.clr_large.proofs.acquiring.acquire_of_kind.Goals as goal
 
 -- all items stay
-kept : (c : goal.After-lawful-2) → KeepsItems c.args.types.now c.args.heap.now c.acquire.new.heap
+kept : (c : goal.In_ok-acquire) → KeepsItems c.args.types.now c.args.heap.now c.acquire.new.heap
 kept c =
     acquired_kept c.args.kind c.requires.old c.args.types.now c.args.heap.now c.lawful.ensures c.requires.held
     c.args.size c.acquire.new.heap
-    c.in_ok-acquire.ensures.acquired c.lawful-2.ensures
+    c.in_ok-acquire.ensures.acquired c.in_ok-acquire.ensures.lawful
 
 pub returns-clause-objects : goal.returns-clause-objects
 returns-clause-objects c =
@@ -25,13 +25,13 @@ pub returns-clause-layout : goal.returns-clause-layout
 returns-clause-layout c =
     acquired_layout c.args.kind c.requires.old c.args.types.now c.args.heap.now c.lawful.ensures c.requires.held
     c.args.size c.acquire.new.heap
-    c.in_ok-acquire.ensures.acquired c.lawful-2.ensures
+    c.in_ok-acquire.ensures.acquired c.in_ok-acquire.ensures.lawful
 
 pub returns-clause-items : goal.returns-clause-items
 returns-clause-items c =
     acquired_items c.args.kind c.requires.old c.args.types.now c.args.heap.now c.lawful.ensures c.requires.held
     c.args.size c.acquire.new.heap
-    c.in_ok-acquire.ensures.acquired c.lawful-2.ensures
+    c.in_ok-acquire.ensures.acquired c.in_ok-acquire.ensures.lawful
 
 pub returns-clause-held : goal.returns-clause-held
 returns-clause-held c = (kept c).held
@@ -51,13 +51,13 @@ returns-clause-clean c =
 pub returns-clause-brick_law : goal.returns-clause-brick_law
 returns-clause-brick_law c =
     acquired_bricks c.args.kind c.requires.old c.args.types.now c.args.heap.now c.lawful.ensures c.requires.held
-    c.args.size c.acquire.new.heap c.in_ok-acquire.ensures.acquired c.lawful-2.ensures c.args.bricks.now
+    c.args.size c.acquire.new.heap c.in_ok-acquire.ensures.acquired c.in_ok-acquire.ensures.lawful c.args.bricks.now
     c.acquire.new.bricks c.requires.bricks c.acquire.ensures.entries
 
 pub returns-clause-names : goal.returns-clause-names
 returns-clause-names c =
     acquired_names c.args.kind c.requires.old c.args.types.now c.args.heap.now c.lawful.ensures c.requires.held
-    c.args.size c.acquire.new.heap c.in_ok-acquire.ensures.acquired c.lawful-2.ensures
+    c.args.size c.acquire.new.heap c.in_ok-acquire.ensures.acquired c.in_ok-acquire.ensures.lawful
 
 -- where none is acquired, heap and bricks are what they were
 pub returns-in_err-acquire-clause-brick_law : goal.returns-in_err-acquire-clause-brick_law

@@ -3,7 +3,7 @@ use Rattle.clr_types.specs.Segments.{ended_at}
 use Rattle.clr_heap.specs.Memories.{clears}
 use Rattle.clr_heap.specs.View.{HasHead, last_of, placed, segment_at, word_of}
 use Rattle.clr_large.specs.Births.{HasNewbornIn}
-use Rattle.clr_large.specs.declared.places.Place.TheVariants.{Tail}
+use Rattle.clr_large.specs.declared.places.Birthplace.TheVariants.{Tail}
 use Rattle.clr_large.proofs.Homes.{IsBorneAt}
 use Rattle.clr_large.proofs.TailBirths.{cleared_head, FitsTail, tail_borne, tail_cells}
 use Rattle.clr_large.proofs.births.bear_behind.Goals as goal
@@ -13,7 +13,7 @@ use Rattle.clr_large.proofs.births.bear_behind.Goals.{After-info-end, After-set_
 asks : (c : After-info-end) → FitsTail c.args.kind c.args.types.now c.args.heap.now c.args.k c.args.t.0 c.args.len
 asks c = record {
   old = c.requires.old;
-  heap = c.lawful.ensures;
+  heap = c.info-end.ensures.heap;
   held = c.requires.held;
   item = c.requires.item;
   object = c.requires.object;

@@ -4,7 +4,7 @@ use Rattle.clr_heap.specs.Memories.{clears, InOne}
 use Rattle.clr_heap.specs.View.{freed, HasHead, placed, word_of}
 use Rattle.clr_view.proofs.Carving.{Carves, carves_part}
 use Rattle.clr_large.specs.Births.{HasNewbornIn}
-use Rattle.clr_large.specs.declared.places.Place.TheVariants.{Item}
+use Rattle.clr_large.specs.declared.places.Birthplace.TheVariants.{Item}
 use Rattle.clr_large.proofs.Homes.{IsBorneAt}
 use Rattle.clr_large.proofs.ItemBirths.{FitsItem, item_borne, item_cells, item_cut, item_head, item_left_head, item_low}
 use Rattle.clr_large.proofs.births.bear_in_item.Goals as goal
@@ -19,7 +19,7 @@ make_free-requires-clause-head c =
     let size = c.item_size-size.ensures in
     let asked : FitsItem c.args.kind c.args.types.now h c.args.item c.args.t.0 c.args.len = record {
       old = c.requires.old;
-      heap = c.lawful.ensures;
+      heap = c.requires.heap;
       held = c.requires.held;
       item = c.requires.item;
       object = c.requires.object;
@@ -34,7 +34,7 @@ make_free-requires-clause-head c =
 asks : (c : Joined-size) → FitsItem c.args.kind c.args.types.now c.args.heap.now c.args.item c.args.t.0 c.args.len
 asks c = record {
   old = c.requires.old;
-  heap = c.lawful.ensures;
+  heap = c.requires.heap;
   held = c.requires.held;
   item = c.requires.item;
   object = c.requires.object;

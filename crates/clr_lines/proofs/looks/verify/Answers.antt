@@ -5,8 +5,8 @@ use Rattle.clr_lines.proofs.looks.verify.Goals as goal
 pub verifyheap-requires : goal.verifyheap-requires
 verifyheap-requires c = record {
   holes =
-      (c.clean_states_are_lawful.ensures c.view_of-view.result c.args.runtime.now.machine c.lawful.ensures
-      c.view_of-view.ensures.clean).0;
+      (c.clean_states_are_lawful.ensures c.view_of-view.result c.args.runtime.now.machine
+      c.view_of-view.ensures.lawful.heap c.view_of-view.ensures.clean).0;
 }
 
 pub returns-clause-follows : goal.returns-clause-follows

@@ -4,11 +4,12 @@ use Rattle.clr_lines.proofs.looks.view_of.Goals as goal
 
 pub returns : goal.returns
 returns c =
-    let heap = c.heap.ensures in
+    let heap = c.heap-heap.ensures in
     let taken : IsTakenFrom _ c.args.runtime.now.machine = record {
       types = c.types.ensures;
       objects = heap.objects;
       layout = heap.layout;
+      heap = c.lawful.ensures;
       held = heap.held;
       unmarked = heap.unmarked;
       free_heads = heap.free_heads;

@@ -40,13 +40,13 @@ returns-clause-loads c b is = record {
       }) (let is = c.requires.lawful in
       let high = is.high in
       let most = is.within_limit in
-      let few = c.lawful.ensures.limit_small in
+      let small = c.requires.small in
       record {
         base = is.base;
         lowest = is.lowest;
         highest = is.highest;
         low = is.low;
-        high = omega (arith, high, most, few);
+        high = omega (arith, high, most, small);
         aligned = is.aligned;
       }) (let within = c.bytes-bytes.ensures.within in within) c.in_ok-range.ensures (record {
         draft = c.in-Ok-add_segment.ensures.added;

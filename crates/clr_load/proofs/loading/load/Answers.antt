@@ -1,6 +1,7 @@
 -- Both passes, and then what they found.
-use Rattle.std.proofs.Common.{sym, ◌∙◌}
+use Rattle.std.proofs.Common.{subst, sym, ◌∙◌}
 use Rattle.std.proofs.lemmas.Result.{err_from_is_err_and}
+use Rattle.clr_heap.specs.View.{IsHeap}
 use Rattle.clr_load.proofs.LoadedImages.{fields_fail, tests_fail, tests_pass, whole_fails}
 use Rattle.clr_load.proofs.ReadImages.{parts_found}
 use Rattle.clr_load.proofs.SoundImages.{all_pass, image_sound}
@@ -46,7 +47,9 @@ pub returns-clause-sound : goal.returns-clause-sound
 returns-clause-sound c =
     let k = c.in_ok-kept.ensures in
     let whole = c.in_ok-whole.ensures k.0 k.1 k.2 k.3 in
-    image_sound c.args.bytes.now k.0 k.1 k.2 c.in-Ok.image (c.in-Ok.ensures c.args.bytes.now k.0 whole) c.lawful.ensures
+    let shows = c.in-Ok.ensures c.args.bytes.now k.0 whole in
+    image_sound c.args.bytes.now k.0 k.1 k.2 c.in-Ok.image shows
+    (subst IsHeap (whole.heap ∙ sym shows.heap) whole.lawful)
     (all_pass k.0 (sym (c.whole_fault.ensures c.args.bytes.now k.0 whole) ∙ c.in_default.is))
 
 pub returns-clause-version : goal.returns-clause-version

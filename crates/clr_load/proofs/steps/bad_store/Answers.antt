@@ -7,14 +7,14 @@ use Rattle.clr_load.proofs.steps.bad_store.Goals as goal
 
 pub returns-in_default-clause-word : goal.returns-in_default-clause-word
 returns-in_default-clause-word c q earlier =
-    sym (one_fails q _ _ (none_found c.args.seen.now.types.now c.args.seen.now.heap.now c.lawful.ensures c.requires.held
+    sym (one_fails q _ _ (none_found c.args.seen.now.types.now c.args.seen.now.heap.now c.requires.heap c.requires.held
     c.args.object (sym c.object_at.ensures.object ∙ c.in_default.is)))
 
 pub returns-then-is_reference_slot-clause-word : goal.returns-then-is_reference_slot-clause-word
 returns-then-is_reference_slot-clause-word c q earlier =
     let there = sym c.object_at.ensures.object ∙ c.in-Some.is in
     sym (both_pass q _ _
-    (stands_found c.args.seen.now.types.now c.args.seen.now.heap.now c.lawful.ensures c.requires.held c.args.object
+    (stands_found c.args.seen.now.types.now c.args.seen.now.heap.now c.requires.heap c.requires.held c.args.object
     c.in-Some.item there)
     (ap (λ o. is_reference_slot c.args.seen.now.types.now o c.args.slot) there
     ∙ sym (c.is_reference_slot.ensures c.in-Some.item refl) ∙ c.if-is_reference_slot.true))
@@ -23,7 +23,7 @@ pub returns-else-is_reference_slot-clause-word : goal.returns-else-is_reference_
 returns-else-is_reference_slot-clause-word c q earlier =
     let there = sym c.object_at.ensures.object ∙ c.in-Some.is in
     sym (two_fails q _ _
-    (stands_found c.args.seen.now.types.now c.args.seen.now.heap.now c.lawful.ensures c.requires.held c.args.object
+    (stands_found c.args.seen.now.types.now c.args.seen.now.heap.now c.requires.heap c.requires.held c.args.object
     c.in-Some.item there)
     (ap (λ o. is_reference_slot c.args.seen.now.types.now o c.args.slot) there
     ∙ sym (c.is_reference_slot.ensures c.in-Some.item refl) ∙ c.if-is_reference_slot.false))

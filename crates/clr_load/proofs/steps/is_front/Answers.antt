@@ -18,9 +18,9 @@ returns-in_default c =
       | inl more ↦ more
       | inr most ↦ absurd (c.in_default.ensures most)
     ] in
-    sym (front_is rows h c.lawful.ensures c.requires.seen.held c.requires.seen.alone size c.args.place false
+    sym (front_is rows h c.requires.seen.heap c.requires.seen.held c.requires.seen.alone size c.args.place false
     (sym c.gen_of.ensures ∙ c.if-gen_of-ne0.false)
-    (no_room rows h c.lawful.ensures c.requires.seen.held c.requires.seen.alone size c.args.place large))
+    (no_room rows h c.requires.seen.heap c.requires.seen.held c.requires.seen.alone size c.args.place large))
 
 pub returns-then-room-eq0 : goal.returns-then-room-eq0
 returns-then-room-eq0 c =
@@ -30,9 +30,9 @@ returns-then-room-eq0 c =
     let young = sym c.gen_of.ensures ∙ c.if-gen_of-ne0.false in
     let room = c.in-Some-item_in.room in
     let free : is_free room ≡ true = let e = c.if-room-eq0.true in grind (arith, nat_tests, e) in
-    sym (front_is rows h c.lawful.ensures c.requires.seen.held c.requires.seen.alone size c.args.place c.fits.result
+    sym (front_is rows h c.requires.seen.heap c.requires.seen.held c.requires.seen.alone size c.args.place c.fits.result
     young
-    (the_room rows h c.lawful.ensures c.requires.seen.held c.requires.seen.alone size c.args.place
+    (the_room rows h c.requires.seen.heap c.requires.seen.held c.requires.seen.alone size c.args.place
     c.ephemeral-young.result c.ephemeral-young.ensures.in_range c.ephemeral-young.ensures.segment
     (young_inside h c.args.place young) room (sym c.item_in.ensures ∙ c.in-Some-item_in.is)
     ∙ ap (λ (b : Bool). b && fits size room.size) free
@@ -46,9 +46,9 @@ returns-else-room-eq0 c =
     let young = sym c.gen_of.ensures ∙ c.if-gen_of-ne0.false in
     let room = c.in-Some-item_in.room in
     let free : is_free room ≡ false = let e = c.if-room-eq0.false in grind (arith, nat_tests, e) in
-    free ∙ sym (front_is rows h c.lawful.ensures c.requires.seen.held c.requires.seen.alone size c.args.place false
+    free ∙ sym (front_is rows h c.requires.seen.heap c.requires.seen.held c.requires.seen.alone size c.args.place false
     young
-    (the_room rows h c.lawful.ensures c.requires.seen.held c.requires.seen.alone size c.args.place
+    (the_room rows h c.requires.seen.heap c.requires.seen.held c.requires.seen.alone size c.args.place
     c.ephemeral-young.result c.ephemeral-young.ensures.in_range c.ephemeral-young.ensures.segment
     (young_inside h c.args.place young) room (sym c.item_in.ensures ∙ c.in-Some-item_in.is)
     ∙ ap (λ (b : Bool). b && fits size room.size) free))
@@ -59,7 +59,7 @@ returns-in-None c =
     let h = c.args.seen.now.heap.now in
     let size = size_of (form_at rows c.args.type_id.0) c.args.len in
     let young = sym c.gen_of.ensures ∙ c.if-gen_of-ne0.false in
-    sym (front_is rows h c.lawful.ensures c.requires.seen.held c.requires.seen.alone size c.args.place false young
-    (nothing_there rows h c.lawful.ensures c.requires.seen.held c.requires.seen.alone size c.args.place
+    sym (front_is rows h c.requires.seen.heap c.requires.seen.held c.requires.seen.alone size c.args.place false young
+    (nothing_there rows h c.requires.seen.heap c.requires.seen.held c.requires.seen.alone size c.args.place
     c.ephemeral-young.result c.ephemeral-young.ensures.in_range c.ephemeral-young.ensures.segment
     (young_inside h c.args.place young) (sym c.item_in.ensures ∙ c.in-None.is)))

@@ -2,10 +2,10 @@
 use Rattle.clr_load.proofs.WholeTests.{one_young, young_last}
 use Rattle.clr_load.proofs.whole.make_whole.Goals as goal
 
-pub finish-requires-clause-one_ephemeral : goal.finish-requires-clause-one_ephemeral
-finish-requires-clause-one_ephemeral c =
+pub finish-heap-requires-clause-one_ephemeral : goal.finish-heap-requires-clause-one_ephemeral
+finish-heap-requires-clause-one_ephemeral c =
     let r = c.requires in one_young c.args.bytes.now c.args.kept r.0 r.1 r.2 r.3
 
-pub finish-requires-clause-ephemeral_last : goal.finish-requires-clause-ephemeral_last
-finish-requires-clause-ephemeral_last c =
+pub finish-heap-requires-clause-ephemeral_last : goal.finish-heap-requires-clause-ephemeral_last
+finish-heap-requires-clause-ephemeral_last c =
     let r = c.requires in young_last c.args.bytes.now c.args.kept r.0 r.1 r.2 r.3

@@ -7,9 +7,10 @@ pub tables_fault-requires-clause-seen : goal.tables_fault-requires-clause-seen
 tables_fault-requires-clause-seen c =
     let r = c.requires in
     record {
-      held = held_kept r.0 c.args.whole.now r.1 r.2 c.lawful.ensures;
-      alone = alone_kept r.0 c.args.whole.now r.1 r.2 c.lawful.ensures;
-      starts = starts_kept r.0 c.args.whole.now r.1 r.2 c.lawful.ensures;
+      heap = r.2.lawful;
+      held = held_kept r.0 c.args.whole.now r.1 r.2;
+      alone = alone_kept r.0 c.args.whole.now r.1 r.2;
+      starts = starts_kept r.0 c.args.whole.now r.1 r.2;
     }
 
 pub tables_fault-requires-clause-offsets : goal.tables_fault-requires-clause-offsets
@@ -19,5 +20,4 @@ pub tables_fault-requires-clause-known : goal.tables_fault-requires-clause-known
 tables_fault-requires-clause-known c = let r = c.requires in known_steps r.0 c.args.whole.now r.1 r.2
 
 pub returns : goal.returns
-returns c bytes p is =
-    c.tables_fault.ensures ∙ sym (tests_kept bytes c.args.whole.now p is c.lawful.ensures)
+returns c bytes p is = c.tables_fault.ensures ∙ sym (tests_kept bytes c.args.whole.now p is)

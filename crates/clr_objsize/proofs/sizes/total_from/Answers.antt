@@ -12,7 +12,7 @@ use Rattle.clr_objsize.proofs.sizes.total_from.Goals as goal
 pub total_of_locals-requires-clause-sound : goal.total_of_locals-requires-clause-sound
 total_of_locals-requires-clause-sound c =
     let v = c.args.view.now in
-    sound-alone v _ refl refl c.args.place refl (sound_view v c.lawful.ensures c.requires.lawful) c.requires.stands
+    sound-alone v _ refl refl c.args.place refl (sound_view v c.requires.lawful) c.requires.stands
     c.new-handles.ensures (ap (λ (q : Queues). q.ready) c.new-finals.ensures)
 
 -- a fact of a success gives another
@@ -24,7 +24,7 @@ pub returns : goal.returns
 returns c =
     let v = c.args.view.now in
     let place = c.args.place in
-    let sound = sound_view v c.lawful.ensures c.requires.lawful in
+    let sound = sound_view v c.requires.lawful in
     on_ok (HasTotal v (IsRoot (place ∷ []))) (HasTotal v (λ y. y ≡ place))
     (λ total told. total-alone v place total (object-not_null v sound place c.requires.stands) told)
     c.total_of_locals.result c.total_of_locals.ensures

@@ -13,7 +13,7 @@ pub new-writer-requires-clause-covered : goal.new-writer-requires-clause-covered
 new-writer-requires-clause-covered c =
     let (old, before, empty, s) = c.requires.can in
     let setting = setting_of c.args.types.now old c.args.heap.now before c.args.bricks.now empty c.args.queue.now
-    c.args.g c.args.e c.args.low c.args.from s c.segments.ensures.heap c.boundaries-start1.result
+    c.args.g c.args.e c.args.low c.args.from s c.info-end.ensures.heap c.boundaries-start1.result
     c.boundaries-start1.ensures c.info-end.result c.info-end.ensures.value in
     low-covered setting
 
@@ -21,7 +21,7 @@ pub lay_part-requires : goal.lay_part-requires
 lay_part-requires c =
     let (old, before, empty, s) = c.requires.can in
     let setting = setting_of c.args.types.now old c.args.heap.now before c.args.bricks.now empty c.args.queue.now
-    c.args.g c.args.e c.args.low c.args.from s c.segments.ensures.heap c.boundaries-start1.result
+    c.args.g c.args.e c.args.low c.args.from s c.info-end.ensures.heap c.boundaries-start1.result
     c.boundaries-start1.ensures c.info-end.result c.info-end.ensures.value in
     let writing = c.new-writer.ensures.writing c.args.heap.now (part setting) (part-lies setting) refl refl
     (part-covered setting) in
@@ -33,7 +33,7 @@ pub raised_to-middle-requires : goal.raised_to-middle-requires
 raised_to-middle-requires c =
     let (old, before, empty, s) = c.requires.can in
     let setting = setting_of c.args.types.now old c.args.heap.now before c.args.bricks.now empty c.args.queue.now
-    c.args.g c.args.e c.args.low c.args.from s c.segments.ensures.heap c.boundaries-start1.result
+    c.args.g c.args.e c.args.low c.args.from s c.info-end.ensures.heap c.boundaries-start1.result
     c.boundaries-start1.ensures c.info-end.result c.info-end.ensures.value in
     let writing = c.new-writer.ensures.writing c.args.heap.now (part setting) (part-lies setting) refl refl
     (part-covered setting) in
@@ -50,7 +50,7 @@ pub lay_part-requires-2 : goal.lay_part-requires-2
 lay_part-requires-2 c =
     let (old, before, empty, s) = c.requires.can in
     let setting = setting_of c.args.types.now old c.args.heap.now before c.args.bricks.now empty c.args.queue.now
-    c.args.g c.args.e c.args.low c.args.from s c.segments.ensures.heap c.boundaries-start1.result
+    c.args.g c.args.e c.args.low c.args.from s c.info-end.ensures.heap c.boundaries-start1.result
     c.boundaries-start1.ensures c.info-end.result c.info-end.ensures.value in
     let writing = c.new-writer.ensures.writing c.args.heap.now (part setting) (part-lies setting) refl refl
     (part-covered setting) in
@@ -87,7 +87,7 @@ pub finish-requires-clause-can : goal.finish-requires-clause-can
 finish-requires-clause-can c =
     let (old, before, empty, s) = c.requires.can in
     let setting = setting_of c.args.types.now old c.args.heap.now before c.args.bricks.now empty c.args.queue.now
-    c.args.g c.args.e c.args.low c.args.from s c.segments.ensures.heap c.boundaries-start1.result
+    c.args.g c.args.e c.args.low c.args.from s c.info-end.ensures.heap c.boundaries-start1.result
     c.boundaries-start1.ensures c.info-end.result c.info-end.ensures.value in
     let writing = c.new-writer.ensures.writing c.args.heap.now (part setting) (part-lies setting) refl refl
     (part-covered setting) in
@@ -122,7 +122,7 @@ pub past_pins-requires : goal.past_pins-requires
 past_pins-requires c =
     let (old, before, empty, s) = c.requires.can in
     let setting = setting_of c.args.types.now old c.args.heap.now before c.args.bricks.now empty c.args.queue.now
-    c.args.g c.args.e c.args.low c.args.from s c.segments.ensures.heap c.boundaries-start1.result
+    c.args.g c.args.e c.args.low c.args.from s c.info-end.ensures.heap c.boundaries-start1.result
     c.boundaries-start1.ensures c.info-end.result c.info-end.ensures.value in
     let writing = c.new-writer.ensures.writing c.args.heap.now (part setting) (part-lies setting) refl refl
     (part-covered setting) in
@@ -155,7 +155,7 @@ pub returns : goal.returns
 returns c = record {
   laid = λ old before empty s.
       let setting = setting_of c.args.types.now old c.args.heap.now before c.args.bricks.now empty c.args.queue.now
-      c.args.g c.args.e c.args.low c.args.from s c.segments.ensures.heap c.boundaries-start1.result
+      c.args.g c.args.e c.args.low c.args.from s c.info-end.ensures.heap c.boundaries-start1.result
       c.boundaries-start1.ensures c.info-end.result c.info-end.ensures.value in
       let writing = c.new-writer.ensures.writing c.args.heap.now (part setting) (part-lies setting) refl refl
       (part-covered setting) in

@@ -40,9 +40,9 @@ lay_part-requires c =
     record { builder = record { brick = first_place s / 4096; plugs = [] }; last = 0 } in v) e in
     let writing = c.new-writer.ensures.writing c.args.heap.now (segment_part old c.args.k [])
     (lay-part-of w c.args.types.now old c.args.heap.now c.args.bricks.now c.args.queue.now c.args.from starts free
-    c.args.k below can c.segments.ensures.heap) (sym (ap first_place e)) refl can.covered in
+    c.args.k below can c.info-segment.ensures.heap) (sym (ap first_place e)) refl can.covered in
     let lay = can-lay w c.args.types.now old c.args.heap.now c.args.bricks.now c.args.queue.now c.args.from starts free
-    c.args.k below can c.segments.ensures.heap c.new-writer.new.bricks c.new-writer.result writing value in
+    c.args.k below can c.info-segment.ensures.heap c.new-writer.new.bricks c.new-writer.result writing value in
     let P : SegInfo → Type 0 = λ s. CanLay w c.args.types.now old (progress (written c.args.heap.now
     c.new-writer.new.bricks c.args.queue.now c.new-writer.result) c.args.from (first_place s)) starts free
     (segment_part old c.args.k []) (stretch c.args.k (first_place s) s.end) in
@@ -61,9 +61,9 @@ finish-requires c =
     record { builder = record { brick = first_place s / 4096; plugs = [] }; last = 0 } in v) e in
     let writing = c.new-writer.ensures.writing c.args.heap.now (segment_part old c.args.k [])
     (lay-part-of w c.args.types.now old c.args.heap.now c.args.bricks.now c.args.queue.now c.args.from starts free
-    c.args.k below can c.segments.ensures.heap) (sym (ap first_place e)) refl can.covered in
+    c.args.k below can c.info-segment.ensures.heap) (sym (ap first_place e)) refl can.covered in
     let lay = can-lay w c.args.types.now old c.args.heap.now c.args.bricks.now c.args.queue.now c.args.from starts free
-    c.args.k below can c.segments.ensures.heap c.new-writer.new.bricks c.new-writer.result writing value in
+    c.args.k below can c.info-segment.ensures.heap c.new-writer.new.bricks c.new-writer.result writing value in
     let Q : SegInfo → Type 0 = λ s. CanLay w c.args.types.now old (progress (written c.args.heap.now
     c.new-writer.new.bricks c.args.queue.now c.new-writer.result) c.args.from (first_place s)) starts free
     (segment_part old c.args.k []) (stretch c.args.k (first_place s) s.end)
@@ -79,9 +79,9 @@ finish-requires c =
     record {
       can = subst (λ (s : SegInfo). CanAdvance c.lay_part.new.heap c.lay_part.new.bricks c.lay_part.new.laying.writer
           ((s.end + 4095) / 4096)) (sym e) (can-end w c.args.types.now old c.args.heap.now c.args.bricks.now
-          c.args.queue.now c.args.from starts free c.args.k below can c.segments.ensures.heap c.new-writer.new.bricks
-          c.lay_part.new.bricks c.new-writer.result c.lay_part.new.laying.writer c.lay_part.new.heap
-          c.lay_part.new.queue c.lay_part.new.laying.below c.lay_part.new.laying.at laid);
+          c.args.queue.now c.args.from starts free c.args.k below can c.info-segment.ensures.heap
+          c.new-writer.new.bricks c.lay_part.new.bricks c.new-writer.result c.lay_part.new.laying.writer
+          c.lay_part.new.heap c.lay_part.new.queue c.lay_part.new.laying.below c.lay_part.new.laying.at laid);
       fits = omega (arith, high, top, small, same);
     }
 
@@ -97,9 +97,9 @@ returns-clause-laid c = λ old w starts free below can.
     record { builder = record { brick = first_place s / 4096; plugs = [] }; last = 0 } in v) e in
     let writing = c.new-writer.ensures.writing c.args.heap.now (segment_part old c.args.k [])
     (lay-part-of w c.args.types.now old c.args.heap.now c.args.bricks.now c.args.queue.now c.args.from starts free
-    c.args.k below can c.segments.ensures.heap) (sym (ap first_place e)) refl can.covered in
+    c.args.k below can c.info-segment.ensures.heap) (sym (ap first_place e)) refl can.covered in
     let lay = can-lay w c.args.types.now old c.args.heap.now c.args.bricks.now c.args.queue.now c.args.from starts free
-    c.args.k below can c.segments.ensures.heap c.new-writer.new.bricks c.new-writer.result writing value in
+    c.args.k below can c.info-segment.ensures.heap c.new-writer.new.bricks c.new-writer.result writing value in
     let Q : SegInfo → Type 0 = λ s. CanLay w c.args.types.now old (progress (written c.args.heap.now
     c.new-writer.new.bricks c.args.queue.now c.new-writer.result) c.args.from (first_place s)) starts free
     (segment_part old c.args.k []) (stretch c.args.k (first_place s) s.end)
@@ -113,7 +113,7 @@ returns-clause-laid c = λ old w starts free below can.
     let S : SegInfo → Type 0 = λ s. (i : ℕ) → (i < c.lay_part.new.laying.writer.builder.brick)
     ⊎ ((s.end + 4095) / 4096 ≤ i) → entry_at c.finish.new.bricks i ≡ entry_at c.lay_part.new.bricks i in
     laid-segment w c.args.types.now old c.args.heap.now c.args.bricks.now c.args.queue.now c.args.from starts free
-    c.args.k below can c.segments.ensures.heap c.new-writer.new.bricks c.lay_part.new.bricks c.new-writer.result
+    c.args.k below can c.info-segment.ensures.heap c.new-writer.new.bricks c.lay_part.new.bricks c.new-writer.result
     c.lay_part.new.laying.writer c.lay_part.new.heap c.lay_part.new.queue c.lay_part.new.laying.below
     c.lay_part.new.laying.at laid c.finish.new.heap c.finish.new.bricks (c.new-writer.ensures.bricks
     ∙ ap (λ (s : SegInfo). with_value c.args.bricks.now (first_place s / 4096 - 1) (pos 0)) e) value

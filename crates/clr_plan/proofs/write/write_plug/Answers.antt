@@ -20,7 +20,7 @@ use Rattle.clr_plan.proofs.write.write_plug.Goals as goal
 pub save_words-requires-clause-info : goal.save_words-requires-clause-info
 save_words-requires-clause-info c =
     let r = c.requires.can.writing in
-    place_info c.args.heap.now r.part c.args.plug.start c.segments.ensures.heap r.writing.planning.plan.lies r.place
+    place_info c.args.heap.now r.part c.args.plug.start c.requires.can.heap r.writing.planning.plan.lies r.place
 
 pub returns-clause-writing : goal.returns-clause-writing
 returns-clause-writing c part writing place above =

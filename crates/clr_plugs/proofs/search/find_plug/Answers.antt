@@ -6,20 +6,24 @@ use Rattle.clr_plugs.proofs.Nearest.{found_words, held_at, nothing_found, plug_f
 use Rattle.clr_plugs.proofs.search.find_plug.Goals as goal
 
 pub segment_of-k-requires : goal.segment_of-k-requires
-segment_of-k-requires g c = (held_at c.args.heap.now c.args.bricks.now c.args.a c.segments.ensures.heap c.requires).word
+segment_of-k-requires g c = (held_at c.args.heap.now c.args.bricks.now c.args.a c.lawful.ensures c.requires).word
 
 pub greatest_start-start-requires : goal.greatest_start-start-requires
 greatest_start-start-requires g c =
-    let held = held_at c.args.heap.now c.args.bricks.now c.args.a c.segments.ensures.heap c.requires in
-    rw (c.segment_of-k.ensures, ← held.segment) (record { here = held.here; below = held.below; some = held.some })
+    let held = held_at c.args.heap.now c.args.bricks.now c.args.a c.lawful.ensures c.requires in
+    rw (c.segment_of-k.ensures, ← held.segment) (record {
+      here = held.here;
+      below = held.below;
+      some = held.some;
+      heap = c.lawful.ensures;
+    })
 
 pub word_at-requires : goal.word_at-requires
 word_at-requires g c =
     let i = c.requires in
-    let held = held_at c.args.heap.now c.args.bricks.now c.args.a c.segments.ensures.heap i in
+    let held = held_at c.args.heap.now c.args.bricks.now c.args.a c.lawful.ensures i in
     let w = found_words c.args.heap.now c.args.bricks.now c.args.a c.greatest_start-start.result.0
-    c.segments.ensures.heap
-    i c.if-start-eq0.false (c.greatest_start-start.ensures.found i.part i.planned i.low i.high) in
+    c.lawful.ensures i c.if-start-eq0.false (c.greatest_start-start.ensures.found i.part i.planned i.low i.high) in
     record { word = w.distance; segment = c.segment_of-k.ensures ∙ sym held.segment ∙ w.distance_in }
 
 pub returns-then-start-eq0 : goal.returns-then-start-eq0

@@ -10,7 +10,7 @@ use Rattle.clr_plugs.proofs.words.put_info.Goals as goal
 pub set_word_at-requires-2 : goal.set_word_at-requires-2
 set_word_at-requires-2 c =
     let can = first_can c.args.heap.now c.args.plug c.args.info.gap 0 0
-    (info_words c.args.heap.now c.args.plug c.segments.ensures.heap c.requires) in
+    (info_words c.args.heap.now c.args.plug c.lawful.ensures c.requires) in
     record {
       word = rw c.set_word_at.ensures can.0;
       segment = rw c.set_word_at.ensures (c.segment_near-k.ensures ∙ can.1);
@@ -19,7 +19,7 @@ set_word_at-requires-2 c =
 pub set_word_at-requires-3 : goal.set_word_at-requires-3
 set_word_at-requires-3 c =
     let can = second_can c.args.heap.now c.args.plug c.args.info.gap c.cast_unsigned.result 0
-    (info_words c.args.heap.now c.args.plug c.segments.ensures.heap c.requires) in
+    (info_words c.args.heap.now c.args.plug c.lawful.ensures c.requires) in
     record {
       word = rw (c.set_word_at-2.ensures, c.set_word_at.ensures) can.0;
       segment = rw (c.set_word_at-2.ensures, c.set_word_at.ensures) (c.segment_near-k.ensures ∙ can.1);
@@ -29,7 +29,7 @@ pub returns : goal.returns
 returns c =
     let h = c.args.heap.now in
     let plug = c.args.plug in
-    let w = info_words h plug c.segments.ensures.heap c.requires in
+    let w = info_words h plug c.lawful.ensures c.requires in
     let gap = c.args.info.gap in
     let distance = c.cast_unsigned.result in
     let children = c.both_children.result in

@@ -26,7 +26,7 @@ loop-passed-init c = record {
     r,
     refl,
     refl,
-    c.new-line.ensures vs r.0.told,
+    c.new-moves.ensures vs r.0.told,
     no_plugs_gone c.args.work.now.types.now view c.args.work.now.g vs,
     λ k l. absurd (omega (arith, l)),
   );

@@ -145,11 +145,9 @@ relocate_slot-requires-clause-can c =
     let within = resting.within in
     let low = c.loop-at.invariant.1 in
     let passed = all_rest c.args.work.now c.args.object.now c.args.heap.now c.args.pins.now c.args.cards.now
-    c.args.last.now
-    c.loop-at.heap c.loop-at.pins c.loop-at.cards c.loop-at.last c.requires.placed.age c.requires.few resting.heap
-    c.args.run.offset
-    c.args.run.count c.requires.run c.loop-at.at c.resting_words-at.result (omega (arith, within, low))
-    c.loop-at.invariant.0 resting.rest in
+    c.args.last.now c.loop-at.heap c.loop-at.pins c.loop-at.cards c.loop-at.last c.requires.placed.age c.requires.few
+    c.args.run.offset c.args.run.count c.requires.run c.loop-at.at c.resting_words-at.result
+    (omega (arith, within, low)) c.loop-at.invariant.0 resting.rest in
     let ne = c.if-at-run.false in
     run_next c.args.work.now c.args.object.now c.args.heap.now c.args.pins.now c.args.cards.now c.args.last.now
     c.loop-at.heap c.loop-at.pins c.loop-at.cards c.loop-at.last c.args.run.offset c.args.run.count c.requires.run
@@ -183,11 +181,9 @@ loop-at-preserved c =
     let within = resting.within in
     let low = c.loop-at.invariant.1 in
     let passed = all_rest c.args.work.now c.args.object.now c.args.heap.now c.args.pins.now c.args.cards.now
-    c.args.last.now
-    c.loop-at.heap c.loop-at.pins c.loop-at.cards c.loop-at.last c.requires.placed.age c.requires.few resting.heap
-    c.args.run.offset
-    c.args.run.count c.requires.run c.loop-at.at c.resting_words-at.result (omega (arith, within, low))
-    c.loop-at.invariant.0 resting.rest in
+    c.args.last.now c.loop-at.heap c.loop-at.pins c.loop-at.cards c.loop-at.last c.requires.placed.age c.requires.few
+    c.args.run.offset c.args.run.count c.requires.run c.loop-at.at c.resting_words-at.result
+    (omega (arith, within, low)) c.loop-at.invariant.0 resting.rest in
     let ne = c.if-at-run.false in
     let slot = c.relocate_slot in
     let less : c.loop-at.at + c.resting_words-at.result < c.args.run.count = omega (arith, within, low, ne) in (
@@ -204,11 +200,9 @@ returns-then-at-run-clause-gone c =
     let within = resting.within in
     let low = c.loop-at.invariant.1 in
     let passed = all_rest c.args.work.now c.args.object.now c.args.heap.now c.args.pins.now c.args.cards.now
-    c.args.last.now
-    c.loop-at.heap c.loop-at.pins c.loop-at.cards c.loop-at.last c.requires.placed.age c.requires.few resting.heap
-    c.args.run.offset
-    c.args.run.count c.requires.run c.loop-at.at c.resting_words-at.result (omega (arith, within, low))
-    c.loop-at.invariant.0 resting.rest in
+    c.args.last.now c.loop-at.heap c.loop-at.pins c.loop-at.cards c.loop-at.last c.requires.placed.age c.requires.few
+    c.args.run.offset c.args.run.count c.requires.run c.loop-at.at c.resting_words-at.result
+    (omega (arith, within, low)) c.loop-at.invariant.0 resting.rest in
     passed_all c.args.work.now c.args.object.now c.args.heap.now c.args.pins.now c.args.cards.now c.args.last.now
     c.loop-at.heap c.loop-at.pins c.loop-at.cards c.loop-at.last
     (offsets_from c.args.run.offset (c.loop-at.at + c.resting_words-at.result)) passed

@@ -126,7 +126,7 @@ returns-clause-runtime c =
           (placed at.In_default name len measured) new.heap c.in-Some.place c.index_of.result finals.entries
           finals.ready (born at.After-register_entry name len measured) c.index_of.ensures.index
           (registered at.After-register_entry name len measured) c.register_entry.ensures.ready;
-      heap = c.lawful.ensures;
+      heap = done.born.heap;
       tables = kind_tables Large p.types p.space.heap new.heap c.in-Some.place type c.args.request.len p.space.cards
           p.safe p.space.bricks
           new.bricks done.born done.own_bricks done.bricks done.cards (closed is.shown) is.tables;
@@ -137,7 +137,7 @@ returns-clause-runtime c =
           let more = c.in_default.ensures.spare in
           omega (arith, entry, same, more)) is.owed c.register_entry.ensures.spare;
       finalizers = is.finalizers;
-      index = index_kept young_items p.types p.types p.space.heap new.heap p.workshop.contexts
+      index = index_kept young_items p.types p.types p.space.heap new.heap p.workshop.young
           (young_placed (seen p) is.shown.sound.lawful Large refl _ c.in-Some.place _ done.born.layout) is.index;
       large = done.index;
       pinned = index_kept (kind_items Pinned) p.types p.types p.space.heap new.heap p.pinned

@@ -162,7 +162,7 @@ returns-clause-runtime c =
           let more = c.in_default.ensures.spare in
           omega (arith, entry, same, more)) is.owed c.register_entry.ensures.spare;
       finalizers = is.finalizers;
-      index = index_kept young_items p.types p.types p.space.heap done.new.heap p.workshop.contexts
+      index = index_kept young_items p.types p.types p.space.heap done.new.heap p.workshop.young
           (ap young_items done.ensures.born.layout) is.index;
       large = index_kept (kind_items Large) p.types p.types p.space.heap done.new.heap p.large
           (ap (kind_items Large) done.ensures.born.layout) is.large;

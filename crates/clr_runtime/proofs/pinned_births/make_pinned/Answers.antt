@@ -89,13 +89,13 @@ returns-clause-runtime c =
       shown = pinned_kept (seen c.args.parts.now) is.shown c.args.t c.args.local name len type c.args.request.size
           (placed at.In_default name len measured) new.heap c.in-Some.place c.index_of.result
           (born at.In-Some name len measured) c.index_of.ensures.index;
-      heap = c.lawful.ensures;
+      heap = done.born.heap;
       tables = kind_tables Pinned p.types p.space.heap new.heap c.in-Some.place type c.args.request.len p.space.cards
           p.safe
           p.space.bricks new.bricks done.born done.own_bricks done.bricks done.cards (closed is.shown) is.tables;
       owed = is.owed;
       finalizers = is.finalizers;
-      index = index_kept young_items p.types p.types p.space.heap new.heap p.workshop.contexts
+      index = index_kept young_items p.types p.types p.space.heap new.heap p.workshop.young
           (young_placed (seen p) is.shown.sound.lawful Pinned refl _ c.in-Some.place _ done.born.layout) is.index;
       large = index_kept (kind_items Large) p.types p.types p.space.heap new.heap p.large
           (kind_placed Large Pinned refl (seen p) is.shown.sound.lawful _ c.in-Some.place _ done.born.layout) is.large;

@@ -9,16 +9,16 @@ use Rattle.clr_runtime.proofs.rooms.refill.Goals.{After-is_some}
 
 -- the parts afterwards
 abbrev relaid : After-is_some → Parts
-relaid c = relaid_parts c.args.parts.now c.refill-refilled.new.heap c.refill-refilled.new.self
+relaid c = relaid_parts c.args.parts.now c.refill.new.heap c.refill.new.self
 
 answered : (c : After-is_some)
-    → IsRefill c.args.parts.now (relaid c) c.args.thread c.args.size (is_some c.refill-refilled.result)
+    → IsRefill c.args.parts.now (relaid c) c.args.thread c.args.size (is_some c.refill.result)
     × IsRuntime (relaid c)
 answered c =
-    let done = c.refill-refilled in
+    let done = c.refill in
     refill_answers c.args.parts.now c.requires.runtime c.args.thread c.args.size c.requires.positive
     c.requires.few c.requires.idle (c.requires.least, c.requires.whole) done.new.heap done.new.self done.result
-    done.ensures.none done.ensures.refilled done.ensures.index c.lawful.ensures
+    done.ensures.none done.ensures.refilled done.ensures.index
 
 pub returns-clause-refilled : goal.returns-clause-refilled
 returns-clause-refilled c = rw c.is_some.ensures (answered c).0

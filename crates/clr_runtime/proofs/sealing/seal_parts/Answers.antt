@@ -17,4 +17,4 @@ returns-clause-runtime c =
     let within = segment_allowed p c.requires.runtime (Ok tt) done.over_limit (λ e. cc) in
     rw c.forget.ensures
     (sealed_kept p c.requires.runtime c.requires.no_contexts within new.heap done.objects done.layout new.cards
-    new.bricks c.lawful.ensures done.sealed done.held done.unmarked done.free_heads done.clean done.tables)
+    new.bricks done.lawful done.sealed done.held done.unmarked done.free_heads done.clean done.tables)

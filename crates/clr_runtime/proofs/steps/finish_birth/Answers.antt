@@ -139,7 +139,7 @@ returns-clause-runtime c =
       owed = birth_owed p is c.args.t c.requires.thread c.args.type_id c.args.len c.args.local c.args.finalizer
           c.requires.begun finals.spare c.register_entry.ensures.spare;
       finalizers = finalizers-begun p.types p.safe c.args.t Nothing is.finalizers tt;
-      index = index_kept young_items p.types p.types p.space.heap done.new.heap p.workshop.contexts
+      index = index_kept young_items p.types p.types p.space.heap done.new.heap p.workshop.young
           (ap young_items done.ensures.born.layout) is.index;
       large = index_kept (kind_items Large) p.types p.types p.space.heap done.new.heap p.large
           (ap (kind_items Large) done.ensures.born.layout) is.large;

@@ -92,13 +92,13 @@ put_cells-requires-clause-segment c =
     let inv = c.loop-place.invariant in
     let within = inv.within in
     let seg = ap (λ (s : SegInfo). s.end) c.info-segment.ensures.value in
-    λ a aligned from to. in_segment c.args.heap.now c.args.k c.loop-place.run c.loop-place.place a c.lawful.ensures
-    c.requires.in_range inv.low (omega arith) from to
+    λ a aligned from to. in_segment c.args.heap.now c.args.k c.loop-place.run c.loop-place.place a
+    c.info-segment.ensures.heap c.requires.in_range inv.low (omega arith) from to
 
 pub put_cells-requires-2-clause-segment : goal.put_cells-requires-2-clause-segment
 put_cells-requires-2-clause-segment c =
     let inv = c.loop-place.invariant in
     let within = inv.within in
     let seg = ap (λ (s : SegInfo). s.end) c.info-segment.ensures.value in
-    λ a aligned from to. in_segment c.args.heap.now c.args.k c.loop-place.run c.loop-place.place a c.lawful.ensures
-    c.requires.in_range inv.low (omega arith) from to
+    λ a aligned from to. in_segment c.args.heap.now c.args.k c.loop-place.run c.loop-place.place a
+    c.info-segment.ensures.heap c.requires.in_range inv.low (omega arith) from to

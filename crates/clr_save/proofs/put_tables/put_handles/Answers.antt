@@ -18,7 +18,7 @@ loop-number-init c =
 pub loop-number-preserved : goal.loop-number-preserved
 loop-number-preserved c =
     let next = c.in-Some.ensures.found in
-    let below = c.lawful.ensures c.in-Some.number c.in-Some.handle next.in_use in
+    let below = c.in-Some.ensures.below c.in-Some.number c.in-Some.handle next.in_use in
     record {
       text = rw (c.in_ok-put_handle.ensures, c.loop-number.invariant.text)
           (handles-more handle_bytes c.args.out.now.items c.args.handles.now c.loop-number.from c.in-Some.number
@@ -30,4 +30,4 @@ pub returns : goal.returns
 returns c =
     c.loop-number.invariant.text
     ∙ ap (λ (entries : List (ℕ × Handle)). c.args.out.now.items ++ flat_map handle_bytes entries)
-    (entries-all c.args.handles.now c.loop-number.from c.lawful.ensures c.in_default.ensures.none)
+    (entries-all c.args.handles.now c.loop-number.from c.in_default.ensures.below c.in_default.ensures.none)

@@ -6,10 +6,11 @@ use Rattle.clr_save.proofs.writing.save.Goals as goal
 
 pub returns-clause-image : goal.returns-clause-image
 returns-clause-image c m shows =
-    image-saved c.args.snapshot.now m _ _ c.lawful.ensures shows c.in_ok-out.ensures.items c.in_ok-put_image.ensures
+    image-saved c.args.snapshot.now m _ _ c.image_len.ensures.heap shows c.in_ok-out.ensures.items
+    c.in_ok-put_image.ensures
 
 pub returns-clause-lawful : goal.returns-clause-lawful
 returns-clause-lawful c m shows sound =
-    let fit = c.queues_fit.ensures in
+    let fit = c.image_len.ensures in
     subst (IsImageOf m) (sym (returns-clause-image c m shows))
-    (image-lawful c.args.snapshot.now m c.lawful.ensures shows sound fit.entries fit.ready)
+    (image-lawful c.args.snapshot.now m fit.heap shows sound fit.entries fit.ready)

@@ -8,6 +8,6 @@ returns-clause-answered c =
     let done = c.in_ok-read.ensures in (
       _,
       done.answered,
-      front_written c.args.buffer.now c.answer_line.new.into _ c.args.at _ c.in_ok-read.written
+      front_written c.args.buffer.now c.answer_into.new.into _ c.args.at _ c.in_ok-read.written
           (omega arith) done.within refl,
     )

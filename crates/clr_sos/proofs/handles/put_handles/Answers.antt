@@ -21,7 +21,7 @@ loop-number-init c =
 pub loop-number-preserved : goal.loop-number-preserved
 loop-number-preserved c =
     let next = c.in-Some.ensures.found in
-    let below = c.lawful.ensures c.in-Some.number c.in-Some.handle next.in_use in
+    let below = c.in-Some.ensures.below c.in-Some.number c.in-Some.handle next.in_use in
     let above = next.above in
     let few = c.loop-number.invariant.few in
     record {
@@ -38,10 +38,10 @@ pub returns-clause-text : goal.returns-clause-text
 returns-clause-text c =
     c.loop-number.invariant.text
     ∙ ap (λ (entries : List (ℕ × Handle)). c.args.text.now.items ++ flat_map handle_line entries)
-    (entries-all c.args.handles.now c.loop-number.from c.lawful.ensures c.in_default.ensures.none)
+    (entries-all c.args.handles.now c.loop-number.from c.in_default.ensures.below c.in_default.ensures.none)
 
 pub returns-clause-count : goal.returns-clause-count
 returns-clause-count c =
     c.loop-number.invariant.count
-    ∙ ap length (entries-all c.args.handles.now c.loop-number.from c.lawful.ensures c.in_default.ensures.none)
+    ∙ ap length (entries-all c.args.handles.now c.loop-number.from c.in_default.ensures.below c.in_default.ensures.none)
     ∙ sym (finmap.len-entries c.args.handles.now)

@@ -12,8 +12,8 @@ pub returns-in_ok-text-in-Any-clause-text : goal.returns-in_ok-text-in-Any-claus
 returns-in_ok-text-in-Any-clause-text c = λ m is live tests.
     listing-text m c.args.view.now.types.now c.args.view.now.heap.now
     (options_of c.args.filter.now) c.in-Some.wanted live
-    c.in_ok-text-in-Any.text.items c.lawful.ensures c.requires.held is.types is.objects is.layout
-    (c.in-Some.ensures.tests live) (c.in_ok-text-in-Any.ensures live)
+    c.in_ok-text-in-Any.text.items c.listing_of_all.ensures.heap c.requires.held is.types is.objects is.layout
+    (c.in-Some.ensures.tests live) (c.in_ok-text-in-Any.ensures.text live)
 
 -- where an option on life is given, any life isn't what was asked for
 not_any : (given : Life) → (given ≡ life.Live) ⊎ (given ≡ life.Dead) → given ≢ life.Any
@@ -27,8 +27,9 @@ listing_by_life-requires c = record {
 
 pub returns-in_ok-text-in-Live-clause-text : goal.returns-in_ok-text-in-Live-clause-text
 returns-in_ok-text-in-Live-clause-text c = λ m is live tests.
+    let shown = c.requires.shown (not_any c.args.filter.now.life c.in-Live.is) in
     listing-text m c.args.view.now.types.now c.args.view.now.heap.now
     (options_of c.args.filter.now) c.in-Some.wanted live
-    c.in_ok-text-in-Live.text.items c.lawful.ensures c.requires.held is.types is.objects is.layout
+    c.in_ok-text-in-Live.text.items shown.heap c.requires.held is.types is.objects is.layout
     (c.in-Some.ensures.tests live)
     (c.in_ok-text-in-Live.ensures m is live (tests-life c.args.filter.now.life live (Live m) c.in-Live.is tests))

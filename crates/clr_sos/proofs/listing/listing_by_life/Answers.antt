@@ -8,11 +8,13 @@ use Rattle.clr_sos.proofs.ViewNames.{sound_shown}
 use Rattle.clr_sos.proofs.listing.listing_by_life.Goals as goal
 
 pub reach-requires : goal.reach-requires
-reach-requires c = record { sound = sound_shown c.args.view.now c.lawful.ensures c.requires.shown }
+reach-requires c = record { sound = sound_shown c.args.view.now c.requires.shown }
 
 pub listing_where-requires-clause-ask : goal.listing_where-requires-clause-ask
-listing_where-requires-clause-ask c = λ i is some κs p e a l.
-    item-word c.args.view.now.types.now c.args.view.now.heap.now c.lawful.ensures c.requires.shown.held i is
+listing_where-requires-clause-ask c = λ i is some κs p e a l. (
+  c.requires.shown.heap,
+  item-word c.args.view.now.types.now c.args.view.now.heap.now c.requires.shown.heap c.requires.shown.held i is,
+)
 
 pub returns : goal.returns
 returns c =
@@ -24,6 +26,6 @@ returns c =
     told live (λ i at some answer a.
     let here : answer ≡ is_seen h seen i.place = search rules in
     answer-told (Live m) answer (is_seen h seen i.place) (is_listed entries) live i.place here
-    (c.in_ok-reached.ensures.seen i.place (item-stands rows h c.lawful.ensures c.requires.shown.held i at some))
+    (c.in_ok-reached.ensures.seen i.place (item-stands rows h c.requires.shown.heap c.requires.shown.held i at some))
     (c.in_ok-reached.ensures.exact m is) tests))
-    c.listing_where.ensures
+    c.listing_where.ensures.text

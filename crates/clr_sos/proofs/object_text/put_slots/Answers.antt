@@ -11,11 +11,11 @@ use Rattle.clr_sos.proofs.object_text.put_slots.Goals as goal
 
 pub slot-slot-requires-clause-known : goal.slot-slot-requires-clause-known
 slot-slot-requires-clause-known c =
-    listed-known c.args.types.now c.args.heap.now c.args.item.now c.lawful.ensures c.requires.held c.requires.listed
+    listed-known c.args.types.now c.args.heap.now c.args.item.now c.requires.heap c.requires.held c.requires.listed
 
 pub slot-slot-requires-clause-size : goal.slot-slot-requires-clause-size
 slot-slot-requires-clause-size c =
-    listed-small c.args.types.now c.args.heap.now c.args.item.now c.lawful.ensures c.requires.held c.requires.listed
+    listed-small c.args.types.now c.args.heap.now c.args.item.now c.requires.heap c.requires.held c.requires.listed
 
 pub loop-i-preserved : goal.loop-i-preserved
 loop-i-preserved c =

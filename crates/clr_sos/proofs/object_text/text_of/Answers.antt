@@ -5,15 +5,15 @@ use Rattle.clr_sos.proofs.object_text.text_of.Goals as goal
 
 pub put_head-requires : goal.put_head-requires
 put_head-requires c =
-    listed-known c.args.types.now c.args.heap.now c.args.item.now c.lawful.ensures c.requires.held c.requires.listed
+    listed-known c.args.types.now c.args.heap.now c.args.item.now c.requires.heap c.requires.held c.requires.listed
 
 pub slot_count-count-requires-clause-known : goal.slot_count-count-requires-clause-known
 slot_count-count-requires-clause-known c =
-    listed-known c.args.types.now c.args.heap.now c.args.item.now c.lawful.ensures c.requires.held c.requires.listed
+    listed-known c.args.types.now c.args.heap.now c.args.item.now c.requires.heap c.requires.held c.requires.listed
 
 pub slot_count-count-requires-clause-size : goal.slot_count-count-requires-clause-size
 slot_count-count-requires-clause-size c =
-    listed-small c.args.types.now c.args.heap.now c.args.item.now c.lawful.ensures c.requires.held c.requires.listed
+    listed-small c.args.types.now c.args.heap.now c.args.item.now c.requires.heap c.requires.held c.requires.listed
 
 pub returns : goal.returns
 returns c =

@@ -13,8 +13,11 @@ loop-next-init c = record {
   followed = λ i y low. absurd (omega (arith, low));
 }
 
-pub has-requires : goal.has-requires
-has-requires c = (numbered c.args.view.now c.requires.sound c.args.a c.requires.stands).word
+pub has-requires-clause-heap : goal.has-requires-clause-heap
+has-requires-clause-heap c = c.requires.sound.closed.heap
+
+pub has-requires-clause-word : goal.has-requires-clause-word
+has-requires-clause-word c = (numbered c.args.view.now c.requires.sound c.args.a c.requires.stands).word
 
 pub returns-then-has-clause-exact : goal.returns-then-has-clause-exact
 returns-then-has-clause-exact c = λ none. absurd (false≢true (sym none

@@ -3,7 +3,7 @@ use Rattle.std.proofs.Common.{ℕ, ap, ◌∙◌, subst, refl, arith, true}
 use Rattle.clr_heap.specs.View.{HeapView}
 use Rattle.clr_mark.proofs.Remarking.{keeps_stands}
 use Rattle.clr_moves.specs.Objects.{is_in_parts}
-use Rattle.clr_moves.specs.declared.parts.Parts.TheVariants.{LargeSegments}
+use Rattle.clr_moves.specs.declared.condemned.Condemned.TheVariants.{LargeSegments}
 use Rattle.clr_plan.specs.Planned.{HasPlanned}
 use Rattle.clr_survivors.proofs.PinnedFrom.{table_from}
 use Rattle.clr_survivors.proofs.PinsTold.{few-pinned, memory-kept, tells-pins}
@@ -39,13 +39,13 @@ plan_large-requires-clause-laid c =
     let seen = table_from 1 table in
     let m = with_handles n seen in (
       m,
-      memory-kept rows marked new table 1 heap held true c.set_pins.ensures m
+      memory-kept rows marked new table 1 heap held true c.set_pins.ensures.pins m
           (memory-marked rows old marked c.requires.tidy.heap c.requires.tidy.held words m
           (memory-with rows old n seen is.memory)),
       laid-with n seen named.lawful.laid,
       tells-pins rows marked new table 1 heap held
           (clean-marked rows old marked c.requires.tidy.heap c.requires.tidy.held words c.requires.tidy.clean)
-          c.lawful.ensures c.set_pins.ensures m refl,
+          c.set_pins.ensures.below c.set_pins.ensures.pins m refl,
     )
 
 pub plan_large-requires-clause-free_heads : goal.plan_large-requires-clause-free_heads
@@ -54,7 +54,7 @@ plan_large-requires-clause-free_heads c =
     let old = c.args.space.now.heap in
     let marked = c.mark_large.new.heap in
     let words = c.mark_large.ensures.words in
-    c.set_pins.ensures.free_heads
+    c.set_pins.ensures.pins.free_heads
     (heads_remarked rows old marked c.requires.tidy.heap c.requires.tidy.held
     (marked-heap rows old marked c.requires.tidy.heap c.requires.tidy.held words)
     (marked-held rows old marked c.requires.tidy.heap c.requires.tidy.held words) words c.requires.tidy.free_heads)
@@ -69,7 +69,7 @@ plan_large-requires-clause-spare c =
     (marked-heap rows old marked c.requires.tidy.heap c.requires.tidy.held words)
     (marked-held rows old marked c.requires.tidy.heap c.requires.tidy.held words)
     (clean-marked rows old marked c.requires.tidy.heap c.requires.tidy.held words c.requires.tidy.clean)
-    c.lawful.ensures c.set_pins.ensures in
+    c.set_pins.ensures.below c.set_pins.ensures.pins in
     let room = c.requires.ready.room in
     omega (arith, few, room)
 
@@ -81,7 +81,7 @@ returns-clause-planned c = λ m memory same.
     let view = c.set_pins.new.heap in
     let table = c.args.roots.now.handles in
     let words = c.mark_large.ensures.words in
-    let pins = c.set_pins.ensures in
+    let pins = c.set_pins.ensures.pins in
     let heap = marked-heap rows old marked c.requires.tidy.heap c.requires.tidy.held words in
     let held = marked-held rows old marked c.requires.tidy.heap c.requires.tidy.held words in
     let kept = is_in_parts old LargeSegments in
@@ -99,7 +99,7 @@ returns-clause-planned c = λ m memory same.
     c.mark_large.ensures.marked view table pins)
     (tells-pins rows marked view table 1 heap held
     (clean-marked rows old marked c.requires.tidy.heap c.requires.tidy.held words c.requires.tidy.clean)
-    c.lawful.ensures pins (with_handles m seen) (ap (table_from 1) same))) in
+    c.set_pins.ensures.below pins (with_handles m seen) (ap (table_from 1) same))) in
     record {
       marked = marked;
       remarked = words;

@@ -26,7 +26,7 @@ returns-clause-slid c = λ view vs entry can.
     let (mid, relocated, holds) = c.relocate.ensures.relocated view vs entry can.relocates in
     record {
       mid = mid;
-      heap = c.lawful.ensures;
+      heap = c.slide_large.ensures.lawful;
       relocated = relocated;
       compacted = c.slide_large.ensures.compacted mid vs
           (holds-gone c.args.types.now view c.args.space.now c.args.pins.now.entries vs entry c.args.planned.now

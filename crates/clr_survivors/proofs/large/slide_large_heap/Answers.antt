@@ -24,7 +24,7 @@ slide_by_plan-requires c =
       entries = c.plan_slide.new.pins.entries;
       roots = c.args.roots.now;
       roots_after = c.args.roots.now;
-      planned = c.kept_boundaries-planned.result;
+      planned = c.unmoved-planned.result;
     } in
     let given : IsGiven s = record {
       tidy = c.requires.tidy;
@@ -39,7 +39,7 @@ slide_by_plan-requires c =
         p.view,
         p.plan.moves,
         entry_at c.args.space.now.bricks,
-        can-slide s given c.kept_boundaries-planned.ensures.start1 c.kept_boundaries-planned.ensures.start0 n p
+        can-slide s given c.unmoved-planned.ensures.start1 c.unmoved-planned.ensures.start0 n p
             is.handles,
       );
     }
@@ -54,7 +54,7 @@ stages c = record {
   entries = c.plan_slide.new.pins.entries;
   roots = c.args.roots.now;
   roots_after = c.slide_by_plan.new.roots;
-  planned = c.kept_boundaries-planned.result;
+  planned = c.unmoved-planned.result;
 }
 
 ran : (c : After-slide_by_plan) → IsRun (stages c)
@@ -65,8 +65,8 @@ ran c = record {
     unmarked = c.requires.unmarked;
     world = c.requires.world;
   };
-  start1_is = c.kept_boundaries-planned.ensures.start1;
-  start0_is = c.kept_boundaries-planned.ensures.start0;
+  start1_is = c.unmoved-planned.ensures.start1;
+  start0_is = c.unmoved-planned.ensures.start0;
   plans = c.plan_slide.ensures.planned;
   moves = c.slide_by_plan.ensures.slid;
   start1_kept = c.slide_by_plan.ensures.start1;
@@ -96,8 +96,8 @@ returns-clause-slid c =
       after = course.begun.plan.after;
       slid = slid-all s m course;
       null = null-moved s m course;
-      objects = objects-ended s m course c.set_pins.new.heap c.set_pins.ensures;
-      layout = layout-ended s m course c.set_pins.new.heap c.set_pins.ensures;
+      objects = objects-ended s m course c.set_pins.new.heap c.set_pins.ensures.pins;
+      layout = layout-ended s m course c.set_pins.new.heap c.set_pins.ensures.pins;
       locals = course.went.gone.locals_is;
       handles = course.went.gone.table_is;
       entries = course.went.gone.entries_is;
@@ -110,7 +110,7 @@ returns-clause-tidy c =
     let s = stages at in
     let (m, course) = some-course s (ran at) in
     let new = c.set_pins.new.heap in
-    let e = c.set_pins.ensures in
+    let e = c.set_pins.ensures.pins in
     let bricks = c.slide_by_plan.new.space.bricks in
     let heap = keeps_heap s.moved.heap new e.shape course.went.heap in
     record {
@@ -127,25 +127,25 @@ pub returns-clause-unmarked : goal.returns-clause-unmarked
 returns-clause-unmarked c =
     let at = (goal.at.returns-clause-unmarked c).After-slide_by_plan in
     let (m, course) = some-course (stages at) (ran at) in
-    unmarked-ended (stages at) m course c.set_pins.new.heap c.set_pins.ensures
+    unmarked-ended (stages at) m course c.set_pins.new.heap c.set_pins.ensures.pins
 
 pub returns-clause-no_contexts : goal.returns-clause-no_contexts
 returns-clause-no_contexts c =
     let at = (goal.at.returns-clause-no_contexts c).After-slide_by_plan in
     let (m, course) = some-course (stages at) (ran at) in
-    ap (λ (h : HeapView). h.rests) c.set_pins.ensures.shape.others ∙ rests-moved (stages at) m course
+    ap (λ (h : HeapView). h.rests) c.set_pins.ensures.pins.shape.others ∙ rests-moved (stages at) m course
 
 pub returns-clause-occupied : goal.returns-clause-occupied
 returns-clause-occupied c =
     let at = (goal.at.returns-clause-occupied c).After-slide_by_plan in
     let (m, course) = some-course (stages at) (ran at) in
-    occupied-ended (stages at) m course c.set_pins.new.heap c.set_pins.ensures
+    occupied-ended (stages at) m course c.set_pins.new.heap c.set_pins.ensures.pins
 
 pub returns-clause-limit : goal.returns-clause-limit
 returns-clause-limit c =
     let at = (goal.at.returns-clause-limit c).After-slide_by_plan in
     let (m, course) = some-course (stages at) (ran at) in
-    ap (λ (h : HeapView). h.limit) c.set_pins.ensures.shape.others ∙ limit-moved (stages at) m course
+    ap (λ (h : HeapView). h.limit) c.set_pins.ensures.pins.shape.others ∙ limit-moved (stages at) m course
 
 pub returns-clause-ready : goal.returns-clause-ready
 returns-clause-ready c =

@@ -3,7 +3,7 @@ use Rattle.std.proofs.Common.{refl, ap, sym, ◌∙◌, subst}
 use Rattle.clr_heap.specs.View.{frame}
 use Rattle.clr_generations.specs.Tables.{AreBricksOf}
 use Rattle.clr_moves.specs.Promoted.{bytes_between}
-use Rattle.clr_moves.specs.declared.parts.Parts.TheVariants.{Generations}
+use Rattle.clr_moves.specs.declared.condemned.Condemned.TheVariants.{Generations}
 use Rattle.clr_survivors.specs.Phases.{plan_of}
 use Rattle.clr_survivors.proofs.NamesGone.{names-on}
 use Rattle.clr_survivors.proofs.RelocatedPlan.{frame-between, may-go-on, remembered-on}
@@ -21,8 +21,8 @@ move_roots-requires-clause-go c =
           (may-go-on rows view mid (Generations c.args.g) vs relocated) c.args.roots.now can.names,
     )
 
-pub compact-promoted-requires-clause-plan : goal.compact-promoted-requires-clause-plan
-compact-promoted-requires-clause-plan c =
+pub compact-requires-clause-plan : goal.compact-requires-clause-plan
+compact-requires-clause-plan c =
     let (view, vs, entry, can) = c.requires.can in
     let (mid, relocated, holds) = c.relocate.ensures.relocated view vs entry can.relocates in
     let rows = c.args.types.now in
@@ -47,17 +47,17 @@ returns-clause-moved c = λ view vs entry can.
     ∙ frame-between rows view mid (Generations c.args.g) vs relocated in
     record {
       mid = mid;
-      heap = c.lawful.ensures;
+      heap = c.compact.ensures.lawful;
       relocated = relocated;
-      compacted = c.compact-promoted.ensures.compacted mid vs holds;
+      compacted = c.compact.ensures.compacted mid vs holds;
       gone = c.move_roots.ensures.gone (plan_of rows mid c.relocate.new.pins.entries vs planned) holds
           (names-on (plan_of rows view c.args.pins.now.entries vs planned)
           (plan_of rows mid c.relocate.new.pins.entries vs planned) (Generations c.args.g) refl
           (may-go-on rows view mid (Generations c.args.g) vs relocated) c.args.roots.now can.names);
       card_law = c.relocate.ensures.card_law view vs entry can.relocates;
-      to1_is = c.compact-promoted.ensures.to1 mid vs holds
+      to1_is = c.compact.ensures.to1 mid vs holds
           ∙ ap (λ l. bytes_between l planned vs 0) same;
-      to2_is = c.compact-promoted.ensures.to2 mid vs holds
+      to2_is = c.compact.ensures.to2 mid vs holds
           ∙ ap (λ l. bytes_between l planned vs 1) same;
-      slid = c.compact-promoted.ensures.slides mid vs holds;
+      slid = c.compact.ensures.slides mid vs holds;
     }

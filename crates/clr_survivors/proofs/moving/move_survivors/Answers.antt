@@ -12,7 +12,7 @@ use Rattle.clr_survivors.proofs.CleanAfter.{clean-ended}
 use Rattle.clr_survivors.proofs.PromotedBytes.{promoted-ended}
 use Rattle.clr_survivors.proofs.EndedTables.{tables-ended}
 use Rattle.clr_survivors.proofs.Ended.{layout-ended, objects-ended, unmarked-ended}
-use Rattle.clr_survivors.proofs.Settled.{heads-settled, held-settled, limit-settled, rests-settled}
+use Rattle.clr_survivors.proofs.Settled.{heads-settled, heap-settled, held-settled, limit-settled, rests-settled}
 use Rattle.clr_survivors.proofs.KeptNumbers.{numbers-kept, ready-kept}
 use Rattle.clr_survivors.proofs.PlannedPins.{memory-with, with_handles}
 use Rattle.clr_survivors.proofs.moving.move_survivors.Goals as goal
@@ -134,10 +134,11 @@ returns-clause-tidy c =
     let new = c.settle.new.space.heap in
     let e = c.settle.ensures.settled in
     let held = held-settled s.rows s.moved.heap new s.roots_after.handles s.low s.g e in
+    let heap = heap-settled s.rows s.moved.heap new s.roots_after.handles s.low s.g e course.went.heap in
     record {
-      heap = c.lawful.ensures;
+      heap = heap;
       held = held;
-      clean = clean-ended s m kept course new e c.lawful.ensures held;
+      clean = clean-ended s m kept course new e heap held;
       free_heads = heads-settled s.rows s.moved.heap new s.roots_after.handles s.low s.g e
           (heads-moved s m kept course);
       tables = tables-ended s m kept course new e c.settle.new.space.cards c.settle.new.space.bricks

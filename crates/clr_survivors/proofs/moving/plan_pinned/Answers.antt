@@ -1,6 +1,6 @@
 -- What pinned handles name is marked in the headers, and a plan is made.
 use Rattle.std.proofs.Common.{ℕ, ap, arith, refl, subst, true}
-use Rattle.clr_moves.specs.declared.parts.Parts.TheVariants.{Generations}
+use Rattle.clr_moves.specs.declared.condemned.Condemned.TheVariants.{Generations}
 use Rattle.clr_survivors.specs.Condemned.{condemned_from}
 use Rattle.clr_survivors.specs.Pins.{HasPins}
 use Rattle.clr_survivors.proofs.CanMoveAll.{left-stands}
@@ -26,17 +26,17 @@ plan-requires-clause-laid c =
     let seen = table_from low table in
     let m = with_handles n seen in (
       m,
-      memory-kept rows old new table low c.requires.tidy.heap c.requires.tidy.held true c.set_pins.ensures m
+      memory-kept rows old new table low c.requires.tidy.heap c.requires.tidy.held true c.set_pins.ensures.pins m
           (memory-with rows old n seen memory),
       laid-with n seen laid,
-      tells-pins rows old new table low c.requires.tidy.heap c.requires.tidy.held c.requires.tidy.clean c.lawful.ensures
-          c.set_pins.ensures m refl,
+      tells-pins rows old new table low c.requires.tidy.heap c.requires.tidy.held c.requires.tidy.clean
+          c.set_pins.ensures.below c.set_pins.ensures.pins m refl,
     )
 
 pub plan-requires-clause-spare : goal.plan-requires-clause-spare
 plan-requires-clause-spare c =
     let few = few-pinned c.args.types.now c.args.space.now.heap c.set_pins.new.heap c.args.roots.now.handles c.args.low
-    c.requires.tidy.heap c.requires.tidy.held c.requires.tidy.clean c.lawful.ensures c.set_pins.ensures in
+    c.requires.tidy.heap c.requires.tidy.held c.requires.tidy.clean c.set_pins.ensures.below c.set_pins.ensures.pins in
     let room = c.requires.ready.room in
     omega (arith, few, room)
 
@@ -50,7 +50,7 @@ returns-clause-planned c = λ m kept memory same tests.
     let low = condemned_from old g in
     let heap = c.requires.tidy.heap in
     let held = c.requires.tidy.held in
-    let pins = subst (λ (n : ℕ). HasPins rows old new table n 65536 true) c.requires.low c.set_pins.ensures in
+    let pins = subst (λ (n : ℕ). HasPins rows old new table n 65536 true) c.requires.low c.set_pins.ensures.pins in
     let seen = table_from low m.handles in
     record {
       view = new;
@@ -62,8 +62,8 @@ returns-clause-planned c = λ m kept memory same tests.
           (memory-kept rows old new table low heap held true pins (with_handles m seen)
           (memory-with rows old m seen memory))
           (tests-kept rows old new table low heap held true pins g kept tests)
-          (tells-pins rows old new table low heap held c.requires.tidy.clean c.lawful.ensures pins (with_handles m seen)
-          (ap (table_from low) same)));
+          (tells-pins rows old new table low heap held c.requires.tidy.clean c.set_pins.ensures.below pins
+          (with_handles m seen) (ap (table_from low) same)));
       remembered = remembered-entries rows old new table low pins c.args.space.now.bricks c.plan.new.bricks g
           c.requires.tidy.tables.brick_law c.plan.result.below c.plan.result.first c.plan.ensures.entries
           c.plan.ensures.below c.plan.ensures.first;

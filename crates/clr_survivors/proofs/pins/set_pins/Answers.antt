@@ -10,7 +10,7 @@ set_pin_of-requires-clause-heap c =
 pub loop-number-preserved : goal.loop-number-preserved
 loop-number-preserved c =
     let next = c.in-Some.ensures.found in
-    let low = c.lawful.ensures c.in-Some.number c.in-Some.handle next.in_use in (
+    let low = c.in-Some.ensures.below c.in-Some.number c.in-Some.handle next.in_use in (
       pins_next c.args.types.now c.args.heap.now c.args.handles.now c.args.low c.args.on c.loop-number.heap
           c.set_pin_of.new.heap c.loop-number.from c.in-Some.number c.in-Some.handle
           (keeps_heap c.args.heap.now c.loop-number.heap c.loop-number.invariant.0.shape
@@ -18,7 +18,10 @@ loop-number-preserved c =
       omega (arith, low),
     )
 
-pub returns : goal.returns
-returns c =
+pub returns-clause-pins : goal.returns-clause-pins
+returns-clause-pins c =
     pins_done c.args.types.now c.args.heap.now c.args.handles.now c.args.low c.args.on c.loop-number.heap
     c.loop-number.from c.loop-number.invariant.1 c.loop-number.invariant.0 c.in_default.ensures.none
+
+pub returns-clause-below : goal.returns-clause-below
+returns-clause-below c = c.in_default.ensures.below

@@ -11,13 +11,13 @@ pub returns-then-g-eq2 : goal.returns-then-g-eq2
 returns-then-g-eq2 c = λ m kept memory tests.
     (let rows = c.args.types.now in
     let h = c.args.heap.now in
-    c.small_bytes.ensures ∙ sym (kept-all rows h)
+    c.small_bytes.ensures.bytes ∙ sym (kept-all rows h)
     ∙ ap (λ (n : ℕ). kept_reached h n (heap_items rows h)) (sym c.if-g-eq2.true)
-    ∙ sym (kept-reached rows h m c.args.g kept c.lawful.ensures c.requires.held tests memory))
+    ∙ sym (kept-reached rows h m c.args.g kept c.small_bytes.ensures.heap c.requires.held tests memory))
 
 pub part_bytes-requires-clause-parted : goal.part_bytes-requires-clause-parted
 part_bytes-requires-clause-parted c =
-    rw c.start_of-from.ensures (part_parted c.args.types.now c.args.heap.now c.lawful.ensures c.requires.held
+    rw c.start_of-from.ensures (part_parted c.args.types.now c.args.heap.now c.ephemeral-k.ensures.heap c.requires.held
     c.requires.no_contexts c.requires.laid c.args.g (below_two c.args.g c.requires.generation c.if-g-eq2.false)
     c.ephemeral-k.result c.ephemeral-k.ensures.in_range c.ephemeral-k.ensures.segment)
 
@@ -30,7 +30,7 @@ returns c = λ m kept memory tests.
     let none : (n : ℕ) → 0 + n ≡ n = λ n. omega arith in
     c.part_bytes.ensures.bytes ∙ none (kept_size h (items_from rows h k c.start_of-from.result))
     ∙ ap (λ (n : ℕ). kept_size h (items_from rows h k n)) c.start_of-from.ensures
-    ∙ sym (kept-young rows h c.requires.laid.0 c.lawful.ensures c.requires.held c.requires.no_contexts
-    (as-seen rows h c.lawful.ensures c.requires.held c.requires.no_contexts c.requires.laid c.args.g young)
+    ∙ sym (kept-young rows h c.requires.laid.0 c.ephemeral-k.ensures.heap c.requires.held c.requires.no_contexts
+    (as-seen rows h c.ephemeral-k.ensures.heap c.requires.held c.requires.no_contexts c.requires.laid c.args.g young)
     c.args.g young k c.ephemeral-k.ensures.in_range c.ephemeral-k.ensures.segment)
-    ∙ sym (kept-reached rows h m c.args.g kept c.lawful.ensures c.requires.held tests memory))
+    ∙ sym (kept-reached rows h m c.args.g kept c.ephemeral-k.ensures.heap c.requires.held tests memory))

@@ -15,11 +15,11 @@ below c =
 
 can : (c : goal.In-loop-place) → CanCount c.args.types.now c.args.heap.now c.args.k c.args.from
     (last_of c.args.heap.now c.args.k) c.loop-place.place
-    (home_is c.args.types.now c.args.heap.now c.args.k c.lawful.ensures c.args.from c.requires.in_range
+    (home_is c.args.types.now c.args.heap.now c.args.k c.info-end.ensures.heap c.args.from c.requires.in_range
     c.requires.parted c.requires.no_contexts) c.loop-place.invariant.low c.loop-place.invariant.walk
 can c = can_count c.args.types.now c.args.heap.now c.args.k c.args.from
     (last_of c.args.heap.now c.args.k) c.loop-place.place
-    (home_is c.args.types.now c.args.heap.now c.args.k c.lawful.ensures c.args.from c.requires.in_range
+    (home_is c.args.types.now c.args.heap.now c.args.k c.info-end.ensures.heap c.args.from c.requires.in_range
     c.requires.parted c.requires.no_contexts) c.loop-place.invariant.low c.loop-place.invariant.walk (below c)
 
 pub word_at-mt-requires-clause-word : goal.word_at-mt-requires-clause-word
@@ -46,7 +46,7 @@ loop-place-preserved c =
     let rows = c.args.types.now in
     let h = c.args.heap.now in
     let e = last_of h c.args.k in
-    let home = home_is rows h c.args.k c.lawful.ensures c.args.from c.requires.in_range c.requires.parted
+    let home = home_is rows h c.args.k c.info-end.ensures.heap c.args.from c.requires.in_range c.requires.parted
     c.requires.no_contexts in
     subst (λ (n : ℕ). IsSumming rows h c.args.k c.args.from e (c.loop-place.place + c.item_of_word-found.result.size)
     c.args.before n) (sym c.with_item-bytes.ensures)

@@ -9,7 +9,7 @@ use Rattle.clr_sweep.specs.declared.tally.Tally.{Tally}
 use Rattle.clr_sweep.proofs.KeptBytes.{kept-reached, kept-young}
 use Rattle.clr_sweep.specs.Swept.{tally_of}
 use Rattle.clr_sweep.specs.SweptItems.{items_from, tally_among}
-use Rattle.clr_sweep.proofs.Counted.{whole-counted, young-counted}
+use Rattle.clr_sweep.proofs.Counted.{young-counted}
 use Rattle.clr_sweep.proofs.Tallies.{none-plus, tally-bytes}
 use Rattle.clr_sweep.proofs.YoungPart.{below_two, from-swept}
 use Rattle.clr_sweep.proofs.YoungWhole.{as-seen, part_parted}
@@ -17,13 +17,11 @@ use Rattle.clr_sweep.proofs.counting.count.Goals as goal
 
 pub returns-then-g-eq2-clause-tally : goal.returns-then-g-eq2-clause-tally
 returns-then-g-eq2-clause-tally c =
-    c.count_whole.ensures
-    ∙ whole-counted c.args.types.now c.args.heap.now c.lawful.ensures c.requires.held
-    ∙ ap (tally_of c.args.types.now c.args.heap.now) (sym c.if-g-eq2.true)
+    c.count_whole.ensures ∙ ap (tally_of c.args.types.now c.args.heap.now) (sym c.if-g-eq2.true)
 
 pub count_part-requires-clause-parted : goal.count_part-requires-clause-parted
 count_part-requires-clause-parted c =
-    rw c.start_of-from.ensures (part_parted c.args.types.now c.args.heap.now c.lawful.ensures c.requires.held
+    rw c.start_of-from.ensures (part_parted c.args.types.now c.args.heap.now c.ephemeral-k.ensures.heap c.requires.held
     c.requires.no_contexts c.requires.laid c.args.g (below_two c.args.g c.requires.generation c.if-g-eq2.false)
     c.ephemeral-k.result c.ephemeral-k.ensures.in_range c.ephemeral-k.ensures.segment)
 
@@ -32,10 +30,10 @@ returns-clause-tally c =
     c.count_part.ensures.tally
     ∙ none-plus (tally_among c.args.heap.now (items_from c.args.types.now c.args.heap.now c.ephemeral-k.result
     c.start_of-from.result))
-    ∙ rw c.start_of-from.ensures (young-counted c.args.types.now c.args.heap.now c.requires.laid.0 c.lawful.ensures
-    c.requires.held c.requires.no_contexts
-    (as-seen c.args.types.now c.args.heap.now c.lawful.ensures c.requires.held c.requires.no_contexts c.requires.laid
-    c.args.g (below_two c.args.g c.requires.generation c.if-g-eq2.false))
+    ∙ rw c.start_of-from.ensures (young-counted c.args.types.now c.args.heap.now c.requires.laid.0
+    c.ephemeral-k.ensures.heap c.requires.held c.requires.no_contexts
+    (as-seen c.args.types.now c.args.heap.now c.ephemeral-k.ensures.heap c.requires.held c.requires.no_contexts
+    c.requires.laid c.args.g (below_two c.args.g c.requires.generation c.if-g-eq2.false))
     c.args.g (below_two c.args.g c.requires.generation c.if-g-eq2.false)
     c.ephemeral-k.result c.ephemeral-k.ensures.in_range c.ephemeral-k.ensures.segment)
 
@@ -48,7 +46,7 @@ returns-clause-young c = λ young m kept memory tests.
     (let rows = c.args.types.now in
     let h = c.args.heap.now in
     let k = c.ephemeral-k.result in
-    let heap = c.lawful.ensures in
+    let heap = c.ephemeral-k.ensures.heap in
     let seen = as-seen rows h heap c.requires.held c.requires.no_contexts c.requires.laid c.args.g young in
     let part = items_from rows h k c.start_of-from.result in
     let ages : (i : Item) → IsIn i part → generation (frame h) i.place ≤ 1 = λ i l.

@@ -21,18 +21,18 @@ below c =
 
 can : (c : goal.In-loop-place) → CanCount c.args.types.now c.args.heap.now c.args.k c.args.from
     (last_of c.args.heap.now c.args.k) c.loop-place.place
-    (home_is c.args.types.now c.args.heap.now c.args.k c.lawful.ensures c.args.from c.requires.in_range
+    (home_is c.args.types.now c.args.heap.now c.args.k c.info-end.ensures.heap c.args.from c.requires.in_range
     c.requires.parted c.requires.no_contexts) c.loop-place.invariant.0.low c.loop-place.invariant.0.walk
 can c = can_count c.args.types.now c.args.heap.now c.args.k c.args.from
     (last_of c.args.heap.now c.args.k) c.loop-place.place
-    (home_is c.args.types.now c.args.heap.now c.args.k c.lawful.ensures c.args.from c.requires.in_range
+    (home_is c.args.types.now c.args.heap.now c.args.k c.info-end.ensures.heap c.args.from c.requires.in_range
     c.requires.parted c.requires.no_contexts) c.loop-place.invariant.0.low c.loop-place.invariant.0.walk (below c)
 
 pub loop-place-init : goal.loop-place-init
 loop-place-init c = (
   counting_starts c.args.types.now c.args.heap.now c.args.k c.args.from (last_of c.args.heap.now c.args.k)
       c.args.before
-      (home_is c.args.types.now c.args.heap.now c.args.k c.lawful.ensures c.args.from c.requires.in_range
+      (home_is c.args.types.now c.args.heap.now c.args.k c.info-end.ensures.heap c.args.from c.requires.in_range
       c.requires.parted c.requires.no_contexts) c.requires.counted,
   tt,
 )
@@ -71,7 +71,7 @@ pub loop-place-preserved-in-Some : goal.loop-place-preserved-in-Some
 loop-place-preserved-in-Some c = (
   counting_over c.args.types.now c.args.heap.now c.args.k c.args.from (last_of c.args.heap.now c.args.k)
       c.loop-place.place c.args.before c.loop-place.tally
-      (home_is c.args.types.now c.args.heap.now c.args.k c.lawful.ensures c.args.from c.requires.in_range
+      (home_is c.args.types.now c.args.heap.now c.args.k c.info-end.ensures.heap c.args.from c.requires.in_range
       c.requires.parted c.requires.no_contexts) c.loop-place.invariant.0 (below c.before.before.before.before)
       c.word_at-mt.result c.in-Some.size (dead c) c.word_at-mt.ensures,
   c.loop-place.invariant.1,
@@ -121,7 +121,7 @@ loop-place-preserved c =
     let rows = c.args.types.now in
     let h = c.args.heap.now in
     let e = last_of h c.args.k in
-    let home = home_is rows h c.args.k c.lawful.ensures c.args.from c.requires.in_range c.requires.parted
+    let home = home_is rows h c.args.k c.info-end.ensures.heap c.args.from c.requires.in_range c.requires.parted
     c.requires.no_contexts in
     let on = counting_goes_on rows h c.args.k c.args.from e c.loop-place.place c.args.before c.loop-place.tally home
     c.loop-place.invariant.0 (below c.before.before.before.before.before.before.before) in
@@ -141,12 +141,12 @@ returns-clause-tally c =
     let l = c.loop-place-test.false in
     counting_ends c.args.types.now c.args.heap.now c.args.k c.args.from (last_of c.args.heap.now c.args.k)
     c.loop-place.place c.args.before c.loop-place.tally
-    (home_is c.args.types.now c.args.heap.now c.args.k c.lawful.ensures c.args.from c.requires.in_range
+    (home_is c.args.types.now c.args.heap.now c.args.k c.info-end.ensures.heap c.args.from c.requires.in_range
     c.requires.parted c.requires.no_contexts) c.loop-place.invariant.0 (omega (arith, end, l))
 
 pub returns-clause-counted : goal.returns-clause-counted
 returns-clause-counted c =
     ends_counted c.args.types.now c.args.heap.now c.args.k c.args.from (last_of c.args.heap.now c.args.k)
     c.loop-place.place c.args.before c.loop-place.tally
-    (home_is c.args.types.now c.args.heap.now c.args.k c.lawful.ensures c.args.from c.requires.in_range
+    (home_is c.args.types.now c.args.heap.now c.args.k c.info-end.ensures.heap c.args.from c.requires.in_range
     c.requires.parted c.requires.no_contexts) c.loop-place.invariant.0

@@ -5,6 +5,7 @@ use Rattle.clr_heap.specs.View.{listings}
 use Rattle.clr_sweep.specs.Passes.{plus}
 use Rattle.clr_sweep.specs.SweptItems.{items_from, tally_among}
 use Rattle.clr_sweep.proofs.MoreSwept.{whole_part}
+use Rattle.clr_sweep.proofs.Counted.{whole-counted}
 use Rattle.clr_sweep.proofs.CountedParts.{more_counted, none_counted}
 use Rattle.clr_sweep.proofs.counting.count_whole.Goals as goal
 
@@ -40,3 +41,4 @@ returns c =
     let end : c.loop-k.k ≡ length c.args.heap.now.segments = omega (arith, n, within, c.loop-k-test.false) in
     c.loop-k.invariant.counts
     ∙ ap (λ (k : ℕ). tally_among c.args.heap.now (listings c.args.types.now c.args.heap.now 0 k)) end
+    ∙ whole-counted c.args.types.now c.args.heap.now c.segments-count.ensures.heap c.requires.held

@@ -2,21 +2,21 @@ use Rattle.std.proofs.Common.{◌<◌, ◌≤◌, ap, arith}
 use Rattle.clr_types.specs.declared.segment.SegInfo.{SegInfo}
 use Rattle.clr_heap.specs.View.{last_of}
 use Rattle.clr_sweep.proofs.Passing.{can_step, passed}
-use Rattle.clr_sweep.proofs.PassEnds.{can_end, home_is, pass_counted, pass_counts, pass_ends, pass_starts}
+use Rattle.clr_sweep.proofs.PassEnds.{can_end, home_is, pass_counted, pass_counts, pass_ends, pass_lawful, pass_starts}
 use Rattle.clr_sweep.proofs.pass.sweep_segment.Goals as goal
 
 pub loop-pass-init : goal.loop-pass-init
 loop-pass-init c =
     let h = c.args.heap.now in
-    (pass_starts c.args.types.now h c.args.k c.lawful.ensures c.args.from c.requires.in_range c.requires.parted
-    c.requires.no_contexts c.args.tally c.requires.counted)
+    (pass_starts c.args.types.now h c.args.k c.info-segment.ensures.heap c.args.from c.requires.in_range
+    c.requires.parted c.requires.no_contexts c.args.tally c.requires.counted)
 
 pub step-pass-requires : goal.step-pass-requires
 step-pass-requires c =
     let rows = c.args.types.now in
     let h = c.args.heap.now in
     let k = c.args.k in
-    let home = home_is rows h k c.lawful.ensures c.args.from c.requires.in_range c.requires.parted
+    let home = home_is rows h k c.info-segment.ensures.heap c.args.from c.requires.in_range c.requires.parted
     c.requires.no_contexts in
     let end = ap (λ (s : SegInfo). s.end) c.info-segment.ensures.value in
     let below : c.loop-pass.pass.place < last_of h k = let l = c.loop-pass-test.true in omega (arith, end, l) in
@@ -30,7 +30,7 @@ loop-pass-smaller c =
     let rows = c.args.types.now in
     let h = c.args.heap.now in
     let k = c.args.k in
-    let home = home_is rows h k c.lawful.ensures c.args.from c.requires.in_range c.requires.parted
+    let home = home_is rows h k c.info-segment.ensures.heap c.args.from c.requires.in_range c.requires.parted
     c.requires.no_contexts in
     let end = ap (λ (s : SegInfo). s.end) c.info-segment.ensures.value in
     let below : c.loop-pass.pass.place < last_of h k = let l = c.loop-pass-test.true in omega (arith, end, l) in
@@ -43,7 +43,7 @@ loop-pass-preserved c =
     let rows = c.args.types.now in
     let h = c.args.heap.now in
     let k = c.args.k in
-    let home = home_is rows h k c.lawful.ensures c.args.from c.requires.in_range c.requires.parted
+    let home = home_is rows h k c.info-segment.ensures.heap c.args.from c.requires.in_range c.requires.parted
     c.requires.no_contexts in
     let end = ap (λ (s : SegInfo). s.end) c.info-segment.ensures.value in
     let below : c.loop-pass.pass.place < last_of h k = let l = c.loop-pass-test.true in omega (arith, end, l) in
@@ -57,7 +57,7 @@ set_end-requires c =
     let k = c.args.k in
     let end = ap (λ (s : SegInfo). s.end) c.info-segment.ensures.value in
     let past : last_of h k ≤ c.loop-pass.pass.place = let l = c.loop-pass-test.false in omega (arith, end, l) in
-    let can = can_end rows h k c.lawful.ensures c.args.from c.requires.in_range c.requires.parted
+    let can = can_end rows h k c.info-segment.ensures.heap c.args.from c.requires.in_range c.requires.parted
     c.requires.no_contexts c.loop-pass.heap c.args.tally c.loop-pass.pass c.loop-pass.invariant past in
     record { in_range = can.in_range; above = can.above; below = can.below; aligned = can.aligned }
 
@@ -71,11 +71,14 @@ returns c =
     let w = c.requires.parted in
     let now = c.loop-pass.heap in
     let pass = c.loop-pass.pass in
+    let heap = c.info-segment.ensures.heap in
     record {
-      swept = rw c.set_end.ensures (pass_ends rows h k c.lawful.ensures c.args.from c.requires.in_range w
+      swept = rw c.set_end.ensures (pass_ends rows h k heap c.args.from c.requires.in_range w c.requires.no_contexts now
+          c.args.tally pass c.loop-pass.invariant past);
+      tally = pass_counts rows h k heap c.args.from c.requires.in_range w c.requires.no_contexts now c.args.tally pass
+          c.loop-pass.invariant past;
+      counted = pass_counted rows h k heap c.args.from c.requires.in_range w c.requires.no_contexts now c.args.tally
+          pass c.loop-pass.invariant past;
+      lawful = rw c.set_end.ensures (pass_lawful rows h k heap c.args.from c.requires.in_range w
           c.requires.no_contexts now c.args.tally pass c.loop-pass.invariant past);
-      tally = pass_counts rows h k c.lawful.ensures c.args.from c.requires.in_range w c.requires.no_contexts now
-          c.args.tally pass c.loop-pass.invariant past;
-      counted = pass_counted rows h k c.lawful.ensures c.args.from c.requires.in_range w c.requires.no_contexts
-          now c.args.tally pass c.loop-pass.invariant past;
     }

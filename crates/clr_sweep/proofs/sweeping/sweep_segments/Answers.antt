@@ -10,16 +10,16 @@ use Rattle.clr_sweep.proofs.sweeping.sweep_segments.Goals as goal
 pub sweep_segment-tally-requires-clause-parted : goal.sweep_segment-tally-requires-clause-parted
 sweep_segment-tally-requires-clause-parted c =
     let h = c.args.heap.now in
-    let n = c.segments-count.ensures.count in
+    let n = c.requires.count in
     rw c.info-from.ensures.value (next_parted c.args.types.now h c.loop-k.heap c.loop-k.k c.loop-k.tally
-    c.segments-count.ensures.heap c.requires.held c.loop-k.invariant (omega (arith, n, c.loop-k-test.true)))
+    c.requires.heap c.requires.held c.loop-k.invariant (omega (arith, n, c.loop-k-test.true)))
 
 pub loop-k-preserved : goal.loop-k-preserved
 loop-k-preserved c =
     let h = c.args.heap.now in
-    let n = c.segments-count.ensures.count in
+    let n = c.requires.count in
     let swept = c.sweep_segment-tally.ensures in
-    sweeping_more c.args.types.now h c.loop-k.heap c.loop-k.k c.loop-k.tally c.segments-count.ensures.heap
+    sweeping_more c.args.types.now h c.loop-k.heap c.loop-k.k c.loop-k.tally c.requires.heap
     c.requires.held c.loop-k.invariant (omega (arith, n, c.loop-k-test.true))
     c.sweep_segment-tally.new.heap c.sweep_segment-tally.result
     (subst (λ (t : SegInfo). HasSweptSegment c.args.types.now c.loop-k.heap c.sweep_segment-tally.new.heap
@@ -32,6 +32,6 @@ loop-k-preserved c =
 pub returns-clause-swept : goal.returns-clause-swept
 returns-clause-swept c =
     let count = c.loop-k.invariant.all.count in
-    let n = c.segments-count.ensures.count in
-    rw c.age.ensures (all_swept c.args.types.now c.args.heap.now c.loop-k.heap c.loop-k.k c.loop-k.tally
+    let n = c.requires.count in
+    rw c.age.ensures.aged (all_swept c.args.types.now c.args.heap.now c.loop-k.heap c.loop-k.k c.loop-k.tally
     c.loop-k.invariant (omega (arith, count, n, c.loop-k-test.false)))

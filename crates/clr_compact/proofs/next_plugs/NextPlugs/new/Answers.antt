@@ -23,8 +23,8 @@ pub returns : goal.returns
 returns c = λ vs told rising.
     let rows = c.args.types.now in
     let h = c.args.heap.now in
-    are-first rows h c.args.bricks.now c.args.g vs rising c.next_of_kind-going.new.line c.next_of_kind-staying.new.line
-    c.next_of_kind-going.result c.next_of_kind-staying.result
+    are-first rows h c.args.bricks.now c.args.g vs rising c.next_of_kind-going.new.moves
+    c.next_of_kind-staying.new.moves c.next_of_kind-going.result c.next_of_kind-staying.result
     (c.next_of_kind-going.ensures vs 0
     (gives-all rows h c.args.bricks.now c.args.g vs rising c.new-goers.result (c.new-goers.ensures vs told)))
     (c.next_of_kind-staying.ensures vs 0

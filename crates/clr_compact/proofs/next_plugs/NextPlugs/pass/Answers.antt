@@ -25,7 +25,7 @@ returns-then-is_lower c = λ vs q next inside.
     let e = sym c.is_lower.ensures ∙ c.if-is_lower.true in
     let rows = c.args.types.now in
     let h = c.args.heap.now in
-    stayer-passed rows h c.args.bricks.now c.args.g vs q c.args.self.now next inside e c.next_of_kind-self.new.line
+    stayer-passed rows h c.args.bricks.now c.args.g vs q c.args.self.now next inside e c.next_of_kind-self.new.moves
     c.next_of_kind-self.result
     (c.next_of_kind-self.ensures vs (suc q.staying)
     (stayers-give rows h c.args.bricks.now c.args.g vs q c.args.self.now next inside e))
@@ -36,6 +36,6 @@ returns-else-is_lower c = λ vs q next inside.
     let rows = c.args.types.now in
     let h = c.args.heap.now in
     goer-passed rows h c.args.bricks.now c.args.g vs q c.args.self.now next inside e
-    c.next_of_kind-self-else-is_lower.new.line c.next_of_kind-self-else-is_lower.result
+    c.next_of_kind-self-else-is_lower.new.moves c.next_of_kind-self-else-is_lower.result
     (c.next_of_kind-self-else-is_lower.ensures vs (suc q.going)
     (goers-give rows h c.args.bricks.now c.args.g vs q c.args.self.now next inside e))

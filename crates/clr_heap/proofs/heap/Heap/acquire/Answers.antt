@@ -24,8 +24,8 @@ invariant_of-self-then-eq c =
       c.push_both.ensures.memories,
       c.push_both.ensures.segments,
       c.seal.ensures.items,
-      c.make_room.ensures.memories,
-      c.make_room.ensures.segments,
+      c.reserve_both.ensures.memories,
+      c.reserve_both.ensures.segments,
       c.in_ok-memory.ensures.value,
       c.first_place-first.ensures,
       c.empty-segment.ensures,
@@ -43,8 +43,8 @@ invariant_of-self-2 c =
     rw (
       c.push_both-2.ensures.memories,
       c.push_both-2.ensures.segments,
-      c.make_room.ensures.memories,
-      c.make_room.ensures.segments,
+      c.reserve_both.ensures.memories,
+      c.reserve_both.ensures.segments,
       c.in_ok-memory.ensures.value,
       c.empty-segment.ensures,
     )

@@ -10,18 +10,17 @@ use Rattle.clr_large.specs.Places.{IsLowest}
 use Rattle.clr_large.proofs.LowestPlace.{place_has_room}
 use Rattle.clr_large.proofs.PlacedBirths.{one_more}
 use Rattle.clr_large.proofs.items.KindItems.bear.Goals as goal
-use Rattle.clr_large.proofs.items.KindItems.bear.Goals.{After-lawful-2}
+use Rattle.clr_large.proofs.items.KindItems.bear.Goals.{After-bear_placed-place}
 
 -- the heap has one object more
-more : (c : After-lawful-2) → HasOneMore c.args.types.now c.args.heap.now c.bear_placed-place.new.heap
+more : (c : After-bear_placed-place) → HasOneMore c.args.types.now c.args.heap.now c.bear_placed-place.new.heap
     c.bear_placed-place.result c.args.t.0 c.args.len
 more c = one_more c.args.kind c.args.types.now c.args.heap.now c.bear_placed-place.new.heap c.bear_placed-place.result
-    c.args.t.0
-    c.args.len c.lawful.ensures c.requires.held c.lawful-2.ensures c.bear_placed-place.ensures.born
+    c.args.t.0 c.args.len c.in_ok-found.ensures.heap c.requires.held c.bear_placed-place.ensures.born
 
 pub enter_old_newborn-requires-clause-fits : goal.enter_old_newborn-requires-clause-fits
 enter_old_newborn-requires-clause-fits c =
-    let d = (goal.at.enter_old_newborn-requires-clause-fits c).After-lawful-2 in
+    let d = (goal.at.enter_old_newborn-requires-clause-fits c).After-bear_placed-place in
     let size = c.item_size-size.ensures in
     let ends = old_newborn-ends c.args.kind c.requires.old c.args.types.now c.args.heap.now c.bear_placed-place.new.heap
     c.bear_placed-place.result c.args.t.0 c.args.len (more d) c.bear_placed-place.ensures.born.layout in
@@ -29,7 +28,7 @@ enter_old_newborn-requires-clause-fits c =
 
 pub enter_old_newborn-requires-clause-covered : goal.enter_old_newborn-requires-clause-covered
 enter_old_newborn-requires-clause-covered c =
-    let d = (goal.at.enter_old_newborn-requires-clause-covered c).After-lawful-2 in
+    let d = (goal.at.enter_old_newborn-requires-clause-covered c).After-bear_placed-place in
     let place = c.bear_placed-place.result in
     subst (λ (n : ℕ). (i : ℕ) → place / 4096 ≤ i → 4096 * i < place + n → is_covered c.args.bricks.now i ≡ true)
     (sym c.item_size-size.ensures)
@@ -52,7 +51,7 @@ returns-clause-lowest c =
 
 pub returns-clause-own_bricks : goal.returns-clause-own_bricks
 returns-clause-own_bricks c =
-    let d = (goal.at.returns-clause-own_bricks c).After-lawful-2 in
+    let d = (goal.at.returns-clause-own_bricks c).After-bear_placed-place in
     c.enter_old_newborn.ensures.spans
     ∙ old_newborn-bricks c.args.kind c.requires.old c.args.types.now c.args.heap.now c.bear_placed-place.new.heap
     c.bear_placed-place.result
@@ -60,7 +59,7 @@ returns-clause-own_bricks c =
 
 pub returns-clause-bricks : goal.returns-clause-bricks
 returns-clause-bricks c = λ law.
-    let d = (goal.at.returns-clause-bricks c).After-lawful-2 in
+    let d = (goal.at.returns-clause-bricks c).After-bear_placed-place in
     let rows = c.args.types.now in
     let old = c.args.heap.now in
     let new = c.bear_placed-place.new.heap in
@@ -72,7 +71,7 @@ returns-clause-bricks c = λ law.
 
 pub returns-clause-cards : goal.returns-clause-cards
 returns-clause-cards c = λ closed.
-    let d = (goal.at.returns-clause-cards c).After-lawful-2 in
+    let d = (goal.at.returns-clause-cards c).After-bear_placed-place in
     old_newborn-cards c.args.kind c.requires.old c.args.types.now c.args.heap.now c.bear_placed-place.new.heap
     c.bear_placed-place.result
     c.args.t.0 c.args.len (more d) c.bear_placed-place.ensures.born.layout closed

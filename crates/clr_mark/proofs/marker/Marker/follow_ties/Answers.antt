@@ -60,4 +60,5 @@ returns-clause-followed c =
     let closed = c.requires.gray.closed in
     tying_ends c.args.types.now c.args.heap.now c.loop-handle.heap c.args.self.now c.loop-handle.self
     c.args.handles.now c.loop-handle.ahead c.loop-handle.marked closed.heap closed.held c.requires.handles
-    c.loop-handle.invariant c.lowest_condemned-low.result c.lowest_condemned-low.ensures.below c.in_default.ensures.none
+    c.loop-handle.invariant c.lowest_condemned-low.result c.lowest_condemned-low.ensures.below
+    c.in_default.ensures.below c.in_default.ensures.none

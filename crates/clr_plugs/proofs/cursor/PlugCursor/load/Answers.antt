@@ -16,7 +16,7 @@ children_in-below-requires-clause-word c =
     let Q : CursorView → Type 0 = λ v. v.brick < v.past in
     let some = subst Q (sym c.self.view_is) c.requires.some in
     child_word h (c.self.inside.brick * 4096) c.lead-root.result.0 8 0
-    (can_gather h bricks c.self.inside.brick c.self.inside.past c.lead-root.result.0 c.segments.ensures.heap left some
+    (can_gather h bricks c.self.inside.brick c.self.inside.past c.lead-root.result.0 c.lawful.ensures left some
     (ap (λ (p : ℕ × ℕ). p.0) c.lead-root.ensures))
 
 pub children_in-below-requires-clause-fits : goal.children_in-below-requires-clause-fits
@@ -28,7 +28,7 @@ children_in-below-requires-clause-fits c =
     let Q : CursorView → Type 0 = λ v. v.brick < v.past in
     let some = subst Q (sym c.self.view_is) c.requires.some in
     gather_fits h (c.self.inside.brick * 4096) c.lead-root.result.0 8 0
-    (can_gather h bricks c.self.inside.brick c.self.inside.past c.lead-root.result.0 c.segments.ensures.heap left some
+    (can_gather h bricks c.self.inside.brick c.self.inside.past c.lead-root.result.0 c.lawful.ensures left some
     (ap (λ (p : ℕ × ℕ). p.0) c.lead-root.ensures))
 
 pub gather-count-requires-clause-can : goal.gather-count-requires-clause-can
@@ -39,7 +39,7 @@ gather-count-requires-clause-can c =
     let left = subst P (sym c.self.view_is) c.requires.left in
     let Q : CursorView → Type 0 = λ v. v.brick < v.past in
     let some = subst Q (sym c.self.view_is) c.requires.some in
-    can_gather h bricks c.self.inside.brick c.self.inside.past c.lead-root.result.0 c.segments.ensures.heap left some
+    can_gather h bricks c.self.inside.brick c.self.inside.past c.lead-root.result.0 c.lawful.ensures left some
     (ap (λ (p : ℕ × ℕ). p.0) c.lead-root.ensures)
 
 pub returns-clause-ahead : goal.returns-clause-ahead

@@ -18,7 +18,7 @@ passed part start p = let high = p.high in omega (arith, high)
 pub put_info-requires : goal.put_info-requires
 put_info-requires c =
     let r = c.requires in
-    place_info c.advance.new.heap r.part c.args.start c.segments.ensures.heap
+    place_info c.advance.new.heap r.part c.args.start c.advance.ensures.heap
     (lies-same c.args.heap.now c.advance.new.heap r.part c.advance.ensures.shape r.writing.planning.plan.lies)
     r.place
 

@@ -119,7 +119,7 @@ invariant_of-self c =
           c.self.invariant.tables;
       owed = let owed = c.self.invariant.owed in omega (arith, owed, less);
       finalizers = finalizers-begun r.types r.safe c.args.t (Store place c.args.index) c.self.invariant.finalizers tt;
-      index = same_index young_items r.types r.types r.space.heap done.new.heap r.workshop.contexts stored.layout
+      index = same_index young_items r.types r.types r.space.heap done.new.heap r.workshop.young stored.layout
           c.self.invariant.index;
       large = same_index
           (kind_items Large) r.types r.types r.space.heap done.new.heap r.large stored.layout c.self.invariant.large;

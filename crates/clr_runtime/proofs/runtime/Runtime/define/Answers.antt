@@ -55,7 +55,7 @@ invariant_of-self c =
           (new_row c.args.name.now form c.args.finalizer) c.define.result c.define.ensures.defined c.define.ensures.err
           c.self.invariant.finalizers;
       index = defined_index young_items r.types c.define.new.self r.space.heap
-          (new_row c.args.name.now form c.args.finalizer) c.define.result r.workshop.contexts
+          (new_row c.args.name.now form c.args.finalizer) c.define.result r.workshop.young
           c.self.invariant.shown.held
           c.define.ensures.defined c.define.ensures.err c.self.invariant.index;
       large = defined_index (kind_items Large) r.types c.define.new.self r.space.heap

@@ -9,6 +9,10 @@ use Rattle.clr_runtime.proofs.BirthLines.{lacks_follows, measured_follows}
 use Rattle.clr_runtime.proofs.NamesChecked.{thread_refused}
 use Rattle.clr_runtime.proofs.runtime.Runtime.new_known.Goals as goal
 
+-- the types of a lawful machine are lawful
+pub measure-requires-clause-lawful : goal.measure-requires-clause-lawful
+measure-requires-clause-lawful c = c.self.invariant.shown.sound.lawful.types
+
 pub returns-in-Some-clause-follows : goal.returns-in-Some-clause-follows
 returns-in-Some-clause-follows c =
     thread_refused

@@ -8,6 +8,10 @@ use Rattle.clr_runtime.proofs.NamesChecked.{thread_refused}
 use Rattle.clr_runtime.proofs.PinnedLines.{pinned-not-oom, pinned_measured_follows}
 use Rattle.clr_runtime.proofs.runtime.Runtime.new_pinned.Goals as goal
 
+-- the types of a lawful machine are lawful
+pub measure_pinned-requires : goal.measure_pinned-requires
+measure_pinned-requires c = c.self.invariant.shown.sound.lawful.types
+
 pub returns-in-Some-clause-follows : goal.returns-in-Some-clause-follows
 returns-in-Some-clause-follows c =
     thread_refused (new_pinned c.args.t c.args.local c.args.name.now c.args.len) c.args.t refl refl

@@ -102,7 +102,7 @@ invariant_of-self c =
           c.self.invariant.tables;
       owed = c.self.invariant.owed;
       finalizers = c.self.invariant.finalizers;
-      index = same_index young_items r.types r.types r.space.heap new r.workshop.contexts set.flagged.layout
+      index = same_index young_items r.types r.types r.space.heap new r.workshop.young set.flagged.layout
           c.self.invariant.index;
       large = same_index
           (kind_items Large) r.types r.types r.space.heap new r.large set.flagged.layout c.self.invariant.large;

@@ -1,51 +1,48 @@
 -- Each handle adds its tie, where it has one.
-use Rattle.std.proofs.Common.{◌≡◌, ◌+◌, List, ap, sym, ◌∙◌, subst, arith, Some}
+use Rattle.std.proofs.Common.{◌≡◌, ◌+◌, List, ap, sym, ◌∙◌, subst, arith}
 use Rattle.std.proofs.lemmas.Bool.{false≢true}
-use Rattle.clr_types.specs.Kinds.{is_dependent}
-use Rattle.clr_types.specs.declared.handle.Handle.{Handle as Row}
 use Rattle.clr_sos.specs.declared.reach.ties.Tie.{Tie}
+use Rattle.clr_sos.proofs.NumberedEntries.{used-before}
 use Rattle.clr_sos.proofs.Ties.{list-ends, list-push, list-skip, list-starts, ListsBelow}
-use Rattle.clr_sos.proofs.reach.ties.list_ties.Goals.{in-Some+then-is_dependent+then-handle-ne0+in_ok-push}
-use Rattle.clr_sos.proofs.reach.ties.list_ties.Goals.{in-Some+else-is_dependent, in_default}
+use Rattle.clr_sos.proofs.reach.ties.list_ties.Goals.{then-is_dependent+then-handle-ne0+in_ok-push}
+use Rattle.clr_sos.proofs.reach.ties.list_ties.Goals.{else-is_dependent}
 use Rattle.clr_sos.proofs.reach.ties.list_ties.Goals.{else-is_dependent-via-then-is_dependent+else-handle-ne0}
 use Rattle.clr_sos.proofs.reach.ties.list_ties.Goals.{else-is_dependent-via-else-is_dependent}
 use Rattle.clr_sos.proofs.reach.ties.list_ties.Goals as goal
 
-pub loop-h-init : goal.loop-h-init
-loop-h-init c = rw c.new-ties.ensures.items (list-starts c.args.handles.now)
+pub loop-number-init : goal.loop-number-init
+loop-number-init c = rw c.new-ties.ensures.items (list-starts c.args.handles.now)
 
-pub loop-h-preserved : goal.loop-h-preserved
-loop-h-preserved c =
+pub loop-number-preserved : goal.loop-number-preserved
+loop-number-preserved c =
     let hs = c.args.handles.now in
-    let n = c.loop-h.h in
-    let ties = c.loop-h.ties.items in
+    let from = c.loop-number.from in
+    let n = c.in-Some.number in
+    let row = c.in-Some.handle in
+    let next = c.in-Some.ensures.found in
+    let ties = c.loop-number.ties.items in
     let P : List Tie → Type 0 = λ ts. ListsBelow hs (n + 1) ts in
-    elim c.match-get.branch [
-      | in-Some+then-is_dependent+then-handle-ne0+in_ok-push w ↦
+    elim c.if-is_dependent.branch [
+      | then-is_dependent+then-handle-ne0+in_ok-push w ↦
           let some = w.if-handle-ne0.true in
           subst P (ap (λ v. v.items) (sym w.ties-is))
-          (rw w.in_ok-push.ensures.items (list-push hs n ties c.loop-h.invariant w.in-Some.handle
-          (sym w.in-Some.ensures.value) (sym w.is_dependent.ensures ∙ w.if-is_dependent.true) (omega (arith, some))))
-      | in-Some+else-is_dependent w ↦
-          subst P (ap (λ v. v.items) (sym w.ties-is)) (list-skip hs n ties c.loop-h.invariant (λ row e dependent some.
-          let both : Some row ≡ Some w.in-Some.handle = sym e ∙ sym w.in-Some.ensures.value in
-          let is : row ≡ w.in-Some.handle = cc in
+          (rw w.in_ok-push.ensures.items (list-push hs from n row next ties c.loop-number.invariant
+          (sym c.is_dependent.ensures ∙ w.if-is_dependent.true) (omega (arith, some))))
+      | else-is_dependent w ↦
+          subst P (ap (λ v. v.items) (sym w.ties-is))
+          (list-skip hs from n row next ties c.loop-number.invariant (λ dependent some.
           elim w.else-is_dependent.branch [
             | else-is_dependent-via-then-is_dependent+else-handle-ne0 u ↦
                 let null = u.if-handle-ne0.false in
-                let same = ap (λ (r : Row). r.second) is in
-                omega (arith, null, same, some)
+                omega (arith, null, some)
             | else-is_dependent-via-else-is_dependent u ↦
-                false≢true (sym u.if-is_dependent.false ∙ w.is_dependent.ensures
-                ∙ ap (λ (r : Row). is_dependent r.kind) (sym is) ∙ dependent)
+                false≢true (sym u.if-is_dependent.false ∙ c.is_dependent.ensures ∙ dependent)
           ]))
-      | in_default w ↦ subst P (ap (λ v. v.items) (sym w.ties-is))
-          (list-skip hs n ties c.loop-h.invariant
-          (λ row e dependent some. w.in_default.not-Some row (c.get.ensures.value ∙ e)))
     ]
 
 pub returns : goal.returns
 returns c =
-    let past = c.loop-h-test.false in
-    list-ends c.args.handles.now c.loop-h.h c.loop-h.ties.items
-    (λ k row e. let low = c.lawful.ensures k row e in omega (arith, past, low)) c.loop-h.invariant
+    let none = c.in_default.ensures in
+    list-ends c.args.handles.now c.loop-number.from c.loop-number.ties.items
+    (λ k row e. used-before c.args.handles.now c.loop-number.from 65536 none.none k row (none.below k row e) e)
+    c.loop-number.invariant

@@ -4,7 +4,7 @@ use Rattle.clr_heap.specs.View.{last_of, word_of}
 use Rattle.clr_sos.specs.CheckedCells.{is_header, is_inside, type_of_word, typed_item}
 use Rattle.clr_sos.specs.declared.verify.cells.Limits.{Limits}
 use Rattle.clr_sos.specs.Faults.{rules_of, words_in}
-use Rattle.clr_sos.proofs.ScanLimits.{cell_words, inside_is, item_from, type_is}
+use Rattle.clr_sos.proofs.ScanLimits.{cell_words, end_low, inside_is, item_from, type_is}
 use Rattle.clr_sos.proofs.verify.cells.checked_item.Goals as goal
 
 pub word_at-header-requires-clause-word : goal.word_at-header-requires-clause-word
@@ -13,9 +13,8 @@ word_at-header-requires-clause-word c =
     let z = at.aligned in
     let low = at.low in
     let high = at.high in
-    (cell_words c.args.scan.now.heap.now c.args.scan.now.k c.args.place (c.args.place - 8) c.lawful.ensures at
-    (omega arith) (omega arith)
-    (omega arith)).0
+    (cell_words c.args.scan.now.heap.now c.args.scan.now.k c.args.place (c.args.place - 8) at
+    (omega arith) (omega arith) (omega arith)).0
 
 pub word_at-header-requires-clause-segment : goal.word_at-header-requires-clause-segment
 word_at-header-requires-clause-segment c =
@@ -23,23 +22,22 @@ word_at-header-requires-clause-segment c =
     let z = at.aligned in
     let low = at.low in
     let high = at.high in
-    (cell_words c.args.scan.now.heap.now c.args.scan.now.k c.args.place (c.args.place - 8) c.lawful.ensures at
-    (omega arith) (omega arith)
-    (omega arith)).1
+    (cell_words c.args.scan.now.heap.now c.args.scan.now.k c.args.place (c.args.place - 8) at
+    (omega arith) (omega arith) (omega arith)).1
 
 pub word_at-requires-clause-word : goal.word_at-requires-clause-word
 word_at-requires-clause-word c =
     let at = c.requires.place in
     let high = at.high in
-    (cell_words c.args.scan.now.heap.now c.args.scan.now.k c.args.place c.args.place c.lawful.ensures at at.aligned
-    (omega arith) high).0
+    (cell_words c.args.scan.now.heap.now c.args.scan.now.k c.args.place c.args.place at at.aligned (omega arith)
+    high).0
 
 pub word_at-requires-clause-segment : goal.word_at-requires-clause-segment
 word_at-requires-clause-segment c =
     let at = c.requires.place in
     let high = at.high in
-    (cell_words c.args.scan.now.heap.now c.args.scan.now.k c.args.place c.args.place c.lawful.ensures at at.aligned
-    (omega arith) high).1
+    (cell_words c.args.scan.now.heap.now c.args.scan.now.k c.args.place c.args.place at at.aligned (omega arith)
+    high).1
 
 pub returns : goal.returns
 returns c =
@@ -49,11 +47,8 @@ returns c =
     let k = c.args.scan.now.k in
     let p = c.args.place in
     let header = word_of h (p - 8) in
-    let lawful = c.info.ensures.lawful in
-    let top = c.info.ensures.below_top in
-    let fits = c.info.ensures.fits in
-    let up = lawful.high in
-    let small : last_of h k < 2 ^ 64 = omega arith in
+    let low = end_low h k p c.requires.place in
+    let small : last_of h k < 2 ^ 64 = omega (arith, low) in
     let end : c.args.scan.now.limits.end ≡ last_of h k = ap (λ (l : Limits). l.end) c.requires.limits in
     let said : c.is_inside.result ≡ true = grind (arith, c.if-not-is_inside.false) in
     let inside : is_inside (rules_of rows large h k) p 24 ≡ true =

@@ -2,6 +2,7 @@ use Rattle.std.proofs.Common.{◌≡◌, ℕ, ◌+◌, ◌-◌, ◌≤◌, sym, 
 use Rattle.clr_types.specs.Types.{form_at, size_of}
 use Rattle.clr_heap.specs.View.{word_of}
 use Rattle.clr_heap.proofs.Addresses.{has_word, index_is_segment}
+use Rattle.clr_heap.proofs.Framing.{lawful_at}
 use Rattle.clr_view.specs.Clean.{slots_end}
 use Rattle.clr_sos.specs.CheckedCells.{first_byte, padding_from}
 use Rattle.clr_sos.specs.Faults.{rules_of}
@@ -19,12 +20,9 @@ word_at-requires-clause-word c =
     let z = at.aligned in
     let is = c.requires.size in
     let below = c.requires.below in
-    let info = c.info.ensures.value in
-    let lawful = c.info.ensures.lawful in
-    let up = lawful.high in
-    has_word h c.args.scan.now.k (c.args.place + c.args.size - 16) c.lawful.ensures at.in_range (omega arith)
-    (omega arith)
-    (omega arith)
+    let up = (lawful_at h c.args.scan.now.k at.heap at.in_range).high in
+    has_word h c.args.scan.now.k (c.args.place + c.args.size - 16) at.heap at.in_range (omega arith)
+    (omega arith) (omega arith)
 
 pub word_at-requires-clause-segment : goal.word_at-requires-clause-segment
 word_at-requires-clause-segment c =
@@ -35,11 +33,9 @@ word_at-requires-clause-segment c =
     let low = at.low in
     let is = c.requires.size in
     let below = c.requires.below in
-    let lawful = c.info.ensures.lawful in
-    let up = lawful.high in
-    sym (index_is_segment h c.args.scan.now.k (c.args.place + c.args.size - 16) c.lawful.ensures at.in_range
-    (omega arith)
-    (omega arith))
+    let up = (lawful_at h c.args.scan.now.k at.heap at.in_range).high in
+    sym (index_is_segment h c.args.scan.now.k (c.args.place + c.args.size - 16) at.heap at.in_range
+    (omega arith) (omega arith))
 
 pub returns-then-type_id-eq0 : goal.returns-then-type_id-eq0
 returns-then-type_id-eq0 c =

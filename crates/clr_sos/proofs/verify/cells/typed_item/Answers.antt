@@ -6,14 +6,12 @@ pub word_at-len-requires-clause-word : goal.word_at-len-requires-clause-word
 word_at-len-requires-clause-word c =
     let z = c.requires.place.aligned in
     let room = c.requires.room in
-    (cell_words c.args.scan.now.heap.now c.args.scan.now.k c.args.place
-    (c.args.place + 8) c.lawful.ensures c.requires.place (omega arith)
-    (omega arith) (omega arith)).0
+    (cell_words c.args.scan.now.heap.now c.args.scan.now.k c.args.place (c.args.place + 8)
+    c.requires.place (omega arith) (omega arith) (omega arith)).0
 
 pub word_at-len-requires-clause-segment : goal.word_at-len-requires-clause-segment
 word_at-len-requires-clause-segment c =
     let z = c.requires.place.aligned in
     let room = c.requires.room in
-    (cell_words c.args.scan.now.heap.now c.args.scan.now.k c.args.place
-    (c.args.place + 8) c.lawful.ensures c.requires.place (omega arith)
-    (omega arith) (omega arith)).1
+    (cell_words c.args.scan.now.heap.now c.args.scan.now.k c.args.place (c.args.place + 8)
+    c.requires.place (omega arith) (omega arith) (omega arith)).1

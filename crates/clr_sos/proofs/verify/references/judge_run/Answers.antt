@@ -16,8 +16,8 @@ pub overflow_mul-a : goal.overflow_mul-a
 overflow_mul-a c =
     let slot =
     run_slot c.args.judge.now.types.now c.args.judge.now.heap.now c.args.k c.args.item c.args.run c.loop-i.i
-    c.lawful.ensures
-    c.requires.judging.walkable c.requires.in_range c.requires.listed c.requires.run c.loop-i-test.true in
+    c.requires.judging.heap c.requires.judging.walkable c.requires.in_range c.requires.listed c.requires.run
+    c.loop-i-test.true in
     let low = slot.low in
     let small : 8 * c.loop-i.i < 2 ^ 63 = omega (arith, low) in
     omega (arith, small)
@@ -26,8 +26,8 @@ pub overflow_add-a : goal.overflow_add-a
 overflow_add-a c =
     let slot =
     run_slot c.args.judge.now.types.now c.args.judge.now.heap.now c.args.k c.args.item c.args.run c.loop-i.i
-    c.lawful.ensures
-    c.requires.judging.walkable c.requires.in_range c.requires.listed c.requires.run c.loop-i-test.true in
+    c.requires.judging.heap c.requires.judging.walkable c.requires.in_range c.requires.listed c.requires.run
+    c.loop-i-test.true in
     let low = slot.low in
     let small : c.args.run.offset + 8 * c.loop-i.i < 2 ^ 63 = omega (arith, low) in
     omega (arith, small)
@@ -36,22 +36,22 @@ pub overflow_add-a-in-loop-i : goal.overflow_add-a-in-loop-i
 overflow_add-a-in-loop-i c =
     let slot =
     run_slot c.args.judge.now.types.now c.args.judge.now.heap.now c.args.k c.args.item c.args.run c.loop-i.i
-    c.lawful.ensures
-    c.requires.judging.walkable c.requires.in_range c.requires.listed c.requires.run c.loop-i-test.true in
+    c.requires.judging.heap c.requires.judging.walkable c.requires.in_range c.requires.listed c.requires.run
+    c.loop-i-test.true in
     let low : c.args.item.place + (c.args.run.offset + 8 * c.loop-i.i) < 2 ^ 63 = slot.low in
     omega (arith, low)
 
 pub word_at-requires-clause-word : goal.word_at-requires-clause-word
 word_at-requires-clause-word c =
     (run_slot c.args.judge.now.types.now c.args.judge.now.heap.now c.args.k c.args.item c.args.run c.loop-i.i
-    c.lawful.ensures
-    c.requires.judging.walkable c.requires.in_range c.requires.listed c.requires.run c.loop-i-test.true).word
+    c.requires.judging.heap c.requires.judging.walkable c.requires.in_range c.requires.listed c.requires.run
+    c.loop-i-test.true).word
 
 pub word_at-requires-clause-segment : goal.word_at-requires-clause-segment
 word_at-requires-clause-segment c =
     (run_slot c.args.judge.now.types.now c.args.judge.now.heap.now c.args.k c.args.item c.args.run c.loop-i.i
-    c.lawful.ensures
-    c.requires.judging.walkable c.requires.in_range c.requires.listed c.requires.run c.loop-i-test.true).segment
+    c.requires.judging.heap c.requires.judging.walkable c.requires.in_range c.requires.listed c.requires.run
+    c.loop-i-test.true).segment
 
 pub loop-i-preserved : goal.loop-i-preserved
 loop-i-preserved c =

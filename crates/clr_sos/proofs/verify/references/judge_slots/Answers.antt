@@ -12,15 +12,13 @@ use Rattle.clr_sos.proofs.verify.references.judge_slots.Goals as goal
 
 pub slots-offset-items-requires-clause-known : goal.slots-offset-items-requires-clause-known
 slots-offset-items-requires-clause-known c =
-    (listed_facts c.args.judge.now.types.now c.args.judge.now.heap.now c.args.k c.args.item c.lawful.ensures
-    c.requires.judging.walkable
-    c.requires.in_range c.requires.listed).known
+    (listed_facts c.args.judge.now.types.now c.args.judge.now.heap.now c.args.k c.args.item c.requires.judging.heap
+    c.requires.judging.walkable c.requires.in_range c.requires.listed).known
 
 pub slots-offset-items-requires-clause-size : goal.slots-offset-items-requires-clause-size
 slots-offset-items-requires-clause-size c =
-    (listed_facts c.args.judge.now.types.now c.args.judge.now.heap.now c.args.k c.args.item c.lawful.ensures
-    c.requires.judging.walkable
-    c.requires.in_range c.requires.listed).small
+    (listed_facts c.args.judge.now.types.now c.args.judge.now.heap.now c.args.k c.args.item c.requires.judging.heap
+    c.requires.judging.walkable c.requires.in_range c.requires.listed).small
 
 pub loop-offset-init : goal.loop-offset-init
 loop-offset-init c = record { walked = refl; low = sym (lowest-none c.args.low) }
@@ -33,8 +31,7 @@ slot_at c =
     ap (λ rest. c.loop-offset.yielded ++ rest) (sym c.in-Some.ensures.steps) ∙ c.loop-offset.invariant.walked
     ∙ c.into_iter-offset-iterator.ensures.into_iter_gives ∙ c.slots-offset-items.ensures in
     offset_facts c.args.judge.now.types.now c.args.judge.now.heap.now c.args.k c.args.item c.in-Some.offset
-    c.lawful.ensures
-    c.requires.judging.walkable c.requires.in_range c.requires.listed
+    c.requires.judging.heap c.requires.judging.walkable c.requires.in_range c.requires.listed
     (in_middle_of c.loop-offset.yielded c.in-Some.offset c.next.new.self
     (reference_offsets (form_at c.args.judge.now.types.now c.args.item.type_id.0) c.args.item.len) walked)
 

@@ -29,6 +29,7 @@ loop-more-preserved c =
     let count : length c.loop-more.bits ≡ length bits = sym c.mark_starts.auto.bits in
     let j : IsJudging rows h window bits =
     record {
+      heap = c.requires.heap;
       walkable = c.requires.walkable;
       aligned = w.start;
       marked = c.mark_starts.ensures;

@@ -4,8 +4,8 @@ use Rattle.clr_sos.specs.Faults.{segments_fault}
 use Rattle.clr_sos.proofs.ScanSteps.{segments_done, segments_step}
 use Rattle.clr_sos.proofs.verify.segments.segments_fault.Goals as goal
 
-pub returns-in-Some : goal.returns-in-Some
-returns-in-Some c =
+pub returns-in-Some-clause-fault : goal.returns-in-Some-clause-fault
+returns-in-Some-clause-fault c =
     let rows = c.args.types.now in
     let large = c.args.large in
     let h = c.args.heap.now in
@@ -24,8 +24,8 @@ loop-k-preserved c =
     ap (λ (o : Option ℕ). or_else o rest) (sym c.in-None.is ∙ c.segment_fault.ensures)
     ∙ sym (segments_step rows large h k (length h.segments) (omega arith)) ∙ c.loop-k.invariant
 
-pub returns : goal.returns
-returns c =
+pub returns-clause-fault : goal.returns-clause-fault
+returns-clause-fault c =
     let h = c.args.heap.now in
     sym (segments_done c.args.types.now c.args.large h c.loop-k.k (length h.segments) (omega arith))
     ∙ c.loop-k.invariant

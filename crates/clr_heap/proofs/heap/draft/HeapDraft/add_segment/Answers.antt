@@ -7,7 +7,7 @@ invariant_of-self-2 c =
     rw (
       c.push_both.ensures.memories,
       c.push_both.ensures.segments,
-      c.make_room.ensures.memories,
-      c.make_room.ensures.segments,
+      c.reserve_both.ensures.memories,
+      c.reserve_both.ensures.segments,
     )
     (drafted_is _ c.args.head _ _ _ c.self.invariant next c.requires.memory)

@@ -6,8 +6,6 @@
 
 mod bricks;
 mod search;
-#[cfg(test)]
-mod tests;
 
 pub use crate::bricks::Bricks;
 pub use clr_mem::NoMemory;

@@ -7,8 +7,6 @@
 
 mod cards;
 mod runs;
-#[cfg(test)]
-mod tests;
 
 pub use crate::cards::Cards;
 pub use crate::runs::Runs;

@@ -8,4 +8,3 @@ pub mod Walks
 pub mod Renewing
 pub mod Choices
 pub mod GivingAll
-pub mod Opening

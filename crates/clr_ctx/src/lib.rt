@@ -5,6 +5,4 @@ pub use crate::young_items::YoungItems;
 
 mod ranges;
 mod rooms;
-#[cfg(test)]
-mod tests;
 mod young_items;

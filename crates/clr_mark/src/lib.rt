@@ -8,5 +8,3 @@ pub use clr_mem::NoMemory;
 mod large;
 mod marker;
 mod roots;
-#[cfg(test)]
-mod tests;

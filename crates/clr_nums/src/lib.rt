@@ -6,8 +6,6 @@
 mod grid;
 mod read;
 mod steps;
-#[cfg(test)]
-mod tests;
 mod write;
 
 pub use grid::{Grid, round8};

@@ -11,5 +11,3 @@ pub use clr_mem::NoMemory;
 
 mod entry;
 mod queue;
-#[cfg(test)]
-mod tests;

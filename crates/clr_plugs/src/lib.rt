@@ -15,7 +15,5 @@ pub use crate::writer::PlanWriter;
 mod builder;
 mod cursor;
 mod search;
-#[cfg(test)]
-mod tests;
 mod words;
 mod writer;

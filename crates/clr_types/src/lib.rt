@@ -56,6 +56,3 @@ pub fn series_spell_references()
     ensures inside { InsideLaw }
     ensures longest { LongestRunsLaw }
 {}
-
-#[cfg(test)]
-mod tests;

@@ -17,7 +17,6 @@ pub mod Stores
 pub mod ObjectItems
 pub mod SlotReads
 pub mod HeldBytes
-pub mod FirstContext
 pub mod Unmarked
 pub mod FreeHeads
 pub mod Padding

@@ -8,5 +8,3 @@ pub use crate::slot_values::{object_item, set_slot_value, slot_value};
 mod births;
 mod flags;
 mod slot_values;
-#[cfg(test)]
-mod tests;

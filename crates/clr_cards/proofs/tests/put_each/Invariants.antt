@@ -1,5 +1,0 @@
-use Rattle.clr_covers.specs.Covers.{HasAll}
-use Rattle.clr_cards.proofs.tests.put_each.Given as goal
-
-abbrev pub invariant-loop-a : goal.invariant-loop-a
-invariant-loop-a g l = HasAll l.cards 131072 131200

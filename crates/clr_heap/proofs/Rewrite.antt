@@ -6,8 +6,8 @@ use Rattle.clr_types.specs.Ranges.{Piece}
 use Rattle.clr_types.specs.declared.item.Item.{Item}
 use Rattle.clr_heap.specs.Memories.{store_in}
 use Rattle.clr_heap.specs.Parts.{Among, Part, item_part, rest_part, Sight, Spells, unmarked}
-use Rattle.clr_heap.specs.View.{HasParts, first_of, HeapView, holes_of, IsWalkable, last_of, parts_of, SameShape, sight}
-use Rattle.clr_heap.specs.View.{stored, word_of}
+use Rattle.clr_heap.specs.View.{HasParts, first_of, HeapView, holes_of, IsHeap, IsWalkable, last_of, parts_of}
+use Rattle.clr_heap.specs.View.{SameShape, sight, stored, word_of}
 use Rattle.clr_heap.proofs.Storing.{shapes-store_in, memory_index-shapes, length-shapes}
 use Rattle.clr_heap.proofs.Spelling.{AgreesAt, AgreesOn, item_size, Spells-agrees, with_words}
 use Rattle.clr_heap.proofs.Walking.{CanWalk-from, spelled_parts}
@@ -21,6 +21,23 @@ SameShape-stored old now a v h = record {
 
 pub SameShape-refl : (h : HeapView) → SameShape h h
 SameShape-refl h = record { memories = refl; others = refl }
+
+-- a heap stays lawful where words alone change
+pub shaped_heap : (old now : HeapView) → SameShape old now → IsHeap old → IsHeap now
+shaped_heap old now shape heap = subst IsHeap (sym shape.others) (record {
+  memories = shape.memories ∙ heap.memories;
+  segments = heap.segments;
+  highest = heap.highest;
+  disjoint = heap.disjoint;
+  below_top = heap.below_top;
+  one_ephemeral = heap.one_ephemeral;
+  ephemeral_last = heap.ephemeral_last;
+  top_aligned = heap.top_aligned;
+  top_small = heap.top_small;
+  within_limit = heap.within_limit;
+  limit_small = heap.limit_small;
+  threads = heap.threads;
+})
 
 pub holes_same : (old now : HeapView) (k : ℕ) → SameShape old now → holes_of now k ≡ holes_of old k
 holes_same old now k h = ap (λ (g : HeapView). holes_of g k) h.others

@@ -199,7 +199,7 @@ fn first_memories(alloc: Global, segment: u64) -> Result<Vec<Mem>, NoMemory>
         ≡ first_memory FIRST_BASE segment ∷ first_memory (FIRST_BASE + segment) segment ∷ []) }
 {
     let low = Mem::new(alloc, FIRST_BASE, segment)?;
-    let high = Mem::new(alloc, FIRST_BASE + segment, segment)?;
+    let high = Mem::sparse(alloc, FIRST_BASE + segment, segment)?;
     let mut memories = Vec::new(alloc);
     memories.push(low)?;
     memories.push(high)?;

@@ -13,6 +13,4 @@ mod items;
 mod kinds;
 mod laws;
 mod memory;
-#[cfg(test)]
-mod tests;
 mod walk;

@@ -1,14 +1,29 @@
 //! The words of a segment, from the bytes in which they are kept.
 ghost use Rattle.std.specs.Prelude.{◌≡◌, ◌+◌, ◌*◌, ◌-◌, ◌/◌, ◌%◌, ◌<◌, ◌≤◌, ◌^◌, IfOk, length, drop};
-ghost use Rattle.clr_mem.specs.Words.{spelled, zeroed};
+ghost use Rattle.clr_mem.specs.Words.{end_of, spelled, zeroed};
 ghost use Rattle.clr_types.specs.Segments.{first_place, reserved_end};
 ghost use Rattle.clr_heap.specs.Filled.{filled, IsFillable, memory_from};
 ghost use Rattle.clr_heap.specs.Memories.{shape_of};
 
 use byteorder::{ByteOrder, LittleEndian};
 use clr_mem::{Mem, NoMemory};
-use clr_types::SegInfo;
+use clr_types::{SegInfo, SegKind};
 use std::alloc::Global;
+
+/// Zero words for a segment of a kind. What lies in a large or pinned segment may be long, and little of it written, so
+/// memory is taken for the pages that are; the small heap's is written from its front on.
+pub fn memory_of(alloc: Global, kind: SegKind, base: u64, size: u64) -> Result<Mem, NoMemory>
+    requires base_aligned { base % 8 ≡ 0 }
+    requires len_aligned { size % 4096 ≡ 0 }
+    requires fits { base + size < 2 ^ 64 }
+    ensures value { IfOk result (λ m. m ≡ zeroed base size) }
+    ensures end { IfOk result (λ m. end_of m ≡ base + size) }
+{
+    match kind {
+        SegKind::Ephemeral | SegKind::Small => Mem::new(alloc, base, size),
+        SegKind::Large | SegKind::Pinned => Mem::sparse(alloc, base, size),
+    }
+}
 
 // The word whose eight bytes begin at an offset.
 #[inline]
@@ -31,7 +46,7 @@ pub fn load_memory(alloc: Global, info: &SegInfo, bytes: &[u8], at: usize) -> Re
     ensures words { IfOk result (λ m. m ≡ memory_from bytes.now info.now at) }
     ensures shape { IfOk result (λ m. shape_of m ≡ (info.now.base, info.now.reserved)) }
 {
-    let mut memory = Mem::new(alloc, info.base, info.reserved)?;
+    let mut memory = memory_of(alloc, info.kind, info.base, info.reserved)?;
     fill(&mut memory, info, bytes, at);
     Ok(memory)
 }

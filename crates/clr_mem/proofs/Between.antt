@@ -1,6 +1,6 @@
 -- Words that are looked through for one of a range of numbers.
 use Rattle.std.proofs.Common.{◌≡◌, ℕ, ◌+◌, ◌-◌, ◌*◌, ◌%◌, ◌<◌, ◌≤◌, ◌^◌, inl, inr, true, false, List, length}
-use Rattle.std.proofs.Common.{take, drop, ap, ◌∙◌, sym, subst, arith, ltb, leb}
+use Rattle.std.proofs.Common.{get_or, take, drop, ap, ◌∙◌, sym, subst, arith, ltb, leb}
 use Rattle.std.proofs.lemmas.Bool.{leb-true, ltb-true, and_parts, and_from, le-leb, lt-ltb, cases_Bool, cases_lt}
 use Rattle.std.proofs.lemmas.List.{drop-drop, drop-take, drop_all}
 use Rattle.clr_mem.specs.Stored.{with_zeros}
@@ -94,3 +94,16 @@ module _ (size : ℕ) (xs v : List ℕ) (view : with_zeros size xs ≡ v) (insid
   pub seen-behind : (i : ℕ) → length xs ≤ i → spelled (drop i v) ≡ 0
   unfolding spelled
   seen-behind i behind = sym (seen-word size xs v view inside i) ∙ ap spelled (drop_all i xs behind)
+
+-- what holds of m words from place i on, and of n words behind them
+pub both_before : (low high : ℕ) (words : List ℕ) (i m n : ℕ)
+    → ((j : ℕ) → j < m → is_between low high (get_or words (i + j) 0) ≡ false)
+    → ((j : ℕ) → j < n → is_between low high (get_or words (i + m + j) 0) ≡ false)
+    → (j : ℕ) → j < m + n → is_between low high (get_or words (i + j) 0) ≡ false
+both_before low high words i m n first second j l =
+    elim (cases_lt j m) [
+      | inl earlier ↦ first j earlier
+      | inr later ↦
+          let place : i + j ≡ i + m + (j - m) = omega (arith, later) in
+          ap (λ (k : ℕ). is_between low high (get_or words k 0)) place ∙ second (j - m) (omega (arith, l, later))
+    ]

@@ -13,7 +13,7 @@ use Rattle.clr_mem.specs.Words.{spelled, zeros}
 use Rattle.clr_mem.proofs.Spelling.{spelled-same}
 
 -- what is written right behind xs is written with it at once
-overwrite_twice : (i k n : ℕ) (ps xs ys qs : List ℕ) → length xs ≡ k → k ≤ n → i + n ≤ length ps
+pub overwrite_twice : (i k n : ℕ) (ps xs ys qs : List ℕ) → length xs ≡ k → k ≤ n → i + n ≤ length ps
     → qs ≡ take i ps ++ (xs ++ drop (i + k) ps)
     → take (i + k) qs ++ (ys ++ drop (i + k + (n - k)) qs) ≡ take i ps ++ ((xs ++ ys) ++ drop (i + n) ps)
 overwrite_twice i k n ps xs ys qs size more inside is =

@@ -61,6 +61,14 @@ impl LazyBytes {
         self.size
     }
 
+    // Whether the byte at `at` is stored.
+    #[inline(always)]
+    pub fn has(&self, at: usize) -> bool
+        ensures { result ≡ true → at < length self.now }
+    {
+        at < self.stored.len()
+    }
+
     // The number that the eight bytes from `at` on spell.
     #[inline(always)]
     pub fn word(&self, at: usize) -> u64

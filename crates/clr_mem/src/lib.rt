@@ -6,22 +6,25 @@
 //!
 //! Memory is taken as it is used. [`Mem::new`] reserves the room for all bytes and touches none of
 //! it. Bytes are stored from the first on, up to the last that was written, in steps of 4 KiB up to
-//! 64 KiB and of 64 KiB from there on, and what was never written reads as 0.
+//! 64 KiB and of 64 KiB from there on, and what was never written reads as 0. A memory of
+//! [`Mem::sparse`] stores the pages of 4 KiB alone that were written.
 #![tactic(auto)]
 
 ghost use Rattle.std.specs.Prelude.{◌≡◌, ℕ, ◌+◌, ◌*◌, ◌%◌, ◌<◌, ◌≤◌, ◌^◌, ◌↔◌, false, true, length, IfOk, IsTrue};
 ghost use Rattle.clr_mem.specs.Words.{byte_at, cleared, end_of, Holds, HoldsBytes, moved, with_byte_at, with_word};
-ghost use Rattle.clr_mem.specs.Words.{is_between, word_at, zeroed};
+ghost use Rattle.clr_mem.specs.Words.{is_between, with_byte, word_at, zeroed};
+ghost use Rattle.clr_mem.specs.Words as words;
+ghost use Rattle.std.specs.Prelude.{◌/◌, get_or, set};
 
 use crate::lazy::LazyBytes;
+use crate::pages::PagedWords;
 use std::alloc::Global;
 use std::marker::Model;
 
 mod bytes;
 mod lazy;
 mod no_memory;
-#[cfg(test)]
-mod tests;
+mod pages;
 
 pub use crate::no_memory::NoMemory;
 
@@ -30,12 +33,15 @@ pub use crate::no_memory::NoMemory;
 #[derive(Drop)]
 pub struct Mem {
     base: u64,
+    // The bytes of a memory that isn't sparse, and none of one that is.
     bytes: LazyBytes,
+    // The words of a sparse one.
+    far: Option<Box<PagedWords>>,
 }
 
 impl Model for Mem {
-    ghost use Rattle.std.specs.Prelude.{◌/◌, length};
-    ghost use Rattle.clr_mem.specs.Words.{IsPlaced, Memory, memory_code, words_of};
+    ghost use Rattle.clr_mem.specs.Sparse.{IsStoredAt, words_in};
+    ghost use Rattle.clr_mem.specs.Words.{Memory, memory_code};
 
     ghost Value = { Memory };
 
@@ -43,10 +49,10 @@ impl Model for Mem {
 
     ghost view = { λ m. record {
       base = m.base;
-      words = words_of (length m.bytes / 8) m.bytes;
+      words = words_in m.bytes m.far;
     } };
 
-    ghost invariant = { λ m. IsPlaced m.base (length m.bytes) };
+    ghost invariant = { λ m. IsStoredAt m.base m.bytes m.far };
 }
 
 impl Mem {
@@ -60,7 +66,54 @@ impl Mem {
         ensures end { IfOk result (λ m. end_of m ≡ base + len) }
     {
         let bytes = LazyBytes::new(alloc, len as usize)?;
-        Ok(Mem { base, bytes })
+        Ok(Mem {
+            base,
+            bytes,
+            far: None,
+        })
+    }
+
+    /// The same, in pages of 4 KiB: those take memory that words were written to, and no others. A read or write costs
+    /// more than one of a memory that isn't sparse, so it is for memory of which little is written.
+    pub fn sparse(alloc: Global, base: u64, len: u64) -> Result<Mem, NoMemory>
+        requires base_aligned { base % 8 ≡ 0 }
+        requires len_aligned { len % 4096 ≡ 0 }
+        requires fits { base + len < 2 ^ 64 }
+        ensures value { IfOk result (λ m. m ≡ zeroed base len) }
+        ensures end { IfOk result (λ m. end_of m ≡ base + len) }
+    {
+        let bytes = LazyBytes::new(alloc, 0)?;
+        let pages = PagedWords::new(alloc, (len / 8) as usize)?;
+        let far = Some(Box::new(alloc, pages)?);
+        Ok(Mem { base, bytes, far })
+    }
+
+    // The word whose bytes begin at an offset, where it isn't among those that are stored from the first on. It stands
+    // apart, so that what reads inline stays small.
+    #[cold]
+    #[inline(never)]
+    fn word_beyond(&self, at: usize) -> u64
+        requires { at % 8 ≡ 0 }
+        ensures { result ≡ get_or self.now.words (at / 8) 0 }
+    {
+        match &self.far {
+            Some(pages) => pages.word(at / 8),
+            None => self.bytes.word(at),
+        }
+    }
+
+    // Writes it.
+    #[cold]
+    #[inline(never)]
+    fn set_word_beyond(&mut self, at: usize, v: u64)
+        requires aligned { at % 8 ≡ 0 }
+        requires inside { at < 8 * length self.old.words }
+        ensures { self.new ≡ record self.old { words = set self.old.words (at / 8) v } }
+    {
+        match &mut self.far {
+            Some(pages) => pages.set_word(at / 8, v),
+            None => self.bytes.set_word(at, v),
+        }
     }
 
     /// The first address.
@@ -80,7 +133,10 @@ impl Mem {
         ensures aligned { self.now.base % 8 ≡ 0 }
         ensures fits { end_of self.now < 2 ^ 64 }
     {
-        self.bytes.len() as u64
+        match &self.far {
+            Some(pages) => 8 * pages.len() as u64,
+            None => self.bytes.len() as u64,
+        }
     }
 
     /// Whether it holds no byte at all.
@@ -97,7 +153,12 @@ impl Mem {
         ensures value { result ≡ word_at self.now a }
         ensures fits { a + 8 < 2 ^ 64 }
     {
-        self.bytes.word((a - self.base) as usize)
+        let at = (a - self.base) as usize;
+        if self.bytes.has(at) {
+            self.bytes.word(at)
+        } else {
+            self.word_beyond(at)
+        }
     }
 
     /// Of the `n` words from `a` on, a multiple of 8, the number of the first one that is one of the numbers from
@@ -110,8 +171,11 @@ impl Mem {
         ensures before { (j : ℕ) → j < result → is_between low high (word_at self.now (a + 8 * j)) ≡ false }
         ensures found { result < n → is_between low high (word_at self.now (a + 8 * result)) ≡ true }
     {
-        self.bytes
-            .first_between((a - self.base) as usize, n as usize, low, high) as u64
+        let at = (a - self.base) as usize;
+        match &self.far {
+            Some(pages) => pages.first_between(at / 8, n as usize, low, high) as u64,
+            None => self.bytes.first_between(at, n as usize, low, high) as u64,
+        }
     }
 
     /// Writes the word at `a`, a multiple of 8; every other word stays.
@@ -122,7 +186,30 @@ impl Mem {
         ensures size { length self.new.words ≡ length self.old.words }
         ensures fits { a + 8 < 2 ^ 64 }
     {
-        self.bytes.set_word((a - self.base) as usize, v);
+        let at = (a - self.base) as usize;
+        if self.bytes.has(at) {
+            self.bytes.set_word(at, v);
+        } else {
+            self.set_word_beyond(at, v);
+        }
+    }
+
+    // Writes the byte at an offset.
+    #[cold]
+    #[inline(never)]
+    fn set_byte_beyond(&mut self, at: usize, v: u8)
+        requires { at < 8 * length self.old.words }
+        ensures { self.new ≡ record self.old {
+          words = set self.old.words (at / 8) (with_byte (get_or self.old.words (at / 8) 0) (at % 8) v);
+        } }
+    {
+        match &mut self.far {
+            Some(pages) => {
+                let word = pages.word(at / 8);
+                pages.set_word(at / 8, with_byte(word, at % 8, v));
+            }
+            None => self.bytes.set_byte(at, v),
+        }
     }
 
     /// The byte at `a`: of its word, the lowest eight bits where `a` is a multiple of 8.
@@ -132,7 +219,12 @@ impl Mem {
         ensures value { result ≡ byte_at self.now a }
         ensures fits { a + 1 < 2 ^ 64 }
     {
-        self.bytes.byte((a - self.base) as usize)
+        let at = (a - self.base) as usize;
+        if self.bytes.has(at) {
+            self.bytes.byte(at)
+        } else {
+            byte_of(self.word_beyond(at - at % 8), at % 8)
+        }
     }
 
     /// Writes the byte at `a`; every other byte stays.
@@ -143,7 +235,12 @@ impl Mem {
         ensures size { length self.new.words ≡ length self.old.words }
         ensures fits { a + 1 < 2 ^ 64 }
     {
-        self.bytes.set_byte((a - self.base) as usize, v);
+        let at = (a - self.base) as usize;
+        if self.bytes.has(at) {
+            self.bytes.set_byte(at, v);
+        } else {
+            self.set_byte_beyond(at, v);
+        }
     }
 
     /// Moves the `len` bytes from `from` on down to `to`, in whole words. The ranges may overlap;
@@ -158,7 +255,10 @@ impl Mem {
     {
         let start = (from - self.base) as usize;
         let at = (to - self.base) as usize;
-        self.bytes.slide(start, at, len as usize);
+        match &mut self.far {
+            Some(pages) => pages.slide(start / 8, at / 8, len as usize / 8),
+            None => self.bytes.slide(start, at, len as usize),
+        }
     }
 
     /// Copies the `len` bytes from `from` on of another memory to `to`, in whole words; what
@@ -173,7 +273,28 @@ impl Mem {
     {
         let start = (from - other.base) as usize;
         let at = (to - self.base) as usize;
+        if self.far.is_some() {
+            return self.carry_words(to, other, from, len);
+        }
+        if other.far.is_some() {
+            return self.carry_words(to, other, from, len);
+        }
         self.bytes.carry(at, &other.bytes, start, len as usize);
+    }
+
+    // The same word by word.
+    #[cold]
+    fn carry_words(&mut self, to: u64, other: &Mem, from: u64, len: u64)
+        requires to_in { Holds self.old to len }
+        requires from_in { Holds other.now from len }
+        requires to_end { end_of self.old < 2 ^ 64 }
+        requires from_end { end_of other.now < 2 ^ 64 }
+        ensures value { self.new ≡ moved self.old other.now to from len }
+        ensures size { length self.new.words ≡ length self.old.words }
+    {
+        for i in 0..len / 8 {
+            self.set_word(to + 8 * i, other.word(from + 8 * i));
+        }
     }
 
     /// Clears the `len` bytes from `a` on, in whole words; every other word stays. Bytes that aren't
@@ -184,6 +305,27 @@ impl Mem {
         ensures size { length self.new.words ≡ length self.old.words }
         ensures fits { a + len < 2 ^ 64 }
     {
-        self.bytes.clear((a - self.base) as usize, len as usize);
+        let at = (a - self.base) as usize;
+        match &mut self.far {
+            Some(pages) => pages.clear(at / 8, len as usize / 8),
+            None => self.bytes.clear(at, len as usize),
+        }
     }
+}
+
+// Byte `k` of a word, the lowest first.
+fn byte_of(word: u64, k: usize) -> u8
+    requires { k < 8 }
+    ensures { result ≡ words.byte_of word k }
+{
+    ((word >> (8 * k)) % 256) as u8
+}
+
+// The word with byte `k` replaced.
+fn with_byte(word: u64, k: usize, v: u8) -> u64
+    requires { k < 8 }
+    ensures { result ≡ words.with_byte word k v }
+{
+    let shift = 8 * k;
+    word - ((byte_of(word, k) as u64) << shift) + ((v as u64) << shift)
 }

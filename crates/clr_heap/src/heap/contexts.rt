@@ -61,6 +61,25 @@ impl Heap {
             u64::MAX
         }
     }
+
+    /// The end of the hole of segment `k` that starts at `place`: `None` where none does. A walk keeps `next_hole`, up
+    /// to which none starts from its place on, so that none is looked for there.
+    #[inline(always)]
+    pub fn hole_here(&self, k: usize, place: u64, next_hole: &mut u64) -> Option<u64>
+        requires in_range { k < length self.now.segments }
+        requires clear { (q : ℕ) → place ≤ q → q < next_hole.old → hole_from (holes_of self.now k) q ≡ None }
+        ensures hole { result ≡ hole_from (holes_of self.now k) place }
+        ensures clear { (q : ℕ) → place ≤ q → q < next_hole.new → hole_from (holes_of self.now k) q ≡ None }
+    {
+        if place < *next_hole {
+            return None;
+        }
+        let found = self.hole_end(k, place);
+        if found.is_none() {
+            *next_hole = self.next_hole(k, place);
+        }
+        found
+    }
 }
 
 fn hole_at(rests: &Vec<Option<Span>>, i: usize) -> Option<(u64, u64)>

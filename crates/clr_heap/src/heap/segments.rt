@@ -5,6 +5,7 @@ ghost use Rattle.std.specs.List.{remove};
 ghost use Rattle.clr_types.specs.Segments.{reserved_sum, sealed_segment};
 
 use super::Heap;
+use crate::memory::memory_of;
 use clr_mem::{Mem, NoMemory};
 use clr_types::{SegInfo, SegKind};
 
@@ -66,7 +67,7 @@ impl Heap {
         if base > HIGHEST_BASE {
             return Err(AcquireFault::NoMemory);
         }
-        let memory = Mem::new(self.alloc, base, size)?;
+        let memory = memory_of(self.alloc, kind, base, size)?;
         reserve_both(&mut self.memories, &mut self.segments)?;
         let k = self.segments.len();
         let segment = SegInfo::empty(kind, base, size);

@@ -1,8 +1,8 @@
-use Rattle.std.proofs.Common.{arith}
 use Rattle.clr_mem.proofs.Inside.{bounds}
 use Rattle.clr_mem.proofs.Mem.base.Goals as goal
 
-pub returns : goal.returns
-returns c =
-    let v = bounds _ c.self.inside.bytes _ c.self.view_is c.self.invariant in
-    record { value = omega arith; aligned = omega arith; fits = omega arith }
+pub returns-clause-fits : goal.returns-clause-fits
+returns-clause-fits c =
+    let m = c.self.inside in
+    let b = bounds m.base m.bytes m.far _ c.self.view_is c.self.invariant in
+    b.fits

@@ -4,12 +4,14 @@ use Rattle.clr_mem.proofs.Inside.{memory, all_words, all_words-zero_bytes}
 use Rattle.clr_mem.proofs.Callers.{end_of-zeroed, length-zeros}
 use Rattle.clr_mem.proofs.Mem.new.Goals as goal
 
-pub returns : goal.returns
-returns c =
-    let made =
+pub returns-clause-value : goal.returns-clause-value
+returns-clause-value c =
     ap (memory c.args.base)
-    (ap all_words c.in_ok-bytes.ensures ∙ all_words-zero_bytes c.args.len c.requires.len_aligned) in
-    record { value = made; end = ap end_of made ∙ end_of-zeroed c.args.base c.args.len c.requires.len_aligned }
+    (ap all_words c.in_ok-bytes.ensures ∙ all_words-zero_bytes c.args.len c.requires.len_aligned)
+
+pub returns-clause-end : goal.returns-clause-end
+returns-clause-end c =
+    ap end_of (returns-clause-value c) ∙ end_of-zeroed c.args.base c.args.len c.requires.len_aligned
 
 pub invariant_of-result : goal.invariant_of-result
 invariant_of-result c =

@@ -1,31 +1,61 @@
-use Rattle.std.proofs.Common.{ap, ◌∙◌, arith, length}
-use Rattle.clr_mem.specs.Words.{Memory}
+use Rattle.std.proofs.Common.{◌-◌, ◌/◌, ℕ, ap, sym, ◌∙◌, arith, length}
+use Rattle.clr_mem.specs.Words.{Memory, overwrite, part}
 use Rattle.clr_mem.proofs.Callers.{length-moved}
-use Rattle.clr_mem.proofs.Inside.{memory, bounds, write_copy}
+use Rattle.clr_mem.proofs.Inside.{bounds, plain, plain-after, write_copy}
 use Rattle.clr_mem.proofs.Mem.slide.Goals as goal
 
-pub slide-requires-clause-from_in : goal.slide-requires-clause-from_in
-slide-requires-clause-from_in c = let v = bounds _ c.self.inside.bytes _ c.self.view_is c.self.invariant in omega arith
-
-pub returns-clause-value : goal.returns-clause-value
-returns-clause-value c =
-    let v = bounds _ c.self.inside.bytes _ c.self.view_is c.self.invariant in
+pub slide-requires-in-None-clause-from_in : goal.slide-requires-in-None-clause-from_in
+slide-requires-in-None-clause-from_in c =
     let m = c.self.inside in
-    let to_in = c.requires.to_in in
-    let words =
-    write_copy m.base c.args.to m.bytes c.self.invariant (omega arith) m.base c.args.from c.args.len m.bytes
-    c.self.invariant (omega arith) c.requires.from_in.start (omega arith) to_in.start to_in.whole (omega arith)
-    c.slide.new.self c.slide.ensures.items in
-    rw (← c.self.view_is) (ap (memory m.base) words)
+    let b = bounds m.base m.bytes m.far _ c.self.view_is c.self.invariant in
+    let p = plain m.base m.bytes m.far _ c.in-None.is c.self.view_is c.self.invariant in
+    let first = b.first in
+    let aligned = b.aligned in
+    let size = p.size in
+    let above = c.requires.from_in.above in
+    let below = c.requires.from_in.below in
+    omega (arith, first, size, above, below)
 
-pub returns-clause-size : goal.returns-clause-size
-returns-clause-size c =
-    let v = bounds _ c.self.inside.bytes _ c.self.view_is c.self.invariant in
+pub returns-in-None-clause-value : goal.returns-in-None-clause-value
+returns-in-None-clause-value c =
+    let m = c.self.inside in
+    let b = bounds m.base m.bytes m.far _ c.self.view_is c.self.invariant in
+    let p = plain m.base m.bytes m.far _ c.in-None.is c.self.view_is c.self.invariant in
+    let first = b.first in
+    let aligned = b.aligned in
+    let size = p.size in
+    let from_in = c.requires.from_in in
+    let to_in = c.requires.to_in in
+    let words = c.args.self.now.words in
+    let after = c.slide-in-None.new.self in
+    plain-after m.base m.bytes m.far _ c.in-None.is c.self.view_is after _
+    (write_copy (c.args.to - m.base) m.bytes words p (c.args.from - m.base) c.args.len m.bytes words p
+    (let start = from_in.start in let above = from_in.above in omega (arith, first, aligned, start, above))
+    (let above = from_in.above in let below = from_in.below in omega (arith, first, size, above, below))
+    (let start = to_in.start in let above = to_in.above in omega (arith, first, aligned, start, above))
+    to_in.whole
+    (let above = to_in.above in let below = to_in.below in omega (arith, first, size, above, below))
+    after c.slide-in-None.ensures.items
+    ∙ ap (λ (q : ℕ). overwrite words ((c.args.to - q) / 8) (part words ((c.args.from - q) / 8) (c.args.len / 8)))
+    (sym first))
+
+pub returns-in-None-clause-size : goal.returns-in-None-clause-size
+returns-in-None-clause-size c =
+    let m = c.self.inside in
+    let b = bounds m.base m.bytes m.far _ c.self.view_is c.self.invariant in
+    let first = b.first in
+    let aligned = b.aligned in
     let to_in = c.requires.to_in in
     let from_in = c.requires.from_in in
-    ap (λ (n : Memory). length n.words) (returns-clause-value c)
+    ap (λ (n : Memory). length n.words) (returns-in-None-clause-value c)
     ∙ length-moved c.args.self.now c.args.self.now c.args.to c.args.from c.args.len to_in.above to_in.below
-    from_in.above from_in.below (omega arith) (omega arith) to_in.start from_in.start to_in.whole
+    from_in.above from_in.below (omega (arith, first, aligned)) (omega (arith, first, aligned)) to_in.start
+    from_in.start to_in.whole
 
-pub returns-clause-fits : goal.returns-clause-fits
-returns-clause-fits c = let v = bounds _ c.self.inside.bytes _ c.self.view_is c.self.invariant in omega arith
+pub returns-in-None-clause-fits : goal.returns-in-None-clause-fits
+returns-in-None-clause-fits c =
+    let m = c.self.inside in
+    let b = bounds m.base m.bytes m.far _ c.self.view_is c.self.invariant in
+    let fits = b.fits in
+    let below = c.requires.from_in.below in
+    omega (arith, fits, below)

@@ -1,19 +1,26 @@
-use Rattle.std.proofs.Common.{◌∙◌, arith}
-use Rattle.clr_mem.proofs.Inside.{bounds, read_word}
+use Rattle.std.proofs.Common.{◌-◌, ◌∙◌, arith}
+use Rattle.clr_mem.proofs.Inside.{bounds, has_bytes, plain, read_word_at}
 use Rattle.clr_mem.proofs.Mem.word.Goals as goal
 
-pub word-requires : goal.word-requires
-word-requires c = let v = bounds _ c.self.inside.bytes _ c.self.view_is c.self.invariant in omega arith
-
-pub returns : goal.returns
-returns c =
-    let v = bounds _ c.self.inside.bytes _ c.self.view_is c.self.invariant in
+pub returns-then-has-clause-value : goal.returns-then-has-clause-value
+returns-then-has-clause-value c =
     let m = c.self.inside in
-    record {
-      value =
-          rw (← c.self.view_is)
-          (c.word.ensures
-          ∙ read_word m.base c.args.a m.bytes c.self.invariant (omega arith) _ (omega arith) c.requires.start
-          (omega arith));
-      fits = omega arith;
-    }
+    let b = bounds m.base m.bytes m.far _ c.self.view_is c.self.invariant in
+    let none =
+    has_bytes m.base (c.args.a - m.base) m.bytes m.far (c.has.ensures c.if-has.true) c.self.invariant in
+    let p = plain m.base m.bytes m.far _ none c.self.view_is c.self.invariant in
+    let first = b.first in
+    let aligned = b.aligned in
+    let start = c.requires.start in
+    let above = c.requires.above in
+    c.word.ensures
+    ∙ read_word_at m.base c.args.a m.bytes c.args.self.now p first aligned above start _
+    (omega (arith, first, aligned, start, above))
+
+pub returns-else-has-clause-fits : goal.returns-else-has-clause-fits
+returns-else-has-clause-fits c =
+    let m = c.self.inside in
+    let b = bounds m.base m.bytes m.far _ c.self.view_is c.self.invariant in
+    let fits = b.fits in
+    let below = c.requires.below in
+    omega (arith, fits, below)

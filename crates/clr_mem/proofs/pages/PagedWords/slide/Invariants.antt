@@ -1,0 +1,9 @@
+use Rattle.std.proofs.Common.{◌≡◌, ◌-◌, ◌≤◌}
+use Rattle.clr_mem.specs.Words.{overwrite, part}
+use Rattle.clr_mem.proofs.pages.PagedWords.slide.Given as goal
+
+abbrev pub invariant-loop-done : goal.invariant-loop-done
+invariant-loop-done l = (l.done ≤ l.n) × (l.self ≡ overwrite l.fn.self l.at (part l.fn.self l.start l.done))
+
+abbrev pub decreases-loop-done : goal.decreases-loop-done
+decreases-loop-done l = l.n - l.done

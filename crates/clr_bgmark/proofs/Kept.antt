@@ -37,7 +37,7 @@ inside_covers s a i = λ j. le-leb s.base a i.low j && lt-ltb a (s.base + s.size
 
 module _ (s : ShadeView) (h : IsShade s) (a b : ℕ) (i : IsInside s a) where
   -- what has eight bytes in common with the address lies in the segment
-  near_cell : b / 8 ≡ a / 8 → covers s b ≡ true
+  pub near_cell : b / 8 ≡ a / 8 → covers s b ≡ true
   near_cell e =
       let base = h.base in let size = h.size in let low = i.low in let high = i.high in
       inside_covers s b (record { low = omega (arith, e, base, low); high = omega (arith, e, base, size, high) })
@@ -49,7 +49,7 @@ module _ (s : ShadeView) (h : IsShade s) (a b : ℕ) (i : IsInside s a) where
 
   module _ (j : IsInside s b) where
     -- the same cell in the segment, the same cell in memory
-    same_cell : nat_eq (cell_of s b) (cell_of s a) ≡ nat_eq (b / 8) (a / 8)
+    pub same_cell : nat_eq (cell_of s b) (cell_of s a) ≡ nat_eq (b / 8) (a / 8)
     same_cell = go (cases_eq (b / 8) (a / 8))
       where
         go : (b / 8 ≡ a / 8) ⊎ (b / 8 ≡ a / 8 → ⊥) → nat_eq (cell_of s b) (cell_of s a) ≡ nat_eq (b / 8) (a / 8)

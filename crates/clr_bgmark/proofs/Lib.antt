@@ -9,6 +9,7 @@ pub mod FoundPlaces
 pub mod FollowedSlots
 pub mod Meeting
 pub mod ScannedLists
+pub mod EarlyBlack
 pub mod ScanRuns
 pub mod ScannedLog
 pub mod LoggedScan
@@ -17,6 +18,7 @@ pub mod WholeFinish
 pub mod FewObjects
 pub mod Counted
 pub mod FirstPause
+pub mod FirstTaken
 pub mod FirstColours
 pub mod FirstRoots
 pub mod FirstBegun
@@ -24,3 +26,5 @@ pub mod FirstCounted
 pub mod FoundMarked
 pub mod OwnSlots
 pub mod RootedFound
+pub mod EachMarked
+pub mod EachFound

@@ -8,7 +8,7 @@ use Rattle.clr_bgmark.specs.Pauses.{IsClear, IsUnlogged, Passes, PassesCell}
 use Rattle.clr_bgmark.specs.Shades.{AreApart, card_of, cell_of, covers, is_gray_cell, is_logged, is_marked, IsAt}
 use Rattle.clr_bgmark.specs.Shades.{IsShade, ShadeView}
 use Rattle.clr_bgmark.specs.declared.shade.Search.{Search}
-use Rattle.clr_bgmark.specs.declared.shade.Search.TheVariants.{Gray, Logged, Marked}
+use Rattle.clr_bgmark.specs.declared.shade.Search.TheVariants.{Gray, Logged}
 use Rattle.clr_bgmark.proofs.GrayPlaces.{covers_told}
 use Rattle.clr_bgmark.proofs.Kept.{covers_inside, inside_covers, IsInside}
 use Rattle.clr_bgmark.proofs.Lookups.{all_get, at_told, at_within, read_covers}
@@ -63,7 +63,6 @@ module _ (ss : List ShadeView) (apart : AreApart ss) (all : AllByRecursion IsSha
 
 pub passes_at : (search : Search) (ss : List ShadeView) → AreApart ss → AllByRecursion IsShade ss → (k b : ℕ)
     → (s : ShadeView) → s ≡ get_or ss k s → IsAt ss k b → PassesCell search s (cell_of s b) → Passes search ss b
-passes_at Marked ss apart all k b s read at p = p
 passes_at Gray ss apart all k b s read at p =
     at_told (λ s a. has_bit s.scanned (cell_of s a)) ss k b s at
     ∙ ap (λ (t : ShadeView). has_bit t.scanned (cell_of t b)) (sym read) ∙ p

@@ -19,22 +19,21 @@ use Rattle.clr_view.proofs.Listings.{heap-stacked}
 use Rattle.clr_view.proofs.ObjectItems.{stands-item}
 use Rattle.clr_background.specs.Log.{IsNullOrMarked, slot_address}
 use Rattle.clr_background.proofs.Members.{member_read}
-use Rattle.clr_mark.specs.Marks.{IsClosed, IsRemarked, is_condemned_place, LeadsTo, with_mark}
+use Rattle.clr_mark.specs.Marks.{IsClosed, IsRemarked, LeadsTo}
 use Rattle.clr_mark.specs.Markings.{HasReached}
 use Rattle.clr_mark.specs.Waiting.{IsFollowed, IsSettled, MarkerView}
-use Rattle.clr_mark.proofs.Graying.{AfterMark, followed_on, leads_back, new_mark, no_mark, reached-trans}
-use Rattle.clr_mark.proofs.Held.{keeps_closed, keeps_held, remarked-refl, remarked-trans}
+use Rattle.clr_mark.proofs.Graying.{followed_on, leads_back, reached-trans}
+use Rattle.clr_mark.proofs.Held.{keeps_closed, remarked-trans}
 use Rattle.clr_mark.proofs.References.{reference_in}
-use Rattle.clr_mark.proofs.Remarking.{keeps_heap, keeps_objects, keeps_stands, stands_before}
-use Rattle.clr_mark.proofs.Rooting.{all_condemned, IsRooting}
+use Rattle.clr_mark.proofs.Remarking.{keeps_stands, stands_before}
+use Rattle.clr_mark.proofs.Rooting.{IsRooting}
 use Rattle.clr_bgmark.specs.LastPause.{HasLoggedSlot, HasRooted, IsDue, IsSought, LogHolds}
 use Rattle.clr_bgmark.specs.Pauses.{IsBehind, IsClear, IsFound, IsNextFound}
 use Rattle.clr_bgmark.specs.Scanning.{AreObjects, marking_in}
 use Rattle.clr_bgmark.specs.Shades.{is_logged, is_scanned, ShadeView}
 use Rattle.clr_bgmark.specs.declared.shade.Search.{Search}
-use Rattle.clr_bgmark.specs.declared.shade.Search.TheVariants.{Gray, Logged, Marked as All}
+use Rattle.clr_bgmark.specs.declared.shade.Search.TheVariants.{Gray, Logged}
 use Rattle.clr_bgmark.proofs.FoundMarked.{found_is_marked}
-use Rattle.clr_bgmark.proofs.FoundPlaces.{behind_none}
 use Rattle.clr_bgmark.proofs.OwnSlots.{object_is, own_reference}
 use Rattle.clr_bgmark.proofs.ScannedLists.{names, stands_named}
 
@@ -156,57 +155,6 @@ known_on rows h now heap held r ss known = record {
 }
 
 -- ---- all that is found is marked
-
--- what is found and behind a spot was marked, and nothing else
-pub record IsMarkingFound (rows : List TypeRow) (h now : HeapView) (ss : List ShadeView) (k from : ℕ) : Type 0 where
-  pub words : IsRemarked rows h now
-  pub kept : (x : ℕ) → Marked rows h x → Marked rows now x
-  pub only : (x : ℕ) → Marked rows now x → Marked rows h x ⊎ IsFound ss x
-  pub done : (x : ℕ) → IsFound ss x → IsBehind ss k from x → Marked rows now x
-
-pub marking_starts : (rows : List TypeRow) (h : HeapView) (ss : List ShadeView) → IsMarkingFound rows h h ss 0 0
-marking_starts rows h ss = record {
-  words = remarked-refl rows h;
-  kept = λ x m. m;
-  only = λ x m. inl m;
-  done = λ x f b. absurd (behind_none ss x b);
-}
-
--- what a mark leaves
-after_mark : (rows : List TypeRow) (h new : HeapView) (y : ℕ) → IsHeap h → IsHeld rows h → StandsAt rows h y
-    → new ≡ with_mark h 2 y → AfterMark rows 2 h new y
-after_mark rows h new y heap held s is = subst (λ (k : HeapView). AfterMark rows 2 h k y) (sym is) made
-  where
-    near : is_condemned_place h 2 y ≡ true
-    near = all_condemned h 2 y (omega arith)
-
-    made : AfterMark rows 2 h (with_mark h 2 y) y
-    made = elim (cases_Bool (has_mark (word_of h y))) [
-      | inl on ↦ rw (near, on) (no_mark rows h 2 y heap held s (λ _. on))
-      | inr off ↦ rw (near, off) (new_mark rows h 2 y heap held s near off)
-    ]
-
-pub marking_more : (rows : List TypeRow) (h now new : HeapView) (ss : List ShadeView) (k from j a : ℕ) → IsHeap h
-    → IsHeld rows h → IsMarkingFound rows h now ss k from → IsNextFound All ss k from j a → StandsAt rows h a
-    → new ≡ with_mark now 2 a → IsMarkingFound rows h new ss j (a + 8)
-marking_more rows h now new ss k from j a heap held r next stands is =
-    let after = after_mark rows now new a (keeps_heap h now r.words.shape heap)
-    (keeps_held rows h now heap held r.words) (keeps_stands rows h now heap held r.words a stands) is in
-    record {
-      words = remarked-trans rows h now new heap held r.words after.remarked;
-      kept = λ x m. after.kept x (r.kept x m);
-      only = λ x m. elim (after.only x m) [
-        | inl p ↦ inr (subst (IsFound ss) (sym p.0) next.found)
-        | inr before ↦ r.only x before
-      ];
-      done = λ x f b. elim (next.next x f b) [
-        | inl before ↦ elim before [
-          | inl was ↦ after.kept x (r.done x f was)
-          | inr e ↦ subst (Marked rows new) (sym e) (after.there (all_condemned now 2 a (omega arith)))
-        ]
-        | inr never ↦ absurd never
-      ];
-    }
 
 -- `h` is the heap at the start, `a` that after what is due was marked, and `b` that after all that is found was
 module _ (rows : List TypeRow) (h a b : HeapView) (m mark : MarkerView) (heap : IsHeap h) (held : IsHeld rows h)

@@ -1,5 +1,6 @@
 -- What the last pause of a background collection has to follow.
-use Rattle.std.specs.Prelude.{◌≡◌, ℕ, ◌+◌, ◌⊎◌, true, false, List, slice_get, Some}
+use Rattle.std.specs.Prelude.{◌≡◌, ℕ, ◌+◌, ◌*◌, ◌%◌, ◌<◌, ◌⊎◌, true, false, List, slice_get, Some}
+use Rattle.std.specs.Int.{bit_at}
 use Rattle.clr_types.specs.Rising.{IsIn}
 use Rattle.clr_types.specs.Types.{TypeRow, form_at, slot_offset}
 use Rattle.clr_heap.specs.View.{HeapView}
@@ -7,12 +8,13 @@ use Rattle.clr_model.specs.Machine.{ref, Machine, Object}
 use Rattle.clr_view.specs.Marks.{Marked}
 use Rattle.clr_view.specs.View.{objects_in}
 use Rattle.clr_background.specs.Log.{StrictLogLaw}
-use Rattle.clr_mark.specs.Marks.{LeadsTo}
+use Rattle.clr_mark.specs.Marks.{IsRemarked, LeadsTo}
 use Rattle.clr_mark.specs.Markings.{HasReached}
 use Rattle.clr_mark.specs.Waiting.{IsGray, MarkerView}
+use Rattle.clr_bgmark.specs.Bits.{has_bit}
 use Rattle.clr_bgmark.specs.Pauses.{IsFound, Passes}
 use Rattle.clr_bgmark.specs.Scanning.{marking_in}
-use Rattle.clr_bgmark.specs.Shades.{is_logged, is_scanned, ShadeView}
+use Rattle.clr_bgmark.specs.Shades.{cell_of, covers, is_logged, is_scanned, ShadeView}
 use Rattle.clr_bgmark.specs.declared.shade.Search.{Search}
 
 -- In a machine of these types and objects each reference slot of a black object is null, or names what is gray or
@@ -47,3 +49,25 @@ pub record HasRooted (rows : List TypeRow) (ss : List ShadeView) (Due : ℕ → 
 -- what a search doesn't pass over
 abbrev pub IsSought : Search → List ShadeView → ℕ → Type 0
 IsSought search ss x = Passes search ss x → ⊥
+
+-- ---- all that is found is marked
+
+-- the marks of these places were set, and no others
+pub record HasMarked (rows : List TypeRow) (All : ℕ → Type 0) (old new : HeapView) : Type 0 where
+  pub words : IsRemarked rows old new
+  pub kept : (x : ℕ) → Marked rows old x → Marked rows new x
+  pub only : (x : ℕ) → Marked rows new x → Marked rows old x ⊎ All x
+  pub found : (x : ℕ) → All x → Marked rows new x
+
+-- a marked place of a segment
+pub record IsMarkedIn (s : ShadeView) (x : ℕ) : Type 0 where
+  pub aligned : x % 8 ≡ 0
+  pub inside : covers s x ≡ true
+  pub marked : has_bit s.marked (cell_of s x) ≡ true
+
+-- a place whose bit a word of bits has, of which the lowest one is that of `place`
+pub record IsInWord (place bits x : ℕ) : Type 0 where
+  pub index : ℕ
+  pub low : index < 64
+  pub at : x ≡ place + 8 * index
+  pub has : bit_at bits index ≡ 1

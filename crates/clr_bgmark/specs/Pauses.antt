@@ -1,6 +1,6 @@
 -- The first and the last pause of a background collection.
-use Rattle.std.specs.Prelude.{◌≡◌, ℕ, zero, suc, ◌+◌, ◌/◌, ◌%◌, ◌*◌, ◌<◌, ◌≤◌, ◌⊎◌, ◌&&◌, not, nat_eq, Bool, true}
-use Rattle.std.specs.Prelude.{false, List, [], ◌∷◌, map}
+use Rattle.std.specs.Prelude.{◌≡◌, ℕ, zero, suc, ◌+◌, ◌/◌, ◌%◌, ◌*◌, ◌<◌, ◌≤◌, ◌⊎◌, ◌&&◌, not, nat_eq, nat_lt, Bool}
+use Rattle.std.specs.Prelude.{true, false, List, [], ◌∷◌, map}
 use Rattle.std.specs.Prelude.{if◌then◌else◌, ◌==◌, get_or, Option, Some, None}
 use Rattle.std.specs.FinMap as finmap
 use Rattle.std.specs.Ordering.{nat_cmp}
@@ -18,7 +18,7 @@ use Rattle.clr_bgmark.specs.Scanning.{marking_in}
 use Rattle.clr_bgmark.specs.Shades.{BackgroundView, changed_at, colour_at, covers, grayed, is_logged, is_marked}
 use Rattle.clr_bgmark.specs.Shades.{is_scanned, is_white, IsAt, ShadeView, with_taken}
 use Rattle.clr_bgmark.specs.declared.shade.Search.{Search}
-use Rattle.clr_bgmark.specs.declared.shade.Search.TheVariants.{Gray, Logged, Marked}
+use Rattle.clr_bgmark.specs.declared.shade.Search.TheVariants.{Gray, Logged}
 
 -- ---- the first pause
 
@@ -53,6 +53,18 @@ taken_item h ss i = if is_oldest h i then changed_at i.place (with_taken i.place
 abbrev pub all_taken : HeapView → List ShadeView → List Item → List ShadeView
 all_taken h ss [] = ss
 all_taken h ss (i ∷ items) = all_taken h (taken_item h ss i) items
+
+-- the same in the bits of the segment that the items are of
+abbrev pub taken_one : HeapView → ShadeView → Item → ShadeView
+taken_one h s i = if is_oldest h i then with_taken i.place s else s
+
+abbrev pub taken_in : HeapView → ShadeView → List Item → ShadeView
+taken_in h s [] = s
+taken_in h s (i ∷ items) = taken_in h (taken_one h s i) items
+
+-- a place is of generation 2 where it is below this
+abbrev pub IsOldBelow : HeapView → ℕ → ℕ → Type 0
+IsOldBelow h place end = (generation (frame h) place == 2) ≡ nat_lt place end
 
 -- a root becomes gray, where it is white
 abbrev pub root_grayed : BackgroundView → ℕ → BackgroundView
@@ -95,7 +107,6 @@ pub record IsUnlogged (s : ShadeView) (i : ℕ) : Type 0 where
 
 -- what a search tells of a marked cell over which it passes
 abbrev pub PassesCell : Search → ShadeView → ℕ → Type 0
-PassesCell Marked s i = ⊥
 PassesCell Gray s i = has_bit s.scanned i ≡ true
 PassesCell Logged s i = IsUnlogged s i
 
@@ -108,7 +119,6 @@ pub record IsClear (ss : List ShadeView) (a : ℕ) : Type 0 where
 
 -- what a search tells of a found place over which it passes
 abbrev pub Passes : Search → List ShadeView → ℕ → Type 0
-Passes Marked ss a = ⊥
 Passes Gray ss a = is_scanned ss a ≡ true
 Passes Logged ss a = IsClear ss a
 

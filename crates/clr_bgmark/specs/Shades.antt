@@ -127,6 +127,11 @@ abbrev pub colour_by : Bool → Bool → Bool → Colour
 colour_by scanned marked taken =
     if scanned then Black else (if marked then Gray else (if taken then White else Outside))
 
+-- that of an address in its segment
+abbrev pub cell_colour : ShadeView → ℕ → Colour
+cell_colour s a = colour_by (has_bit s.scanned (cell_of s a)) (has_bit s.marked (cell_of s a))
+    (has_bit s.taken (cell_of s a))
+
 abbrev pub colour_at : List ShadeView → ℕ → Colour
 colour_at ss a = colour_by (is_scanned ss a) (is_marked ss a) (is_taken ss a)
 
@@ -199,6 +204,10 @@ met v y a =
 abbrev pub met_all : (ℕ → ℕ) → BackgroundView → ℕ → List ℕ → BackgroundView
 met_all word v obj [] = v
 met_all word v obj (offset ∷ offsets) = met_all word (met v (word (obj + offset)) (obj + offset)) obj offsets
+
+-- a gray object is scanned, and still counted as gray
+abbrev pub passed : BackgroundView → ℕ → BackgroundView
+passed v obj = record v { shades = changed_at obj (with_scanned obj) v.shades }
 
 -- a gray object becomes black
 abbrev pub blackened : BackgroundView → ℕ → BackgroundView

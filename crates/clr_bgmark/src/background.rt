@@ -1,6 +1,6 @@
 // The colours and the log of a background collection.
 ghost use Rattle.std.specs.Prelude.{◌≡◌, ℕ, ◌^◌, ◌/◌, ◌%◌, ◌<◌, ◌&&◌, ◌||◌, nat_eq, true, false, [], length, None};
-ghost use Rattle.std.specs.Prelude.{IfSome, IfNone, OnOk, OnErr, Some, ◌↔◌, ◌⊎◌};
+ghost use Rattle.std.specs.Prelude.{IfSome, IfNone, OnOk, OnErr, Some, ◌↔◌, ◌⊎◌, ◌≢◌};
 ghost use Rattle.std.specs.FinMap as finmap;
 ghost use Rattle.clr_types.specs.declared.handle.Handle.{Handle as Row};
 ghost use Rattle.clr_view.specs.SlotValues.{StandsAt};
@@ -20,16 +20,19 @@ ghost use Rattle.clr_mark.specs.Waiting.{IsGray};
 ghost use Rattle.clr_bgmark.specs.LastPause.{LogHolds};
 ghost use Rattle.clr_bgmark.specs.Pauses.{roots_grayed, HasBegun, IsFound, root_grayed, target_grayed, targets_grayed};
 ghost use Rattle.clr_bgmark.specs.Scanning.{AreObjects, followed, HasScanned, HasScannedOne, HaveWholeObjects};
-ghost use Rattle.clr_bgmark.specs.Scanning.{IsCounted, HasLogged, marking_in};
-ghost use Rattle.clr_bgmark.specs.Shades.{blackened, changed_at, IsShade, colour_at, grayed, is_covered, is_gray};
-ghost use Rattle.clr_bgmark.specs.Shades.{is_logged, met, met_all, with_logged};
+ghost use Rattle.clr_bgmark.specs.Scanning.{IsCounted, HasLogged, IsRunKind, marking_in};
+ghost use Rattle.clr_bgmark.specs.Shades.{BackgroundView, changed_at, IsShade, colour_at, grayed, is_covered, is_gray};
+ghost use Rattle.clr_bgmark.specs.Shades.{IsAt, is_logged, is_marked, met, met_all, passed, slot_logged, with_logged};
 ghost use Rattle.clr_mark.specs.Roots as roots;
 
 use crate::NoMemory;
 use crate::first_pause::{shades_of, take_oldest};
+use crate::kind::{RunKind, kind_behind};
 use crate::last_pause::mark_found;
 use crate::shade::{Bit, Shade};
-use crate::shades::{colour_in, find, find_near, first_gray, logged_in, set_bit_at, set_bit_near};
+use crate::shades::{
+    colour_in, find, find_near, is_in, logged_in, meet_in, set_bit_at, set_bit_near, take_gray,
+};
 use clr_handles::Handles;
 use clr_heap::Heap;
 use clr_mark::Marker;
@@ -254,6 +257,7 @@ impl Background {
     /// Scans gray objects, one after another: so many at most, and all of them unless so many were.
     ///
     /// The objects that were taken stand where they stood.
+    #[inline(never)]
     pub fn step(&mut self, heap: &Heap, types: &Types, n: u64) -> Progress
         requires closed { IsClosed types.now heap.now }
         requires objects { AreObjects types.now heap.now self.old.shades }
@@ -268,8 +272,9 @@ impl Background {
         ensures gray { result.gray ≡ length (marking_in (objects_in types.now heap.now) self.new.shades).gray }
     {
         let mut scanned = 0;
+        let mut known = RunKind::none();
         while scanned < n {
-            if !self.scan_next(heap, types) {
+            if !self.scan_next(heap, types, &mut known) {
                 return self.progress(scanned);
             }
             scanned += 1;
@@ -287,9 +292,12 @@ impl Background {
         }
     }
 
-    // Scans a gray object. It answers no where none is gray.
-    fn scan_next(&mut self, heap: &Heap, types: &Types) -> bool
+    // Scans a gray object. It answers no where none is gray. `known` is what is known of objects before it, and then of
+    // this one, too.
+    #[inline(always)]
+    fn scan_next(&mut self, heap: &Heap, types: &Types, known: &mut RunKind) -> bool
         requires closed { IsClosed types.now heap.now }
+        requires known { IsRunKind types.now known.old }
         requires objects { AreObjects types.now heap.now self.old.shades }
         requires whole { HaveWholeObjects types.now heap.now self.old.shades }
         requires counted { IsCounted (objects_in types.now heap.now) self.old }
@@ -303,42 +311,79 @@ impl Background {
         ensures none { result ≡ false → self.new ≡ self.old }
         ensures empty { result ≡ false
             → (marking_in (objects_in types.now heap.now) self.old.shades).gray ≡ [] }
+        ensures known { IsRunKind types.now known.new }
     {
         match self.next_gray() {
             Some((near, obj)) => {
-                self.scan(heap, types, near, obj);
+                self.scan(heap, types, near, obj, known);
                 true
             }
             None => false,
         }
     }
 
-    // A gray place, and where its segment is looked for first.
+    // A gray object, which is scanned then, and where its segment is looked for first.
+    #[inline(always)]
     fn next_gray(&mut self) -> Option<(usize, u64)>
-        ensures same { self.new ≡ self.old }
+        ensures passed { IfSome result (λ f. self.new ≡ passed self.old f.1) }
+        ensures same { IfNone result (self.new ≡ self.old) }
         ensures shades { AllByRecursion IsShade self.old.shades }
         ensures gray { IfSome result (λ f. is_gray self.old.shades f.1 ≡ true) }
         ensures aligned { IfSome result (λ f. f.1 % 8 ≡ 0) }
         ensures none { IfNone result ((a : ℕ) → is_gray self.old.shades a ≡ false) }
     {
-        first_gray(&mut self.shades)
+        take_gray(&mut self.shades)
     }
 
-    // Follows what the slots of an object name, and makes it black. Its segment is looked for at `near` first.
-    fn scan(&mut self, heap: &Heap, types: &Types, near: usize, obj: u64)
+    // Follows what the slots of an object name, which is scanned already and counted as gray, and makes it black. Its
+    // segment is looked for at `near` first.
+    #[inline(always)]
+    fn scan(&mut self, heap: &Heap, types: &Types, near: usize, obj: u64, known: &mut RunKind)
         requires heap { IsHeap heap.now }
         requires held { IsHeld types.now heap.now }
         requires stands { StandsAt types.now heap.now obj }
-        ensures { self.new ≡ followed types.now heap.now self.old obj }
+        requires known { IsRunKind types.now known.old }
+        ensures value { (v : BackgroundView) → AllByRecursion IsShade v.shades → is_marked v.shades obj ≡ true
+            → self.old ≡ passed v obj → self.new ≡ followed types.now heap.now v obj }
+        ensures known { IsRunKind types.now known.new }
     {
         let k = heap.segment_near(near, obj);
-        let item = heap.item_of_word(types, k, obj, heap.word_at(k, obj));
+        *known = self.meet_object(heap, types, near, k, obj, *known);
+        self.gray = self.gray.saturating_sub(1);
+    }
+
+    // Follows the references of an object in segment `k`, with no look at the types where it is like those that are
+    // known. It answers what is known then.
+    #[inline(always)]
+    fn meet_object(
+        &mut self,
+        heap: &Heap,
+        types: &Types,
+        near: usize,
+        k: usize,
+        obj: u64,
+        known: RunKind,
+    ) -> RunKind
+        requires heap { IsHeap heap.now }
+        requires held { IsHeld types.now heap.now }
+        requires stands { StandsAt types.now heap.now obj }
+        requires segment { k ≡ memory_index heap.now.memories obj }
+        requires known { IsRunKind types.now known }
+        ensures met { self.new ≡ met_all (word_of heap.now) self.old obj (references_at types.now heap.now obj) }
+        ensures known { IsRunKind types.now result }
+    {
+        let mt = heap.word_at(k, obj);
+        if known.has(mt) {
+            self.meet_run(heap, types, near, k, obj, known.run);
+            return known;
+        }
+        let item = heap.item_of_word(types, k, obj, mt);
         self.meet_references(heap, types, near, k, item);
-        self.blacken(near, obj);
+        kind_behind(heap, types, item, mt, known)
     }
 
     // Follows the references of the object that an item in segment `k` is.
-    #[inline]
+    #[inline(never)]
     fn meet_references(&mut self, heap: &Heap, types: &Types, near: usize, k: usize, item: Item)
         requires heap { IsHeap heap.now }
         requires held { IsHeld types.now heap.now }
@@ -355,7 +400,7 @@ impl Background {
     }
 
     // The references of an object are followed, where they are one run.
-    #[inline]
+    #[inline(always)]
     fn meet_run(
         &mut self,
         heap: &Heap,
@@ -408,13 +453,52 @@ impl Background {
         if target == 0 {
             return near;
         }
-        let (k, colour) = self.colour_near(near, target);
-        match colour {
-            Colour::White => self.gray_white(k, target),
-            Colour::Outside => self.wrote(slot),
+        if is_in(&self.shades, near, target) {
+            self.meet_within(near, target, slot);
+            return near;
+        }
+        self.meet_far(near, target, slot)
+    }
+
+    // The same, where the target is one and lies in another segment than `near`, most likely.
+    #[inline(never)]
+    fn meet_far(&mut self, near: usize, target: u64, slot: u64) -> usize
+        requires object { target ≢ 0 }
+        ensures { self.new ≡ met self.old target slot }
+    {
+        match find(&self.shades, target) {
+            Some(k) => {
+                self.meet_within(k, target, slot);
+                k
+            }
+            None => {
+                self.wrote(slot);
+                near
+            }
+        }
+    }
+
+    // The same, where the target is one and lies in segment `k`.
+    #[inline(always)]
+    fn meet_within(&mut self, k: usize, target: u64, slot: u64)
+        requires within { k < length self.old.shades }
+        requires at { IsAt self.old.shades k target }
+        requires object { target ≢ 0 }
+        ensures { self.new ≡ met self.old target slot }
+    {
+        match meet_in(&mut self.shades, k, target) {
+            Colour::White => self.gray = self.gray.saturating_add(1),
+            Colour::Outside => self.log_slot(slot),
             Colour::Gray | Colour::Black => {}
         }
-        k
+    }
+
+    // The slot's card is logged.
+    #[inline(never)]
+    fn log_slot(&mut self, slot: u64)
+        ensures { self.new ≡ slot_logged self.old slot }
+    {
+        self.wrote(slot);
     }
 
     // A white object becomes gray. Its segment is looked for at `near` first.
@@ -424,15 +508,6 @@ impl Background {
     {
         set_bit_near(&mut self.shades, near, Bit::Marked, obj);
         self.gray = self.gray.saturating_add(1);
-    }
-
-    // A gray object becomes black. Its segment is looked for at `near` first.
-    #[inline]
-    fn blacken(&mut self, near: usize, obj: u64)
-        ensures { self.new ≡ blackened self.old obj }
-    {
-        set_bit_near(&mut self.shades, near, Bit::Scanned, obj);
-        self.gray = self.gray.saturating_sub(1);
     }
 
     /// None runs any more.

@@ -59,7 +59,7 @@ impl Bits {
             if let Some(m) = first_in(beside(self.word(n / 64), other.word(n / 64)), n) {
                 return if m < past { Some(m) } else { None };
             }
-            n += 64 - n % 64;
+            n = (n / 64 + 1) * 64;
         }
         None
     }
@@ -78,7 +78,7 @@ impl Bits {
             if let Some(m) = first_in(self.word(n / 64), n) {
                 return if m < past { Some(m) } else { None };
             }
-            n += 64 - n % 64;
+            n = (n / 64 + 1) * 64;
         }
         None
     }
@@ -97,14 +97,14 @@ impl Bits {
             if let Some(m) = last_in(self.word((end - 1) / 64), end - 1) {
                 return if from <= m { Some(m) } else { None };
             }
-            end -= 1 + (end - 1) % 64;
+            end = (end - 1) / 64 * 64;
         }
         None
     }
 
-    // The word of this number, and 0 where there is none.
+    /// The word of this number, and 0 where there is none.
     #[inline]
-    fn word(&self, k: u64) -> u64
+    pub(crate) fn word(&self, k: u64) -> u64
         ensures { result ≡ get_or self.now k 0 }
     {
         match self.words.get(k as usize) {
@@ -121,6 +121,58 @@ impl Bits {
     {
         let k = (n / 64) as usize;
         self.words[k] |= 1 << (n % 64);
+    }
+
+    /// The same as `first_beside`, at once where the number is among those of the first word.
+    #[inline(always)]
+    pub(crate) fn next_beside(&self, other: &Bits, from: u64, past: u64) -> Option<u64>
+        requires room { past ≤ 64 * length self.now }
+        requires other_room { past ≤ 64 * length other.now }
+        requires few { past < 2 ^ 62 }
+        ensures low { IfSome result (λ n. from ≤ n) }
+        ensures high { IfSome result (λ n. n < past) }
+        ensures here { IfSome result (λ n. has_bit self.now n ≡ true) }
+        ensures not_there { IfSome result (λ n. has_bit other.now n ≡ false) }
+        ensures first { IfSome result (λ n. (i : ℕ) → from ≤ i → i < n
+            → (has_bit self.now i && not (has_bit other.now i)) ≡ false) }
+        ensures none { IfNone result ((n : ℕ) → from ≤ n → n < past
+            → (has_bit self.now n && not (has_bit other.now n)) ≡ false) }
+    {
+        if from < past {
+            let k = (from / 64) as usize;
+            if let Some(m) = first_in(beside(self.words[k], other.words[k]), from) {
+                if m < past {
+                    return Some(m);
+                }
+            }
+        }
+        self.later_beside(other, from, past)
+    }
+
+    // The same, where the number isn't among those of the first word, most likely.
+    #[inline(never)]
+    fn later_beside(&self, other: &Bits, from: u64, past: u64) -> Option<u64>
+        requires { past < 2 ^ 62 }
+        ensures low { IfSome result (λ n. from ≤ n) }
+        ensures high { IfSome result (λ n. n < past) }
+        ensures here { IfSome result (λ n. has_bit self.now n ≡ true) }
+        ensures not_there { IfSome result (λ n. has_bit other.now n ≡ false) }
+        ensures first { IfSome result (λ n. (i : ℕ) → from ≤ i → i < n
+            → (has_bit self.now i && not (has_bit other.now i)) ≡ false) }
+        ensures none { IfNone result ((n : ℕ) → from ≤ n → n < past
+            → (has_bit self.now n && not (has_bit other.now n)) ≡ false) }
+    {
+        self.first_beside(other, from, past)
+    }
+
+    /// Whether a number, for which there is room, is in the set.
+    #[inline(always)]
+    pub(crate) fn holds(&self, n: u64) -> bool
+        requires room { n < 64 * length self.now }
+        ensures { result ≡ has_bit self.now n }
+    {
+        let word = self.words[(n / 64) as usize];
+        (word >> (n % 64)) & 1 == 1
     }
 }
 
@@ -150,6 +202,9 @@ fn last_in(word: u64, n: u64) -> Option<u64>
     ensures last { IfSome result (λ m. (i : ℕ) → m < i → i ≤ n → bit_at word (i % 64) ≡ 0) }
     ensures none { IfNone result ((i : ℕ) → i ≤ n → i / 64 ≡ n / 64 → bit_at word (i % 64) ≡ 0) }
 {
+    if word == 0 {
+        return None;
+    }
     let rest = word << (63 - n % 64);
     if rest == 0 {
         return None;

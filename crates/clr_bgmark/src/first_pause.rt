@@ -1,16 +1,19 @@
 // What a background collection takes at its first pause.
-ghost use Rattle.std.specs.Prelude.{◌≡◌, ◌<◌, length, IfOk};
-ghost use Rattle.clr_view.specs.View.{IsHeld};
+ghost use Rattle.std.specs.Prelude.{◌≡◌, ℕ, ◌<◌, ◌≤◌, if◌then◌else◌, length, nat_lt, true, IfOk};
 ghost use Rattle.std.specs.List.{AllByRecursion};
-ghost use Rattle.clr_bgmark.specs.Pauses.{all_taken, AreShadesOf, IsBare, taken_item};
-ghost use Rattle.clr_heap.specs.View.{heap_items, IsWalkable, listing};
-ghost use Rattle.clr_bgmark.specs.Shades.{AreApart, IsShade};
+ghost use Rattle.clr_heap.specs.ObjectKinds.{IsObjectKind};
+ghost use Rattle.clr_heap.specs.Parts.{item_at};
+ghost use Rattle.clr_heap.specs.Memories.{memory_index};
+ghost use Rattle.clr_heap.specs.View.{AreWalkable, extent_of, first_of, HasItem, heap_items, IsHeap};
+ghost use Rattle.clr_heap.specs.View.{last_of, listing, segment_at, word_of};
+ghost use Rattle.clr_view.specs.View.{IsHeld};
+ghost use Rattle.clr_bgmark.specs.Pauses.{all_taken, AreShadesOf, IsBare, IsOldBelow, taken_in, taken_one};
+ghost use Rattle.clr_bgmark.specs.Shades.{AreApart, covers, IsShade, with_taken};
 
 use crate::NoMemory;
 use crate::shade::{Bit, Shade};
-use crate::shades::set_bit_near;
-use clr_heap::Heap;
-use clr_types::{Item, Types};
+use clr_heap::{Heap, ObjectKind};
+use clr_types::Types;
 use std::alloc::Global;
 
 /// Bits for all segments of the heap, of which none is set.
@@ -32,6 +35,7 @@ pub(crate) fn shades_of(alloc: Global, heap: &Heap) -> Result<Vec<Shade>, NoMemo
 /// Takes the objects of generation 2.
 pub(crate) fn take_oldest(shades: &mut Vec<Shade>, heap: &Heap, types: &Types)
     requires held { IsHeld types.now heap.now }
+    requires shapes { AreShadesOf heap.now shades.old.items }
     requires apart { AreApart shades.old.items }
     ensures { shades.new.items ≡ all_taken heap.now shades.old.items (heap_items types.now heap.now) }
 {
@@ -42,23 +46,115 @@ pub(crate) fn take_oldest(shades: &mut Vec<Shade>, heap: &Heap, types: &Types)
 
 // Takes those of segment `k`.
 fn take_segment(shades: &mut Vec<Shade>, heap: &Heap, types: &Types, k: usize)
+    requires heap { IsHeap heap.now }
     requires in_range { k < length heap.now.segments }
-    requires walkable { IsWalkable types.now heap.now k }
+    requires walkable { AreWalkable types.now heap.now }
+    requires shapes { AreShadesOf heap.now shades.old.items }
     requires apart { AreApart shades.old.items }
     ensures { shades.new.items ≡ all_taken heap.now shades.old.items (listing types.now heap.now k) }
 {
-    for item in heap.walk(types, k) {
-        take_if_oldest(shades, k, heap, item);
+    let shade = &mut shades[k];
+    take_items(shade, heap, types, k);
+}
+
+// Takes those of segment `k` on a walk, with its bits lent. It stands apart, so that its loop keeps what it needs in
+// registers.
+#[inline(never)]
+fn take_items(shade: &mut Shade, heap: &Heap, types: &Types, k: usize)
+    requires in_range { k < length heap.now.segments }
+    requires walkable { AreWalkable types.now heap.now }
+    requires shape { (shade.old.base, shade.old.size) ≡ extent_of (segment_at heap.now k) }
+    ensures { shade.new ≡ taken_in heap.now shade.old (listing types.now heap.now k) }
+{
+    let segment = heap.info(k);
+    let mut place = segment.first_place();
+    let mut next_hole = place;
+    let mut known = ObjectKind::none();
+    let old_end = end_of_old(heap, k);
+    while place < segment.end {
+        match heap.hole_here(k, place, &mut next_hole) {
+            Some(high) => place = high,
+            None => place += take_item(shade, heap, types, k, place, old_end, &mut known),
+        }
     }
 }
 
-// Takes the object that an item is, where it is one of generation 2. Its segment is looked for at `near` first.
-#[inline]
-fn take_if_oldest(shades: &mut Vec<Shade>, near: usize, heap: &Heap, item: Item)
-    requires { AreApart shades.old.items }
-    ensures { shades.new.items ≡ taken_item heap.now shades.old.items item }
+// Where the places of generation 2 end in segment `k`.
+fn end_of_old(heap: &Heap, k: usize) -> u64
+    requires { k < length heap.now.segments }
+    ensures { (a : ℕ) → first_of heap.now k ≤ a → a < last_of heap.now k → IsOldBelow heap.now a result }
 {
-    if item.type_id.0 != 0 && heap.gen_of(item.place) == 2 {
-        set_bit_near(shades, near, Bit::Taken, item.place);
+    if k == heap.ephemeral() {
+        let (start1, _) = heap.boundaries();
+        start1
+    } else {
+        u64::MAX
+    }
+}
+
+// Takes the item at `place` in segment `k`, where it is an object of generation 2, and answers its size. Where it is of
+// the kind that is known, no table is waited for.
+#[inline(always)]
+fn take_item(
+    shade: &mut Shade,
+    heap: &Heap,
+    types: &Types,
+    k: usize,
+    place: u64,
+    old_end: u64,
+    known: &mut ObjectKind,
+) -> u64
+    requires item { HasItem types.now heap.now place }
+    requires segment { k ≡ memory_index heap.now.memories place }
+    requires inside { covers shade.old place ≡ true }
+    requires old { IsOldBelow heap.now place old_end }
+    requires known { IsObjectKind types.now known.old }
+    ensures taken { shade.new ≡ taken_one heap.now shade.old (item_at types.now (word_of heap.now) place) }
+    ensures size { result ≡ (item_at types.now (word_of heap.now) place).size }
+    ensures known { IsObjectKind types.now known.new }
+{
+    let mt = heap.word_at(k, place);
+    match known.size_with(mt) {
+        Some(size) => {
+            take_place(shade, place, old_end);
+            size
+        }
+        None => take_other(shade, heap, types, place, old_end, known),
+    }
+}
+
+// The same for an item of any kind. Its kind becomes known where it is an object without a length.
+#[inline(never)]
+fn take_other(
+    shade: &mut Shade,
+    heap: &Heap,
+    types: &Types,
+    place: u64,
+    old_end: u64,
+    known: &mut ObjectKind,
+) -> u64
+    requires item { HasItem types.now heap.now place }
+    requires inside { covers shade.old place ≡ true }
+    requires old { IsOldBelow heap.now place old_end }
+    requires known { IsObjectKind types.now known.old }
+    ensures taken { shade.new ≡ taken_one heap.now shade.old (item_at types.now (word_of heap.now) place) }
+    ensures size { result ≡ (item_at types.now (word_of heap.now) place).size }
+    ensures known { IsObjectKind types.now known.new }
+{
+    let found = heap.item_like(types, place, known);
+    if found.type_id.0 != 0 {
+        take_place(shade, place, old_end);
+    }
+    found.size
+}
+
+// Takes the place, where it is below the end of those of generation 2.
+#[inline(always)]
+fn take_place(shade: &mut Shade, place: u64, old_end: u64)
+    requires { covers shade.old place ≡ true }
+    ensures { shade.new ≡ (if nat_lt place old_end then with_taken place shade.old else shade.old) }
+{
+    if place < old_end {
+        shade.set_bit(Bit::Taken, place);
     }
 }

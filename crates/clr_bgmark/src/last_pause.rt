@@ -1,15 +1,16 @@
 // What is gray or black is marked in the heap.
-ghost use Rattle.std.specs.Prelude.{◌≡◌, ℕ, ◌^◌, ◌/◌, ◌<◌, ◌≤◌, [], length, true, None, IfSome, IfNone};
+ghost use Rattle.std.specs.Prelude.{◌≡◌, ℕ, ◌^◌, ◌/◌, ◌%◌, ◌<◌, ◌≤◌, [], length, true, None, IfSome, IfNone};
 ghost use Rattle.std.specs.Prelude.{◌↔◌, ◌⊎◌};
 ghost use Rattle.std.specs.List.{AllByRecursion};
 ghost use Rattle.clr_heap.specs.Memories.{HasWord, memory_index};
 ghost use Rattle.clr_heap.specs.View.{IsHeap};
 ghost use Rattle.clr_model.specs.Reach.{Reach};
 ghost use Rattle.clr_view.specs.Marks.{Marked};
+ghost use Rattle.clr_view.specs.SlotValues.{StandsAt};
 ghost use Rattle.clr_view.specs.View.{IsHeld, objects_in};
 ghost use Rattle.clr_mark.specs.Marks.{is_condemned_place, IsRemarked, LeadsTo, with_mark};
 ghost use Rattle.clr_mark.specs.Waiting.{IsGray};
-ghost use Rattle.clr_bgmark.specs.LastPause.{HasRooted, IsDue, IsSought, LogHolds};
+ghost use Rattle.clr_bgmark.specs.LastPause.{HasMarked, HasRooted, IsDue, IsInWord, IsMarkedIn, IsSought, LogHolds};
 ghost use Rattle.clr_bgmark.specs.Pauses.{IsBehind, IsFound, IsNextFound, Passes};
 ghost use Rattle.clr_bgmark.specs.Scanning.{AreObjects};
 ghost use Rattle.clr_bgmark.specs.Shades.{AreApart, IsShade};
@@ -91,14 +92,50 @@ fn mark_each(shades: &Vec<Shade>, heap: &mut Heap, types: &Types)
     ensures only { (x : ℕ) → Marked types.now heap.new x → Marked types.now heap.old x ⊎ IsFound shades.now.items x }
     ensures found { (x : ℕ) → IsFound shades.now.items x → Marked types.now heap.new x }
 {
-    let _ = types;
-    let mut near = 0;
-    let mut at = Spot { k: 0, from: 0 };
-    while let Some((k, obj)) = next_found(shades, Search::Marked, at) {
-        near = heap.segment_near(near, obj);
-        mark_at(heap, near, obj);
-        at = Spot { k, from: obj + 8 };
+    for k in 0..shades.len() {
+        mark_segment(&shades[k], k, heap, types);
     }
+}
+
+// Marks those of one segment. It is looked for in the heap at `near` first. It stands apart, so that its loops keep
+// what they need in registers.
+#[inline(never)]
+fn mark_segment(shade: &Shade, near: usize, heap: &mut Heap, types: &Types)
+    requires shade { IsShade shade.now }
+    requires heap { IsHeap heap.old }
+    requires held { IsHeld types.now heap.old }
+    requires stands { (x : ℕ) → IsMarkedIn shade.now x → StandsAt types.now heap.old x }
+    ensures { HasMarked types.now (IsMarkedIn shade.now) heap.old heap.new }
+{
+    let mut near = near;
+    for n in 0..shade.marked_words() {
+        let (place, bits) = shade.marked_word(n);
+        if bits != 0 {
+            near = mark_word(heap, types, near, place, bits);
+        }
+    }
+}
+
+// Marks those of one word of bits, whose lowest one is that of `place`. Their segment is looked for at `near` first. It
+// answers which one it is, a guess for the next word.
+#[inline]
+fn mark_word(heap: &mut Heap, types: &Types, near: usize, place: u64, bits: u64) -> usize
+    requires heap { IsHeap heap.old }
+    requires held { IsHeld types.now heap.old }
+    requires aligned { place % 512 ≡ 0 }
+    requires fits { place < 2 ^ 63 }
+    requires some { 0 < bits }
+    requires stands { (x : ℕ) → IsInWord place bits x → StandsAt types.now heap.old x }
+    ensures { HasMarked types.now (IsInWord place bits) heap.old heap.new }
+{
+    let _ = types;
+    let k = heap.segment_near(near, place + 8 * bits.trailing_zeros() as u64);
+    let mut rest = bits;
+    while rest != 0 {
+        mark_at(heap, k, place + 8 * rest.trailing_zeros() as u64);
+        rest &= rest - 1;
+    }
+    k
 }
 
 // Marks the object at `obj`, in segment `k`.

@@ -5,6 +5,7 @@
 mod background;
 mod bits;
 mod first_pause;
+mod kind;
 mod last_pause;
 mod shade;
 mod shades;

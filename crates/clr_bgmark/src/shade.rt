@@ -1,10 +1,12 @@
 // The bits of one segment.
-ghost use Rattle.std.specs.Prelude.{◌≡◌, ℕ, ◌+◌, ◌/◌, ◌%◌, ◌<◌, ◌≤◌, ◌^◌, ◌&&◌, not, true, false, IfOk, IfSome};
-ghost use Rattle.std.specs.Prelude.{IfNone};
+ghost use Rattle.std.specs.Prelude.{◌≡◌, ℕ, ◌+◌, ◌*◌, ◌/◌, ◌%◌, ◌<◌, ◌≤◌, ◌^◌, ◌&&◌, not, true, false, IfOk, IfSome};
+ghost use Rattle.std.specs.Prelude.{get_or, IfNone};
 ghost use Rattle.clr_bgmark.specs.Bits.{has_bit};
 ghost use Rattle.clr_bgmark.specs.Pauses.{IsUnlogged, PassesCell};
-ghost use Rattle.clr_bgmark.specs.Shades.{card_of, cell_of, covers, is_gray_cell, with_set};
+ghost use Rattle.clr_bgmark.specs.Shades.{card_of, cell_colour, cell_of, covers, is_gray_cell, is_outside, is_white};
+ghost use Rattle.clr_bgmark.specs.Shades.{with_scanned, with_set};
 
+use crate::background::Colour;
 use crate::bits::Bits;
 use std::alloc::{AllocError, Global};
 use std::marker::Model;
@@ -21,8 +23,6 @@ pub(crate) enum Bit {
 /// Which marked places are looked for.
 #[derive(Clone, Copy)]
 pub(crate) enum Search {
-    /// All of them.
-    Marked,
     /// Those that weren't scanned.
     Gray,
     /// Those behind which a card is logged before the next marked place, and the last one of the segment.
@@ -105,7 +105,7 @@ impl Shade {
     pub(crate) fn covers(&self, a: u64) -> bool
         ensures { result ≡ covers self.now a }
     {
-        self.base <= a && a < self.base + self.size
+        a.wrapping_sub(self.base) < self.size
     }
 
     /// Whether the place was taken.
@@ -135,6 +135,27 @@ impl Shade {
         self.scanned.has((a - self.base) / 8)
     }
 
+    /// Its colour; but one that is black may be told as gray.
+    #[inline(always)]
+    pub(crate) fn colour_met(&self, a: u64) -> Colour
+        requires { covers self.now a ≡ true }
+        ensures white { is_white result ≡ is_white (cell_colour self.now a) }
+        ensures outside { is_outside result ≡ is_outside (cell_colour self.now a) }
+    {
+        let cell = (a - self.base) / 8;
+        if self.marked.holds(cell) {
+            return Colour::Gray;
+        }
+        if self.scanned.holds(cell) {
+            return Colour::Black;
+        }
+        if self.taken.holds(cell) {
+            Colour::White
+        } else {
+            Colour::Outside
+        }
+    }
+
     /// Whether its card is logged.
     #[inline]
     pub(crate) fn is_logged(&self, a: u64) -> bool
@@ -144,10 +165,12 @@ impl Shade {
         self.logged.has((a - self.base) / 2048)
     }
 
-    /// The first gray place, one that is marked and wasn't scanned. It is looked for from the last one on, or from a
-    /// lower one that was marked since.
-    pub(crate) fn first_gray(&mut self) -> Option<u64>
-        ensures same { self.new ≡ self.old }
+    /// The first gray place, one that is marked and wasn't scanned: it is scanned then. It is looked for from the last
+    /// one on, or from a lower one that was marked since.
+    #[inline(always)]
+    pub(crate) fn take_gray(&mut self) -> Option<u64>
+        ensures taken { IfSome result (λ a. self.new ≡ with_scanned a self.old) }
+        ensures same { IfNone result (self.new ≡ self.old) }
         ensures covered { IfSome result (λ a. covers self.old a ≡ true) }
         ensures aligned { IfSome result (λ a. a % 8 ≡ 0) }
         ensures gray { IfSome result (λ a. is_gray_cell self.old (cell_of self.old a) ≡ true) }
@@ -156,10 +179,11 @@ impl Shade {
     {
         match self
             .marked
-            .first_beside(&self.scanned, self.lowest, self.size / 8)
+            .next_beside(&self.scanned, self.lowest, self.size / 8)
         {
             Some(n) => {
                 self.lowest = n;
+                self.scanned.add(n);
                 Some(self.base + 8 * n)
             }
             None => {
@@ -197,7 +221,6 @@ impl Shade {
             → PassesCell search self.now i) }
     {
         match search {
-            Search::Marked => self.marked.first(start, self.size / 8),
             Search::Gray => self.first_gray_cell(start),
             Search::Logged => self.first_logged_cell(start),
         }
@@ -253,11 +276,29 @@ impl Shade {
         match bit {
             Bit::Taken => self.taken.add((a - self.base) / 8),
             Bit::Marked => {
-                self.marked.add((a - self.base) / 8);
                 self.lowest = self.lowest.min((a - self.base) / 8);
+                self.marked.add((a - self.base) / 8);
             }
             Bit::Scanned => self.scanned.add((a - self.base) / 8),
             Bit::Logged => self.logged.add((a - self.base) / 2048),
         }
+    }
+
+    /// How many words the bits of the marked places are.
+    #[inline]
+    pub(crate) fn marked_words(&self) -> u64
+        ensures { result ≡ self.now.size / 512 }
+    {
+        self.size / 512
+    }
+
+    /// The word of this number of the bits of the marked places, with the place of its lowest bit.
+    #[inline]
+    pub(crate) fn marked_word(&self, n: u64) -> (u64, u64)
+        requires { n < self.now.size / 512 }
+        ensures place { result.0 ≡ self.now.base + 512 * n }
+        ensures bits { result.1 ≡ get_or self.now.marked n 0 }
+    {
+        (self.base + 512 * n, self.marked.word(n))
     }
 }

@@ -1,7 +1,8 @@
 // The bits of all segments that there were at the first pause.
-ghost use Rattle.std.specs.Prelude.{◌≡◌, ℕ, ◌%◌, ◌<◌, true, false, length, get_or, IfSome, IfNone};
+ghost use Rattle.std.specs.Prelude.{◌≡◌, ℕ, ◌%◌, ◌<◌, true, false, length, get_or, if◌then◌else◌, IfSome, IfNone};
 ghost use Rattle.clr_bgmark.specs.Shades.{AreApart, changed_at, colour_at, is_covered, is_gray, is_logged, IsAt};
-ghost use Rattle.clr_bgmark.specs.Shades.{covers, with_set};
+ghost use Rattle.clr_bgmark.specs.Shades.{covers, is_outside, is_white, IsBackground, with_marked, with_scanned};
+ghost use Rattle.clr_bgmark.specs.Shades.{with_set};
 ghost use Rattle.clr_bgmark.specs.Shades as shades;
 
 use crate::background::Colour;
@@ -35,9 +36,9 @@ pub(crate) fn find_near(shades: &Vec<Shade>, near: usize, a: u64) -> Option<usiz
     find(shades, a)
 }
 
-// Whether segment `k` is there, and has the address.
+/// Whether segment `k` is there, and has the address.
 #[inline(always)]
-fn is_in(shades: &Vec<Shade>, k: usize, a: u64) -> bool
+pub(crate) fn is_in(shades: &Vec<Shade>, k: usize, a: u64) -> bool
     ensures { result ≡ true → (d : _)
         → (k < length shades.now.items) × (covers (get_or shades.now.items k d) a ≡ true) }
 {
@@ -77,6 +78,29 @@ fn colour_by(scanned: bool, marked: bool, taken: bool) -> Colour
     }
 }
 
+/// A reference to a place in segment `k` is met: where the place is white it becomes gray. It answers the colour that
+/// the place had; but black may be told as gray.
+#[inline(always)]
+pub(crate) fn meet_in(shades: &mut Vec<Shade>, k: usize, a: u64) -> Colour
+    requires within { k < length shades.old.items }
+    requires at { IsAt shades.old.items k a }
+    ensures shades { shades.new.items
+        ≡ (if is_white result then changed_at a (with_marked a) shades.old.items else shades.old.items) }
+    ensures white { is_white result ≡ is_white (colour_at shades.old.items a) }
+    ensures outside { is_outside result ≡ is_outside (colour_at shades.old.items a) }
+{
+    let shade = &mut shades[k];
+    match shade.colour_met(a) {
+        Colour::White => {
+            shade.set_bit(Bit::Marked, a);
+            Colour::White
+        }
+        Colour::Outside => Colour::Outside,
+        Colour::Gray => Colour::Gray,
+        Colour::Black => Colour::Black,
+    }
+}
+
 /// Whether the card of a slot in segment `k` is logged.
 pub(crate) fn logged_in(shades: &Vec<Shade>, k: usize, a: u64) -> bool
     requires within { k < length shades.now.items }
@@ -86,17 +110,20 @@ pub(crate) fn logged_in(shades: &Vec<Shade>, k: usize, a: u64) -> bool
     shades[k].is_logged(a)
 }
 
-/// A gray place, the first one of its segment, and the number of the segment, a guess.
-pub(crate) fn first_gray(shades: &mut Vec<Shade>) -> Option<(usize, u64)>
+/// A gray place, the first one of its segment, which is scanned then, and the number of the segment, a guess.
+#[inline(always)]
+pub(crate) fn take_gray(shades: &mut Vec<Shade>) -> Option<(usize, u64)>
     requires { AreApart shades.old.items }
-    ensures same { shades.new.items ≡ shades.old.items }
+    ensures taken { IfSome result (λ f. shades.new.items ≡ changed_at f.1 (with_scanned f.1) shades.old.items) }
+    ensures same { IfNone result (shades.new.items ≡ shades.old.items) }
+    ensures background { IsBackground shades.old.items → IsBackground shades.new.items }
     ensures gray { IfSome result (λ f. is_gray shades.old.items f.1 ≡ true) }
     ensures aligned { IfSome result (λ f. f.1 % 8 ≡ 0) }
     ensures none { IfNone result ((a : ℕ) → is_gray shades.old.items a ≡ false) }
 {
     for k in 0..shades.len() {
         let shade = &mut shades[k];
-        if let Some(a) = shade.first_gray() {
+        if let Some(a) = shade.take_gray() {
             return Some((k, a));
         }
     }
@@ -109,9 +136,19 @@ pub(crate) fn set_bit_near(shades: &mut Vec<Shade>, near: usize, bit: Bit, a: u6
     requires { AreApart shades.old.items }
     ensures { shades.new.items ≡ changed_at a (with_set bit a) shades.old.items }
 {
-    if let Some(k) = find_near(shades, near, a) {
-        set_bit_in(shades, k, bit, a);
+    if is_in(shades, near, a) {
+        set_bit_in(shades, near, bit, a);
+    } else {
+        set_bit_far(shades, bit, a);
     }
+}
+
+// The same, where the address lies in another segment than the guess, most likely.
+#[inline(never)]
+fn set_bit_far(shades: &mut Vec<Shade>, bit: Bit, a: u64)
+    ensures { shades.new.items ≡ changed_at a (with_set bit a) shades.old.items }
+{
+    set_bit_at(shades, bit, a);
 }
 
 /// Sets a bit of an address, where its segment is there.

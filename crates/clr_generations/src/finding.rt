@@ -1,9 +1,8 @@
 // Objects by their places, found from bricks.
-ghost use Rattle.std.specs.Prelude.{◌≡◌, ℕ, ◌^◌, ◌<◌, ◌≤◌, ◌⊎◌, ◌<ℤ◌, pos, IfSome, IsNone, None, length};
+ghost use Rattle.std.specs.Prelude.{◌≡◌, ℕ, ◌^◌, ◌<◌, ◌≤◌, ◌⊎◌, ◌<ℤ◌, pos, IfSome, IsNone, length};
 ghost use Rattle.clr_bricks.specs.Bricks.{entry_at, root_entry};
-ghost use Rattle.clr_heap.specs.Parts.{hole_from};
 ghost use Rattle.clr_heap.specs.View.{CanWalk, first_of, frame, heap_items, item_with_place, items_between, last_of};
-ghost use Rattle.clr_heap.specs.View.{holes_of, IsHeap, only_object, sight};
+ghost use Rattle.clr_heap.specs.View.{IsHeap, only_object, sight};
 ghost use Rattle.clr_view.specs.View.{IsHeld, objects_in};
 ghost use Rattle.clr_generations.specs.Finding.{IsStart};
 ghost use Rattle.clr_generations.specs.Laws.{BrickLaw};
@@ -107,7 +106,7 @@ fn item_from(heap: &Heap, types: &Types, k: usize, start: u64, a: u64) -> Option
     let mut next_hole = start;
     let mut known = ObjectKind::none();
     while place < end && place <= a {
-        match hole_here(heap, k, place, &mut next_hole) {
+        match heap.hole_here(k, place, &mut next_hole) {
             Some(high) => place = high,
             None => {
                 let found = heap.item_like(types, place, &mut known);
@@ -119,23 +118,4 @@ fn item_from(heap: &Heap, types: &Types, k: usize, start: u64, a: u64) -> Option
         }
     }
     None
-}
-
-// The end of the hole of segment `k` that starts at `place`: `None` where none does. Up to `next_hole` none starts from
-// there on, and so none is looked for.
-#[inline(always)]
-fn hole_here(heap: &Heap, k: usize, place: u64, next_hole: &mut u64) -> Option<u64>
-    requires in_range { k < length heap.now.segments }
-    requires clear { (q : ℕ) → place ≤ q → q < next_hole.old → hole_from (holes_of heap.now k) q ≡ None }
-    ensures hole { result ≡ hole_from (holes_of heap.now k) place }
-    ensures clear { (q : ℕ) → place ≤ q → q < next_hole.new → hole_from (holes_of heap.now k) q ≡ None }
-{
-    if place < *next_hole {
-        return None;
-    }
-    let found = heap.hole_end(k, place);
-    if found.is_none() {
-        *next_hole = heap.next_hole(k, place);
-    }
-    found
 }

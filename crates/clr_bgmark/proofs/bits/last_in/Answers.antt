@@ -1,7 +1,12 @@
-use Rattle.std.proofs.Common.{ℕ, ◌*◌, ◌%◌, ◌-◌, ◌^◌, arith, refl, w64}
-use Rattle.std.specs.Int.{leading_zeros}
+use Rattle.std.proofs.Common.{ℕ, ◌*◌, ◌%◌, ◌-◌, ◌^◌, ap, ◌∙◌, arith, refl, w64}
+use Rattle.std.specs.Int.{bit_at, leading_zeros}
+use Rattle.std.proofs.lemmas.Nat.Bits.{bit_at-zero}
 use Rattle.clr_bgmark.proofs.LastInWord.{last_told, none_last}
 use Rattle.clr_bgmark.proofs.bits.last_in.Goals as goal
+
+pub returns-then-word-eq0-clause-none : goal.returns-then-word-eq0-clause-none
+returns-then-word-eq0-clause-none c =
+    λ i low near. ap (λ w. bit_at w (i % 64)) c.if-word-eq0.true ∙ bit_at-zero (i % 64)
 
 pub returns-then-rest-eq0-clause-none : goal.returns-then-rest-eq0-clause-none
 returns-then-rest-eq0-clause-none c = none_last c.args.word c.args.n c.if-rest-eq0.true

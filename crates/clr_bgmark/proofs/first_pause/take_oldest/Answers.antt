@@ -1,8 +1,9 @@
-use Rattle.std.proofs.Common.{◌≡◌, ℕ, ◌+◌, List, ◌++◌, ap, arith, sym, subst, ◌∙◌}
+use Rattle.std.proofs.Common.{◌≡◌, ℕ, ◌+◌, List, ◌++◌, map, ap, arith, sym, subst, ◌∙◌}
 use Rattle.clr_heap.specs.View.{listing, listings}
 use Rattle.clr_bgmark.specs.Pauses.{all_taken}
 use Rattle.clr_bgmark.specs.Shades.{AreApart, ShadeView}
 use Rattle.clr_bgmark.proofs.FirstPause.{listings_more, taken_apart, taken_more}
+use Rattle.clr_bgmark.proofs.FirstTaken.{all_shapes, shape}
 use Rattle.clr_bgmark.proofs.first_pause.take_oldest.Goals as goal
 
 pub loop-k-preserved : goal.loop-k-preserved
@@ -33,3 +34,12 @@ take_segment-requires-clause-apart c =
     let h = c.args.heap.now in
     subst AreApart (sym c.loop-k.invariant)
     (taken_apart h (listings c.args.types.now h 0 c.loop-k.k) c.args.shades.now.items c.requires.apart)
+
+pub take_segment-requires-clause-shapes : goal.take_segment-requires-clause-shapes
+take_segment-requires-clause-shapes c =
+    let h = c.args.heap.now in
+    ap (map shape) c.loop-k.invariant
+    ∙ all_shapes h (listings c.args.types.now h 0 c.loop-k.k) c.args.shades.now.items ∙ c.requires.shapes
+
+pub take_segment-requires-clause-walkable : goal.take_segment-requires-clause-walkable
+take_segment-requires-clause-walkable c = c.requires.held.walkable

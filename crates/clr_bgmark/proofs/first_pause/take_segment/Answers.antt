@@ -1,34 +1,25 @@
-use Rattle.std.proofs.Common.{◌≡◌, List, [], ◌∷◌, ◌++◌, append-nil, append_assoc, ap, sym, subst, ◌∙◌}
-use Rattle.clr_types.specs.declared.item.Item.{Item}
+use Rattle.std.proofs.Common.{set, ap, ◌∙◌}
 use Rattle.clr_heap.specs.View.{listing}
-use Rattle.clr_bgmark.specs.Pauses.{all_taken, taken_item}
-use Rattle.clr_bgmark.specs.Shades.{AreApart, ShadeView}
-use Rattle.clr_bgmark.proofs.FirstPause.{taken_apart, taken_more}
+use Rattle.clr_bgmark.specs.Pauses.{taken_in}
+use Rattle.clr_bgmark.specs.Shades.{ShadeView}
+use Rattle.clr_bgmark.proofs.FirstTaken.{items_at, shade_shape, shade_there, shape, taken_at}
 use Rattle.clr_bgmark.proofs.first_pause.take_segment.Goals as goal
 
-pub loop-item-preserved : goal.loop-item-preserved
-loop-item-preserved c =
-    let yielded = c.loop-item.yielded in
-    let item = c.in-Some.item in
-    let h = c.args.heap.now in
-    record {
-      walked = append_assoc yielded (item ∷ []) c.next.new.self
-          ∙ ap (λ (rest : List Item). yielded ++ rest) (sym c.in-Some.ensures.steps) ∙ c.loop-item.invariant.walked;
-      taken = c.take_if_oldest.ensures
-          ∙ ap (λ (ss : List ShadeView). taken_item h ss item) c.loop-item.invariant.taken
-          ∙ sym (taken_more h c.args.shades.now.items yielded (item ∷ []));
-    }
+pub take_items-requires-clause-shape : goal.take_items-requires-clause-shape
+take_items-requires-clause-shape c =
+    ap shape c.index_mut-shade.ensures.value
+    ∙ shade_shape c.args.heap.now c.requires.heap c.args.shades.now.items c.requires.shapes c.args.k
+    c.requires.in_range c.index_mut-shade.result.now
 
 pub returns : goal.returns
 returns c =
-    let yielded = c.loop-item.yielded in
-    let all : yielded ≡ listing c.args.types.now c.args.heap.now c.args.k =
-    sym (append-nil yielded) ∙ ap (λ (rest : List Item). yielded ++ rest) (sym c.in-None.ensures.steps.0)
-    ∙ c.loop-item.invariant.walked ∙ c.into_iter-item-iterator.ensures.into_iter_gives
-    ∙ c.walk-item-items.ensures.items in
-    c.loop-item.invariant.taken ∙ ap (all_taken c.args.heap.now c.args.shades.now.items) all
-
-pub take_if_oldest-requires : goal.take_if_oldest-requires
-take_if_oldest-requires c =
-    subst AreApart (sym c.loop-item.invariant.taken)
-    (taken_apart c.args.heap.now c.loop-item.yielded c.args.shades.now.items c.requires.apart)
+    let h = c.args.heap.now in
+    let rows = c.args.types.now in
+    let ss = c.args.shades.now.items in
+    let k = c.args.k in
+    let items = listing rows h k in
+    ap (λ (s : ShadeView). set ss k s)
+    (c.take_items.ensures ∙ ap (λ (s : ShadeView). taken_in h s items) c.index_mut-shade.ensures.value)
+    ∙ taken_at h items ss k c.index_mut-shade.result.now
+    (shade_there h c.requires.heap ss c.requires.shapes k c.requires.in_range)
+    (items_at h c.requires.heap ss c.requires.shapes k c.requires.in_range rows c.requires.walkable c.requires.apart)

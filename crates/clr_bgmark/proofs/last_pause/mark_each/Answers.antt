@@ -1,55 +1,71 @@
-use Rattle.std.proofs.Common.{arith, inl, inr}
-use Rattle.clr_heap.specs.Memories.{HasWord}
-use Rattle.clr_mark.proofs.Graying.{object_word}
-use Rattle.clr_mark.proofs.Held.{keeps_held}
-use Rattle.clr_mark.proofs.Remarking.{keeps_heap, keeps_stands}
-use Rattle.clr_mark.proofs.Rooting.{all_condemned}
-use Rattle.clr_bgmark.proofs.RootedFound.{marking_more, marking_starts}
-use Rattle.clr_bgmark.proofs.last_pause.mark_each.Goals.{In-Some}
+use Rattle.std.proofs.Common.{◌+◌, ◌<◌, length, arith}
+use Rattle.clr_bgmark.specs.LastPause.{IsMarkedIn}
+use Rattle.clr_bgmark.specs.Pauses.{IsFound}
+use Rattle.clr_bgmark.proofs.EachFound.{found_first, found_last, IsFoundFrom, lawful_shade, segment_found}
+use Rattle.clr_bgmark.proofs.EachFound.{segment_or_later}
+use Rattle.clr_bgmark.proofs.EachMarked.{marking_begins, marking_ends, marking_goes, marking_heap, marking_held}
+use Rattle.clr_bgmark.proofs.EachMarked.{marking_passes, marking_stands}
 use Rattle.clr_bgmark.proofs.last_pause.mark_each.Goals as goal
 
 pub loop-k-init : goal.loop-k-init
-loop-k-init c = marking_starts c.args.types.now c.args.heap.now c.args.shades.now.items
-
--- the object can be marked
-word : (c : In-Some) → HasWord c.loop-k.heap.memories c.in-Some.obj
-word c =
+loop-k-init c =
+    let ss = c.args.shades.now.items in
     let rows = c.args.types.now in
     let h = c.args.heap.now in
-    let words = c.loop-k.invariant.words in
-    let found = c.in-Some.ensures.found.found in
-    object_word rows c.loop-k.heap 2 c.in-Some.obj (keeps_heap h c.loop-k.heap words.shape c.requires.heap)
-    (keeps_held rows h c.loop-k.heap c.requires.heap c.requires.held words)
-    (keeps_stands rows h c.loop-k.heap c.requires.heap c.requires.held words c.in-Some.obj
-    (c.requires.objects.marked c.in-Some.obj found.0 found.1))
+    marking_passes rows (IsFound ss) (IsFound ss) (IsFoundFrom ss 0) h h (marking_begins rows (IsFound ss) h)
+    (found_first ss)
 
-pub segment_near-near-requires : goal.segment_near-near-requires
-segment_near-near-requires c = word (goal.at.segment_near-near-requires c).In-Some
+pub mark_segment-requires-clause-shade : goal.mark_segment-requires-clause-shade
+mark_segment-requires-clause-shade c =
+    let ss = c.args.shades.now.items in
+    let below = c.loop-k-test.true in
+    let len = c.len-k-end.ensures in
+    let ok = c.args.shades.now.ok in
+    lawful_shade ss c.requires.apart c.loop-k.k (omega arith) c.index.result.now c.index.ensures c.requires.shades
 
-pub mark_at-requires-clause-word : goal.mark_at-requires-clause-word
-mark_at-requires-clause-word c = word (goal.at.mark_at-requires-clause-word c).In-Some
+pub mark_segment-requires-clause-heap : goal.mark_segment-requires-clause-heap
+mark_segment-requires-clause-heap c =
+    let ss = c.args.shades.now.items in
+    marking_heap c.args.types.now (IsFound ss) (IsFoundFrom ss c.loop-k.k) c.args.heap.now c.loop-k.heap
+    c.requires.heap c.loop-k.invariant
 
-pub mark_at-requires-clause-condemned : goal.mark_at-requires-clause-condemned
-mark_at-requires-clause-condemned c = all_condemned c.loop-k.heap 2 c.in-Some.obj (omega arith)
+pub mark_segment-requires-clause-held : goal.mark_segment-requires-clause-held
+mark_segment-requires-clause-held c =
+    let ss = c.args.shades.now.items in
+    marking_held c.args.types.now (IsFound ss) (IsFoundFrom ss c.loop-k.k) c.args.heap.now c.loop-k.heap
+    c.requires.heap c.requires.held c.loop-k.invariant
+
+pub mark_segment-requires-clause-stands : goal.mark_segment-requires-clause-stands
+mark_segment-requires-clause-stands c =
+    let ss = c.args.shades.now.items in
+    let below = c.loop-k-test.true in
+    let len = c.len-k-end.ensures in
+    let ok = c.args.shades.now.ok in
+    let found = segment_found ss c.requires.apart c.loop-k.k (omega arith) c.index.result.now c.index.ensures in
+    λ x i.
+    let f = found x i in
+    marking_stands c.args.types.now (IsFound ss) (IsFoundFrom ss c.loop-k.k) c.args.heap.now c.loop-k.heap
+    c.requires.heap c.requires.held c.loop-k.invariant x (c.requires.objects.marked x f.0 f.1)
 
 pub loop-k-preserved : goal.loop-k-preserved
 loop-k-preserved c =
-    let found = c.in-Some.ensures.found.found in
-    marking_more c.args.types.now c.args.heap.now c.loop-k.heap c.mark_at.new.heap c.args.shades.now.items
-    c.loop-k.at.k c.loop-k.at.from c.in-Some.k c.in-Some.obj c.requires.heap c.requires.held c.loop-k.invariant
-    c.in-Some.ensures.found (c.requires.objects.marked c.in-Some.obj found.0 found.1) c.mark_at.ensures
-
-pub returns-clause-words : goal.returns-clause-words
-returns-clause-words c = c.loop-k.invariant.words
-
-pub returns-clause-kept : goal.returns-clause-kept
-returns-clause-kept c = c.loop-k.invariant.kept
-
-pub returns-clause-only : goal.returns-clause-only
-returns-clause-only c = c.loop-k.invariant.only
+    let ss = c.args.shades.now.items in
+    let k = c.loop-k.k in
+    let s = c.index.result.now in
+    let below = c.loop-k-test.true in
+    let len = c.len-k-end.ensures in
+    let ok = c.args.shades.now.ok in
+    let within : k < length ss = omega arith in
+    marking_goes c.args.types.now (IsFound ss) (IsFoundFrom ss k) (IsFoundFrom ss (k + 1)) (IsMarkedIn s)
+    c.args.heap.now c.loop-k.heap c.mark_segment.new.heap c.requires.heap c.requires.held c.loop-k.invariant
+    c.mark_segment.ensures (segment_found ss c.requires.apart k within s c.index.ensures)
+    (segment_or_later ss c.requires.apart k within s c.index.ensures)
 
 pub returns-clause-found : goal.returns-clause-found
-returns-clause-found c = λ x f. elim (c.in_default.ensures.none x f) [
-  | inl behind ↦ c.loop-k.invariant.done x f behind
-  | inr never ↦ absurd never
-]
+returns-clause-found c =
+    let ss = c.args.shades.now.items in
+    let end = c.loop-k-test.false in
+    let len = c.len-k-end.ensures in
+    let ok = c.args.shades.now.ok in
+    (marking_ends c.args.types.now (IsFound ss) (IsFoundFrom ss c.loop-k.k) c.args.heap.now c.loop-k.heap
+    c.loop-k.invariant (λ x f. found_last ss c.loop-k.k x (omega arith) f)).found

@@ -21,8 +21,9 @@ use Rattle.clr_bgmark.proofs.background.Background.scan_next.Goals as goal
 -- the search for the object changes nothing
 scan_is : (c : After-scan) → c.scan.new.self ≡ followed c.args.types.now c.args.heap.now c.args.self.now c.in-Some.obj
 scan_is c =
-    c.scan.ensures
-    ∙ ap (λ (v : BackgroundView). followed c.args.types.now c.args.heap.now v c.in-Some.obj) c.next_gray.ensures.same
+    let found = c.in-Some.ensures in
+    c.scan.ensures.value c.args.self.now found.shades (gray_parts c.args.self.now.shades c.in-Some.obj found.gray).0
+    found.passed
 
 pub returns-in-None-clause-empty : goal.returns-in-None-clause-empty
 returns-in-None-clause-empty c e =
@@ -93,7 +94,7 @@ returns-in-None-clause-log c =
     let rows = c.args.types.now in
     let objects = objects_in c.args.types.now c.args.heap.now in
     let ss = c.args.self.now.shades in
-    subst (λ (v : BackgroundView). HasLogged rows objects ss v.shades) (sym c.next_gray.ensures.same)
+    subst (λ (v : BackgroundView). HasLogged rows objects ss v.shades) (sym c.in-None.ensures.same)
     (logged_none rows objects ss)
 
 pub returns-in-Some-clause-counted : goal.returns-in-Some-clause-counted

@@ -10,6 +10,7 @@ use Rattle.clr_bgmark.proofs.background.Background.step.Goals as goal
 pub loop-scanned-init : goal.loop-scanned-init
 loop-scanned-init c = record {
   low = omega arith;
+  known = c.none-known.ensures c.args.types.now;
   running = refl;
   objects = c.requires.objects;
   counted = c.requires.counted;
@@ -25,6 +26,7 @@ loop-scanned-preserved c =
     let so_far = c.loop-scanned.invariant in
     record {
       low = omega (arith, below);
+      known = done.known;
       running = done.running ∙ so_far.running;
       objects = done.objects;
       counted = done.counted;

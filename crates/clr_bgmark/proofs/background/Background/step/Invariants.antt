@@ -1,11 +1,12 @@
 use Rattle.std.proofs.Common.{◌≡◌, ◌-◌, ◌≤◌}
 use Rattle.clr_view.specs.View.{objects_in}
-use Rattle.clr_bgmark.specs.Scanning.{AreObjects, HasLogged, HasScanned, HaveWholeObjects, IsCounted}
+use Rattle.clr_bgmark.specs.Scanning.{AreObjects, HasLogged, HasScanned, HaveWholeObjects, IsCounted, IsRunKind}
 use Rattle.clr_bgmark.proofs.background.Background.step.Given as goal
 
 abbrev pub invariant-loop-scanned : goal.invariant-loop-scanned
 invariant-loop-scanned l = record {
   low : l.scanned ≤ l.n;
+  known : IsRunKind l.types l.known;
   running : l.self.running ≡ l.initial.self.running;
   objects : AreObjects l.types l.heap l.self.shades;
   counted : IsCounted (objects_in l.types l.heap) l.self;

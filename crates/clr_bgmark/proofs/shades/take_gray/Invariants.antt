@@ -1,6 +1,6 @@
 use Rattle.std.proofs.Common.{◌≡◌}
 use Rattle.clr_bgmark.proofs.GrayPlaces.{HaveNoGray}
-use Rattle.clr_bgmark.proofs.shades.first_gray.Given as goal
+use Rattle.clr_bgmark.proofs.shades.take_gray.Given as goal
 
 abbrev pub invariant-loop-k : goal.invariant-loop-k
 invariant-loop-k l = record {

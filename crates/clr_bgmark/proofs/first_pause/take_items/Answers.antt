@@ -1,0 +1,140 @@
+use Rattle.std.proofs.Common.{◌≡◌, ◌+◌, refl, ap, sym, ◌∙◌, subst, arith}
+use Rattle.clr_types.specs.Segments.{first_place}
+use Rattle.clr_types.specs.declared.segment.SegInfo.{SegInfo}
+use Rattle.clr_heap.specs.Parts.{item_at}
+use Rattle.clr_heap.specs.View.{AfterItem, CanWalk, first_of, items_between, last_of, sight, word_of}
+use Rattle.clr_heap.proofs.Walking.{walk_done, walk_hole, walk_item}
+use Rattle.clr_bgmark.specs.Pauses.{taken_in}
+use Rattle.clr_bgmark.proofs.FirstTaken.{can_take, CanTake, one_shape, shape}
+use Rattle.clr_bgmark.proofs.first_pause.take_items.Goals.{In-None}
+use Rattle.clr_bgmark.proofs.first_pause.take_items.Goals as goal
+
+pub loop-place-init : goal.loop-place-init
+loop-place-init c =
+    let h = c.args.heap.now in
+    let rows = c.args.types.now in
+    let value = c.info-segment.ensures.value in
+    let start : c.first_place-place.result ≡ first_of h c.args.k =
+    c.first_place-place.ensures ∙ ap first_place value in
+    let last : c.info-segment.result.end ≡ last_of h c.args.k = ap (λ (s : SegInfo). s.end) value in
+    record {
+      walk = subst (λ p. CanWalk (sight rows h c.args.k) h.memories p c.info-segment.result.end) (sym start)
+          (subst (λ e. CanWalk (sight rows h c.args.k) h.memories (first_of h c.args.k) e) (sym last)
+          (c.requires.walkable c.args.k c.requires.in_range));
+      low = omega (arith, start);
+      shape = refl;
+      taken = λ i. taken_in h c.args.shade.now (items_between (sight rows h c.args.k) (start i) (last i));
+      clear = λ q low high. absurd (omega (arith, low, high));
+      known = c.none-known.ensures rows;
+    }
+
+pub hole_here-requires-clause-clear : goal.hole_here-requires-clause-clear
+hole_here-requires-clause-clear c = c.loop-place.invariant.clear
+
+pub loop-place-smaller-in-Some : goal.loop-place-smaller-in-Some
+loop-place-smaller-in-Some c =
+    let step = walk_hole (sight c.args.types.now c.args.heap.now c.args.k) c.args.heap.now.memories c.loop-place.place
+    c.in-Some.high c.info-segment.result.end c.loop-place.invariant.walk c.loop-place-test.true
+    (sym c.hole_here.ensures.hole ∙ c.in-Some.is) in
+    let higher = step.higher in
+    let within = step.within in
+    omega (arith, higher, within)
+
+pub loop-place-preserved-in-Some : goal.loop-place-preserved-in-Some
+loop-place-preserved-in-Some c =
+    let h = c.args.heap.now in
+    let inv = c.loop-place.invariant in
+    let step = walk_hole (sight c.args.types.now h c.args.k) h.memories c.loop-place.place
+    c.in-Some.high c.info-segment.result.end inv.walk c.loop-place-test.true
+    (sym c.hole_here.ensures.hole ∙ c.in-Some.is) in
+    let higher = step.higher in
+    let low = inv.low in
+    record {
+      walk = step.walk;
+      low = omega (arith, higher, low);
+      shape = inv.shape;
+      taken = ap (taken_in h c.loop-place.shade) (sym step.items) ∙ inv.taken;
+      clear = λ q l. c.hole_here.ensures.clear q (omega (arith, higher, l));
+      known = inv.known;
+    }
+
+-- an item stands at the place
+after : (c : In-None) → AfterItem (sight c.args.types.now c.args.heap.now c.args.k) c.args.heap.now.memories
+    c.loop-place.place c.info-segment.result.end
+after c = walk_item (sight c.args.types.now c.args.heap.now c.args.k) c.args.heap.now.memories c.loop-place.place
+    c.info-segment.result.end c.loop-place.invariant.walk c.loop-place-test.true
+    (sym c.hole_here.ensures.hole ∙ c.in-None.is)
+
+can : (c : In-None) → CanTake c.args.types.now c.args.heap.now c.args.k c.loop-place.place c.loop-place.shade
+can c =
+    can_take c.args.types.now c.args.heap.now c.info-segment.ensures.heap c.args.k c.requires.in_range
+    c.loop-place.place c.info-segment.result.end c.loop-place.shade
+    (c.loop-place.invariant.shape ∙ c.requires.shape) c.loop-place.invariant.low c.loop-place-test.true
+    (ap (λ (s : SegInfo). s.end) c.info-segment.ensures.value) (after c)
+
+pub take_item-place-requires-clause-item : goal.take_item-place-requires-clause-item
+take_item-place-requires-clause-item c = (can (goal.at.take_item-place-requires-clause-item c).In-None).item
+
+pub take_item-place-requires-clause-segment : goal.take_item-place-requires-clause-segment
+take_item-place-requires-clause-segment c = (can (goal.at.take_item-place-requires-clause-segment c).In-None).segment
+
+pub take_item-place-requires-clause-inside : goal.take_item-place-requires-clause-inside
+take_item-place-requires-clause-inside c = (can (goal.at.take_item-place-requires-clause-inside c).In-None).inside
+
+pub take_item-place-requires-clause-old : goal.take_item-place-requires-clause-old
+take_item-place-requires-clause-old c =
+    let below = c.loop-place-test.true in
+    let last = ap (λ (s : SegInfo). s.end) c.info-segment.ensures.value in
+    c.end_of_old-old_end.ensures c.loop-place.place c.loop-place.invariant.low (omega (arith, below, last))
+
+pub take_item-place-requires-clause-known : goal.take_item-place-requires-clause-known
+take_item-place-requires-clause-known c = c.loop-place.invariant.known
+
+pub overflow_add-place : goal.overflow_add-place
+overflow_add-place c =
+    let within = (after (goal.at.overflow_add-place c).In-None).within in
+    let size = c.take_item-place.ensures.size in
+    let last = ap (λ (s : SegInfo). s.end) c.info-segment.ensures.value in
+    let high = c.info-segment.ensures.lawful.high in
+    let top = c.info-segment.ensures.below_top in
+    let fits = c.info-segment.ensures.fits in
+    record { fits = omega (arith, within, size, last, high, top, fits) }
+
+pub loop-place-smaller : goal.loop-place-smaller
+loop-place-smaller c =
+    let step = after (goal.at.loop-place-smaller c).In-None in
+    let within = step.within in
+    let least = step.names.least in
+    let size = c.take_item-place.ensures.size in
+    omega (arith, within, least, size)
+
+pub loop-place-preserved : goal.loop-place-preserved
+loop-place-preserved c =
+    let h = c.args.heap.now in
+    let rows = c.args.types.now in
+    let s = sight rows h c.args.k in
+    let inv = c.loop-place.invariant in
+    let end = c.info-segment.result.end in
+    let step = after (goal.at.loop-place-preserved c).In-None in
+    let size : c.loop-place.place + c.take_item-place.result
+    ≡ c.loop-place.place + (item_at rows (word_of h) c.loop-place.place).size =
+    ap (λ n. c.loop-place.place + n) c.take_item-place.ensures.size in
+    let low = inv.low in
+    record {
+      walk = subst (λ n. CanWalk s h.memories n end) (sym size) step.walk;
+      low = omega (arith, low);
+      shape = ap shape c.take_item-place.ensures.taken
+          ∙ one_shape h c.loop-place.shade (item_at rows (word_of h) c.loop-place.place) ∙ inv.shape;
+      taken =
+          (λ i. taken_in h (c.take_item-place.ensures.taken i) (items_between s (size i) end))
+          ∙ ap (taken_in h c.loop-place.shade) (sym step.items) ∙ inv.taken;
+      clear = λ q l. c.hole_here.ensures.clear q (omega (arith, l));
+      known = c.take_item-place.ensures.known;
+    }
+
+pub returns : goal.returns
+returns c =
+    let h = c.args.heap.now in
+    let done = walk_done (sight c.args.types.now h c.args.k) h.memories c.loop-place.place c.info-segment.result.end
+    c.loop-place.invariant.walk c.loop-place-test.false in
+    ap (taken_in h c.loop-place.shade) (sym done) ∙ c.loop-place.invariant.taken

@@ -1,0 +1,18 @@
+use Rattle.std.proofs.Common.{ap, ◌∙◌}
+use Rattle.clr_types.specs.declared.item.Item.{Item}
+use Rattle.clr_heap.specs.View.{word_of}
+use Rattle.clr_heap.proofs.Spelling.{place-item_at}
+use Rattle.clr_bgmark.specs.Pauses.{taken_one}
+use Rattle.clr_bgmark.proofs.FirstTaken.{object_taken}
+use Rattle.clr_bgmark.proofs.first_pause.take_other.Goals as goal
+
+pub returns-then-found-ne0-clause-taken : goal.returns-then-found-ne0-clause-taken
+returns-then-found-ne0-clause-taken c =
+    let h = c.args.heap.now in
+    let s = c.args.shade.now in
+    let found = c.item_like-found.ensures.item in
+    c.take_place.ensures
+    ∙ object_taken h s c.item_like-found.result c.args.place c.args.old_end
+    (ap (λ (i : Item). i.place) found ∙ place-item_at c.args.types.now (word_of h) c.args.place) c.if-found-ne0.true
+    c.requires.old
+    ∙ ap (taken_one h s) found

@@ -1,5 +1,4 @@
-ghost use Rattle.std.specs.Prelude.{◌≡◌, ◌+◌, ◌^◌, ◌≤◌, ◌∷◌, ◌++◌, [], ℕ, List, length, OnOk, OnErr, IfOk, take};
-ghost use Rattle.std.specs.Prelude.{IfSome, IfNone, MatchOption};
+ghost use Rattle.std.specs.Prelude.{◌≡◌, ◌≢◌, ◌+◌, ◌^◌, ◌≤◌, ◌∷◌, ◌++◌, [], ℕ, List, length, OnOk, OnErr, IfOk, take};
 ghost use Rattle.clr_model.specs.ReplyText.{refusal_text, reply_text};
 ghost use Rattle.clr_script.specs.ReplyLines.{IsShowable};
 ghost use Rattle.clr_lines.specs.Fronts.{IsAnswered};
@@ -69,46 +68,48 @@ fn refusal_behind(buffer: &mut [u8], at: usize, refusal: &Refusal) -> usize
 }
 
 // Does the line in front of a text where it is one that is done at once, and writes its reply to the front. Gives how
-// much of the text that was, and how long the reply is.
-#[inline]
-fn answer_into(into: &mut [u8], runtime: &mut Runtime, text: &[u8]) -> Option<(usize, usize)>
+// much of the text that was, and how long the reply is. Where nothing was done, it was nothing of the text.
+#[inline(always)]
+fn answer_into(into: &mut [u8], runtime: &mut Runtime, text: &[u8]) -> (usize, usize)
     requires { 256 ≤ length into.old }
-    ensures within { IfSome result (λ p. p.1 ≤ length into.new) }
-    ensures answered { MatchOption result (runtime.new ≡ runtime.old)
-        (λ p. IsAnswered runtime.old.machine text.now p.0 (take p.1 into.new) runtime.new.machine) }
+    ensures within { result.1 ≤ length into.new }
+    ensures idle { result.0 ≡ 0 → runtime.new ≡ runtime.old }
+    ensures answered { result.0 ≢ 0 →
+        IsAnswered runtime.old.machine text.now result.0 (take result.1 into.new) runtime.new.machine }
     ensures grows { runtime.new.machine.layout.top ≤ runtime.old.machine.layout.top + 2 ^ 30 }
 {
-    let line = into.first_chunk_mut::<256>()?;
-    let answered = answer_front(runtime, text, line)?;
-    Some((answered.read, answered.written))
+    let Some(line) = into.first_chunk_mut::<256>() else {
+        unreachable!()
+    };
+    match answer_front(runtime, text, line) {
+        Some(answered) => (answered.read, answered.written),
+        None => (0, 0),
+    }
 }
 
 // Does the line in front of a text where it is one that is done at once, and writes its reply behind the first `at`
-// bytes. Gives how much of the text that was, and where the reply ends.
-#[inline]
-fn answer_behind(
-    buffer: &mut [u8],
-    at: usize,
-    runtime: &mut Runtime,
-    text: &[u8],
-) -> Option<(usize, usize)>
+// bytes. Gives how much of the text that was, and where the reply ends. Where nothing was done, it was nothing of the
+// text.
+#[inline(always)]
+fn answer_behind(buffer: &mut [u8], at: usize, runtime: &mut Runtime, text: &[u8]) -> (usize, usize)
     requires { at + 256 ≤ length buffer.old }
-    ensures within { IfSome result (λ p. p.1 ≤ length buffer.new) }
+    ensures within { result.1 ≤ length buffer.new }
     ensures kept { take at buffer.new ≡ take at buffer.old }
-    ensures answered { MatchOption result (runtime.new ≡ runtime.old)
-        (λ p. (reply : List ℕ) × IsAnswered runtime.old.machine text.now p.0 reply runtime.new.machine
-        × (take p.1 buffer.new ≡ take at buffer.old ++ reply)) }
+    ensures idle { result.0 ≡ 0 → runtime.new ≡ runtime.old }
+    ensures answered { result.0 ≢ 0 → (reply : List ℕ)
+        × IsAnswered runtime.old.machine text.now result.0 reply runtime.new.machine
+        × (take result.1 buffer.new ≡ take at buffer.old ++ reply) }
     ensures grows { runtime.new.machine.layout.top ≤ runtime.old.machine.layout.top + 2 ^ 30 }
 {
-    let (read, written) = answer_into(&mut buffer[at..], runtime, text)?;
-    Some((read, at + written))
+    let (read, written) = answer_into(&mut buffer[at..], runtime, text);
+    (read, at + written)
 }
 
 // Writes the first `filled` bytes where there is no room for a line behind them, and gives how many wait then.
 #[inline]
 fn write_if_full<K: Sink>(buffer: &[u8], filled: usize, sink: &mut K) -> Result<usize, Failed>
     requires within { filled ≤ length buffer.now }
-    requires line { 256 ≤ length buffer.now }
+    requires whole { length buffer.now ≡ 65536 }
     ensures room { IfOk result (λ left. left + 256 ≤ length buffer.now) }
     ensures wrote { IfOk result (λ left.
         Wrote (K.written sink.old) (K.written sink.new) (take filled buffer.now) (take left buffer.now) []) }
@@ -116,7 +117,7 @@ fn write_if_full<K: Sink>(buffer: &[u8], filled: usize, sink: &mut K) -> Result<
     ensures counted { OnOk result (K.faults sink.new ≡ K.faults sink.old) }
     ensures cause { OnErr result (Rose (K.faults sink.old) (K.faults sink.new)) }
 {
-    if buffer.len() - filled < LINE {
+    if CAPACITY - filled < LINE {
         write_all(sink, &buffer[..filled])?;
         return Ok(0);
     }
@@ -197,9 +198,10 @@ impl Pending {
         ensures cause { OnErr result (Rose (K.faults sink.old) (K.faults sink.new)) }
         ensures grows { runtime.new.machine.layout.top ≤ runtime.old.machine.layout.top + 2 ^ 30 }
     {
-        let Some((read, end)) = answer_behind(&mut self.buffer, self.filled, runtime, text) else {
+        let (read, end) = answer_behind(&mut self.buffer, self.filled, runtime, text);
+        if read == 0 {
             return Ok(None);
-        };
+        }
         self.filled = write_if_full(&self.buffer, end, sink)?;
         Ok(Some(read))
     }

@@ -28,6 +28,18 @@ filled_subcommand a s = ap (λ (subs : List Shape). record {
   subs = subs;
 }) (map-append filled_shape a.subs (s ∷ []))
 
+-- a rule more, by what it is once it is filled in
+pub rule_added : (before after : App) (made rule : Rule) (want : App) → after ≡ with_rule before made
+    → filled made ≡ rule → filled_app before ≡ want → filled_app after ≡ with_rule want rule
+rule_added before after made rule want is fills are =
+    ap filled_app is ∙ (filled_rule before made ∙ ap₂ with_rule are fills)
+
+-- and a command more
+pub command_added : (before after : App) (made shape : Shape) (want : App) → after ≡ with_subcommand before made
+    → filled_shape made ≡ shape → filled_app before ≡ want → filled_app after ≡ with_subcommand want shape
+command_added before after made shape want is fills are =
+    ap filled_app is ∙ (filled_subcommand before made ∙ ap₂ with_subcommand are fills)
+
 -- ---- rules
 
 -- rules that are filled in, with their positions

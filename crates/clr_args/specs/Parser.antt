@@ -22,6 +22,10 @@ option_rule name = record (text_rule name) { long = Some name }
 abbrev pub place_rule : Text → Rule
 place_rule name = record (text_rule name) { required = true }
 
+-- a command with two options more
+abbrev pub with_two : Text → Text → App → App
+with_two first second app = with_rule (with_rule app (option_rule first)) (option_rule second)
+
 -- a command with the options more
 abbrev pub with_options : App → App
 with_options app = fold with_rule app (map option_rule option_names)
@@ -47,9 +51,13 @@ command_shapes =
     ∷ command_shape (codes "image") option_names [] ∷ command_shape (codes "inspect") [] []
     ∷ command_shape (codes "migrate") [] [] ∷ []
 
+-- the program without commands
+abbrev pub bare_program : App
+bare_program = record { top = top_shape; subs = [] }
+
 -- the program: these commands, no help and no version
 abbrev pub program : App
-program = fold with_subcommand (record { top = top_shape; subs = [] }) command_shapes
+program = fold with_subcommand bare_program command_shapes
 
 -- ---- what is left out
 

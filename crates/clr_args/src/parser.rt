@@ -1,10 +1,12 @@
 //! The arguments, read by `clap`.
-ghost use Rattle.std.specs.Prelude.{◌≡◌, ◌≢◌, [], IfOk, MatchOption, false, map, string_bytes};
+ghost use Rattle.std.specs.Prelude.{◌≡◌, ◌≢◌, [], IfOk, MatchOption, codes, false, map, string_bytes};
 ghost use Rattle.clap.specs.Faults.{fault_of};
-ghost use Rattle.clap.specs.Simple.{app_of, filled, subcommand_of, subcommand_rows_of};
+ghost use Rattle.clap.specs.Simple.{app_of, filled, subcommand_of, subcommand_rows_of, with_subcommand};
 ghost use Rattle.clap.specs.Walk.{rule_of};
 ghost use Rattle.clap.specs.declared.builder.command.Command.TheViews.{out-Command};
-ghost use Rattle.clr_args.specs.Parser.{filled_app, option_rule, place_rule, program, with_options};
+ghost use Rattle.clr_args.specs.Grammar.{option_names, soak_places};
+ghost use Rattle.clr_args.specs.Parser.{bare_program, command_shape, filled_app, option_rule, place_rule, program};
+ghost use Rattle.clr_args.specs.Parser.{with_options, with_two};
 
 use crate::NoMemory;
 use clap::error::ErrorKind;
@@ -37,20 +39,64 @@ pub(crate) fn parse<'a>(
 fn make_program<'a>(alloc: Global) -> Result<Command<'a>, AllocError>
     ensures { IfOk result (λ command. filled_app (app_of command) ≡ program) }
 {
-    let run = add_options(alloc, Command::new(alloc, "run"))?;
-    let soak = add_options(alloc, Command::new(alloc, "soak"))?
-        .arg(make_place(alloc, "SEED"))?
-        .arg(make_place(alloc, "N"))?;
-    let image = add_options(alloc, Command::new(alloc, "image"))?;
+    let with_run = add_command(alloc, make_bare(alloc), "run")?;
+    let with_soak = add_soak(alloc, with_run)?;
+    let with_image = add_command(alloc, with_soak, "image")?;
+    add_looks(alloc, with_image)
+}
+
+// The program without commands.
+fn make_bare<'a>(alloc: Global) -> Command<'a>
+    ensures { filled_app (app_of result) ≡ bare_program }
+{
     Command::new(alloc, "clrheap")
         .no_binary_name(true)
         .disable_help_flag(true)
         .disable_help_subcommand(true)
         .disable_version_flag(true)
         .subcommand_required(true)
-        .subcommand(run)?
-        .subcommand(soak)?
-        .subcommand(image)?
+}
+
+// Adds the command with this name, which has the options.
+fn add_command<'a>(
+    alloc: Global,
+    program: Command<'a>,
+    name: &'a str,
+) -> Result<Command<'a>, AllocError>
+    ensures { IfOk result (λ made. filled_app (app_of made)
+        ≡ with_subcommand (filled_app (app_of program.entry)) (command_shape name.entry.now option_names [])) }
+{
+    let command = add_options(alloc, Command::new(alloc, name))?;
+    program.subcommand(command)
+}
+
+// Adds `soak`.
+fn add_soak<'a>(alloc: Global, program: Command<'a>) -> Result<Command<'a>, AllocError>
+    ensures { IfOk result (λ made. filled_app (app_of made)
+        ≡ with_subcommand (filled_app (app_of program.entry)) (command_shape (codes "soak") option_names soak_places)) }
+{
+    let soak = make_soak(alloc)?;
+    program.subcommand(soak)
+}
+
+// The command `soak`, with its options and places.
+fn make_soak<'a>(alloc: Global) -> Result<Command<'a>, AllocError>
+    ensures shape { IfOk result (λ made. (filled_app (app_of made)).top
+        ≡ command_shape (codes "soak") option_names soak_places) }
+    ensures local { IfOk result (λ made. (out-Command made).has_globals ≡ false) }
+{
+    add_options(alloc, Command::new(alloc, "soak"))?
+        .arg(make_place(alloc, "SEED"))?
+        .arg(make_place(alloc, "N"))
+}
+
+// Adds the commands on images, which have no options.
+fn add_looks<'a>(alloc: Global, program: Command<'a>) -> Result<Command<'a>, AllocError>
+    ensures { IfOk result (λ made. filled_app (app_of made) ≡ with_subcommand
+        (with_subcommand (filled_app (app_of program.entry)) (command_shape (codes "inspect") [] []))
+        (command_shape (codes "migrate") [] [])) }
+{
+    program
         .subcommand(Command::new(alloc, "inspect"))?
         .subcommand(Command::new(alloc, "migrate"))
 }
@@ -61,15 +107,27 @@ fn add_options<'a>(alloc: Global, command: Command<'a>) -> Result<Command<'a>, A
     ensures local { (out-Command command.entry).has_globals ≡ false
         → IfOk result (λ made. (out-Command made).has_globals ≡ false) }
 {
+    let sized = add_two(alloc, command, "limit", "segment")?;
+    let younger = add_two(alloc, sized, "b0", "b1")?;
+    let budgeted = add_two(alloc, younger, "b2", "bl")?;
+    add_two(alloc, budgeted, "compact", "large")
+}
+
+// Adds two options.
+fn add_two<'a>(
+    alloc: Global,
+    command: Command<'a>,
+    first: &'a str,
+    second: &'a str,
+) -> Result<Command<'a>, AllocError>
+    ensures shape { IfOk result (λ made. filled_app (app_of made)
+        ≡ with_two first.entry.now second.entry.now (filled_app (app_of command.entry))) }
+    ensures local { (out-Command command.entry).has_globals ≡ false
+        → IfOk result (λ made. (out-Command made).has_globals ≡ false) }
+{
     command
-        .arg(make_option(alloc, "limit"))?
-        .arg(make_option(alloc, "segment"))?
-        .arg(make_option(alloc, "b0"))?
-        .arg(make_option(alloc, "b1"))?
-        .arg(make_option(alloc, "b2"))?
-        .arg(make_option(alloc, "bl"))?
-        .arg(make_option(alloc, "compact"))?
-        .arg(make_option(alloc, "large"))
+        .arg(make_option(alloc, first))?
+        .arg(make_option(alloc, second))
 }
 
 // An option that takes a number.

@@ -1,6 +1,6 @@
 -- How the count of what compactions have moved goes on: through a collection, and through the steps of a ladder.
 use Rattle.std.proofs.Common.{◌≡◌, ◌∙◌, ℕ, ◌+◌, ◌-◌, ◌^◌, ◌≤◌, ◌==◌, ◌&&◌, not, Bool, true, false, List, [], ◌∷◌}
-use Rattle.std.proofs.Common.{None, Some, min, ap, arith, Err, Option, Result, refl, subst, sym}
+use Rattle.std.proofs.Common.{None, Some, min, ap, arith, Err, Ok, Option, Result, refl, subst, sym}
 use Rattle.clr_heap.specs.declared.heap.segments.AcquireFault.TheVariants.{NoMemory, OverLimit}
 use Rattle.clr_model.specs.Checks.{first_of_all, refuse_if}
 use Rattle.clr_model.specs.Collection.{Collects}
@@ -53,6 +53,28 @@ full-room (Acquire NoMemory) r is oom = absurd (let e : refusal.NoMemory ≡ ref
 -- an answer that is a refusal is that one
 pub refused-as : {A : Type 0} (r s : Refusal) → (let e : Result A Refusal = Err r in e) ≡ Err s → r ≡ s
 refused-as r s e = cc
+
+-- what is made is no refusal
+pub made-not-refused : {A B : Type 0} (made : A) (why : B) → (let e : Result A B = Ok made in e) ≡ Err why → ⊥
+made-not-refused made why e = cc
+
+-- nor is a thread that is waited for a lack of room
+pub wait-not-full : (k : ℕ)
+    → (let e : Result (Unit {0}) NoRoom = Err (Wait k) in e) ≡ Err (Acquire OverLimit) → ⊥
+wait-not-full k e = cc
+
+-- nor a lack of memory
+pub lacking-not-full :
+    (let e : Result (Unit {0}) NoRoom = Err (Acquire NoMemory) in e) ≡ Err (Acquire OverLimit) → ⊥
+lacking-not-full e = cc
+
+-- and the refusal for it is none for a lack of room
+pub memory-not-oom : {A : Type 0} → (let e : Result A Refusal = Err refusal.NoMemory in e) ≡ Err refusal.Oom → ⊥
+memory-not-oom e = cc
+
+-- nor is an object too big
+pub size-not-oom : {A : Type 0} → (let e : Result A Refusal = Err refusal.TooBig in e) ≡ Err refusal.Oom → ⊥
+size-not-oom e = cc
 
 -- no check on a thread is told so
 pub thread-not-oom : (s : Machine) (t : ℕ) → thread_refusal s t ≡ Some refusal.Oom → ⊥

@@ -1,21 +1,16 @@
 -- Heaps that differ from a lawful one in words and contexts alone: they are lawful, too.
-use Rattle.std.proofs.Common.{◌≡◌, ℕ, ◌-◌, List, ap, length, length-set, subst, sym, Bool, true, false, if◌then◌else◌}
+use Rattle.std.proofs.Common.{◌≡◌, ℕ, ◌-◌, List, length, length-set, subst, sym, Bool, true, false, if◌then◌else◌}
 use Rattle.clr_types.specs.Types.{TypeRow, Form, bytes_form, class_form, form_at, is_array, references_form}
 use Rattle.clr_types.specs.Types.{structs_form}
 use Rattle.clr_types.specs.declared.item.Item.{Item}
 use Rattle.clr_types.specs.declared.shape.Slot.{Slot}
 use Rattle.clr_heap.specs.View.{frame, HeapView, IsHeap, placed, SameShape}
-use Rattle.clr_heap.proofs.Rewrite.{SameShape-refl, SameShape-stored}
+use Rattle.clr_heap.proofs.Rewrite.{SameShape-refl, SameShape-stored, shaped_heap}
 use Rattle.clr_view.specs.Births.{with_newborn}
 use Rattle.clr_view.specs.Flags.{with_flag_at}
 use Rattle.clr_view.specs.SlotValues.{with_value, with_value_at}
 use Rattle.clr_model.specs.Allocation.{context_front}
 use Rattle.clr_view.proofs.Born.{heap-rested}
-
--- words were written
-shaped_heap : (old new : HeapView) → SameShape old new → IsHeap old → IsHeap new
-shaped_heap old new shape heap =
-    heap-rested old new new.rests heap shape (ap (λ (h : HeapView). length h.rests) shape.others)
 
 value_shape : (form : Form) (h : HeapView) (a v : ℕ) → SameShape h (with_value_at form h a v)
 value_shape (class_form pattern) h a v = SameShape-stored h h a v (SameShape-refl h)

@@ -54,3 +54,4 @@ pub mod BegunBirths
 pub mod FinishedBirths
 pub mod QuietThreads
 pub mod Counted
+pub mod SpareKept

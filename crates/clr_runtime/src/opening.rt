@@ -34,13 +34,16 @@ pub(crate) fn first_space(alloc: Global, options: Options) -> Result<Space, NoMe
     ensures tables { IfOk result (λ s. (rows : List TypeRow) → AreTablesOf rows s.heap s.cards s.bricks) }
 {
     let heap = Heap::new(alloc, options.segment, options.limit)?;
-    let (mut cards, mut bricks) = (Cards::new(alloc), Bricks::new(alloc));
-    cover_segments(&heap, &mut cards, &mut bricks)?;
-    Ok(Space {
+    let mut space = Space {
         heap,
-        cards,
-        bricks,
-    })
+        cards: Cards::new(alloc),
+        bricks: Bricks::new(alloc),
+    };
+    let Ok(()) = cover_segments(&space.heap, &mut space.cards, &mut space.bricks) else {
+        drop(space);
+        return Err(NoMemory);
+    };
+    Ok(space)
 }
 
 // So many locals, each null, no handles, and nothing that is to be finalised.
@@ -75,8 +78,10 @@ pub(crate) fn first_workshop(alloc: Global, capacity: usize) -> Result<Workshop,
     ensures compacts_large { IfOk result (λ w. w.compacts_large ≡ false) }
 {
     let marker = Marker::new(alloc, capacity)?;
-    let mut pins = PinQueue::new(alloc)?;
-    pins.reserve(SPARE_SAVES)?;
+    let Ok(pins) = first_pins(alloc) else {
+        drop(marker);
+        return Err(NoMemory);
+    };
     Ok(Workshop {
         marker,
         young: YoungItems::new(alloc),
@@ -84,4 +89,17 @@ pub(crate) fn first_workshop(alloc: Global, capacity: usize) -> Result<Workshop,
         slides: Slides::new(),
         compacts_large: false,
     })
+}
+
+// A queue of plugs that has saved nothing, and has room for what a compaction needs without pinned handles.
+fn first_pins(alloc: Global) -> Result<PinQueue, NoMemory>
+    ensures saved { IfOk result (λ pins. pins.entries ≡ []) }
+    ensures spare { IfOk result (λ pins. 4 ≤ pins.spare) }
+{
+    let mut pins = PinQueue::new(alloc)?;
+    let Ok(()) = pins.reserve(SPARE_SAVES) else {
+        drop(pins);
+        return Err(NoMemory);
+    };
+    Ok(pins)
 }

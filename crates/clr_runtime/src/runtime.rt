@@ -99,12 +99,22 @@ impl Runtime {
         requires some { 1 ≤ capacity }
         ensures { IfOk result (λ runtime. StandsFor runtime (opening (options_of options))) }
     {
-        let (Ok(types), Ok(space), Ok(roots), Ok(workshop)) = (
-            Types::new(alloc),
-            first_space(alloc, options),
-            first_roots(alloc, 1024),
-            first_workshop(alloc, capacity),
-        ) else {
+        let Ok(types) = Types::new(alloc) else {
+            return Err(NoMemory);
+        };
+        let Ok(space) = first_space(alloc, options) else {
+            drop(types);
+            return Err(NoMemory);
+        };
+        let Ok(roots) = first_roots(alloc, 1024) else {
+            drop(types);
+            drop(space);
+            return Err(NoMemory);
+        };
+        let Ok(workshop) = first_workshop(alloc, capacity) else {
+            drop(types);
+            drop(space);
+            drop(roots);
             return Err(NoMemory);
         };
         let parts = Parts {

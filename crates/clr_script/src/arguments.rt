@@ -1,16 +1,25 @@
 //! What stands behind the verb of a thread's line.
 ghost use Rattle.std.specs.Prelude.{◌≡◌, ℕ};
-ghost use Rattle.std.specs.Option.{option_map};
+ghost use Rattle.std.specs.Option.{option_map, option_and_then};
 ghost use Rattle.clr_model.specs.Parsing.{one_local_in, one_handle_in, address_after_in, locals_in};
 ghost use Rattle.clr_model.specs.Parsing.{local_and_number_in, local_and_handle_in, load_in, store_in, number_store_in};
 ghost use Rattle.clr_model.specs.Parsing.{length_in, birth_in, how_in, one_number_in, second_in};
 ghost use Rattle.clr_script.specs.Cuts.{words_left};
 ghost use Rattle.clr_script.specs.Readings.{fitting_in};
 
-use crate::cut::{Rest, no_word, one_word, take_word, three_words, two_words};
+use crate::cut::{Rest, is_word, no_word, one_word, take_word, three_words, two_words};
 use crate::fields::{read_address, read_handle, read_local, read_name, read_number};
+use crate::table::by_row;
 use clr_model::How;
 use clr_types::Kind;
+
+// All three, where each is there.
+#[inline(always)]
+fn all(first: Option<u64>, second: Option<u64>, third: Option<u64>) -> Option<(u64, u64, u64)>
+    ensures { result ≡ option_and_then (λ a. option_and_then (λ b. option_map (λ c. (a, b, c)) third) second) first }
+{
+    Some((first?, second?, third?))
+}
 
 /// A local.
 #[tactic(auto, unfolding(clr_model::specs::Parsing::one_local_in))]
@@ -50,7 +59,7 @@ pub fn read_locals(rest: Rest<'_>) -> Option<(u64, u64)>
     ensures { result ≡ locals_in (words_left rest.entry) }
 {
     let (to, from) = two_words(rest)?;
-    Some((read_local(to)?, read_local(from)?))
+    read_local(to).zip(read_local(from))
 }
 
 /// A local and a number.
@@ -59,7 +68,7 @@ pub fn read_local_and_number(rest: Rest<'_>) -> Option<(u64, u64)>
     ensures { result ≡ local_and_number_in (words_left rest.entry) }
 {
     let (from, index) = two_words(rest)?;
-    Some((read_local(from)?, read_number(index)?))
+    read_local(from).zip(read_number(index))
 }
 
 /// A local and a handle.
@@ -68,7 +77,7 @@ pub fn read_local_and_handle(rest: Rest<'_>) -> Option<(u64, u64)>
     ensures { result ≡ local_and_handle_in (words_left rest.entry) }
 {
     let (to, h) = two_words(rest)?;
-    Some((read_local(to)?, read_handle(h)?))
+    read_local(to).zip(read_handle(h))
 }
 
 /// Two locals and a number.
@@ -77,7 +86,7 @@ pub fn read_load(rest: Rest<'_>) -> Option<(u64, u64, u64)>
     ensures { result ≡ load_in (words_left rest.entry) }
 {
     let (to, from, index) = three_words(rest)?;
-    Some((read_local(to)?, read_local(from)?, read_number(index)?))
+    all(read_local(to), read_local(from), read_number(index))
 }
 
 /// A local, a number and a local.
@@ -86,7 +95,7 @@ pub fn read_store(rest: Rest<'_>) -> Option<(u64, u64, u64)>
     ensures { result ≡ store_in (words_left rest.entry) }
 {
     let (into, index, from) = three_words(rest)?;
-    Some((read_local(into)?, read_number(index)?, read_local(from)?))
+    all(read_local(into), read_number(index), read_local(from))
 }
 
 /// A local and two numbers.
@@ -95,7 +104,7 @@ pub fn read_number_store(rest: Rest<'_>) -> Option<(u64, u64, u64)>
     ensures { result ≡ number_store_in (words_left rest.entry) }
 {
     let (into, index, value) = three_words(rest)?;
-    Some((read_local(into)?, read_number(index)?, read_number(value)?))
+    all(read_local(into), read_number(index), read_number(value))
 }
 
 // A number, or nothing.
@@ -126,10 +135,7 @@ pub fn read_birth<'a>(rest: Rest<'a>) -> Option<(u64, &'a [u8], Option<u64>)>
 fn read_fitting(g: u8, word: &[u8]) -> Option<How>
     ensures { result ≡ fitting_in g word.now }
 {
-    if g != 1 {
-        return None;
-    }
-    if word == b"fitting".as_slice() {
+    if g == 1 && is_word(word, b"fitting") {
         Some(How::Fit)
     } else {
         None
@@ -145,13 +151,10 @@ pub fn read_how(g: u8, rest: Rest<'_>) -> Option<How>
         return Some(How::Decide);
     };
     no_word(rest)?;
-    if word == b"compacting".as_slice() {
-        return Some(How::Compact);
+    by_row! { word, read_fitting(g, word);
+        b"compacting" => Some(How::Compact),
+        b"sweeping" => Some(How::Sweep),
     }
-    if word == b"sweeping".as_slice() {
-        return Some(How::Sweep);
-    }
-    read_fitting(g, word)
 }
 
 /// The second local of a handle: a dependent one has it, and no other.

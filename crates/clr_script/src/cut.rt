@@ -1,5 +1,5 @@
 //! Words, cut from the front of a line one after another.
-ghost use Rattle.std.specs.Prelude.{◌≡◌, ℕ, List, [], ◌∷◌, MatchOption, position, nat_eq};
+ghost use Rattle.std.specs.Prelude.{◌≡◌, ◌++◌, ℕ, List, [], ◌∷◌, IfSome, MatchOption, bytes_eq, position, nat_eq};
 ghost use Rattle.std.specs.Option.{option_map};
 ghost use Rattle.clr_model.specs.LineGrammar.{words};
 ghost use Rattle.clr_model.specs.Parsing.{none_in, one_in, two_in, three_in};
@@ -7,6 +7,30 @@ ghost use Rattle.clr_script.specs.Cuts.{words_left};
 
 /// What is left of a line behind a word: nothing behind the last, and else what stands behind the next space.
 pub type Rest<'a> = Option<&'a [u8]>;
+
+/// Whether a word is this text.
+#[inline(always)]
+pub fn is_word(word: &[u8], text: &[u8]) -> bool
+    ensures { result ≡ bytes_eq word.now text.now }
+{
+    word == text
+}
+
+/// What is behind these bytes, if a text begins with them.
+#[inline(always)]
+pub fn strip<'a>(text: &'a [u8], front: &[u8]) -> Option<&'a [u8]>
+    ensures { IfSome result (λ rest. text.now ≡ front.now ++ rest.now) }
+{
+    if text.len() < front.len() {
+        return None;
+    }
+    let (word, rest) = text.split_at(front.len());
+    if is_word(word, front) {
+        Some(rest)
+    } else {
+        None
+    }
+}
 
 // Where the first space of a line stands.
 fn first_space(line: &[u8]) -> Option<usize>

@@ -7,6 +7,8 @@ ghost use Rattle.clr_model.specs.LineGrammar.{is_name_start, is_name_byte};
 ghost use Rattle.clr_model.specs.Parsing.{number_in, address_in, numbered_in, thread_in, local_in, handle_in, name_in};
 ghost use Rattle.clr_model.specs.Parsing.{pattern_in, kind_in, generation_in};
 
+use crate::cut::is_word;
+use crate::table::by_row;
 use clr_nums::{read_dec, read_hex};
 use clr_types::Kind;
 
@@ -138,7 +140,7 @@ fn all_slots(bytes: &[u8]) -> bool
 pub fn read_pattern(word: &[u8]) -> Option<&[u8]>
     ensures { option_map (λ p. p.now) result ≡ pattern_in word.now }
 {
-    if word == b"-".as_slice() {
+    if is_word(word, b"-") {
         return Some(&word[1..]);
     }
     if word.is_empty() || !all_slots(word) {
@@ -152,22 +154,13 @@ pub fn read_pattern(word: &[u8]) -> Option<&[u8]>
 pub fn read_kind(word: &[u8]) -> Option<Kind>
     ensures { result ≡ kind_in word.now }
 {
-    if word == b"strong".as_slice() {
-        return Some(Kind::Strong);
+    by_row! { word;
+        b"strong" => Some(Kind::Strong),
+        b"pinned" => Some(Kind::Pinned),
+        b"weak" => Some(Kind::Weak),
+        b"weaklong" => Some(Kind::WeakLong),
+        b"dependent" => Some(Kind::Dependent),
     }
-    if word == b"pinned".as_slice() {
-        return Some(Kind::Pinned);
-    }
-    if word == b"weak".as_slice() {
-        return Some(Kind::Weak);
-    }
-    if word == b"weaklong".as_slice() {
-        return Some(Kind::WeakLong);
-    }
-    if word == b"dependent".as_slice() {
-        return Some(Kind::Dependent);
-    }
-    None
 }
 
 /// The number of a generation, 0, 1 or 2.

@@ -7,8 +7,9 @@ ghost use Rattle.clr_model.specs.Parsing.{size_in, options_in};
 ghost use Rattle.clr_script.specs.Cuts.{words_left};
 ghost use Rattle.clr_script.specs.Choices.{choice_of};
 
-use crate::cut::{Rest, no_word, take_word};
+use crate::cut::{Rest, is_word, no_word, take_word};
 use crate::fields::{read_address, read_name, read_number};
+use crate::table::by_row;
 use clr_model::{Filter, Life, Mode};
 
 // The type by its method table word or by its name, or neither.
@@ -26,13 +27,10 @@ fn read_mode<'a>(rest: Rest<'a>) -> (Mode, Rest<'a>)
     let Some((word, behind)) = take_word(rest) else {
         return (Mode::Full, rest);
     };
-    if word == b"-stat".as_slice() {
-        return (Mode::Stat, behind);
+    by_row! { word, (Mode::Full, rest);
+        b"-stat" => (Mode::Stat, behind),
+        b"-short" => (Mode::Short, behind),
     }
-    if word == b"-short".as_slice() {
-        return (Mode::Short, behind);
-    }
-    (Mode::Full, rest)
 }
 
 // Which objects to show, and what is left behind that option.
@@ -43,13 +41,10 @@ fn read_life<'a>(rest: Rest<'a>) -> (Life, Rest<'a>)
     let Some((word, behind)) = take_word(rest) else {
         return (Life::Any, rest);
     };
-    if word == b"-live".as_slice() {
-        return (Life::Live, behind);
+    by_row! { word, (Life::Any, rest);
+        b"-live" => (Life::Live, behind),
+        b"-dead" => (Life::Dead, behind),
     }
-    if word == b"-dead".as_slice() {
-        return (Life::Dead, behind);
-    }
-    (Life::Any, rest)
 }
 
 // The method table word behind `-mt`.
@@ -82,13 +77,10 @@ fn read_choice<'a>(rest: Rest<'a>) -> Option<(TypeChoice<'a>, Rest<'a>)>
     let Some((word, behind)) = take_word(rest) else {
         return Some((none, rest));
     };
-    if word == b"-mt".as_slice() {
-        return read_mt(behind);
+    by_row! { word, Some((none, rest));
+        b"-mt" => read_mt(behind),
+        b"-type" => read_type(behind),
     }
-    if word == b"-type".as_slice() {
-        return read_type(behind);
-    }
-    Some((none, rest))
 }
 
 // The number that is due, and what is left behind it.
@@ -108,10 +100,11 @@ fn read_size<'a>(option: &[u8], rest: Rest<'a>) -> Option<(Option<u64>, Rest<'a>
     let Some((word, behind)) = take_word(rest) else {
         return Some((None, rest));
     };
-    if word == option {
-        return read_number_then(behind);
+    if is_word(word, option) {
+        read_number_then(behind)
+    } else {
+        Some((None, rest))
     }
-    Some((None, rest))
 }
 
 /// What stands behind `dumpheap`.

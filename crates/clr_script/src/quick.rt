@@ -9,6 +9,7 @@ mod digits;
 mod handles;
 mod slots;
 
+use crate::cut::strip;
 use crate::reader::LONGEST;
 use births::read_collect;
 pub use births::{NewLine, read_new};
@@ -17,16 +18,26 @@ pub use digits::take_thread;
 use handles::{read_create, read_fetch, read_free};
 pub use slots::{read_copy, read_get, read_null, read_put, read_set, read_slot};
 
+// Whether a text may begin with the verb of such a line, by its first letters.
+#[inline(always)]
+fn may_be_quick(text: &[u8]) -> bool {
+    matches!(text, [b'c' | b'h', ..] | [b'f', b'e' | b'r', ..])
+}
+
 // The line of this thread, of which the verb and its words stand in the text.
 fn read_verb<'a>(t: u64, text: &'a [u8]) -> Option<Command<'a>>
     ensures { IfSome result (λ command. SpellsBehind t [] text.now command) }
 {
-    match text {
-        [b'c', b'o', b'l', b'l', b'e', b'c', b't', rest @ ..] => read_collect(t, rest),
-        [b'h', b'a', b'n', b'd', b'l', b'e', rest @ ..] => read_create(t, rest),
-        [b'f', b'e', b't', b'c', b'h', rest @ ..] => read_fetch(t, rest),
-        [b'f', b'r', b'e', b'e', rest @ ..] => read_free(t, rest),
-        _ => None,
+    if let Some(rest) = strip(text, b"collect") {
+        read_collect(t, rest)
+    } else if let Some(rest) = strip(text, b"handle") {
+        read_create(t, rest)
+    } else if let Some(rest) = strip(text, b"fetch") {
+        read_fetch(t, rest)
+    } else if let Some(rest) = strip(text, b"free") {
+        read_free(t, rest)
+    } else {
+        None
     }
 }
 
@@ -41,5 +52,9 @@ pub fn read_quick(line: &[u8]) -> Option<Command<'_>>
         return None;
     }
     let (t, rest) = take_thread(line)?;
-    read_verb(t, rest)
+    if may_be_quick(rest) {
+        read_verb(t, rest)
+    } else {
+        None
+    }
 }

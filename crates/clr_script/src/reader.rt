@@ -7,7 +7,7 @@ ghost use Rattle.clr_script.specs.Cuts.{words_left};
 ghost use Rattle.clr_script.specs.Readings.{Reads, IsReadAs, IsNoLine};
 
 use crate::arguments::{read_one_address, read_one_number};
-use crate::cut::{Rest, next_word, no_word, one_word, take_word};
+use crate::cut::{Rest, is_word, next_word, no_word, one_word, take_word};
 use crate::fields::read_thread;
 use crate::options::read_filter;
 use crate::shapes::read_define;
@@ -24,7 +24,7 @@ fn read_gc(rest: Rest<'_>) -> Option<()>
     ensures { option_map (λ u. show_segments) result ≡ heaps_in (words_left rest.entry) }
 {
     let word = one_word(rest)?;
-    if word == b"-gc".as_slice() {
+    if is_word(word, b"-gc") {
         Some(())
     } else {
         None

@@ -1,15 +1,12 @@
 //! The lines that define types.
-ghost use Rattle.std.specs.Prelude.{◌≡◌, ℕ};
-ghost use Rattle.std.specs.Option.{option_map};
-ghost use Rattle.std.specs.Prelude.{false};
-ghost use Rattle.clr_types.specs.Types.{form_of};
-ghost use Rattle.clr_model.specs.Instructions.{define_type};
-ghost use Rattle.clr_model.specs.Parsing.{none_in, final_in, class_in, structs_in, shape_in, define_in};
+ghost use Rattle.std.specs.Prelude.{◌≡◌, ℕ, List};
+ghost use Rattle.clr_model.specs.Parsing.{final_in, class_in, structs_in, shape_in, define_in};
 ghost use Rattle.clr_script.specs.Cuts.{words_left};
-ghost use Rattle.clr_script.specs.Readings.{Reads};
+ghost use Rattle.clr_script.specs.Readings.{Reads, defined};
 
-use crate::cut::{Rest, no_word, one_word, take_word};
+use crate::cut::{Rest, is_word, no_word, one_word, take_word};
 use crate::fields::{read_name, read_pattern};
+use crate::table::by_row;
 use clr_model::Command;
 use clr_types::Shape;
 
@@ -22,74 +19,44 @@ fn read_final(rest: Rest<'_>) -> Option<bool>
         return Some(false);
     };
     no_word(rest)?;
-    if word == b"final".as_slice() {
+    if is_word(word, b"final") {
         Some(true)
     } else {
         None
     }
 }
 
-// A class of this name.
+// A class: its pattern, and whether it has a finaliser.
 #[tactic(auto, unfolding(clr_model::specs::Parsing::class_in))]
-fn read_class<'a>(name: &'a [u8], rest: Rest<'a>) -> Option<Command<'a>>
-    ensures { Reads result (class_in name.now (words_left rest.entry)) }
+fn read_class<'a>(rest: Rest<'a>) -> Option<(Shape<'a>, bool)>
+    ensures { (name : List ℕ) → defined name result ≡ class_in name (words_left rest.entry) }
 {
     let (word, rest) = take_word(rest)?;
     let pattern = read_pattern(word)?;
     let finalizer = read_final(rest)?;
-    let shape = Shape::Class(pattern);
-    Some(Command::Define {
-        name,
-        shape,
-        finalizer,
-    })
+    Some((Shape::Class(pattern), finalizer))
 }
 
-// An array of structs, of this name.
+// An array of structs: its pattern.
 #[tactic(auto, unfolding(clr_model::specs::Parsing::structs_in))]
-fn read_structs<'a>(name: &'a [u8], rest: Rest<'a>) -> Option<Command<'a>>
-    ensures { Reads result (structs_in name.now (words_left rest.entry)) }
+fn read_structs<'a>(rest: Rest<'a>) -> Option<(Shape<'a>, bool)>
+    ensures { (name : List ℕ) → defined name result ≡ structs_in name (words_left rest.entry) }
 {
     let pattern = read_pattern(one_word(rest)?)?;
-    let shape = Shape::StructArray(pattern);
-    Some(Command::Define {
-        name,
-        shape,
-        finalizer: false,
-    })
+    Some((Shape::StructArray(pattern), false))
 }
 
-// An array of this name and shape, if no word is left.
-fn read_array<'a>(name: &'a [u8], shape: Shape<'a>, rest: Rest<'a>) -> Option<Command<'a>>
-    ensures { Reads result (option_map (λ none. define_type name.now (form_of shape.entry) false)
-        (none_in (words_left rest.entry))) }
-{
-    no_word(rest)?;
-    Some(Command::Define {
-        name,
-        shape,
-        finalizer: false,
-    })
-}
-
-// A type of this name, whose shape begins with this word.
+// A shape that begins with this word, and whether its type has a finaliser.
 #[tactic(auto, unfolding(clr_model::specs::Parsing::shape_in))]
-fn read_shape<'a>(name: &'a [u8], word: &'a [u8], rest: Rest<'a>) -> Option<Command<'a>>
-    ensures { Reads result (shape_in name.now word.now (words_left rest.entry)) }
+fn read_shape<'a>(word: &[u8], rest: Rest<'a>) -> Option<(Shape<'a>, bool)>
+    ensures { (name : List ℕ) → defined name result ≡ shape_in name word.now (words_left rest.entry) }
 {
-    if word == b"class".as_slice() {
-        return read_class(name, rest);
+    by_row! { word;
+        b"class" => read_class(rest),
+        b"structs" => read_structs(rest),
+        b"refs": () = no_word(rest) => (Shape::RefArray, false),
+        b"bytes": () = no_word(rest) => (Shape::ByteArray, false),
     }
-    if word == b"structs".as_slice() {
-        return read_structs(name, rest);
-    }
-    if word == b"refs".as_slice() {
-        return read_array(name, Shape::RefArray, rest);
-    }
-    if word == b"bytes".as_slice() {
-        return read_array(name, Shape::ByteArray, rest);
-    }
-    None
 }
 
 /// What stands behind `type`.
@@ -99,5 +66,11 @@ pub fn read_define<'a>(rest: Rest<'a>) -> Option<Command<'a>>
 {
     let (name, rest) = take_word(rest)?;
     let (word, rest) = take_word(rest)?;
-    read_shape(read_name(name)?, word, rest)
+    let name = read_name(name)?;
+    let (shape, finalizer) = read_shape(word, rest)?;
+    Some(Command::Define {
+        name,
+        shape,
+        finalizer,
+    })
 }

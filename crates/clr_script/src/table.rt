@@ -1,26 +1,39 @@
 //! The table of commands. A row has the word of a command, what its reader finds in the words behind it, and the
-//! command with that.
+//! command with that; or the word, and what is read of the words behind it.
 
-// The command of the row with this word. `None` where no row has it, or where other words than those wanted stand
+// What is read by the row with this word. `None` where no row has it, or where other words than those wanted stand
 // behind it.
 macro_rules! by_row {
-    ($word:ident; $($text:literal: $found:pat = $reader:expr => $command:expr,)*) => {
-        by_row! { $word, None; $($text: $found = $reader => $command,)* }
+    ($word:ident; $($rows:tt)*) => {
+        by_row! { $word, None; $($rows)* }
     };
-    ($word:ident, $other:expr; $($text:literal: $found:pat = $reader:expr => $command:expr,)*) => {{
-        $(if $word == $text.as_slice() {
-            let $found = $reader?;
-            return Some($command);
-        })*
+    ($word:ident, $other:expr;) => {
         $other
-    }};
+    };
+    ($word:ident, $other:expr; $text:literal => $read:expr, $($rows:tt)*) => {
+        if is_word($word, $text) {
+            $read
+        } else {
+            by_row! { $word, $other; $($rows)* }
+        }
+    };
+    ($word:ident, $other:expr; $text:literal: $found:pat = $reader:expr => $command:expr, $($rows:tt)*) => {
+        if is_word($word, $text) {
+            match $reader {
+                Some($found) => Some($command),
+                None => None,
+            }
+        } else {
+            by_row! { $word, $other; $($rows)* }
+        }
+    };
 }
 
 // The lines that are no thread's.
 macro_rules! other_rows {
     ($word:ident, $rest:ident) => {
         by_row! { $word;
-            b"type": command = read_define($rest) => command,
+            b"type" => read_define($rest),
             b"gcwhere": a = read_one_address($rest) => Command::GcWhere { a },
             b"dumpobj": a = read_one_address($rest) => Command::DumpObj { a },
             b"gcroot": a = read_one_address($rest) => Command::GcRoot { a },
@@ -30,7 +43,7 @@ macro_rules! other_rows {
             b"gchandles": () = no_word($rest) => Command::GcHandles,
             b"finalizequeue": () = no_word($rest) => Command::FinalizeQueue,
             b"objsize": a = read_one_address($rest) => Command::ObjSize { a },
-            b"background": command = read_marking($rest) => command,
+            b"background" => read_marking($rest),
         }
     };
 }
@@ -54,9 +67,9 @@ macro_rules! thread_rows {
 macro_rules! rare_rows {
     ($t:ident, $verb:ident, $rest:ident) => {
         by_row! { $verb, read_rooted($t, $verb, $rest);
-            b"begin": command = read_begin($t, $rest) => command,
+            b"begin" => read_begin($t, $rest),
             b"step": () = no_word($rest) => Command::Step { t: $t },
-            b"collect": command = read_collect($t, $rest) => command,
+            b"collect": (g, how) = read_collect($rest) => Command::Collect { t: $t, g, how },
             b"suspend": () = no_word($rest) => Command::Suspend { t: $t },
             b"resume": () = no_word($rest) => Command::Resume { t: $t },
         }
@@ -67,7 +80,7 @@ macro_rules! rare_rows {
 macro_rules! rooted_rows {
     ($t:ident, $verb:ident, $rest:ident) => {
         by_row! { $verb, read_seldom($t, $verb, $rest);
-            b"handle": command = read_create($t, $rest) => command,
+            b"handle": (kind, local, second) = read_create($rest) => Command::Handle { t: $t, kind, local, second },
             b"fetch": (to, h) = read_local_and_handle($rest) => Command::Fetch { t: $t, to, h },
             b"second": (to, h) = read_local_and_handle($rest) => Command::Second { t: $t, to, h },
             b"free": h = read_one_handle($rest) => Command::Free { t: $t, h },
@@ -82,9 +95,9 @@ macro_rules! rooted_rows {
 macro_rules! seldom_rows {
     ($t:ident, $verb:ident, $rest:ident) => {
         by_row! { $verb;
-            b"new-pinned": command = read_pinned($t, $rest) => command,
-            b"background": command = read_pause($t, $rest) => command,
-            b"compact-large": command = read_once($t, $rest) => command,
+            b"new-pinned": (local, name, len) = read_pinned($rest) => Command::NewPinned { t: $t, local, name, len },
+            b"background" => read_pause($t, $rest),
+            b"compact-large": () = read_once($rest) => Command::CompactLarge { t: $t },
         }
     };
 }

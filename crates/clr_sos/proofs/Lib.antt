@@ -43,3 +43,4 @@ pub mod ObjectHeads
 pub mod PlaceLines
 pub mod Trails
 pub mod HeldHeaps
+pub mod FreshMarks

@@ -27,7 +27,7 @@ grown-trans a b c p q =
 longer-push : (es : List FoundObject) (e : FoundObject) → length (es ++ e ∷ []) ≡ length es + 1
 longer-push es e = length-append es (e ∷ [])
 
-grown-push : (es : List FoundObject) (e : FoundObject) → HasGrown es (es ++ e ∷ [])
+pub grown-push : (es : List FoundObject) (e : FoundObject) → HasGrown es (es ++ e ∷ [])
 grown-push es e = record {
   longer = let n = longer-push es e in omega (arith, n);
   same = λ i l. get_or_append_left es (e ∷ []) no_entry i l;

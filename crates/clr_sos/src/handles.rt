@@ -10,7 +10,7 @@ ghost use Rattle.clr_sos.specs.TextPieces.{each_spaced};
 ghost use Rattle.clr_sos.specs.Views.{IsViewOf};
 
 use crate::View;
-use crate::text::{put_number, put_place};
+use crate::text::{put_place, put_word_number, put_words};
 use clr_handles::Handles;
 use clr_mem::NoMemory;
 use clr_types::{Handle, Kind};
@@ -54,14 +54,21 @@ fn put_handles(text: &mut Vec<u8>, handles: &Handles) -> Result<u64, AllocError>
 fn put_handle(text: &mut Vec<u8>, number: u64, handle: &Handle) -> Result<(), AllocError>
     ensures { OnOk result (text.new.items ≡ text.old.items ++ handle_line (number, handle.now)) }
 {
-    text.extend_from_slice(b"h")?;
-    put_number(text, number)?;
-    text.extend_from_slice(b" ")?;
-    text.extend_from_slice(kind_text(handle.kind))?;
-    text.extend_from_slice(b" ")?;
+    put_name(text, number, handle.kind)?;
     put_place(text, handle.target)?;
     put_second(text, handle)?;
     text.extend_from_slice(b"\n")?;
+    Ok(())
+}
+
+// Puts the number and the kind of a handle at the end, a space behind each.
+fn put_name(text: &mut Vec<u8>, number: u64, kind: Kind) -> Result<(), AllocError>
+    ensures { OnOk result (text.new.items ≡ ((((text.old.items ++ 104 ∷ []) ++ decimal number) ++ 32 ∷ [])
+        ++ kind_word kind) ++ 32 ∷ []) }
+{
+    put_word_number(text, b"h", number)?;
+    put_words(text, b" ", kind_text(kind))?;
+    text.extend_from_slice(b" ")?;
     Ok(())
 }
 
@@ -94,8 +101,7 @@ fn put_second(text: &mut Vec<u8>, handle: &Handle) -> Result<(), AllocError>
 fn put_count(text: &mut Vec<u8>, count: u64) -> Result<(), AllocError>
     ensures { OnOk result (text.new.items ≡ text.old.items ++ line (codes "handles" ∷ decimal count ∷ [])) }
 {
-    text.extend_from_slice(b"handles ")?;
-    put_number(text, count)?;
+    put_word_number(text, b"handles ", count)?;
     text.extend_from_slice(b"\n")?;
     Ok(())
 }

@@ -10,7 +10,7 @@ ghost use Rattle.clr_sos.specs.Wants.{AnswersFor, is_wanted, MayAskOf};
 
 use crate::heap_items::HeapItems;
 use crate::listing_lines::{Totals, put_totals};
-use crate::text::{put_address, put_number};
+use crate::text::{put_address, put_word_number, put_words};
 use crate::wanted::Wanted;
 use clr_types::{Item, TypeId, Types};
 use std::alloc::{AllocError, Global};
@@ -141,12 +141,9 @@ fn put_tally(text: &mut Vec<u8>, types: &Types, t: TypeId, tally: Tally) -> Resu
         return Ok(());
     }
     put_address(text, types.mt(t))?;
-    text.extend_from_slice(b" ")?;
-    put_number(text, tally.count)?;
-    text.extend_from_slice(b" ")?;
-    put_number(text, tally.bytes)?;
-    text.extend_from_slice(b" ")?;
-    text.extend_from_slice(types.name(t))?;
+    put_word_number(text, b" ", tally.count)?;
+    put_word_number(text, b" ", tally.bytes)?;
+    put_words(text, b" ", types.name(t))?;
     text.extend_from_slice(b"\n")?;
     Ok(())
 }

@@ -6,7 +6,7 @@ ghost use Rattle.clr_sos.specs.Dumping.{AreListed, counted, totals_line};
 ghost use Rattle.clr_sos.specs.Wants.{AnswersFor, is_wanted, MayAskOf};
 
 use crate::heap_items::HeapItems;
-use crate::text::{put_address, put_head, put_number};
+use crate::text::{put_address, put_head, put_word_number};
 use crate::wanted::Wanted;
 use clr_types::{Item, Types};
 use std::alloc::AllocError;
@@ -100,12 +100,9 @@ pub(crate) fn put_places<F: Fn(u64) -> bool>(
 pub(crate) fn put_totals(text: &mut Vec<u8>, totals: Totals) -> Result<(), AllocError>
     ensures { OnOk result (text.new.items ≡ text.old.items ++ totals_line totals) }
 {
-    text.extend_from_slice(b"total ")?;
-    put_number(text, totals.objects)?;
-    text.extend_from_slice(b" bytes ")?;
-    put_number(text, totals.bytes)?;
-    text.extend_from_slice(b" free ")?;
-    put_number(text, totals.free)?;
+    put_word_number(text, b"total ", totals.objects)?;
+    put_word_number(text, b" bytes ", totals.bytes)?;
+    put_word_number(text, b" free ", totals.free)?;
     text.extend_from_slice(b"\n")?;
     Ok(())
 }

@@ -13,7 +13,7 @@ ghost use Rattle.clr_generations.specs.Tables.{AreBricksOf};
 ghost use Rattle.clr_sos.specs.ObjectTexts.{head_line, item_text, slot_lines, slots_in};
 ghost use Rattle.clr_sos.specs.Views.{IsViewOf};
 
-use crate::text::{put_address, put_number, put_place};
+use crate::text::{put_number, put_place, put_word_address, put_word_number, put_words};
 use crate::{SosFault, View};
 use clr_generations::object_at;
 use clr_heap::{Heap, Item};
@@ -88,12 +88,9 @@ fn put_head(
     requires { item.now.type_id.0 ≤ length types.now }
     ensures { OnOk result (text.new.items ≡ text.old.items ++ head_line types.now generation item.now) }
 {
-    text.extend_from_slice(b"object ")?;
-    put_address(text, item.place)?;
-    text.extend_from_slice(b" ")?;
-    text.extend_from_slice(types.name(item.type_id))?;
-    text.extend_from_slice(b" size ")?;
-    put_number(text, item.size)?;
+    put_word_address(text, b"object ", item.place)?;
+    put_words(text, b" ", types.name(item.type_id))?;
+    put_word_number(text, b" size ", item.size)?;
     text.extend_from_slice(b" gen ")?;
     put_line_end(
         text,
@@ -114,8 +111,7 @@ fn put_line_end(
 {
     put_number(text, number)?;
     if has_length {
-        text.extend_from_slice(b" length ")?;
-        put_number(text, len)?;
+        put_word_number(text, b" length ", len)?;
     }
     text.extend_from_slice(b"\n")?;
     Ok(())
@@ -148,14 +144,12 @@ fn put_slots(
 fn put_slot(text: &mut Vec<u8>, i: u64, reference: bool, value: u64) -> Result<(), AllocError>
     ensures { OnOk result (text.new.items ≡ text.old.items ++ line (slot_words (i, word_value reference value))) }
 {
-    text.extend_from_slice(b"slot ")?;
-    put_number(text, i)?;
+    put_word_number(text, b"slot ", i)?;
     if reference {
         text.extend_from_slice(b" ref ")?;
         put_place(text, value)?;
     } else {
-        text.extend_from_slice(b" num ")?;
-        put_number(text, value)?;
+        put_word_number(text, b" num ", value)?;
     }
     text.extend_from_slice(b"\n")?;
     Ok(())
@@ -168,8 +162,7 @@ fn put_more(text: &mut Vec<u8>, count: u64) -> Result<(), AllocError>
     if count <= SHOWN_SLOTS {
         return Ok(());
     }
-    text.extend_from_slice(b"more ")?;
-    put_number(text, count - SHOWN_SLOTS)?;
+    put_word_number(text, b"more ", count - SHOWN_SLOTS)?;
     text.extend_from_slice(b"\n")?;
     Ok(())
 }

@@ -9,7 +9,7 @@ ghost use Rattle.clr_sos.specs.TextPieces.{queued_line};
 ghost use Rattle.clr_sos.specs.Views.{AllStand, IsViewOf};
 
 use crate::View;
-use crate::text::{put_address, put_number};
+use crate::text::{put_address, put_word_number, put_words};
 use clr_heap::Heap;
 use clr_mem::NoMemory;
 use clr_types::Types;
@@ -72,11 +72,9 @@ fn put_queued(
         ++ queued_line types.now (objects_in types.now heap.now) word.now place) }
 {
     let item = object_item(heap, types, place);
-    text.extend_from_slice(word)?;
-    text.extend_from_slice(b" ")?;
+    put_words(text, word, b" ")?;
     put_address(text, place)?;
-    text.extend_from_slice(b" ")?;
-    text.extend_from_slice(types.name(item.type_id))?;
+    put_words(text, b" ", types.name(item.type_id))?;
     text.extend_from_slice(b"\n")?;
     Ok(())
 }
@@ -86,10 +84,8 @@ fn put_counts(text: &mut Vec<u8>, entries: u64, ready: u64) -> Result<(), AllocE
     ensures { OnOk result (text.new.items ≡ text.old.items
         ++ line (codes "entries" ∷ decimal entries ∷ codes "ready" ∷ decimal ready ∷ [])) }
 {
-    text.extend_from_slice(b"entries ")?;
-    put_number(text, entries)?;
-    text.extend_from_slice(b" ready ")?;
-    put_number(text, ready)?;
+    put_word_number(text, b"entries ", entries)?;
+    put_word_number(text, b" ready ", ready)?;
     text.extend_from_slice(b"\n")?;
     Ok(())
 }

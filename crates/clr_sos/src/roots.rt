@@ -10,7 +10,7 @@ ghost use Rattle.clr_sos.specs.RootTexts.{AreBehind, IsRootOrigin, IsTrail, orig
 ghost use Rattle.clr_sos.specs.Views.{IsLawfulView, IsViewOf};
 
 use crate::reach::{FoundObject, Origin, reach_to};
-use crate::text::{put_address, put_number};
+use crate::text::{put_address, put_word_number, put_words};
 use crate::{SosFault, View};
 use clr_generations::object_at;
 use clr_view::object_item;
@@ -100,18 +100,14 @@ fn put_origin(text: &mut Vec<u8>, root: Origin) -> Result<(), AllocError>
 {
     match root {
         Origin::Local(i) => {
-            text.extend_from_slice(b"root t")?;
-            put_number(text, (i / 64 + 1) as u64)?;
-            text.extend_from_slice(b" l")?;
-            put_number(text, (i % 64) as u64)?;
+            put_word_number(text, b"root t", (i / 64 + 1) as u64)?;
+            put_word_number(text, b" l", (i % 64) as u64)?;
         }
         Origin::Handle(h) => {
-            text.extend_from_slice(b"root h")?;
-            put_number(text, h)?;
+            put_word_number(text, b"root h", h)?;
         }
         Origin::Ready(i) => {
-            text.extend_from_slice(b"root ready ")?;
-            put_number(text, i as u64)?;
+            put_word_number(text, b"root ready ", i as u64)?;
         }
         Origin::Through(_) => return Ok(()),
     }
@@ -139,8 +135,7 @@ fn put_place_line(text: &mut Vec<u8>, view: &View<'_>, place: u64) -> Result<(),
 {
     let item = object_item(view.heap, view.types, place);
     put_address(text, place)?;
-    text.extend_from_slice(b" ")?;
-    text.extend_from_slice(view.types.name(item.type_id))?;
+    put_words(text, b" ", view.types.name(item.type_id))?;
     text.extend_from_slice(b"\n")?;
     Ok(())
 }

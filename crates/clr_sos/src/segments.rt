@@ -10,7 +10,7 @@ ghost use Rattle.clr_sos.specs.TextPieces.{each_spaced};
 ghost use Rattle.clr_sos.specs.Views.{IsViewOf};
 
 use crate::View;
-use crate::text::{put_address, put_number};
+use crate::text::{put_word_address, put_word_number, put_words};
 use clr_heap::Heap;
 use clr_mem::NoMemory;
 use clr_types::{SegInfo, SegKind};
@@ -63,14 +63,10 @@ fn put_segments(text: &mut Vec<u8>, heap: &Heap) -> Result<u64, AllocError>
 fn put_segment(text: &mut Vec<u8>, heap: &Heap, segment: &SegInfo) -> Result<(), AllocError>
     ensures { OnOk result (text.new.items ≡ text.old.items ++ segment_line (frame heap.now) segment.now) }
 {
-    text.extend_from_slice(b"segment ")?;
-    put_address(text, segment.base)?;
-    text.extend_from_slice(b" ")?;
-    text.extend_from_slice(kind_text(segment.kind))?;
-    text.extend_from_slice(b" end ")?;
-    put_address(text, segment.end)?;
-    text.extend_from_slice(b" reserved ")?;
-    put_number(text, segment.reserved)?;
+    put_word_address(text, b"segment ", segment.base)?;
+    put_words(text, b" ", kind_text(segment.kind))?;
+    put_word_address(text, b" end ", segment.end)?;
+    put_word_number(text, b" reserved ", segment.reserved)?;
     put_boundaries(text, heap, segment.kind)?;
     text.extend_from_slice(b"\n")?;
     Ok(())
@@ -95,10 +91,8 @@ fn put_boundaries(text: &mut Vec<u8>, heap: &Heap, kind: SegKind) -> Result<(), 
     match kind {
         SegKind::Ephemeral => {
             let (start1, start0) = heap.boundaries();
-            text.extend_from_slice(b" gen1 ")?;
-            put_address(text, start1)?;
-            text.extend_from_slice(b" gen0 ")?;
-            put_address(text, start0)
+            put_word_address(text, b" gen1 ", start1)?;
+            put_word_address(text, b" gen0 ", start0)
         }
         SegKind::Small | SegKind::Large | SegKind::Pinned => Ok(()),
     }
@@ -126,12 +120,9 @@ fn put_context(text: &mut Vec<u8>, heap: &Heap, thread: usize) -> Result<(), All
     let Some((low, high)) = heap.hole(thread) else {
         return Ok(());
     };
-    text.extend_from_slice(b"context t")?;
-    put_number(text, thread as u64)?;
-    text.extend_from_slice(b" ")?;
-    put_address(text, low)?;
-    text.extend_from_slice(b" ")?;
-    put_address(text, high)?;
+    put_word_number(text, b"context t", thread as u64)?;
+    put_word_address(text, b" ", low)?;
+    put_word_address(text, b" ", high)?;
     text.extend_from_slice(b"\n")?;
     Ok(())
 }
@@ -141,10 +132,8 @@ fn put_reserved(text: &mut Vec<u8>, reserved: u64, limit: u64) -> Result<(), All
     ensures { OnOk result (text.new.items ≡ text.old.items
         ++ line (codes "reserved" ∷ decimal reserved ∷ codes "limit" ∷ decimal limit ∷ [])) }
 {
-    text.extend_from_slice(b"reserved ")?;
-    put_number(text, reserved)?;
-    text.extend_from_slice(b" limit ")?;
-    put_number(text, limit)?;
+    put_word_number(text, b"reserved ", reserved)?;
+    put_word_number(text, b" limit ", limit)?;
     text.extend_from_slice(b"\n")?;
     Ok(())
 }

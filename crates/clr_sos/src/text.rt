@@ -27,6 +27,34 @@ pub(crate) fn put_number(text: &mut Vec<u8>, v: u64) -> Result<(), AllocError>
     Ok(())
 }
 
+/// Puts a text and a decimal number behind it at the end.
+#[inline(always)]
+pub(crate) fn put_word_number(text: &mut Vec<u8>, word: &[u8], v: u64) -> Result<(), AllocError>
+    ensures { OnOk result (text.new.items ≡ (text.old.items ++ word.now) ++ decimal v) }
+{
+    text.extend_from_slice(word)?;
+    put_number(text, v)
+}
+
+/// Puts a text and 16 hexadecimal digits behind it at the end.
+#[inline(always)]
+pub(crate) fn put_word_address(text: &mut Vec<u8>, word: &[u8], v: u64) -> Result<(), AllocError>
+    ensures { OnOk result (text.new.items ≡ (text.old.items ++ word.now) ++ hex16 v) }
+{
+    text.extend_from_slice(word)?;
+    put_address(text, v)
+}
+
+/// Puts two texts at the end.
+#[inline(always)]
+pub(crate) fn put_words(text: &mut Vec<u8>, first: &[u8], second: &[u8]) -> Result<(), AllocError>
+    ensures { OnOk result (text.new.items ≡ (text.old.items ++ first.now) ++ second.now) }
+{
+    text.extend_from_slice(first)?;
+    text.extend_from_slice(second)?;
+    Ok(())
+}
+
 /// Puts a place at the end: `null` for 0, else 16 hexadecimal digits.
 pub(crate) fn put_place(text: &mut Vec<u8>, place: u64) -> Result<(), AllocError>
     ensures { OnOk result (text.new.items ≡ text.old.items ++ place_text place) }

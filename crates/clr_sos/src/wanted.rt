@@ -79,7 +79,10 @@ impl Wanted {
         ensures { (test : ℕ → Bool) → AnswersAt (λ place answer. F.post live.now place answer) test item.now
             → result ≡ is_wanted self.now test item.now }
     {
-        self.fits(item) && has_life(self.life, item, live)
+        if !self.fits(item) {
+            return false;
+        }
+        has_life(self.life, item, live)
     }
 
     // Whether an item is of a type and a size that are asked for.

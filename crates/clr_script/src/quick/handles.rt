@@ -4,43 +4,28 @@ ghost use Rattle.clr_model.specs.LineGrammar.{local_words, IsHandleForm};
 ghost use Rattle.clr_model.specs.ReplyText.{kind_word};
 ghost use Rattle.clr_script.specs.Fronts.{behind, SpellsBehind};
 
+use crate::cut::strip;
 use crate::quick::digits::{last_handle, last_local, take_local};
 use clr_model::Command;
 use clr_types::Kind;
-
-// Which of the two weak kinds it is whose word begins with `weak`, and what is behind that word.
-#[inline]
-fn take_weak(text: &[u8]) -> (Kind, &[u8])
-    ensures { codes "weak" ++ text.now ≡ kind_word result.0 ++ result.1.now }
-{
-    match text {
-        [b'l', b'o', b'n', b'g', rest @ ..] => (Kind::WeakLong, rest),
-        _ => (Kind::Weak, text),
-    }
-}
-
-// The kind whose word begins with `depen`, if it goes on so, and what is behind that word.
-#[inline]
-fn take_dependent(text: &[u8]) -> Option<(Kind, &[u8])>
-    ensures { IfSome result (λ p. codes "depen" ++ text.now ≡ kind_word p.0 ++ p.1.now) }
-{
-    match text {
-        [b'd', b'e', b'n', b't', rest @ ..] => Some((Kind::Dependent, rest)),
-        _ => None,
-    }
-}
 
 // The kind of the next word, and what is behind it.
 #[inline]
 fn take_kind(text: &[u8]) -> Option<(Kind, &[u8])>
     ensures { IfSome result (λ p. text.now ≡ (32 ∷ kind_word p.0) ++ p.1.now) }
 {
-    match text {
-        [b' ', b's', b't', b'r', b'o', b'n', b'g', rest @ ..] => Some((Kind::Strong, rest)),
-        [b' ', b'p', b'i', b'n', b'n', b'e', b'd', rest @ ..] => Some((Kind::Pinned, rest)),
-        [b' ', b'w', b'e', b'a', b'k', rest @ ..] => Some(take_weak(rest)),
-        [b' ', b'd', b'e', b'p', b'e', b'n', rest @ ..] => take_dependent(rest),
-        _ => None,
+    if let Some(rest) = strip(text, b" strong") {
+        Some((Kind::Strong, rest))
+    } else if let Some(rest) = strip(text, b" pinned") {
+        Some((Kind::Pinned, rest))
+    } else if let Some(rest) = strip(text, b" weaklong") {
+        Some((Kind::WeakLong, rest))
+    } else if let Some(rest) = strip(text, b" weak") {
+        Some((Kind::Weak, rest))
+    } else if let Some(rest) = strip(text, b" dependent") {
+        Some((Kind::Dependent, rest))
+    } else {
+        None
     }
 }
 

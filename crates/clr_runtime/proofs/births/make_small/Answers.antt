@@ -22,7 +22,7 @@ use Rattle.clr_runtime.proofs.RuntimeKept.{owed_left, spent_fits}
 use Rattle.clr_runtime.proofs.TablesKept.{birth_tables}
 use Rattle.clr_runtime.specs.declared.rooms.NoRoom.{NoRoom}
 use Rattle.clr_model.specs.declared.Refusal.TheVariants.{Oom}
-use Rattle.clr_runtime.proofs.Counted.{full-room, refused-as}
+use Rattle.clr_runtime.proofs.Counted.{full-room, made-not-refused, refused-as}
 use Rattle.clr_runtime.proofs.births.make_small.Goals as goal
 use Rattle.clr_runtime.proofs.births.make_small.Goals.{After-register_entry, In_default}
 
@@ -180,4 +180,4 @@ returns-in-Err-clause-grew c = λ oom. c.in-Err.ensures.grew
     (refused-as c.refusal_of.result Oom oom)))
 
 pub returns-clause-grew : goal.returns-clause-grew
-returns-clause-grew c = λ oom. absurd cc
+returns-clause-grew c = λ oom. absurd (made-not-refused _ Oom oom)

@@ -10,7 +10,7 @@ returns-clause-tables c =
     let options = c.args.options in
     let first = c.in_ok-heap.ensures in
     let covered = c.cover_segments.new in
-    let told = c.in_ok-cover_segments.ensures in
+    let told = c.in-Ok.ensures in
     λ rows. subst (λ (h : HeapView). AreTablesOf rows h covered.cards covered.bricks) (sym first)
     (tables-opening rows options.segment options.limit c.requires.segment_aligned covered.cards covered.bricks
     told.unnamed

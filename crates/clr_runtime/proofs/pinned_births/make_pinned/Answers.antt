@@ -10,7 +10,7 @@ use Rattle.clr_model.specs.declared.Refusal.TheVariants.{Oom}
 use Rattle.clr_runtime.specs.PinnedBirths.{IsMeasuredPinned}
 use Rattle.clr_runtime.specs.RuntimeView.{seen}
 use Rattle.clr_runtime.specs.declared.rooms.NoRoom.{NoRoom}
-use Rattle.clr_runtime.proofs.Counted.{full-room, refused-as}
+use Rattle.clr_runtime.proofs.Counted.{full-room, made-not-refused, refused-as}
 use Rattle.clr_runtime.proofs.IndexKept.{index_kept}
 use Rattle.clr_runtime.proofs.KindTables.{kind_tables}
 use Rattle.clr_runtime.proofs.PinnedBirthDone.{HasPinnedPlace, pinned_born, pinned_kept}
@@ -111,4 +111,4 @@ returns-in-Err-clause-grew c = λ oom. c.in-Err.ensures.grew
     (refused-as c.refusal_of.result Oom oom)))
 
 pub returns-clause-grew : goal.returns-clause-grew
-returns-clause-grew c = λ oom. absurd cc
+returns-clause-grew c = λ oom. absurd (made-not-refused _ Oom oom)

@@ -8,7 +8,10 @@ use Rattle.clr_model.proofs.RoomFollows.{room_own}
 use Rattle.clr_runtime.specs.Rooms.{attempt_of}
 use Rattle.clr_runtime.specs.RuntimeView.{seen}
 use Rattle.clr_runtime.specs.Slides.{Grew}
+use Rattle.clr_heap.specs.declared.heap.segments.AcquireFault.TheVariants.{OverLimit}
 use Rattle.clr_runtime.specs.declared.parts.Parts.{Parts}
+use Rattle.clr_runtime.specs.declared.rooms.NoRoom.TheVariants.{Acquire}
+use Rattle.clr_runtime.proofs.Counted.{made-not-refused}
 use Rattle.clr_runtime.proofs.RuntimeKept.{small_enough}
 use Rattle.clr_runtime.proofs.rooms.make_room.Goals as goal
 
@@ -21,7 +24,7 @@ returns-then-fits_in_context-clause-room c =
     (sym c.fits_in_context.ensures ∙ c.if-fits_in_context.true)
 
 pub returns-then-fits_in_context-clause-grew : goal.returns-then-fits_in_context-clause-grew
-returns-then-fits_in_context-clause-grew c = λ full. absurd cc
+returns-then-fits_in_context-clause-grew c = λ full. absurd (made-not-refused tt (Acquire OverLimit) full)
 
 pub find_room-requires-clause-idle : goal.find_room-requires-clause-idle
 find_room-requires-clause-idle c =

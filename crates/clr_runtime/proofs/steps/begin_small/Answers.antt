@@ -13,7 +13,7 @@ use Rattle.clr_runtime.proofs.NamesChecked.{may_run}
 use Rattle.clr_runtime.proofs.StepsSeen.{step-seen}
 use Rattle.clr_runtime.specs.declared.rooms.NoRoom.{NoRoom}
 use Rattle.clr_model.specs.declared.Refusal.TheVariants.{Oom}
-use Rattle.clr_runtime.proofs.Counted.{full-room, refused-as}
+use Rattle.clr_runtime.proofs.Counted.{full-room, made-not-refused, refused-as}
 use Rattle.clr_runtime.proofs.steps.begin_small.Goals as goal
 use Rattle.clr_runtime.proofs.steps.begin_small.Goals.{In_default}
 
@@ -81,4 +81,4 @@ returns-in-Err-clause-grew c = λ oom. c.in-Err.ensures.grew
     (refused-as c.refusal_of.result Oom oom)))
 
 pub returns-clause-grew : goal.returns-clause-grew
-returns-clause-grew c = λ oom. absurd cc
+returns-clause-grew c = λ oom. absurd (made-not-refused tt Oom oom)

@@ -5,14 +5,9 @@ use Rattle.clr_sos.proofs.handles.put_handle.Goals as goal
 pub returns : goal.returns
 returns c =
     rw (
-      c.in_ok-extend_from_slice-5.ensures.items,
+      c.in_ok-extend_from_slice.ensures.items,
       c.in_ok-put_second.ensures,
       c.in_ok-put_place.ensures,
-      c.in_ok-extend_from_slice-4.ensures.items,
-      c.in_ok-extend_from_slice-3.ensures.items,
-      c.in_ok-extend_from_slice-2.ensures.items,
-      c.in_ok-put_number.ensures,
-      c.in_ok-extend_from_slice.ensures.items,
-      c.kind_text.ensures,
+      c.in_ok-put_name.ensures,
     )
     (handle_parts _ _ _ _ _)

@@ -7,13 +7,10 @@ use Rattle.clr_sos.proofs.listing_counts.put_tally.Goals as goal
 pub returns : goal.returns
 returns c =
     rw (
-      c.in_ok-extend_from_slice-5.ensures.items,
-      c.in_ok-extend_from_slice-4.ensures.items,
-      c.in_ok-extend_from_slice-3.ensures.items,
-      c.in_ok-put_number-2.ensures,
-      c.in_ok-extend_from_slice-2.ensures.items,
-      c.in_ok-put_number.ensures,
       c.in_ok-extend_from_slice.ensures.items,
+      c.in_ok-put_words.ensures,
+      c.in_ok-put_word_number-2.ensures,
+      c.in_ok-put_word_number.ensures,
       c.in_ok-put_address.ensures,
       c.mt.ensures,
       c.name.ensures,

@@ -10,12 +10,10 @@ use Rattle.clr_sos.proofs.queues.put_queued.Goals as goal
 pub returns : goal.returns
 returns c =
     rw (
-      c.in_ok-extend_from_slice-5.ensures.items,
-      c.in_ok-extend_from_slice-4.ensures.items,
-      c.in_ok-extend_from_slice-3.ensures.items,
-      c.in_ok-put_address.ensures,
-      c.in_ok-extend_from_slice-2.ensures.items,
       c.in_ok-extend_from_slice.ensures.items,
+      c.in_ok-put_words-2.ensures,
+      c.in_ok-put_address.ensures,
+      c.in_ok-put_words.ensures,
       c.name.ensures,
     )
     (queued_parts c.args.text.now.items c.args.word.now (hex16 c.args.place) _

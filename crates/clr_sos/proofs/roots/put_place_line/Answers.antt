@@ -5,9 +5,8 @@ use Rattle.clr_sos.proofs.roots.put_place_line.Goals as goal
 pub returns : goal.returns
 returns c =
     rw (
-      c.in_ok-extend_from_slice-3.ensures.items,
-      c.in_ok-extend_from_slice-2.ensures.items,
       c.in_ok-extend_from_slice.ensures.items,
+      c.in_ok-put_words.ensures,
       c.in_ok-put_address.ensures,
       c.name.ensures,
       type-told c.args.view.now c.args.place c.object_item-item.result c.object_item-item.ensures,

@@ -5,16 +5,12 @@ use Rattle.clr_sos.proofs.segments.put_segment.Goals as goal
 pub returns : goal.returns
 returns c =
     rw (
-      c.in_ok-extend_from_slice-6.ensures.items,
-      c.in_ok-put_boundaries.ensures,
-      c.in_ok-put_number.ensures,
-      c.in_ok-extend_from_slice-5.ensures.items,
-      c.in_ok-put_address-2.ensures,
-      c.in_ok-extend_from_slice-4.ensures.items,
-      c.in_ok-extend_from_slice-3.ensures.items,
-      c.in_ok-extend_from_slice-2.ensures.items,
-      c.in_ok-put_address.ensures,
       c.in_ok-extend_from_slice.ensures.items,
+      c.in_ok-put_boundaries.ensures,
+      c.in_ok-put_word_number.ensures,
+      c.in_ok-put_word_address-2.ensures,
+      c.in_ok-put_words.ensures,
+      c.in_ok-put_word_address.ensures,
       c.kind_text.ensures,
     )
     (segment_parts _ _ _ _ _ _)

@@ -20,39 +20,39 @@ use Rattle.clr_runtime.proofs.runtime.Runtime.with_mark_stack.Goals.{After-new-5
 -- its world
 abbrev made_world : After-new-5 → World
 made_world c =
-    let made = c.in-Ok-Ok-Ok-Ok in
+    let roots = c.in-Ok-first_roots.roots in
     record {
-      rows = made.types;
-      heap = made.space.heap;
-      locals = made.roots.locals.items;
-      handles = made.roots.handles;
-      entries = made.roots.finals.entries;
-      ready = made.roots.finals.ready;
+      rows = c.in-Ok.types;
+      heap = c.in-Ok-first_space.space.heap;
+      locals = roots.locals.items;
+      handles = roots.handles;
+      entries = roots.finals.entries;
+      ready = roots.finals.ready;
     }
 
 -- nothing lies ahead
 abbrev made_ahead : After-new-5 → Ahead
 made_ahead c = record {
-  compacts_large = c.in-Ok-Ok-Ok-Ok.workshop.compacts_large;
+  compacts_large = c.in-Ok-first_workshop.workshop.compacts_large;
   background = c.new-5.result;
 }
 
 made_nothing : (c : After-new-5) → made_ahead c ≡ nothing_ahead
 made_nothing c = λ j. record {
-  compacts_large = c.in-Ok-Ok-Ok-Ok.ensures'''.compacts_large j;
+  compacts_large = c.in-Ok-first_workshop.ensures.compacts_large j;
   background = c.new-5.ensures j;
 }
 
 first : (c : After-new-5) → IsFirst (made_world c) c.args.options.segment c.args.options.limit
 first c =
-    let made = c.in-Ok-Ok-Ok-Ok in
+    let roots = c.in-Ok-first_roots.ensures in
     record {
-      rows = made.ensures;
-      heap = made.ensures'.heap;
-      locals = made.ensures''.locals;
-      handles = made.ensures''.handles;
-      entries = ap (λ (q : Queues). q.entries) made.ensures''.finals;
-      ready = ap (λ (q : Queues). q.ready) made.ensures''.finals;
+      rows = c.in-Ok.ensures;
+      heap = c.in-Ok-first_space.ensures.heap;
+      locals = roots.locals;
+      handles = roots.handles;
+      entries = ap (λ (q : Queues). q.entries) roots.finals;
+      ready = ap (λ (q : Queues). q.ready) roots.finals;
     }
 
 pub returns : goal.returns
@@ -61,9 +61,10 @@ returns c = new_stands (made_world c) c.new-4.result c.new-4.ensures (made_ahead
 
 pub invariant_of-result : goal.invariant_of-result
 invariant_of-result c =
-    let made = c.in-Ok-Ok-Ok-Ok in
-    let space = made.space in
-    let empty = made.ensures'.heap in
+    let rows = c.in-Ok.types in
+    let space = c.in-Ok-first_space.space in
+    let empty = c.in-Ok-first_space.ensures.heap in
+    let workshop = c.in-Ok-first_workshop.ensures in
     let options = c.requires.lawful in
     record {
       shown = new_shown (made_world c) c.new-4.result c.new-4.ensures (made_ahead c) (made_nothing c)
@@ -71,19 +72,20 @@ invariant_of-result c =
       heap = subst IsHeap (sym empty)
           (kept_opening c.args.options.segment c.args.options.limit options.segment_aligned options.segment_least
           options.segment_greatest options.limit_least options.limit_greatest).heap;
-      tables = tables-carded space.cards c.new-4.result space.bricks made.types space.heap
-          (made.ensures'.tables made.types);
+      tables = tables-carded space.cards c.new-4.result space.bricks rows space.heap
+          (c.in-Ok-first_space.ensures.tables rows);
       owed = none_owed c.new-4.result c.new-4.ensures _;
-      finalizers = none_told c.new-4.result c.new-4.ensures made.types;
-      index = subst (λ (i : Option (List Piece)). IsIndex made.types space.heap i) (sym made.ensures'''.young)
-          (first_index young_items made.types space.heap c.args.options.segment _ options.segment_aligned
-          made.ensures empty refl);
-      large = subst (λ (i : Option (List Piece)). IsKindIndex Large made.types space.heap i) (sym c.new-2.ensures)
-          (first_index (kind_items Large) made.types space.heap c.args.options.segment _ options.segment_aligned
-          made.ensures empty refl);
-      pinned = subst (λ (i : Option (List Piece)). IsKindIndex Pinned made.types space.heap i) (sym c.new-3.ensures)
-          (first_index (kind_items Pinned) made.types space.heap c.args.options.segment _ options.segment_aligned
-          made.ensures empty refl);
+      finalizers = none_told c.new-4.result c.new-4.ensures rows;
+      index = subst (λ (i : Option (List Piece)). IsIndex rows space.heap i) (sym workshop.young)
+          (first_index young_items rows space.heap c.args.options.segment _ options.segment_aligned
+          c.in-Ok.ensures empty refl);
+      large = subst (λ (i : Option (List Piece)). IsKindIndex Large rows space.heap i) (sym c.new-2.ensures)
+          (first_index (kind_items Large) rows space.heap c.args.options.segment _ options.segment_aligned
+          c.in-Ok.ensures empty refl);
+      pinned = subst (λ (i : Option (List Piece)). IsKindIndex Pinned rows space.heap i) (sym c.new-3.ensures)
+          (first_index (kind_items Pinned) rows space.heap c.args.options.segment _ options.segment_aligned
+          c.in-Ok.ensures empty refl);
       limit = ap (λ (h : HeapView). h.limit) empty;
-      ready = ready_empty made.roots.handles _ made.ensures''.handles made.ensures'''.saved made.ensures'''.spare;
+      ready = ready_empty c.in-Ok-first_roots.roots.handles _ c.in-Ok-first_roots.ensures.handles workshop.saved
+          workshop.spare;
     }

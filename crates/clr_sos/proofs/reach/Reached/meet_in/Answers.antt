@@ -1,7 +1,7 @@
 -- An object gets its bit and an entry, where it has none.
 use Rattle.std.proofs.Common.{set, sym, ◌∙◌}
 use Rattle.clr_sos.proofs.Seen.{met_law, met_room, met_rooms, met_seen, numbered}
-use Rattle.clr_sos.proofs.Searching.{listed-push, search_more}
+use Rattle.clr_sos.proofs.Searching.{grown-push, grown-refl, listed-push, search_more}
 use Rattle.clr_sos.proofs.reach.Reached.meet_in.Goals as goal
 
 pub info-requires : goal.info-requires
@@ -56,3 +56,11 @@ returns-else-not-has-clause-met c =
     c.info.result c.index_mut-bits.result.now c.requires.search.room
     (numbered c.args.view.now c.requires.sound c.args.place c.requires.stands) c.requires.segment
     c.info.ensures.value c.index_mut-bits.ensures.value) ∙ sym c.has.ensures ∙ c.if-not-has.false)
+
+pub returns-in_ok-push-clause-grown : goal.returns-in_ok-push-clause-grown
+returns-in_ok-push-clause-grown c =
+    rw c.in_ok-push.ensures.items
+    (grown-push c.args.self.now.entries.items (record { place = c.args.place; origin = c.args.origin }))
+
+pub returns-else-not-has-clause-grown : goal.returns-else-not-has-clause-grown
+returns-else-not-has-clause-grown c = grown-refl c.args.self.now.entries.items

@@ -1,0 +1,74 @@
+"""Tests of command lines, with the program that CLRHEAP names: run this file.
+
+Tested is which words say a command. What the commands do, and with which options, the crates' own tests and the stored
+scripts tell.
+"""
+import os
+import subprocess
+import sys
+import unittest
+
+sys.dont_write_bytecode = True
+
+PROGRAM = os.environ.get("CLRHEAP")
+USAGE = 2
+# Each line's words stand between single spaces; an empty word is a word, too.
+SILENT = [
+    "", " run", "run ", "run run", "RUN", "ru", "IMAGE", "images", "inspects", "help", "--help", "-h", "--version",
+    "-V", "-- run", "--b0 5 run", "run help", "run --help", "run -h", "run --version", "run -V", "run 5", "run -- 5",
+    "run -- --", "run -- --b0 5", "run --b0", "run --b0=", "run --b0 ", "run --b0 --", "run --b0 -- 5",
+    "run --b0 --b1 5", "run --b0 5 --b0 5", "run --b0=5 --b0 6", "run --b0=5 --b0=5", "run --b0 +5", "run --b0 05",
+    "run --b0 -5", "run --b0 5x", "run --b0 18446744073709551616", "run --b 5", "run -b0 5", "run --large",
+    "run --large=", "run --large 85000 --large 85000", "run --large 84999", "run --large 16773121",
+    "run --large 258049 --segment 262144", "run --segment 262144 --large 262144",
+    "run --segment 67108864 --large 67104769", "run --large 18446744073709551615", "run --b0 1073741825",
+    "run --b1 1073741825", "run --b2 1073741825", "run --bl 1073741825", "run --compact 101", "run --limit 33554431",
+    "run --limit 1073741825", "run --limit 524288", "run --segment 258048", "run --segment 262143",
+    "run --segment 262145", "run --segment 67112960", "run --segment 262144 --limit 524287",
+    "run --limit 524287 --segment 262144", "soak", "soak 1", "soak -- 1", "soak 1 2 3", "soak 1 2 -- 3",
+    "soak 1 -- 2 --", "soak 1 0", "soak 1 1000001", "soak 4294967296 1", "soak 01 2", "soak +1 2", "soak x 2",
+    "soak 1 2 --compact 101", "soak 1 2 --large 84999", "soak 1 2 --b0 1 --b0 1", "soak --b0 1 2", "image 5",
+    "image run", "image -- 5", "image -- --b0 5", "image --b0", "image --b0=", "image --b0 --", "image --b0 05",
+    "image --b0 5 --b0 5", "image --large 84999", "image --name 5", "image --help", "-- image", "inspect 5",
+    "inspect x", "inspect inspect", "inspect migrate", "inspect -- --", "inspect -- 5", "inspect --b0 5",
+    "inspect --b0=5", "inspect --help", "inspect -h", "inspect ", "-- inspect", "migrate 5",
+    "migrate --limit 1073741824", "migrate --b0=5", "migrate -- x", "migrate --version", "migrate -V",
+    "migrate inspect", "--b0 5 migrate",
+]
+SAID = [
+    "run", "run --", "run --b0 0", "run --b0=0 --", "run --b0=1073741824", "run --b1 0", "run --b1 1073741824",
+    "run --b2 0", "run --b2 1073741824", "run --bl 0", "run --bl 1073741824", "run --compact 0", "run --compact 100",
+    "run --limit 33554432", "run --limit=1073741824", "run --segment 262144", "run --segment 67108864",
+    "run --segment 262144 --limit 524288", "run --limit 524288 --segment=262144", "run --large 85000",
+    "run --large=100000", "run --large 16773120", "run --large 258048 --segment 262144",
+    "run --segment 67108864 --large 67104768",
+    "run --large 90000 --compact 7 --bl=6 --b2 5 --b1=4 --b0 3 --segment=266240 --limit 532480", "image", "image --",
+    "image --b0 0", "image --b0=7 --",
+    "image --large 90000 --compact 7 --bl=6 --b2 5 --b1=4 --b0 3 --segment=266240 --limit 532480", "inspect",
+    "inspect --", "migrate", "migrate --", "soak 1 2", "soak 0 1", "soak -- 1 2", "soak 1 -- 2", "soak 1 2 --",
+    "soak --b0 5 1 2", "soak 1 --b0=5 2", "soak 1 2 --b0 5", "soak --b0 5 1 -- 2", "soak --large 258048 1 2",
+]
+
+
+@unittest.skipUnless(PROGRAM, "CLRHEAP names no program")
+class CommandLines(unittest.TestCase):
+    def ran(self, words):
+        return subprocess.run([PROGRAM, *words], stdin=subprocess.DEVNULL, capture_output=True, check=False)
+
+    def test_no_words_say_nothing(self):
+        self.assertEqual(self.ran([]).returncode, USAGE)
+
+    def test_what_says_nothing(self):
+        for line in SILENT:
+            with self.subTest(line=line):
+                ran = self.ran(line.split(" "))
+                self.assertEqual((ran.returncode, ran.stdout), (USAGE, b""))
+
+    def test_what_says_a_command(self):
+        for line in SAID:
+            with self.subTest(line=line):
+                self.assertNotEqual(self.ran(line.split(" ")).returncode, USAGE)
+
+
+if __name__ == "__main__":
+    unittest.main()

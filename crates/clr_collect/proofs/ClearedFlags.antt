@@ -12,7 +12,7 @@ use Rattle.clr_types.proofs.ChangedLists.{into_filter, IsIn-map, out_of_filter}
 use Rattle.clr_types.proofs.ListMembers.{any-from, any-in, any-map, any-on, in_append, map-on}
 use Rattle.clr_types.proofs.RisingLists.{in_cons}
 use Rattle.clr_heap.specs.View.{HeapView, IsHeap, word_of}
-use Rattle.clr_heap.proofs.Rewrite.{SameShape-refl, SameShape-stored}
+use Rattle.clr_heap.proofs.Rewrite.{SameShape-refl, SameShape-stored, shaped_heap}
 use Rattle.clr_model.specs.Machine.{Object}
 use Rattle.clr_model.specs.Updates.{with_flag_of}
 use Rattle.clr_model.proofs.NamedWell.{eqb_sym}
@@ -22,7 +22,6 @@ use Rattle.clr_view.specs.Marks.{Marked}
 use Rattle.clr_view.specs.Memory.{is_left, is_left_name, is_marked}
 use Rattle.clr_view.specs.SlotValues.{StandsAt}
 use Rattle.clr_view.specs.View.{AreFreeHeads, IsHeld, layout_in, objects_in}
-use Rattle.clr_mark.proofs.Remarking.{keeps_heap}
 use Rattle.clr_collect.specs.Collecting.{AllLeft, HasUnflagged, unflagged}
 
 -- ---- Booleans
@@ -169,7 +168,7 @@ module _ (left : ℕ → Bool) where
 -- a flag is a word
 flag_keeps_heap : (h : HeapView) (p : ℕ) (flag : Bool) → IsHeap h → IsHeap (with_flag_at h p flag)
 flag_keeps_heap h p flag =
-    keeps_heap h (with_flag_at h p flag)
+    shaped_heap h (with_flag_at h p flag)
     (SameShape-stored h h (p - 8) (flagged flag (word_of h (p - 8))) (SameShape-refl h))
 
 module _ (rows : List TypeRow) (old : HeapView) (g : ℕ) where

@@ -5,6 +5,7 @@ use Rattle.clr_types.specs.Types.{TypeRow}
 use Rattle.clr_bricks.specs.Bricks.{entry_at}
 use Rattle.clr_covers.specs.Covers.{CoverView}
 use Rattle.clr_heap.specs.View.{first_of, frame, HeapView, IsHeap, last_of, SameShape, segment_at, word_of}
+use Rattle.clr_heap.proofs.Rewrite.{shaped_heap}
 use Rattle.clr_model.specs.Compaction.{Move}
 use Rattle.clr_view.specs.View.{objects_in}
 use Rattle.clr_generations.specs.Laws.{AreEntered, BrickLaw, IsBrickOf}
@@ -12,7 +13,6 @@ use Rattle.clr_moves.specs.Moves.{part_of, takes}
 use Rattle.clr_moves.specs.declared.planned.Planned.{Planned}
 use Rattle.clr_moves.specs.Objects.{AreRemembered}
 use Rattle.clr_moves.specs.Overlaid.{HoldsPlan}
-use Rattle.clr_moves.proofs.Kept.{heap-kept}
 use Rattle.clr_pinq.specs.declared.entry.PinEntry.{PinEntry}
 use Rattle.clr_plugs.specs.BrickEntries.{BricksView}
 use Rattle.clr_compact.specs.Compacted.{HasCompacted, part_items}
@@ -81,7 +81,7 @@ module _ (rows : List TypeRow) (old planned_heap : HeapView) (covers : BricksVie
       (words : Rewrites (cleared (part_items rows mid (Generations g) (length mid.segments))) (word_of mid)
       (word_of fin)) where
     fin_heap : IsHeap fin
-    fin_heap = heap-kept now fin shape (heap-bounds now mid.start1 mid.start0 mid_heap)
+    fin_heap = shaped_heap now fin shape (heap-bounds now mid.start1 mid.start0 mid_heap)
 
     -- the same heap with the boundaries that were
     abbrev clean : HeapView

@@ -5,6 +5,7 @@ use Rattle.clr_types.specs.Types.{TypeRow}
 use Rattle.clr_bricks.specs.Bricks.{entry_at}
 use Rattle.clr_covers.specs.Covers.{CoverView}
 use Rattle.clr_heap.specs.View.{first_of, frame, HeapView, IsHeap, SameShape, segment_at, word_of}
+use Rattle.clr_heap.proofs.Rewrite.{shaped_heap}
 use Rattle.clr_model.specs.Compaction.{Move}
 use Rattle.clr_view.specs.View.{objects_in}
 use Rattle.clr_generations.specs.Laws.{AreEntered, BrickLaw, IsBrickOf}
@@ -12,7 +13,6 @@ use Rattle.clr_moves.specs.Moves.{part_of, takes}
 use Rattle.clr_moves.specs.Objects.{IsUntouched}
 use Rattle.clr_moves.specs.Overlaid.{HoldsPlan}
 use Rattle.clr_moves.specs.declared.condemned.Condemned.TheVariants.{LargeSegments}
-use Rattle.clr_moves.proofs.Kept.{heap-kept}
 use Rattle.clr_pinq.specs.declared.entry.PinEntry.{PinEntry}
 use Rattle.clr_plugs.specs.BrickEntries.{BricksView}
 use Rattle.clr_compact.specs.Compacted.{ArePartsWalkable, HasCompacted, part_items}
@@ -39,7 +39,7 @@ module _ (rows : List TypeRow) (old planned_heap : HeapView) (covers : BricksVie
       (words : Rewrites (cleared (part_items rows mid LargeSegments (length mid.segments))) (word_of mid)
       (word_of fin)) where
     fin_heap : IsHeap fin
-    fin_heap = heap-kept mid fin shape mid_heap
+    fin_heap = shaped_heap mid fin shape mid_heap
 
     -- generations begin where they did
     pub start1_same : fin.start1 ≡ planned_heap.start1

@@ -15,6 +15,7 @@ use Rattle.clr_types.proofs.RisingLists.{all_at}
 use Rattle.clr_types.proofs.SortedLists.{out_of_sorted_by}
 use Rattle.clr_heap.specs.Parts.{item_piece}
 use Rattle.clr_heap.specs.View.{frame, heap_items, HeapView, IsHeap, word_of}
+use Rattle.clr_heap.proofs.Rewrite.{shaped_heap}
 use Rattle.clr_model.specs.Compaction.{Move, moved_by, Plug, plug_end, plugs_of, survivors_in}
 use Rattle.clr_model.specs.Lawful.{IsLaid}
 use Rattle.clr_model.specs.Lookups.{object_piece, pieces}
@@ -29,7 +30,6 @@ use Rattle.clr_model.proofs.Relaid.{free-in-pieces}
 use Rattle.clr_fitting.specs.Steps.{fitted}
 use Rattle.clr_fitting.proofs.FitMoves.{below_stays}
 use Rattle.clr_fitting.proofs.TwoSteps.{stays_laid}
-use Rattle.clr_mark.proofs.Remarking.{keeps_heap}
 use Rattle.clr_view.specs.Memory.{IsMemoryOf}
 use Rattle.clr_view.specs.View.{is_free, is_object, IsHeld, object_in, objects_in}
 use Rattle.clr_view.proofs.Listed.{listed-sized}
@@ -140,7 +140,7 @@ module _ (rows : List TypeRow) (old new : HeapView) (n : Machine) (kept : ℕ �
           (map (moved_object V) (objects_in rows old))
           (subst (λ (os : List Object). IsIn (object_in rows (word_of new) i) os) made.objects present)) in
           let there : IsIn o n.objects = subst (λ (os : List Object). IsIn o os) (sym memory.objects) mine in
-          let size = listed-sized rows new i (keeps_heap old new made.shape heap) made.held l in
+          let size = listed-sized rows new i (shaped_heap old new made.shape heap) made.held l in
           let piece : object_piece rows (object_in rows (word_of new) i) ≡ item_piece i =
           (λ k. record { place = i.place; size = sym size k }) in
           let gone : object_piece n.types (slid_object V o) ≡ item_piece i =

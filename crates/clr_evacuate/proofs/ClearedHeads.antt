@@ -8,8 +8,8 @@ use Rattle.clr_types.specs.Types.{TypeRow}
 use Rattle.clr_types.specs.declared.item.Item.{Item}
 use Rattle.clr_heap.specs.View.{frame, heap_items, HeapView, IsHeap, stored, word_of}
 use Rattle.clr_heap.proofs.Framing.{SameShape-trans}
-use Rattle.clr_heap.proofs.Rewrite.{SameShape-refl, SameShape-stored}
-use Rattle.clr_mark.proofs.Remarking.{keeps_heap, same_frame}
+use Rattle.clr_heap.proofs.Rewrite.{SameShape-refl, SameShape-stored, shaped_heap}
+use Rattle.clr_mark.proofs.Remarking.{same_frame}
 use Rattle.clr_view.specs.Clean.{AreClean}
 use Rattle.clr_view.specs.View.{AreFreeHeads, free_among, is_free, is_object, IsHeld, KeepsObjects, layout_in}
 use Rattle.clr_view.specs.View.{objects_in}
@@ -143,7 +143,7 @@ module _ (rows : List TypeRow) (h : HeapView) (heap : IsHeap h) (held : IsHeld r
 module _ (rows : List TypeRow) (old new : HeapView) (Here : ℕ → Type 0) (heap : IsHeap old) (held : IsHeld rows old)
     (f : AreCleared rows old new Here) where
   pub cleared_heap : IsHeap new
-  cleared_heap = keeps_heap old new f.shape heap
+  cleared_heap = shaped_heap old new f.shape heap
 
   pub cleared_layout : layout_in rows new ≡ layout_in rows old
   cleared_layout =

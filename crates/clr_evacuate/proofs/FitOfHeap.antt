@@ -13,6 +13,7 @@ use Rattle.clr_types.proofs.SortedLists.{into_sorted_by, out_of_sorted_by, risin
 use Rattle.clr_heap.specs.Parts.{item_piece}
 use Rattle.clr_heap.specs.View.{first_of, heap_items, HeapView, IsHeap, items_between, last_of, no_rests}
 use Rattle.clr_heap.specs.View.{segment_at, sight}
+use Rattle.clr_heap.proofs.Rewrite.{shaped_heap}
 use Rattle.clr_model.specs.Compaction.{Move, moved_by, Plug}
 use Rattle.clr_model.specs.Fitting.{Fit, fit, is_moved, is_older_item, older_items}
 use Rattle.clr_model.specs.Lawful.{IsLaid}
@@ -26,7 +27,6 @@ use Rattle.clr_fitting.proofs.TwoSteps.{fitted_object, stays_laid}
 use Rattle.clr_view.specs.Memory.{IsMemoryOf, TestsMarks}
 use Rattle.clr_view.specs.View.{AreFreeHeads, free_in, is_free, IsHeld, layout_in, objects_in}
 use Rattle.clr_view.proofs.Listings.{heap-rise}
-use Rattle.clr_mark.proofs.Remarking.{keeps_heap}
 use Rattle.clr_sweep.proofs.LayoutSwept.{free-rise}
 use Rattle.clr_sweep.proofs.SurvivorsSwept.{listed-from, seen}
 use Rattle.clr_moves.proofs.PlannedMoves.{memory-seen}
@@ -150,7 +150,7 @@ module _ (rows : List TypeRow) (h : HeapView) (base : Machine) (heap : IsHeap h)
         free-rises =
             free-rise (filter is_free (heap_items rows new))
             (filter-rises is_free (λ (i : Item). i.place) (heap_items rows new)
-            (heap-rise rows new made.carried.held.walkable (keeps_heap h new made.carried.shape heap)))
+            (heap-rise rows new made.carried.held.walkable (shaped_heap h new made.carried.shape heap)))
 
         frees : by_place (others ++ map item_piece made.gone)
             ≡ by_place (others ++ map survivor_piece (filter goes (survivors m 1 keep)))

@@ -18,8 +18,8 @@ use Rattle.clr_heap.specs.Memories.{word_address}
 use Rattle.clr_heap.specs.Parts.{item_at}
 use Rattle.clr_heap.specs.View.{frame, heap_items, HeapView, IsHeap, word_of}
 use Rattle.clr_heap.proofs.Framing.{SameShape-trans}
+use Rattle.clr_heap.proofs.Rewrite.{shaped_heap}
 use Rattle.clr_generations.specs.Laws.{BrickLaw}
-use Rattle.clr_mark.proofs.Remarking.{keeps_heap}
 use Rattle.clr_model.specs.Compaction.{Move, moved_by}
 use Rattle.clr_model.specs.Fitting.{is_moved}
 use Rattle.clr_model.specs.Lawful.{IsLaid}
@@ -205,7 +205,7 @@ module _ (rows : List TypeRow) (old view carried : HeapView) (table : FinMap nat
       (moved_object V o, in_carried o i, pinned_stays o i k row here pinned (sym at) ∙ at)
 
   carried_heap : IsHeap carried
-  carried_heap = keeps_heap view carried f.made.shape (keeps_heap old view f.pins.shape f.heap)
+  carried_heap = shaped_heap view carried f.made.shape (shaped_heap old view f.pins.shape f.heap)
 
   module _ (new : HeapView) (back : HasPins rows carried new table 1 65536 false) where
     -- HEADERS are those of before

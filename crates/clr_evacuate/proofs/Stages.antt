@@ -9,8 +9,8 @@ use Rattle.clr_covers.specs.Covers.{CoverView}
 use Rattle.clr_generations.specs.Tables.{AreCardsOf}
 use Rattle.clr_heap.specs.View.{frame, heap_items, HeapView, IsHeap, word_of}
 use Rattle.clr_heap.proofs.Framing.{SameShape-trans}
-use Rattle.clr_heap.proofs.Rewrite.{SameShape-refl}
-use Rattle.clr_mark.proofs.Remarking.{keeps_heap, same_frame}
+use Rattle.clr_heap.proofs.Rewrite.{SameShape-refl, shaped_heap}
+use Rattle.clr_mark.proofs.Remarking.{same_frame}
 use Rattle.clr_view.specs.View.{free_among, IsHeld, layout_in}
 use Rattle.clr_view.proofs.Standing.{mt_in}
 use Rattle.clr_view.proofs.Unmarked.{stands-kept}
@@ -71,7 +71,7 @@ forwarded_alike rows old new before after Here There to from f = record {
 module _ (rows : List TypeRow) (old new : HeapView) (before after : List (CoverView ℕ)) (Here : ℕ → Type 0)
     (heap : IsHeap old) (held : IsHeld rows old) (f : IsForwarded rows old new before after Here) where
   pub forwarded_heap : IsHeap new
-  forwarded_heap = keeps_heap old new f.shape heap
+  forwarded_heap = shaped_heap old new f.shape heap
 
   pub forwarded_frame : frame new ≡ frame old
   forwarded_frame = same_frame old new f.shape

@@ -12,10 +12,10 @@ use Rattle.clr_heap.specs.View.{CanWalk, first_of, HasItem, heap_items, HeapView
 use Rattle.clr_heap.specs.View.{last_of, listing, no_rests, SameShape, sight, word_of}
 use Rattle.clr_heap.proofs.Addresses.{index_is_segment}
 use Rattle.clr_heap.proofs.Framing.{below_top_at, lawful_at}
-use Rattle.clr_heap.proofs.Rewrite.{holes_same}
+use Rattle.clr_heap.proofs.Rewrite.{holes_same, shaped_heap}
 use Rattle.clr_heap.proofs.Spelling.{place-item_at}
 use Rattle.clr_heap.proofs.Walking.{walk_item}
-use Rattle.clr_mark.proofs.Remarking.{keeps_heap, same_segments}
+use Rattle.clr_mark.proofs.Remarking.{same_segments}
 use Rattle.clr_view.specs.View.{IsHeld}
 use Rattle.clr_view.proofs.Listed.{listed-head, listed-spelled}
 use Rattle.clr_view.proofs.Standing.{listed_from}
@@ -64,7 +64,7 @@ module _ (rows : List TypeRow) (old now : HeapView) (k p e : ℕ) (heap : IsHeap
         let here = r.among i (subst (λ (is : List Item). IsIn i is) (sym step.items) first) in
         let listed : IsIn i (heap_items rows now) =
         subst (λ (is : List Item). IsIn i is) (sym items) (listed_from rows old k i inside here) in
-        let heap_now = keeps_heap old now shape heap in
+        let heap_now = shaped_heap old now shape heap in
         let place = place-item_at rows (word_of old) p in
         let same : item_at rows (word_of now) p ≡ i =
         ap (item_at rows (word_of now)) (sym place) ∙ sym (listed-spelled rows now i heap_now held_now listed).0 in
@@ -125,7 +125,7 @@ can_read rows old now k p heap held inside none shape held_now items walking bel
     let least = at.least in
     let within = at.within in
     let low = walking.up in
-    let heap_now = keeps_heap old now shape heap in
+    let heap_now = shaped_heap old now shape heap in
     let same = same_segments old now shape in
     let inside_now : k < length now.segments = omega (arith, same, inside) in
     let start : first_of now k ≡ first_of old k = ap (λ (g : HeapView). first_of g k) shape.others in

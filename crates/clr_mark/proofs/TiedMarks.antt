@@ -6,6 +6,7 @@ use Rattle.std.proofs.lemmas.Bool.{true≢false}
 use Rattle.clr_types.specs.Types.{TypeRow}
 use Rattle.clr_types.specs.declared.handle.Handle.{Handle}
 use Rattle.clr_heap.specs.View.{HeapView, IsHeap}
+use Rattle.clr_heap.proofs.Rewrite.{shaped_heap}
 use Rattle.clr_model.specs.Machine.{Object}
 use Rattle.clr_model.specs.Reach.{Reach, SlotNames}
 use Rattle.clr_view.specs.View.{IsHeld}
@@ -16,7 +17,7 @@ use Rattle.clr_mark.specs.Ties.{Draws, IsCondemnedStart, IsCondemnedTarget, IsSt
 use Rattle.clr_mark.proofs.Graying.{leads_back, leads_on, same_condemned}
 use Rattle.clr_mark.proofs.Held.{keeps_held, remarked_back}
 use Rattle.clr_mark.proofs.ReachParts.{reach_iff}
-use Rattle.clr_mark.proofs.Remarking.{keeps_heap, keeps_objects, keeps_stands}
+use Rattle.clr_mark.proofs.Remarking.{keeps_objects, keeps_stands}
 use Rattle.clr_mark.proofs.Rooting.{all_condemned}
 
 -- ---- one step
@@ -67,7 +68,7 @@ module _ (rows : List TypeRow) (old new : HeapView) (heap : IsHeap old) (held : 
 module _ (rows : List TypeRow) (old new : HeapView) (heap : IsHeap old) (held : IsHeld rows old)
     (r : IsRemarked rows old new) where
   back_heap : IsHeap new
-  back_heap = keeps_heap old new r.shape heap
+  back_heap = shaped_heap old new r.shape heap
 
   back_held : IsHeld rows new
   back_held = keeps_held rows old new heap held r

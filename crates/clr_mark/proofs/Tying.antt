@@ -12,6 +12,7 @@ use Rattle.clr_handles.specs.Places.{names_from}
 use Rattle.clr_handles.specs.Tables.{Table}
 use Rattle.clr_handles.specs.Tops.{HasNone}
 use Rattle.clr_heap.specs.View.{HeapView, IsHeap, word_of}
+use Rattle.clr_heap.proofs.Rewrite.{shaped_heap}
 use Rattle.clr_types.specs.Kinds.{is_dependent}
 use Rattle.clr_model.specs.Reach.{follows, Reach, SecondOf, starts}
 use Rattle.clr_view.specs.Marks.{has_mark, Marked}
@@ -29,7 +30,7 @@ use Rattle.clr_mark.proofs.Graying.{leads_back, leads_on, reach_in, reach_on, re
 use Rattle.clr_mark.proofs.Graying.{same_condemned}
 use Rattle.clr_mark.proofs.Held.{keeps_held}
 use Rattle.clr_mark.proofs.Laws.{settled_marked}
-use Rattle.clr_mark.proofs.Remarking.{keeps_heap, keeps_stands, stands_before}
+use Rattle.clr_mark.proofs.Remarking.{keeps_stands, stands_before}
 use Rattle.clr_mark.proofs.TargetRoots.{names_below, same_row}
 use Rattle.clr_mark.proofs.ReachParts.{iff_trans, reach_iff}
 use Rattle.clr_mark.proofs.TiedMarks.{draws_same, handles_on, leads_draws, leads_same, tied_same}
@@ -223,7 +224,7 @@ module _ (rows : List TypeRow) (h now : HeapView) (m mark : MarkerView) (handles
       let g = m.oldest in
       let oldest : mark.oldest ≡ g = ap (λ (n : MarkerView). n.oldest) r.marker in
       let q = r.reached.remarked in
-      let now_heap = keeps_heap h now q.shape heap in
+      let now_heap = shaped_heap h now q.shape heap in
       let now_held = keeps_held rows h now heap held q in
       let D : ℕ → Type 0 = λ b. is_tie_due now b row ≡ true in
       let due = due_parts now g row (subst D oldest is_due) in

@@ -20,6 +20,7 @@ use Rattle.clr_heap.specs.View.{segment_at, sight, word_of}
 use Rattle.clr_heap.proofs.Framing.{lawful_at}
 use Rattle.clr_heap.proofs.Spelling.{item_size, Spells-le}
 use Rattle.clr_heap.proofs.Staying.{segment_order}
+use Rattle.clr_heap.proofs.Rewrite.{shaped_heap}
 use Rattle.clr_model.specs.Compaction.{Move}
 use Rattle.clr_bricks.specs.Bricks.{entry_at}
 use Rattle.clr_plugs.specs.BrickEntries.{BricksView}
@@ -86,23 +87,6 @@ module _ (rows : List TypeRow) (h : HeapView) (bricks : BricksView) (g : Condemn
         omega (arith, up, start)
 
 -- ---- what stays
-
--- a heap stays lawful where words alone change
-pub heap-kept : (old now : HeapView) → SameShape old now → IsHeap old → IsHeap now
-heap-kept old now shape heap = subst IsHeap (sym shape.others) (record {
-  memories = shape.memories ∙ heap.memories;
-  segments = heap.segments;
-  highest = heap.highest;
-  disjoint = heap.disjoint;
-  below_top = heap.below_top;
-  one_ephemeral = heap.one_ephemeral;
-  ephemeral_last = heap.ephemeral_last;
-  top_aligned = heap.top_aligned;
-  top_small = heap.top_small;
-  within_limit = heap.within_limit;
-  limit_small = heap.limit_small;
-  threads = heap.threads;
-})
 
 -- the moves of parts depend on which segments have one
 moves-same : (old now : HeapView) (g : Condemned) (parts : ℕ → PlannedPart) (lasts : ℕ → ℕ) (t n : ℕ)
@@ -376,7 +360,7 @@ pub agrees-shape : (old now : HeapView) (segment low : ℕ) → SameShape old no
 agrees-shape old now segment low shape words =
     let same = ap (λ (h : HeapView). h.segments) shape.others in
     record {
-      heap = heap-kept old now shape;
+      heap = shaped_heap old now shape;
       shape = shape.memories;
       others = shape.others ∙ ap (λ (ss : List SegInfo). record old { memories = now.memories; segments = ss })
           (sym same);

@@ -20,6 +20,7 @@ use Rattle.clr_generations.specs.Tables.{AreBricksOf, AreCardsOf}
 use Rattle.clr_generations.specs.Tidy.{IsTidy}
 use Rattle.clr_generations.specs.declared.space.Space.{Space}
 use Rattle.clr_heap.specs.View.{frame, HeapView, IsHeap}
+use Rattle.clr_heap.proofs.Rewrite.{shaped_heap}
 use Rattle.clr_model.specs.Compaction.{moved_by}
 use Rattle.clr_model.specs.Lookups.{handle_rows, is_pinned}
 use Rattle.clr_model.specs.Machine.{Machine, Object}
@@ -27,7 +28,6 @@ use Rattle.clr_model.specs.Reach.{SlotNames}
 use Rattle.clr_model.proofs.HandleTables.{value-among}
 use Rattle.clr_model.proofs.MovedPlaces.{pinned_stays}
 use Rattle.clr_view.specs.Memory.{is_left, is_marked, is_reached_by, IsLeft}
-use Rattle.clr_mark.proofs.Remarking.{keeps_heap}
 use Rattle.clr_view.specs.SlotValues.{StandsAt}
 use Rattle.clr_view.specs.View.{objects_in}
 use Rattle.clr_view.proofs.LeftNames.{name-is-place}
@@ -126,7 +126,7 @@ module _ (rows : List TypeRow) (old new : Space) (roots : Roots) (g : ℕ) (entr
 
   -- words alone have changed
   pub ready-heap : IsHeap new.heap
-  ready-heap = keeps_heap p.view new.heap p.plan.overlaid.shape p.plan.overlaid.heap
+  ready-heap = shaped_heap p.view new.heap p.plan.overlaid.shape p.plan.overlaid.heap
 
   pub null-stays : moved_by p.plan.moves 0 ≡ 0
   null-stays =

@@ -7,9 +7,9 @@ use Rattle.clr_types.specs.Types.{TypeRow}
 use Rattle.clr_types.specs.declared.handle.Handle.{Handle}
 use Rattle.clr_generations.specs.Laws.{BrickLaw}
 use Rattle.clr_heap.specs.View.{frame, HeapView, IsHeap}
+use Rattle.clr_heap.proofs.Rewrite.{shaped_heap}
 use Rattle.clr_model.specs.Machine.{Object}
 use Rattle.clr_view.specs.View.{AreFreeHeads, IsHeld, objects_in}
-use Rattle.clr_mark.proofs.Remarking.{keeps_heap}
 use Rattle.clr_sweep.specs.SweptLarge.{HasSweptLarge}
 use Rattle.clr_survivors.specs.Phases.{HasSettled}
 use Rattle.clr_survivors.specs.Pins.{HasPins}
@@ -48,7 +48,7 @@ module _ (rows : List TypeRow) (old new : HeapView) (table : FinMap nat_cmp Hand
       settled-has (AreFreeHeads rows) bare (λ swept. swept.free_heads bare)
 
   pub heap-settled : IsHeap old → IsHeap new
-  heap-settled heap = settled-has IsHeap (keeps_heap old e.bare e.pins.shape heap) (λ swept. swept.heap)
+  heap-settled heap = settled-has IsHeap (shaped_heap old e.bare e.pins.shape heap) (λ swept. swept.heap)
 
   pub held-settled : IsHeld rows new
   held-settled = settled-has (IsHeld rows) e.pins.held (λ swept. swept.held)

@@ -34,7 +34,6 @@ use Rattle.clr_view.specs.View.{objects_in}
 use Rattle.clr_view.specs.World.{IsNullOrStands, IsWorldOf}
 use Rattle.clr_view.proofs.LeftNames.{name-is-place}
 use Rattle.clr_sweep.proofs.SurvivorsSwept.{seen}
-use Rattle.clr_mark.proofs.Remarking.{keeps_heap}
 use Rattle.clr_moves.specs.Moves.{IsInPlug, start_of}
 use Rattle.clr_moves.specs.Objects.{is_in_parts, is_spared}
 use Rattle.clr_moves.specs.Overlaid.{HoldsPlan, MayGo}
@@ -48,6 +47,7 @@ use Rattle.clr_moves.proofs.PlannedMoves.{seen-laid}
 use Rattle.clr_moves.proofs.FromMachine.{number_of}
 use Rattle.clr_types.proofs.SegmentFacts.{between-stands}
 use Rattle.clr_heap.specs.View.{segment_at}
+use Rattle.clr_heap.proofs.Rewrite.{shaped_heap}
 use Rattle.clr_pinq.specs.declared.entry.PinEntry.{PinEntry}
 use Rattle.clr_survivors.specs.Large.{CanSlide, HasPlannedSlide, HasSlidBy}
 use Rattle.clr_survivors.specs.Phases.{plan_of}
@@ -181,7 +181,7 @@ module _ (s : Stages) (given : IsGiven s) (m : Machine) (p : Plans s m) where
 
   -- words alone have changed
   pub ready-heap : IsHeap s.ready.heap
-  ready-heap = keeps_heap p.view s.ready.heap p.plan.overlaid.shape p.plan.overlaid.heap
+  ready-heap = shaped_heap p.view s.ready.heap p.plan.overlaid.shape p.plan.overlaid.heap
 
   -- what stands in no large segment stays
   pub away-stays : (x : ℕ) → is_in_parts p.view LargeSegments x ≡ false → moved_by p.plan.moves x ≡ x

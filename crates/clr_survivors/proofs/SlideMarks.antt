@@ -11,9 +11,10 @@ use Rattle.clr_types.specs.Types.{TypeRow}
 use Rattle.clr_types.specs.declared.handle.Handle.{Handle}
 use Rattle.clr_types.specs.declared.segment.SegKind.TheVariants.{Large}
 use Rattle.clr_heap.specs.View.{frame, HeapView, IsHeap, word_of}
+use Rattle.clr_heap.proofs.Rewrite.{shaped_heap}
 use Rattle.clr_mark.specs.Marks.{IsRemarked}
 use Rattle.clr_mark.proofs.Held.{keeps_held}
-use Rattle.clr_mark.proofs.Remarking.{keeps_heap, keeps_layout, keeps_objects}
+use Rattle.clr_mark.proofs.Remarking.{keeps_layout, keeps_objects}
 use Rattle.clr_model.specs.Machine.{Machine, Object}
 use Rattle.clr_model.specs.Sweep.{is_in_part}
 use Rattle.clr_view.specs.Clean.{AreClean}
@@ -39,7 +40,7 @@ or-not false = refl
 module _ (rows : List TypeRow) (old marked : HeapView) (heap : IsHeap old) (held : IsHeld rows old)
     (r : IsRemarked rows old marked) where
   pub marked-heap : IsHeap marked
-  marked-heap = keeps_heap old marked r.shape heap
+  marked-heap = shaped_heap old marked r.shape heap
 
   pub marked-held : IsHeld rows marked
   marked-held = keeps_held rows old marked heap held r

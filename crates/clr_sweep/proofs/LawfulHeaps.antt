@@ -1,7 +1,7 @@
 -- A heap stays lawful where its words, its boundaries or a segment's end change.
-use Rattle.std.proofs.Common.{◌≡◌, ℕ, ◌%◌, ◌<◌, ◌≤◌, length, set, refl, sym, ◌∙◌, subst}
+use Rattle.std.proofs.Common.{◌≡◌, ℕ, ◌%◌, ◌<◌, ◌≤◌, length, set, refl, ◌∙◌}
 use Rattle.clr_types.specs.Segments.{ended_at, ephemeral, first_place, reserved_end}
-use Rattle.clr_heap.specs.View.{first_of, frame, HeapView, IsHeap, IsKept, SameShape, segment_at}
+use Rattle.clr_heap.specs.View.{first_of, frame, HeapView, IsHeap, IsKept, segment_at}
 use Rattle.clr_heap.proofs.Changing.{kept_ended}
 
 -- ---- what makes a heap lawful says nothing of where generations begin, nor of words
@@ -22,22 +22,6 @@ bounded_heap h start1 start0 heap = record {
   limit_small = heap.limit_small;
   threads = heap.threads;
 }
-
-pub shaped_heap : (old now : HeapView) → SameShape old now → IsHeap old → IsHeap now
-shaped_heap old now shape heap = subst IsHeap (sym shape.others) (record {
-  memories = shape.memories ∙ heap.memories;
-  segments = heap.segments;
-  highest = heap.highest;
-  disjoint = heap.disjoint;
-  below_top = heap.below_top;
-  one_ephemeral = heap.one_ephemeral;
-  ephemeral_last = heap.ephemeral_last;
-  top_aligned = heap.top_aligned;
-  top_small = heap.top_small;
-  within_limit = heap.within_limit;
-  limit_small = heap.limit_small;
-  threads = heap.threads;
-})
 
 -- ---- the end of a segment moves
 

@@ -16,7 +16,7 @@ use Rattle.clr_heap.specs.View.{segment_at, sight, word_of}
 use Rattle.clr_heap.proofs.Addresses.{index_is_segment}
 use Rattle.clr_heap.proofs.Ends.{ended_here}
 use Rattle.clr_heap.proofs.Framing.{below_top_at, lawful_at}
-use Rattle.clr_heap.proofs.Rewrite.{holes_same, SameShape-refl}
+use Rattle.clr_heap.proofs.Rewrite.{holes_same, SameShape-refl, shaped_heap}
 use Rattle.clr_heap.proofs.Runs.{held_same}
 use Rattle.clr_heap.proofs.Spelling.{Spells-append, Spells-le, Spells-same}
 use Rattle.clr_heap.proofs.Staying.{parts_from}
@@ -31,7 +31,7 @@ use Rattle.clr_sweep.specs.declared.pass.Pass.{Pass}
 use Rattle.clr_sweep.specs.declared.tally.Tally.{Tally}
 use Rattle.clr_view.proofs.FreeHeads.{heads_none}
 use Rattle.clr_sweep.proofs.FreeHeads.{items_of_parts}
-use Rattle.clr_sweep.proofs.LawfulHeaps.{ended_heap, shaped_heap}
+use Rattle.clr_sweep.proofs.LawfulHeaps.{ended_heap}
 use Rattle.clr_sweep.proofs.Passing.{Bounds, bounds, IsHome, IsPassing}
 use Rattle.clr_sweep.proofs.Tallies.{at_most_up, plus-none}
 

@@ -1,10 +1,9 @@
 use Rattle.std.proofs.Common.{◌≡◌, ◌⊎◌, ℕ, ◌+◌, ◌-◌, ◌%◌, ◌<◌, ◌≤◌, length, arith, ap, sym, refl, ◌∙◌, subst, true}
 use Rattle.clr_heap.specs.View.{HeapView, segment_at, word_of}
-use Rattle.clr_heap.proofs.Rewrite.{SameShape-refl}
+use Rattle.clr_heap.proofs.Rewrite.{SameShape-refl, shaped_heap}
 use Rattle.clr_plugs.specs.Info.{HasInfo, IsInfoWord}
 use Rattle.clr_pinq.specs.Queue.{IsPlain, logical}
 use Rattle.clr_moves.specs.Moves.{part_of, takes}
-use Rattle.clr_moves.proofs.Kept.{heap-kept}
 use Rattle.clr_compact.proofs.BeforeParts.{IsPuttingBefore, part_info, part_still, put_more, put_outside, put_plain}
 use Rattle.clr_compact.proofs.BeforeParts.{put_skip, putting_before_begins, takes_still, three_words}
 use Rattle.clr_compact.proofs.before.put_before_parts.Goals as goal
@@ -99,7 +98,7 @@ loop-k-init c = putting_before_begins c.args.heap.now c.args.pins.now.entries c.
 
 pub returns-clause-lawful : goal.returns-clause-lawful
 returns-clause-lawful c =
-    heap-kept c.args.heap.now c.loop-k.heap c.loop-k.invariant.shape c.segments-count.ensures.heap
+    shaped_heap c.args.heap.now c.loop-k.heap c.loop-k.invariant.shape c.segments-count.ensures.heap
 
 pub returns-clause-outside : goal.returns-clause-outside
 returns-clause-outside c = let n = c.segments-count.ensures.count in let l = c.loop-k-test.false in

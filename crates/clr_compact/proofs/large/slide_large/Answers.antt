@@ -1,9 +1,9 @@
 use Rattle.std.proofs.Common.{subst}
 use Rattle.clr_bricks.specs.Bricks.{entry_at}
 use Rattle.clr_heap.specs.View.{frame, HeapView}
+use Rattle.clr_heap.proofs.Rewrite.{shaped_heap}
 use Rattle.clr_generations.specs.Tables.{AreBricksOf}
 use Rattle.clr_moves.specs.declared.condemned.Condemned.TheVariants.{LargeSegments}
-use Rattle.clr_moves.proofs.Kept.{heap-kept}
 use Rattle.clr_compact.proofs.SlidBricks.{mid-bricks}
 use Rattle.clr_compact.proofs.SlidLarge.{slid_walkable, slide_done, slide_enters, slide_law}
 use Rattle.clr_compact.proofs.large.slide_large.Goals as goal
@@ -32,7 +32,7 @@ returns-clause-compacted c = λ view vs plan.
 
 pub returns-clause-lawful : goal.returns-clause-lawful
 returns-clause-lawful c =
-    heap-kept c.slide_plan.new.heap c.enter_whole_parts.new.heap c.enter_whole_parts.ensures.shape
+    shaped_heap c.slide_plan.new.heap c.enter_whole_parts.new.heap c.enter_whole_parts.ensures.shape
     c.slide_plan.ensures.lawful
 
 pub returns-clause-brick_law : goal.returns-clause-brick_law

@@ -1,8 +1,8 @@
 use Rattle.std.proofs.Common.{◌≡◌, ℕ, ◌+◌, ◌-◌, arith, inl, inr, ap, sym, ◌∙◌, subst}
 use Rattle.clr_heap.specs.View.{word_of}
+use Rattle.clr_heap.proofs.Rewrite.{shaped_heap}
 use Rattle.clr_model.specs.Compaction.{Move}
 use Rattle.clr_moves.specs.Moves.{landing_end}
-use Rattle.clr_moves.proofs.Kept.{heap-kept}
 use Rattle.clr_pinq.specs.Queue.{IsPlain, logical}
 use Rattle.clr_plugs.specs.Info.{HasInfo}
 use Rattle.clr_compact.proofs.WholeLanding.{has_last, info-shapes, landed_plain, landed_put}
@@ -21,7 +21,7 @@ words_before-saved-requires-clause-info c =
 
 pub put_before-requires-clause-heap : goal.put_before-requires-clause-heap
 put_before-requires-clause-heap c =
-    heap-kept c.args.heap.now c.slide_plug.new.heap c.slide_plug.ensures.shape c.requires.heap
+    shaped_heap c.args.heap.now c.slide_plug.new.heap c.slide_plug.ensures.shape c.requires.heap
 
 pub put_before-requires-clause-info : goal.put_before-requires-clause-info
 put_before-requires-clause-info c =

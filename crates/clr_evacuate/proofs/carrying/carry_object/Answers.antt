@@ -1,6 +1,6 @@
 use Rattle.std.proofs.Common.{subst}
 use Rattle.clr_heap.proofs.Framing.{SameShape-trans}
-use Rattle.clr_mark.proofs.Remarking.{keeps_heap}
+use Rattle.clr_heap.proofs.Rewrite.{shaped_heap}
 use Rattle.clr_evacuate.specs.Carried.{HasVacated}
 use Rattle.clr_evacuate.proofs.Copying.{carried_head, carried_least, head_kept}
 use Rattle.clr_evacuate.proofs.CarriedHeap.{carried}
@@ -24,6 +24,6 @@ returns-clause-carried c =
 
 pub returns-clause-heap : goal.returns-clause-heap
 returns-clause-heap c =
-    keeps_heap c.args.heap.now c.vacate.new.heap
+    shaped_heap c.args.heap.now c.vacate.new.heap
     (SameShape-trans c.args.heap.now c.copy_object.new.heap c.vacate.new.heap c.copy_object.ensures.shape
     c.vacate.ensures.shape) c.requires.heap

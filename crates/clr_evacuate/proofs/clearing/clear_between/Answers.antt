@@ -1,7 +1,7 @@
 use Rattle.std.proofs.Common.{ℕ, ◌+◌, ◌<◌, ◌≤◌, sym, subst, arith}
 use Rattle.clr_heap.specs.Parts.{item_at}
 use Rattle.clr_heap.specs.View.{last_of, word_of}
-use Rattle.clr_mark.proofs.Remarking.{keeps_heap}
+use Rattle.clr_heap.proofs.Rewrite.{shaped_heap}
 use Rattle.clr_evacuate.proofs.ClearingLoops.{can_clear, clearing_on, clearing_starts, IsClearing}
 use Rattle.clr_evacuate.proofs.clearing.clear_between.Goals as goal
 
@@ -21,7 +21,7 @@ clear_item-place-requires c =
     let within = can.within in
     let end = can.end in
     record {
-      heap = keeps_heap c.args.heap.now c.loop-place.heap c.loop-place.invariant.cleared.shape c.requires.heap;
+      heap = shaped_heap c.args.heap.now c.loop-place.heap c.loop-place.invariant.cleared.shape c.requires.heap;
       held = c.loop-place.invariant.cleared.held;
       head = can.head;
       listed = can.listed;

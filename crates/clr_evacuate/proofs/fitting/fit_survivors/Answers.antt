@@ -7,7 +7,7 @@ use Rattle.clr_generations.specs.Laws.{BrickLaw}
 use Rattle.clr_generations.specs.Tables.{AreBricksOf, AreCardsOf}
 use Rattle.clr_handles.specs.Tops.{pinned_in}
 use Rattle.clr_heap.specs.View.{frame, HeapView}
-use Rattle.clr_mark.proofs.Remarking.{keeps_heap}
+use Rattle.clr_heap.proofs.Rewrite.{shaped_heap}
 use Rattle.clr_model.specs.Compaction.{moved_by}
 use Rattle.clr_model.specs.Lawful.{IsLaid}
 use Rattle.clr_model.specs.Machine.{Machine}
@@ -111,7 +111,7 @@ forward_all-requires-clause-border c =
 pub forward_all-requires-clause-heap : goal.forward_all-requires-clause-heap
 forward_all-requires-clause-heap c =
     let f = some (goal.at.forward_all-requires-clause-heap c).After-carry_unpinned-bytes in
-    keeps_heap c.args.space.now.heap c.carry_unpinned-bytes.new.heap f.made.shape c.requires.tidy.heap
+    shaped_heap c.args.space.now.heap c.carry_unpinned-bytes.new.heap f.made.shape c.requires.tidy.heap
 
 pub returns-then-bytes-gt0-clause-fitted : goal.returns-then-bytes-gt0-clause-fitted
 returns-then-bytes-gt0-clause-fitted c = λ n kept memory laid same tests.
@@ -146,8 +146,8 @@ returns-then-bytes-gt0-clause-tidy c =
     let gone = c.forward_all.ensures in
     let same = ap frame gone.shape.others ∙ ap frame f.made.shape.others in
     record {
-      heap = keeps_heap mid c.forward_all.new.space.heap gone.shape
-          (keeps_heap old mid f.made.shape c.requires.tidy.heap);
+      heap = shaped_heap mid c.forward_all.new.space.heap gone.shape
+          (shaped_heap old mid f.made.shape c.requires.tidy.heap);
       held = gone.held;
       clean = gone.clean c.carry_unpinned-bytes.ensures.clean;
       free_heads = gone.free_heads (moved_by (moves_in f.machine f.kept)) f.made.forwards
@@ -213,7 +213,7 @@ returns-else-bytes-gt0-clause-tidy c =
     let same = ap frame f.made.shape.others in
     let tables = c.requires.tidy.tables in
     record {
-      heap = keeps_heap old mid f.made.shape c.requires.tidy.heap;
+      heap = shaped_heap old mid f.made.shape c.requires.tidy.heap;
       held = f.made.held;
       clean = c.carry_unpinned-bytes.ensures.clean;
       free_heads = still_free_heads rows old mid f.machine f.kept c.carry_unpinned-bytes.result c.requires.tidy.heap

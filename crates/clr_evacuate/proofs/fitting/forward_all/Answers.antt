@@ -6,8 +6,8 @@ use Rattle.clr_types.specs.Segments.{Layout}
 use Rattle.clr_types.specs.declared.item.Item.{Item}
 use Rattle.clr_heap.specs.View.{frame, heap_items, HeapView}
 use Rattle.clr_heap.proofs.Framing.{SameShape-trans}
+use Rattle.clr_heap.proofs.Rewrite.{shaped_heap}
 use Rattle.clr_view.specs.View.{objects_in}
-use Rattle.clr_mark.proofs.Remarking.{keeps_heap}
 use Rattle.clr_evacuate.specs.Forwarding.{HasOlderBorder, IsUnmovedOutside}
 use Rattle.clr_evacuate.proofs.BricksAfter.{bricks_kept}
 use Rattle.clr_evacuate.proofs.ForwardedAll.{leads_on, marks_on, names_on}
@@ -15,7 +15,7 @@ use Rattle.clr_evacuate.proofs.fitting.forward_all.Goals as goal
 
 pub forward_roots-requires-clause-heap : goal.forward_roots-requires-clause-heap
 forward_roots-requires-clause-heap c =
-    keeps_heap c.args.space.now.heap c.forward_slots.new.heap c.forward_slots.ensures.stayed.shape c.requires.heap
+    shaped_heap c.args.space.now.heap c.forward_slots.new.heap c.forward_slots.ensures.stayed.shape c.requires.heap
 
 pub forward_roots-requires-clause-named : goal.forward_roots-requires-clause-named
 forward_roots-requires-clause-named c =

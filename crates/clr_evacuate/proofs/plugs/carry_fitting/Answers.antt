@@ -1,7 +1,7 @@
 use Rattle.std.proofs.Common.{◌≡◌, ℕ, ap, sym, ◌∙◌, subst, Some}
+use Rattle.clr_heap.proofs.Rewrite.{shaped_heap}
 use Rattle.clr_model.specs.Fitting.{lowest_item, older_items}
 use Rattle.clr_view.specs.View.{layout_in}
-use Rattle.clr_mark.proofs.Remarking.{keeps_heap}
 use Rattle.clr_evacuate.specs.FittedRun.{HasFitted}
 use Rattle.clr_evacuate.proofs.FittedRuns.{can_go, hints_after, lowest_is, older_after, still_older}
 use Rattle.clr_evacuate.proofs.OldHomes.{older_home, run_inside}
@@ -85,7 +85,7 @@ returns-in-Some-clause-hints c =
     let carried = c.carry_plug.ensures.carried c.requires.run.0 can in
     hints_after rows h c.carry_plug.new.heap c.requires.run.0 c.args.plug c.in-Some.item
     c.find_lowest-found.ensures.heap c.requires.held c.requires.older c.requires.run.1 there carried
-    (keeps_heap h c.carry_plug.new.heap carried.shape c.find_lowest-found.ensures.heap) c.requires.order can
+    (shaped_heap h c.carry_plug.new.heap carried.shape c.find_lowest-found.ensures.heap) c.requires.order can
     c.find_lowest-found.new.hints.hints c.find_lowest-found.ensures.hints
 
 pub returns-in-Some-clause-heap : goal.returns-in-Some-clause-heap
@@ -97,7 +97,7 @@ returns-in-Some-clause-heap c =
     ∙ sym c.find_lowest-found.ensures.lowest ∙ c.in-Some.is in
     let can = can_go rows h c.requires.run.0 c.args.plug c.in-Some.item c.requires.older c.requires.run.1 e in
     let carried = c.carry_plug.ensures.carried c.requires.run.0 can in
-    keeps_heap h c.carry_plug.new.heap carried.shape c.find_lowest-found.ensures.heap
+    shaped_heap h c.carry_plug.new.heap carried.shape c.find_lowest-found.ensures.heap
 
 pub returns-in-None-clause-heap : goal.returns-in-None-clause-heap
 returns-in-None-clause-heap c = c.find_lowest-found.ensures.heap

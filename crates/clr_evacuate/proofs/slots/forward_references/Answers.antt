@@ -1,8 +1,8 @@
 use Rattle.std.proofs.Common.{◌++◌, ◌∷◌, [], ℕ, List, append-nil, append_assoc, ap, refl, sym, ◌∙◌, subst}
 use Rattle.clr_types.specs.Rising.{IsIn}
 use Rattle.clr_types.specs.declared.item.Item.{Item}
+use Rattle.clr_heap.proofs.Rewrite.{shaped_heap}
 use Rattle.clr_view.proofs.Listed.{listed-known, listed-small}
-use Rattle.clr_mark.proofs.Remarking.{keeps_heap}
 use Rattle.clr_evacuate.specs.Forwarding.{IsForwarded, IsOffsetOf}
 use Rattle.clr_evacuate.proofs.Loops.{next_can, next_done, next_listed, none_done}
 use Rattle.clr_evacuate.proofs.Stages.{forwarded_cards}
@@ -33,7 +33,7 @@ forward_slot-requires c =
     c.loop-offset.invariant.walked ∙ c.into_iter-offset-iterator.ensures.into_iter_gives ∙
     c.slots-offset-items.ensures in
     record {
-      heap = keeps_heap h c.loop-offset.heap f.shape c.requires.heap;
+      heap = shaped_heap h c.loop-offset.heap f.shape c.requires.heap;
       held = f.held;
       listed = subst (λ (is : List Item). IsIn i is) (sym f.items) c.requires.listed;
       object = c.requires.object;

@@ -2,7 +2,7 @@ use Rattle.std.proofs.Common.{◌≡◌, ℕ, ◌+◌, ◌-◌, ◌*◌, List, a
 use Rattle.clr_types.specs.Descriptors.{offsets_from}
 use Rattle.clr_types.specs.Rising.{IsIn}
 use Rattle.clr_types.specs.declared.item.Item.{Item}
-use Rattle.clr_mark.proofs.Remarking.{keeps_heap}
+use Rattle.clr_heap.proofs.Rewrite.{shaped_heap}
 use Rattle.clr_mark.proofs.RunReferences.{run_more}
 use Rattle.clr_view.proofs.SlotReads.{slot-low}
 use Rattle.clr_evacuate.specs.Forwarding.{IsForwarded, IsOffsetOf}
@@ -63,7 +63,7 @@ forward_slot-requires c =
     let walked = run_around first c.args.run.count c.loop-i.i c.loop-i-test.true ∙ sym c.requires.run in
     let f = c.loop-i.invariant in
     record {
-      heap = keeps_heap h c.loop-i.heap f.shape c.requires.heap;
+      heap = shaped_heap h c.loop-i.heap f.shape c.requires.heap;
       held = f.held;
       listed = subst (λ (is : List Item). IsIn i is) (sym f.items) c.requires.listed;
       object = c.requires.object;

@@ -2,7 +2,7 @@ use Rattle.std.proofs.Common.{◌≡◌, ℕ, ◌<◌, ap, subst, arith}
 use Rattle.clr_types.specs.declared.segment.SegInfo.{SegInfo}
 use Rattle.clr_heap.specs.Parts.{item_at}
 use Rattle.clr_heap.specs.View.{first_of, last_of, word_of}
-use Rattle.clr_mark.proofs.Remarking.{keeps_heap}
+use Rattle.clr_heap.proofs.Rewrite.{shaped_heap}
 use Rattle.clr_evacuate.specs.Forwarding.{IsBetween, IsForwarded}
 use Rattle.clr_evacuate.proofs.Loops.{item_done, next_named}
 use Rattle.clr_evacuate.proofs.Stages.{forwarded_cards, forwarded_none}
@@ -38,7 +38,7 @@ forward_item-place-requires c =
     let within = can.within in
     let end = can.end in
     record {
-      heap = keeps_heap h now f.shape c.requires.heap;
+      heap = shaped_heap h now f.shape c.requires.heap;
       held = f.held;
       head = can.head;
       listed = can.listed;

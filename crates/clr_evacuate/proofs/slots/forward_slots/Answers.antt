@@ -1,6 +1,7 @@
 use Rattle.std.proofs.Common.{◌+◌, ◌<◌, length, ap, ◌∙◌, arith}
 use Rattle.clr_heap.specs.View.{HeapView}
-use Rattle.clr_mark.proofs.Remarking.{keeps_heap, same_segments}
+use Rattle.clr_heap.proofs.Rewrite.{shaped_heap}
+use Rattle.clr_mark.proofs.Remarking.{same_segments}
 use Rattle.clr_evacuate.proofs.BricksAfter.{bricks_kept}
 use Rattle.clr_evacuate.proofs.ForwardedObjects.{cards_told, objects_gone}
 use Rattle.clr_evacuate.proofs.Loops.{all_first, IsInFirst, references_named, segment_done, segment_named}
@@ -19,7 +20,7 @@ forward_segment-requires c =
     let heap = c.segments-count.ensures.heap in
     let inside : c.loop-k.k < length h.segments = omega (arith, c.segments-count.ensures.count) in
     record {
-      heap = keeps_heap h c.loop-k.heap f.shape heap;
+      heap = shaped_heap h c.loop-k.heap f.shape heap;
       held = f.held;
       no_contexts = ap (λ (g : HeapView). g.rests) f.shape.others ∙ c.requires.no_contexts;
       in_range = (let same = same_segments h c.loop-k.heap f.shape in omega (arith, same, inside));

@@ -3,8 +3,8 @@ use Rattle.clr_types.specs.Segments.{same_kind}
 use Rattle.clr_types.specs.declared.segment.SegInfo.{SegInfo}
 use Rattle.clr_types.specs.declared.segment.SegKind.TheVariants.{Large}
 use Rattle.clr_heap.specs.View.{segment_at}
+use Rattle.clr_heap.proofs.Rewrite.{shaped_heap}
 use Rattle.clr_mark.proofs.LargeMarks.{large_held, large_marked, large_more, large_over, large_same, large_starts}
-use Rattle.clr_mark.proofs.Remarking.{keeps_heap}
 use Rattle.clr_mark.proofs.large.mark_large.Goals as goal
 use Rattle.clr_mark.proofs.large.mark_large.Goals.{then-is_large, else-is_large}
 
@@ -17,7 +17,7 @@ mark_segment-requires c =
     let same = large_same c.args.types.now c.args.heap.now c.loop-k.heap c.loop-k.k c.segments-count.ensures.heap
     c.requires r in
     record {
-      heap = keeps_heap c.args.heap.now c.loop-k.heap r.remarked.shape c.segments-count.ensures.heap;
+      heap = shaped_heap c.args.heap.now c.loop-k.heap r.remarked.shape c.segments-count.ensures.heap;
       held = large_held c.args.types.now c.args.heap.now c.loop-k.heap c.loop-k.k c.segments-count.ensures.heap
           c.requires r;
       in_range = omega (arith, same, c.segments-count.ensures.count);

@@ -5,8 +5,8 @@ use Rattle.clr_types.specs.declared.segment.SegInfo.{SegInfo}
 use Rattle.clr_heap.specs.Parts.{item_at}
 use Rattle.clr_heap.specs.View.{first_of, last_of, listing, word_of}
 use Rattle.clr_heap.proofs.Spelling.{place-item_at}
+use Rattle.clr_heap.proofs.Rewrite.{shaped_heap}
 use Rattle.clr_mark.specs.LargeMarks.{HasItemMark, with_item_mark}
-use Rattle.clr_mark.proofs.Remarking.{keeps_heap}
 use Rattle.clr_mark.proofs.Held.{keeps_held}
 use Rattle.clr_view.proofs.Standing.{listed_from, standing}
 use Rattle.clr_mark.proofs.Visiting.{at_item, visit_hole, visit_hole_up, visit_item, visited, visiting_starts}
@@ -88,7 +88,7 @@ loop-place-preserved c =
     c.requires.in_range r c.loop-place-test.true l in
     let i = item_at rows (word_of now) p in
     let new = with_item_mark now i in
-    let a = after_mark rows now i (keeps_heap h now r.remarked.shape c.requires.heap)
+    let a = after_mark rows now i (shaped_heap h now r.remarked.shape c.requires.heap)
     (keeps_held rows h now c.requires.heap c.requires.held r.remarked) here.listed in
     let up : (j : Item) → IsIn j (listing rows h c.args.k) → HasItemMark now j → HasItemMark new j =
     λ j m marked o. a.kept j.place (standing rows h c.requires.heap c.requires.held j

@@ -1,8 +1,7 @@
 use Rattle.std.proofs.Common.{◌≡◌, ◌<◌, length, ◌+◌, ap, refl, sym, ◌∙◌, subst}
 use Rattle.clr_heap.specs.View.{first_of, HeapView}
-use Rattle.clr_heap.proofs.Rewrite.{SameShape-refl}
+use Rattle.clr_heap.proofs.Rewrite.{SameShape-refl, shaped_heap}
 use Rattle.clr_types.specs.Segments.{first_place}
-use Rattle.clr_moves.proofs.Kept.{heap-kept}
 use Rattle.clr_plan.proofs.Laid.{lay-can, lay-ends, lay-more, lay-settles, lay-smaller, lay-starts, one, scan-here}
 use Rattle.clr_plan.proofs.Writing.{shape-on}
 use Rattle.clr_plan.proofs.lay.lay_part.Goals as goal
@@ -87,7 +86,7 @@ loop-found-preserved c = (
       c.in-Some.found c.in-Some.ensures.plugs
       (written c.lay_plug.new.heap c.lay_plug.new.bricks c.lay_plug.new.queue c.lay_plug.new.laying.writer)
       c.lay_plug.new.laying.at (first_place c.info.result) same
-      (heap-kept c.loop-found.heap c.lay_plug.new.heap c.lay_plug.ensures.shape l.laying.heap)
+      (shaped_heap c.loop-found.heap c.lay_plug.new.heap c.lay_plug.ensures.shape l.laying.heap)
       c.lay_plug.ensures.settled c.lay_plug.ensures.written c.lay_plug.ensures.brick c.lay_plug.ensures.pushed
       c.lay_plug.ensures.spare c.in-Some.ensures.behind c.lay_plug.ensures.words c.lay_plug.ensures.entries),
 )

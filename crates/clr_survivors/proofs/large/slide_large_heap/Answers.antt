@@ -1,7 +1,7 @@
 use Rattle.std.proofs.Common.{ap, ◌∙◌}
 use Rattle.clr_bricks.specs.Bricks.{entry_at}
 use Rattle.clr_heap.specs.View.{HeapView}
-use Rattle.clr_mark.proofs.Remarking.{keeps_heap}
+use Rattle.clr_heap.proofs.Rewrite.{shaped_heap}
 use Rattle.clr_model.specs.Compaction.{moved_by}
 use Rattle.clr_survivors.proofs.KeptNumbers.{numbers-kept, ready-kept}
 use Rattle.clr_survivors.proofs.Settled.{brick_law-bare}
@@ -112,7 +112,7 @@ returns-clause-tidy c =
     let new = c.set_pins.new.heap in
     let e = c.set_pins.ensures.pins in
     let bricks = c.slide_by_plan.new.space.bricks in
-    let heap = keeps_heap s.moved.heap new e.shape course.went.heap in
+    let heap = shaped_heap s.moved.heap new e.shape course.went.heap in
     record {
       heap = heap;
       held = e.held;

@@ -1,11 +1,11 @@
 use Rattle.std.proofs.Common.{arith}
-use Rattle.clr_mark.proofs.Remarking.{keeps_heap}
+use Rattle.clr_heap.proofs.Rewrite.{shaped_heap}
 use Rattle.clr_survivors.proofs.Pinning.{pins_done, pins_next}
 use Rattle.clr_survivors.proofs.pins.set_pins.Goals as goal
 
 pub set_pin_of-requires-clause-heap : goal.set_pin_of-requires-clause-heap
 set_pin_of-requires-clause-heap c =
-    keeps_heap c.args.heap.now c.loop-number.heap c.loop-number.invariant.0.shape c.ephemeral-near.ensures.heap
+    shaped_heap c.args.heap.now c.loop-number.heap c.loop-number.invariant.0.shape c.ephemeral-near.ensures.heap
 
 pub loop-number-preserved : goal.loop-number-preserved
 loop-number-preserved c =
@@ -13,7 +13,7 @@ loop-number-preserved c =
     let low = c.in-Some.ensures.below c.in-Some.number c.in-Some.handle next.in_use in (
       pins_next c.args.types.now c.args.heap.now c.args.handles.now c.args.low c.args.on c.loop-number.heap
           c.set_pin_of.new.heap c.loop-number.from c.in-Some.number c.in-Some.handle
-          (keeps_heap c.args.heap.now c.loop-number.heap c.loop-number.invariant.0.shape
+          (shaped_heap c.args.heap.now c.loop-number.heap c.loop-number.invariant.0.shape
           c.ephemeral-near.ensures.heap) c.requires.stand c.loop-number.invariant.0 next c.set_pin_of.ensures,
       omega (arith, low),
     )

@@ -1,6 +1,6 @@
 use Rattle.std.proofs.Common.{rules, ◌<◌, subst}
+use Rattle.clr_heap.proofs.Rewrite.{shaped_heap}
 use Rattle.clr_model.specs.Compaction.{moved_by}
-use Rattle.clr_mark.proofs.Remarking.{keeps_heap}
 use Rattle.clr_survivors.proofs.NamesGone.{handles-gone, told}
 use Rattle.clr_survivors.proofs.PartsAbove.{below-stays}
 use Rattle.clr_survivors.proofs.roots.move_handles.Goals as goal
@@ -21,7 +21,7 @@ returns c = record {
       handles-gone _ (moved_by p.moves) c.first_in_parts-low.result
       c.args.handles.now c.relocate_unpinned_from.new.self c.relocate_unpinned_from.ensures null
       (λ place under. below-stays p.rows c.args.heap.now c.args.bricks.now c.args.g p.moves
-      (keeps_heap p.view c.args.heap.now guides.overlaid.shape guides.overlaid.heap) guides.told place
+      (shaped_heap p.view c.args.heap.now guides.overlaid.shape guides.overlaid.heap) guides.told place
       (subst (λ low. place < low) c.first_in_parts-low.ensures under))
       (λ k row moved here answer.
       let say =

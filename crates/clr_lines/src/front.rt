@@ -191,7 +191,7 @@ fn answer_new<'a>(
 }
 
 // The line of thread `t` whose verb stands in front of the text.
-#[inline(always)]
+#[inline]
 fn answer_verb<'a>(
     runtime: &mut Runtime,
     t: u64,
@@ -225,7 +225,7 @@ fn line_window(text: &[u8]) -> &[u8]
 /// Does what the line in front of a text says where it is one of those that scripts are mostly made of, and writes its
 /// reply to the front of `into`. `None` where it is another or none ends in the text, and then nothing changes. No
 /// clause promises `Some`, since a `None` only costs the time of `execute`.
-#[inline(always)]
+#[inline]
 pub fn answer_front(runtime: &mut Runtime, text: &[u8], into: &mut [u8; 256]) -> Option<Answered>
     ensures fits { IfSome result (λ a. a.written ≤ 256) }
     ensures answered { MatchOption result (runtime.new ≡ runtime.old)

@@ -69,7 +69,7 @@ fn refusal_behind(buffer: &mut [u8], at: usize, refusal: &Refusal) -> usize
 
 // Does the line in front of a text where it is one that is done at once, and writes its reply to the front. Gives how
 // much of the text that was, and how long the reply is. Where nothing was done, it was nothing of the text.
-#[inline(always)]
+#[inline]
 fn answer_into(into: &mut [u8], runtime: &mut Runtime, text: &[u8]) -> (usize, usize)
     requires { 256 ≤ length into.old }
     ensures within { result.1 ≤ length into.new }
@@ -90,7 +90,7 @@ fn answer_into(into: &mut [u8], runtime: &mut Runtime, text: &[u8]) -> (usize, u
 // Does the line in front of a text where it is one that is done at once, and writes its reply behind the first `at`
 // bytes. Gives how much of the text that was, and where the reply ends. Where nothing was done, it was nothing of the
 // text.
-#[inline(always)]
+#[inline]
 fn answer_behind(buffer: &mut [u8], at: usize, runtime: &mut Runtime, text: &[u8]) -> (usize, usize)
     requires { at + 256 ≤ length buffer.old }
     ensures within { result.1 ≤ length buffer.new }

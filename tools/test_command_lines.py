@@ -1,9 +1,10 @@
 """Tests of command lines, with the program that CLRHEAP names: run this file.
 
-Tested is which words say a command. What the commands do, and with which options, the crates' own tests and the stored
-scripts tell.
+Tested is which words say a command, and that options say what they should, in each spelling. What the commands do, the
+stored scripts tell.
 """
 import os
+import struct
 import subprocess
 import sys
 import unittest
@@ -12,6 +13,7 @@ sys.dont_write_bytecode = True
 
 PROGRAM = os.environ.get("CLRHEAP")
 USAGE = 2
+OPTIONS = "--limit 532480 --large=90000 --segment 266240 --b0=3 --b1 4 --b2=5 --bl 6 --compact=7"
 # Each line's words stand between single spaces; an empty word is a word, too.
 SILENT = [
     "", " run", "run ", "run run", "RUN", "ru", "IMAGE", "images", "inspects", "help", "--help", "-h", "--version",
@@ -68,6 +70,20 @@ class CommandLines(unittest.TestCase):
         for line in SAID:
             with self.subTest(line=line):
                 self.assertNotEqual(self.ran(line.split(" ")).returncode, USAGE)
+
+    def test_options_of_an_image(self):
+        for options, limit, large, reserved in [("", 268435456, 85000, 16777216), (OPTIONS, 532480, 90000, 266240)]:
+            with self.subTest(options=options):
+                image = self.ran(["image", *options.split()]).stdout
+                words = struct.unpack("<7Q", image[8:64])
+                self.assertEqual((words[0], words[1], words[6]), (limit, large, reserved))
+
+    def test_options_of_a_script(self):
+        told = [self.ran(f"soak 7 20000 {option}".split()).stdout
+                for option in ["", "--b0 3000", "--compact 0", "--compact 100", "--segment 262144"]]
+        self.assertEqual(len(set(told)), len(told))
+        self.assertEqual(self.ran("soak --b0=3000 7 -- 20000".split()).stdout, told[1])
+        self.assertEqual(self.ran("soak 7 --compact=100 20000".split()).stdout, told[3])
 
 
 if __name__ == "__main__":

@@ -7,8 +7,6 @@ pub mod laws;
 mod no_memory;
 mod parser;
 mod settings;
-#[cfg(test)]
-mod tests;
 
 pub use arguments::Arguments;
 pub use command_line::CommandLine;

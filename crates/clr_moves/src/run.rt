@@ -3,7 +3,7 @@ ghost use Rattle.std.specs.Prelude.{◌≡◌, ℕ, ◌+◌, ◌<◌, ◌≤◌,
 ghost use Rattle.clr_heap.specs.View.{segment_at};
 ghost use Rattle.clr_moves.specs.Told.{IsMarkedRun};
 
-use clr_heap::Heap;
+use clr_heap::{Heap, ObjectKind};
 use clr_types::{Types, mark};
 
 /// Where the marked items of segment `k` from the place `from` on end.
@@ -14,12 +14,13 @@ pub fn run_end(heap: &Heap, types: &Types, k: usize, from: u64) -> u64
 {
     let end = heap.info(k).end;
     let mut place = from;
+    let mut known = ObjectKind::none();
     while place < end {
         let mt = heap.word_at(k, place);
         if !mark::is_marked(mt) {
             return place;
         }
-        place += heap.item_of_word(types, k, place, mt).size;
+        place += heap.item_like_word(types, k, place, mt, &mut known).size;
     }
     place
 }

@@ -1,5 +1,5 @@
 // Objects that are like one before: most objects that a walk meets in a row are of few types.
-ghost use Rattle.std.specs.Prelude.{◌≡◌, ◌+◌, ◌<◌, ◌^◌, List};
+ghost use Rattle.std.specs.Prelude.{◌≡◌, ◌+◌, ◌<◌, ◌≤◌, ◌^◌, ℕ, List, length};
 ghost use Rattle.clr_types.specs.Types.{TypeRow};
 ghost use Rattle.clr_heap.specs.Memories.{memory_index};
 ghost use Rattle.clr_heap.specs.ObjectKinds.{IsObjectKind, known_size};
@@ -42,6 +42,24 @@ impl ObjectKind {
     }
 }
 
+// What is known behind an item whose method table word is `mt`: its kind, where it is an object without a length, else
+// what was known.
+#[inline(always)]
+fn kind_behind(types: &Types, found: Item, mt: u64, known: ObjectKind) -> ObjectKind
+    requires number { found.type_id.0 ≤ length types.now }
+    requires known { IsObjectKind types.now known }
+    requires told { (word : ℕ → ℕ) × (a : ℕ) × (found ≡ item_at types.now word a) × (mt ≡ word a) }
+    ensures { IsObjectKind types.now result }
+{
+    if found.type_id.0 == 0 || types.has_length(found.type_id) {
+        return known;
+    }
+    ObjectKind {
+        mt: unmarked(mt),
+        size: found.size,
+    }
+}
+
 impl Heap {
     /// The item that starts at `a`, as `item` tells it. Where it is of the kind that is known, no table is waited for.
     /// Its kind becomes known where it is an object without a length; else what is known stays. That is for speed
@@ -63,12 +81,7 @@ impl Heap {
             };
         }
         let found = self.item(types, a);
-        if found.type_id.0 != 0 && !types.has_length(found.type_id) {
-            *known = ObjectKind {
-                mt: unmarked(mt),
-                size: found.size,
-            };
-        }
+        *known = kind_behind(types, found, mt, *known);
         found
     }
 
@@ -99,12 +112,7 @@ impl Heap {
             };
         }
         let found = self.item_of_word(types, k, a, mt);
-        if found.type_id.0 != 0 && !types.has_length(found.type_id) {
-            *known = ObjectKind {
-                mt: unmarked(mt),
-                size: found.size,
-            };
-        }
+        *known = kind_behind(types, found, mt, *known);
         found
     }
 }

@@ -2,9 +2,9 @@ use Rattle.std.proofs.Common.{ℕ, ◌≤◌, ◌-◌, ◌/◌, length, sym, ap,
 use Rattle.clr_types.specs.Bits.{unmarked}
 use Rattle.clr_types.specs.Types.{mt_of}
 use Rattle.clr_types.specs.declared.item.Item.{Item}
-use Rattle.clr_heap.specs.ObjectKinds.{IsObjectKind, known_size}
+use Rattle.clr_heap.specs.ObjectKinds.{known_size}
 use Rattle.clr_heap.specs.View.{word_of}
-use Rattle.clr_heap.proofs.ObjectKinds.{item-known, item-number, kind-known}
+use Rattle.clr_heap.proofs.ObjectKinds.{item-known, item-number}
 use Rattle.clr_heap.proofs.heap.Heap.item_like.Goals as goal
 
 pub returns-in-Some-clause-item : goal.returns-in-Some-clause-item
@@ -14,16 +14,13 @@ returns-in-Some-clause-item c =
     item-known c.args.types.now (word_of c.args.self.now) c.args.a c.of_mt.result.0 c.in-Some.size c.args.known.now
     c.requires.known (sym c.in-Some.is ∙ c.size_with.ensures ∙ ap (known_size c.args.known.now) word) number
 
-pub has_length-requires : goal.has_length-requires
-has_length-requires c =
+pub kind_behind-requires : goal.kind_behind-requires
+kind_behind-requires c =
     let number = ap (λ (i : Item). i.type_id.0) c.item-found.ensures
     ∙ item-number c.args.types.now (word_of c.args.self.now) c.args.a in
     let P : ℕ → Type 0 = λ n. n ≤ length c.args.types.now in
-    subst P (sym number) c.requires.item.names.known
-
-pub returns-then-not-has_length-clause-known : goal.returns-then-not-has_length-clause-known
-returns-then-not-has_length-clause-known c =
-    let word = c.unmarked-then-not-has_length.ensures ∙ ap unmarked c.word-mt.ensures.value in
-    subst (λ (w : ℕ). IsObjectKind c.args.types.now (record { mt = w; size = c.item-found.result.size })) (sym word)
-    (kind-known c.args.types.now (word_of c.args.self.now) c.args.a c.item-found.result c.item-found.ensures
-    c.if-found-ne0.true (sym c.has_length.ensures ∙ c.if-not-has_length.true))
+    record {
+      number = subst P (sym number) c.requires.item.names.known;
+      known = c.requires.known;
+      told = (word_of c.args.self.now, c.args.a, c.item-found.ensures, c.word-mt.ensures.value);
+    }

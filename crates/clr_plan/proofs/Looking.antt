@@ -1,22 +1,23 @@
 -- What a look at an item tells, and how the run before it goes on.
 use Rattle.std.proofs.Common.{◌≡◌, ℕ, ◌+◌, ◌-◌, ◌^◌, ◌<◌, ◌≤◌, List, [], ◌∷◌, refl, sym, ap, ap₂, subst, ◌∙◌, arith}
-use Rattle.std.proofs.Common.{Bool, true, false, ◌&&◌, ◌==◌, if◌then◌else◌, Option, Some, None}
+use Rattle.std.proofs.Common.{Bool, true, false, not, ◌&&◌, ◌==◌, if◌then◌else◌, Option, Some, None}
 use Rattle.std.specs.Bool.{beq}
-use Rattle.std.proofs.lemmas.Bool.{and_parts, eqb-true}
+use Rattle.std.proofs.lemmas.Bool.{and_parts, eqb-true, ne_eqb}
+use Rattle.clr_types.specs.Bits.{unmarked}
 use Rattle.clr_types.specs.Types.{TypeRow}
 use Rattle.clr_types.specs.declared.item.Item.{Item}
 use Rattle.clr_types.proofs.ChangedLists.{all_imply}
-use Rattle.clr_heap.specs.Memories.{HasWord, memory_index}
+use Rattle.clr_heap.specs.ObjectKinds.{IsObjectKind, known_size}
 use Rattle.clr_heap.specs.Parts.{item_at}
 use Rattle.clr_heap.specs.View.{HeapView, word_of, segment_at}
+use Rattle.clr_heap.specs.declared.kinds.ObjectKind.{ObjectKind}
 use Rattle.clr_heap.proofs.Spelling.{place-item_at}
 use Rattle.clr_view.specs.Marks.{has_mark}
 use Rattle.clr_view.specs.View.{is_object}
 use Rattle.clr_model.specs.Compaction.{Plug, plug_end, plug_of, plugs_of, joined}
-use Rattle.clr_sweep.specs.Dead.{IsDeadKind}
 use Rattle.clr_sweep.specs.SweptItems.{stays}
-use Rattle.clr_sweep.proofs.DeadKinds.{dead-stays}
-use Rattle.clr_plan.specs.Scans.{CanLook, CanScan, survivor_in, kept_plug, is_alike, plugs_between}
+use Rattle.clr_plan.specs.Scans.{CanLook, CanScan, survivor_in, kept_plug, is_alike, plug_alone}
+use Rattle.clr_plan.specs.Scans.{plugs_between}
 use Rattle.clr_plan.specs.Runs.{merged, IsRun, HasRun, HasNext}
 use Rattle.clr_plan.specs.declared.scan.NextPlug.{NextPlug}
 use Rattle.clr_plan.proofs.Scanning.{it, after, AtItem, at_item, survivors-done, survivors-more, survivors-over}
@@ -25,61 +26,46 @@ use Rattle.clr_plan.proofs.GrowingRuns.{beq-from, merged-one, run-grows, run-oth
 
 -- ---- one item
 
-module _ (rows : List TypeRow) (h : HeapView) (k p mt : ℕ) (found : Item) (word : mt ≡ word_of h p)
-    (is : found ≡ item_at rows (word_of h) p) where
-  -- the test of the item and its word tells whether it stays
-  stays-is : stays (word_of h) (item_at rows (word_of h) p) ≡ (is_object found && has_mark mt)
+module _ (rows : List TypeRow) (h : HeapView) (k p mt : ℕ) (object : Bool) (word : mt ≡ word_of h p)
+    (is : object ≡ is_object (item_at rows (word_of h) p)) where
+  -- what the item's word tells is whether it stays
+  stays-is : stays (word_of h) (item_at rows (word_of h) p) ≡ (object && has_mark mt)
   stays-is =
       ap (λ (q : ℕ). is_object (item_at rows (word_of h) p) && has_mark (word_of h q))
       (place-item_at rows (word_of h) p)
-      ∙ ap₂ (λ (i : Item) (w : ℕ). is_object i && has_mark w) (sym is) (sym word)
+      ∙ ap₂ (λ (o : Bool) (w : ℕ). o && has_mark w) (sym is) (sym word)
 
-  pub look-none : (is_object found && has_mark mt) ≡ false
+  pub look-none : (object && has_mark mt) ≡ false
       → ◌≡◌ {A = Option Plug} None (kept_plug h k (item_at rows (word_of h) p))
   look-none off = sym (ap (λ b. if b then Some (plug_of (survivor_in h k (item_at rows (word_of h) p))) else None)
       (stays-is ∙ off))
 
-  -- then the plug of what was found is the one that is kept
-  pub look-some : (is_object found && has_mark mt) ≡ true → (plug : Plug) → plug ≡ plug_of (survivor_in h k found)
+  -- then the plug of its size at its place is the one that is kept
+  pub look-some : (object && has_mark mt) ≡ true → (size : ℕ) → size ≡ (item_at rows (word_of h) p).size
+      → (plug : Plug) → plug ≡ plug_alone h k p size
       → ◌≡◌ {A = Option Plug} (Some plug) (kept_plug h k (item_at rows (word_of h) p))
-  look-some on plug plug-is =
-      ap (λ q. Some q) (plug-is ∙ ap (λ (i : Item). plug_of (survivor_in h k i)) is) ∙ sym (ap
+  look-some on size sized plug plug-is =
+      ap (λ q. Some q) (plug-is ∙ ap₂ (plug_alone h k) (sym (place-item_at rows (word_of h) p)) sized) ∙ sym (ap
       (λ b. if b then Some (plug_of (survivor_in h k (item_at rows (word_of h) p))) else None) (stays-is ∙ on))
 
--- what was found at a place that can be looked at, as the plug of it needs it
-module _ (rows : List TypeRow) (h : HeapView) (k p : ℕ) (found : Item) (is : found ≡ item_at rows (word_of h) p)
-    (can : CanLook rows h k p) where
-  -- it stands there
-  found-place : found.place ≡ p
-  found-place = ap (λ (i : Item). i.place) is ∙ place-item_at rows (word_of h) p
+-- what has the word of a known kind is an object, of the size that is known
+pub known-item : (rows : List TypeRow) (word : ℕ → ℕ) (a size : ℕ) (kind : ObjectKind) → IsObjectKind rows kind
+    → ◌≡◌ {A = Option ℕ} (Some size) (known_size kind (word a))
+    → (true ≡ is_object (item_at rows word a)) × (size ≡ (item_at rows word a).size)
+known-item rows word a size kind known e = go (unmarked (word a) == kind.mt) refl e
+  where
+    some-same : {x y : ℕ} → ◌≡◌ {A = Option ℕ} (Some x) (Some y) → x ≡ y
+    some-same e = cc
 
-  -- its header is a word
-  pub found-header : HasWord h.memories (found.place - 8)
-  found-header = subst (λ (n : ℕ). HasWord h.memories (n - 8)) (sym found-place) can.header
-
-  -- of the segment
-  pub found-header_in : k ≡ memory_index h.memories (found.place - 8)
-  found-header_in = can.header_in ∙ ap (λ (n : ℕ). memory_index h.memories (n - 8)) (sym found-place)
-
-  -- there is room for it below
-  pub found-above : 8 ≤ found.place
-  found-above = let above = can.above in let at = found-place in omega (arith, above, at)
-
-  -- and the item ends below 2^64
-  pub found-room : found.place + found.size < 2 ^ 64
-  found-room =
-      let room = can.room in
-      let at = found-place in
-      let size = ap (λ (i : Item). i.size) is in
-      omega (arith, room, at, size)
-
--- an item of a dead kind isn't kept
-pub look-dead : (rows : List TypeRow) (h : HeapView) (k p mt size : ℕ)
-    → IsDeadKind rows (record { mt = mt; size = size }) → mt ≡ word_of h p
-    → ◌≡◌ {A = Option Plug} None (kept_plug h k (item_at rows (word_of h) p))
-look-dead rows h k p mt size kind word =
-    sym (ap (λ b. if b then Some (plug_of (survivor_in h k (item_at rows (word_of h) p))) else None)
-    (dead-stays rows h p mt size kind word))
+    go : (b : Bool) → (unmarked (word a) == kind.mt) ≡ b
+        → ◌≡◌ {A = Option ℕ} (Some size) (if b then Some kind.size else None)
+        → (true ≡ is_object (item_at rows word a)) × (size ≡ (item_at rows word a).size)
+    go true same e =
+        let here : unmarked (word a) ≡ kind.mt = eqb-true (unmarked (word a)) kind.mt same in (
+          sym (ap not (ne_eqb (item_at rows word a).type_id.0 0 (known.object word a here))),
+          some-same e ∙ sym (known.size word a here),
+        )
+    go false same e = let none : ◌≡◌ {A = Option ℕ} (Some size) None = e in absurd cc
 
 -- a plug is seen exactly where the item stays
 kept-some : (h : HeapView) (k : ℕ) (i : Item) (q : Plug) → ◌≡◌ {A = Option Plug} (Some q) (kept_plug h k i)

@@ -56,3 +56,13 @@ pub record CanLook (rows : List TypeRow) (h : HeapView) (k p : ℕ) : Type 0 whe
 -- the plug that one object is, where it stays
 abbrev pub kept_plug : HeapView → ℕ → Item → Option Plug
 kept_plug h k i = if stays (word_of h) i then Some (plug_of (survivor_in h k i)) else None
+
+-- the plug that an object of this size at a place of segment k is alone
+abbrev pub plug_alone : HeapView → ℕ → ℕ → ℕ → Plug
+plug_alone h k place size = record {
+  start = place;
+  size = size;
+  segment = (segment_at h k).base;
+  generation = generation (frame h) place;
+  pinned = has_pin (word_of h (place - 8));
+}

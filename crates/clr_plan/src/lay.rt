@@ -19,7 +19,7 @@ use crate::scan::next_plug;
 use crate::way::way_of;
 use crate::write::{Home, write_plug};
 use clr_bricks::Bricks;
-use clr_heap::Heap;
+use clr_heap::{Heap, ObjectKind};
 use clr_pinq::PinQueue;
 use clr_plugs::PlanWriter;
 use clr_types::{FIRST_OFFSET, Types};
@@ -111,7 +111,8 @@ pub fn lay_part(
         first: heap.info(k).base + FIRST_OFFSET,
     };
     let mut place = low;
-    while let Some(found) = next_plug(heap, types, k, place, end) {
+    let mut known = ObjectKind::none();
+    while let Some(found) = next_plug(heap, types, k, place, end, &mut known) {
         lay_plug(heap, bricks, queue, laying, home, found.plug);
         place = found.next;
     }

@@ -12,6 +12,7 @@ mod heaps;
 mod kinds;
 mod large;
 mod lay;
+mod look;
 mod pin;
 mod planning;
 mod plug;

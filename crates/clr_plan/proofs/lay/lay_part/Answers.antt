@@ -11,6 +11,7 @@ pub loop-found-init : goal.loop-found-init
 loop-found-init c = (
   SameShape-refl c.args.heap.now,
   refl,
+  c.none-known.ensures c.args.types.now,
   λ old w starts free part can. lay-starts w c.args.types.now
       old (written c.args.heap.now c.args.bricks.now c.args.queue.now c.args.laying.now.writer) c.args.laying.now.at
       starts free part c.args.k c.args.low c.args.end c.args.laying.now.below can,
@@ -24,13 +25,13 @@ info-requires c =
 pub next_plug-requires-clause-in_range : goal.next_plug-requires-clause-in_range
 next_plug-requires-clause-in_range c =
     let (old, w, starts, free, part, can) = c.requires.part in
-    let l = c.loop-found.invariant.2 old w starts free part can in
+    let l = c.loop-found.invariant.3 old w starts free part can in
     subst (λ (h : HeapView). c.args.k < length h.segments) (sym l.laying.words.shape.others) can.plan.among.in_range
 
 pub next_plug-requires-clause-scan : goal.next_plug-requires-clause-scan
 next_plug-requires-clause-scan c =
     let (old, w, starts, free, part, can) = c.requires.part in
-    let l = c.loop-found.invariant.2 old w starts free part can in
+    let l = c.loop-found.invariant.3 old w starts free part can in
     scan-here w c.args.types.now old (written c.args.heap.now c.args.bricks.now c.args.queue.now
     c.args.laying.now.writer) c.args.laying.now.at starts free part c.args.k c.args.low c.args.end
     c.args.laying.now.below can (written c.loop-found.heap c.loop-found.bricks c.loop-found.queue
@@ -39,7 +40,7 @@ next_plug-requires-clause-scan c =
 pub lay_plug-requires-clause-stage : goal.lay_plug-requires-clause-stage
 lay_plug-requires-clause-stage c =
     let (old, w, starts, free, part, can) = c.requires.part in
-    let l = c.loop-found.invariant.2 old w starts free part can in (
+    let l = c.loop-found.invariant.3 old w starts free part can in (
       one w c.args.types.now old (written c.args.heap.now c.args.bricks.now c.args.queue.now c.args.laying.now.writer)
           c.args.laying.now.at starts free part c.args.k c.args.low c.args.end c.args.laying.now.below can
           (written c.loop-found.heap c.loop-found.bricks c.loop-found.queue c.loop-found.laying.writer)
@@ -54,7 +55,7 @@ lay_plug-requires-clause-stage c =
 pub lay_plug-requires-clause-can : goal.lay_plug-requires-clause-can
 lay_plug-requires-clause-can c =
     let (old, w, starts, free, part, can) = c.requires.part in
-    let l = c.loop-found.invariant.2 old w starts free part can in
+    let l = c.loop-found.invariant.3 old w starts free part can in
     lay-can w c.args.types.now old (written c.args.heap.now c.args.bricks.now c.args.queue.now c.args.laying.now.writer)
     c.args.laying.now.at starts free part c.args.k c.args.low c.args.end c.args.laying.now.below can
     (written c.loop-found.heap c.loop-found.bricks c.loop-found.queue c.loop-found.laying.writer)
@@ -64,7 +65,7 @@ lay_plug-requires-clause-can c =
 pub loop-found-smaller : goal.loop-found-smaller
 loop-found-smaller c =
     let (old, w, starts, free, part, can) = c.requires.part in
-    let l = c.loop-found.invariant.2 old w starts free part can in
+    let l = c.loop-found.invariant.3 old w starts free part can in
     lay-smaller w c.args.types.now old (written c.args.heap.now c.args.bricks.now c.args.queue.now
     c.args.laying.now.writer) c.args.laying.now.at starts free part c.args.k c.args.low c.args.end
     c.args.laying.now.below can (written c.loop-found.heap c.loop-found.bricks c.loop-found.queue
@@ -75,8 +76,9 @@ pub loop-found-preserved : goal.loop-found-preserved
 loop-found-preserved c = (
   shape-on c.args.heap.now c.loop-found.heap c.lay_plug.new.heap c.loop-found.invariant.0 c.lay_plug.ensures.shape,
   c.lay_plug.ensures.spans ∙ c.loop-found.invariant.1,
+  c.next_plug.ensures.known,
   λ old w starts free part can.
-      let l = c.loop-found.invariant.2 old w starts free part can in
+      let l = c.loop-found.invariant.3 old w starts free part can in
       let same : first_place c.info.result ≡ first_of old c.args.k = ap first_place c.info.ensures.value
       ∙ ap (λ (h : HeapView). first_of h c.args.k) can.laying.words.shape.others in
       rw c.lay_plug.ensures.below (lay-more w c.args.types.now old (written c.args.heap.now c.args.bricks.now
@@ -93,7 +95,7 @@ loop-found-preserved c = (
 
 pub returns-clause-laid : goal.returns-clause-laid
 returns-clause-laid c = λ old w starts free part can.
-    let l = c.loop-found.invariant.2 old w starts free part can in
+    let l = c.loop-found.invariant.3 old w starts free part can in
     lay-ends w c.args.types.now old (written c.args.heap.now c.args.bricks.now c.args.queue.now
     c.args.laying.now.writer) c.args.laying.now.at starts free part c.args.k c.args.low c.args.end
     c.args.laying.now.below can (written c.loop-found.heap c.loop-found.bricks c.loop-found.queue

@@ -1,5 +1,6 @@
 use Rattle.std.proofs.Common.{◌≡◌, ℕ, ◌-◌, List}
 use Rattle.clr_covers.specs.Covers.{spans}
+use Rattle.clr_heap.specs.ObjectKinds.{IsObjectKind}
 use Rattle.clr_heap.specs.View.{HeapView, SameShape}
 use Rattle.clr_plugs.specs.Plans.{PlannedPart}
 use Rattle.clr_plan.specs.LaidParts.{CanLay}
@@ -10,7 +11,7 @@ use Rattle.clr_plan.proofs.lay.lay_part.Given as goal
 
 abbrev pub invariant-loop-found : goal.invariant-loop-found
 invariant-loop-found l =
-    SameShape l.initial.heap l.heap × (spans l.bricks ≡ spans l.initial.bricks)
+    SameShape l.initial.heap l.heap × (spans l.bricks ≡ spans l.initial.bricks) × IsObjectKind l.types l.known
     × ((old : HeapView) (w : Around) (starts free : List ℕ) (part : PlannedPart)
     (can : CanLay w l.types old (progress (written l.initial.heap l.initial.bricks l.initial.queue
     l.initial.laying.writer) l.initial.laying.at l.initial.laying.below) starts free part (stretch l.k l.low l.end))

@@ -8,14 +8,17 @@ use Rattle.clr_plan.proofs.Looking.{stops-within, seen-at, size-at}
 use Rattle.clr_plan.proofs.scan.whole_run.Goals as goal
 
 pub loop-run-init : goal.loop-run-init
-loop-run-init c = grow-starts c.args.types.now c.args.heap.now c.args.k c.args.end c.args.plug c.requires.run
+loop-run-init c = (
+  grow-starts c.args.types.now c.args.heap.now c.args.k c.args.end c.args.plug c.requires.run,
+  c.requires.known,
+)
 
 pub look-seen-requires-clause-can : goal.look-seen-requires-clause-can
 look-seen-requires-clause-can c =
     let below : plug_end c.loop-run.run < c.args.end = subst (λ n. n < c.args.end) c.end.ensures.value
     c.loop-run-test.true in
     subst (CanLook c.args.types.now c.args.heap.now c.args.k) (sym c.end-in-loop-run.ensures.value)
-    (look_run c.args.types.now c.args.heap.now c.args.k c.args.end c.args.plug c.loop-run.run c.loop-run.invariant
+    (look_run c.args.types.now c.args.heap.now c.args.k c.args.end c.args.plug c.loop-run.run c.loop-run.invariant.0
     below)
 
 pub returns-then-not-is_alike : goal.returns-then-not-is_alike
@@ -29,8 +32,9 @@ returns-then-not-is_alike c =
     c.end-in-loop-run.ensures.value c.in-Some.is c.look-seen.ensures.kept in
     record {
       next = rw c.end-then-not-is_alike.ensures.value (run-differs rows h c.args.k c.args.end c.args.plug c.loop-run.run
-          c.loop-run.invariant below c.in-Some.other seen (sym c.is_alike.ensures ∙ c.if-not-is_alike.true));
+          c.loop-run.invariant.0 below c.in-Some.other seen (sym c.is_alike.ensures ∙ c.if-not-is_alike.true));
       behind = let v = c.end-then-not-is_alike.ensures.value in omega (arith, v);
+      known = c.look-seen.ensures.known;
     }
 
 pub joined-run-requires : goal.joined-run-requires
@@ -42,7 +46,7 @@ joined-run-requires c =
     let seen : ◌≡◌ {A = Option Plug} (Some c.in-Some.other)
     (kept_plug h c.args.k (item_at rows (word_of h) (plug_end c.loop-run.run))) = seen-at rows h c.args.k
     c.end-in-loop-run.ensures.value c.in-Some.is c.look-seen.ensures.kept in
-    let (within, high, longer) = grows-within rows h c.args.k c.args.end c.args.plug c.loop-run.run c.loop-run.invariant
+    let (within, high, longer) = grows-within rows h c.args.k c.args.end c.args.plug c.loop-run.run c.loop-run.invariant.0
     below c.in-Some.other seen in
     omega arith
 
@@ -55,7 +59,7 @@ loop-run-smaller c =
     let seen : ◌≡◌ {A = Option Plug} (Some c.in-Some.other)
     (kept_plug h c.args.k (item_at rows (word_of h) (plug_end c.loop-run.run))) = seen-at rows h c.args.k
     c.end-in-loop-run.ensures.value c.in-Some.is c.look-seen.ensures.kept in
-    let (within, high, longer) = grows-within rows h c.args.k c.args.end c.args.plug c.loop-run.run c.loop-run.invariant
+    let (within, high, longer) = grows-within rows h c.args.k c.args.end c.args.plug c.loop-run.run c.loop-run.invariant.0
     below c.in-Some.other seen in
     let ends : plug_end c.joined-run.result ≡ c.loop-run.run.start + (c.loop-run.run.size + c.in-Some.other.size) =
     ap plug_end c.joined-run.ensures in
@@ -69,9 +73,11 @@ loop-run-preserved c =
     c.loop-run-test.true in
     let seen : ◌≡◌ {A = Option Plug} (Some c.in-Some.other)
     (kept_plug h c.args.k (item_at rows (word_of h) (plug_end c.loop-run.run))) = seen-at rows h c.args.k
-    c.end-in-loop-run.ensures.value c.in-Some.is c.look-seen.ensures.kept in
-    rw c.joined-run.ensures (grows rows h c.args.k c.args.end c.args.plug c.loop-run.run c.loop-run.invariant below
-    c.in-Some.other seen (sym c.is_alike.ensures ∙ c.if-not-is_alike.false))
+    c.end-in-loop-run.ensures.value c.in-Some.is c.look-seen.ensures.kept in (
+      rw c.joined-run.ensures (grows rows h c.args.k c.args.end c.args.plug c.loop-run.run c.loop-run.invariant.0 below
+          c.in-Some.other seen (sym c.is_alike.ensures ∙ c.if-not-is_alike.false)),
+      c.look-seen.ensures.known,
+    )
 
 pub overflow_add-result : goal.overflow_add-result
 overflow_add-result c =
@@ -79,7 +85,7 @@ overflow_add-result c =
     let h = c.args.heap.now in
     let below : plug_end c.loop-run.run < c.args.end = subst (λ n. n < c.args.end) c.end.ensures.value
     c.loop-run-test.true in
-    let room = stops-within rows h c.args.k c.args.end c.args.plug c.loop-run.run c.loop-run.invariant below
+    let room = stops-within rows h c.args.k c.args.end c.args.plug c.loop-run.run c.loop-run.invariant.0 below
     c.look-seen.result.size (size-at rows h c.end-in-loop-run.ensures.value c.look-seen.ensures.size) in
     let at = c.end-in-None.ensures.value in
     omega arith
@@ -94,9 +100,10 @@ returns-in-None c =
     seen-at rows h c.args.k c.end-in-loop-run.ensures.value c.in-None.is c.look-seen.ensures.kept in
     let size = size-at rows h c.end-in-loop-run.ensures.value c.look-seen.ensures.size in
     record {
-      next = run-stops rows h c.args.k c.args.end c.args.plug c.loop-run.run c.loop-run.invariant below seen
+      next = run-stops rows h c.args.k c.args.end c.args.plug c.loop-run.run c.loop-run.invariant.0 below seen
           (c.end-in-None.result + c.look-seen.result.size) (omega (arith, c.end-in-None.ensures.value, size));
       behind = let v = c.end-in-None.ensures.value in omega (arith, v);
+      known = c.look-seen.ensures.known;
     }
 
 pub returns : goal.returns
@@ -105,6 +112,7 @@ returns c =
     omega arith in
     record {
       next = rw c.end-2.ensures.value (run-ends c.args.types.now c.args.heap.now c.args.k c.args.end c.args.plug
-          c.loop-run.run c.loop-run.invariant past);
+          c.loop-run.run c.loop-run.invariant.0 past);
       behind = let v = c.end-2.ensures.value in omega (arith, v);
+      known = c.loop-run.invariant.1;
     }

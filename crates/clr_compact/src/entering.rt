@@ -5,6 +5,7 @@ ghost use Rattle.clr_bricks.specs.Bricks.{entry_at, IsRoot};
 ghost use Rattle.clr_covers.specs.Covers.{is_covered, spans};
 ghost use Rattle.clr_types.specs.Segments.{reserved_end};
 ghost use Rattle.clr_heap.specs.Memories.{memory_index};
+ghost use Rattle.clr_heap.specs.ObjectKinds.{IsObjectKind};
 ghost use Rattle.clr_heap.specs.Parts.{item_at, unmarked};
 ghost use Rattle.clr_heap.specs.View.{CanWalk, first_of, frame, HasItem, HeapView, IsHeap, items_between, last_of};
 ghost use Rattle.clr_heap.specs.View.{no_rests, SameShape, segment_at, sight, stored, word_of};
@@ -18,7 +19,7 @@ ghost use Rattle.clr_generations.specs.Laws as laws;
 ghost use Rattle.clr_generations.specs.Tables.{AreBricksOf};
 
 use clr_bricks::Bricks;
-use clr_heap::{Heap, Item};
+use clr_heap::{Heap, Item, ObjectKind};
 use clr_types::{Types, mark};
 
 // Takes away the entries of the bricks of segment `k` that have a place of [from, end); only an entry that names a
@@ -88,8 +89,9 @@ pub(crate) fn enter_bricks(heap: &mut Heap, types: &Types, bricks: &mut Bricks, 
     let segment = heap.info(k);
     let mut next = first_open(bricks, from, segment.end);
     let mut place = from;
+    let mut known = ObjectKind::none();
     while place < segment.end {
-        let found = clear_mark(heap, types, k, place);
+        let found = clear_mark(heap, types, k, place, &mut known);
         next = enter_item(heap, bricks, found, next);
         place += found.size;
     }
@@ -97,20 +99,60 @@ pub(crate) fn enter_bricks(heap: &mut Heap, types: &Types, bricks: &mut Bricks, 
     lead_back(bricks, next, past.max(next));
 }
 
-// Clears the mark of the item at `place` in segment `k`, and answers the item.
-#[inline]
-fn clear_mark(heap: &mut Heap, types: &Types, k: usize, place: u64) -> Item
+// Clears the mark of the item at `place` in segment `k`, and answers the item. `known` is the kind of object that the
+// walk met last.
+#[inline(always)]
+fn clear_mark(heap: &mut Heap, types: &Types, k: usize, place: u64, known: &mut ObjectKind) -> Item
     requires item { HasItem types.now heap.old place }
     requires mt_in { k ≡ memory_index heap.old.memories place }
     requires len_in { k ≡ memory_index heap.old.memories (place + 8) }
     requires room { place + 8 < 2 ^ 64 }
+    requires known { IsObjectKind types.now known.old }
     ensures item { result ≡ item_at types.now (word_of heap.old) place }
     ensures heap { heap.new ≡ stored heap.old place (unmarked (word_of heap.old place)) }
+    ensures known { IsObjectKind types.now known.new }
 {
     let mt = heap.word_at(k, place);
-    let found = heap.item_of_word(types, k, place, mt);
+    let found = item_like_word(heap, types, k, place, mt, known);
     if mark::is_marked(mt) {
         heap.set_word_at(k, place, mark::unmarked(mt));
+    }
+    found
+}
+
+// The item at `place` in segment `k`, where `mt` is its method table word. Where it is of the kind that is known, no
+// table is waited for. Its kind becomes known where it is an object without a length; else what is known stays.
+#[inline(always)]
+fn item_like_word(
+    heap: &Heap,
+    types: &Types,
+    k: usize,
+    place: u64,
+    mt: u64,
+    known: &mut ObjectKind,
+) -> Item
+    requires item { HasItem types.now heap.now place }
+    requires mt { mt ≡ word_of heap.now place }
+    requires segment { k ≡ memory_index heap.now.memories (place + 8) }
+    requires room { place + 8 < 2 ^ 64 }
+    requires known { IsObjectKind types.now known.old }
+    ensures item { result ≡ item_at types.now (word_of heap.now) place }
+    ensures known { IsObjectKind types.now known.new }
+{
+    if let Some(size) = known.size_with(mt) {
+        return Item {
+            place,
+            size,
+            type_id: types.of_mt(mark::unmarked(mt)),
+            len: 0,
+        };
+    }
+    let found = heap.item_of_word(types, k, place, mt);
+    if found.type_id.0 != 0 && !types.has_length(found.type_id) {
+        *known = ObjectKind {
+            mt: mark::unmarked(mt),
+            size: found.size,
+        };
     }
     found
 }

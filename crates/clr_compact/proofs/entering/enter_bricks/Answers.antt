@@ -40,6 +40,7 @@ loop-place-init c =
           c.requires.no_contexts;
       settling = settling_starts h c.requires.heap k c.requires.in_range bricks from next c.requires.low begin;
       walks = walks_start rows h c.requires.no_contexts k c.requires.in_range from bricks next c.requires.low begin;
+      known = c.none.ensures rows;
     }
 
 pub clear_mark-found-requires : goal.clear_mark-found-requires
@@ -52,7 +53,13 @@ clear_mark-found-requires c =
     c.loop-place.invariant.rewriting below in
     let fits = can.fits in
     let least = can.least in
-    record { item = can.item; mt_in = can.mt_in; len_in = can.len_in; room = omega (arith, fits, least) }
+    record {
+      item = can.item;
+      mt_in = can.mt_in;
+      len_in = can.len_in;
+      room = omega (arith, fits, least);
+      known = c.loop-place.invariant.known;
+    }
 
 pub enter_item-next-requires-clause-above : goal.enter_item-next-requires-clause-above
 enter_item-next-requires-clause-above c = let above = c.loop-place.invariant.settling.above in omega (arith, above)
@@ -129,6 +136,7 @@ loop-place-preserved c =
           (c.clear_mark-found.ensures.item ∙ can.same) (frame now)
           (ap (λ (g : HeapView). frame g) rewriting.shape.others) c.enter_item-next.new.bricks
           c.enter_item-next.ensures.entries);
+      known = c.clear_mark-found.ensures.known;
     }
 
 -- a brick of the stretch up to the segment's end begins below that

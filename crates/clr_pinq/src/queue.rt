@@ -156,7 +156,7 @@ impl PinQueue {
 
     /// Writes the logical word at the address `a` of segment `k`, faster than `set_logical_word`. All other logical
     /// words stay.
-    #[inline]
+    #[inline(always)]
     pub fn set_logical_word_at(&mut self, heap: &mut Heap, k: usize, near: usize, a: u64, v: u64)
         requires word { HasWord heap.old.memories a }
         requires segment { k ≡ memory_index heap.old.memories a }
@@ -351,7 +351,8 @@ fn searched_in(entries: &Vec<PinEntry>, near: usize, a: u64) -> Option<u64>
     }
 }
 
-// Writes the word that is saved for `a`, and answers whether there is one.
+// Writes the word that is saved for `a`, and answers whether there is one. It stands apart, since it searches.
+#[inline(never)]
 fn write_saved(entries: &mut Vec<PinEntry>, near: usize, a: u64, v: u64) -> bool
     requires { AreRising 0 entries.old.items }
     ensures found { result ≡ is_some (queue_word entries.old.items a) }

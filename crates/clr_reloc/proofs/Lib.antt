@@ -3,6 +3,7 @@ pub mod Cells
 pub mod Heads
 pub mod Seen
 pub mod Stores
+pub mod Nulls
 pub mod Telling
 pub mod OneSegment
 pub mod OneObject

@@ -9,13 +9,6 @@ use Rattle.clr_reloc.proofs.Stores.{slot_word_is}
 use Rattle.clr_reloc.proofs.Seen.{stretch_before, stretch_now}
 use Rattle.clr_reloc.proofs.objects.move_slot.Goals as goal
 
-pub logical_word_at-named-requires-clause-word : goal.logical_word_at-named-requires-clause-word
-logical_word_at-named-requires-clause-word c =
-    let (view, now, vs, (r, near), s) = c.requires.can in
-    slot_has c.args.work.now.types.now view now c.args.heap.now c.args.work.now.bricks.now c.args.pins.now.entries
-    c.args.work.now.g vs c.args.work.now.planned.start1 c.args.work.now.planned.start0 r
-    c.args.a s c.requires.least
-
 pub destination_near-target-requires-clause-told : goal.destination_near-target-requires-clause-told
 destination_near-target-requires-clause-told c =
     let (view, now, vs, (r, near), s) = c.requires.can in (
@@ -30,7 +23,7 @@ destination_near-target-requires-clause-told c =
           c.args.a s c.requires.least,
       slot_goes c.args.work.now.types.now view now c.args.heap.now c.args.work.now.bricks.now c.args.pins.now.entries
           c.args.work.now.g vs c.args.work.now.planned.start1 c.args.work.now.planned.start0 r
-          c.args.a s c.requires.least c.logical_word_at-named.result c.logical_word_at-named.ensures,
+          c.args.a s c.requires.least c.args.named c.requires.named,
     )
 
 pub returns-then-target-named-clause-gone : goal.returns-then-target-named-clause-gone
@@ -42,8 +35,8 @@ returns-then-target-named-clause-gone c view now vs q s =
     c.args.work.now.planned.start1 c.args.work.now.planned.start0 r c.args.a s c.requires.least in
     let may = slot_goes c.args.work.now.types.now view now h c.args.work.now.bricks.now es c.args.work.now.g vs
     c.args.work.now.planned.start1 c.args.work.now.planned.start0 r c.args.a s c.requires.least
-    c.logical_word_at-named.result c.logical_word_at-named.ensures in
-    let named : c.logical_word_at-named.result ≡ word_of view c.args.a = c.logical_word_at-named.ensures
+    c.args.named c.requires.named in
+    let named : c.args.named ≡ word_of view c.args.a = c.requires.named
     ∙ slot_word_is c.args.work.now.types.now view now h c.args.work.now.bricks.now es c.args.work.now.g vs
     c.args.work.now.planned.start1 c.args.work.now.planned.start0 r c.args.a s c.requires.least in
     let before = stretch_now view now r.underway.shape c.args.work.now.g vs c.args.last.now near in
@@ -83,8 +76,8 @@ returns-clause-gone c view now vs q s =
     c.args.work.now.planned.start1 c.args.work.now.planned.start0 r c.args.a s c.requires.least in
     let may = slot_goes c.args.work.now.types.now view now h c.args.work.now.bricks.now es c.args.work.now.g vs
     c.args.work.now.planned.start1 c.args.work.now.planned.start0 r c.args.a s c.requires.least
-    c.logical_word_at-named.result c.logical_word_at-named.ensures in
-    let named : c.logical_word_at-named.result ≡ word_of view c.args.a = c.logical_word_at-named.ensures
+    c.args.named c.requires.named in
+    let named : c.args.named ≡ word_of view c.args.a = c.requires.named
     ∙ slot_word_is c.args.work.now.types.now view now h c.args.work.now.bricks.now es c.args.work.now.g vs
     c.args.work.now.planned.start1 c.args.work.now.planned.start0 r c.args.a s c.requires.least in
     let before = stretch_now view now r.underway.shape c.args.work.now.g vs c.args.last.now near in

@@ -1,6 +1,9 @@
 use Rattle.std.proofs.Common.{◌≡◌, ◌+◌, ◌-◌, ◌*◌, ap, sym, ◌∙◌, subst, arith}
 use Rattle.clr_types.specs.Descriptors.{offsets_from}
 use Rattle.clr_mark.proofs.RunReferences.{run_more}
+use Rattle.clr_heap.specs.View.{frame}
+use Rattle.clr_generations.proofs.BarrierLaw.{generation-most}
+use Rattle.clr_reloc.specs.Relocated.{rebounded}
 use Rattle.clr_reloc.proofs.ObjectLoops.{HasPassed, passed_all, passed_more, passed_none, run_around, slot_at}
 use Rattle.clr_reloc.proofs.ObjectLoops.{slot_card, slot_fits, slot_next}
 use Rattle.clr_reloc.proofs.objects.relocate_run.Goals as goal
@@ -62,6 +65,12 @@ relocate_slot-requires-clause-goes c =
     c.loop-i.cards c.loop-i.last (offsets_from c.args.run.offset c.loop-i.i) (c.args.run.offset + 8 * c.loop-i.i)
     (offsets_from (c.args.run.offset + 8 * c.loop-i.i + 8) (count - c.loop-i.i - 1)) walked c.loop-i.invariant view now
     vs r ahead).1
+
+pub relocate_slot-requires-clause-age : goal.relocate_slot-requires-clause-age
+relocate_slot-requires-clause-age c =
+    let most = generation-most (rebounded (frame c.args.heap.now) c.args.work.now.planned) c.args.object.now.to in
+    let age = c.requires.placed.age in
+    omega (arith, most, age)
 
 pub relocate_slot-requires-clause-can : goal.relocate_slot-requires-clause-can
 relocate_slot-requires-clause-can c =

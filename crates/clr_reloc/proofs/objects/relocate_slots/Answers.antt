@@ -1,5 +1,8 @@
-use Rattle.std.proofs.Common.{◌++◌, ◌∷◌, [], ℕ, List, append-nil, append_assoc, ap, refl, sym, ◌∙◌}
+use Rattle.std.proofs.Common.{◌++◌, ◌∷◌, [], ℕ, List, append-nil, append_assoc, ap, refl, sym, ◌∙◌, arith}
 use Rattle.clr_view.proofs.Listed.{listed-known, listed-small}
+use Rattle.clr_heap.specs.View.{frame}
+use Rattle.clr_generations.proofs.BarrierLaw.{generation-most}
+use Rattle.clr_reloc.specs.Relocated.{rebounded}
 use Rattle.clr_reloc.proofs.ObjectLoops.{passed_all, passed_more, passed_none, slot_at, slot_card, slot_fits, slot_next}
 use Rattle.clr_reloc.proofs.objects.relocate_slots.Goals as goal
 
@@ -42,6 +45,12 @@ relocate_slot-requires-clause-goes c =
     (slot_fits c.args.work.now c.args.object.now c.args.heap.now c.args.pins.now c.args.cards.now c.args.last.now
     c.loop-offset.heap c.loop-offset.pins c.loop-offset.cards c.loop-offset.last c.loop-offset.yielded
     c.in-Some.offset c.next.new.self walked c.loop-offset.invariant.passed view now vs r ahead).1
+
+pub relocate_slot-requires-clause-age : goal.relocate_slot-requires-clause-age
+relocate_slot-requires-clause-age c =
+    let most = generation-most (rebounded (frame c.args.heap.now) c.args.work.now.planned) c.args.object.now.to in
+    let age = c.requires.placed.age in
+    omega (arith, most, age)
 
 pub relocate_slot-requires-clause-can : goal.relocate_slot-requires-clause-can
 relocate_slot-requires-clause-can c =

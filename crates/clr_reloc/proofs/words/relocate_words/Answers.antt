@@ -139,6 +139,12 @@ relocate_slot-requires-clause-goes c =
     (offsets_from c.args.run.offset c.loop-at.at) c.loop-at.invariant.0 c.requires.can
     (c.loop-at.at + c.resting_words-at.result) (omega (arith, within, low, ne))).1
 
+pub relocate_slot-requires-clause-age : goal.relocate_slot-requires-clause-age
+relocate_slot-requires-clause-age c =
+    let most = generation-most (rebounded (frame c.args.heap.now) c.args.work.now.planned) c.args.object.now.to in
+    let age = c.requires.placed.age in
+    omega (arith, most, age)
+
 pub relocate_slot-requires-clause-can : goal.relocate_slot-requires-clause-can
 relocate_slot-requires-clause-can c =
     let resting = c.resting_words-at.ensures in

@@ -1,21 +1,23 @@
 -- The first line of a text is answered.
-use Rattle.std.proofs.Common.{◌≡◌, ◌∙◌, ℕ, ◌+◌, ◌<◌, ◌≤◌, List, [], ◌∷◌, ◌++◌, length, take, Option, Some, None}
-use Rattle.std.proofs.Common.{refl, sym, ap}
-use Rattle.std.specs.Prelude.{Result, Ok, Err, IfOk}
+use Rattle.std.proofs.Common.{◌≡◌, ◌∙◌, ℕ, ◌+◌, ◌*◌, ◌^◌, ◌<◌, ◌≤◌, List, [], ◌∷◌, ◌++◌, length, take}
+use Rattle.std.proofs.Common.{refl, sym, ap, Option, Some, None}
+use Rattle.std.specs.Prelude.{Result, Ok, Err, IfOk, IfSome, OnErr}
 use Rattle.std.proofs.Common.{arith, append_assoc, append-nil, subst, length-append, length-drop, drop, take-add, ◌-◌}
 use Rattle.std.proofs.Math.Seq.{take-append-add}
-use Rattle.std.proofs.lemmas.List.{take-append-drop, take_rest}
+use Rattle.std.proofs.lemmas.List.{take-append-drop, take-take, take_rest}
 use Rattle.clr_model.specs.Machine.{Machine, Options}
 use Rattle.clr_model.specs.Outcomes.{Outcome}
 use Rattle.clr_lines.specs.Fronts.{IsAnswered}
 use Rattle.clr_session.specs.LineStretch.{IsFirstFeed}
-use Rattle.clr_session.specs.Output.{Wrote, WroteSome, StopsFront}
-use Rattle.clr_session.specs.Progress.{Progress}
+use Rattle.clr_session.specs.FrontLines.{GoesOver, StopsFront}
+use Rattle.clr_session.specs.Output.{Wrote, WroteSome}
+use Rattle.clr_session.specs.Progress.{begun, Progress}
 use Rattle.clr_session.specs.Runs.{run_text}
 use Rattle.clr_session.specs.Sessions.{IsAt, Goes, GoesLine, Stops}
 use Rattle.clr_session.specs.declared.session.Session.{Session}
-use Rattle.clr_session.proofs.SessionSteps.{follows_rest, goes_kept, goes_line, goes_none, goes_on}
-use Rattle.clr_session.proofs.SessionSteps.{stops_line, stops_on}
+use Rattle.clr_session.proofs.LineLists.{run_text-append}
+use Rattle.clr_session.proofs.SessionSteps.{answered_line, follows_rest, goes_kept, goes_none, goes_on}
+use Rattle.clr_session.proofs.SessionSteps.{run_text-one, stops_on}
 
 -- no bytes are no bytes
 none_left : (xs : List ℕ) → length xs ≡ 0 → xs ≡ []
@@ -40,48 +42,110 @@ is_first text line rest read cut count =
           ∙ take-append-add line (10 ∷ rest) 1));
     }
 
+-- what is left of a piece
+pub piece_rest : (piece : List ℕ) (from : ℕ)
+    → length (take (length piece - from) (drop from piece)) ≡ length piece - from
+piece_rest piece from = ap length (take_rest piece from) ∙ length-drop from piece
+
 -- where no line was begun, the first line of a text goes on the script
-pub goes_front : (old : Session) (new : Machine) (left text reply : List ℕ) (read : ℕ) (before after : Option (List ℕ))
-    → length old.line.items ≡ 0 → IsAnswered old.runtime.machine text read reply new
-    → Wrote before after old.pending left reply
-    → (0 < read) × (read ≤ length text)
-    × ((options : Options) (taken : List ℕ) (outcomes : List Outcome) → IsAt options old taken outcomes
-    → (more : List Outcome) × Progress options new old.line.items (taken ++ take read text) (outcomes ++ more)
-    × Wrote before after old.pending left (run_text more))
-goes_front old new left text reply read before after none answered wrote =
-    let first = is_first text answered.line answered.rest read answered.cut answered.read_is in
-    let told : Wrote before after old.pending left _ =
-    subst (λ (l : List ℕ). Wrote before after old.pending left l) answered.told wrote in (
+over_line : (old new : Machine) (text reply : List ℕ) (read : ℕ) → IsAnswered old text read reply new
+    → (0 < read) × (read ≤ length text) × GoesOver old (take read text) reply new
+unfolding GoesOver
+over_line old new text reply read answered =
+    let first = is_first text answered.line answered.rest read answered.cut answered.read_is in (
       first.some,
       first.within,
       λ options taken outcomes at.
-          let goes = goes_line old new old.line.items left answered.line answered.outcome before after answered.unfed
-          (λ begun kept. follows_rest old.runtime.machine new old.line.items answered.line begun answered.outcome none
-          kept
-          answered.follows) (none_left old.line.items none) told options taken outcomes at in (
-            goes.0,
-            subst (λ (l : List ℕ). Progress options new old.line.items (taken ++ l) (outcomes ++ goes.0)) first.taken
-                goes.1,
-            goes.2,
+          let next = answered_line options old new [] taken answered.line outcomes answered.outcome at answered.unfed
+          (follows_rest old new [] answered.line (begun taken) answered.outcome refl at.kept answered.follows) in (
+            answered.outcome ∷ [],
+            subst (λ (l : List ℕ). Progress options new [] (taken ++ l) (outcomes ++ answered.outcome ∷ [])) first.taken
+                next,
+            answered.told ∙ sym (run_text-one answered.outcome),
           ),
     )
 
--- writing stopped at a line in front of a text
-pub stops_more : (old : Session) (next rest text : List ℕ) (before after : Option (List ℕ)) → text ≡ next ++ rest
-    → Stops old next before after → Stops old text before after
-stops_more old next rest text before after e stops =
-    stops_on old old [] next rest text before before after e (goes_none old before) stops
+-- bytes after others
+over_on : (old mid new : Machine) (bytes more front reply : List ℕ) → GoesOver old bytes front mid
+    → GoesOver mid more reply new → GoesOver old (bytes ++ more) (front ++ reply) new
+unfolding GoesOver
+over_on old mid new bytes more front reply first second = λ options taken outcomes at.
+    let a = first options taken outcomes at in
+    let b = second options (taken ++ bytes) (outcomes ++ a.0) a.1 in (
+      a.0 ++ b.0,
+      rw (← append_assoc, ← append_assoc) b.1,
+      ap (λ (l : List ℕ). l ++ reply) a.2
+          ∙ (ap (λ (l : List ℕ). run_text a.0 ++ l) b.2 ∙ sym (run_text-append a.0 b.0)),
+    )
 
+-- no bytes
+pub over_none : (m : Machine) → GoesOver m [] [] m
+unfolding GoesOver
+over_none m = λ options taken outcomes at. ([], rw (append-nil, append-nil) at, refl)
+
+-- a line more of a text
+pub over_more : (old mid new : Machine) (text front reply : List ℕ) (from read : ℕ) → from ≤ length text
+    → GoesOver old (take from text) front mid
+    → IsAnswered mid (take (length text - from) (drop from text)) read reply new
+    → (0 < read) × (from + read ≤ length text) × GoesOver old (take (from + read) text) (front ++ reply) new
+over_more old mid new text front reply from read low goes answered =
+    let rest = take (length text - from) (drop from text) in
+    let (some, within, more) = over_line mid new rest reply read answered in
+    let short = piece_rest text from in (
+      some,
+      omega (arith, within, short, low),
+      subst (λ (l : List ℕ). GoesOver old l (front ++ reply) new) (sym (take-add from read text))
+          (over_on old mid new (take from text) (take read (drop from text)) front reply goes
+          (subst (λ (l : List ℕ). GoesOver mid (take read l) reply new) (take_rest text from) more)),
+    )
+
+-- what stood before a place that is kept stays
+pub front_stays : (new old : List ℕ) (low high : ℕ) → low ≤ high → take high new ≡ take high old
+    → take low new ≡ take low old
+front_stays new old low high le kept =
+    sym (take-take low high new le) ∙ (ap (take low) kept ∙ take-take low high old le)
+
+-- where no line was begun, the lines in front of a text go on the script
+pub goes_front : (old : Session) (new : Machine) (left bytes reply : List ℕ) (before after : Option (List ℕ))
+    → length old.line.items ≡ 0 → GoesOver old.runtime.machine bytes reply new
+    → Wrote before after old.pending left reply
+    → (options : Options) (taken : List ℕ) (outcomes : List Outcome) → IsAt options old taken outcomes
+    → (more : List Outcome) × Progress options new old.line.items (taken ++ bytes) (outcomes ++ more)
+    × Wrote before after old.pending left (run_text more)
+unfolding GoesOver
+goes_front old new left bytes reply before after none over wrote options taken outcomes at =
+    let empty = none_left old.line.items none in
+    let goes = over options taken outcomes
+    (subst (λ (l : List ℕ). Progress options old.runtime.machine l taken outcomes) empty at) in (
+      goes.0,
+      subst (λ (l : List ℕ). Progress options new l (taken ++ bytes) (outcomes ++ goes.0)) (sym empty) goes.1,
+      subst (λ (l : List ℕ). Wrote before after old.pending left l) goes.2 wrote,
+    )
+
+-- writing stopped at the lines in front of a text
 pub stops_front : (old : Session) (new : Machine) (text : List ℕ) (before after : Option (List ℕ))
     → length old.line.items ≡ 0 → StopsFront old.runtime.machine new text before after old.pending
     → Stops old text before after
-stops_front old new text before after none stopped =
-    let answered = stopped.answered in
-    stops_more old (answered.line ++ 10 ∷ []) answered.rest text before after
-    (answered.cut ∙ sym (append_assoc answered.line (10 ∷ []) answered.rest))
-    (stops_line old new answered.line answered.outcome before after answered.unfed
-    (λ begun kept. follows_rest old.runtime.machine new old.line.items answered.line begun answered.outcome none kept
-    answered.follows) (subst (λ (l : List ℕ). WroteSome before after (old.pending ++ l)) answered.told stopped.wrote))
+unfolding GoesOver
+stops_front old new text before after none stopped = λ options taken outcomes at.
+    let goes = stopped.goes options taken outcomes
+    (subst (λ (l : List ℕ). Progress options old.runtime.machine l taken outcomes) (none_left old.line.items none) at)
+    in
+    record {
+      part = take stopped.read text;
+      rest = drop stopped.read text;
+      cut = sym (take-append-drop stopped.read text);
+      more = goes.0;
+      last = goes.1.state;
+      run = goes.1.run;
+      wrote = subst (λ (l : List ℕ). WroteSome before after (old.pending ++ l)) goes.2 stopped.wrote;
+    }
+
+-- writing stopped at a line in front of a text
+stops_more : (old : Session) (next rest text : List ℕ) (before after : Option (List ℕ)) → text ≡ next ++ rest
+    → Stops old next before after → Stops old text before after
+stops_more old next rest text before after e stops =
+    stops_on old old [] next rest text before before after e (goes_none old before) stops
 
 -- a line that a line feed ends is the first of the text
 pub goes_feed : (old new : Session) (text : List ℕ) (at : ℕ) (before after : Option (List ℕ)) → IsFirstFeed text at
@@ -134,20 +198,28 @@ ok_same one two new text before mid after r l p w (Err e) goes = goes
 
 -- ---- the lines of a piece
 
--- where writing stopped at the first line of a text, there is one
+-- where writing stopped at the lines in front of a text, there is one
 pub some_front : {old new : Machine} {text : List ℕ} {before after : Option (List ℕ)} {waiting : List ℕ}
     → StopsFront old new text before after waiting → 0 < length text
-some_front {text = text} stopped =
-    let answered = stopped.answered in
-    let first = is_first text answered.line answered.rest stopped.read answered.cut answered.read_is in
-    let some = first.some in
-    let within = first.within in
+some_front stopped =
+    let some = stopped.some in
+    let within = stopped.within in
     omega (arith, some, within)
 
--- what is left of a piece
-pub piece_rest : (piece : List ℕ) (from : ℕ)
-    → length (take (length piece - from) (drop from piece)) ≡ length piece - from
-piece_rest piece from = ap length (take_rest piece from) ∙ length-drop from piece
+-- how far the highest end of a reservation rises over a line
+pub grows_found : {E : Type 0} (found : Result (Option ℕ) E) (old new : Session) (text : List ℕ)
+    (before after : Option (List ℕ)) (low high : ℕ) → IfOk found (GoesLine old new text before after)
+    → high ≤ low + 2 ^ 30
+    → IfOk found (λ line. IfSome line (λ count. high ≤ low + 2 ^ 30 * count))
+grows_found (Ok None) old new text before after low high goes grown = tt
+grows_found (Ok (Some count)) old new text before after low high goes grown =
+    let some = goes.0 in omega (arith, some, grown)
+grows_found (Err e) old new text before after low high goes grown = tt
+
+pub rises_found : {V E : Type 0} (found : Result V E) (size low high : ℕ) → OnErr found (0 < size)
+    → high ≤ low + 2 ^ 30 → OnErr found (high ≤ low + 2 ^ 30 * size)
+rises_found (Ok v) size low high some grown = tt
+rises_found (Err e) size low high some grown = omega (arith, some, grown)
 
 -- a line more of a piece
 pub piece_goes_on : (one two new : Session) (piece : List ℕ) (from count : ℕ) (found : Option ℕ)

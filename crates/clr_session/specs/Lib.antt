@@ -1,5 +1,6 @@
 pub mod Runs
 pub mod Output
+pub mod FrontLines
 pub mod LineStretch
 pub mod Progress
 pub mod Sessions

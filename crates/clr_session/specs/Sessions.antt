@@ -21,8 +21,8 @@ Goes old new bytes before after = (options : Options) (taken : List ℕ) (outcom
     (more : List Outcome) × IsAt options new (taken ++ bytes) (outcomes ++ more)
     × Wrote before after old.pending new.pending (run_text more)
 
--- The line that ends first in a text was answered, so many bytes with its line feed; or none ends in it, and the
--- machine stays.
+-- The line that ends first in a text was answered, and perhaps some behind it, so many bytes with the last line feed;
+-- or none ends in it, and the machine stays.
 abbrev pub GoesLine : Session → Session → List ℕ → Option (List ℕ) → Option (List ℕ) → Option ℕ → Type 0
 GoesLine old new text before after None =
     IsUnfed text × (new.runtime.machine ≡ old.runtime.machine) × Goes old new [] before after

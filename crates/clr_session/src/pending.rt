@@ -1,9 +1,11 @@
-ghost use Rattle.std.specs.Prelude.{◌≡◌, ◌≢◌, ◌+◌, ◌^◌, ◌≤◌, ◌∷◌, ◌++◌, [], ℕ, List, length, OnOk, OnErr, IfOk, take};
+ghost use Rattle.std.specs.Prelude.{◌≡◌, ◌≢◌, ◌+◌, ◌*◌, ◌^◌, ◌≤◌, ◌∷◌, ◌++◌, [], ℕ, List, length, take};
+ghost use Rattle.std.specs.Prelude.{OnOk, OnErr, IfOk, IfSome};
 ghost use Rattle.clr_model.specs.ReplyText.{refusal_text, reply_text};
 ghost use Rattle.clr_script.specs.ReplyLines.{IsShowable};
 ghost use Rattle.clr_lines.specs.Fronts.{IsAnswered};
 ghost use Rattle.clr_streams.specs.Faults.{Rose, Appended};
-ghost use Rattle.clr_session.specs.Output.{Wrote, WroteSome, AnswersFront, StopsFront};
+ghost use Rattle.clr_session.specs.Output.{Wrote, WroteSome};
+ghost use Rattle.clr_session.specs.FrontLines.{AnswersFront, GoesOver, StopsFront};
 
 use clr_lines::answer_front;
 use clr_model::{Refusal, Reply};
@@ -93,6 +95,7 @@ fn answer_into(into: &mut [u8], runtime: &mut Runtime, text: &[u8]) -> (usize, u
 #[inline]
 fn answer_behind(buffer: &mut [u8], at: usize, runtime: &mut Runtime, text: &[u8]) -> (usize, usize)
     requires { at + 256 ≤ length buffer.old }
+    ensures behind { at ≤ result.1 }
     ensures within { result.1 ≤ length buffer.new }
     ensures kept { take at buffer.new ≡ take at buffer.old }
     ensures idle { result.0 ≡ 0 → runtime.new ≡ runtime.old }
@@ -103,6 +106,32 @@ fn answer_behind(buffer: &mut [u8], at: usize, runtime: &mut Runtime, text: &[u8
 {
     let (read, written) = answer_into(&mut buffer[at..], runtime, text);
     (read, at + written)
+}
+
+// Does the lines in front of a text, one after another, while they are done at once and there is room for a reply, and
+// writes their replies behind the first `at` bytes. Gives how much of the text that was, and where the last reply ends.
+fn answer_lines(buffer: &mut [u8], at: usize, runtime: &mut Runtime, text: &[u8]) -> (usize, usize)
+    requires { at + 256 ≤ length buffer.old }
+    ensures read { result.0 ≤ length text.now }
+    ensures within { result.1 ≤ length buffer.new }
+    ensures kept { take at buffer.new ≡ take at buffer.old }
+    ensures idle { result.0 ≡ 0 → runtime.new ≡ runtime.old }
+    ensures answered { (reply : List ℕ)
+        × GoesOver runtime.old.machine (take result.0 text.now) reply runtime.new.machine
+        × (take result.1 buffer.new ≡ take at buffer.old ++ reply) }
+    ensures grows { runtime.new.machine.layout.top ≤ runtime.old.machine.layout.top + 2 ^ 30 * result.0 }
+{
+    let mut from = 0;
+    let mut end = at;
+    while LINE <= buffer.len() - end {
+        let (read, next) = answer_behind(buffer, end, runtime, &text[from..]);
+        if read == 0 {
+            break;
+        }
+        from += read;
+        end = next;
+    }
+    (from, end)
 }
 
 // Writes the first `filled` bytes where there is no room for a line behind them, and gives how many wait then.
@@ -180,8 +209,8 @@ impl Pending {
         write_all(sink, text)
     }
 
-    /// Does the line in front of a text where it is one that is done at once, puts its reply behind what waits, and
-    /// writes all where there is no room for another behind that. Gives how much of the text that was. `None` where
+    /// Does the lines in front of a text as far as they are done at once, puts their replies behind what waits, and
+    /// writes all where there is no room for another behind them. Gives how much of the text that was. `None` where
     /// nothing was done.
     #[inline]
     pub fn answer_front<K: Sink>(
@@ -196,9 +225,12 @@ impl Pending {
             (K.written sink.old) (K.written sink.new) self.old) }
         ensures counted { OnOk result (K.faults sink.new ≡ K.faults sink.old) }
         ensures cause { OnErr result (Rose (K.faults sink.old) (K.faults sink.new)) }
-        ensures grows { runtime.new.machine.layout.top ≤ runtime.old.machine.layout.top + 2 ^ 30 }
+        ensures grows { IfOk result (λ found. IfSome found (λ read.
+            runtime.new.machine.layout.top ≤ runtime.old.machine.layout.top + 2 ^ 30 * read)) }
+        ensures rises { OnErr result
+            (runtime.new.machine.layout.top ≤ runtime.old.machine.layout.top + 2 ^ 30 * length text.now) }
     {
-        let (read, end) = answer_behind(&mut self.buffer, self.filled, runtime, text);
+        let (read, end) = answer_lines(&mut self.buffer, self.filled, runtime, text);
         if read == 0 {
             return Ok(None);
         }

@@ -1,5 +1,5 @@
 ghost use Rattle.std.specs.Prelude.{◌≡◌, ◌+◌, ◌*◌, ◌^◌, ◌≤◌, ◌∷◌, ◌++◌, ℕ, List, [], length, MatchOption, take, OnOk};
-ghost use Rattle.std.specs.Prelude.{OnErr, IfOk, vec_len, vec_capacity, ◌<◌};
+ghost use Rattle.std.specs.Prelude.{OnErr, IfOk, IfSome, vec_len, vec_capacity, ◌<◌};
 ghost use Rattle.clr_script.specs.Fronts.{IsUnfed};
 ghost use Rattle.clr_streams.specs.Faults.{Rose};
 ghost use Rattle.clr_session.specs.LineStretch.{IsFirstFeed};
@@ -112,17 +112,20 @@ impl Session {
         put_outcome(&mut self.pending, sink, &outcome)
     }
 
-    // Answers the line that ends first in these bytes, and gives where what is behind its line feed begins. `None`
-    // where no line ends in them.
+    // Answers the line that ends first in these bytes, and those behind it that are done at once. Gives where what is
+    // behind the last one's line feed begins, and `None` where no line ends in them.
     #[inline]
-    fn answer_line<K: Sink>(&mut self, sink: &mut K, text: &[u8]) -> Result<Option<usize>, Failed>
+    fn answer_lines<K: Sink>(&mut self, sink: &mut K, text: &[u8]) -> Result<Option<usize>, Failed>
         requires { self.old.runtime.machine.layout.top ≤ 2 ^ 61 }
         ensures bytes { IfOk result (GoesLine self.old self.new text.now (K.written sink.old) (K.written sink.new)) }
         ensures stops { OnErr result (Stops self.old text.now (K.written sink.old) (K.written sink.new)) }
         ensures some { OnErr result (0 < length text.now) }
         ensures counted { OnOk result (K.faults sink.new ≡ K.faults sink.old) }
         ensures cause { OnErr result (Rose (K.faults sink.old) (K.faults sink.new)) }
-        ensures grows { self.new.runtime.machine.layout.top ≤ self.old.runtime.machine.layout.top + 2 ^ 30 }
+        ensures grows { IfOk result (λ found. IfSome found (λ count.
+            self.new.runtime.machine.layout.top ≤ self.old.runtime.machine.layout.top + 2 ^ 30 * count)) }
+        ensures rises { OnErr result (self.new.runtime.machine.layout.top
+            ≤ self.old.runtime.machine.layout.top + 2 ^ 30 * length text.now) }
     {
         if !self.line.is_empty() {
             return self.answer_any(sink, text);
@@ -133,7 +136,7 @@ impl Session {
         self.answer_any(sink, text)
     }
 
-    // Answers the line that ends first in these bytes, as `answer_line`, whichever it is.
+    // Answers the line that ends first in these bytes, and none behind it, as `answer_lines`, whichever it is.
     #[cold]
     #[inline(never)]
     fn answer_any<K: Sink>(&mut self, sink: &mut K, text: &[u8]) -> Result<Option<usize>, Failed>
@@ -164,7 +167,7 @@ impl Session {
             ≤ self.old.runtime.machine.layout.top + 2 ^ 30 * length piece.now }
     {
         let mut from = 0;
-        while let Some(count) = self.answer_line(sink, &piece[from..])? {
+        while let Some(count) = self.answer_lines(sink, &piece[from..])? {
             from += count;
         }
         keep(&mut self.line, &piece[from..]);

@@ -1,4 +1,4 @@
--- Each turn answers one line more.
+-- Each turn answers one line more, or many.
 use Rattle.std.proofs.Common.{arith, refl, ◌∙◌}
 use Rattle.std.proofs.lemmas.Result.{err_from_is_err_and}
 use Rattle.clr_session.proofs.FirstLines.{piece_ends, piece_goes_on, piece_rest, piece_stops}
@@ -16,14 +16,14 @@ loop-count-init g c = record {
 pub loop-count-preserved : goal.loop-count-preserved
 loop-count-preserved g c =
     let turn = c.loop-count in
-    let (within, some, goes) = piece_goes_on c.args.self.now turn.self c.answer_line.new.self c.args.piece.now turn.from
-    c.in-Some.count c.in_ok-count.field-0 _ (g.K.Sink.written turn.sink) _ turn.invariant.within c.in-Some.is
-    turn.invariant.goes c.in_ok-count.ensures.bytes in
+    let (within, some, goes) = piece_goes_on c.args.self.now turn.self c.answer_lines.new.self c.args.piece.now
+    turn.from c.in-Some.count c.in_ok-count.field-0 _ (g.K.Sink.written turn.sink) _ turn.invariant.within
+    c.in-Some.is turn.invariant.goes c.in_ok-count.ensures.bytes in
     record {
       within = within;
       goes = goes;
-      grows = let grown = c.answer_line.ensures.grows in let before = turn.invariant.grows in
-          omega (arith, grown, before, some);
+      grows = let grown = rw c.in-Some.is at c.in_ok-count.ensures.grows in let before = turn.invariant.grows in
+          omega (arith, grown, before);
       counted = c.in_ok-count.ensures.counted ∙ turn.invariant.counted;
     }
 
@@ -35,14 +35,14 @@ returns-in_err-count-clause-stops g c =
 
 pub returns-in_err-count-clause-grows : goal.returns-in_err-count-clause-grows
 returns-in_err-count-clause-grows g c =
-    let grown = c.answer_line.ensures.grows in
+    let grown = c.in_err-count.ensures.rises in
     let before = c.loop-count.invariant.grows in
-    let some = c.in_err-count.ensures.some in
     let rest = piece_rest c.args.piece.now c.loop-count.from in
-    omega (arith, grown, before, some, rest)
+    let within = c.loop-count.invariant.within in
+    omega (arith, grown, before, rest, within)
 
 pub returns-clause-bytes : goal.returns-clause-bytes
 returns-clause-bytes g c =
-    piece_ends c.args.self.now c.loop-count.self c.answer_line.new.self c.args.piece.now c.keep.new.line.items
+    piece_ends c.args.self.now c.loop-count.self c.answer_lines.new.self c.args.piece.now c.keep.new.line.items
     c.loop-count.from c.in_ok-count.field-0 _ (g.K.Sink.written c.loop-count.sink) _ c.in_default.is
     c.loop-count.invariant.goes c.in_ok-count.ensures.bytes c.keep.ensures.items

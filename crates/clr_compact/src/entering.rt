@@ -113,46 +113,9 @@ fn clear_mark(heap: &mut Heap, types: &Types, k: usize, place: u64, known: &mut 
     ensures known { IsObjectKind types.now known.new }
 {
     let mt = heap.word_at(k, place);
-    let found = item_like_word(heap, types, k, place, mt, known);
+    let found = heap.item_like_word(types, k, place, mt, known);
     if mark::is_marked(mt) {
         heap.set_word_at(k, place, mark::unmarked(mt));
-    }
-    found
-}
-
-// The item at `place` in segment `k`, where `mt` is its method table word. Where it is of the kind that is known, no
-// table is waited for. Its kind becomes known where it is an object without a length; else what is known stays.
-#[inline(always)]
-fn item_like_word(
-    heap: &Heap,
-    types: &Types,
-    k: usize,
-    place: u64,
-    mt: u64,
-    known: &mut ObjectKind,
-) -> Item
-    requires item { HasItem types.now heap.now place }
-    requires mt { mt ≡ word_of heap.now place }
-    requires segment { k ≡ memory_index heap.now.memories (place + 8) }
-    requires room { place + 8 < 2 ^ 64 }
-    requires known { IsObjectKind types.now known.old }
-    ensures item { result ≡ item_at types.now (word_of heap.now) place }
-    ensures known { IsObjectKind types.now known.new }
-{
-    if let Some(size) = known.size_with(mt) {
-        return Item {
-            place,
-            size,
-            type_id: types.of_mt(mark::unmarked(mt)),
-            len: 0,
-        };
-    }
-    let found = heap.item_of_word(types, k, place, mt);
-    if found.type_id.0 != 0 && !types.has_length(found.type_id) {
-        *known = ObjectKind {
-            mt: mark::unmarked(mt),
-            size: found.size,
-        };
     }
     found
 }

@@ -99,6 +99,7 @@ fn bricks_down(entry: i16) -> u64
 fn item_from(heap: &Heap, types: &Types, k: usize, start: u64, a: u64) -> Option<Item>
     requires in_range { k < length heap.now.segments }
     requires walk { CanWalk (sight types.now heap.now k) heap.now.memories start (last_of heap.now k) }
+    requires low { first_of heap.now k ≤ start }
     ensures { result ≡ item_with_place (items_between (sight types.now heap.now k) start (last_of heap.now k)) a }
 {
     let end = heap.info(k).end;
@@ -109,7 +110,7 @@ fn item_from(heap: &Heap, types: &Types, k: usize, start: u64, a: u64) -> Option
         match heap.hole_here(k, place, &mut next_hole) {
             Some(high) => place = high,
             None => {
-                let found = heap.item_like(types, place, &mut known);
+                let found = heap.item_like_in(types, k, place, &mut known);
                 if place == a {
                     return Some(found);
                 }

@@ -1,3 +1,4 @@
+pub mod ItemHeads
 pub mod Storing
 pub mod Framing
 pub mod Spelling

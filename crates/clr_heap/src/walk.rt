@@ -2,8 +2,9 @@
 ghost use Rattle.std.specs.Prelude.{◌≡◌, ℕ, ◌+◌, ◌<◌, ◌≤◌, ◌^◌, length, None};
 ghost use Rattle.clr_heap.specs.ObjectKinds.{IsObjectKind};
 ghost use Rattle.clr_heap.specs.Parts.{hole_from, item_at};
-ghost use Rattle.clr_heap.specs.View.{AfterItem, AreWalkable, CanWalk, heap_items, holes_of, item_with_place};
-ghost use Rattle.clr_heap.specs.View.{IsHeap, items_between, IsWalkable, listing, only_object, sight, word_of};
+ghost use Rattle.clr_heap.specs.View.{AfterItem, AreWalkable, CanWalk, first_of, heap_items, holes_of};
+ghost use Rattle.clr_heap.specs.View.{IsHeap, item_with_place, items_between, IsWalkable, last_of, listing};
+ghost use Rattle.clr_heap.specs.View.{only_object, sight, word_of};
 
 use crate::heap::Heap;
 use crate::{Item, ObjectKind, SegKind};
@@ -167,6 +168,7 @@ fn past_holes(heap: &Heap, types: &Types, k: usize, spot: Spot, end: u64) -> Spo
     ensures stops { result.place < end → hole_from (holes_of heap.now k) result.place ≡ None }
     ensures clear { (q : ℕ) → result.place ≤ q → q < result.next_hole → q < end
         → hole_from (holes_of heap.now k) q ≡ None }
+    ensures up { spot.place ≤ result.place }
 {
     if spot.place < spot.next_hole {
         return spot;
@@ -186,6 +188,7 @@ fn skip_holes(heap: &Heap, types: &Types, k: usize, from: u64, end: u64) -> u64
     ensures same { items_between (sight types.now heap.now k) result end
         ≡ items_between (sight types.now heap.now k) from end }
     ensures stops { result < end → hole_from (holes_of heap.now k) result ≡ None }
+    ensures up { from ≤ result }
 {
     let mut place = from;
     while place < end {
@@ -197,7 +200,7 @@ fn skip_holes(heap: &Heap, types: &Types, k: usize, from: u64, end: u64) -> u64
     place
 }
 
-// The item at `place`, on a walk to `end`, and the kind that is known behind it.
+// The item at `place` of segment `k`, on a walk to `end`, and the kind that is known behind it.
 #[inline(always)]
 fn item_on(
     heap: &Heap,
@@ -211,10 +214,14 @@ fn item_on(
     requires below { place < end }
     requires free { hole_from (holes_of heap.now k) place ≡ None }
     requires known { IsObjectKind types.now known.old }
+    requires heap { IsHeap heap.now }
+    requires in_range { k < length heap.now.segments }
+    requires low { first_of heap.now k ≤ place }
+    requires last { end ≤ last_of heap.now k }
     ensures after { AfterItem (sight types.now heap.now k) heap.now.memories place end }
     ensures item { result ≡ item_at types.now (word_of heap.now) place }
     ensures size { place + result.size ≤ end }
     ensures known { IsObjectKind types.now known.new }
 {
-    heap.item_like(types, place, known)
+    heap.item_like_in(types, k, place, known)
 }

@@ -1,7 +1,5 @@
 // A walk over the whole heap.
-ghost use Rattle.std.specs.Prelude.{◌≡◌, List};
-ghost use Rattle.std.specs.Iterator.{YieldsFirst};
-ghost use Rattle.clr_types.specs.declared.item.Item.{Item};
+ghost use Rattle.std.specs.Prelude.{◌≡◌};
 ghost use Rattle.clr_heap.specs.View.{AreWalkable, heap_items, IsHeap};
 
 use clr_heap::{Heap, Walk};
@@ -40,28 +38,17 @@ impl<'a> Iterator for HeapItems<'a> {
 
     ghost remaining = { item_count (λ items. items) };
 
+    // The walk goes on at one place alone: an item that a call gave would be written to memory and read again.
     #[inline(always)]
     fn next(&mut self) -> Option<Item> {
-        match self.walk.next() {
-            Some(item) => Some(item),
-            None => self.next_behind(),
-        }
-    }
-}
-
-impl<'a> HeapItems<'a> {
-    // The same, where nothing may be left of a segment. It stands apart, so that `next` is short.
-    #[inline(never)]
-    fn next_behind(&mut self) -> Option<Item>
-        ensures { YieldsFirst (λ (items : List Item). items) self.old result self.new }
-    {
-        let mut found = self.walk.next();
-        while found.is_none() && self.next < self.count {
+        loop {
+            let found = self.walk.next();
+            if found.is_some() || self.next >= self.count {
+                return found;
+            }
             self.walk = self.heap.walk(self.types, self.next);
             self.next += 1;
-            found = self.walk.next();
         }
-        found
     }
 }
 

@@ -73,7 +73,7 @@ fn type_by_name(types: &Types, name: Option<&[u8]>) -> Option<Option<TypeId>>
 
 impl Wanted {
     /// Whether an item is to be shown. `live` is asked of an object's place alone.
-    #[inline]
+    #[inline(always)]
     pub(crate) fn shows<F: Fn(u64) -> bool>(&self, item: &Item, live: &F) -> bool
         requires { 0 < item.now.type_id.0 → F.pre live.now item.now.place }
         ensures { (test : ℕ → Bool) → AnswersAt (λ place answer. F.post live.now place answer) test item.now
@@ -86,7 +86,7 @@ impl Wanted {
     }
 
     // Whether an item is of a type and a size that are asked for.
-    #[inline]
+    #[inline(always)]
     fn fits(&self, item: &Item) -> bool
         ensures { result ≡ is_fitting self.now item.now }
     {
@@ -98,7 +98,7 @@ impl Wanted {
 }
 
 // Whether an item is of the type that is asked for, if one is.
-#[inline]
+#[inline(always)]
 fn is_chosen(chosen: Option<TypeId>, item: &Item) -> bool
     ensures { result ≡ is_chosen chosen item.now }
 {
@@ -109,6 +109,7 @@ fn is_chosen(chosen: Option<TypeId>, item: &Item) -> bool
 }
 
 // Whether an item is one of those that are asked for: any, or an object that `live` passes or doesn't pass.
+#[inline(always)]
 fn has_life<F: Fn(u64) -> bool>(life: Life, item: &Item, live: &F) -> bool
     requires { 0 < item.now.type_id.0 → F.pre live.now item.now.place }
     ensures { (test : ℕ → Bool) → AnswersAt (λ place answer. F.post live.now place answer) test item.now

@@ -22,7 +22,8 @@ pub fn is_judged(window: Window, name: u64) -> bool
     name >= window.from && (window.last || name < window.end)
 }
 
-// The window from a place on, with so many times 64 bits.
+// The window from a place on, with so many times 64 bits. It begins at the first place of a segment that has one, so
+// that an empty segment needs no window.
 pub fn window_from(heap: &Heap, from: u64, count: usize) -> Window
     requires some { 0 < count }
     requires small { from ≤ 2 ^ 63 }
@@ -38,8 +39,9 @@ pub fn window_from(heap: &Heap, from: u64, count: usize) -> Window
     let mut top = 0;
     for k in 0..heap.segments() {
         let segment = heap.info(k);
-        if from < segment.end {
-            start = start.min(from.max(segment.base));
+        let low = from.max(segment.first_place());
+        if low < segment.end {
+            start = start.min(low);
             top = top.max(segment.end);
         }
     }

@@ -1,7 +1,7 @@
 use Rattle.std.proofs.Common.{◌≡◌, ℕ, ◌-◌, ◌<◌, ◌≤◌, None}
 use Rattle.clr_heap.specs.ObjectKinds.{IsObjectKind}
 use Rattle.clr_heap.specs.Parts.{hole_from}
-use Rattle.clr_heap.specs.View.{CanWalk, holes_of, item_with_place, items_between, sight}
+use Rattle.clr_heap.specs.View.{CanWalk, first_of, holes_of, item_with_place, items_between, sight}
 use Rattle.clr_generations.proofs.finding.item_from.Given as goal
 
 abbrev pub invariant-loop-place : goal.invariant-loop-place
@@ -11,6 +11,7 @@ invariant-loop-place l = record {
       ≡ item_with_place (items_between (sight l.types l.heap l.k) l.start l.end) l.a;
   clear : (q : ℕ) → l.place ≤ q → q < l.next_hole → hole_from (holes_of l.heap l.k) q ≡ None;
   known : IsObjectKind l.types l.known;
+  low : first_of l.heap l.k ≤ l.place;
 }
 
 abbrev pub decreases-loop-place : goal.decreases-loop-place

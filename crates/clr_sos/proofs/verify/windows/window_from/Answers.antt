@@ -1,8 +1,9 @@
 use Rattle.std.proofs.Common.{◌≡◌, ℕ, ◌+◌, ◌*◌, ◌/◌, ◌%◌, ◌<◌, ◌≤◌, nat_lt, false, ◌∙◌, ap, subst, arith, inl, inr}
 use Rattle.std.proofs.lemmas.Bool.{cases_lt}
+use Rattle.clr_types.specs.Segments.{first_place}
 use Rattle.clr_types.specs.declared.segment.SegInfo.{SegInfo}
 use Rattle.clr_heap.specs.View.{first_of, last_of, segment_at}
-use Rattle.clr_sos.proofs.verify.windows.window_from.Goals.{then-from-segment, else-from-segment}
+use Rattle.clr_sos.proofs.verify.windows.window_from.Goals.{then-low-segment, else-low-segment}
 use Rattle.clr_sos.proofs.verify.windows.window_from.Goals as goal
 
 pub loop-k-preserved : goal.loop-k-preserved
@@ -11,7 +12,8 @@ loop-k-preserved c =
     let k = c.loop-k.k in
     let old = c.loop-k.invariant in
     let value = c.info-segment.ensures.value in
-    let base : c.info-segment.result.base ≡ (segment_at h k).base = ap (λ (s : SegInfo). s.base) value in
+    let place : c.first_place.result ≡ first_of h k = c.first_place.ensures ∙ ap first_place value in
+    let a = c.max-low.ensures in
     let end : c.info-segment.result.end ≡ last_of h k = ap (λ (s : SegInfo). s.end) value in
     let lawful = c.info-segment.ensures.lawful in
     let page = lawful.base in
@@ -22,16 +24,15 @@ loop-k-preserved c =
     let low = old.low in
     let aligned = old.aligned in
     let small = old.small in
-    elim c.if-from-segment.branch [
-      | then-from-segment w ↦
-          let a = w.max.ensures in
+    elim c.if-low-segment.branch [
+      | then-low-segment w ↦
           let b = w.min-start.ensures in
           let d = w.max-top.ensures in
           let s = w.start-is in
           let t = w.top-is in
           record {
             low = grind (arith, a, b, s, low);
-            aligned = grind (arith, a, b, s, aligned, z, page, base);
+            aligned = grind (arith, a, b, s, aligned, z, page, place);
             small = grind (arith, d, t, small, end, up, top, fits);
             each = λ j x l f first last. elim (cases_lt j k) [
               | inl before ↦
@@ -40,13 +41,13 @@ loop-k-preserved c =
                   let same : j ≡ k = omega (arith, l, after) in
                   let first' : first_of h k ≤ x = subst (λ (n : ℕ). first_of h n ≤ x) same first in
                   let last' : x < last_of h k = subst (λ (n : ℕ). x < last_of h n) same last in
-                  (grind (arith, a, b, s, base, f, first'), grind (arith, d, t, end, last'))
+                  (grind (arith, a, b, s, place, f, first'), grind (arith, d, t, end, last'))
             ];
           }
-      | else-from-segment w ↦
+      | else-low-segment w ↦
           let s = w.start-is in
           let t = w.top-is in
-          let no = w.if-from-segment.false in
+          let no = w.if-low-segment.false in
           record {
             low = omega (arith, s, low);
             aligned = ap (λ (n : ℕ). n % 8) s ∙ aligned;
@@ -55,8 +56,9 @@ loop-k-preserved c =
               | inl before ↦ let e = old.each j x before f first last in (omega (arith, s, e), omega (arith, t, e))
               | inr after ↦
                   let same : j ≡ k = omega (arith, l, after) in
+                  let first' : first_of h k ≤ x = subst (λ (n : ℕ). first_of h n ≤ x) same first in
                   let last' : x < last_of h k = subst (λ (n : ℕ). x < last_of h n) same last in
-                  absurd (omega (arith, no, end, last', f))
+                  absurd (grind (arith, a, no, place, end, first', last', f))
             ];
           }
     ]

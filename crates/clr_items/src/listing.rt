@@ -10,7 +10,6 @@ ghost use Rattle.clr_sweep.specs.SweptSegments.{IsParted};
 ghost use Rattle.clr_items.specs.Items.{HasNoRests};
 
 use clr_heap::{Heap, Item, ObjectKind};
-use clr_types::mark::unmarked;
 use clr_types::{FREE_MT, Span, TypeId, Types};
 use std::collections::VecDeque;
 
@@ -40,8 +39,7 @@ pub fn list_free(
     true
 }
 
-// The item at `place` in segment `k`, as `Heap::item_like` tells it, faster. The size of a free item is read off its
-// length.
+// The item at `place` in segment `k`, as `Heap::item_like_in` tells it. The size of a free item is read off its length.
 #[inline(always)]
 fn item_like_in(heap: &Heap, types: &Types, k: usize, place: u64, known: &mut ObjectKind) -> Item
     requires item { HasItem types.now heap.now place }
@@ -53,25 +51,10 @@ fn item_like_in(heap: &Heap, types: &Types, k: usize, place: u64, known: &mut Ob
     ensures known { IsObjectKind types.now known.new }
 {
     let mt = heap.word_at(k, place);
-    if let Some(size) = known.size_with(mt) {
-        return Item {
-            place,
-            size,
-            type_id: types.of_mt(unmarked(mt)),
-            len: 0,
-        };
-    }
     if mt == FREE_MT {
         return free_item(place, heap.word_at(k, place + 8));
     }
-    let found = heap.item_of_word(types, k, place, mt);
-    if found.type_id.0 != 0 && !types.has_length(found.type_id) {
-        *known = ObjectKind {
-            mt: unmarked(mt),
-            size: found.size,
-        };
-    }
-    found
+    heap.item_like_word(types, k, place, mt, known)
 }
 
 // The free item at `place` that gives this length.

@@ -40,7 +40,7 @@ loop-place-init c =
           c.requires.no_contexts;
       settling = settling_starts h c.requires.heap k c.requires.in_range bricks from next c.requires.low begin;
       walks = walks_start rows h c.requires.no_contexts k c.requires.in_range from bricks next c.requires.low begin;
-      known = c.none.ensures rows;
+      known = c.none-known.ensures rows;
     }
 
 pub clear_mark-found-requires : goal.clear_mark-found-requires

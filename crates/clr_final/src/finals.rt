@@ -1,5 +1,5 @@
 // The finalisation queue.
-ghost use Rattle.std.specs.Prelude.{◌≡◌, ℕ, ◌+◌, ◌<◌, ◌≤◌, ◌++◌, [], ◌∷◌, length, IfNone, OnErr, OnOk};
+ghost use Rattle.std.specs.Prelude.{◌≡◌, ℕ, ◌+◌, ◌<◌, ◌≤◌, ◌++◌, [], ◌∷◌, length, IfNone, OnErr, OnOk, true};
 ghost use Rattle.std.specs.Prelude.{option_to_list, slice_index};
 ghost use Rattle.clr_final.specs.Queues.{HasAllFrom};
 
@@ -44,10 +44,32 @@ impl Finals {
         }
     }
 
-    /// Makes room for `n` more entries. `NoMemory` comes where there was none for them; some room may have been made
-    /// then. Both lists stay in any case, and there never is less room.
-    #[inline(never)]
+    /// Makes room for `n` more entries, at once where there is room. `NoMemory` comes where there was none for them;
+    /// some room may have been made then. Both lists stay in any case, and there never is less room.
+    #[inline]
     pub fn reserve(&mut self, n: usize) -> Result<(), NoMemory>
+        ensures ok { OnOk result (n ≤ self.new.spare) }
+        ensures entries { self.new.entries ≡ self.old.entries }
+        ensures ready { self.new.ready ≡ self.old.ready }
+        ensures spare { self.old.spare ≤ self.new.spare }
+    {
+        if self.has_room(n) {
+            return Ok(());
+        }
+        self.grow(n)
+    }
+
+    // Whether there is room for `n` more entries, and among the f-reachable places for all that there may be.
+    #[inline]
+    fn has_room(&self, n: usize) -> bool
+        ensures { result ≡ true → n ≤ self.now.spare }
+    {
+        n <= self.entries.room() && self.entries.capacity() <= self.ready.room()
+    }
+
+    // Makes room for `n` more entries.
+    #[inline(never)]
+    fn grow(&mut self, n: usize) -> Result<(), NoMemory>
         ensures ok { OnOk result (n ≤ self.new.spare) }
         ensures entries { self.new.entries ≡ self.old.entries }
         ensures ready { self.new.ready ≡ self.old.ready }

@@ -96,7 +96,8 @@ impl PlugMoves {
     {
         let segment = heap.info(self.segment);
         if takes_part(g, segment) {
-            self.cursor = PlugCursor::new(part_start(heap, g, self.segment), segment.end);
+            self.cursor
+                .restart(part_start(heap, g, self.segment), segment.end);
             let _ = self.read(heap, bricks);
         } else {
             self.start = 0;

@@ -1,22 +1,27 @@
 -- The plugs of the next brick, as a cursor reads them.
-use Rattle.std.proofs.Common.{◌≡◌, inl, inr, ℕ, ◌+◌, ◌*◌, ◌/◌, ◌<◌, ◌≤◌, List, [], ◌∷◌, ◌++◌, length, take, drop}
-use Rattle.std.proofs.Common.{filter, refl, ap, sym, ◌∙◌, subst, arith, true, false, Bool, ◌&&◌, if◌then◌else◌, leb}
-use Rattle.std.proofs.Common.{ltb, eqb, ℤ}
-use Rattle.std.proofs.lemmas.Bool.{cases_lt, eq-eqb, le-leb, leb-true, lt-ltb, ne_eqb, cases_Bool}
-use Rattle.clr_types.specs.Rising.{first, IsIn}
-use Rattle.clr_types.proofs.ListMembers.{filter-on}
-use Rattle.clr_heap.specs.View.{HeapView, IsHeap, word_of}
+use Rattle.std.proofs.Common.{◌≡◌, inl, inr, ℕ, zero, suc, ◌+◌, ◌-◌, ◌*◌, ◌/◌, ◌<◌, ◌≤◌, List, [], ◌∷◌, ◌++◌, length}
+use Rattle.std.proofs.Common.{drop, filter, refl, ap, sym, ◌∙◌, subst, arith, true, false, Bool, ◌&&◌, if◌then◌else◌}
+use Rattle.std.proofs.Common.{leb, ltb, eqb, ℤ}
+use Rattle.std.proofs.lemmas.Bool.{cases_lt, eq-eqb, le-leb, leb-true, lt-ltb, ltb-true, ne_eqb, cases_Bool}
+use Rattle.std.proofs.lemmas.List.{append_assoc}
+use Rattle.clr_types.specs.Rising.{first, IsIn, later}
+use Rattle.clr_types.proofs.ListMembers.{filter-on, from-map}
+use Rattle.clr_types.proofs.RisingLists.{in_cons}
+use Rattle.clr_types.proofs.ChangedLists.{IsIn-map}
+use Rattle.clr_heap.specs.View.{HeapView, IsHeap}
 use Rattle.clr_plugs.specs.BrickEntries.{BricksView}
-use Rattle.clr_bricks.specs.Bricks.{entry_at}
 use Rattle.clr_plugs.specs.Builders.{places_from}
-use Rattle.clr_plugs.specs.Cursors.{ahead, AreLeft, CanGather, starts_between, TellLeft}
-use Rattle.clr_plugs.specs.Plans.{AreSpaced, IsPart, PlannedPart, plug_starts, root_number, TellsBrick, tree_here}
+use Rattle.clr_plugs.specs.Cursors.{ahead, AreLeft, starts_between}
+use Rattle.clr_plugs.specs.Forests.{CanReadAll, HaveFound}
+use Rattle.clr_plugs.specs.Offsets.{AreApart, AreListed}
+use Rattle.clr_plugs.specs.Plans.{AreSpaced, plug_starts, root_number, TellsBrick, tree_here}
 use Rattle.clr_plugs.specs.Plans.{tree_below, no_tree}
-use Rattle.clr_plugs.specs.Trees.{in_order, IsBrickTree, leaf, starts_in}
+use Rattle.clr_plugs.specs.Trees.{IsBrickTree, leaf, starts_in}
 use Rattle.clr_plugs.proofs.Finding.{plug_words}
-use Rattle.clr_plugs.proofs.Gathering.{few_levels, Gathers, spaced_few}
+use Rattle.clr_plugs.proofs.Gathering.{spaced_few}
 use Rattle.clr_plugs.proofs.Planning.{none_in}
-use Rattle.clr_plugs.proofs.Starts.{in_brick, spaced-above}
+use Rattle.clr_plugs.proofs.Starts.{in_brick, into_filter, out_of_filter, spaced-above, spaced-apart}
+use Rattle.clr_plugs.proofs.Stepping.{none_ahead}
 
 -- the root that is read has the tree of the brick, also where there is none
 pub brick_tree : (word : ℕ → ℕ) (starts : List ℕ) (brick root : ℕ) (entry : ℤ) → TellsBrick word starts brick entry
@@ -64,31 +69,6 @@ few_in low brick starts s =
     let few = spaced_few (brick * 4096) (brick * 4096 + 4096) (starts_in brick starts) inside
     (λ x i. let m = (in_brick brick starts x i).1 in omega (arith, m)) in
     omega (arith, few)
-
--- the tree of the next brick can be gathered
-pub can_gather : (h : HeapView) (bricks : BricksView) (brick past root : ℕ) → IsHeap h
-    → (left : AreLeft h bricks brick past) → brick < past → root ≡ root_number (entry_at bricks brick)
-    → CanGather h (brick * 4096) root 8 0
-can_gather h bricks brick past root heap left some read =
-    let starts = plug_starts left.part.plugs in
-    let t = brick_tree (word_of h) starts brick root (entry_at bricks brick) (left.tell brick (omega arith) some)
-    read in
-    let few = few_in left.part.low brick starts left.lies.spaced in
-    let n = ap length t.order in
-    let within : (x : ℕ) → IsIn x (in_order t.tree) → IsIn x (starts_in brick starts) =
-    λ x i. (let P : List ℕ → Type 0 = λ xs. IsIn x xs in subst P t.order i) in
-    let fits = left.fits in
-    record {
-      tree = t.tree;
-      root = t.root;
-      stands = t.stands;
-      inside = λ x i. let m = (in_brick brick starts x (within x i)).1 in (omega (arith, m), omega (arith, m));
-      words = λ x i. let w = plug_words h left.part heap left.lies x (in_brick brick starts x (within x i)).0 in
-          let above = w.above in (omega (arith, above), w.children);
-      shallow = few_levels _ _ t.balanced few;
-      room = omega (arith, few, n);
-      fits = omega (arith, fits, some);
-    }
 
 -- ---- the places of a brick, before those of the bricks above it
 
@@ -138,22 +118,160 @@ split_brick low b past (x ∷ xs) s some = elim (cases_lt (x / 4096) b) [
   ]
 ]
 
--- what a cursor is still to give stays where it reads a brick
-pub loaded : (h : HeapView) (bricks : BricksView) (at_hand : List ℕ) (brick past root result : ℕ) (into : List ℕ)
-    → at_hand ≡ [] → root ≡ root_number (entry_at bricks brick) → brick < past
-    → Gathers h (brick * 4096) root [] (take result into)
-    → (part : PlannedPart) → IsPart h part → TellLeft (word_of h) bricks part brick past
-    → ahead (record {
-      at_hand = places_from (brick * 4096) (drop 0 (take result into));
-      brick = brick + 1;
-      past = past;
-    }) (plug_starts part.plugs)
-    ≡ ahead (record { at_hand = at_hand; brick = brick; past = past }) (plug_starts part.plugs)
-loaded h bricks at_hand brick past root result into none read some gathers part lies tell =
-    let starts = plug_starts part.plugs in
-    let t = brick_tree (word_of h) starts brick root (entry_at bricks brick) (tell brick (omega arith) some) read in
-    let all : places_from (brick * 4096) (take result into) ≡ starts_in brick starts =
-    gathers t.tree t.stands t.root ∙ t.order in
-    ap (λ (xs : List ℕ). xs ++ starts_between (brick + 1) past starts) all
-    ∙ sym (split_brick part.low brick past starts lies.spaced some)
+-- the places of some bricks, before those of the bricks above them
+split_bricks : (low n b past : ℕ) (starts : List ℕ) → AreSpaced low starts → b + n ≤ past
+    → starts_between b past starts ≡ starts_between b (b + n) starts ++ starts_between (b + n) past starts
+split_bricks low zero b past starts s le =
+    ap (λ (m : ℕ). starts_between m past starts) (omega arith)
+    ∙ ap (λ (xs : List ℕ). xs ++ starts_between (b + 0) past starts) (sym (none_ahead b (b + 0) starts (omega arith)))
+split_bricks low (suc n) b past starts s le =
+    let more = split_bricks low n (b + 1) past starts s (omega (arith, le)) in
+    let same : b + 1 + n ≡ b + suc n = omega arith in
+    let Q : ℕ → Type 0 = λ m. starts_between (b + 1) past starts
+    ≡ starts_between (b + 1) m starts ++ starts_between m past starts in
+    split_brick low b past starts s (omega (arith, le))
+    ∙ ap (λ (xs : List ℕ). starts_in b starts ++ xs) (subst Q same more)
+    ∙ sym (append_assoc (starts_in b starts) (starts_between (b + 1) (b + suc n) starts)
+    (starts_between (b + suc n) past starts))
+    ∙ ap (λ (xs : List ℕ). xs ++ starts_between (b + suc n) past starts)
+    (sym (split_brick low b (b + suc n) starts s (omega arith)))
+
+-- ---- the plugs of some bricks
+
+between_of : (b past x : ℕ) → (leb b (x / 4096) && ltb (x / 4096) past) ≡ true → (b ≤ x / 4096) × (x / 4096 < past)
+between_of b past x e = (leb-true b (x / 4096) (and_yes _ _ e).0, ltb-true (x / 4096) past (and_yes _ _ e).1)
+  where
+    and_yes : (p q : Bool) → (p && q) ≡ true → (p ≡ true) × (q ≡ true)
+    and_yes true true e = (refl, refl)
+    and_yes true false e = absurd (let bad : false ≡ true = e in cc)
+    and_yes false q e = absurd (let bad : false ≡ true = e in cc)
+
+pub in_bricks : (b past : ℕ) (starts : List ℕ) (x : ℕ) → IsIn x (starts_between b past starts)
+    → IsIn x starts × ((b ≤ x / 4096) × (x / 4096 < past))
+in_bricks b past starts x i =
+    let r = out_of_filter (λ y. leb b (y / 4096) && ltb (y / 4096) past) starts x i in
+    (r.0, between_of b past x r.1)
+
+pub into_bricks : (b past : ℕ) (starts : List ℕ) (x : ℕ) → IsIn x starts → b ≤ x / 4096 → x / 4096 < past
+    → IsIn x (starts_between b past starts)
+into_bricks b past starts x i low high =
+    into_filter (λ y. leb b (y / 4096) && ltb (y / 4096) past) starts x i
+    (rw (le-leb b (x / 4096) low, lt-ltb (x / 4096) past high) refl)
+
+-- fewer bricks are left, too
+abbrev pub less_left : (h : HeapView) (bricks : BricksView) (b past end : ℕ) → end ≤ past → AreLeft h bricks b past
+    → AreLeft h bricks b end
+less_left h bricks b past end le left =
+    let fits = left.fits in
+    record {
+      part = left.part;
+      lies = left.lies;
+      covered = λ i low high. left.covered i low (omega (arith, high, le));
+      tell = λ i low high. left.tell i low (omega (arith, high, le));
+      fits = omega (arith, fits, le);
+    }
+
+-- those of the next bricks can be read
+pub can_read : (h : HeapView) (bricks : BricksView) (b past end : ℕ) → IsHeap h → (left : AreLeft h bricks b past)
+    → b < past → end ≤ b + 4 → end ≤ past
+    → CanReadAll h (b * 4096) left.part.segment (starts_between b end (plug_starts left.part.plugs))
+can_read h bricks b past end heap left some few within =
+    let starts = plug_starts left.part.plugs in
+    let fits = left.fits in
+    let there : (x : ℕ) → IsIn x (starts_between b end starts) → IsIn x starts × ((b ≤ x / 4096) × (x / 4096 < end)) =
+    in_bricks b end starts in
+    record {
+      even = omega arith;
+      low = λ x i. let m = (there x i).1.0 in omega (arith, m);
+      high = λ x i. let m = (there x i).1.1 in omega (arith, m, few);
+      aligned = λ x i. (left.lies.places x (there x i).0).aligned;
+      words = λ x i. plug_words h left.part heap left.lies x (there x i).0;
+      spaced = spaced_from left.part.low (b * 4096) (starts_between b end starts)
+          (spaced_filter (λ y. leb b (y / 4096) && ltb (y / 4096) end) left.part.low starts left.lies.spaced)
+          (λ x i. let m = (there x i).1.0 in omega (arith, m));
+      fits = omega (arith, fits, some);
+    }
+
+-- ---- spaced places are told by their members
+
+pub spaced_same : (a b : ℕ) (xs ys : List ℕ) → AreSpaced a xs → AreSpaced b ys
+    → ((x : ℕ) → IsIn x xs → IsIn x ys) → ((x : ℕ) → IsIn x ys → IsIn x xs) → xs ≡ ys
+spaced_same a b [] [] s t to from = refl
+spaced_same a b [] (y ∷ ys) s t to from = elim (from y first) [ ]
+spaced_same a b (x ∷ xs) [] s t to from = elim (to x first) [ ]
+spaced_same a b (x ∷ xs) (y ∷ ys) s t to from =
+    let up = spaced-above x (x ∷ xs) (omega arith, s.1) y (from y first) in
+    let down = spaced-above y (y ∷ ys) (omega arith, t.1) x (to x first) in
+    let same : x ≡ y = omega (arith, up, down) in
+    let rest : xs ≡ ys = spaced_same (x + 24) (y + 24) xs ys s.1 t.1
+    (λ z i. elim (in_cons (to z (later i))) [
+      | inl e ↦ let far = spaced-above (x + 24) xs s.1 z i in absurd (omega (arith, far, e, same))
+      | inr more ↦ more
+    ])
+    (λ z i. elim (in_cons (from z (later i))) [
+      | inl e ↦ let far = spaced-above (y + 24) ys t.1 z i in absurd (omega (arith, far, e, same))
+      | inr more ↦ more
+    ]) in
+    λ i. same i ∷ rest i
+
+spaced-moved : (base low : ℕ) (xs : List ℕ) → AreSpaced low xs → AreSpaced (base + low) (places_from base xs)
+spaced-moved base low [] s = tt
+spaced-moved base low (x ∷ xs) s =
+    let h = s.0 in
+    let more = spaced-moved base (x + 24) xs s.1 in
+    let P : ℕ → Type 0 = λ n. AreSpaced n (places_from base xs) in
+    (omega (arith, h), subst P (omega arith) more)
+
+-- ---- what was found is listed
+
+module _ (h : HeapView) (base segment : ℕ) (starts : List ℕ) (can : CanReadAll h base segment starts) (bits : List ℕ)
+    (found : HaveFound starts base bits) where
+  pub found_apart : AreApart bits
+  found_apart i j less a b =
+      elim (spaced-apart base starts can.spaced (base + 8 * i) (base + 8 * j) (found.sound i a) (found.sound j b)) [
+        | inl e ↦ absurd (omega (arith, e, less))
+        | inr apart ↦ elim apart [ inl up ↦ omega (arith, up) | inr down ↦ absurd (omega (arith, down, less)) ]
+      ]
+
+  pub listed_all : (offsets : List ℕ) → AreListed bits 2048 offsets → places_from base offsets ≡ starts
+  listed_all offsets listed =
+      let even = can.even in
+      spaced_same (base + 0) base (places_from base offsets) starts (spaced-moved base 0 offsets listed.spaced)
+      can.spaced
+      (λ x i.
+      let (o, is, there) = from-map (λ (o : ℕ). base + o) x offsets i in
+      let e = listed.each o there in
+      let z = e.0 in
+      let P : ℕ → Type 0 = λ n. IsIn n starts in
+      subst P (omega (arith, z, is)) (found.sound (o / 8) e.1.1))
+      (λ x i.
+      let low = can.low x i in
+      let high = can.high x i in
+      let z = can.aligned x i in
+      let there = listed.all ((x - base) / 8) (omega (arith, low, high)) (found.full x i) in
+      let P : ℕ → Type 0 = λ n. IsIn n (places_from base offsets) in
+      subst P (omega (arith, low, z, even)) (IsIn-map (λ (o : ℕ). base + o) there))
+
+-- what a cursor is still to give stays where it reads the plugs of some bricks
+pub loaded : (h : HeapView) (bricks : BricksView) (at_hand : List ℕ) (brick past end : ℕ) (offsets bits : List ℕ)
+    → IsHeap h → at_hand ≡ [] → brick < past → brick ≤ end → end ≤ brick + 4 → end ≤ past
+    → (left : AreLeft h bricks brick past)
+    → HaveFound (starts_between brick end (plug_starts left.part.plugs)) (brick * 4096) bits
+    → AreListed bits 2048 offsets
+    → ahead (record { at_hand = places_from (brick * 4096) (drop 0 offsets); brick = end; past = past })
+    (plug_starts left.part.plugs)
+    ≡ ahead (record { at_hand = at_hand; brick = brick; past = past }) (plug_starts left.part.plugs)
+loaded h bricks at_hand brick past end offsets bits heap none some le few within left found listed =
+    let starts = plug_starts left.part.plugs in
+    let can = can_read h bricks brick past end heap left some few within in
+    let all : places_from (brick * 4096) offsets ≡ starts_between brick end starts =
+    listed_all h (brick * 4096) left.part.segment (starts_between brick end starts) can bits found offsets listed in
+    let n : brick + (end - brick) ≡ end = omega (arith, le) in
+    let P : ℕ → Type 0 = λ m. starts_between brick past starts
+    ≡ starts_between brick m starts ++ starts_between m past starts in
+    let split : starts_between brick past starts ≡ starts_between brick end starts ++ starts_between end past starts =
+    subst P n (split_bricks left.part.low (end - brick) brick past starts left.lies.spaced
+    (omega (arith, le, within))) in
+    ap (λ (xs : List ℕ). xs ++ starts_between end past starts) all
+    ∙ sym split
     ∙ ap (λ (xs : List ℕ). xs ++ starts_between brick past starts) (sym none)

@@ -33,10 +33,10 @@ later_left h bricks brick other past le left = record {
   fits = left.fits;
 }
 
--- a brick is read
+-- the plugs of some bricks are read
 pub steps_on : (h : HeapView) (bricks : BricksView) (old now next : CursorView) → IsStepping h bricks old now
     → ((part : PlannedPart) → IsPart h part → TellLeft (word_of h) bricks part now.brick now.past
-    → ahead next (plug_starts part.plugs) ≡ ahead now (plug_starts part.plugs)) → next.brick ≡ now.brick + 1
+    → ahead next (plug_starts part.plugs) ≡ ahead now (plug_starts part.plugs)) → now.brick < next.brick
     → next.past ≡ now.past → IsStepping h bricks old next
 steps_on h bricks old now next s same brick past =
     let low = s.brick in

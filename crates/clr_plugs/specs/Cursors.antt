@@ -1,14 +1,9 @@
 -- Going over the plugs of a part.
-use Rattle.std.specs.Prelude.{◌≡◌, ◌≢◌, ℕ, ◌+◌, ◌-◌, ◌*◌, ◌/◌, ◌^◌, ◌<◌, ◌≤◌, List, ◌++◌, filter}
-use Rattle.std.specs.Prelude.{length, nat_le, nat_lt, ◌&&◌}
-use Rattle.clr_types.specs.Rising.{IsIn}
+use Rattle.std.specs.Prelude.{ℕ, ◌+◌, ◌*◌, ◌/◌, ◌^◌, ◌<◌, ◌≤◌, List, ◌++◌, filter, nat_le, nat_lt, ◌&&◌}
 use Rattle.clr_heap.specs.View.{HeapView, word_of}
 use Rattle.clr_plugs.specs.BrickEntries.{BricksView, IsCovered}
 use Rattle.clr_bricks.specs.Bricks.{entry_at}
-use Rattle.clr_plugs.specs.Builders.{HaveChildren}
-use Rattle.clr_plugs.specs.Info.{left_of, right_of}
 use Rattle.clr_plugs.specs.Plans.{IsPart, PlannedPart, plug_starts, TellsBrick}
-use Rattle.clr_plugs.specs.Trees.{in_order, levels, root_of, Stands, Tree}
 
 -- the plugs that are at hand, the brick that is read next, and one past the last brick
 pub record CursorView : Type 0 where
@@ -27,7 +22,7 @@ ahead c starts = c.at_hand ++ starts_between c.brick c.past starts
 -- what holds of the fields of every cursor
 pub record IsCursor (offsets : List ℕ) (count at base : ℕ) : Type 0 where
   pub at_most : at ≤ count
-  pub most : count ≤ 171
+  pub most : count ≤ 683
   pub fits : base + 65536 < 2 ^ 64
 
 -- the entries of the bricks from one up to another tell of the plugs of the part
@@ -42,19 +37,3 @@ pub record AreLeft (h : HeapView) (bricks : BricksView) (brick past : ℕ) : Typ
   pub covered : (i : ℕ) → brick ≤ i → i < past → IsCovered bricks i
   pub tell : TellLeft (word_of h) bricks part brick past
   pub fits : past * 4096 + 65536 < 2 ^ 64
-
--- from this root hangs a tree, with few enough levels, whose plugs fit behind `count` offsets
-pub record CanGather (h : HeapView) (base from limit count : ℕ) : Type 0 where
-  pub tree : Tree
-  pub root : from ≡ root_of base tree
-  pub stands : Stands (word_of h) base tree
-  pub inside : (x : ℕ) → IsIn x (in_order tree) → (base ≤ x) × (x < base + 4096)
-  pub words : HaveChildren h (in_order tree)
-  pub shallow : levels tree ≤ limit
-  pub room : count + length (in_order tree) ≤ 171
-  pub fits : base + 4096 < 2 ^ 64
-
--- the children of the plug of the brick that begins at `base`, where there is one
-abbrev pub AreChildren : (ℕ → ℕ) → ℕ → ℕ → ℕ → ℕ → Type 0
-AreChildren word base from left right = from ≢ 0
-    → (left ≡ left_of word (base + (from - 1))) × (right ≡ right_of word (base + (from - 1)))

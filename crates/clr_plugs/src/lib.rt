@@ -14,6 +14,8 @@ pub use crate::writer::PlanWriter;
 
 mod builder;
 mod cursor;
+mod forests;
+mod offsets;
 mod search;
 mod words;
 mod writer;

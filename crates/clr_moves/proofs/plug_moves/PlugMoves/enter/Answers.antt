@@ -26,7 +26,7 @@ read-requires c =
     let Q : CursorView → Type 0 = λ v. CanRead h c.args.bricks.now v part part.plugs in (
       part,
       part.plugs,
-      subst Q (sym c.new-self-inside.ensures)
+      subst Q (sym c.restart.ensures)
           (enter_can rows h c.args.bricks.now c.args.g line vs can on c.part_start.result
           c.info-segment.result.end c.part_start.ensures (ap (λ (s : SegInfo). s.end) c.info-segment.ensures.value)),
     )
@@ -47,7 +47,7 @@ returns-then-takes_part-clause-gives c = λ rows vs old.
     ∙ c.if-takes_part.true in
     let part = can.parts line.segment in
     let Q : CursorView → Type 0 = λ v. CanRead h c.args.bricks.now v part part.plugs in
-    let before = subst Q (sym c.new-self-inside.ensures)
+    let before = subst Q (sym c.restart.ensures)
     (enter_can rows h c.args.bricks.now c.args.g line vs can on c.part_start.result
     c.info-segment.result.end c.part_start.ensures (ap (λ (s : SegInfo). s.end) c.info-segment.ensures.value)) in
     entered_part rows h c.args.bricks.now c.args.g line vs can on c.read.new.self c.read.result c.read.ensures.segment

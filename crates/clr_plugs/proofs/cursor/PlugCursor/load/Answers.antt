@@ -1,65 +1,89 @@
-use Rattle.std.proofs.Common.{◌≡◌, ℕ, ◌+◌, ◌*◌, ◌<◌, take, drop, ap, sym, ◌∙◌, subst}
+use Rattle.std.proofs.Common.{◌≡◌, ◌*◌, ◌<◌, take, drop, replicate, ap, sym, ◌∙◌, subst, arith}
 use Rattle.clr_heap.specs.View.{word_of}
 use Rattle.clr_plugs.specs.Builders.{places_from}
-use Rattle.clr_plugs.specs.Cursors.{ahead, AreLeft, CursorView, TellLeft}
+use Rattle.clr_plugs.specs.Cursors.{ahead, AreLeft, CursorView, starts_between, TellLeft}
 use Rattle.clr_plugs.specs.Plans.{IsPart, PlannedPart, plug_starts}
-use Rattle.clr_plugs.proofs.Gathering.{child_word, gather_fits}
-use Rattle.clr_plugs.proofs.Loading.{can_gather, loaded}
+use Rattle.clr_plugs.proofs.Loading.{can_read, found_apart, less_left, loaded}
+use Rattle.clr_plugs.proofs.UnitBits.{none_set}
 use Rattle.clr_plugs.proofs.cursor.PlugCursor.load.Goals as goal
 
-pub children_in-below-requires-clause-word : goal.children_in-below-requires-clause-word
-children_in-below-requires-clause-word c =
+pub put_roots-roots-requires-clause-left : goal.put_roots-roots-requires-clause-left
+put_roots-roots-requires-clause-left c =
     let h = c.args.heap.now in
     let bricks = c.args.bricks.now in
+    let i = c.self.inside in
     let P : CursorView → Type 0 = λ v. AreLeft h bricks v.brick v.past in
     let left = subst P (sym c.self.view_is) c.requires.left in
     let Q : CursorView → Type 0 = λ v. v.brick < v.past in
     let some = subst Q (sym c.self.view_is) c.requires.some in
-    child_word h (c.self.inside.brick * 4096) c.lead-root.result.0 8 0
-    (can_gather h bricks c.self.inside.brick c.self.inside.past c.lead-root.result.0 c.lawful.ensures left some
-    (ap (λ (p : ℕ × ℕ). p.0) c.lead-root.ensures))
+    let end = c.min-past.result in
+    let least = c.min-past.ensures in
+    (h, less_left h bricks i.brick i.past end (omega (arith, least)) left)
 
-pub children_in-below-requires-clause-fits : goal.children_in-below-requires-clause-fits
-children_in-below-requires-clause-fits c =
+pub gather-requires-clause-can : goal.gather-requires-clause-can
+gather-requires-clause-can c =
     let h = c.args.heap.now in
     let bricks = c.args.bricks.now in
+    let i = c.self.inside in
     let P : CursorView → Type 0 = λ v. AreLeft h bricks v.brick v.past in
     let left = subst P (sym c.self.view_is) c.requires.left in
     let Q : CursorView → Type 0 = λ v. v.brick < v.past in
     let some = subst Q (sym c.self.view_is) c.requires.some in
-    gather_fits h (c.self.inside.brick * 4096) c.lead-root.result.0 8 0
-    (can_gather h bricks c.self.inside.brick c.self.inside.past c.lead-root.result.0 c.lawful.ensures left some
-    (ap (λ (p : ℕ × ℕ). p.0) c.lead-root.ensures))
+    let end = c.min-past.result in
+    let least = c.min-past.ensures in
+    let starts = starts_between i.brick end (plug_starts left.part.plugs) in
+    let can = can_read h bricks i.brick i.past end c.lawful.ensures left some (omega (arith, least))
+    (omega (arith, least)) in
+    let begun = c.put_roots-roots.ensures.waiting h (replicate 32 0) (none_set 32)
+    (less_left h bricks i.brick i.past end (omega (arith, least)) left) in
+    (starts, left.part.segment, can, begun)
 
-pub gather-count-requires-clause-can : goal.gather-count-requires-clause-can
-gather-count-requires-clause-can c =
+pub list_offsets-self-inside-requires-clause-apart : goal.list_offsets-self-inside-requires-clause-apart
+list_offsets-self-inside-requires-clause-apart c =
     let h = c.args.heap.now in
     let bricks = c.args.bricks.now in
+    let i = c.self.inside in
     let P : CursorView → Type 0 = λ v. AreLeft h bricks v.brick v.past in
     let left = subst P (sym c.self.view_is) c.requires.left in
     let Q : CursorView → Type 0 = λ v. v.brick < v.past in
     let some = subst Q (sym c.self.view_is) c.requires.some in
-    can_gather h bricks c.self.inside.brick c.self.inside.past c.lead-root.result.0 c.lawful.ensures left some
-    (ap (λ (p : ℕ × ℕ). p.0) c.lead-root.ensures)
+    let end = c.min-past.result in
+    let least = c.min-past.ensures in
+    let starts = starts_between i.brick end (plug_starts left.part.plugs) in
+    let can = can_read h bricks i.brick i.past end c.lawful.ensures left some (omega (arith, least))
+    (omega (arith, least)) in
+    let begun = c.put_roots-roots.ensures.waiting h (replicate 32 0) (none_set 32)
+    (less_left h bricks i.brick i.past end (omega (arith, least)) left) in
+    found_apart h (i.brick * 4096) left.part.segment starts can c.gather.new.words
+    (c.gather.ensures starts left.part.segment can begun)
 
 pub returns-clause-ahead : goal.returns-clause-ahead
 returns-clause-ahead c =
     let h = c.args.heap.now in
     let bricks = c.args.bricks.now in
     let i = c.self.inside in
+    let P : CursorView → Type 0 = λ v. AreLeft h bricks v.brick v.past in
+    let left = subst P (sym c.self.view_is) c.requires.left in
     let Q : CursorView → Type 0 = λ v. v.brick < v.past in
     let some = subst Q (sym c.self.view_is) c.requires.some in
+    let end = c.min-past.result in
+    let least = c.min-past.ensures in
     let none = ap (λ (v : CursorView). v.at_hand) c.self.view_is ∙ c.requires.none in
+    let offsets = take c.list_offsets-self-inside.result c.list_offsets-self-inside.new.into in
     let new : CursorView =
-    record {
-      at_hand = places_from (i.brick * 4096) (drop 0 (take c.gather-count.result c.gather-count.new.into));
-      brick = i.brick + 1;
-      past = i.past;
-    } in
+    record { at_hand = places_from (i.brick * 4096) (drop 0 offsets); brick = end; past = i.past } in
     let R : CursorView → Type 0 =
     λ v. (part : PlannedPart) → IsPart h part → TellLeft (word_of h) bricks part v.brick v.past
     → ahead new (plug_starts part.plugs) ≡ ahead v (plug_starts part.plugs) in
-    subst R c.self.view_is
-    (loaded h bricks (places_from i.base (drop i.at (take i.count i.offsets)))
-    i.brick i.past c.lead-root.result.0 c.gather-count.result c.gather-count.new.into none
-    (ap (λ (p : ℕ × ℕ). p.0) c.lead-root.ensures) some c.gather-count.ensures.offsets)
+    subst R c.self.view_is (λ part lies tell.
+    let told : AreLeft h bricks i.brick i.past =
+    record { part = part; lies = lies; covered = left.covered; tell = tell; fits = left.fits } in
+    let starts = starts_between i.brick end (plug_starts part.plugs) in
+    let can = can_read h bricks i.brick i.past end c.lawful.ensures told some (omega (arith, least))
+    (omega (arith, least)) in
+    let begun = c.put_roots-roots.ensures.waiting h (replicate 32 0) (none_set 32)
+    (less_left h bricks i.brick i.past end (omega (arith, least)) told) in
+    loaded h bricks (places_from i.base (drop i.at (take i.count i.offsets))) i.brick i.past end offsets
+    c.gather.new.words c.lawful.ensures none some (omega (arith, least, some)) (omega (arith, least))
+    (omega (arith, least)) told (c.gather.ensures starts part.segment can begun)
+    c.list_offsets-self-inside.ensures.listed)

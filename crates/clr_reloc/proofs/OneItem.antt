@@ -114,7 +114,7 @@ module _ (work : Relocation) (view now h : HeapView) (pins : QueueView) (vs : Li
   pub fits_len : place + 8 < 2 ^ 64
   fits_len = let l = low_place in let s = least in omega (arith, l, s)
 
-  item_is : item_at rows (logical entries (word_of h)) place ≡ i
+  pub item_is : item_at rows (logical entries (word_of h)) place ≡ i
   item_is =
       item_same rows (word_of view) (logical entries (word_of h)) place mt_same len_same
       ∙ ap (item_at rows (word_of view)) (sym q.at) ∙ sym (listed-spelled rows view i heap held q.listed).0

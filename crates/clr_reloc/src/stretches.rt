@@ -180,7 +180,8 @@ fn relocate_known(
     }
 }
 
-// The same for an item of another kind, with the method table word `mt`. Its kind is met then.
+// The same for an item of another kind, with the method table word `mt`. One of a type without references is passed
+// over at once, and of another the kind is met.
 #[inline(never)]
 fn relocate_read(
     heap: &mut Heap,
@@ -210,6 +211,9 @@ fn relocate_read(
 {
     let (segment, near) = (met.segment, met.near);
     let found = logical_item(heap, work.types, pins, segment, near, place, mt);
+    if work.types.series(found.type_id).is_empty() {
+        return found.size;
+    }
     met.kind = kind_behind(work.types, found, mt, met.kind);
     if is_left(heap, work.g, segment, found, mt) {
         let age = planned_gen(heap, &work.planned, to);

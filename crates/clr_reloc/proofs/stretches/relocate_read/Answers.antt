@@ -1,8 +1,14 @@
 use Rattle.std.proofs.Common.{◌≤◌, ◌∙◌, ℕ, ap, length, subst, sym}
+use Rattle.std.proofs.lemmas.Bool.{eqb-true}
 use Rattle.clr_types.specs.declared.item.Item.{Item}
+use Rattle.clr_types.specs.Types.{form_at}
 use Rattle.clr_heap.specs.View.{word_of}
 use Rattle.clr_heap.proofs.ObjectKinds.{item-number}
+use Rattle.clr_mark.proofs.Following.{none_left}
+use Rattle.clr_mark.proofs.References.{no_references}
 use Rattle.clr_pinq.specs.Queue.{logical}
+use Rattle.clr_reloc.specs.References.{references_of}
+use Rattle.clr_reloc.proofs.OneItem.{bare_stays, item_is}
 use Rattle.clr_reloc.proofs.OneItem.{fits_len, found_ahead, found_done, found_is, found_placed, found_stays}
 use Rattle.clr_reloc.proofs.OneItem.{item_named, len_has, len_segment, segment_inside}
 use Rattle.clr_reloc.proofs.OneObject.{beside_refl}
@@ -36,6 +42,15 @@ logical_item-found-requires-clause-room c =
     c.args.to
     c.args.cards.now q
 
+pub series-requires : goal.series-requires
+series-requires c =
+    let (view, now, vs, i, r, q) = c.requires.can in
+    let named = item_named c.args.work.now view now c.args.heap.now c.args.pins.now vs c.args.met.now.stretch r i
+    c.args.place c.args.to c.args.cards.now q in
+    let number = ap (λ (x : Item). x.type_id.0) c.logical_item-found.ensures
+    ∙ item-number c.args.work.now.types.now (logical c.args.pins.now.entries (word_of c.args.heap.now)) c.args.place in
+    subst (λ (n : ℕ). n ≤ length c.args.work.now.types.now) (sym number) named.known
+
 pub kind_behind-met-requires-clause-number : goal.kind_behind-met-requires-clause-number
 kind_behind-met-requires-clause-number c =
     let (view, now, vs, i, r, q) = c.requires.can in
@@ -44,6 +59,24 @@ kind_behind-met-requires-clause-number c =
     let number = ap (λ (x : Item). x.type_id.0) c.logical_item-found.ensures
     ∙ item-number c.args.work.now.types.now (logical c.args.pins.now.entries (word_of c.args.heap.now)) c.args.place in
     subst (λ (n : ℕ). n ≤ length c.args.work.now.types.now) (sym number) named.known
+
+pub returns-then-is_empty-clause-gone : goal.returns-then-is_empty-clause-gone
+returns-then-is_empty-clause-gone c view now vs i r q =
+    let rows = c.args.work.now.types.now in
+    let found = c.logical_item-found.result in
+    let same = c.logical_item-found.ensures ∙ item_is c.args.work.now view now c.args.heap.now c.args.pins.now vs
+    c.args.met.now.stretch r i c.args.place c.args.to c.args.cards.now q in
+    let series = sym c.series.ensures ∙ none_left c.series.result.now
+    (eqb-true (length c.series.result.now) 0 (sym c.is_empty.ensures ∙ c.if-is_empty.true)) in
+    let none = no_references (form_at rows found.type_id.0) found.len series in (
+      ap (λ (x : Item). x.size) same,
+      bare_stays c.args.work.now view now c.args.heap.now c.args.pins.now vs c.args.met.now.stretch r i c.args.place
+          c.args.to c.args.cards.now q (ap (references_of rows) (sym same) ∙ none),
+    )
+
+pub returns-then-is_empty-clause-beside : goal.returns-then-is_empty-clause-beside
+returns-then-is_empty-clause-beside c =
+    beside_refl c.args.cards.now c.args.pins.now
 
 pub kind_behind-met-requires-clause-item : goal.kind_behind-met-requires-clause-item
 kind_behind-met-requires-clause-item c = (

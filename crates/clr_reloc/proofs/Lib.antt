@@ -4,6 +4,7 @@ pub mod Heads
 pub mod Seen
 pub mod Stores
 pub mod Nulls
+pub mod KnownKinds
 pub mod Telling
 pub mod OneSegment
 pub mod OneObject

@@ -1,8 +1,9 @@
 -- One item is relocated, if it is left.
 use Rattle.std.proofs.Common.{◌≡◌, ℕ, ◌+◌, ◌/◌, ◌%◌, ◌<◌, ◌≤◌, ◌^◌, Bool, true, false, not, ◌&&◌, ◌||◌}
-use Rattle.std.proofs.Common.{List, refl}
+use Rattle.std.proofs.Common.{List, [], refl}
 use Rattle.std.proofs.Common.{◌*◌, ◌-◌, ap, ap₂, sym, ◌∙◌, subst, arith, length, if◌then◌else◌}
 use Rattle.std.proofs.lemmas.Bool.{and_parts, both_ways}
+use Rattle.clr_types.specs.Rising.{IsIn}
 use Rattle.clr_types.specs.Segments.{generation, Layout}
 use Rattle.clr_types.specs.Types.{form_at, is_array, mt_of, size_of, TypeRow}
 use Rattle.clr_types.specs.declared.item.Item.{Item}
@@ -23,7 +24,8 @@ use Rattle.clr_moves.specs.declared.condemned.Condemned.{Condemned}
 use Rattle.clr_moves.specs.declared.stretch.Stretch.{Stretch}
 use Rattle.clr_reloc.specs.Relocated.{rebounded}
 use Rattle.clr_reloc.specs.Relocating.{AreCarded, HasGone, is_gone_over, is_gone_over_in, is_left_at, IsAhead}
-use Rattle.clr_reloc.specs.Relocating.{IsItemAhead, IsLeftItem}
+use Rattle.clr_reloc.specs.References.{references_of}
+use Rattle.clr_reloc.specs.Relocating.{IsItemAhead, IsLeftItem, IsLeftReference}
 use Rattle.clr_reloc.specs.Relocations.{AreRelocated, IsObjectAhead, IsPlaced, IsRelocatingBy}
 use Rattle.clr_reloc.specs.declared.relocation.Relocation.{Relocation}
 use Rattle.clr_reloc.proofs.Cells.{left_inside, one_item}
@@ -114,7 +116,7 @@ module _ (work : Relocation) (view now h : HeapView) (pins : QueueView) (vs : Li
   pub fits_len : place + 8 < 2 ^ 64
   fits_len = let l = low_place in let s = least in omega (arith, l, s)
 
-  item_is : item_at rows (logical entries (word_of h)) place ≡ i
+  pub item_is : item_at rows (logical entries (word_of h)) place ≡ i
   item_is =
       item_same rows (word_of view) (logical entries (word_of h)) place mt_same len_same
       ∙ ap (item_at rows (word_of view)) (sym q.at) ∙ sym (listed-spelled rows view i heap held q.listed).0
@@ -165,29 +167,58 @@ module _ (work : Relocation) (view now h : HeapView) (pins : QueueView) (vs : Li
       let p = and_parts (is_object i) (is_left_at view g i.place) on in
       record { listed = q.listed; object = p.0; left = p.1 }
 
+  -- no other item that is left begins among its bytes
+  left_same : (j : Item) → IsLeftItem rows view g j → place ≤ j.place → j.place < place + i.size → j ≡ i
+  left_same j left low high =
+      let s = (standing rows view heap held j left.listed).least in
+      let up = (standing rows view heap held j left.listed).above in
+      let e = q.at in
+      one_item rows view heap held j i (j.place - 8) left.listed q.listed (omega arith) (omega arith) (omega arith)
+      (omega arith)
+
+  -- no reference of another stands in its cells
+  reference_same : (b : ℕ) (ref : IsLeftReference rows view g b) → place ≤ b + 8 → b + 8 < place + i.size
+      → ref.item ≡ i
+  reference_same b ref low high =
+      let c = left_inside rows view heap held g b ref in
+      let up = c.above in
+      let e = q.at in
+      one_item rows view heap held ref.item i b ref.left.listed q.listed (omega arith) c.below (omega arith)
+      (omega arith)
+
+  -- an item without references has nothing to relocate
+  module _ (none : references_of work.types.now i ≡ []) where
+    no_reference : (j : Item) (offset : ℕ) → j ≡ i → IsIn offset (references_of rows j) → ⊥
+    no_reference j offset same member =
+        elim (subst (IsIn offset) (ap (references_of rows) same ∙ none) member) [ ]
+
+    -- and stays as it is
+    pub bare_stays : AreRelocated work view now vs h h pins pins cards last place (place + i.size)
+    bare_stays = record {
+      next = now;
+      relocating = r;
+      gone = record {
+        done = λ b ref low high.
+            absurd (no_reference ref.item ref.offset (reference_same b ref low high) ref.reference);
+        others = λ b z out. refl;
+      };
+      telling = keeps_refl rows view g vs entries h;
+      carded = λ j offset left low high member. absurd (no_reference j offset (left_same j left low high) member);
+    }
+
   -- an item that isn't left has nothing to relocate
   module _ (off : (is_object i && is_left_at view g i.place) ≡ false) where
     none_left : (j : Item) → IsLeftItem rows view g j → place ≤ j.place → j.place < place + i.size → ⊥
     none_left j left low high =
-        let s = (standing rows view heap held j left.listed).least in
-        let up = (standing rows view heap held j left.listed).above in
-        let e = q.at in
-        let same : j ≡ i = one_item rows view heap held j i (j.place - 8) left.listed q.listed (omega arith)
-        (omega arith)
-        (omega arith) (omega arith) in
         both_ways (is_object i && is_left_at view g i.place) off
-        (subst (λ (x : Item). (is_object x && is_left_at view g x.place) ≡ true) same
+        (subst (λ (x : Item). (is_object x && is_left_at view g x.place) ≡ true) (left_same j left low high)
         (ap₂ (λ s t. s && t) left.object left.left))
 
     not_gone : HasGone rows view now now g vs place (place + i.size)
     not_gone = record {
       done = λ b ref low high.
-          let c = left_inside rows view heap held g b ref in
-          let up = c.above in
+          let p = ap (λ (x : Item). x.place) (reference_same b ref low high) in
           let e = q.at in
-          let same : ref.item ≡ i = one_item rows view heap held ref.item i b ref.left.listed q.listed (omega arith)
-          c.below (omega arith) (omega arith) in
-          let p = ap (λ (x : Item). x.place) same in
           let l = least in
           absurd (none_left ref.item ref.left (omega arith) (omega arith));
       others = λ b z out. refl;

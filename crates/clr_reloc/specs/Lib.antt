@@ -1,3 +1,4 @@
+pub mod RunKinds
 pub mod Partial
 pub mod References
 pub mod Relocated

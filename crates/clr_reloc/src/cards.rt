@@ -7,6 +7,7 @@ ghost use Rattle.clr_heap.specs.View.{frame, HeapView};
 ghost use Rattle.clr_model.specs.Compaction.{Move};
 ghost use Rattle.clr_moves.specs.Moves.{age_of};
 ghost use Rattle.clr_scan.specs.SetCards.{AreClear};
+ghost use Rattle.clr_reloc.specs.RunKinds.{IsRunKind};
 ghost use Rattle.clr_reloc.specs.Relocated.{rebounded};
 ghost use Rattle.clr_reloc.specs.Relocations.{AreRelocated, IsRelocatingBy, KeepsBeside};
 ghost use Rattle.clr_reloc.specs.Relocating.{GoesDown, HaveCardsDown, IsAhead, Tracks};
@@ -32,6 +33,7 @@ pub(crate) fn relocate_carded(
     end: u64,
 )
     requires least { age_of work.now.g ≤ 2 }
+    requires kind { IsRunKind work.now.types.now met.old.kind }
     requires small { end ≤ 2 ^ 62 }
     requires can { (view : HeapView) × (now : HeapView) × (vs : List Move) × (is : List Item)
         × IsRelocatingBy work.now view now heap.old pins.old.entries vs met.old.stretch
@@ -54,6 +56,7 @@ pub(crate) fn relocate_carded(
         (is_card_set cards.old) first end
         → AreRelocated work.now view now vs heap.old heap.new pins.old pins.new cards.new met.new.stretch first end }
     ensures beside { KeepsBeside cards.old cards.new pins.old pins.new }
+    ensures kind { IsRunKind work.now.types.now met.new.kind }
 {
     let mut cursor = first;
     while let Some((lo, hi)) = next_run(cards, cursor, end) {

@@ -8,6 +8,7 @@ mod ages;
 mod cards;
 mod entries;
 mod items;
+mod kinds;
 mod objects;
 mod relocating;
 mod relocation;

@@ -2,6 +2,7 @@
 ghost use Rattle.std.specs.Prelude.{◌≡◌, true, false};
 ghost use Rattle.clr_reloc.specs.Partial.{IsPartial};
 
+use crate::kinds::RunKind;
 use clr_bricks::Bricks;
 use clr_heap::Item;
 use clr_moves::{Condemned, Planned, Stretch};
@@ -17,13 +18,14 @@ pub struct Relocation<'a> {
     pub g: Condemned,
 }
 
-// What was met last, where the next ones most often are: the segment and the entry of the queue, which are guesses, and
-// the stretch of the target that was followed.
+// What was met last, where the next ones most often are: the segment and the entry of the queue, which are guesses, the
+// stretch of the target that was followed, and the kind of an object.
 #[derive(Drop)]
 pub struct Met {
     pub segment: usize,
     pub near: usize,
     pub stretch: Stretch,
+    pub kind: RunKind,
 }
 
 // An object that is left, in its segment, with a guess of the queue's entry: where it goes, and of which generation it

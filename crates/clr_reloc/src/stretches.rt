@@ -1,19 +1,25 @@
 // Relocating the references of what is left among items that stand end to end.
-ghost use Rattle.std.specs.Prelude.{◌≡◌, ℕ, ◌+◌, ◌-◌, ◌<◌, ◌≤◌, not, ◌&&◌, ◌||◌, List, length};
+ghost use Rattle.std.specs.Prelude.{◌≡◌, ℕ, ◌+◌, ◌-◌, ◌<◌, ◌≤◌, true, not, ◌&&◌, ◌||◌, List, length};
 ghost use Rattle.clr_view.specs.Marks.{has_mark};
 ghost use Rattle.clr_types.specs.declared.item.Item.{Item};
+ghost use Rattle.clr_types.specs.ReferenceRuns.{SpellsReferences};
+ghost use Rattle.clr_types.specs.Types.{form_at};
 ghost use Rattle.clr_heap.specs.Memories.{memory_index};
-ghost use Rattle.clr_heap.specs.View.{HeapView};
+ghost use Rattle.clr_heap.specs.Parts.{item_at};
+ghost use Rattle.clr_heap.specs.View.{HeapView, word_of};
 ghost use Rattle.clr_model.specs.Compaction.{Move};
 ghost use Rattle.clr_moves.specs.Moves.{age_of};
 ghost use Rattle.clr_view.specs.View.{is_object};
+ghost use Rattle.clr_pinq.specs.Queue.{logical};
+ghost use Rattle.clr_reloc.specs.RunKinds.{IsRunKind};
 ghost use Rattle.clr_reloc.specs.Relocations.{AreRelocated, IsRelocatingBy, KeepsBeside};
 ghost use Rattle.clr_reloc.specs.Relocating.{GoesDown, HaveCardsDown, IsAhead, IsItemAhead};
 ghost use Rattle.clr_reloc.specs.Relocating.{is_gone_over_in, Tracks};
 
 use crate::ages::planned_gen;
 use crate::items::logical_item;
-use crate::objects::relocate_object;
+use crate::kinds::kind_behind;
+use crate::objects::{relocate_object, relocate_run};
 use crate::relocation::{LeftObject, Met, Relocation};
 use clr_cards::Cards;
 use clr_heap::{Heap, Item};
@@ -34,6 +40,7 @@ pub(crate) fn relocate_stretch(
     down: u64,
 )
     requires least { age_of work.now.g ≤ 2 }
+    requires kind { IsRunKind work.now.types.now met.old.kind }
     requires can { (view : HeapView) × (now : HeapView) × (vs : List Move) × (is : List Item)
         × IsRelocatingBy work.now view now heap.old pins.old.entries vs met.old.stretch
         × Tracks work.now.types.now view is from end × IsAhead view now work.now.g vs from end
@@ -45,6 +52,7 @@ pub(crate) fn relocate_stretch(
         → GoesDown vs from end down
         → AreRelocated work.now view now vs heap.old heap.new pins.old pins.new cards.new met.new.stretch from end }
     ensures beside { KeepsBeside cards.old cards.new pins.old pins.new }
+    ensures kind { IsRunKind work.now.types.now met.new.kind }
 {
     relocate_items(heap, work, cards, pins, met, from, end, down);
 }
@@ -62,6 +70,7 @@ pub(crate) fn relocate_items(
     down: u64,
 ) -> u64
     requires least { age_of work.now.g ≤ 2 }
+    requires kind { IsRunKind work.now.types.now met.old.kind }
     requires can { (view : HeapView) × (now : HeapView) × (vs : List Move) × (is : List Item) × (end : ℕ)
         × IsRelocatingBy work.now view now heap.old pins.old.entries vs met.old.stretch
         × Tracks work.now.types.now view is from end × IsAhead view now work.now.g vs from end
@@ -76,6 +85,7 @@ pub(crate) fn relocate_items(
         × AreRelocated work.now view now vs heap.old heap.new pins.old pins.new cards.new met.new.stretch from
         result }
     ensures beside { KeepsBeside cards.old cards.new pins.old pins.new }
+    ensures kind { IsRunKind work.now.types.now met.new.kind }
 {
     let mut place = from;
     while place < hi {
@@ -102,6 +112,7 @@ fn relocate_item(
         × IsRelocatingBy work.now view now heap.old pins.old.entries vs met.old.stretch
         × IsItemAhead work.now.types.now view now work.now.g vs i place to cards.old }
     requires segment { met.old.segment ≡ memory_index heap.old.memories place }
+    requires kind { IsRunKind work.now.types.now met.old.kind }
     ensures gone { (view now : HeapView) (vs : List Move) (i : Item)
         → IsRelocatingBy work.now view now heap.old pins.old.entries vs met.old.stretch
         → IsItemAhead work.now.types.now view now work.now.g vs i place to cards.old
@@ -109,10 +120,101 @@ fn relocate_item(
         × AreRelocated work.now view now vs heap.old heap.new pins.old pins.new cards.new met.new.stretch place
         (place + i.size) }
     ensures beside { KeepsBeside cards.old cards.new pins.old pins.new }
+    ensures kind { IsRunKind work.now.types.now met.new.kind }
+{
+    let mt = pins.logical_word_at(heap, met.segment, met.near, place);
+    if let Some(size) = met.kind.object.size_with(mt) {
+        let found = Item {
+            place,
+            size,
+            type_id: work.types.of_mt(mark::unmarked(mt)),
+            len: 0,
+        };
+        relocate_known(heap, work, cards, pins, met, found, to, mt);
+        return size;
+    }
+    relocate_read(heap, work, cards, pins, met, place, to, mt)
+}
+
+// The same for an object of the kind that was met last, with the method table word `mt`. No table is waited for.
+#[inline(always)]
+fn relocate_known(
+    heap: &mut Heap,
+    work: &Relocation<'_>,
+    cards: &mut Cards,
+    pins: &mut PinQueue,
+    met: &mut Met,
+    found: Item,
+    to: u64,
+    mt: u64,
+)
+    requires least { age_of work.now.g ≤ 2 }
+    requires can { (view : HeapView) × (now : HeapView) × (vs : List Move) × (i : Item)
+        × IsRelocatingBy work.now view now heap.old pins.old.entries vs met.old.stretch
+        × IsItemAhead work.now.types.now view now work.now.g vs i found.place to cards.old }
+    requires segment { met.old.segment ≡ memory_index heap.old.memories found.place }
+    requires item { found ≡ item_at work.now.types.now (logical pins.old.entries (word_of heap.old)) found.place }
+    requires word { mt ≡ logical pins.old.entries (word_of heap.old) found.place }
+    requires object { is_object found ≡ true }
+    requires run { SpellsReferences (form_at work.now.types.now found.type_id.0) found.len met.old.kind.run }
+    ensures gone { (view now : HeapView) (vs : List Move) (i : Item)
+        → IsRelocatingBy work.now view now heap.old pins.old.entries vs met.old.stretch
+        → IsItemAhead work.now.types.now view now work.now.g vs i found.place to cards.old
+        → AreRelocated work.now view now vs heap.old heap.new pins.old pins.new cards.new met.new.stretch found.place
+        (found.place + i.size) }
+    ensures beside { KeepsBeside cards.old cards.new pins.old pins.new }
+    ensures kind { met.new.kind ≡ met.old.kind }
 {
     let (segment, near) = (met.segment, met.near);
-    let mt = pins.logical_word_at(heap, segment, near, place);
+    if is_kept(heap, work.g, segment, found.place, mt) {
+        let age = planned_gen(heap, &work.planned, to);
+        let object = LeftObject {
+            segment,
+            near,
+            found,
+            to,
+            age,
+        };
+        let run = met.kind.run;
+        relocate_run(heap, work, cards, pins, &mut met.stretch, &object, run);
+    }
+}
+
+// The same for an item of another kind, with the method table word `mt`. One of a type without references is passed
+// over at once, and of another the kind is met.
+#[inline(never)]
+fn relocate_read(
+    heap: &mut Heap,
+    work: &Relocation<'_>,
+    cards: &mut Cards,
+    pins: &mut PinQueue,
+    met: &mut Met,
+    place: u64,
+    to: u64,
+    mt: u64,
+) -> u64
+    requires least { age_of work.now.g ≤ 2 }
+    requires can { (view : HeapView) × (now : HeapView) × (vs : List Move) × (i : Item)
+        × IsRelocatingBy work.now view now heap.old pins.old.entries vs met.old.stretch
+        × IsItemAhead work.now.types.now view now work.now.g vs i place to cards.old }
+    requires segment { met.old.segment ≡ memory_index heap.old.memories place }
+    requires word { mt ≡ logical pins.old.entries (word_of heap.old) place }
+    requires kind { IsRunKind work.now.types.now met.old.kind }
+    ensures gone { (view now : HeapView) (vs : List Move) (i : Item)
+        → IsRelocatingBy work.now view now heap.old pins.old.entries vs met.old.stretch
+        → IsItemAhead work.now.types.now view now work.now.g vs i place to cards.old
+        → (result ≡ i.size)
+        × AreRelocated work.now view now vs heap.old heap.new pins.old pins.new cards.new met.new.stretch place
+        (place + i.size) }
+    ensures beside { KeepsBeside cards.old cards.new pins.old pins.new }
+    ensures kind { IsRunKind work.now.types.now met.new.kind }
+{
+    let (segment, near) = (met.segment, met.near);
     let found = logical_item(heap, work.types, pins, segment, near, place, mt);
+    if work.types.series(found.type_id).is_empty() {
+        return found.size;
+    }
+    met.kind = kind_behind(work.types, found, mt, met.kind);
     if is_left(heap, work.g, segment, found, mt) {
         let age = planned_gen(heap, &work.planned, to);
         let object = LeftObject {
@@ -135,7 +237,17 @@ fn is_left(heap: &Heap, g: Condemned, k: usize, found: Item, mt: u64) -> bool
     requires { k < length heap.now.segments }
     ensures { result ≡ (is_object found && (not (is_gone_over_in heap.now g k found.place) || has_mark mt)) }
 {
-    found.type_id.0 != 0 && (mark::is_marked(mt) || !is_gone_over(heap, g, k, found.place))
+    found.type_id.0 != 0 && is_kept(heap, g, k, found.place, mt)
+}
+
+// Whether a collection leaves an object at a place of segment `k` with this method table word: it is marked or not gone
+// over.
+#[inline]
+fn is_kept(heap: &Heap, g: Condemned, k: usize, place: u64, mt: u64) -> bool
+    requires { k < length heap.now.segments }
+    ensures { result ≡ (not (is_gone_over_in heap.now g k place) || has_mark mt) }
+{
+    mark::is_marked(mt) || !is_gone_over(heap, g, k, place)
 }
 
 // Whether a collection goes over an object at a place of segment `k`: it is of its generations, or, before large

@@ -20,6 +20,7 @@ loop-lo-init c =
             c.args.met.now.stretch c.args.first r,
       );
       beside = beside_refl c.args.cards.now c.args.pins.now;
+      kind = c.requires.kind;
     }
 
 pub next_run-requires : goal.next_run-requires
@@ -132,6 +133,7 @@ loop-lo-preserved c =
           );
       beside = beside_trans c.args.cards.now c.loop-lo.cards items.new.cards c.args.pins.now c.loop-lo.pins
           items.new.pins inv.beside items.ensures.beside;
+      kind = items.ensures.kind;
     }
 
 pub returns-clause-gone : goal.returns-clause-gone
@@ -144,6 +146,9 @@ returns-clause-gone c view now vs is r track ahead goes sound quiet =
     r.0.begun.plan.held (is_card_set c.args.cards.now) (is_card_set c.loop-lo.cards) inv.beside.set c.args.first
     c.args.end c.loop-lo.cursor inv.low quiet ahead goes rest left done.gone done.carded c.in_default.ensures.none in
     record { next = done.next; relocating = done.relocating; gone = all; telling = done.telling; carded = set }
+
+pub returns-clause-kind : goal.returns-clause-kind
+returns-clause-kind c = c.loop-lo.invariant.kind
 
 pub returns-clause-beside : goal.returns-clause-beside
 returns-clause-beside c =

@@ -3,6 +3,7 @@ use Rattle.clr_types.specs.declared.item.Item.{Item}
 use Rattle.clr_cards.specs.Cards.{is_card_set}
 use Rattle.clr_heap.specs.View.{frame, HeapView}
 use Rattle.clr_model.specs.Compaction.{Move}
+use Rattle.clr_reloc.specs.RunKinds.{IsRunKind}
 use Rattle.clr_reloc.specs.Relocated.{rebounded}
 use Rattle.clr_reloc.specs.Relocating.{GoesDown, IsAhead, Tracks}
 use Rattle.clr_reloc.specs.Relocations.{AreRelocated, IsRelocatingBy, KeepsBeside}
@@ -24,6 +25,7 @@ invariant-loop-lo l = record {
       × AreRelocated l.work view now vs l.initial.heap l.heap l.initial.pins l.pins l.cards l.met.stretch l.first
       l.cursor;
   beside : KeepsBeside l.initial.cards l.cards l.initial.pins l.pins;
+  kind : IsRunKind l.work.types.now l.met.kind;
 }
 
 abbrev pub decreases-loop-lo : goal.decreases-loop-lo

@@ -21,6 +21,9 @@ relocate_plugs-requires-clause-can c =
       can.cards_of,
     )
 
+pub relocate_plugs-requires-clause-kind : goal.relocate_plugs-requires-clause-kind
+relocate_plugs-requires-clause-kind c = c.none.ensures c.args.types.now
+
 pub relocate_outside-requires-clause-can : goal.relocate_outside-requires-clause-can
 relocate_outside-requires-clause-can c =
     let (view, vs, entry, can) = c.requires.can in

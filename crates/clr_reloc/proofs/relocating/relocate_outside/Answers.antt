@@ -26,6 +26,7 @@ loop-k-init c = record {
     λ t l. absurd (omega (arith, l)),
   );
   beside = beside_refl c.args.cards.now c.args.pins.now;
+  kind = c.requires.kind;
 }
 
 pub info-first-requires : goal.info-first-requires
@@ -167,6 +168,7 @@ loop-k-preserved c =
           );
       beside = beside_trans c.args.cards.now c.loop-k.cards c.relocate_segment.new.cards c.args.pins.now c.loop-k.pins
           c.relocate_segment.new.pins inv.beside c.relocate_segment.ensures.beside;
+      kind = c.relocate_segment.ensures.kind;
     }
 
 pub returns-clause-gone : goal.returns-clause-gone
@@ -242,6 +244,9 @@ relocate_segment-requires-clause-entries c young =
     let end : c.end_outside-end.result ≡ outside_end view c.args.work.now.g k =
     c.end_outside-end.ensures ∙ ap (λ (h : HeapView). outside_end h c.args.work.now.g k) q.0.shape.others in
     subst₂ (λ x y. HaveEntries c.args.work.now.bricks.now x y) (sym first) (sym end) ((scan young).entries k l)
+
+pub returns-clause-kind : goal.returns-clause-kind
+returns-clause-kind c = c.loop-k.invariant.kind
 
 pub returns-clause-beside : goal.returns-clause-beside
 returns-clause-beside c = c.loop-k.invariant.beside

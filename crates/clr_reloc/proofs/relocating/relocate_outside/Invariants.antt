@@ -3,6 +3,7 @@ use Rattle.clr_cards.specs.Cards.{is_card_set}
 use Rattle.clr_heap.specs.View.{frame, HeapView}
 use Rattle.clr_model.specs.Compaction.{Move}
 use Rattle.clr_generations.specs.Tables.{AreCardsOf}
+use Rattle.clr_reloc.specs.RunKinds.{IsRunKind}
 use Rattle.clr_reloc.specs.Partial.{IsPartial}
 use Rattle.clr_reloc.specs.Outside.{AreAheadOutside, AreCardedOutside, HaveGoneOutside, HaveNoneOver}
 use Rattle.clr_reloc.specs.Relocated.{rebounded}
@@ -26,4 +27,5 @@ invariant-loop-k l = record {
       × AreCardedOutside l.work.types.now view l.work.g vs (rebounded (frame view) l.work.planned) (is_card_set
       l.cards) l.k;
   beside : KeepsBeside l.initial.cards l.cards l.initial.pins l.pins;
+  kind : IsRunKind l.work.types.now l.met.kind;
 }

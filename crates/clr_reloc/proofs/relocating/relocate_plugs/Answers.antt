@@ -31,6 +31,7 @@ loop-passed-init c = record {
     λ k l. absurd (omega (arith, l)),
   );
   beside = beside_refl c.args.cards.now c.args.pins.now;
+  kind = c.requires.kind;
 }
 
 pub next-requires : goal.next-requires
@@ -180,6 +181,7 @@ loop-passed-preserved c =
           );
       beside = beside_trans c.args.cards.now c.loop-passed.cards c.relocate_stretch.new.cards c.args.pins.now
           c.loop-passed.pins c.relocate_stretch.new.pins inv.beside c.relocate_stretch.ensures.beside;
+      kind = c.relocate_stretch.ensures.kind;
     }
 
 pub returns-clause-gone : goal.returns-clause-gone
@@ -195,8 +197,14 @@ returns-clause-gone c view vs r of =
     let end = c.loop-passed-test.false in
     absurd (omega (arith, few, most, count, end))
 
+pub returns-in-None-clause-kind : goal.returns-in-None-clause-kind
+returns-in-None-clause-kind c = c.loop-passed.invariant.kind
+
 pub returns-in-None-clause-beside : goal.returns-in-None-clause-beside
 returns-in-None-clause-beside c = c.loop-passed.invariant.beside
+
+pub returns-clause-kind : goal.returns-clause-kind
+returns-clause-kind c = c.loop-passed.invariant.kind
 
 pub returns-clause-beside : goal.returns-clause-beside
 returns-clause-beside c = c.loop-passed.invariant.beside

@@ -1,8 +1,11 @@
-use Rattle.std.proofs.Common.{ap}
+use Rattle.std.proofs.Common.{◌≡◌, ◌≤◌, ◌-◌, ◌/◌, ◌∙◌, ℕ, ap, length, subst, sym}
+use Rattle.clr_types.specs.Bits.{unmarked}
+use Rattle.clr_types.specs.Types.{mt_of}
 use Rattle.clr_types.specs.declared.item.Item.{Item}
-use Rattle.clr_reloc.proofs.OneItem.{fits_len, found_ahead, found_done, found_is, found_placed, found_stays}
-use Rattle.clr_reloc.proofs.OneItem.{item_named, len_has, len_segment, mt_has, segment_inside}
-use Rattle.clr_reloc.proofs.OneObject.{beside_refl}
+use Rattle.clr_heap.specs.View.{word_of}
+use Rattle.clr_pinq.specs.Queue.{logical}
+use Rattle.clr_reloc.proofs.KnownKinds.{known_item, known_object, known_run}
+use Rattle.clr_reloc.proofs.OneItem.{item_is, item_named, mt_has}
 use Rattle.clr_reloc.proofs.stretches.relocate_item.Goals as goal
 
 pub logical_word_at-mt-requires-clause-word : goal.logical_word_at-mt-requires-clause-word
@@ -11,103 +14,49 @@ logical_word_at-mt-requires-clause-word c =
     mt_has c.args.work.now view now c.args.heap.now c.args.pins.now vs c.args.met.now.stretch r i c.args.place c.args.to
     c.args.cards.now q
 
-pub logical_item-found-requires-clause-names : goal.logical_item-found-requires-clause-names
-logical_item-found-requires-clause-names c =
+pub of_mt-requires-clause-known : goal.of_mt-requires-clause-known
+of_mt-requires-clause-known c =
     let (view, now, vs, i, r, q) = c.requires.can in
-    item_named c.args.work.now view now c.args.heap.now c.args.pins.now vs c.args.met.now.stretch r i c.args.place
-    c.args.to
-    c.args.cards.now q
+    let named = item_named c.args.work.now view now c.args.heap.now c.args.pins.now vs c.args.met.now.stretch r i
+    c.args.place c.args.to c.args.cards.now q in
+    let word = c.unmarked.ensures ∙ ap unmarked c.logical_word_at-mt.ensures in
+    subst (λ (w : ℕ). (w - mt_of 0) / 64 ≤ length c.args.work.now.types.now) (sym word) named.known
 
-pub logical_item-found-requires-clause-len : goal.logical_item-found-requires-clause-len
-logical_item-found-requires-clause-len c =
+pub of_mt-requires-clause-word : goal.of_mt-requires-clause-word
+of_mt-requires-clause-word c =
     let (view, now, vs, i, r, q) = c.requires.can in
-    len_has c.args.work.now view now c.args.heap.now c.args.pins.now vs c.args.met.now.stretch r i c.args.place
-    c.args.to
-    c.args.cards.now q
+    let named = item_named c.args.work.now view now c.args.heap.now c.args.pins.now vs c.args.met.now.stretch r i
+    c.args.place c.args.to c.args.cards.now q in
+    let word = c.unmarked.ensures ∙ ap unmarked c.logical_word_at-mt.ensures in
+    subst (λ (w : ℕ). w ≡ mt_of ((w - mt_of 0) / 64)) (sym word) named.mt
 
-pub logical_item-found-requires-clause-segment : goal.logical_item-found-requires-clause-segment
-logical_item-found-requires-clause-segment c =
-    let (view, now, vs, i, r, q) = c.requires.can in
-    len_segment c.args.work.now view now c.args.heap.now c.args.pins.now vs c.args.met.now.stretch r i c.args.place
-    c.args.to
-    c.args.cards.now q c.args.met.now.segment c.requires.segment
+pub relocate_known-requires-clause-item : goal.relocate_known-requires-clause-item
+relocate_known-requires-clause-item c =
+    let number = c.of_mt.ensures ∙ ap (λ (w : ℕ). (w - mt_of 0) / 64) c.unmarked.ensures in
+    known_item c.args.work.now.types.now (logical c.args.pins.now.entries (word_of c.args.heap.now)) c.args.place
+    c.logical_word_at-mt.result c.in-Some.size c.of_mt.result.0 c.args.met.now.kind c.requires.kind
+    c.logical_word_at-mt.ensures (sym c.in-Some.is ∙ c.size_with.ensures) number
 
-pub logical_item-found-requires-clause-room : goal.logical_item-found-requires-clause-room
-logical_item-found-requires-clause-room c =
-    let (view, now, vs, i, r, q) = c.requires.can in
-    fits_len c.args.work.now view now c.args.heap.now c.args.pins.now vs c.args.met.now.stretch r i c.args.place
-    c.args.to
-    c.args.cards.now q
+pub relocate_known-requires-clause-object : goal.relocate_known-requires-clause-object
+relocate_known-requires-clause-object c =
+    let number = c.of_mt.ensures ∙ ap (λ (w : ℕ). (w - mt_of 0) / 64) c.unmarked.ensures in
+    known_object c.args.work.now.types.now (logical c.args.pins.now.entries (word_of c.args.heap.now)) c.args.place
+    c.logical_word_at-mt.result c.in-Some.size c.of_mt.result.0 c.args.met.now.kind c.requires.kind
+    c.logical_word_at-mt.ensures (sym c.in-Some.is ∙ c.size_with.ensures) number
 
-pub is_left-requires : goal.is_left-requires
-is_left-requires c =
-    let (view, now, vs, i, r, q) = c.requires.can in
-    segment_inside c.args.work.now view now c.args.heap.now c.args.pins.now vs c.args.met.now.stretch r i c.args.place
-    c.args.to
-    c.args.cards.now q c.args.met.now.segment c.requires.segment
+pub relocate_known-requires-clause-run : goal.relocate_known-requires-clause-run
+relocate_known-requires-clause-run c =
+    let number = c.of_mt.ensures ∙ ap (λ (w : ℕ). (w - mt_of 0) / 64) c.unmarked.ensures in
+    known_run c.args.work.now.types.now (logical c.args.pins.now.entries (word_of c.args.heap.now)) c.args.place
+    c.logical_word_at-mt.result c.in-Some.size c.of_mt.result.0 c.args.met.now.kind c.requires.kind
+    c.logical_word_at-mt.ensures (sym c.in-Some.is ∙ c.size_with.ensures) number
 
-pub relocate_object-requires-clause-can : goal.relocate_object-requires-clause-can
-relocate_object-requires-clause-can c =
-    let (view, now, vs, i, r, q) = c.requires.can in (
-      view,
-      now,
-      vs,
-      r,
-      found_ahead c.args.work.now view now c.args.heap.now c.args.pins.now vs c.args.met.now.stretch r i c.args.place
-          c.args.to
-          c.args.cards.now q c.args.met.now.segment c.requires.segment c.logical_item-found.result
-          c.logical_item-found.ensures
-          c.logical_word_at-mt.result c.logical_word_at-mt.ensures c.is_left.result c.is_left.ensures
-          c.args.met.now.near
-          c.planned_gen-age.result c.if-is_left.true,
-    )
-
-pub relocate_object-requires-clause-placed : goal.relocate_object-requires-clause-placed
-relocate_object-requires-clause-placed c =
-    let (view, now, vs, i, r, q) = c.requires.can in
-    found_placed c.args.work.now view now c.args.heap.now c.args.pins.now vs c.args.met.now.stretch r i c.args.place
-    c.args.to
-    c.args.cards.now q c.args.met.now.segment c.requires.segment c.logical_item-found.result
-    c.logical_item-found.ensures
-    c.logical_word_at-mt.result c.logical_word_at-mt.ensures c.is_left.result c.is_left.ensures c.args.met.now.near
-    c.planned_gen-age.result c.planned_gen-age.ensures
-
-pub returns-then-is_left-clause-gone : goal.returns-then-is_left-clause-gone
-returns-then-is_left-clause-gone c view now vs i r q =
-    let done = c.relocate_object in (
-      ap (λ (x : Item). x.size) (found_is c.args.work.now view now c.args.heap.now c.args.pins.now vs
-          c.args.met.now.stretch r i c.args.place c.args.to
-          c.args.cards.now q c.args.met.now.segment c.requires.segment c.logical_item-found.result
-          c.logical_item-found.ensures
-          c.logical_word_at-mt.result c.logical_word_at-mt.ensures c.is_left.result c.is_left.ensures),
-      found_done c.args.work.now view now c.args.heap.now c.args.pins.now vs c.args.met.now.stretch r i c.args.place
-          c.args.to
-          c.args.cards.now q c.args.met.now.segment c.requires.segment c.logical_item-found.result
-          c.logical_item-found.ensures
-          c.logical_word_at-mt.result c.logical_word_at-mt.ensures c.is_left.result c.is_left.ensures
-          done.new.heap done.new.pins done.new.cards done.new.last
-          (done.ensures.gone view now vs r (found_ahead c.args.work.now view now c.args.heap.now c.args.pins.now vs
-          c.args.met.now.stretch r i c.args.place c.args.to
-          c.args.cards.now q c.args.met.now.segment c.requires.segment c.logical_item-found.result
-          c.logical_item-found.ensures
-          c.logical_word_at-mt.result c.logical_word_at-mt.ensures c.is_left.result c.is_left.ensures
-          c.args.met.now.near c.planned_gen-age.result c.if-is_left.true)),
-    )
-
-pub returns-clause-gone : goal.returns-clause-gone
-returns-clause-gone c view now vs i r q = (
-  ap (λ (x : Item). x.size) (found_is c.args.work.now view now c.args.heap.now c.args.pins.now vs
-      c.args.met.now.stretch r i c.args.place c.args.to
-      c.args.cards.now q c.args.met.now.segment c.requires.segment c.logical_item-found.result
-      c.logical_item-found.ensures
-      c.logical_word_at-mt.result c.logical_word_at-mt.ensures c.is_left.result c.is_left.ensures),
-  found_stays c.args.work.now view now c.args.heap.now c.args.pins.now vs c.args.met.now.stretch r i c.args.place
-      c.args.to
-      c.args.cards.now q c.args.met.now.segment c.requires.segment c.logical_item-found.result
-      c.logical_item-found.ensures
-      c.logical_word_at-mt.result c.logical_word_at-mt.ensures c.is_left.result c.is_left.ensures c.if-is_left.false,
-)
-
-pub returns-clause-beside : goal.returns-clause-beside
-returns-clause-beside c =
-    beside_refl c.args.cards.now c.args.pins.now
+pub returns-in-Some-clause-gone : goal.returns-in-Some-clause-gone
+returns-in-Some-clause-gone c view now vs i r q =
+    let number = c.of_mt.ensures ∙ ap (λ (w : ℕ). (w - mt_of 0) / 64) c.unmarked.ensures in
+    let found = known_item c.args.work.now.types.now (logical c.args.pins.now.entries (word_of c.args.heap.now))
+    c.args.place c.logical_word_at-mt.result c.in-Some.size c.of_mt.result.0 c.args.met.now.kind c.requires.kind
+    c.logical_word_at-mt.ensures (sym c.in-Some.is ∙ c.size_with.ensures) number in
+    let is = item_is c.args.work.now view now c.args.heap.now c.args.pins.now vs c.args.met.now.stretch r i
+    c.args.place c.args.to c.args.cards.now q in
+    (ap (λ (x : Item). x.size) (found ∙ is), c.relocate_known.ensures.gone view now vs i r q)

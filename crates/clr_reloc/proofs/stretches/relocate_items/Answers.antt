@@ -17,6 +17,7 @@ loop-place-init c =
             c.args.met.now.stretch c.args.from r,
       );
       beside = beside_refl c.args.cards.now c.args.pins.now;
+      kind = c.requires.kind;
     }
 
 pub overflow_sub-place : goal.overflow_sub-place
@@ -120,11 +121,16 @@ loop-place-preserved c =
           );
       beside = beside_trans c.args.cards.now c.loop-place.cards item.new.cards c.args.pins.now c.loop-place.pins
           item.new.pins inv.beside item.ensures.beside;
+      kind = item.ensures.kind;
     }
 
 pub returns-clause-gone : goal.returns-clause-gone
 returns-clause-gone c =
     c.loop-place.invariant.gone
+
+pub returns-clause-kind : goal.returns-clause-kind
+returns-clause-kind c =
+    c.loop-place.invariant.kind
 
 pub returns-clause-beside : goal.returns-clause-beside
 returns-clause-beside c =

@@ -3,6 +3,7 @@ use Rattle.clr_types.specs.declared.item.Item.{Item}
 use Rattle.clr_heap.specs.View.{HeapView}
 use Rattle.clr_model.specs.Compaction.{Move}
 use Rattle.clr_reloc.specs.Relocating.{GoesDown, HaveCardsDown, IsAhead, Tracks}
+use Rattle.clr_reloc.specs.RunKinds.{IsRunKind}
 use Rattle.clr_reloc.specs.Relocations.{AreRelocated, IsRelocatingBy, KeepsBeside}
 use Rattle.clr_reloc.proofs.stretches.relocate_items.Given as goal
 
@@ -17,6 +18,7 @@ invariant-loop-place l = record {
       × AreRelocated l.work view now vs l.initial.heap l.heap l.initial.pins l.pins l.cards l.met.stretch l.from
       l.place;
   beside : KeepsBeside l.initial.cards l.cards l.initial.pins l.pins;
+  kind : IsRunKind l.work.types.now l.met.kind;
 }
 
 abbrev pub decreases-loop-place : goal.decreases-loop-place

@@ -2,7 +2,7 @@
 use Rattle.std.specs.Prelude.{◌≡◌, ℕ, ◌+◌, ◌-◌, ◌%◌, ◌^◌, ◌<◌, ◌≤◌, List, [], ◌∷◌, ◌++◌, length, get_or, map, find}
 use Rattle.std.specs.Prelude.{nat_eq, nat_le, if◌then◌else◌, ◌==◌, Bool, ◌&&◌, Option, Some, None, replicate}
 use Rattle.std.specs.List.{AllByRecursion}
-use Rattle.clr_mem.specs.Words.{Memory}
+use Rattle.clr_mem.specs.Words.{is_between, Memory}
 use Rattle.clr_types.specs.Types.{TypeRow, form_at, is_array, mt_of}
 use Rattle.clr_types.specs.Ranges.{Piece}
 use Rattle.clr_types.specs.Segments.{Layout, first_place, reserved_end, same_kind, empty_segment, segments_of}
@@ -87,6 +87,10 @@ word_of h a = word_in h.memories a
 -- whether the word at an address names a place of the ephemeral segment from `low` on
 abbrev pub names_from : HeapView → ℕ → ℕ → Bool
 names_from h low a = nat_le low (word_of h a) && stands_in (ephemeral (frame h)) (word_of h a)
+
+-- whether a word may be a reference: null is none, and the highest number is no place
+abbrev pub may_refer : ℕ → Bool
+may_refer v = is_between 1 (2 ^ 64 - 1) v
 
 -- the heap with a word written
 abbrev pub stored : HeapView → ℕ → ℕ → HeapView

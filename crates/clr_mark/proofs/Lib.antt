@@ -9,6 +9,7 @@ pub mod RunReferences
 pub mod RunKinds
 pub mod RootsFollowed
 pub mod Meeting
+pub mod RunMeetings
 pub mod Gathering
 pub mod Visiting
 pub mod Rescanning

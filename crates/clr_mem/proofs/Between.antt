@@ -1,7 +1,8 @@
 -- Words that are looked through for one of a range of numbers.
 use Rattle.std.proofs.Common.{◌≡◌, ℕ, ◌+◌, ◌-◌, ◌*◌, ◌%◌, ◌<◌, ◌≤◌, ◌^◌, inl, inr, true, false, List, length}
 use Rattle.std.proofs.Common.{get_or, take, drop, ap, ◌∙◌, sym, subst, arith, ltb, leb}
-use Rattle.std.proofs.lemmas.Bool.{leb-true, ltb-true, and_parts, and_from, le-leb, lt-ltb, cases_Bool, cases_lt}
+use Rattle.std.proofs.lemmas.Bool.{leb-true, ltb-true, and_parts, and_from, le-leb, le-ltb, lt-ltb, cases_Bool}
+use Rattle.std.proofs.lemmas.Bool.{cases_lt}
 use Rattle.std.proofs.lemmas.List.{drop-drop, drop-take, drop_all}
 use Rattle.clr_mem.specs.Stored.{with_zeros}
 use Rattle.clr_mem.specs.Words.{is_between, spelled}
@@ -27,6 +28,13 @@ module _ (low high word size : ℕ) (low_fits : low < 2 ^ 64) (high_fits : high 
             absurd (omega (arith, far, size_is, low_fits, high_fits, fits, above, below))
         | inr out ↦ out
       ]
+
+  -- so one comparison tells whether it is in the range
+  pub between-wraps : ltb ((word + (2 ^ 64 - low)) % 2 ^ 64) size ≡ is_between low high word
+  between-wraps = elim (cases_lt ((word + (2 ^ 64 - low)) % 2 ^ 64) size) [
+    | inl near ↦ lt-ltb ((word + (2 ^ 64 - low)) % 2 ^ 64) size near ∙ sym (between-near near)
+    | inr far ↦ le-ltb ((word + (2 ^ 64 - low)) % 2 ^ 64) size far ∙ sym (between-far far)
+  ]
 
 -- 0 is in no range of numbers above it
 pub between-zero : (low high word : ℕ) → 0 < low → word ≡ 0 → is_between low high word ≡ false

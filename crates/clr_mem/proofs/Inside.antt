@@ -7,7 +7,7 @@ use Rattle.std.proofs.lemmas.List.{drop_all, get_or_past, length-replicate}
 use Rattle.std.specs.Int.{bytes_low_first}
 use Rattle.std.specs.Global.{Box}
 use Rattle.std.specs.Option.{is_some}
-use Rattle.clr_mem.specs.Sparse.{IsStoredAt, words_in}
+use Rattle.clr_mem.specs.Sparse.{IsMemory, IsStoredAt, words_in}
 use Rattle.clr_mem.specs.Words.{Memory, end_of, spelled, words_of, overwrite, part, byte_of, with_byte, word_at}
 use Rattle.clr_mem.specs.Words.{zeros}
 use Rattle.clr_mem.proofs.Spelling.{length-words_of, get_or-words_of, length-bytes, overwrite-one, words_of-bytes}
@@ -45,6 +45,18 @@ bounds base bytes (Some pages) v e placed =
     let first = sym (ap (λ (m : Memory). m.base) e) in
     let last = sym (ap end_of e) in
     record { first = first; aligned = aligned; fits = omega arith; stored = omega arith }
+
+-- its bytes, as they are counted beside
+pub counts : (base len : ℕ) (bytes : List ℕ) (far : Option (Box (List ℕ))) (v : Memory)
+    → memory base (words_in bytes far) ≡ v → IsMemory base len bytes far → len ≡ 8 * length v.words
+counts base len bytes None v e m =
+    let whole = m.stored.whole in
+    let counted = m.counted in
+    let count = length-words_of (length bytes / 8) bytes in
+    let same = ap (λ (w : Memory). length w.words) e in
+    omega arith
+counts base len bytes (Some pages) v e m =
+    m.counted ∙ ap (λ (w : Memory). 8 * length w.words) e
 
 -- whether no pages are there
 HasNone : Option (Box (List ℕ)) → Type 0

@@ -12,3 +12,13 @@ words_in bytes (Some pages) = pages.value
 abbrev pub IsStoredAt : ℕ → List ℕ → Option (Box (List ℕ)) → Type 0
 IsStoredAt base bytes None = IsPlaced base (length bytes)
 IsStoredAt base bytes (Some pages) = IsPlaced base (8 * length pages.value) × (length bytes ≡ 0)
+
+-- how many bytes there are
+abbrev pub size_in : List ℕ → Option (Box (List ℕ)) → ℕ
+size_in bytes None = length bytes
+size_in bytes (Some pages) = 8 * length pages.value
+
+-- a memory of `len` bytes from `base` on
+pub record IsMemory (base len : ℕ) (bytes : List ℕ) (far : Option (Box (List ℕ))) : Type 0 where
+  pub stored : IsStoredAt base bytes far
+  pub counted : len ≡ size_in bytes far

@@ -2,7 +2,8 @@
 //!
 //! A [`Mem`] holds the bytes `[base, base + len)`. Its contracts see it as a list of words, so
 //! that nothing above this crate reasons about bytes. Every call requires that its range lies in
-//! the memory, so none of them can fail; only [`Mem::new`] can, where no memory is left.
+//! the memory, so none of them can fail; only [`Mem::new`] and [`Mem::sparse`] can, where no memory
+//! is left.
 //!
 //! Memory is taken as it is used. [`Mem::new`] reserves the room for all bytes and touches none of
 //! it. Bytes are stored from the first on, up to the last that was written, in steps of 4 KiB up to
@@ -33,6 +34,8 @@ pub use crate::no_memory::NoMemory;
 #[derive(Drop)]
 pub struct Mem {
     base: u64,
+    // How many bytes it holds.
+    len: u64,
     // The bytes of a memory that isn't sparse, and none of one that is.
     bytes: LazyBytes,
     // The words of a sparse one.
@@ -40,7 +43,7 @@ pub struct Mem {
 }
 
 impl Model for Mem {
-    ghost use Rattle.clr_mem.specs.Sparse.{IsStoredAt, words_in};
+    ghost use Rattle.clr_mem.specs.Sparse.{IsMemory, words_in};
     ghost use Rattle.clr_mem.specs.Words.{Memory, memory_code};
 
     ghost Value = { Memory };
@@ -52,7 +55,7 @@ impl Model for Mem {
       words = words_in m.bytes m.far;
     } };
 
-    ghost invariant = { λ m. IsStoredAt m.base m.bytes m.far };
+    ghost invariant = { λ m. IsMemory m.base m.len m.bytes m.far };
 }
 
 impl Mem {
@@ -68,6 +71,7 @@ impl Mem {
         let bytes = LazyBytes::new(alloc, len as usize)?;
         Ok(Mem {
             base,
+            len,
             bytes,
             far: None,
         })
@@ -85,7 +89,12 @@ impl Mem {
         let bytes = LazyBytes::new(alloc, 0)?;
         let pages = PagedWords::new(alloc, (len / 8) as usize)?;
         let far = Some(Box::new(alloc, pages)?);
-        Ok(Mem { base, bytes, far })
+        Ok(Mem {
+            base,
+            len,
+            bytes,
+            far,
+        })
     }
 
     // The word whose bytes begin at an offset, where it isn't among those that are stored from the first on. It stands
@@ -133,10 +142,15 @@ impl Mem {
         ensures aligned { self.now.base % 8 ≡ 0 }
         ensures fits { end_of self.now < 2 ^ 64 }
     {
-        match &self.far {
-            Some(pages) => 8 * pages.len() as u64,
-            None => self.bytes.len() as u64,
-        }
+        self.len
+    }
+
+    /// Whether it holds the byte at `a`.
+    #[inline(always)]
+    pub fn contains(&self, a: u64) -> bool
+        ensures { result ≡ is_between self.now.base (end_of self.now) a }
+    {
+        a.wrapping_sub(self.base) < self.len
     }
 
     /// Whether it holds no byte at all.

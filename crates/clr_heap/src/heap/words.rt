@@ -9,7 +9,7 @@ use super::Heap;
 use clr_mem::Mem;
 
 impl Heap {
-    ghost use Rattle.clr_heap.specs.View.{names_from, SameShape, stored, word_of};
+    ghost use Rattle.clr_heap.specs.View.{may_refer, names_from, SameShape, stored, word_of};
 
     /// The word at an address.
     #[inline(always)]
@@ -43,6 +43,18 @@ impl Heap {
     {
         let first = low.max(self.ephemeral_first);
         first_in_memory(&self.memories, k, a, n, first, self.ephemeral_end)
+    }
+
+    /// Of the `n` words from `a` on in segment `k`, the number of the first one that may be a reference, and `n` where
+    /// none may.
+    pub fn first_reference(&self, k: usize, a: u64, n: u64) -> u64
+        requires words { (j : ℕ) → j < n → HasWord self.now.memories (a + 8 * j) }
+        requires segment { (j : ℕ) → j < n → k ≡ memory_index self.now.memories (a + 8 * j) }
+        ensures most { result ≤ n }
+        ensures before { (j : ℕ) → j < result → may_refer (word_of self.now (a + 8 * j)) ≡ false }
+        ensures found { result < n → may_refer (word_of self.now (a + 8 * result)) ≡ true }
+    {
+        first_in_memory(&self.memories, k, a, n, 1, u64::MAX)
     }
 
     /// Writes the word at an address.
@@ -132,7 +144,7 @@ fn is_in(memories: &Vec<Mem>, k: usize, a: u64) -> bool
         → (k < length memories.now.items) × (contains (get_or memories.now.items k d) a ≡ true) }
 {
     match memories.get(k) {
-        Some(memory) => memory.base() <= a && a - memory.base() < memory.len(),
+        Some(memory) => memory.contains(a),
         None => false,
     }
 }

@@ -7,13 +7,13 @@ use Rattle.clr_mem.proofs.Mem.carry.Goals as goal
 pub carry_words-requires-clause-from_end : goal.carry_words-requires-clause-from_end
 carry_words-requires-clause-from_end c =
     let o = c.other.inside in
-    let d = bounds o.base o.bytes o.far _ c.other.view_is c.other.invariant in
+    let d = bounds o.base o.bytes o.far _ c.other.view_is c.other.invariant.stored in
     d.fits
 
 pub returns-then-is_some-clause-from_fits : goal.returns-then-is_some-clause-from_fits
 returns-then-is_some-clause-from_fits c =
     let o = c.other.inside in
-    let d = bounds o.base o.bytes o.far _ c.other.view_is c.other.invariant in
+    let d = bounds o.base o.bytes o.far _ c.other.view_is c.other.invariant.stored in
     let fits = d.fits in
     let below = c.requires.from_in.below in
     omega (arith, fits, below)
@@ -21,13 +21,13 @@ returns-then-is_some-clause-from_fits c =
 pub carry_words-requires-then-is_some-2-clause-to_end : goal.carry_words-requires-then-is_some-2-clause-to_end
 carry_words-requires-then-is_some-2-clause-to_end c =
     let m = c.self.inside in
-    let b = bounds m.base m.bytes m.far _ c.self.view_is c.self.invariant in
+    let b = bounds m.base m.bytes m.far _ c.self.view_is c.self.invariant.stored in
     b.fits
 
 pub returns-then-is_some-2-clause-to_fits : goal.returns-then-is_some-2-clause-to_fits
 returns-then-is_some-2-clause-to_fits c =
     let m = c.self.inside in
-    let b = bounds m.base m.bytes m.far _ c.self.view_is c.self.invariant in
+    let b = bounds m.base m.bytes m.far _ c.self.view_is c.self.invariant.stored in
     let fits = b.fits in
     let below = c.requires.to_in.below in
     omega (arith, fits, below)
@@ -35,9 +35,9 @@ returns-then-is_some-2-clause-to_fits c =
 pub carry-requires-clause-to_in : goal.carry-requires-clause-to_in
 carry-requires-clause-to_in c =
     let m = c.self.inside in
-    let b = bounds m.base m.bytes m.far _ c.self.view_is c.self.invariant in
+    let b = bounds m.base m.bytes m.far _ c.self.view_is c.self.invariant.stored in
     let none = not_some m.far (sym c.is_some.ensures ∙ c.if-is_some.false) in
-    let p = plain m.base m.bytes m.far _ none c.self.view_is c.self.invariant in
+    let p = plain m.base m.bytes m.far _ none c.self.view_is c.self.invariant.stored in
     let first = b.first in
     let size = p.size in
     let above = c.requires.to_in.above in
@@ -47,9 +47,9 @@ carry-requires-clause-to_in c =
 pub carry-requires-clause-from_in : goal.carry-requires-clause-from_in
 carry-requires-clause-from_in c =
     let o = c.other.inside in
-    let d = bounds o.base o.bytes o.far _ c.other.view_is c.other.invariant in
+    let d = bounds o.base o.bytes o.far _ c.other.view_is c.other.invariant.stored in
     let no_pages = not_some o.far (sym c.is_some-2.ensures ∙ c.if-is_some-2.false) in
-    let q = plain o.base o.bytes o.far _ no_pages c.other.view_is c.other.invariant in
+    let q = plain o.base o.bytes o.far _ no_pages c.other.view_is c.other.invariant.stored in
     let home = d.first in
     let count = q.size in
     let above = c.requires.from_in.above in
@@ -59,15 +59,15 @@ carry-requires-clause-from_in c =
 pub returns-clause-value : goal.returns-clause-value
 returns-clause-value c =
     let m = c.self.inside in
-    let b = bounds m.base m.bytes m.far _ c.self.view_is c.self.invariant in
+    let b = bounds m.base m.bytes m.far _ c.self.view_is c.self.invariant.stored in
     let none = not_some m.far (sym c.is_some.ensures ∙ c.if-is_some.false) in
-    let p = plain m.base m.bytes m.far _ none c.self.view_is c.self.invariant in
+    let p = plain m.base m.bytes m.far _ none c.self.view_is c.self.invariant.stored in
     let first = b.first in
     let size = p.size in
     let o = c.other.inside in
-    let d = bounds o.base o.bytes o.far _ c.other.view_is c.other.invariant in
+    let d = bounds o.base o.bytes o.far _ c.other.view_is c.other.invariant.stored in
     let no_pages = not_some o.far (sym c.is_some-2.ensures ∙ c.if-is_some-2.false) in
-    let q = plain o.base o.bytes o.far _ no_pages c.other.view_is c.other.invariant in
+    let q = plain o.base o.bytes o.far _ no_pages c.other.view_is c.other.invariant.stored in
     let home = d.first in
     let count = q.size in
     let aligned = b.aligned in
@@ -92,9 +92,9 @@ returns-clause-value c =
 pub returns-clause-size : goal.returns-clause-size
 returns-clause-size c =
     let m = c.self.inside in
-    let b = bounds m.base m.bytes m.far _ c.self.view_is c.self.invariant in
+    let b = bounds m.base m.bytes m.far _ c.self.view_is c.self.invariant.stored in
     let o = c.other.inside in
-    let d = bounds o.base o.bytes o.far _ c.other.view_is c.other.invariant in
+    let d = bounds o.base o.bytes o.far _ c.other.view_is c.other.invariant.stored in
     let first = b.first in
     let aligned = b.aligned in
     let home = d.first in
@@ -109,7 +109,7 @@ returns-clause-size c =
 pub returns-clause-to_fits : goal.returns-clause-to_fits
 returns-clause-to_fits c =
     let m = c.self.inside in
-    let b = bounds m.base m.bytes m.far _ c.self.view_is c.self.invariant in
+    let b = bounds m.base m.bytes m.far _ c.self.view_is c.self.invariant.stored in
     let fits = b.fits in
     let below = c.requires.to_in.below in
     omega (arith, fits, below)
@@ -117,7 +117,7 @@ returns-clause-to_fits c =
 pub returns-clause-from_fits : goal.returns-clause-from_fits
 returns-clause-from_fits c =
     let o = c.other.inside in
-    let d = bounds o.base o.bytes o.far _ c.other.view_is c.other.invariant in
+    let d = bounds o.base o.bytes o.far _ c.other.view_is c.other.invariant.stored in
     let fits = d.fits in
     let below = c.requires.from_in.below in
     omega (arith, fits, below)

@@ -6,8 +6,8 @@ use Rattle.clr_mem.proofs.Mem.first_between.Goals as goal
 pub first_between-requires-in-None-clause-inside : goal.first_between-requires-in-None-clause-inside
 first_between-requires-in-None-clause-inside c =
     let m = c.self.inside in
-    let b = bounds m.base m.bytes m.far _ c.self.view_is c.self.invariant in
-    let p = plain m.base m.bytes m.far _ c.in-None.is c.self.view_is c.self.invariant in
+    let b = bounds m.base m.bytes m.far _ c.self.view_is c.self.invariant.stored in
+    let p = plain m.base m.bytes m.far _ c.in-None.is c.self.view_is c.self.invariant.stored in
     let first = b.first in
     let aligned = b.aligned in
     let size = p.size in
@@ -18,7 +18,7 @@ first_between-requires-in-None-clause-inside c =
 pub returns-in-Some-clause-before : goal.returns-in-Some-clause-before
 returns-in-Some-clause-before c = λ j l.
     let m = c.self.inside in
-    let b = bounds m.base m.bytes m.far _ c.self.view_is c.self.invariant in
+    let b = bounds m.base m.bytes m.far _ c.self.view_is c.self.invariant.stored in
     let first = b.first in
     let aligned = b.aligned in
     let above = c.requires.words.above in
@@ -35,8 +35,8 @@ returns-in-Some-clause-before c = λ j l.
 pub returns-in-None-clause-before : goal.returns-in-None-clause-before
 returns-in-None-clause-before c = λ j l.
     let m = c.self.inside in
-    let b = bounds m.base m.bytes m.far _ c.self.view_is c.self.invariant in
-    let p = plain m.base m.bytes m.far _ c.in-None.is c.self.view_is c.self.invariant in
+    let b = bounds m.base m.bytes m.far _ c.self.view_is c.self.invariant.stored in
+    let p = plain m.base m.bytes m.far _ c.in-None.is c.self.view_is c.self.invariant.stored in
     let first = b.first in
     let aligned = b.aligned in
     let above = c.requires.words.above in
@@ -49,8 +49,8 @@ returns-in-None-clause-before c = λ j l.
 pub returns-in-None-clause-found : goal.returns-in-None-clause-found
 returns-in-None-clause-found c = λ l.
     let m = c.self.inside in
-    let b = bounds m.base m.bytes m.far _ c.self.view_is c.self.invariant in
-    let p = plain m.base m.bytes m.far _ c.in-None.is c.self.view_is c.self.invariant in
+    let b = bounds m.base m.bytes m.far _ c.self.view_is c.self.invariant.stored in
+    let p = plain m.base m.bytes m.far _ c.in-None.is c.self.view_is c.self.invariant.stored in
     let first = b.first in
     let aligned = b.aligned in
     let above = c.requires.words.above in

@@ -1,4 +1,4 @@
-use Rattle.std.proofs.Common.{ap, ◌∙◌, arith, length}
+use Rattle.std.proofs.Common.{ap, ◌∙◌, arith, length, sym}
 use Rattle.clr_mem.specs.Words.{end_of}
 use Rattle.clr_mem.proofs.Inside.{memory, all_words, all_words-zero_bytes}
 use Rattle.clr_mem.proofs.Callers.{end_of-zeroed, length-zeros}
@@ -16,4 +16,7 @@ returns-clause-end c =
 pub invariant_of-result : goal.invariant_of-result
 invariant_of-result c =
     let size = ap length c.in_ok-bytes.ensures ∙ length-zeros c.args.len in
-    record { aligned = c.requires.base_aligned; whole = omega arith; fits = omega arith }
+    record {
+      stored = record { aligned = c.requires.base_aligned; whole = omega arith; fits = omega arith };
+      counted = sym size;
+    }

@@ -5,7 +5,7 @@ use Rattle.clr_mem.proofs.Mem.set_word_beyond.Goals as goal
 pub set_word-requires-in-None-clause-inside : goal.set_word-requires-in-None-clause-inside
 set_word-requires-in-None-clause-inside c =
     let m = c.self.inside in
-    let p = plain m.base m.bytes m.far _ c.in-None.is c.self.view_is c.self.invariant in
+    let p = plain m.base m.bytes m.far _ c.in-None.is c.self.view_is c.self.invariant.stored in
     let size = p.size in
     let start = c.requires.aligned in
     let inside = c.requires.inside in
@@ -14,7 +14,7 @@ set_word-requires-in-None-clause-inside c =
 pub returns-in-None : goal.returns-in-None
 returns-in-None c =
     let m = c.self.inside in
-    let p = plain m.base m.bytes m.far _ c.in-None.is c.self.view_is c.self.invariant in
+    let p = plain m.base m.bytes m.far _ c.in-None.is c.self.view_is c.self.invariant.stored in
     let size = p.size in
     let start = c.requires.aligned in
     let inside = c.requires.inside in

@@ -7,8 +7,8 @@ use Rattle.clr_mem.proofs.Mem.slide.Goals as goal
 pub slide-requires-in-None-clause-from_in : goal.slide-requires-in-None-clause-from_in
 slide-requires-in-None-clause-from_in c =
     let m = c.self.inside in
-    let b = bounds m.base m.bytes m.far _ c.self.view_is c.self.invariant in
-    let p = plain m.base m.bytes m.far _ c.in-None.is c.self.view_is c.self.invariant in
+    let b = bounds m.base m.bytes m.far _ c.self.view_is c.self.invariant.stored in
+    let p = plain m.base m.bytes m.far _ c.in-None.is c.self.view_is c.self.invariant.stored in
     let first = b.first in
     let aligned = b.aligned in
     let size = p.size in
@@ -19,8 +19,8 @@ slide-requires-in-None-clause-from_in c =
 pub returns-in-None-clause-value : goal.returns-in-None-clause-value
 returns-in-None-clause-value c =
     let m = c.self.inside in
-    let b = bounds m.base m.bytes m.far _ c.self.view_is c.self.invariant in
-    let p = plain m.base m.bytes m.far _ c.in-None.is c.self.view_is c.self.invariant in
+    let b = bounds m.base m.bytes m.far _ c.self.view_is c.self.invariant.stored in
+    let p = plain m.base m.bytes m.far _ c.in-None.is c.self.view_is c.self.invariant.stored in
     let first = b.first in
     let aligned = b.aligned in
     let size = p.size in
@@ -42,7 +42,7 @@ returns-in-None-clause-value c =
 pub returns-in-None-clause-size : goal.returns-in-None-clause-size
 returns-in-None-clause-size c =
     let m = c.self.inside in
-    let b = bounds m.base m.bytes m.far _ c.self.view_is c.self.invariant in
+    let b = bounds m.base m.bytes m.far _ c.self.view_is c.self.invariant.stored in
     let first = b.first in
     let aligned = b.aligned in
     let to_in = c.requires.to_in in
@@ -55,7 +55,7 @@ returns-in-None-clause-size c =
 pub returns-in-None-clause-fits : goal.returns-in-None-clause-fits
 returns-in-None-clause-fits c =
     let m = c.self.inside in
-    let b = bounds m.base m.bytes m.far _ c.self.view_is c.self.invariant in
+    let b = bounds m.base m.bytes m.far _ c.self.view_is c.self.invariant.stored in
     let fits = b.fits in
     let below = c.requires.from_in.below in
     omega (arith, fits, below)

@@ -10,7 +10,10 @@ invariant_of-result c =
     let aligned = c.requires.base_aligned in
     let whole = c.requires.len_aligned in
     let fits = c.requires.fits in
-    (record { aligned = aligned; whole = omega arith; fits = omega (arith, count, whole, fits) }, none)
+    record {
+      stored = (record { aligned = aligned; whole = omega arith; fits = omega (arith, count, whole, fits) }, none);
+      counted = omega (arith, count, whole);
+    }
 
 pub returns-clause-end : goal.returns-clause-end
 returns-clause-end c =

@@ -7,8 +7,8 @@ use Rattle.clr_mem.proofs.Mem.zero.Goals as goal
 pub clear-requires-in-None : goal.clear-requires-in-None
 clear-requires-in-None c =
     let m = c.self.inside in
-    let b = bounds m.base m.bytes m.far _ c.self.view_is c.self.invariant in
-    let p = plain m.base m.bytes m.far _ c.in-None.is c.self.view_is c.self.invariant in
+    let b = bounds m.base m.bytes m.far _ c.self.view_is c.self.invariant.stored in
+    let p = plain m.base m.bytes m.far _ c.in-None.is c.self.view_is c.self.invariant.stored in
     let first = b.first in
     let aligned = b.aligned in
     let size = p.size in
@@ -19,8 +19,8 @@ clear-requires-in-None c =
 pub returns-in-None-clause-value : goal.returns-in-None-clause-value
 returns-in-None-clause-value c =
     let m = c.self.inside in
-    let b = bounds m.base m.bytes m.far _ c.self.view_is c.self.invariant in
-    let p = plain m.base m.bytes m.far _ c.in-None.is c.self.view_is c.self.invariant in
+    let b = bounds m.base m.bytes m.far _ c.self.view_is c.self.invariant.stored in
+    let p = plain m.base m.bytes m.far _ c.in-None.is c.self.view_is c.self.invariant.stored in
     let first = b.first in
     let aligned = b.aligned in
     let size = p.size in
@@ -37,7 +37,7 @@ returns-in-None-clause-value c =
 pub returns-in-None-clause-size : goal.returns-in-None-clause-size
 returns-in-None-clause-size c =
     let m = c.self.inside in
-    let b = bounds m.base m.bytes m.far _ c.self.view_is c.self.invariant in
+    let b = bounds m.base m.bytes m.far _ c.self.view_is c.self.invariant.stored in
     let first = b.first in
     let aligned = b.aligned in
     ap (λ (n : Memory). length n.words) (returns-in-None-clause-value c)
@@ -47,7 +47,7 @@ returns-in-None-clause-size c =
 pub returns-in-None-clause-fits : goal.returns-in-None-clause-fits
 returns-in-None-clause-fits c =
     let m = c.self.inside in
-    let b = bounds m.base m.bytes m.far _ c.self.view_is c.self.invariant in
+    let b = bounds m.base m.bytes m.far _ c.self.view_is c.self.invariant.stored in
     let fits = b.fits in
     let below = c.requires.below in
     omega (arith, fits, below)

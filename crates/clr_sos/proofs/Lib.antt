@@ -1,3 +1,4 @@
+pub mod LineEnds
 pub mod ObjectsByPlace
 pub mod ObjectTexts
 pub mod PlaceSegments

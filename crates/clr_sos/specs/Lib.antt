@@ -1,3 +1,4 @@
+pub mod LineEnds
 pub mod ObjectTexts
 pub mod TextPieces
 pub mod Views

@@ -18,6 +18,7 @@ pub use crate::whereabouts::gcwhere;
 mod fault;
 mod handles;
 mod heap_items;
+mod line_ends;
 mod listing;
 mod listing_counts;
 mod listing_lines;

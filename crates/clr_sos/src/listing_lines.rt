@@ -6,6 +6,7 @@ ghost use Rattle.clr_sos.specs.Dumping.{AreListed, counted, totals_line};
 ghost use Rattle.clr_sos.specs.Wants.{AnswersFor, is_wanted, MayAskOf};
 
 use crate::heap_items::HeapItems;
+use crate::line_ends::{no_ends, put_line};
 use crate::text::{put_address, put_head, put_word_number};
 use crate::wanted::Wanted;
 use clr_types::{Item, Types};
@@ -56,11 +57,12 @@ pub(crate) fn put_lines<F: Fn(u64) -> bool>(
         bytes: 0,
         free: 0,
     };
+    let mut ends = no_ends();
     for item in items {
         if !wanted.shows(&item, live) {
             continue;
         }
-        put_item(text, types, &item)?;
+        put_line(text, types, &item, &mut ends)?;
         totals.count(&item);
     }
     put_totals(text, totals)?;
@@ -107,8 +109,8 @@ pub(crate) fn put_totals(text: &mut Vec<u8>, totals: Totals) -> Result<(), Alloc
     Ok(())
 }
 
-// Puts the line of an item at the end.
-fn put_item(text: &mut Vec<u8>, types: &Types, item: &Item) -> Result<(), AllocError>
+/// Puts the line of an item at the end.
+pub(crate) fn put_item(text: &mut Vec<u8>, types: &Types, item: &Item) -> Result<(), AllocError>
     requires { item.now.type_id.0 ≤ length types.now }
     ensures { OnOk result (text.new.items ≡ text.old.items ++ item_line types.now item.now) }
 {

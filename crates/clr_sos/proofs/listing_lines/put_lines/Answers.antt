@@ -1,5 +1,6 @@
 -- Each item that is shown has its line, and is counted.
-use Rattle.std.proofs.Common.{◌∙◌, List, arith, subst, true, false}
+use Rattle.std.proofs.Common.{◌∙◌, List, arith, refl, rules, subst, sym, true, false}
+use Rattle.std.proofs.lemmas.List.{append-nil}
 use Rattle.clr_types.specs.Rising.{IsIn}
 use Rattle.clr_types.specs.declared.item.Item.{Item}
 use Rattle.clr_model.specs.Sos.{item_line}
@@ -8,6 +9,15 @@ use Rattle.clr_sos.proofs.ListedItems.{next-count, next-in, next-known, told_tes
 use Rattle.clr_sos.proofs.ListedItems.{within-counted, within-more}
 use Rattle.clr_sos.proofs.ShownLines.{full-text, says-more, says-skip, totals-more, totals-skip}
 use Rattle.clr_sos.proofs.listing_lines.put_lines.Goals as goal
+
+pub loop-item-init : goal.loop-item-init
+loop-item-init g c = record {
+  walked = refl;
+  within = search rules;
+  text = λ test answers. sym (append-nil c.args.text.now.items);
+  totals = λ test answers. refl;
+  ends = c.no_ends-ends.ensures c.args.types.now;
+}
 
 pub shows-requires : goal.shows-requires
 shows-requires g c =
@@ -33,10 +43,11 @@ loop-item-preserved-then-not-shows g c =
           (told_test c.shows.result (is_wanted c.args.wanted.now test c.in-Some.item) false
           (c.shows.ensures test (answers c.in-Some.item at)) c.if-not-shows.true)
           (c.loop-item.invariant.totals test answers);
+      ends = c.loop-item.invariant.ends;
     }
 
-pub put_item-requires : goal.put_item-requires
-put_item-requires g c =
+pub put_line-requires-clause-known : goal.put_line-requires-clause-known
+put_line-requires-clause-known g c =
     next-known c.args.types.now c.loop-item.yielded c.loop-item.item-iterator c.next.new.self c.args.items
     c.in-Some.item c.in-Some.ensures.steps
     (c.loop-item.invariant.walked ∙ c.into_iter-item-iterator.ensures.into_iter_gives) c.requires.listed
@@ -59,15 +70,16 @@ loop-item-preserved g c =
       within = within-counted c.loop-item.totals c.count.new.self c.loop-item.yielded c.in-Some.item c.count.ensures
           c.loop-item.invariant.within;
       text = λ test answers. says-more (item_line c.args.types.now) (is_wanted c.args.wanted.now test)
-          c.args.text.now.items c.loop-item.text.items c.loop-item.yielded c.in-Some.item c.put_item.new.text.items
+          c.args.text.now.items c.loop-item.text.items c.loop-item.yielded c.in-Some.item c.put_line.new.text.items
           (told_test c.shows.result (is_wanted c.args.wanted.now test c.in-Some.item) true
           (c.shows.ensures test (answers c.in-Some.item at)) c.if-not-shows.false)
-          (c.loop-item.invariant.text test answers) c.in_ok-put_item.ensures;
+          (c.loop-item.invariant.text test answers) c.in_ok-put_line.ensures.text;
       totals = λ test answers. totals-more (is_wanted c.args.wanted.now test) c.loop-item.totals c.loop-item.yielded
           c.in-Some.item c.count.new.self
           (told_test c.shows.result (is_wanted c.args.wanted.now test c.in-Some.item) true
           (c.shows.ensures test (answers c.in-Some.item at)) c.if-not-shows.false)
           (c.loop-item.invariant.totals test answers) c.count.ensures;
+      ends = c.put_line.ensures.ends;
     }
 
 pub returns : goal.returns

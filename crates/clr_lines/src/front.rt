@@ -1,5 +1,6 @@
 //! The lines that scripts are mostly made of, each done in one pass from its bytes to its reply.
-ghost use Rattle.std.specs.Prelude.{◌≡◌, ◌+◌, ◌^◌, ◌≤◌, ◌∷◌, ◌++◌, codes, take, IfSome, MatchOption};
+ghost use Rattle.std.specs.Prelude.{◌≡◌, ◌+◌, ◌^◌, ◌≤◌, ◌∷◌, ◌++◌, codes, drop, length, take, IfSome};
+ghost use Rattle.std.specs.Prelude.{MatchOption};
 ghost use Rattle.clr_model.specs.LineGrammar.{thread_word};
 ghost use Rattle.clr_runtime.specs.Outcomes.{done_outcome, number_outcome, place_outcome};
 ghost use Rattle.clr_model.specs.Outcomes.{outcome_text, refused};
@@ -8,9 +9,28 @@ ghost use Rattle.clr_lines.specs.Fronts.{IsAnswered, IsDone};
 use clr_model::Refusal;
 use clr_runtime::Runtime;
 use clr_script::{
-    LONGEST, put_done, put_number, put_place, put_refusal, read_copy, read_get, read_new,
-    read_null, read_put, read_set, read_slot, take_thread,
+    LONGEST, copy_at, four_bytes, get_at, null_at, put_at, put_done, put_number, put_place,
+    put_refusal, read_new, set_at, slot_at, thread_at,
 };
+
+/// So many bytes of a text hold the line of any of these verbs, but for `new`. Where less are left of it, the general
+/// way reads the line.
+const ROOM: usize = 64;
+
+// The verbs by their first four bytes, as `four_bytes` gives them.
+const GET: u32 = 0x2074_6567;
+
+const SET: u32 = 0x2074_6573;
+
+const PUT: u32 = 0x2074_7570;
+
+const NEW: u32 = 0x2077_656e;
+
+const READ: u32 = 0x6461_6572;
+
+const COPY: u32 = 0x7970_6f63;
+
+const NULL: u32 = 0x6c6c_756e;
 
 /// How much of a text was a line that was done, with its line feed, and how long its reply is, with its own.
 #[derive(Clone, Copy)]
@@ -65,161 +85,189 @@ fn tell_number(told: Result<u64, Refusal>, into: &mut [u8; 256]) -> usize
     }
 }
 
-// The line `get` of thread `t`. The text is what stands behind its verb. Gives the length of the reply, and what is
-// behind the line. So do the others.
+// The line `get` of thread `t`, whose words stand behind its verb at a place. Gives the length of the reply, and where
+// what is behind the line begins. So do the others.
 #[inline(always)]
-fn answer_get<'a>(
+fn answer_get(
     runtime: &mut Runtime,
     t: u64,
-    text: &'a [u8],
+    text: &[u8],
+    at: usize,
     into: &mut [u8; 256],
-) -> Option<(usize, &'a [u8])>
+) -> Option<(usize, usize)>
+    requires { at + 48 ≤ length text.now }
     ensures fits { IfSome result (λ p. p.0 ≤ 256) }
+    ensures near { IfSome result (λ p. p.1 ≤ at + 48) }
     ensures done { MatchOption result (runtime.new ≡ runtime.old) (λ p. IsDone runtime.old.machine
-        (thread_word t ++ ((32 ∷ codes "get") ++ text.now)) p.1.now (take p.0 into.new) runtime.new.machine) }
+        (thread_word t ++ ((32 ∷ codes "get") ++ drop at text.now)) (drop p.1 text.now) (take p.0 into.new)
+        runtime.new.machine) }
 {
-    let (to, from, index, rest) = read_get(text)?;
+    let (to, from, index, end) = get_at(text, at)?;
     let written = tell_place(runtime.get(t, to, from, index), into);
-    Some((written, rest))
+    Some((written, end))
 }
 
 // The line `set`.
 #[inline(always)]
-fn answer_set<'a>(
+fn answer_set(
     runtime: &mut Runtime,
     t: u64,
-    text: &'a [u8],
+    text: &[u8],
+    at: usize,
     into: &mut [u8; 256],
-) -> Option<(usize, &'a [u8])>
+) -> Option<(usize, usize)>
+    requires { at + 48 ≤ length text.now }
     ensures fits { IfSome result (λ p. p.0 ≤ 256) }
+    ensures near { IfSome result (λ p. p.1 ≤ at + 48) }
     ensures done { MatchOption result (runtime.new ≡ runtime.old) (λ p. IsDone runtime.old.machine
-        (thread_word t ++ ((32 ∷ codes "set") ++ text.now)) p.1.now (take p.0 into.new) runtime.new.machine) }
+        (thread_word t ++ ((32 ∷ codes "set") ++ drop at text.now)) (drop p.1 text.now) (take p.0 into.new)
+        runtime.new.machine) }
 {
-    let (object, index, from, rest) = read_set(text)?;
+    let (object, index, from, end) = set_at(text, at)?;
     let written = tell_done(runtime.set(t, object, index, from), into);
-    Some((written, rest))
+    Some((written, end))
 }
 
 // The line `put`.
 #[inline(always)]
-fn answer_put<'a>(
+fn answer_put(
     runtime: &mut Runtime,
     t: u64,
-    text: &'a [u8],
+    text: &[u8],
+    at: usize,
     into: &mut [u8; 256],
-) -> Option<(usize, &'a [u8])>
+) -> Option<(usize, usize)>
+    requires { at + 48 ≤ length text.now }
     ensures fits { IfSome result (λ p. p.0 ≤ 256) }
+    ensures near { IfSome result (λ p. p.1 ≤ at + 48) }
     ensures done { MatchOption result (runtime.new ≡ runtime.old) (λ p. IsDone runtime.old.machine
-        (thread_word t ++ ((32 ∷ codes "put") ++ text.now)) p.1.now (take p.0 into.new) runtime.new.machine) }
+        (thread_word t ++ ((32 ∷ codes "put") ++ drop at text.now)) (drop p.1 text.now) (take p.0 into.new)
+        runtime.new.machine) }
 {
-    let (object, index, value, rest) = read_put(text)?;
+    let (object, index, value, end) = put_at(text, at)?;
     let written = tell_done(runtime.put(t, object, index, value), into);
-    Some((written, rest))
+    Some((written, end))
 }
 
 // The line `read`.
 #[inline(always)]
-fn answer_read<'a>(
+fn answer_read(
     runtime: &mut Runtime,
     t: u64,
-    text: &'a [u8],
+    text: &[u8],
+    at: usize,
     into: &mut [u8; 256],
-) -> Option<(usize, &'a [u8])>
+) -> Option<(usize, usize)>
+    requires { at + 48 ≤ length text.now }
     ensures fits { IfSome result (λ p. p.0 ≤ 256) }
+    ensures near { IfSome result (λ p. p.1 ≤ at + 48) }
     ensures done { MatchOption result (runtime.new ≡ runtime.old) (λ p. IsDone runtime.old.machine
-        (thread_word t ++ ((32 ∷ codes "read") ++ text.now)) p.1.now (take p.0 into.new) runtime.new.machine) }
+        (thread_word t ++ ((32 ∷ codes "read") ++ drop at text.now)) (drop p.1 text.now) (take p.0 into.new)
+        runtime.new.machine) }
 {
-    let (from, index, rest) = read_slot(text)?;
+    let (from, index, end) = slot_at(text, at)?;
     let written = tell_number(runtime.read(t, from, index), into);
-    Some((written, rest))
+    Some((written, end))
 }
 
 // The line `copy`.
 #[inline(always)]
-fn answer_copy<'a>(
+fn answer_copy(
     runtime: &mut Runtime,
     t: u64,
-    text: &'a [u8],
+    text: &[u8],
+    at: usize,
     into: &mut [u8; 256],
-) -> Option<(usize, &'a [u8])>
+) -> Option<(usize, usize)>
+    requires { at + 48 ≤ length text.now }
     ensures fits { IfSome result (λ p. p.0 ≤ 256) }
+    ensures near { IfSome result (λ p. p.1 ≤ at + 48) }
     ensures done { MatchOption result (runtime.new ≡ runtime.old) (λ p. IsDone runtime.old.machine
-        (thread_word t ++ ((32 ∷ codes "copy") ++ text.now)) p.1.now (take p.0 into.new) runtime.new.machine) }
+        (thread_word t ++ ((32 ∷ codes "copy") ++ drop at text.now)) (drop p.1 text.now) (take p.0 into.new)
+        runtime.new.machine) }
 {
-    let (to, from, rest) = read_copy(text)?;
+    let (to, from, end) = copy_at(text, at)?;
     let written = tell_place(runtime.copy(t, to, from), into);
-    Some((written, rest))
+    Some((written, end))
 }
 
 // The line `null`.
 #[inline(always)]
-fn answer_null<'a>(
+fn answer_null(
     runtime: &mut Runtime,
     t: u64,
-    text: &'a [u8],
+    text: &[u8],
+    at: usize,
     into: &mut [u8; 256],
-) -> Option<(usize, &'a [u8])>
+) -> Option<(usize, usize)>
+    requires { at + 48 ≤ length text.now }
     ensures fits { IfSome result (λ p. p.0 ≤ 256) }
+    ensures near { IfSome result (λ p. p.1 ≤ at + 48) }
     ensures done { MatchOption result (runtime.new ≡ runtime.old) (λ p. IsDone runtime.old.machine
-        (thread_word t ++ ((32 ∷ codes "null") ++ text.now)) p.1.now (take p.0 into.new) runtime.new.machine) }
+        (thread_word t ++ ((32 ∷ codes "null") ++ drop at text.now)) (drop p.1 text.now) (take p.0 into.new)
+        runtime.new.machine) }
 {
-    let (local, rest) = read_null(text)?;
+    let (local, end) = null_at(text, at)?;
     let written = tell_done(runtime.clear(t, local), into);
-    Some((written, rest))
+    Some((written, end))
 }
 
-// The line `new`.
+// The line `new`. It is none where it is too long.
 #[inline(always)]
-fn answer_new<'a>(
+fn answer_new(
     runtime: &mut Runtime,
     t: u64,
-    text: &'a [u8],
+    text: &[u8],
+    at: usize,
     into: &mut [u8; 256],
-) -> Option<(usize, &'a [u8])>
+) -> Option<(usize, usize)>
+    requires { at ≤ length text.now }
     ensures fits { IfSome result (λ p. p.0 ≤ 256) }
+    ensures near { IfSome result (λ p. (p.1 ≤ 4097) × (p.1 ≤ length text.now)) }
     ensures done { MatchOption result (runtime.new ≡ runtime.old) (λ p. IsDone runtime.old.machine
-        (thread_word t ++ ((32 ∷ codes "new") ++ text.now)) p.1.now (take p.0 into.new) runtime.new.machine) }
+        (thread_word t ++ ((32 ∷ codes "new") ++ drop at text.now)) (drop p.1 text.now) (take p.0 into.new)
+        runtime.new.machine) }
 {
     let (recent, hint) = runtime.recent();
-    let line = read_new(text, hint)?;
+    let line = read_new(&text[at..], hint)?;
+    let end = text.len() - line.rest.len();
+    if end > LONGEST + 1 {
+        return None;
+    }
     let known = if line.hinted { recent } else { None };
     let written = tell_place(
         runtime.new_known(t, line.local, line.name, known, line.len),
         into,
     );
-    Some((written, line.rest))
+    Some((written, end))
 }
 
-// The line of thread `t` whose verb stands in front of the text.
+// The line of thread `t` whose verb stands at a place.
 #[inline]
-fn answer_verb<'a>(
+fn answer_verb(
     runtime: &mut Runtime,
     t: u64,
-    text: &'a [u8],
+    text: &[u8],
+    at: usize,
     into: &mut [u8; 256],
-) -> Option<(usize, &'a [u8])>
+) -> Option<(usize, usize)>
+    requires low { at ≤ 4 }
+    requires room { 64 ≤ length text.now }
     ensures fits { IfSome result (λ p. p.0 ≤ 256) }
+    ensures near { IfSome result (λ p. (p.1 ≤ 4097) × (p.1 ≤ length text.now)) }
     ensures done { MatchOption result (runtime.new ≡ runtime.old) (λ p. IsDone runtime.old.machine
-        (thread_word t ++ 32 ∷ text.now) p.1.now (take p.0 into.new) runtime.new.machine) }
+        (thread_word t ++ 32 ∷ drop at text.now) (drop p.1 text.now) (take p.0 into.new) runtime.new.machine) }
 {
-    match text {
-        [b'g', b'e', b't', words @ ..] => answer_get(runtime, t, words, into),
-        [b's', b'e', b't', words @ ..] => answer_set(runtime, t, words, into),
-        [b'p', b'u', b't', words @ ..] => answer_put(runtime, t, words, into),
-        [b'r', b'e', b'a', b'd', words @ ..] => answer_read(runtime, t, words, into),
-        [b'c', b'o', b'p', b'y', words @ ..] => answer_copy(runtime, t, words, into),
-        [b'n', b'e', b'w', words @ ..] => answer_new(runtime, t, words, into),
-        [b'n', b'u', b'l', b'l', words @ ..] => answer_null(runtime, t, words, into),
+    match four_bytes(text, at) {
+        GET => answer_get(runtime, t, text, at + 3, into),
+        SET => answer_set(runtime, t, text, at + 3, into),
+        PUT => answer_put(runtime, t, text, at + 3, into),
+        NEW => answer_new(runtime, t, text, at + 3, into),
+        READ => answer_read(runtime, t, text, at + 4, into),
+        COPY => answer_copy(runtime, t, text, at + 4, into),
+        NULL => answer_null(runtime, t, text, at + 4, into),
         _ => None,
     }
-}
-
-// The bytes among which a line ends, with its line feed, that isn't too long.
-#[inline]
-fn line_window(text: &[u8]) -> &[u8]
-    ensures { result.now ≡ take 4097 text.now }
-{
-    &text[..text.len().min(LONGEST + 1)]
 }
 
 /// Does what the line in front of a text says where it is one of those that scripts are mostly made of, and writes its
@@ -234,11 +282,10 @@ pub fn answer_front(runtime: &mut Runtime, text: &[u8], into: &mut [u8; 256]) ->
 {
     // what is seen is sound: it stands for a lawful machine, and a step of that reserves little
     let _ = runtime.heap();
-    let window = line_window(text);
-    let (t, words) = take_thread(window)?;
-    let (written, rest) = answer_verb(runtime, t, words, into)?;
-    Some(Answered {
-        read: window.len() - rest.len(),
-        written,
-    })
+    if text.len() < ROOM {
+        return None;
+    }
+    let (t, at) = thread_at(text)?;
+    let (written, read) = answer_verb(runtime, t, text, at, into)?;
+    Some(Answered { read, written })
 }

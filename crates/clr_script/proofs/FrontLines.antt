@@ -95,3 +95,11 @@ front_made verb ws instruction text rest are formed unfed is t fits =
       unfed = subst IsUnfed spelled (both_all (λ b. b ≢ 10) (thread_word t) line (thread_unfed t fits)
           (behind_unfed (verb ∷ ws) unfed));
     }
+
+-- and the text ends with what is behind their line
+pub ends_with : (ws : List (List ℕ)) (rest text : List ℕ) → GoesOn ws (10 ∷ rest) text
+    → (front : List ℕ) × (text ≡ front ++ rest)
+ends_with ws rest text is = (
+  behind ws ++ (10 ∷ []),
+  goes_on_behind ws (10 ∷ rest) text is ∙ sym (append_assoc (behind ws) (10 ∷ []) rest),
+)

@@ -6,6 +6,7 @@ pub mod FrontDigits
 pub mod NameFronts
 pub mod SpelledLines
 pub mod FrontLines
+pub mod Places
 pub mod MadeLines
 pub mod MadeChoices
 pub mod NameBytes

@@ -15,8 +15,8 @@ mod threads;
 
 pub use made::Made;
 pub use quick::{
-    NewLine, read_copy, read_get, read_new, read_null, read_put, read_quick, read_set, read_slot,
-    take_thread,
+    NewLine, copy_at, four_bytes, get_at, null_at, put_at, read_copy, read_get, read_new,
+    read_null, read_put, read_quick, read_set, read_slot, set_at, slot_at, take_thread, thread_at,
 };
 pub use reader::{LONGEST, read_line};
 pub use reply::{put_done, put_number, put_place, put_refusal, put_reply};

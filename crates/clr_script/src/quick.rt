@@ -7,6 +7,8 @@ ghost use Rattle.clr_script.specs.Readings.{IsReadAs};
 mod births;
 mod digits;
 mod handles;
+mod lines;
+mod places;
 mod slots;
 
 use crate::cut::strip;
@@ -16,6 +18,8 @@ pub use births::{NewLine, read_new};
 use clr_model::Command;
 pub use digits::take_thread;
 use handles::{read_create, read_fetch, read_free};
+pub use lines::{copy_at, get_at, null_at, put_at, set_at, slot_at};
+pub use places::{four_bytes, thread_at};
 pub use slots::{read_copy, read_get, read_null, read_put, read_set, read_slot};
 
 // Whether a text may begin with the verb of such a line, by its first letters.

@@ -1,6 +1,6 @@
 //! The lines that make objects, in front of a text, and the whole ones that collect them. Each reader takes the text
 //! behind the verb that its contract names.
-ghost use Rattle.std.specs.Prelude.{◌≡◌, ◌∷◌, ◌++◌, ◌≤◌, ℕ, IfSome, IsTrue, codes, position, not};
+ghost use Rattle.std.specs.Prelude.{◌≡◌, ◌∷◌, ◌++◌, ◌≤◌, ℕ, List, IfSome, IsTrue, codes, position, not};
 ghost use Rattle.std.specs.List.{list_all};
 ghost use Rattle.clr_model.specs.LineGrammar.{is_name, is_name_byte, how_words, number_words, IsHowForm, IsWord};
 ghost use Rattle.clr_model.specs.Instructions.{new_object};
@@ -145,6 +145,7 @@ pub fn read_new<'a>(text: &'a [u8], hint: &[u8]) -> Option<NewLine<'a>>
     ensures line { IfSome result (λ l. Continues (codes "new") (λ t. new_object t l.local l.name.now l.len)
         text.now l.rest.now) }
     ensures hinted { IfSome result (λ l. IsTrue l.hinted → l.name.now ≡ hint.now) }
+    ensures ends { IfSome result (λ l. (front : List ℕ) × (text.now ≡ front ++ l.rest.now)) }
 {
     let (local, rest) = take_local(text)?;
     let (name, hinted, rest) = take_name(rest, hint)?;

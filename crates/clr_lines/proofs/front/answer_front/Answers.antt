@@ -1,16 +1,19 @@
 -- The line that was done is the first of the text.
-use Rattle.std.proofs.Common.{◌∙◌, ◌-◌, List, ℕ, ap, length, sym}
-use Rattle.clr_lines.proofs.FrontSteps.{window_answered}
+use Rattle.std.proofs.Common.{List, ℕ, drop, sym, subst, take}
+use Rattle.clr_lines.specs.Fronts.{IsDone}
+use Rattle.clr_lines.proofs.FrontSteps.{near_answered}
 use Rattle.clr_lines.proofs.TopGrows.{top_grows}
 use Rattle.clr_lines.proofs.front.answer_front.Goals as goal
 
 pub returns-clause-answered : goal.returns-clause-answered
 returns-clause-answered c =
-    let first = c.in_ok-t in
-    let done = c.in_ok-written in
-    window_answered c.args.runtime.now.machine c.answer_verb.new.runtime.machine c.args.text.now _ done.rest.now _ _
-    (sym first.ensures.0 ∙ c.line_window-window.ensures)
-    (ap (λ (l : List ℕ). length l - length done.rest.now) first.ensures.0) done.ensures.done
+    let text = c.args.text.now in
+    let told = c.in_ok-written in
+    near_answered c.args.runtime.now.machine c.answer_verb.new.runtime.machine text _ told.read told.ensures.near.0
+    told.ensures.near.1
+    (subst (λ (l : List ℕ). IsDone c.args.runtime.now.machine l (drop told.read text)
+    (take told.written c.answer_verb.new.into) c.answer_verb.new.runtime.machine)
+    (sym c.in_ok-t.ensures.read.0) told.ensures.done)
 
 pub returns-clause-grows : goal.returns-clause-grows
 returns-clause-grows c =

@@ -8,7 +8,7 @@ returns-clause-done c =
     let w = c.in_ok-to in
     record {
       instruction = get_slot c.args.t w.to w.from w.index;
-      front = w.ensures c.args.t c.ranges.t.fits;
+      front = w.ensures.line c.args.t c.ranges.t.fits;
       outcome = _;
       follows = c.get.ensures;
       told = c.tell_place-written.ensures.text;

@@ -8,7 +8,7 @@ returns-clause-done c =
     let w = c.in_ok-local in
     record {
       instruction = clear_local c.args.t w.local;
-      front = w.ensures c.args.t c.ranges.t.fits;
+      front = w.ensures.line c.args.t c.ranges.t.fits;
       outcome = _;
       follows = c.clear.ensures;
       told = c.tell_done-written.ensures.text;

@@ -8,7 +8,7 @@ returns-clause-done c =
     let w = c.in_ok-object in
     record {
       instruction = put_number c.args.t w.object w.index w.value;
-      front = w.ensures c.args.t c.ranges.t.fits;
+      front = w.ensures.line c.args.t c.ranges.t.fits;
       outcome = _;
       follows = c.put.ensures;
       told = c.tell_done-written.ensures.text;

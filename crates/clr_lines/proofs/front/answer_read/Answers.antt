@@ -8,7 +8,7 @@ returns-clause-done c =
     let w = c.in_ok-from in
     record {
       instruction = read_number c.args.t w.from w.index;
-      front = w.ensures c.args.t c.ranges.t.fits;
+      front = w.ensures.line c.args.t c.ranges.t.fits;
       outcome = _;
       follows = c.read.ensures;
       told = c.tell_number-written.ensures.text;

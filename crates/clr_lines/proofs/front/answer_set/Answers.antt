@@ -8,7 +8,7 @@ returns-clause-done c =
     let w = c.in_ok-object in
     record {
       instruction = set_slot c.args.t w.object w.index w.from;
-      front = w.ensures c.args.t c.ranges.t.fits;
+      front = w.ensures.line c.args.t c.ranges.t.fits;
       outcome = _;
       follows = c.set.ensures;
       told = c.tell_done-written.ensures.text;

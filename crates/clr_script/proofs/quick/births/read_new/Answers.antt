@@ -2,7 +2,8 @@
 use Rattle.std.proofs.Common.{◌∷◌, refl, codes}
 use Rattle.clr_model.specs.Instructions.{new_object}
 use Rattle.clr_model.specs.LineGrammar.{local_word, number_words}
-use Rattle.clr_script.proofs.FrontLines.{behind_goes_on, front_made, length_unfed, local_unfed, name_unfed, text_unfed}
+use Rattle.clr_script.proofs.FrontLines.{behind_goes_on, ends_with, front_made, length_unfed, local_unfed, name_unfed}
+use Rattle.clr_script.proofs.FrontLines.{text_unfed}
 use Rattle.clr_script.proofs.quick.births.read_new.Goals as goal
 
 pub returns-clause-line : goal.returns-clause-line
@@ -19,4 +20,12 @@ returns-clause-line c =
         (name_unfed name.name.now name.ensures.cut.1, length_unfed len.len len.ensures.1),
       ),
     )
+    (_, local.ensures.0, (_, name.ensures.cut.0, behind_goes_on (number_words len.len) _ _ len.ensures.0))
+
+pub returns-clause-ends : goal.returns-clause-ends
+returns-clause-ends c =
+    let local = c.in_ok-local in
+    let name = c.in_ok-name in
+    let len = c.in_ok-len in
+    ends_with (local_word local.local ∷ name.name.now ∷ number_words len.len) _ c.args.text.now
     (_, local.ensures.0, (_, name.ensures.cut.0, behind_goes_on (number_words len.len) _ _ len.ensures.0))

@@ -1,0 +1,17 @@
+-- The words that were read are those of the line.
+use Rattle.std.proofs.Common.{[], ◌∷◌, refl, codes, drop}
+use Rattle.clr_model.specs.Instructions.{clear_local}
+use Rattle.clr_model.specs.LineGrammar.{local_word}
+use Rattle.clr_script.proofs.FrontLines.{front_made, local_unfed, text_unfed}
+use Rattle.clr_script.proofs.quick.lines.null_at.Goals as goal
+
+pub returns-clause-line : goal.returns-clause-line
+returns-clause-line c =
+    let local = c.in_ok-local in
+    front_made (codes "null") (local_word local.local ∷ [])
+    (λ t. clear_local t local.local) (drop c.args.at c.args.text.now) _ (λ t. refl)
+    (λ t fits. (fits, local.ensures.read.1)) (
+      text_unfed (codes "null") refl,
+      (local_unfed local.local local.ensures.read.1, tt),
+    )
+    (_, local.ensures.read.0, c.in_ok-end.ensures.read)

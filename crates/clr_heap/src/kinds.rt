@@ -85,7 +85,7 @@ impl Heap {
         found
     }
 
-    /// The item that starts at `a` in segment `k`, where `mt` is its method table word: the same as `item_like`, faster.
+    /// The item that starts at `a` in segment `k`, where `mt` is its method table word: as `item_like`, faster.
     #[inline(always)]
     pub fn item_like_word(
         &self,

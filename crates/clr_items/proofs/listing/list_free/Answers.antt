@@ -23,7 +23,8 @@ can : (c : In-loop-place) → CanCount c.args.types.now c.args.heap.now c.args.k
 can c = can_count c.args.types.now c.args.heap.now c.args.k c.args.from
     (last_of c.args.heap.now c.args.k) c.loop-place.place
     (home_unholed c.args.types.now c.args.heap.now c.args.k c.info-end.ensures.heap c.args.from c.requires.in_range
-    c.requires.parted c.requires.no_contexts) c.loop-place.invariant.listing.low c.loop-place.invariant.listing.walk (below c)
+    c.requires.parted c.requires.no_contexts) c.loop-place.invariant.listing.low c.loop-place.invariant.listing.walk
+    (below c)
 
 pub loop-place-init : goal.loop-place-init
 loop-place-init c =

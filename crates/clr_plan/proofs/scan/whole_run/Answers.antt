@@ -46,8 +46,8 @@ joined-run-requires c =
     let seen : ◌≡◌ {A = Option Plug} (Some c.in-Some.other)
     (kept_plug h c.args.k (item_at rows (word_of h) (plug_end c.loop-run.run))) = seen-at rows h c.args.k
     c.end-in-loop-run.ensures.value c.in-Some.is c.look-seen.ensures.kept in
-    let (within, high, longer) = grows-within rows h c.args.k c.args.end c.args.plug c.loop-run.run c.loop-run.invariant.0
-    below c.in-Some.other seen in
+    let (within, high, longer) = grows-within rows h c.args.k c.args.end c.args.plug c.loop-run.run
+    c.loop-run.invariant.0 below c.in-Some.other seen in
     omega arith
 
 pub loop-run-smaller : goal.loop-run-smaller
@@ -59,8 +59,8 @@ loop-run-smaller c =
     let seen : ◌≡◌ {A = Option Plug} (Some c.in-Some.other)
     (kept_plug h c.args.k (item_at rows (word_of h) (plug_end c.loop-run.run))) = seen-at rows h c.args.k
     c.end-in-loop-run.ensures.value c.in-Some.is c.look-seen.ensures.kept in
-    let (within, high, longer) = grows-within rows h c.args.k c.args.end c.args.plug c.loop-run.run c.loop-run.invariant.0
-    below c.in-Some.other seen in
+    let (within, high, longer) = grows-within rows h c.args.k c.args.end c.args.plug c.loop-run.run
+    c.loop-run.invariant.0 below c.in-Some.other seen in
     let ends : plug_end c.joined-run.result ≡ c.loop-run.run.start + (c.loop-run.run.size + c.in-Some.other.size) =
     ap plug_end c.joined-run.ensures in
     omega arith

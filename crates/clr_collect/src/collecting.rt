@@ -16,12 +16,13 @@ ghost use Rattle.clr_ctx.specs.Contexts.{IsIndex};
 ghost use Rattle.clr_generations.specs.Tables.{AreTablesOf};
 ghost use Rattle.clr_generations.specs.Tidy.{IsTidy};
 ghost use Rattle.clr_survivors.specs.Moving.{IsMarkedFor, IsReadyFor, KeepsNumbers};
+ghost use Rattle.clr_sweep.specs.Swept.{tally_of};
 ghost use Rattle.clr_mark.specs.Waiting.{IsGray};
 ghost use Rattle.clr_survivors.specs.Survivors.{HasObjects, HaveMoved, world_of};
 ghost use Rattle.clr_collect.specs.Collecting.{BlockingStart, CountsSlides, HasMarkedAlive, HasMarkedKept};
 ghost use Rattle.clr_collect.specs.Released.{HasReleased};
 
-use crate::deciding::counted_to_compact;
+use crate::deciding::compacts;
 use crate::judging::leave_kept;
 use crate::releasing::release_empty;
 use crate::sliding::slide_and_release;
@@ -32,11 +33,10 @@ use clr_evacuate::fit_and_move;
 use clr_generations::Space;
 use clr_mark::Marker;
 use clr_model::{Collected, How};
-use clr_moves::Promoted;
 use clr_pinq::PinQueue;
 use clr_scan::mark_from;
 use clr_survivors::{Roots, move_survivors};
-use clr_sweep::{Tally, sweep};
+use clr_sweep::{Tally, count, sweep};
 use clr_types::Types;
 
 /// A collection of generation `g` and of all younger ones: the contexts are given up, and of the objects of these
@@ -114,13 +114,13 @@ pub fn collect(
         &mut workshop.young,
         g,
     );
-    let Some(tally) = counted_to_compact(&space.heap, types, g, how, threshold) else {
+    if !compacts(&space.heap, types, g, how, threshold) {
         let swept = sweep(&mut space.heap, types, &mut space.bricks, g);
         slide_and_release(types, space, roots, workshop, g);
         workshop.young.forget();
         return answer(g, false, false, swept);
-    };
-    let promoted = move_kept(
+    }
+    let tally = move_kept(
         types,
         space,
         roots,
@@ -131,19 +131,11 @@ pub fn collect(
     );
     slide_and_release(types, space, roots, workshop, g);
     workshop.young.lose();
-    answer(
-        g,
-        true,
-        is_fit(how),
-        Tally {
-            promoted1: promoted.to1,
-            promoted2: promoted.to2,
-            ..tally
-        },
-    )
+    answer(g, true, is_fit(how), tally)
 }
 
-// Moves what is marked in a collection of generation `g`: by a compaction, which a fit precedes where `how` says so.
+// Moves what is marked in a collection of generation `g`: by a compaction, which a fit precedes where `how` says so. It
+// answers how many objects stay and how many go, and the bytes that went to generations 1 and 2.
 fn move_kept(
     types: &Types,
     space: &mut Space,
@@ -152,7 +144,7 @@ fn move_kept(
     slides: &mut Slides,
     g: u8,
     how: How,
-) -> Promoted
+) -> Tally
     requires generation { g ≤ 2 }
     requires usual { IsUsual g how }
     requires tidy { IsTidy types.now space.old }
@@ -161,7 +153,10 @@ fn move_kept(
     ensures moved { (n : Machine) (kept : ℕ → Bool) → IsMemoryOf types.now space.old.heap n → IsLaid n
         → n.handles ≡ roots.old.handles → TestsMarks types.now space.old.heap g kept
         → HaveMoved (collection.is_fit how) (world_of types.now space.old.heap roots.old)
-        (world_of types.now space.new.heap roots.new) g n kept result.to1 result.to2 slides.old slides.new }
+        (world_of types.now space.new.heap roots.new) g n kept result.promoted1 result.promoted2 slides.old
+        slides.new }
+    ensures kept { result.kept ≡ (tally_of types.now space.old.heap g).kept }
+    ensures freed { result.freed ≡ (tally_of types.now space.old.heap g).freed }
     ensures tidy { IsTidy types.now space.new }
     ensures unmarked { IsUnmarked types.now space.new.heap }
     ensures no_contexts { space.new.heap.rests ≡ no_rests }
@@ -172,7 +167,13 @@ fn move_kept(
     ensures numbers { KeepsNumbers roots.old roots.new }
 {
     if is_fit(how) {
-        return fit_and_move(types, space, roots, pins, slides);
+        let counted = count(&space.heap, types, g);
+        let promoted = fit_and_move(types, space, roots, pins, slides);
+        return Tally {
+            promoted1: promoted.to1,
+            promoted2: promoted.to2,
+            ..counted
+        };
     }
     move_survivors(types, space, roots, pins, slides, g)
 }

@@ -1,30 +1,22 @@
-// Whether a collection compacts, and what it counts then.
-ghost use Rattle.std.specs.Prelude.{◌≡◌, ℕ, ◌+◌, ◌≤◌, Bool, IfSome, List, is_some};
+// Whether a collection compacts.
+ghost use Rattle.std.specs.Prelude.{◌≡◌, ℕ, ◌+◌, ◌≤◌, Bool, List};
 ghost use Rattle.clr_heap.specs.View.{no_rests};
 ghost use Rattle.clr_model.specs.Collection as collection;
 ghost use Rattle.clr_model.specs.Lawful.{IsLaid};
 ghost use Rattle.clr_model.specs.Machine.{Machine};
 ghost use Rattle.clr_model.specs.Sweep.{Survivor, survivors};
-ghost use Rattle.clr_sweep.specs.Swept.{tally_of};
 ghost use Rattle.clr_types.specs.Types.{TypeRow};
 ghost use Rattle.clr_view.specs.Memory.{IsMemoryOf, TestsMarks};
 ghost use Rattle.clr_view.specs.View.{IsHeld};
 
 use clr_heap::Heap;
 use clr_model::How;
-use clr_sweep::{Tally, count, extent, kept_bytes};
+use clr_sweep::{count, extent, kept_bytes};
 use clr_types::Types;
 
-// What a collection of generation `g` counts where it compacts, when what it keeps is marked, and `None` where it
-// sweeps: as `how` says, and where that leaves it open, it compacts where more than `threshold` hundredths of the bytes
-// of the condemned parts of the small heap are free. A young one decides by the bytes that it counts.
-pub(crate) fn counted_to_compact(
-    heap: &Heap,
-    types: &Types,
-    g: u8,
-    how: How,
-    threshold: u64,
-) -> Option<Tally>
+// Whether a collection of generation `g` compacts, when what it keeps is marked: as `how` says, and where that leaves
+// it open, where more than `threshold` hundredths of the bytes of the condemned parts of the small heap are free.
+pub(crate) fn compacts(heap: &Heap, types: &Types, g: u8, how: How, threshold: u64) -> bool
     requires generation { g ≤ 2 }
     requires threshold { threshold ≤ 100 }
     requires held { IsHeld types.now heap.now }
@@ -32,42 +24,32 @@ pub(crate) fn counted_to_compact(
     requires laid { (m : Machine) × IsMemoryOf types.now heap.now m × IsLaid m }
     ensures decides { (m : Machine) (kept : ℕ → Bool) → IsMemoryOf types.now heap.now m → IsLaid m
         → TestsMarks types.now heap.now g kept → m.options.compact ≡ threshold
-        → is_some result ≡ collection.compacts how (collection.decides_to_compact m g (survivors m g kept)) }
-    ensures counted { IfSome result (λ tally. tally ≡ tally_of types.now heap.now g) }
+        → result ≡ collection.compacts how (collection.decides_to_compact m g (survivors m g kept)) }
 {
     match how {
-        How::Sweep => None,
-        How::Compact => Some(count(heap, types, g)),
-        How::Fit => Some(count(heap, types, g)),
-        How::Decide if g == 2 => counted_whole(heap, types, threshold),
-        How::Decide => {
-            let tally = count(heap, types, g);
-            if frees_enough(heap, g, tally.promoted1, tally.promoted2, threshold) {
-                Some(tally)
-            } else {
-                None
-            }
-        }
+        How::Sweep => false,
+        How::Compact | How::Fit => true,
+        How::Decide => decides(heap, types, g, threshold),
     }
 }
 
-// The same of a collection of all generations that decides by itself.
-fn counted_whole(heap: &Heap, types: &Types, threshold: u64) -> Option<Tally>
+// The same of a collection that decides by itself. A young one decides by the bytes that a sweep would promote.
+fn decides(heap: &Heap, types: &Types, g: u8, threshold: u64) -> bool
+    requires generation { g ≤ 2 }
     requires threshold { threshold ≤ 100 }
     requires held { IsHeld types.now heap.now }
     requires no_contexts { heap.now.rests ≡ no_rests }
     requires laid { (m : Machine) × IsMemoryOf types.now heap.now m × IsLaid m }
-    ensures decides { (m : Machine) (kept : ℕ → Bool) → IsMemoryOf types.now heap.now m → IsLaid m
-        → TestsMarks types.now heap.now 2 kept → m.options.compact ≡ threshold
-        → is_some result ≡ collection.decides_to_compact m 2 (survivors m 2 kept) }
-    ensures counted { IfSome result (λ tally. tally ≡ tally_of types.now heap.now 2) }
+    ensures { (m : Machine) (kept : ℕ → Bool) → IsMemoryOf types.now heap.now m → IsLaid m
+        → TestsMarks types.now heap.now g kept → m.options.compact ≡ threshold
+        → result ≡ collection.decides_to_compact m g (survivors m g kept) }
 {
-    let kept = kept_bytes(heap, types, 2);
-    if frees_enough(heap, 2, kept, 0, threshold) {
-        Some(count(heap, types, 2))
-    } else {
-        None
+    if g == 2 {
+        let kept = kept_bytes(heap, types, g);
+        return frees_enough(heap, g, kept, 0, threshold);
     }
+    let tally = count(heap, types, g);
+    frees_enough(heap, g, tally.promoted1, tally.promoted2, threshold)
 }
 
 // Whether more than `threshold` hundredths of the bytes of the condemned parts of the small heap are free where `kept`

@@ -47,10 +47,10 @@ pub fn fit_and_move(
     ensures numbers { KeepsNumbers roots.old roots.new }
 {
     let bytes = fit_survivors(types, space, roots);
-    let promoted = move_survivors(types, space, roots, pins, slides, 1);
+    let moved = move_survivors(types, space, roots, pins, slides, 1);
     slides.add(bytes);
     Promoted {
-        to2: promoted.to2 + bytes,
-        ..promoted
+        to1: moved.promoted1,
+        to2: moved.promoted2 + bytes,
     }
 }

@@ -52,14 +52,18 @@ module _ (rows : List TypeRow) (old now : HeapView) (k p e : ℕ) (shape : SameS
   between : (i : Item) → IsIn i (items_between (sight rows old k) p e) → IsItem rows p e i
   between i n = all_at (IsItem rows p e) n (items-are (sight rows old k) ps p e s.walk.start s.walk.spelled)
 
-  stays-same : (i : Item) → IsIn i (items_between (sight rows old k) p e) → stays (word_of now) i
-      ≡ stays (word_of old) i
-  stays-same i n =
+  -- an item's own word is as it was
+  pub item-word : (i : Item) → IsIn i (items_between (sight rows old k) p e) → word_of now i.place ≡ word_of old i.place
+  item-word i n =
       let is = between i n in
       let above = is.above in
       let under = is.below in
       let least = is.least in
-      ap (λ w. is_object i && has_mark w) (ahead i.place is.aligned (omega arith) (omega arith))
+      ahead i.place is.aligned (omega arith) (omega arith)
+
+  stays-same : (i : Item) → IsIn i (items_between (sight rows old k) p e) → stays (word_of now) i
+      ≡ stays (word_of old) i
+  stays-same i n = ap (λ w. is_object i && has_mark w) (item-word i n)
 
   survivor-same : (i : Item) → IsIn i (items_between (sight rows old k) p e) → survivor_in now k i ≡ survivor_in old k i
   survivor-same i n =

@@ -5,6 +5,9 @@ pub mod Settling
 pub mod GrowingRuns
 pub mod Scanning
 pub mod Looking
+pub mod Counting
+pub mod CountingParts
+pub mod CountedHeaps
 pub mod PartPlan
 pub mod Raising
 pub mod Reaching

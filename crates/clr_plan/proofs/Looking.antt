@@ -68,7 +68,7 @@ known-item rows word a size kind known e = go (unmarked (word a) == kind.mt) ref
     go false same e = let none : ◌≡◌ {A = Option ℕ} (Some size) None = e in absurd cc
 
 -- a plug is seen exactly where the item stays
-kept-some : (h : HeapView) (k : ℕ) (i : Item) (q : Plug) → ◌≡◌ {A = Option Plug} (Some q) (kept_plug h k i)
+pub kept-some : (h : HeapView) (k : ℕ) (i : Item) (q : Plug) → ◌≡◌ {A = Option Plug} (Some q) (kept_plug h k i)
     → (stays (word_of h) i ≡ true) × (q ≡ plug_of (survivor_in h k i))
 kept-some h k i q e = go (stays (word_of h) i) refl e
   where
@@ -81,7 +81,7 @@ kept-some h k i q e = go (stays (word_of h) i) refl e
         some_same e = cc
     go false t e = absurd cc
 
-kept-none : (h : HeapView) (k : ℕ) (i : Item) → ◌≡◌ {A = Option Plug} None (kept_plug h k i) → stays (word_of h) i
+pub kept-none : (h : HeapView) (k : ℕ) (i : Item) → ◌≡◌ {A = Option Plug} None (kept_plug h k i) → stays (word_of h) i
     ≡ false
 kept-none h k i e = go (stays (word_of h) i) refl e
   where

@@ -1,5 +1,5 @@
 -- Parts that are whole segments, laid one after the other.
-use Rattle.std.proofs.Common.{◌≡◌, ◌⊎◌, ℕ, suc, ◌+◌, ◌-◌, ◌*◌, ◌/◌, ◌<◌, ◌≤◌, List, [], ◌∷◌, ◌++◌}
+use Rattle.std.proofs.Common.{◌≡◌, ◌⊎◌, ℕ, suc, ◌+◌, ◌-◌, ◌*◌, ◌/◌, ◌^◌, ◌<◌, ◌≤◌, List, [], ◌∷◌, ◌++◌}
 use Rattle.std.proofs.Common.{length, map, sym, ap, subst, ◌∙◌, arith, true, false, if◌then◌else◌}
 use Rattle.std.specs.List.{AllByRecursion}
 use Rattle.clr_types.specs.Types.{TypeRow}
@@ -15,6 +15,7 @@ use Rattle.clr_plugs.specs.BrickEntries.{BricksView}
 use Rattle.clr_plugs.specs.Plans.{IsPlanned}
 use Rattle.clr_moves.specs.Moves.{part_of, takes}
 use Rattle.clr_moves.specs.declared.condemned.Condemned.{Condemned}
+use Rattle.clr_plan.specs.Counts.{HasCounted, HaveCounted, no_counts, plus}
 use Rattle.clr_plan.specs.Firsts.{IsLowest}
 use Rattle.clr_plan.specs.LaidParts.{CanLaySegment, end_behind, HasLaidSegment, opened_by, planned_plugs, pushes_for}
 use Rattle.clr_plan.specs.PartLists.{AreFor, AreLaid, opened_in, plan_in, plugs_in}
@@ -24,8 +25,10 @@ use Rattle.clr_plan.specs.Scans.{CanScan, plugs_between, survivors_between}
 use Rattle.clr_plan.specs.States.{state}
 use Rattle.clr_plan.specs.WholeParts.{AreLaidWhole, CanLayWhole, Wholes, wholes}
 use Rattle.clr_plan.specs.Writes.{AreSavedAt, HasWritten}
+use Rattle.clr_plan.specs.declared.counts.Counts.{Counts}
 use Rattle.clr_plan.specs.declared.pointer.Pointer.{Pointer}
 use Rattle.clr_plan.proofs.Ages.{end-within, plugs-of, rise-behind}
+use Rattle.clr_plan.proofs.CountingParts.{counted-by, counted-fits}
 use Rattle.clr_plan.proofs.Covering.{brick-there}
 use Rattle.clr_plan.proofs.Fitting.{placed-for}
 use Rattle.clr_plan.proofs.LaidBelow.{laid-more, laid-over, nothing-laid}
@@ -238,3 +241,16 @@ module _ (w : Wholes) (rows : List TypeRow) (old : HeapView) (bricks0 : BricksVi
           → AreLaidWhole w (state old bricks0 queue0) (state now2 bricks2 queue2) g count (k + 1) at2
       whole-laid-by now2 bricks2 queue2 at2 lays shape spans_are = whole-laid-more now2 bricks2 queue2 at2
           (lays old here starts free s.laid.low whole-lays) shape spans_are
+
+      -- its objects are counted
+      module _ (c more : Counts) (counted : HaveCounted rows old g k c)
+          (adds : (v : HeapView) (u : Around) (xs ys : List ℕ) (low : ℕ)
+          → CanLaySegment u rows v (state now bricks queue) at xs ys k low
+          → HasCounted rows v k (last_of v k) (first_of v k) no_counts (last_of v k) more) where
+        pub whole-counted-by : HaveCounted rows old g (k + 1) (plus c more)
+        whole-counted-by = counted-by rows old g k c counted lay.can.heap inside on part
+            (lawful_at old k lay.can.heap inside).low more (adds old here starts free s.laid.low whole-lays)
+
+        pub whole-counted-fits : (c.kept + more.kept < 2 ^ 64) × (c.freed + more.freed < 2 ^ 64)
+        whole-counted-fits = counted-fits rows old g k c counted lay.can.heap inside more
+            (adds old here starts free s.laid.low whole-lays) scan.high

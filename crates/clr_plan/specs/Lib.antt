@@ -4,6 +4,7 @@ pub mod Pins
 pub mod Stages
 pub mod States
 pub mod Scans
+pub mod Counts
 pub mod Runs
 pub mod Parts
 pub mod Raises

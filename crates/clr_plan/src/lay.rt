@@ -2,24 +2,26 @@
 ghost use Rattle.std.specs.Prelude.{◌≡◌, ℕ, ◌+◌, ◌<◌, ◌≤◌, ◌++◌, ◌∷◌, [], ◌-◌, ◌/◌, ◌%◌, ◌^◌, ◌⊎◌, List, length};
 ghost use Rattle.clr_covers.specs.Covers.{spans};
 ghost use Rattle.clr_bricks.specs.Bricks.{entry_at};
-ghost use Rattle.clr_heap.specs.View.{HeapView, SameShape, word_of};
+ghost use Rattle.clr_heap.specs.View.{first_of, HeapView, last_of, SameShape, word_of};
 ghost use Rattle.clr_model.specs.Compaction.{plug_end};
 ghost use Rattle.clr_plugs.specs.Builders.{IsNoChildren};
 ghost use Rattle.clr_plugs.specs.Planning.{IsAbovePlugs, IsWriting, with_plug};
 ghost use Rattle.clr_plugs.specs.Plans.{IsPlaceIn, PlannedPart};
+ghost use Rattle.clr_plan.specs.Counts.{HasCounted, no_counts};
 ghost use Rattle.clr_plan.specs.Stages.{CanGo, HasGone, Stage};
 ghost use Rattle.clr_plan.specs.LaidParts.{CanLay, CanLaySegment, HasLaid, HasLaidSegment};
 ghost use Rattle.clr_plan.specs.Parts.{Around};
 ghost use Rattle.clr_plan.specs.States.{progress, state, stretch, written};
 ghost use Rattle.clr_plan.specs.Writes.{CanWrite, distance_of, entries_for, HasWritten, IsWritingAmong, opened};
 
+use crate::counts::Counts;
 use crate::plug::Plug;
 use crate::pointer::Pointer;
-use crate::scan::next_plug;
+use crate::scan::{Walk, next_plug};
 use crate::way::way_of;
 use crate::write::{Home, write_plug};
 use clr_bricks::Bricks;
-use clr_heap::{Heap, ObjectKind};
+use clr_heap::Heap;
 use clr_pinq::PinQueue;
 use clr_plugs::PlanWriter;
 use clr_types::{FIRST_OFFSET, Types};
@@ -83,7 +85,8 @@ pub fn lay_plug(
     laying.below = plug.end();
 }
 
-/// Places the plugs of segment `k` from `low` to `end`, one after the other, and writes them before themselves.
+/// Places the plugs of segment `k` from `low` to `end`, one after the other, and writes them before themselves. It
+/// answers how many objects stand there.
 pub fn lay_part(
     heap: &mut Heap,
     types: &Types,
@@ -93,7 +96,7 @@ pub fn lay_part(
     k: usize,
     low: u64,
     end: u64,
-)
+) -> Counts
     requires part { (old : HeapView) × (w : Around) × (starts free : List ℕ) × (part : PlannedPart)
         × CanLay w types.now old (progress (written heap.old bricks.old queue.old laying.old.writer) laying.old.at
         laying.old.below) starts free part (stretch k low end) }
@@ -103,6 +106,10 @@ pub fn lay_part(
         → HasLaid w types.now old (progress (written heap.old bricks.old queue.old laying.old.writer) laying.old.at
         laying.old.below) (progress (written heap.new bricks.new queue.new laying.new.writer) laying.new.at
         laying.new.below) starts free part (stretch k low end) }
+    ensures counted { (old : HeapView) (w : Around) (starts free : List ℕ) (part : PlannedPart)
+        → CanLay w types.now old (progress (written heap.old bricks.old queue.old laying.old.writer) laying.old.at
+        laying.old.below) starts free part (stretch k low end)
+        → HasCounted types.now old k end low no_counts end result }
     ensures shape { SameShape heap.old heap.new }
     ensures spans { spans bricks.new ≡ spans bricks.old }
 {
@@ -111,15 +118,23 @@ pub fn lay_part(
         first: heap.info(k).base + FIRST_OFFSET,
     };
     let mut place = low;
-    let mut known = ObjectKind::none();
-    while let Some(found) = next_plug(heap, types, k, place, end, &mut known) {
+    let mut walk = Walk::new();
+    while let Some(found) = next_plug(heap, types, k, place, end, &mut walk) {
         lay_plug(heap, bricks, queue, laying, home, found.plug);
         place = found.next;
     }
+    walk.counts
+}
+
+/// Where the pointer stands behind parts that are laid, and how many objects stand in them.
+#[derive(Clone, Copy)]
+pub struct Laid {
+    pub at: Pointer,
+    pub counts: Counts,
 }
 
 /// Places the plugs of segment `k`, all of it, and writes its plan into the heap and the bricks. It answers the pointer
-/// behind them.
+/// behind them, and how many objects stand there.
 pub fn lay_segment(
     heap: &mut Heap,
     types: &Types,
@@ -127,12 +142,15 @@ pub fn lay_segment(
     queue: &mut PinQueue,
     from: Pointer,
     k: usize,
-) -> Pointer
+) -> Laid
     requires segment { (old : HeapView) × (w : Around) × (starts free : List ℕ) × (below : ℕ)
         × CanLaySegment w types.now old (state heap.old bricks.old queue.old) from starts free k below }
     ensures laid { (old : HeapView) (w : Around) (starts free : List ℕ) (below : ℕ) → CanLaySegment w types.now old
         (state heap.old bricks.old queue.old) from starts free k below → HasLaidSegment w types.now old
-        (state heap.old bricks.old queue.old) (state heap.new bricks.new queue.new) from starts free k result }
+        (state heap.old bricks.old queue.old) (state heap.new bricks.new queue.new) from starts free k result.at }
+    ensures counted { (old : HeapView) (w : Around) (starts free : List ℕ) (below : ℕ) → CanLaySegment w types.now old
+        (state heap.old bricks.old queue.old) from starts free k below
+        → HasCounted types.now old k (last_of old k) (first_of old k) no_counts (last_of old k) result.counts }
     ensures shape { SameShape heap.old heap.new }
     ensures spans { spans bricks.new ≡ spans bricks.old }
 {
@@ -144,7 +162,7 @@ pub fn lay_segment(
         writer,
         below: first,
     };
-    lay_part(
+    let counts = lay_part(
         heap,
         types,
         bricks,
@@ -155,5 +173,8 @@ pub fn lay_segment(
         segment.end,
     );
     laying.writer.finish(heap, bricks, segment.end);
-    laying.at
+    Laid {
+        at: laying.at,
+        counts,
+    }
 }

@@ -5,9 +5,11 @@
 //! objects under it are saved in a queue. `clr_moves` reads it.
 #![tactic(auto)]
 
+pub use crate::counts::Counts;
 pub use crate::large::plan_large;
 pub use crate::planning::plan;
 
+mod counts;
 mod heaps;
 mod kinds;
 mod large;

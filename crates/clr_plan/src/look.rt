@@ -12,11 +12,12 @@ use crate::plug::Plug;
 use clr_heap::{Heap, ObjectKind};
 use clr_types::{Types, header, mark};
 
-/// An item's size, and the plug that it is alone, where it is a marked object.
+/// An item's size, the plug that it is alone, where it is a marked object, and whether it is an object at all.
 #[derive(Clone, Copy)]
 pub struct Seen {
     pub size: u64,
     pub kept: Option<Plug>,
+    pub is_object: bool,
 }
 
 // An item's size, and whether it is an object.
@@ -41,6 +42,7 @@ pub fn look(
     requires known { IsObjectKind types.now known.old }
     ensures size { result.size ≡ (item_at types.now (word_of heap.now) place).size }
     ensures kept { result.kept ≡ kept_plug heap.now k (item_at types.now (word_of heap.now) place) }
+    ensures object { result.is_object ≡ is_object (item_at types.now (word_of heap.now) place) }
     ensures known { IsObjectKind types.now known.new }
 {
     let mt = heap.word_at(k, place);
@@ -53,6 +55,7 @@ pub fn look(
     Seen {
         size: told.size,
         kept,
+        is_object: told.is_object,
     }
 }
 

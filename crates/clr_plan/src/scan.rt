@@ -1,15 +1,38 @@
 // The plugs of a part of a segment, one after the other.
-ghost use Rattle.std.specs.Prelude.{◌≡◌, ℕ, ◌+◌, ◌-◌, ◌<◌, ◌≤◌, [], ◌∷◌, MatchOption, IfSome, length};
+ghost use Rattle.std.specs.Prelude.{◌≡◌, ℕ, ◌+◌, ◌-◌, ◌<◌, ◌≤◌, List, [], ◌∷◌, MatchOption, IfSome, length};
+ghost use Rattle.clr_types.specs.Types.{TypeRow};
 ghost use Rattle.clr_model.specs.Compaction.{plug_end};
 ghost use Rattle.clr_heap.specs.ObjectKinds.{IsObjectKind};
 ghost use Rattle.clr_heap.specs.View.{segment_at};
+ghost use Rattle.clr_plan.specs.Counts.{HasCounted, IsAtMost, no_counts};
 ghost use Rattle.clr_plan.specs.Scans.{CanScan, plugs_between};
 ghost use Rattle.clr_plan.specs.Runs.{HasNext, HasRun, IsRun};
 
+use crate::counts::Counts;
 use crate::look::look;
 use crate::plug::Plug;
 use clr_heap::{Heap, ObjectKind};
 use clr_types::Types;
+
+/// What a walk over a part knows of the last kind of object, and how many objects it has met.
+#[derive(Clone, Copy)]
+pub struct Walk {
+    pub known: ObjectKind,
+    pub counts: Counts,
+}
+
+impl Walk {
+    /// A walk that has met nothing.
+    pub fn new() -> Walk
+        ensures known { (rows : List TypeRow) → IsObjectKind rows result.known }
+        ensures counts { result.counts ≡ no_counts }
+    {
+        Walk {
+            known: ObjectKind::none(),
+            counts: Counts::none(),
+        }
+    }
+}
 
 /// A plug, and a place behind it from which the next one is to be looked for.
 #[derive(Clone, Copy)]
@@ -20,30 +43,36 @@ pub struct NextPlug {
 
 /// The first plug of segment `k` from `from` to `end`, where there is one: the longest run of marked objects side by
 /// side, from the first one on, of one generation and one pinned state. It reads nothing below `from` but that item's
-/// header. What is known of kinds helps it, and it learns more.
+/// header. What the walk knows helps it, and the walk counts what is met: up to the place behind the plug, or all.
 pub fn next_plug(
     heap: &Heap,
     types: &Types,
     k: usize,
     from: u64,
     end: u64,
-    known: &mut ObjectKind,
+    walk: &mut Walk,
 ) -> Option<NextPlug>
     requires in_range { k < length heap.now.segments }
     requires scan { CanScan types.now heap.now k from end }
-    requires known { IsObjectKind types.now known.old }
+    requires counted { IsAtMost walk.old.counts from }
+    requires known { IsObjectKind types.now walk.old.known }
     ensures plugs { MatchOption result (plugs_between types.now heap.now k from end ≡ [])
         (HasNext types.now heap.now k from end) }
     ensures behind { IfSome result (λ f. plug_end f.plug ≤ f.next) }
-    ensures known { IsObjectKind types.now known.new }
+    ensures counted { MatchOption result
+        (HasCounted types.now heap.now k end from walk.old.counts end walk.new.counts)
+        (λ f. HasCounted types.now heap.now k end from walk.old.counts f.next walk.new.counts) }
+    ensures known { IsObjectKind types.now walk.new.known }
 {
     let base = heap.info(k).base;
     let mut place = from;
     while place < end {
-        let seen = look(heap, types, k, base, place, known);
+        let seen = look(heap, types, k, base, place, &mut walk.known);
         if let Some(plug) = seen.kept {
-            return Some(whole_run(heap, types, k, base, plug, end, known));
+            walk.counts = walk.counts.with_kept();
+            return Some(whole_run(heap, types, k, base, plug, end, walk));
         }
+        walk.counts = walk.counts.with_other(seen.is_object);
         place += seen.size;
     }
     None
@@ -57,18 +86,20 @@ fn whole_run(
     base: u64,
     plug: Plug,
     end: u64,
-    known: &mut ObjectKind,
+    walk: &mut Walk,
 ) -> NextPlug
     requires base { base ≡ (segment_at heap.now k).base }
     requires run { IsRun types.now heap.now k end plug }
-    requires known { IsObjectKind types.now known.old }
+    requires counted { IsAtMost walk.old.counts (plug_end plug) }
+    requires known { IsObjectKind types.now walk.old.known }
     ensures next { HasRun types.now heap.now k end plug result }
     ensures behind { plug_end result.plug ≤ result.next }
-    ensures known { IsObjectKind types.now known.new }
+    ensures counted { HasCounted types.now heap.now k end (plug_end plug) walk.old.counts result.next walk.new.counts }
+    ensures known { IsObjectKind types.now walk.new.known }
 {
     let mut run = plug;
     while run.end() < end {
-        let seen = look(heap, types, k, base, run.end(), known);
+        let seen = look(heap, types, k, base, run.end(), &mut walk.known);
         match seen.kept {
             Some(other) => {
                 if !run.is_alike(other) {
@@ -77,9 +108,11 @@ fn whole_run(
                         next: run.end(),
                     };
                 }
+                walk.counts = walk.counts.with_kept();
                 run = run.joined(other);
             }
             None => {
+                walk.counts = walk.counts.with_other(seen.is_object);
                 return NextPlug {
                     plug: run,
                     next: run.end() + seen.size,

@@ -3,11 +3,13 @@ ghost use Rattle.std.specs.Prelude.{◌≡◌, ℕ, ◌<◌, true, length};
 ghost use Rattle.clr_types.specs.Segments.{reserved_end};
 ghost use Rattle.clr_heap.specs.View.{first_of, segment_at};
 ghost use Rattle.clr_moves.specs.Moves.{takes};
+ghost use Rattle.clr_plan.specs.Counts.{HaveCounted};
 ghost use Rattle.clr_plan.specs.Firsts.{IsLowest};
 ghost use Rattle.clr_plan.specs.States.{state};
 ghost use Rattle.clr_plan.specs.WholeParts.{AreLaidWhole, CanLayWhole, Wholes};
 
-use crate::lay::lay_segment;
+use crate::counts::Counts;
+use crate::lay::{Laid, lay_segment};
 use crate::pointer::Pointer;
 use clr_bricks::Bricks;
 use clr_heap::Heap;
@@ -15,7 +17,8 @@ use clr_moves::{Condemned, next_part, takes_part};
 use clr_pinq::PinQueue;
 use clr_types::{FIRST_OFFSET, Types};
 
-/// Lays the parts of the `count` lowest segments, each of which is a whole segment. It answers the pointer behind them.
+/// Lays the parts of the `count` lowest segments, each of which is a whole segment. It answers the pointer behind them,
+/// and how many objects stand in them.
 pub fn lay_whole(
     heap: &mut Heap,
     types: &Types,
@@ -23,18 +26,23 @@ pub fn lay_whole(
     queue: &mut PinQueue,
     parts: Condemned,
     count: usize,
-) -> Pointer
+) -> Laid
     requires can { (w : Wholes) × CanLayWhole w types.now heap.old bricks.old queue.old parts count }
     ensures laid { (w : Wholes) → CanLayWhole w types.now heap.old bricks.old queue.old parts count → AreLaidWhole w
-        (state heap.old bricks.old queue.old) (state heap.new bricks.new queue.new) parts count count result }
+        (state heap.old bricks.old queue.old) (state heap.new bricks.new queue.new) parts count count result.at }
+    ensures counted { (w : Wholes) → CanLayWhole w types.now heap.old bricks.old queue.old parts count
+        → HaveCounted types.now heap.old parts count result.counts }
 {
     let mut at = lowest_place(heap, parts);
+    let mut counts = Counts::none();
     for k in 0..count {
         if takes_part(parts, heap.info(k)) {
-            at = lay_segment(heap, types, bricks, queue, at, k);
+            let laid = lay_segment(heap, types, bricks, queue, at, k);
+            at = laid.at;
+            counts = counts.plus(laid.counts);
         }
     }
-    at
+    Laid { at, counts }
 }
 
 // The first place of the lowest segment that has a part.

@@ -1,5 +1,6 @@
 pub mod CanMoveAll
 pub mod CleanAfter
+pub mod CountedAll
 pub mod Course
 pub mod Ended
 pub mod EndedTables

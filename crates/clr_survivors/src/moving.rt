@@ -1,5 +1,5 @@
 // What survives a compacting collection goes where its plan takes it.
-ghost use Rattle.std.specs.Prelude.{◌≡◌, ℕ, ◌+◌, ◌≤◌, Bool, List, [], false, length, ℤ};
+ghost use Rattle.std.specs.Prelude.{◌≡◌, ℕ, ◌+◌, ◌≤◌, ◌^◌, Bool, List, [], false, length, ℤ};
 ghost use Rattle.clr_bricks.specs.Bricks.{entry_at};
 ghost use Rattle.clr_covers.specs.Covers.{spans};
 ghost use Rattle.clr_generations.specs.Laws.{BrickLaw};
@@ -12,9 +12,11 @@ ghost use Rattle.clr_model.specs.Machine.{Machine};
 ghost use Rattle.clr_view.specs.Marks.{IsUnmarked};
 ghost use Rattle.clr_view.specs.Memory.{IsMemoryOf, TestsMarks};
 ghost use Rattle.clr_view.specs.View.{IsHeld, objects_in};
+ghost use Rattle.clr_plan.specs.Counts.{counts_of, IsAtMost};
+ghost use Rattle.clr_sweep.specs.Swept.{tally_of};
 ghost use Rattle.clr_survivors.specs.Condemned.{condemned_from};
 ghost use Rattle.clr_survivors.specs.Moving.{IsMarkedFor, IsReadyFor, KeepsNumbers};
-ghost use Rattle.clr_survivors.specs.Phases.{CanMove, HasMovedBy, HasPlannedPinned, HasSettled, plan_of};
+ghost use Rattle.clr_survivors.specs.Phases.{CanMove, HasMovedBy, HasPlannedPinned, HasSettled, plan_of, rest_counts};
 ghost use Rattle.clr_survivors.specs.Pins.{PinsStand};
 ghost use Rattle.clr_survivors.specs.Survivors.{HasObjects, HaveMoved, world_of};
 
@@ -24,16 +26,18 @@ use crate::roots::{Roots, move_roots};
 use clr_compact::{Slides, compact};
 use clr_generations::Space;
 use clr_handles::Handles;
+use clr_heap::Heap;
 use clr_moves::{Condemned, Planned, Promoted};
 use clr_pinq::PinQueue;
-use clr_plan::plan;
+use clr_plan::{Counts, plan};
 use clr_reloc::relocate;
-use clr_sweep::sweep_large;
+use clr_sweep::{Tally, count_large, sweep_large};
 use clr_types::Types;
 
 /// Moves what is marked in the small heap, in a collection of the generations up to `g` that compacts, to where a
 /// compaction takes it, and sweeps the large segments where `g` is 2. Locals, handles, entries, the f-reachable queue
-/// and all references of what is left name the new places then. It answers the bytes that went to generations 1 and 2.
+/// and all references of what is left name the new places then. It answers how many objects stay and how many go, and
+/// the bytes that went to generations 1 and 2.
 ///
 /// What pinned handles name stays. What is left before such an object is one free item. Nothing is marked afterwards,
 /// and headers and padding are clean, and cards and bricks obey their laws, before and after. As many handles are
@@ -49,7 +53,7 @@ pub fn move_survivors(
     pins: &mut PinQueue,
     slides: &mut Slides,
     g: u8,
-) -> Promoted
+) -> Tally
     requires generation { g ≤ 2 }
     requires tidy { IsTidy types.now space.old }
     requires marked { IsMarkedFor (world_of types.now space.old.heap roots.old) g }
@@ -57,7 +61,9 @@ pub fn move_survivors(
     ensures moved { (n : Machine) (kept : ℕ → Bool) → IsMemoryOf types.now space.old.heap n → IsLaid n
         → n.handles ≡ roots.old.handles → TestsMarks types.now space.old.heap g kept
         → HaveMoved false (world_of types.now space.old.heap roots.old)
-        (world_of types.now space.new.heap roots.new) g n kept result.to1 result.to2 slides.old slides.new }
+        (world_of types.now space.new.heap roots.new) g n kept result.promoted1 result.promoted2 slides.old slides.new }
+    ensures kept { result.kept ≡ (tally_of types.now space.old.heap g).kept }
+    ensures freed { result.freed ≡ (tally_of types.now space.old.heap g).freed }
     ensures tidy { IsTidy types.now space.new }
     ensures unmarked { IsUnmarked types.now space.new.heap }
     ensures no_contexts { space.new.heap.rests ≡ no_rests }
@@ -68,13 +74,19 @@ pub fn move_survivors(
     ensures numbers { KeepsNumbers roots.old roots.new }
 {
     let low = first_condemned(&space.heap, g);
-    let planned = plan_pinned(types, space, roots, pins, g, low);
+    let (planned, counts) = plan_pinned(types, space, roots, pins, g, low);
     let promoted = move_by_plan(types, space, roots, pins, slides, g, &planned);
     settle(types, space, &roots.handles, g, low);
-    promoted
+    Tally {
+        kept: counts.kept,
+        freed: counts.freed,
+        promoted1: promoted.to1,
+        promoted2: promoted.to2,
+    }
 }
 
-// Marks in the headers what pinned handles name from `low` on, below which no part has a place, and plans.
+// Marks in the headers what pinned handles name from `low` on, below which no part has a place, and plans. It answers
+// the plan, and how many objects the collection keeps and frees.
 fn plan_pinned(
     types: &Types,
     space: &mut Space,
@@ -82,7 +94,7 @@ fn plan_pinned(
     pins: &mut PinQueue,
     g: u8,
     low: u64,
-) -> Planned
+) -> (Planned, Counts)
     requires generation { g ≤ 2 }
     requires low { low ≡ condemned_from space.old.heap g }
     requires tidy { IsTidy types.now space.old }
@@ -90,11 +102,31 @@ fn plan_pinned(
     requires ready { IsReadyFor roots.now.handles pins.old }
     ensures planned { (m : Machine) (kept : ℕ → Bool) → IsMemoryOf types.now space.old.heap m
         → m.handles ≡ roots.now.handles → TestsMarks types.now space.old.heap g kept
-        → HasPlannedPinned types.now space.old space.new pins.new.entries roots.now.handles g m kept result }
+        → HasPlannedPinned types.now space.old space.new pins.new.entries roots.now.handles g m kept result.0 }
+    ensures counted { result.1 ≡ counts_of (tally_of types.now space.old.heap g) }
     ensures spare { pins.old.spare ≡ pins.new.spare + length pins.new.entries }
 {
     set_pins(&mut space.heap, types, &roots.handles, low, true);
-    plan(&mut space.heap, types, &mut space.bricks, pins, g)
+    let rest = count_rest(&space.heap, types, g);
+    let (planned, counts) = plan(&mut space.heap, types, &mut space.bricks, pins, g);
+    (planned, counts.plus(rest))
+}
+
+// What a collection of generation `g` counts outside of the parts that it compacts: in large segments, where `g` is 2.
+fn count_rest(heap: &Heap, types: &Types, g: u8) -> Counts
+    requires held { IsHeld types.now heap.now }
+    requires no_contexts { heap.now.rests ≡ no_rests }
+    ensures counted { result ≡ rest_counts types.now heap.now g }
+    ensures few { IsAtMost result (2 ^ 62) }
+{
+    if g != 2 {
+        return Counts::none();
+    }
+    let large = count_large(heap, types);
+    Counts {
+        kept: large.kept,
+        freed: large.freed,
+    }
 }
 
 // Moves what survives by the plan, and all names with it.

@@ -20,6 +20,7 @@ pub mod YoungPart
 pub mod Counted
 pub mod WholeSwept
 pub mod CountedParts
+pub mod LargeCounted
 pub mod YoungSurvivors
 pub mod YoungSwept
 pub mod YoungLayout

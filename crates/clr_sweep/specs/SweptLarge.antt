@@ -1,5 +1,6 @@
 -- What a sweep of the large segments leaves.
-use Rattle.std.specs.Prelude.{◌≡◌, ℕ, ◌+◌, ◌%◌, ◌<◌, ◌≤◌, Bool, true, false, not, ◌&&◌, ◌||◌, List, filter, map}
+use Rattle.std.specs.Prelude.{◌≡◌, ℕ, zero, suc, ◌+◌, ◌%◌, ◌<◌, ◌≤◌, Bool, true, false, not, ◌&&◌, ◌||◌, List, filter}
+use Rattle.std.specs.Prelude.{map}
 use Rattle.std.specs.Prelude.{if◌then◌else◌, length, ℤ}
 use Rattle.std.specs.List.{list_any}
 use Rattle.clr_types.specs.Rising.{IsIn}
@@ -12,7 +13,7 @@ use Rattle.clr_bricks.specs.Bricks.{entry_at}
 use Rattle.clr_covers.specs.Covers.{CoverView, spans}
 use Rattle.clr_generations.specs.Laws.{AreEntered, IsBrickOf}
 use Rattle.clr_generations.specs.Renewing.{AreLeft, left_in}
-use Rattle.clr_heap.specs.View.{first_of, frame, heap_items, HeapView, IsHeap, segment_at, word_of}
+use Rattle.clr_heap.specs.View.{first_of, frame, heap_items, HeapView, IsHeap, listing, segment_at, word_of}
 use Rattle.clr_model.specs.Lookups.{object_piece}
 use Rattle.clr_model.specs.Machine.{Object}
 use Rattle.clr_model.specs.Sweep.{Survivor, survivor_pieces, swept_others}
@@ -20,6 +21,9 @@ use Rattle.clr_view.specs.Marks.{Marked}
 use Rattle.clr_view.specs.Memory.{is_marked, word_without_mark}
 use Rattle.clr_view.specs.View.{AreFreeHeads, is_object, IsHeld, layout_in, objects_in}
 use Rattle.clr_types.specs.Segments.{is_large_or_pinned}
+use Rattle.clr_sweep.specs.Passes.{no_tally, plus}
+use Rattle.clr_sweep.specs.SweptItems.{tally_among}
+use Rattle.clr_sweep.specs.declared.tally.Tally.{Tally}
 
 -- whether a place stands in a large segment
 abbrev pub is_large_place : HeapView → ℕ → Bool
@@ -69,3 +73,9 @@ pub record AreLargeRenewed (rows : List TypeRow) (h : HeapView) (old new : List 
   pub others : (j brick : ℕ) → j < length h.segments → is_large h j ≡ false → IsBrickOf (segment_at h j) brick
       → entry_at new brick ≡ entry_at old brick
   pub spans : spans new ≡ spans old
+
+-- what is counted in those of the k lowest segments that are large
+abbrev pub large_tally : List TypeRow → HeapView → ℕ → Tally
+large_tally rows h zero = no_tally
+large_tally rows h (suc k) = plus (large_tally rows h k)
+    (if is_large h k then tally_among h (listing rows h k) else no_tally)

@@ -1,6 +1,6 @@
 // Counting what a collection would keep and free.
-ghost use Rattle.std.specs.Prelude.{◌≡◌, ℕ, ◌+◌, ◌<◌, ◌≤◌, Bool, length};
-ghost use Rattle.clr_heap.specs.View.{first_of, last_of, no_rests};
+ghost use Rattle.std.specs.Prelude.{◌≡◌, ℕ, ◌+◌, ◌<◌, ◌≤◌, ◌^◌, Bool, true, false, length};
+ghost use Rattle.clr_heap.specs.View.{first_of, last_of, listing, no_rests};
 ghost use Rattle.clr_model.specs.Collection.{kept_bytes};
 ghost use Rattle.clr_model.specs.Lawful.{IsLaid};
 ghost use Rattle.clr_model.specs.Machine.{Machine};
@@ -10,9 +10,11 @@ ghost use Rattle.clr_view.specs.View.{IsHeld};
 ghost use Rattle.clr_sweep.specs.Passes.{IsAtMost, plus};
 ghost use Rattle.clr_sweep.specs.Swept.{tally_of};
 ghost use Rattle.clr_sweep.specs.SweptItems.{items_from, tally_among};
+ghost use Rattle.clr_sweep.specs.SweptLarge.{is_large, large_tally};
 ghost use Rattle.clr_sweep.specs.SweptSegments.{IsParted};
 
 use crate::dead::{dead_size, item_and_kind};
+use crate::large::is_large_or_pinned;
 use crate::pass::with_item;
 use crate::sweeping::start_of;
 use crate::tally::Tally;
@@ -55,6 +57,40 @@ fn count_whole(heap: &Heap, types: &Types) -> Tally
         tally = count_part(heap, types, k, from, tally);
     }
     tally
+}
+
+/// Counts what a sweep of all generations would count now in the segments that aren't of the small heap. Nothing
+/// changes.
+pub fn count_large(heap: &Heap, types: &Types) -> Tally
+    requires held { IsHeld types.now heap.now }
+    requires no_contexts { heap.now.rests ≡ no_rests }
+    ensures tally { result ≡ large_tally types.now heap.now (length heap.now.segments) }
+    ensures few { IsAtMost result (2 ^ 62) }
+{
+    let count = heap.segments();
+    let mut tally = Tally::NONE;
+    for k in 0..count {
+        tally = count_if_large(heap, types, k, tally);
+    }
+    tally
+}
+
+// Adds the counts of segment `k` if it isn't of the small heap.
+fn count_if_large(heap: &Heap, types: &Types, k: usize, before: Tally) -> Tally
+    requires in_range { k < length heap.now.segments }
+    requires held { IsHeld types.now heap.now }
+    requires no_contexts { heap.now.rests ≡ no_rests }
+    requires counted { IsAtMost before (first_of heap.now k) }
+    ensures large { is_large heap.now k ≡ true
+        → result ≡ plus before (tally_among heap.now (listing types.now heap.now k)) }
+    ensures small { is_large heap.now k ≡ false → result ≡ before }
+    ensures counted { IsAtMost result (last_of heap.now k) }
+{
+    let segment = heap.info(k);
+    if is_large_or_pinned(segment.kind) {
+        return count_part(heap, types, k, segment.base + FIRST_OFFSET, before);
+    }
+    before
 }
 
 // Adds the counts of the part of segment `k` from `from` on.

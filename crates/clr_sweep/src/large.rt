@@ -62,7 +62,7 @@ fn renew_large_bricks(heap: &Heap, types: &Types, bricks: &mut Bricks, count: us
 }
 
 // Whether segments of this kind aren't of the small heap.
-fn is_large_or_pinned(kind: SegKind) -> bool
+pub(crate) fn is_large_or_pinned(kind: SegKind) -> bool
     ensures { result ≡ segments.is_large_or_pinned kind }
 {
     match kind {

@@ -1,5 +1,5 @@
 -- What is kept is swept or moved, the large heap slides, and empty segments are given back.
-use Rattle.std.proofs.Common.{◌∙◌, ap, is_some, refl, sym, arith, false, true}
+use Rattle.std.proofs.Common.{◌∙◌, ap, refl, sym, arith, false, true}
 use Rattle.std.proofs.Common.{◌≡◌, [], Bool, MatchBool, None, Some, subst}
 use Rattle.clr_ctx.specs.Contexts.{IsIndex}
 use Rattle.clr_model.specs.declared.Collected.{Collected}
@@ -7,6 +7,7 @@ use Rattle.clr_model.specs.Collection.{is_fit}
 use Rattle.clr_model.specs.Lawful.{IsPlaceNamed}
 use Rattle.clr_model.specs.Machine.{Machine}
 use Rattle.clr_view.specs.World.{IsWorldOf, World}
+use Rattle.clr_sweep.specs.Swept.{tally_of}
 use Rattle.clr_survivors.specs.Moving.{IsMarkedFor}
 use Rattle.clr_survivors.specs.Survivors.{world_of}
 use Rattle.clr_collect.specs.declared.workshop.Workshop.{Workshop}
@@ -22,8 +23,8 @@ use Rattle.clr_collect.proofs.collecting.collect.Goals as goal
 pub mark_kept-requires-clause-world : goal.mark_kept-requires-clause-world
 mark_kept-requires-clause-world c = let (m, w, named, idle) = c.requires.world in (m, w, named)
 
-pub counted_to_compact-requires-clause-laid : goal.counted_to_compact-requires-clause-laid
-counted_to_compact-requires-clause-laid c =
+pub compacts-requires-clause-laid : goal.compacts-requires-clause-laid
+compacts-requires-clause-laid c =
     memory_laid (world_of c.args.types.now c.args.space.now.heap c.args.roots.now)
     c.mark_kept.new.space.heap c.mark_kept.new.roots.handles c.mark_kept.new.roots.finals c.args.g c.requires.generation
     c.mark_kept.ensures.kept c.requires.world
@@ -77,8 +78,8 @@ slide_and_release-requires-clause-ready c =
     c.mark_kept.new.space.heap c.mark_kept.new.roots.handles c.mark_kept.new.roots.finals c.args.g c.requires.generation
     c.mark_kept.ensures.kept c.requires.world) c.requires.ready
 
-pub returns-in_default-clause-collected : goal.returns-in_default-clause-collected
-returns-in_default-clause-collected c =
+pub returns-then-not-compacts-clause-collected : goal.returns-then-not-compacts-clause-collected
+returns-then-not-compacts-clause-collected c =
     let slides = c.args.workshop.now.slides in
     whole_collection (world_of c.args.types.now c.args.space.now.heap c.args.roots.now) c.args.g c.args.how
     c.requires.usual c.args.threshold c.answer.result
@@ -95,20 +96,20 @@ returns-in_default-clause-collected c =
     c.mark_kept.new.space.heap c.mark_kept.new.roots.handles c.mark_kept.new.roots.finals c.args.g c.requires.generation
     c.mark_kept.ensures.kept c.sweep-swept.new.heap c.sweep-swept.ensures.swept c.args.how c.requires.usual
     c.args.threshold
-    (λ n kept memory laid marks same. sym (ap is_some c.in_default.is)
-    ∙ c.counted_to_compact.ensures.decides n kept memory laid marks same)
+    (λ n kept memory laid marks same. sym c.if-not-compacts.true
+    ∙ c.compacts.ensures.decides n kept memory laid marks same)
     c.sweep-swept.result c.sweep-swept.ensures.tally c.answer.result c.answer.ensures slides)))
     c.slide_and_release.ensures.ended
 
-pub returns-in_default-clause-flag : goal.returns-in_default-clause-flag
-returns-in_default-clause-flag c = ap (λ (s : Workshop). s.compacts_large) c.slide_and_release.ensures.workshop
+pub returns-then-not-compacts-clause-flag : goal.returns-then-not-compacts-clause-flag
+returns-then-not-compacts-clause-flag c = ap (λ (s : Workshop). s.compacts_large) c.slide_and_release.ensures.workshop
 
-pub returns-in_default-clause-marker : goal.returns-in_default-clause-marker
-returns-in_default-clause-marker c =
+pub returns-then-not-compacts-clause-marker : goal.returns-then-not-compacts-clause-marker
+returns-then-not-compacts-clause-marker c =
     ap (λ (s : Workshop). s.marker) c.slide_and_release.ensures.workshop ∙ c.mark_kept.ensures.marker
 
-pub returns-in_default-clause-index : goal.returns-in_default-clause-index
-returns-in_default-clause-index c =
+pub returns-then-not-compacts-clause-index : goal.returns-then-not-compacts-clause-index
+returns-then-not-compacts-clause-index c =
     let (m, is, named, idle) = c.requires.world in
     subst (IsIndex c.args.types.now c.slide_and_release.new.space.heap) (sym c.forget.ensures)
     (c.slide_and_release.ensures.index
@@ -116,41 +117,41 @@ returns-in_default-clause-index c =
     c.mark_kept.new.space.heap c.mark_kept.new.roots.handles c.mark_kept.new.roots.finals c.args.g c.requires.generation
     c.mark_kept.ensures.kept c.sweep-swept.new.heap c.sweep-swept.ensures.swept m is named))
 
-pub returns-in_default-clause-limit : goal.returns-in_default-clause-limit
-returns-in_default-clause-limit c =
+pub returns-then-not-compacts-clause-limit : goal.returns-then-not-compacts-clause-limit
+returns-then-not-compacts-clause-limit c =
     c.slide_and_release.ensures.limit ∙ c.sweep-swept.ensures.swept.limit ∙ c.mark_kept.ensures.kept.limit
 
-pub returns-in_default-clause-spare : goal.returns-in_default-clause-spare
-returns-in_default-clause-spare c =
+pub returns-then-not-compacts-clause-spare : goal.returns-then-not-compacts-clause-spare
+returns-then-not-compacts-clause-spare c =
     let kept = c.mark_kept.ensures.spare in
     let still = c.slide_and_release.ensures.numbers.spare in
     omega (arith, kept, still)
 
-pub returns-in_default-clause-none_added : goal.returns-in_default-clause-none_added
-returns-in_default-clause-none_added c =
+pub returns-then-not-compacts-clause-none_added : goal.returns-then-not-compacts-clause-none_added
+returns-then-not-compacts-clause-none_added c =
     let kept = c.mark_kept.ensures.none_added in
     let still = c.slide_and_release.ensures.numbers.spare in
     let many = c.slide_and_release.ensures.numbers.entries in
     omega (arith, kept, still, many)
 
-pub returns-in_default-clause-index_after : goal.returns-in_default-clause-index_after
-returns-in_default-clause-index_after c =
+pub returns-then-not-compacts-clause-index_after : goal.returns-then-not-compacts-clause-index_after
+returns-then-not-compacts-clause-index_after c =
     let sweeps : c.answer.result.compacted ≡ false = ap (λ (a : Collected). a.compacted) c.answer.ensures in
     subst (λ (b : Bool). MatchBool b (c.forget.new.self ≡ None) (c.forget.new.self ≡ Some [])) (sym sweeps)
     c.forget.ensures
 
 -- ---- it compacted
 
-pub move_kept-promoted-requires-clause-marked : goal.move_kept-promoted-requires-clause-marked
-move_kept-promoted-requires-clause-marked c =
+pub move_kept-tally-requires-clause-marked : goal.move_kept-tally-requires-clause-marked
+move_kept-tally-requires-clause-marked c =
     subst (λ (v : World). IsMarkedFor v c.args.g)
     (same_world c.args.types.now c.mark_kept.new.space.heap c.args.roots.now c.mark_kept.new.roots
     c.mark_kept.ensures.locals) (marked_kept (world_of c.args.types.now c.args.space.now.heap c.args.roots.now)
     c.mark_kept.new.space.heap c.mark_kept.new.roots.handles c.mark_kept.new.roots.finals c.args.g c.requires.generation
     c.mark_kept.ensures.kept c.requires.world)
 
-pub move_kept-promoted-requires-clause-ready : goal.move_kept-promoted-requires-clause-ready
-move_kept-promoted-requires-clause-ready c =
+pub move_kept-tally-requires-clause-ready : goal.move_kept-tally-requires-clause-ready
+move_kept-tally-requires-clause-ready c =
     ready_still c.args.roots.now.handles c.mark_kept.new.roots.handles c.args.workshop.now.pins
     (pinned_kept (world_of c.args.types.now c.args.space.now.heap c.args.roots.now)
     c.mark_kept.new.space.heap c.mark_kept.new.roots.handles c.mark_kept.new.roots.finals c.args.g c.requires.generation
@@ -160,25 +161,25 @@ pub slide_and_release-requires-2-clause-world : goal.slide_and_release-requires-
 slide_and_release-requires-2-clause-world c =
     known_moved (world_of c.args.types.now c.args.space.now.heap c.args.roots.now)
     c.mark_kept.new.space.heap c.mark_kept.new.roots.handles c.mark_kept.new.roots.finals c.args.g c.requires.generation
-    c.mark_kept.ensures.kept c.move_kept-promoted.new.space.heap c.move_kept-promoted.new.roots.locals.items
-    c.move_kept-promoted.new.roots.handles c.move_kept-promoted.new.roots.finals
-    c.move_kept-promoted.result.to1 c.move_kept-promoted.result.to2 c.args.workshop.now.slides
-    c.move_kept-promoted.new.slides (is_fit c.args.how)
+    c.mark_kept.ensures.kept c.move_kept-tally.new.space.heap c.move_kept-tally.new.roots.locals.items
+    c.move_kept-tally.new.roots.handles c.move_kept-tally.new.roots.finals
+    c.move_kept-tally.result.promoted1 c.move_kept-tally.result.promoted2 c.args.workshop.now.slides
+    c.move_kept-tally.new.slides (is_fit c.args.how)
     (same_moves
     c.args.types.now c.mark_kept.new.space.heap c.args.roots.now c.mark_kept.new.roots c.mark_kept.ensures.locals
-    (is_fit c.args.how) (world_of c.args.types.now c.move_kept-promoted.new.space.heap c.move_kept-promoted.new.roots)
-    c.args.g c.move_kept-promoted.result.to1 c.move_kept-promoted.result.to2 c.args.workshop.now.slides
-    c.move_kept-promoted.new.slides c.move_kept-promoted.ensures.moved)
-    c.in-Some.tally c.in-Some.ensures.counted
+    (is_fit c.args.how) (world_of c.args.types.now c.move_kept-tally.new.space.heap c.move_kept-tally.new.roots)
+    c.args.g c.move_kept-tally.result.promoted1 c.move_kept-tally.result.promoted2 c.args.workshop.now.slides
+    c.move_kept-tally.new.slides c.move_kept-tally.ensures.moved)
+    (tally_of c.args.types.now c.mark_kept.new.space.heap c.args.g) refl
     (record {
       generation = c.args.g;
       compacted = true;
       fitted = is_fit c.args.how;
       background = false;
-      kept = c.in-Some.tally.kept;
-      freed = c.in-Some.tally.freed;
-      promoted1 = c.move_kept-promoted.result.to1;
-      promoted2 = c.move_kept-promoted.result.to2;
+      kept = (tally_of c.args.types.now c.mark_kept.new.space.heap c.args.g).kept;
+      freed = (tally_of c.args.types.now c.mark_kept.new.space.heap c.args.g).freed;
+      promoted1 = c.move_kept-tally.result.promoted1;
+      promoted2 = c.move_kept-tally.result.promoted2;
     }) refl c.args.how c.requires.usual refl c.requires.world
 
 pub returns-clause-collected : goal.returns-clause-collected
@@ -186,38 +187,38 @@ returns-clause-collected c =
     let slides = c.args.workshop.now.slides in
     whole_collection (world_of c.args.types.now c.args.space.now.heap c.args.roots.now) c.args.g c.args.how
     c.requires.usual c.args.threshold c.answer-2.result
-    (world_of c.args.types.now c.move_kept-promoted.new.space.heap c.move_kept-promoted.new.roots)
+    (world_of c.args.types.now c.move_kept-tally.new.space.heap c.move_kept-tally.new.roots)
     (world_of c.args.types.now c.slide_and_release-2.new.space.heap c.slide_and_release-2.new.roots) slides
     c.slide_and_release-2.new.workshop.slides c.args.workshop.now.compacts_large
     (subst (ComesTo (world_of c.args.types.now c.args.space.now.heap c.args.roots.now) c.args.g c.args.how
-    c.args.threshold c.answer-2.result (world_of c.args.types.now c.move_kept-promoted.new.space.heap
-    c.move_kept-promoted.new.roots) slides)
+    c.args.threshold c.answer-2.result (world_of c.args.types.now c.move_kept-tally.new.space.heap
+    c.move_kept-tally.new.roots) slides)
     (sym (ap (λ (s : Workshop). s.slides) c.slide_and_release-2.ensures.workshop))
     (moved_comes (world_of c.args.types.now c.args.space.now.heap c.args.roots.now)
     c.mark_kept.new.space.heap c.mark_kept.new.roots.handles c.mark_kept.new.roots.finals c.args.g c.requires.generation
-    c.mark_kept.ensures.kept c.move_kept-promoted.new.space.heap c.move_kept-promoted.new.roots.locals.items
-    c.move_kept-promoted.new.roots.handles c.move_kept-promoted.new.roots.finals
-    c.move_kept-promoted.result.to1 c.move_kept-promoted.result.to2 slides c.move_kept-promoted.new.slides
+    c.mark_kept.ensures.kept c.move_kept-tally.new.space.heap c.move_kept-tally.new.roots.locals.items
+    c.move_kept-tally.new.roots.handles c.move_kept-tally.new.roots.finals
+    c.move_kept-tally.result.promoted1 c.move_kept-tally.result.promoted2 slides c.move_kept-tally.new.slides
     (is_fit c.args.how)
     (same_moves
     c.args.types.now c.mark_kept.new.space.heap c.args.roots.now c.mark_kept.new.roots c.mark_kept.ensures.locals
-    (is_fit c.args.how) (world_of c.args.types.now c.move_kept-promoted.new.space.heap c.move_kept-promoted.new.roots)
-    c.args.g c.move_kept-promoted.result.to1 c.move_kept-promoted.result.to2 c.args.workshop.now.slides
-    c.move_kept-promoted.new.slides c.move_kept-promoted.ensures.moved)
-    c.in-Some.tally c.in-Some.ensures.counted c.answer-2.result
+    (is_fit c.args.how) (world_of c.args.types.now c.move_kept-tally.new.space.heap c.move_kept-tally.new.roots)
+    c.args.g c.move_kept-tally.result.promoted1 c.move_kept-tally.result.promoted2 c.args.workshop.now.slides
+    c.move_kept-tally.new.slides c.move_kept-tally.ensures.moved)
+    (tally_of c.args.types.now c.mark_kept.new.space.heap c.args.g) refl c.answer-2.result
     (c.answer-2.ensures
-    ∙ ap (λ (b : Bool). record {
+    ∙ (λ j. record {
       generation = c.args.g;
       compacted = true;
-      fitted = b;
+      fitted = c.is_fit.ensures j;
       background = false;
-      kept = c.in-Some.tally.kept;
-      freed = c.in-Some.tally.freed;
-      promoted1 = c.move_kept-promoted.result.to1;
-      promoted2 = c.move_kept-promoted.result.to2;
-    }) c.is_fit.ensures) c.args.how c.requires.usual refl c.args.threshold
-    (λ n kept memory laid marks same. sym (ap is_some c.in-Some.is)
-    ∙ c.counted_to_compact.ensures.decides n kept memory laid marks same)))
+      kept = c.move_kept-tally.ensures.kept j;
+      freed = c.move_kept-tally.ensures.freed j;
+      promoted1 = c.move_kept-tally.result.promoted1;
+      promoted2 = c.move_kept-tally.result.promoted2;
+    })) c.args.how c.requires.usual refl c.args.threshold
+    (λ n kept memory laid marks same. sym c.if-not-compacts.false
+    ∙ c.compacts.ensures.decides n kept memory laid marks same)))
     c.slide_and_release-2.ensures.ended
 
 pub returns-clause-flag : goal.returns-clause-flag
@@ -229,20 +230,20 @@ returns-clause-marker c =
 
 pub returns-clause-limit : goal.returns-clause-limit
 returns-clause-limit c =
-    c.slide_and_release-2.ensures.limit ∙ c.move_kept-promoted.ensures.limit ∙ c.mark_kept.ensures.kept.limit
+    c.slide_and_release-2.ensures.limit ∙ c.move_kept-tally.ensures.limit ∙ c.mark_kept.ensures.kept.limit
 
 pub returns-clause-spare : goal.returns-clause-spare
 returns-clause-spare c =
     let kept = c.mark_kept.ensures.spare in
-    let moved = c.move_kept-promoted.ensures.numbers.spare in
+    let moved = c.move_kept-tally.ensures.numbers.spare in
     let still = c.slide_and_release-2.ensures.numbers.spare in
     omega (arith, kept, moved, still)
 
 pub returns-clause-none_added : goal.returns-clause-none_added
 returns-clause-none_added c =
     let kept = c.mark_kept.ensures.none_added in
-    let moved = c.move_kept-promoted.ensures.numbers.spare in
-    let many = c.move_kept-promoted.ensures.numbers.entries in
+    let moved = c.move_kept-tally.ensures.numbers.spare in
+    let many = c.move_kept-tally.ensures.numbers.entries in
     let still = c.slide_and_release-2.ensures.numbers.spare in
     let as_many = c.slide_and_release-2.ensures.numbers.entries in
     omega (arith, kept, moved, many, still, as_many)

@@ -56,9 +56,9 @@ some-fit c =
 
 -- ---- what the moves need
 
-pub move_survivors-promoted-requires-clause-marked : goal.move_survivors-promoted-requires-clause-marked
-move_survivors-promoted-requires-clause-marked c =
-    let at = (goal.at.move_survivors-promoted-requires-clause-marked c).After-fit_survivors-bytes in
+pub move_survivors-moved-requires-clause-marked : goal.move_survivors-moved-requires-clause-marked
+move_survivors-moved-requires-clause-marked c =
+    let at = (goal.at.move_survivors-moved-requires-clause-marked c).After-fit_survivors-bytes in
     let s = stages at in
     let (m, kept, f) = some-fit at in
     record {
@@ -70,8 +70,8 @@ move_survivors-promoted-requires-clause-marked c =
       named = named-after s m kept f;
     }
 
-pub move_survivors-promoted-requires-clause-ready : goal.move_survivors-promoted-requires-clause-ready
-move_survivors-promoted-requires-clause-ready c =
+pub move_survivors-moved-requires-clause-ready : goal.move_survivors-moved-requires-clause-ready
+move_survivors-moved-requires-clause-ready c =
     let room = c.requires.ready.room in
     let same = c.fit_survivors-bytes.ensures.numbers.pinned in
     record { empty = c.requires.ready.empty; room = omega (arith, room, same) }
@@ -80,14 +80,14 @@ move_survivors-promoted-requires-clause-ready c =
 
 abbrev ends : After-add → MoveStages
 ends c = record {
-  new = c.move_survivors-promoted.new.space.heap;
-  locals_new = c.move_survivors-promoted.new.roots.locals.items;
-  table_new = c.move_survivors-promoted.new.roots.handles;
-  queues_new = c.move_survivors-promoted.new.roots.finals;
-  to1 = c.move_survivors-promoted.result.to1;
-  to2 = c.move_survivors-promoted.result.to2;
+  new = c.move_survivors-moved.new.space.heap;
+  locals_new = c.move_survivors-moved.new.roots.locals.items;
+  table_new = c.move_survivors-moved.new.roots.handles;
+  queues_new = c.move_survivors-moved.new.roots.finals;
+  to1 = c.move_survivors-moved.result.promoted1;
+  to2 = c.move_survivors-moved.result.promoted2;
   before = c.args.slides.now;
-  between = c.move_survivors-promoted.new.slides;
+  between = c.move_survivors-moved.new.slides;
   after = c.add.new.self;
 }
 
@@ -98,7 +98,7 @@ overflow_add-result c =
     let s = stages at in
     let (m, kept, f) = some-fit at in
     let moved : HaveMovedThen s (ends last) m kept =
-    c.move_survivors-promoted.ensures.moved (seen_in s.rows s.mid s.table_mid m) (kept_then m kept)
+    c.move_survivors-moved.ensures.moved (seen_in s.rows s.mid s.table_mid m) (kept_then m kept)
     (seen-memory s m kept f) (seen-laid s m kept f) refl (then-marks s m kept f) in
     let few = few-bytes s m kept f (ends last) moved c.requires.tidy.heap c.requires.tidy.held in
     omega (arith, few)
@@ -111,18 +111,18 @@ returns-clause-moved c =
     λ m kept memory laid same tests.
     let f = fit-made at m kept memory laid same tests in
     let moved : HaveMovedThen s (ends last) m kept =
-    c.move_survivors-promoted.ensures.moved (seen_in s.rows s.mid s.table_mid m) (kept_then m kept)
+    c.move_survivors-moved.ensures.moved (seen_in s.rows s.mid s.table_mid m) (kept_then m kept)
     (seen-memory s m kept f) (seen-laid s m kept f) refl (then-marks s m kept f) in
-    let tidy = c.move_survivors-promoted.ensures.tidy in
+    let tidy = c.move_survivors-moved.ensures.tidy in
     moved-twice s m kept f (ends last) moved tidy.heap tidy.held _ (omega arith) c.add.ensures
 
 pub returns-clause-limit : goal.returns-clause-limit
-returns-clause-limit c = c.move_survivors-promoted.ensures.limit ∙ c.fit_survivors-bytes.ensures.limit
+returns-clause-limit c = c.move_survivors-moved.ensures.limit ∙ c.fit_survivors-bytes.ensures.limit
 
 pub returns-clause-numbers : goal.returns-clause-numbers
 returns-clause-numbers c =
     let first = c.fit_survivors-bytes.ensures.numbers in
-    let second = c.move_survivors-promoted.ensures.numbers in
+    let second = c.move_survivors-moved.ensures.numbers in
     record {
       pinned = second.pinned ∙ first.pinned;
       spare = second.spare ∙ first.spare;

@@ -1,9 +1,13 @@
-use Rattle.std.proofs.Common.{◌≡◌, ◌∙◌, ℕ, ap, refl, sym, Bool, if◌then◌else◌, ◌==◌}
+use Rattle.std.proofs.Common.{◌≡◌, ◌∙◌, ℕ, ◌+◌, ◌≤◌, ap, ap₂, refl, sym, subst, arith, Bool, if◌then◌else◌, ◌==◌}
 use Rattle.std.proofs.lemmas.Bool.{eq-eqb, ne_eqb}
-use Rattle.clr_heap.specs.View.{HeapView}
+use Rattle.clr_heap.specs.View.{HeapView, last_of}
+use Rattle.clr_plan.specs.Counts.{counts_between, plus}
+use Rattle.clr_plan.specs.declared.counts.Counts.{Counts}
+use Rattle.clr_plan.proofs.CountedHeaps.{two-counted}
 use Rattle.clr_plan.proofs.EphemeralLaid.{all-laid, around2, between, free2, older-lays, part2, part-ends, starts2}
 use Rattle.clr_plan.proofs.EphemeralLaid.{young-lays}
-use Rattle.clr_plan.proofs.EphemeralPart.{free, low-covered, older_around, part, part-covered, part-lies, setting_of}
+use Rattle.clr_plan.proofs.EphemeralPart.{can, free, low-covered, older_around, part, part-covered, part-lies}
+use Rattle.clr_plan.proofs.EphemeralPart.{setting_of}
 use Rattle.clr_plan.proofs.EphemeralPart.{starts}
 use Rattle.clr_plan.proofs.heaps.lay_ephemeral.Goals as goal
 use Rattle.clr_plan.proofs.heaps.lay_ephemeral.Goals.{then-g-eq0, else-g-eq0}
@@ -17,8 +21,8 @@ new-writer-requires-clause-covered c =
     c.boundaries-start1.ensures c.info-end.result c.info-end.ensures.value in
     low-covered setting
 
-pub lay_part-requires : goal.lay_part-requires
-lay_part-requires c =
+pub lay_part-older-requires : goal.lay_part-older-requires
+lay_part-older-requires c =
     let (old, before, empty, s) = c.requires.can in
     let setting = setting_of c.args.types.now old c.args.heap.now before c.args.bricks.now empty c.args.queue.now
     c.args.g c.args.e c.args.low c.args.from s c.info-end.ensures.heap c.boundaries-start1.result
@@ -39,15 +43,16 @@ raised_to-middle-requires c =
     (part-covered setting) in
     let lays = older-lays setting c.new-writer.new.bricks c.new-writer.result c.new-writer.ensures.bricks
     c.new-writer.ensures.value writing in
-    let mid : Written = written c.lay_part.new.heap c.lay_part.new.bricks c.lay_part.new.queue
-    c.lay_part.new.laying.writer in
-    let laid = c.lay_part.ensures.laid old (older_around setting) (starts setting) (free setting) (part setting) lays in
+    let mid : Written = written c.lay_part-older.new.heap c.lay_part-older.new.bricks c.lay_part-older.new.queue
+    c.lay_part-older.new.laying.writer in
+    let laid = c.lay_part-older.ensures.laid old (older_around setting) (starts setting) (free setting) (part setting)
+    lays in
     let is = between setting c.new-writer.new.bricks c.new-writer.result c.new-writer.ensures.bricks
-    c.new-writer.ensures.value writing mid c.lay_part.new.laying.below c.lay_part.new.laying.at laid in
+    c.new-writer.ensures.value writing mid c.lay_part-older.new.laying.below c.lay_part-older.new.laying.at laid in
     record { between = (c.args.types.now, old, c.args.g, is) }
 
-pub lay_part-requires-2 : goal.lay_part-requires-2
-lay_part-requires-2 c =
+pub lay_part-young-requires : goal.lay_part-young-requires
+lay_part-young-requires c =
     let (old, before, empty, s) = c.requires.can in
     let setting = setting_of c.args.types.now old c.args.heap.now before c.args.bricks.now empty c.args.queue.now
     c.args.g c.args.e c.args.low c.args.from s c.info-end.ensures.heap c.boundaries-start1.result
@@ -56,29 +61,31 @@ lay_part-requires-2 c =
     (part-covered setting) in
     let lays = older-lays setting c.new-writer.new.bricks c.new-writer.result c.new-writer.ensures.bricks
     c.new-writer.ensures.value writing in
-    let mid : Written = written c.lay_part.new.heap c.lay_part.new.bricks c.lay_part.new.queue
-    c.lay_part.new.laying.writer in
-    let laid = c.lay_part.ensures.laid old (older_around setting) (starts setting) (free setting) (part setting) lays in
+    let mid : Written = written c.lay_part-older.new.heap c.lay_part-older.new.bricks c.lay_part-older.new.queue
+    c.lay_part-older.new.laying.writer in
+    let laid = c.lay_part-older.ensures.laid old (older_around setting) (starts setting) (free setting) (part setting)
+    lays in
     let is = between setting c.new-writer.new.bricks c.new-writer.result c.new-writer.ensures.bricks
-    c.new-writer.ensures.value writing mid c.lay_part.new.laying.below c.lay_part.new.laying.at laid in
+    c.new-writer.ensures.value writing mid c.lay_part-older.new.laying.below c.lay_part-older.new.laying.at laid in
     let raised = c.raised_to-middle.ensures.raised c.args.types.now old c.args.g is in
     let lays2 = young-lays setting c.new-writer.new.bricks c.new-writer.result c.new-writer.ensures.bricks
-    c.new-writer.ensures.value writing mid c.lay_part.new.laying.below c.lay_part.new.laying.at laid
+    c.new-writer.ensures.value writing mid c.lay_part-older.new.laying.below c.lay_part-older.new.laying.at laid
     c.raised_to-middle.result raised in
     record {
       part = (
         old,
         around2 setting c.new-writer.new.bricks c.new-writer.result c.new-writer.ensures.bricks
-            c.new-writer.ensures.value writing mid c.lay_part.new.laying.below c.lay_part.new.laying.at laid
+            c.new-writer.ensures.value writing mid c.lay_part-older.new.laying.below c.lay_part-older.new.laying.at laid
             c.raised_to-middle.result raised,
         starts2 setting c.new-writer.new.bricks c.new-writer.result
-            c.new-writer.ensures.bricks c.new-writer.ensures.value writing mid c.lay_part.new.laying.below
-            c.lay_part.new.laying.at laid c.raised_to-middle.result raised,
+            c.new-writer.ensures.bricks c.new-writer.ensures.value writing mid c.lay_part-older.new.laying.below
+            c.lay_part-older.new.laying.at laid c.raised_to-middle.result raised,
         free2 setting c.new-writer.new.bricks
             c.new-writer.result c.new-writer.ensures.bricks c.new-writer.ensures.value writing mid
-            c.lay_part.new.laying.below c.lay_part.new.laying.at laid c.raised_to-middle.result raised,
+            c.lay_part-older.new.laying.below c.lay_part-older.new.laying.at laid c.raised_to-middle.result raised,
         part2 setting c.new-writer.new.bricks c.new-writer.result c.new-writer.ensures.bricks c.new-writer.ensures.value
-            writing mid c.lay_part.new.laying.below c.lay_part.new.laying.at laid c.raised_to-middle.result raised,
+            writing mid c.lay_part-older.new.laying.below c.lay_part-older.new.laying.at laid c.raised_to-middle.result
+            raised,
         lays2,
       );
     }
@@ -93,30 +100,32 @@ finish-requires-clause-can c =
     (part-covered setting) in
     let lays = older-lays setting c.new-writer.new.bricks c.new-writer.result c.new-writer.ensures.bricks
     c.new-writer.ensures.value writing in
-    let mid : Written = written c.lay_part.new.heap c.lay_part.new.bricks c.lay_part.new.queue
-    c.lay_part.new.laying.writer in
-    let laid = c.lay_part.ensures.laid old (older_around setting) (starts setting) (free setting) (part setting) lays in
+    let mid : Written = written c.lay_part-older.new.heap c.lay_part-older.new.bricks c.lay_part-older.new.queue
+    c.lay_part-older.new.laying.writer in
+    let laid = c.lay_part-older.ensures.laid old (older_around setting) (starts setting) (free setting) (part setting)
+    lays in
     let is = between setting c.new-writer.new.bricks c.new-writer.result c.new-writer.ensures.bricks
-    c.new-writer.ensures.value writing mid c.lay_part.new.laying.below c.lay_part.new.laying.at laid in
+    c.new-writer.ensures.value writing mid c.lay_part-older.new.laying.below c.lay_part-older.new.laying.at laid in
     let raised = c.raised_to-middle.ensures.raised c.args.types.now old c.args.g is in
     let lays2 = young-lays setting c.new-writer.new.bricks c.new-writer.result c.new-writer.ensures.bricks
-    c.new-writer.ensures.value writing mid c.lay_part.new.laying.below c.lay_part.new.laying.at laid
+    c.new-writer.ensures.value writing mid c.lay_part-older.new.laying.below c.lay_part-older.new.laying.at laid
     c.raised_to-middle.result raised in
-    let next : Written = written c.lay_part-2.new.heap c.lay_part-2.new.bricks c.lay_part-2.new.queue
-    c.lay_part-2.new.laying.writer in
-    let laid2 = c.lay_part-2.ensures.laid old (around2 setting c.new-writer.new.bricks c.new-writer.result
-    c.new-writer.ensures.bricks c.new-writer.ensures.value writing mid c.lay_part.new.laying.below
-    c.lay_part.new.laying.at laid c.raised_to-middle.result raised) (starts2 setting c.new-writer.new.bricks
+    let next : Written = written c.lay_part-young.new.heap c.lay_part-young.new.bricks c.lay_part-young.new.queue
+    c.lay_part-young.new.laying.writer in
+    let laid2 = c.lay_part-young.ensures.laid old (around2 setting c.new-writer.new.bricks c.new-writer.result
+    c.new-writer.ensures.bricks c.new-writer.ensures.value writing mid c.lay_part-older.new.laying.below
+    c.lay_part-older.new.laying.at laid c.raised_to-middle.result raised) (starts2 setting c.new-writer.new.bricks
     c.new-writer.result c.new-writer.ensures.bricks c.new-writer.ensures.value writing mid
-    c.lay_part.new.laying.below c.lay_part.new.laying.at laid c.raised_to-middle.result raised)
+    c.lay_part-older.new.laying.below c.lay_part-older.new.laying.at laid c.raised_to-middle.result raised)
     (free2 setting c.new-writer.new.bricks c.new-writer.result c.new-writer.ensures.bricks
-    c.new-writer.ensures.value writing mid c.lay_part.new.laying.below c.lay_part.new.laying.at laid
+    c.new-writer.ensures.value writing mid c.lay_part-older.new.laying.below c.lay_part-older.new.laying.at laid
     c.raised_to-middle.result raised) (part2 setting c.new-writer.new.bricks c.new-writer.result
-    c.new-writer.ensures.bricks c.new-writer.ensures.value writing mid c.lay_part.new.laying.below
-    c.lay_part.new.laying.at laid c.raised_to-middle.result raised) lays2 in
+    c.new-writer.ensures.bricks c.new-writer.ensures.value writing mid c.lay_part-older.new.laying.below
+    c.lay_part-older.new.laying.at laid c.raised_to-middle.result raised) lays2 in
     part-ends setting c.new-writer.new.bricks c.new-writer.result c.new-writer.ensures.bricks c.new-writer.ensures.value
-    writing mid c.lay_part.new.laying.below c.lay_part.new.laying.at laid c.raised_to-middle.result raised next
-    c.lay_part-2.new.laying.below c.lay_part-2.new.laying.at laid2
+    writing mid c.lay_part-older.new.laying.below c.lay_part-older.new.laying.at laid c.raised_to-middle.result raised
+    next
+    c.lay_part-young.new.laying.below c.lay_part-young.new.laying.at laid2
 
 pub past_pins-requires : goal.past_pins-requires
 past_pins-requires c =
@@ -128,27 +137,28 @@ past_pins-requires c =
     (part-covered setting) in
     let lays = older-lays setting c.new-writer.new.bricks c.new-writer.result c.new-writer.ensures.bricks
     c.new-writer.ensures.value writing in
-    let mid : Written = written c.lay_part.new.heap c.lay_part.new.bricks c.lay_part.new.queue
-    c.lay_part.new.laying.writer in
-    let laid = c.lay_part.ensures.laid old (older_around setting) (starts setting) (free setting) (part setting) lays in
+    let mid : Written = written c.lay_part-older.new.heap c.lay_part-older.new.bricks c.lay_part-older.new.queue
+    c.lay_part-older.new.laying.writer in
+    let laid = c.lay_part-older.ensures.laid old (older_around setting) (starts setting) (free setting) (part setting)
+    lays in
     let is = between setting c.new-writer.new.bricks c.new-writer.result c.new-writer.ensures.bricks
-    c.new-writer.ensures.value writing mid c.lay_part.new.laying.below c.lay_part.new.laying.at laid in
+    c.new-writer.ensures.value writing mid c.lay_part-older.new.laying.below c.lay_part-older.new.laying.at laid in
     let raised = c.raised_to-middle.ensures.raised c.args.types.now old c.args.g is in
     let lays2 = young-lays setting c.new-writer.new.bricks c.new-writer.result c.new-writer.ensures.bricks
-    c.new-writer.ensures.value writing mid c.lay_part.new.laying.below c.lay_part.new.laying.at laid
+    c.new-writer.ensures.value writing mid c.lay_part-older.new.laying.below c.lay_part-older.new.laying.at laid
     c.raised_to-middle.result raised in
-    let next : Written = written c.lay_part-2.new.heap c.lay_part-2.new.bricks c.lay_part-2.new.queue
-    c.lay_part-2.new.laying.writer in
-    let laid2 = c.lay_part-2.ensures.laid old (around2 setting c.new-writer.new.bricks c.new-writer.result
-    c.new-writer.ensures.bricks c.new-writer.ensures.value writing mid c.lay_part.new.laying.below
-    c.lay_part.new.laying.at laid c.raised_to-middle.result raised) (starts2 setting c.new-writer.new.bricks
+    let next : Written = written c.lay_part-young.new.heap c.lay_part-young.new.bricks c.lay_part-young.new.queue
+    c.lay_part-young.new.laying.writer in
+    let laid2 = c.lay_part-young.ensures.laid old (around2 setting c.new-writer.new.bricks c.new-writer.result
+    c.new-writer.ensures.bricks c.new-writer.ensures.value writing mid c.lay_part-older.new.laying.below
+    c.lay_part-older.new.laying.at laid c.raised_to-middle.result raised) (starts2 setting c.new-writer.new.bricks
     c.new-writer.result c.new-writer.ensures.bricks c.new-writer.ensures.value writing mid
-    c.lay_part.new.laying.below c.lay_part.new.laying.at laid c.raised_to-middle.result raised)
+    c.lay_part-older.new.laying.below c.lay_part-older.new.laying.at laid c.raised_to-middle.result raised)
     (free2 setting c.new-writer.new.bricks c.new-writer.result c.new-writer.ensures.bricks
-    c.new-writer.ensures.value writing mid c.lay_part.new.laying.below c.lay_part.new.laying.at laid
+    c.new-writer.ensures.value writing mid c.lay_part-older.new.laying.below c.lay_part-older.new.laying.at laid
     c.raised_to-middle.result raised) (part2 setting c.new-writer.new.bricks c.new-writer.result
-    c.new-writer.ensures.bricks c.new-writer.ensures.value writing mid c.lay_part.new.laying.below
-    c.lay_part.new.laying.at laid c.raised_to-middle.result raised) lays2 in
+    c.new-writer.ensures.bricks c.new-writer.ensures.value writing mid c.lay_part-older.new.laying.below
+    c.lay_part-older.new.laying.at laid c.raised_to-middle.result raised) lays2 in
     record { behind = laid2.planned.behind }
 
 pub returns : goal.returns
@@ -161,28 +171,29 @@ returns c = record {
       (part-covered setting) in
       let lays = older-lays setting c.new-writer.new.bricks c.new-writer.result c.new-writer.ensures.bricks
       c.new-writer.ensures.value writing in
-      let mid : Written = written c.lay_part.new.heap c.lay_part.new.bricks c.lay_part.new.queue
-      c.lay_part.new.laying.writer in
-      let laid = c.lay_part.ensures.laid old (older_around setting) (starts setting) (free setting) (part setting) lays
+      let mid : Written = written c.lay_part-older.new.heap c.lay_part-older.new.bricks c.lay_part-older.new.queue
+      c.lay_part-older.new.laying.writer in
+      let laid = c.lay_part-older.ensures.laid old (older_around setting) (starts setting) (free setting) (part setting)
+      lays
       in
       let is = between setting c.new-writer.new.bricks c.new-writer.result c.new-writer.ensures.bricks
-      c.new-writer.ensures.value writing mid c.lay_part.new.laying.below c.lay_part.new.laying.at laid in
+      c.new-writer.ensures.value writing mid c.lay_part-older.new.laying.below c.lay_part-older.new.laying.at laid in
       let raised = c.raised_to-middle.ensures.raised c.args.types.now old c.args.g is in
       let lays2 = young-lays setting c.new-writer.new.bricks c.new-writer.result c.new-writer.ensures.bricks
-      c.new-writer.ensures.value writing mid c.lay_part.new.laying.below c.lay_part.new.laying.at laid
+      c.new-writer.ensures.value writing mid c.lay_part-older.new.laying.below c.lay_part-older.new.laying.at laid
       c.raised_to-middle.result raised in
-      let next : Written = written c.lay_part-2.new.heap c.lay_part-2.new.bricks c.lay_part-2.new.queue
-      c.lay_part-2.new.laying.writer in
-      let laid2 = c.lay_part-2.ensures.laid old (around2 setting c.new-writer.new.bricks c.new-writer.result
-      c.new-writer.ensures.bricks c.new-writer.ensures.value writing mid c.lay_part.new.laying.below
-      c.lay_part.new.laying.at laid c.raised_to-middle.result raised) (starts2 setting c.new-writer.new.bricks
+      let next : Written = written c.lay_part-young.new.heap c.lay_part-young.new.bricks c.lay_part-young.new.queue
+      c.lay_part-young.new.laying.writer in
+      let laid2 = c.lay_part-young.ensures.laid old (around2 setting c.new-writer.new.bricks c.new-writer.result
+      c.new-writer.ensures.bricks c.new-writer.ensures.value writing mid c.lay_part-older.new.laying.below
+      c.lay_part-older.new.laying.at laid c.raised_to-middle.result raised) (starts2 setting c.new-writer.new.bricks
       c.new-writer.result c.new-writer.ensures.bricks c.new-writer.ensures.value writing mid
-      c.lay_part.new.laying.below c.lay_part.new.laying.at laid c.raised_to-middle.result raised)
+      c.lay_part-older.new.laying.below c.lay_part-older.new.laying.at laid c.raised_to-middle.result raised)
       (free2 setting c.new-writer.new.bricks c.new-writer.result c.new-writer.ensures.bricks
-      c.new-writer.ensures.value writing mid c.lay_part.new.laying.below c.lay_part.new.laying.at laid
+      c.new-writer.ensures.value writing mid c.lay_part-older.new.laying.below c.lay_part-older.new.laying.at laid
       c.raised_to-middle.result raised) (part2 setting c.new-writer.new.bricks c.new-writer.result
-      c.new-writer.ensures.bricks c.new-writer.ensures.value writing mid c.lay_part.new.laying.below
-      c.lay_part.new.laying.at laid c.raised_to-middle.result raised) lays2 in
+      c.new-writer.ensures.bricks c.new-writer.ensures.value writing mid c.lay_part-older.new.laying.below
+      c.lay_part-older.new.laying.at laid c.raised_to-middle.result raised) lays2 in
       let first : c.boundaries-start1.result.0 ≡ old.start1 = ap (λ (b : ℕ × ℕ). b.0) c.boundaries-start1.ensures
       ∙ ap (λ (h : HeapView). h.start1) s.laid.words.shape.others in
       let boundary : c.if-g-eq0.boundary ≡ (if c.args.g == 0 then old.start1 else c.raised_to-middle.result.place) =
@@ -196,10 +207,136 @@ returns c = record {
       ] in
       all-laid setting c.new-writer.new.bricks c.new-writer.result c.new-writer.ensures.bricks
       c.new-writer.ensures.value
-      writing mid c.lay_part.new.laying.below c.lay_part.new.laying.at laid c.raised_to-middle.result raised next
-      c.lay_part-2.new.laying.below c.lay_part-2.new.laying.at laid2 c.finish.new.heap c.finish.new.bricks
-      c.finish.ensures.planned c.finish.ensures.words c.lay_part.ensures.shape c.lay_part-2.ensures.shape
+      writing mid c.lay_part-older.new.laying.below c.lay_part-older.new.laying.at laid c.raised_to-middle.result raised
+      next
+      c.lay_part-young.new.laying.below c.lay_part-young.new.laying.at laid2 c.finish.new.heap c.finish.new.bricks
+      c.finish.ensures.planned c.finish.ensures.words c.lay_part-older.ensures.shape c.lay_part-young.ensures.shape
       c.finish.ensures.shape c.finish.ensures.entries
-      c.lay_part.ensures.spans c.lay_part-2.ensures.spans c.finish.ensures.spans c.if-g-eq0.boundary boundary
+      c.lay_part-older.ensures.spans c.lay_part-young.ensures.spans c.finish.ensures.spans c.if-g-eq0.boundary boundary
       c.past_pins.result c.past_pins.ensures.raised;
+  counted = λ old before empty s.
+      let setting = setting_of c.args.types.now old c.args.heap.now before c.args.bricks.now empty c.args.queue.now
+      c.args.g c.args.e c.args.low c.args.from s c.info-end.ensures.heap c.boundaries-start1.result
+      c.boundaries-start1.ensures c.info-end.result c.info-end.ensures.value in
+      let writing = c.new-writer.ensures.writing c.args.heap.now (part setting) (part-lies setting) refl refl
+      (part-covered setting) in
+      let lays = older-lays setting c.new-writer.new.bricks c.new-writer.result c.new-writer.ensures.bricks
+      c.new-writer.ensures.value writing in
+      let mid : Written = written c.lay_part-older.new.heap c.lay_part-older.new.bricks c.lay_part-older.new.queue
+      c.lay_part-older.new.laying.writer in
+      let laid = c.lay_part-older.ensures.laid old (older_around setting) (starts setting) (free setting) (part setting)
+      lays
+      in
+      let is = between setting c.new-writer.new.bricks c.new-writer.result c.new-writer.ensures.bricks
+      c.new-writer.ensures.value writing mid c.lay_part-older.new.laying.below c.lay_part-older.new.laying.at laid in
+      let raised = c.raised_to-middle.ensures.raised c.args.types.now old c.args.g is in
+      let lays2 = young-lays setting c.new-writer.new.bricks c.new-writer.result c.new-writer.ensures.bricks
+      c.new-writer.ensures.value writing mid c.lay_part-older.new.laying.below c.lay_part-older.new.laying.at laid
+      c.raised_to-middle.result raised in
+      let first = c.lay_part-older.ensures.counted old (older_around setting) (starts setting) (free setting)
+      (part setting) lays in
+      let second = c.lay_part-young.ensures.counted old (around2 setting c.new-writer.new.bricks c.new-writer.result
+      c.new-writer.ensures.bricks c.new-writer.ensures.value writing mid c.lay_part-older.new.laying.below
+      c.lay_part-older.new.laying.at laid c.raised_to-middle.result raised) (starts2 setting c.new-writer.new.bricks
+      c.new-writer.result c.new-writer.ensures.bricks c.new-writer.ensures.value writing mid
+      c.lay_part-older.new.laying.below c.lay_part-older.new.laying.at laid c.raised_to-middle.result raised)
+      (free2 setting c.new-writer.new.bricks c.new-writer.result c.new-writer.ensures.bricks
+      c.new-writer.ensures.value writing mid c.lay_part-older.new.laying.below c.lay_part-older.new.laying.at laid
+      c.raised_to-middle.result raised) (part2 setting c.new-writer.new.bricks c.new-writer.result
+      c.new-writer.ensures.bricks c.new-writer.ensures.value writing mid c.lay_part-older.new.laying.below
+      c.lay_part-older.new.laying.at laid c.raised_to-middle.result raised) lays2 in
+      let (is, kept, freed) = two-counted c.args.types.now old c.args.e c.args.low c.boundaries-start1.result.1
+      c.info-end.result.end c.lay_part-older.result c.lay_part-young.result first second in
+      let end-is = setting.end-is in (
+        c.plus.ensures ∙ is ∙ ap₂ (λ (m n : ℕ). plus (counts_between c.args.types.now old c.args.e c.args.low m)
+            (counts_between c.args.types.now old c.args.e m n)) setting.zero-is setting.end-is,
+        subst (λ (d : Counts). d.kept + c.args.low ≤ last_of old c.args.e) (sym c.plus.ensures) (omega (
+          arith,
+          kept,
+          end-is,
+        )),
+        subst (λ (d : Counts). d.freed + c.args.low ≤ last_of old c.args.e) (sym c.plus.ensures) (omega (
+          arith,
+          freed,
+          end-is,
+        )),
+      );
 }
+
+pub plus-requires-clause-kept : goal.plus-requires-clause-kept
+plus-requires-clause-kept c =
+    let (old, before, empty, s) = c.requires.can in
+    let setting = setting_of c.args.types.now old c.args.heap.now before c.args.bricks.now empty c.args.queue.now
+    c.args.g c.args.e c.args.low c.args.from s c.info-end.ensures.heap c.boundaries-start1.result
+    c.boundaries-start1.ensures c.info-end.result c.info-end.ensures.value in
+    let writing = c.new-writer.ensures.writing c.args.heap.now (part setting) (part-lies setting) refl refl
+    (part-covered setting) in
+    let lays = older-lays setting c.new-writer.new.bricks c.new-writer.result c.new-writer.ensures.bricks
+    c.new-writer.ensures.value writing in
+    let mid : Written = written c.lay_part-older.new.heap c.lay_part-older.new.bricks c.lay_part-older.new.queue
+    c.lay_part-older.new.laying.writer in
+    let laid = c.lay_part-older.ensures.laid old (older_around setting) (starts setting) (free setting) (part setting)
+    lays
+    in
+    let is = between setting c.new-writer.new.bricks c.new-writer.result c.new-writer.ensures.bricks
+    c.new-writer.ensures.value writing mid c.lay_part-older.new.laying.below c.lay_part-older.new.laying.at laid in
+    let raised = c.raised_to-middle.ensures.raised c.args.types.now old c.args.g is in
+    let lays2 = young-lays setting c.new-writer.new.bricks c.new-writer.result c.new-writer.ensures.bricks
+    c.new-writer.ensures.value writing mid c.lay_part-older.new.laying.below c.lay_part-older.new.laying.at laid
+    c.raised_to-middle.result raised in
+    let first = c.lay_part-older.ensures.counted old (older_around setting) (starts setting) (free setting)
+    (part setting) lays in
+    let second = c.lay_part-young.ensures.counted old (around2 setting c.new-writer.new.bricks c.new-writer.result
+    c.new-writer.ensures.bricks c.new-writer.ensures.value writing mid c.lay_part-older.new.laying.below
+    c.lay_part-older.new.laying.at laid c.raised_to-middle.result raised) (starts2 setting c.new-writer.new.bricks
+    c.new-writer.result c.new-writer.ensures.bricks c.new-writer.ensures.value writing mid
+    c.lay_part-older.new.laying.below c.lay_part-older.new.laying.at laid c.raised_to-middle.result raised)
+    (free2 setting c.new-writer.new.bricks c.new-writer.result c.new-writer.ensures.bricks
+    c.new-writer.ensures.value writing mid c.lay_part-older.new.laying.below c.lay_part-older.new.laying.at laid
+    c.raised_to-middle.result raised) (part2 setting c.new-writer.new.bricks c.new-writer.result
+    c.new-writer.ensures.bricks c.new-writer.ensures.value writing mid c.lay_part-older.new.laying.below
+    c.lay_part-older.new.laying.at laid c.raised_to-middle.result raised) lays2 in
+    let (is, kept, freed) = two-counted c.args.types.now old c.args.e c.args.low c.boundaries-start1.result.1
+    c.info-end.result.end c.lay_part-older.result c.lay_part-young.result first second in
+    let high = (can setting).young_scan.high in
+    let end = setting.end-is in
+    omega (arith, kept, high, end)
+
+pub plus-requires-clause-freed : goal.plus-requires-clause-freed
+plus-requires-clause-freed c =
+    let (old, before, empty, s) = c.requires.can in
+    let setting = setting_of c.args.types.now old c.args.heap.now before c.args.bricks.now empty c.args.queue.now
+    c.args.g c.args.e c.args.low c.args.from s c.info-end.ensures.heap c.boundaries-start1.result
+    c.boundaries-start1.ensures c.info-end.result c.info-end.ensures.value in
+    let writing = c.new-writer.ensures.writing c.args.heap.now (part setting) (part-lies setting) refl refl
+    (part-covered setting) in
+    let lays = older-lays setting c.new-writer.new.bricks c.new-writer.result c.new-writer.ensures.bricks
+    c.new-writer.ensures.value writing in
+    let mid : Written = written c.lay_part-older.new.heap c.lay_part-older.new.bricks c.lay_part-older.new.queue
+    c.lay_part-older.new.laying.writer in
+    let laid = c.lay_part-older.ensures.laid old (older_around setting) (starts setting) (free setting) (part setting)
+    lays
+    in
+    let is = between setting c.new-writer.new.bricks c.new-writer.result c.new-writer.ensures.bricks
+    c.new-writer.ensures.value writing mid c.lay_part-older.new.laying.below c.lay_part-older.new.laying.at laid in
+    let raised = c.raised_to-middle.ensures.raised c.args.types.now old c.args.g is in
+    let lays2 = young-lays setting c.new-writer.new.bricks c.new-writer.result c.new-writer.ensures.bricks
+    c.new-writer.ensures.value writing mid c.lay_part-older.new.laying.below c.lay_part-older.new.laying.at laid
+    c.raised_to-middle.result raised in
+    let first = c.lay_part-older.ensures.counted old (older_around setting) (starts setting) (free setting)
+    (part setting) lays in
+    let second = c.lay_part-young.ensures.counted old (around2 setting c.new-writer.new.bricks c.new-writer.result
+    c.new-writer.ensures.bricks c.new-writer.ensures.value writing mid c.lay_part-older.new.laying.below
+    c.lay_part-older.new.laying.at laid c.raised_to-middle.result raised) (starts2 setting c.new-writer.new.bricks
+    c.new-writer.result c.new-writer.ensures.bricks c.new-writer.ensures.value writing mid
+    c.lay_part-older.new.laying.below c.lay_part-older.new.laying.at laid c.raised_to-middle.result raised)
+    (free2 setting c.new-writer.new.bricks c.new-writer.result c.new-writer.ensures.bricks
+    c.new-writer.ensures.value writing mid c.lay_part-older.new.laying.below c.lay_part-older.new.laying.at laid
+    c.raised_to-middle.result raised) (part2 setting c.new-writer.new.bricks c.new-writer.result
+    c.new-writer.ensures.bricks c.new-writer.ensures.value writing mid c.lay_part-older.new.laying.below
+    c.lay_part-older.new.laying.at laid c.raised_to-middle.result raised) lays2 in
+    let (is, kept, freed) = two-counted c.args.types.now old c.args.e c.args.low c.boundaries-start1.result.1
+    c.info-end.result.end c.lay_part-older.result c.lay_part-young.result first second in
+    let high = (can setting).young_scan.high in
+    let end = setting.end-is in
+    omega (arith, freed, high, end)

@@ -25,7 +25,7 @@ returns-then-next_part-count-clause-planned c = λ m kept memory tests pins.
     c.lay_whole.new.heap c.args.bricks.now c.lay_whole.new.bricks c.args.pins.now c.lay_whole.new.queue c.requires.laid
     (large-laid c.args.types.now c.args.heap.now c.segments-count.ensures.heap c.requires.held c.requires.no_contexts
     c.lay_whole.new.heap c.args.bricks.now c.lay_whole.new.bricks c.args.pins.now c.lay_whole.new.queue
-    c.lay_whole.result c.segments-count.result c.segments-count.ensures.count laid)
+    c.lay_whole.result.at c.segments-count.result c.segments-count.ensures.count laid)
     m kept memory tests pins c.requires.free_heads
 
 pub returns-then-next_part-count-clause-spare : goal.returns-then-next_part-count-clause-spare

@@ -1,7 +1,10 @@
-use Rattle.std.proofs.Common.{◌≡◌, ◌<◌, length, ◌+◌, ap, refl, sym, ◌∙◌, subst}
+use Rattle.std.proofs.Common.{◌≡◌, ◌<◌, length, ◌+◌, ap, refl, sym, ◌∙◌, subst, arith}
 use Rattle.clr_heap.specs.View.{first_of, HeapView}
 use Rattle.clr_heap.proofs.Rewrite.{SameShape-refl, shaped_heap}
 use Rattle.clr_types.specs.Segments.{first_place}
+use Rattle.clr_plan.specs.Counts.{HasCounted, no_counts}
+use Rattle.clr_plan.proofs.Counting.{ahead-same, counted-old, counting-starts, counting-then}
+use Rattle.clr_plan.proofs.Counting.{ended-same}
 use Rattle.clr_plan.proofs.Laid.{lay-can, lay-ends, lay-more, lay-settles, lay-smaller, lay-starts, one, scan-here}
 use Rattle.clr_plan.proofs.Writing.{shape-on}
 use Rattle.clr_plan.proofs.lay.lay_part.Goals as goal
@@ -11,10 +14,13 @@ pub loop-found-init : goal.loop-found-init
 loop-found-init c = (
   SameShape-refl c.args.heap.now,
   refl,
-  c.none-known.ensures c.args.types.now,
+  c.new-walk.ensures.known c.args.types.now,
   λ old w starts free part can. lay-starts w c.args.types.now
       old (written c.args.heap.now c.args.bricks.now c.args.queue.now c.args.laying.now.writer) c.args.laying.now.at
       starts free part c.args.k c.args.low c.args.end c.args.laying.now.below can,
+  λ old w starts free part can. subst (HasCounted c.args.types.now old c.args.k c.args.end c.args.low no_counts
+      c.args.low) (sym c.new-walk.ensures.counts) (counting-starts c.args.types.now old c.args.k c.args.end c.args.low
+      no_counts),
 )
 
 pub info-requires : goal.info-requires
@@ -36,6 +42,14 @@ next_plug-requires-clause-scan c =
     c.args.laying.now.writer) c.args.laying.now.at starts free part c.args.k c.args.low c.args.end
     c.args.laying.now.below can (written c.loop-found.heap c.loop-found.bricks c.loop-found.queue
     c.loop-found.laying.writer) c.loop-found.laying.at c.loop-found.place c.loop-found.laying.below l
+
+pub next_plug-requires-clause-counted : goal.next_plug-requires-clause-counted
+next_plug-requires-clause-counted c =
+    let (old, w, starts, free, part, can) = c.requires.part in
+    let l = c.loop-found.invariant.4 old w starts free part can in
+    let a = l.kept in
+    let b = l.freed in
+    record { kept = omega (arith, a); freed = omega (arith, b) }
 
 pub lay_plug-requires-clause-stage : goal.lay_plug-requires-clause-stage
 lay_plug-requires-clause-stage c =
@@ -91,6 +105,17 @@ loop-found-preserved c = (
       (shaped_heap c.loop-found.heap c.lay_plug.new.heap c.lay_plug.ensures.shape l.laying.heap)
       c.lay_plug.ensures.settled c.lay_plug.ensures.written c.lay_plug.ensures.brick c.lay_plug.ensures.pushed
       c.lay_plug.ensures.spare c.in-Some.ensures.behind c.lay_plug.ensures.words c.lay_plug.ensures.entries),
+  λ old w starts free part can.
+      let l = c.loop-found.invariant.3 old w starts free part can in
+      let above = c.in-Some.ensures.plugs.above in
+      counting-then c.args.types.now old c.args.k c.args.end c.args.low no_counts c.loop-found.place
+      c.loop-found.walk.counts c.in-Some.found.next c.next_plug.new.walk.counts
+      (c.loop-found.invariant.4 old w starts free part can)
+      (counted-old c.args.types.now old c.loop-found.heap c.args.k c.loop-found.place c.args.end
+      c.loop-found.laying.below l.laying.words.shape l.laying.words.ahead l.up l.s.scan c.loop-found.walk.counts
+      c.in-Some.found.next c.next_plug.new.walk.counts (ahead-same c.args.types.now old c.loop-found.heap c.args.k
+      c.loop-found.place c.args.end c.loop-found.laying.below l.laying.words.shape l.laying.words.ahead l.up
+      c.in-Some.found.next (omega (arith, above)) c.in-Some.ensures.plugs.scan) c.in-Some.ensures.counted),
 )
 
 pub returns-clause-laid : goal.returns-clause-laid
@@ -101,6 +126,17 @@ returns-clause-laid c = λ old w starts free part can.
     c.args.laying.now.below can (written c.loop-found.heap c.loop-found.bricks c.loop-found.queue
     c.loop-found.laying.writer) c.loop-found.laying.at c.loop-found.place c.loop-found.laying.below l
     c.in_default.ensures.plugs
+
+pub returns-clause-counted : goal.returns-clause-counted
+returns-clause-counted c = λ old w starts free part can.
+    let l = c.loop-found.invariant.3 old w starts free part can in
+    counting-then c.args.types.now old c.args.k c.args.end c.args.low no_counts c.loop-found.place
+    c.loop-found.walk.counts c.args.end c.next_plug.new.walk.counts
+    (c.loop-found.invariant.4 old w starts free part can)
+    (counted-old c.args.types.now old c.loop-found.heap c.args.k c.loop-found.place c.args.end
+    c.loop-found.laying.below l.laying.words.shape l.laying.words.ahead l.up l.s.scan c.loop-found.walk.counts
+    c.args.end c.next_plug.new.walk.counts (ended-same c.args.types.now old c.loop-found.heap c.args.k c.args.end)
+    c.in_default.ensures.counted)
 
 pub returns-clause-shape : goal.returns-clause-shape
 returns-clause-shape c = c.loop-found.invariant.0

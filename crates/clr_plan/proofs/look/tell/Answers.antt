@@ -1,4 +1,4 @@
-use Rattle.std.proofs.Common.{ℕ, ◌≤◌, Bool, not, nat_eq, length, sym, ap, ◌∙◌, subst}
+use Rattle.std.proofs.Common.{ℕ, ◌≤◌, length, sym, ap, ◌∙◌, subst}
 use Rattle.clr_types.specs.Bits.{unmarked}
 use Rattle.clr_types.specs.declared.item.Item.{Item}
 use Rattle.clr_heap.specs.ObjectKinds.{IsObjectKind, known_size}

@@ -1,5 +1,6 @@
 use Rattle.clr_bricks.specs.Bricks.{entry_at}
-use Rattle.std.proofs.Common.{refl, sym, ◌∙◌, arith}
+use Rattle.clr_plan.specs.declared.counts.Counts.{Counts}
+use Rattle.std.proofs.Common.{refl, ap, sym, ◌∙◌, arith}
 use Rattle.clr_view.specs.Memory.{is_left_name}
 use Rattle.clr_view.proofs.LeftNames.{tests_marks}
 use Rattle.clr_survivors.proofs.CanMoveAll.{can-move, IsGiven}
@@ -32,13 +33,13 @@ move_by_plan-promoted-requires-clause-can c =
     let (n, memory, laid) = c.requires.marked.laid in
     let m = with_handles n table in
     let kept = is_left_name rows old.heap c.args.g in
-    let p = c.plan_pinned-planned.ensures.planned m kept (memory-with rows old.heap n table memory) refl
+    let p = c.plan_pinned.ensures.planned m kept (memory-with rows old.heap n table memory) refl
     (tests_marks rows old.heap c.args.g) in (
       p.view,
       p.plan.moves,
       entry_at old.bricks,
-      can-move rows old c.plan_pinned-planned.new.space roots c.args.g c.plan_pinned-planned.new.pins.entries
-          c.plan_pinned-planned.result given m kept p refl,
+      can-move rows old c.plan_pinned.new.space roots c.args.g c.plan_pinned.new.pins.entries
+          c.plan_pinned.result.0 given m kept p refl,
     )
 
 -- the collection, up to where the headers are settled
@@ -46,9 +47,9 @@ abbrev stages : After-move_by_plan-promoted → Stages
 stages c = record {
   rows = c.args.types.now;
   old = c.args.space.now;
-  ready = c.plan_pinned-planned.new.space;
+  ready = c.plan_pinned.new.space;
   moved = c.move_by_plan-promoted.new.space;
-  entries = c.plan_pinned-planned.new.pins.entries;
+  entries = c.plan_pinned.new.pins.entries;
   roots = c.args.roots.now;
   roots_after = c.move_by_plan-promoted.new.roots;
   g = c.args.g;
@@ -56,7 +57,7 @@ stages c = record {
   promoted = c.move_by_plan-promoted.result;
   slides = c.args.slides.now;
   slides_after = c.move_by_plan-promoted.new.slides;
-  planned = c.plan_pinned-planned.result;
+  planned = c.plan_pinned.result.0;
 }
 
 ran : (c : After-move_by_plan-promoted) → IsRun (stages c)
@@ -67,7 +68,7 @@ ran c = record {
     marked = c.requires.marked;
   };
   low_is = c.first_condemned-low.ensures;
-  plans = c.plan_pinned-planned.ensures.planned;
+  plans = c.plan_pinned.ensures.planned;
   moves = c.move_by_plan-promoted.ensures.moved;
   start1_is = c.move_by_plan-promoted.ensures.start1;
   start0_is = c.move_by_plan-promoted.ensures.start0;
@@ -182,8 +183,8 @@ returns-clause-ready c =
     let s = stages at in
     let (m, kept, course) = some-course s (ran at) in
     ready-kept (moved_by course.begun.plan.moves) s.roots.handles s.roots_after.handles c.args.pins.now
-    c.plan_pinned-planned.new.pins c.move_by_plan-promoted.new.pins course.went.gone.table_is c.requires.ready
-    c.plan_pinned-planned.ensures.spare c.move_by_plan-promoted.ensures.empty c.move_by_plan-promoted.ensures.spare
+    c.plan_pinned.new.pins c.move_by_plan-promoted.new.pins course.went.gone.table_is c.requires.ready
+    c.plan_pinned.ensures.spare c.move_by_plan-promoted.ensures.empty c.move_by_plan-promoted.ensures.spare
 
 pub returns-clause-numbers : goal.returns-clause-numbers
 returns-clause-numbers c =
@@ -191,3 +192,9 @@ returns-clause-numbers c =
     let s = stages at in
     let (m, kept, course) = some-course s (ran at) in
     numbers-kept course.begun.plan.moves s.roots s.roots_after course.went.gone
+
+pub returns-clause-kept : goal.returns-clause-kept
+returns-clause-kept c = ap (λ (n : Counts). n.kept) c.plan_pinned.ensures.counted
+
+pub returns-clause-freed : goal.returns-clause-freed
+returns-clause-freed c = ap (λ (n : Counts). n.freed) c.plan_pinned.ensures.counted

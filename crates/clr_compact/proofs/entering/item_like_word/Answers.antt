@@ -24,6 +24,7 @@ has_length-requires c =
 pub returns-then-not-has_length-clause-known : goal.returns-then-not-has_length-clause-known
 returns-then-not-has_length-clause-known c =
     let word = c.unmarked-then-not-has_length.ensures ∙ ap unmarked c.requires.mt in
-    subst (λ (w : ℕ). IsObjectKind c.args.types.now (record { mt = w; size = c.item_of_word-found.result.size })) (sym word)
-    (kind-known c.args.types.now (word_of c.args.heap.now) c.args.place c.item_of_word-found.result c.item_of_word-found.ensures
+    let found = c.item_of_word-found.result in
+    subst (λ (w : ℕ). IsObjectKind c.args.types.now (record { mt = w; size = found.size })) (sym word)
+    (kind-known c.args.types.now (word_of c.args.heap.now) c.args.place found c.item_of_word-found.ensures
     c.if-found-ne0.true (sym c.has_length.ensures ∙ c.if-not-has_length.true))

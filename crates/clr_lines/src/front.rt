@@ -85,8 +85,8 @@ fn tell_number(told: Result<u64, Refusal>, into: &mut [u8; 256]) -> usize
     }
 }
 
-// The line `get` of thread `t`, whose words stand behind its verb at a place. Gives the length of the reply, and where
-// what is behind the line begins. So do the others.
+// The line `get` of thread `t`, whose words stand behind its verb at a place, here without the space before the first
+// one. Gives the length of the reply, and where what is behind the line begins. So do the others.
 #[inline(always)]
 fn answer_get(
     runtime: &mut Runtime,
@@ -99,7 +99,7 @@ fn answer_get(
     ensures fits { IfSome result (λ p. p.0 ≤ 256) }
     ensures near { IfSome result (λ p. p.1 ≤ at + 48) }
     ensures done { MatchOption result (runtime.new ≡ runtime.old) (λ p. IsDone runtime.old.machine
-        (thread_word t ++ ((32 ∷ codes "get") ++ drop at text.now)) (drop p.1 text.now) (take p.0 into.new)
+        (thread_word t ++ ((32 ∷ codes "get") ++ 32 ∷ drop at text.now)) (drop p.1 text.now) (take p.0 into.new)
         runtime.new.machine) }
 {
     let (to, from, index, end) = get_at(text, at)?;
@@ -120,7 +120,7 @@ fn answer_set(
     ensures fits { IfSome result (λ p. p.0 ≤ 256) }
     ensures near { IfSome result (λ p. p.1 ≤ at + 48) }
     ensures done { MatchOption result (runtime.new ≡ runtime.old) (λ p. IsDone runtime.old.machine
-        (thread_word t ++ ((32 ∷ codes "set") ++ drop at text.now)) (drop p.1 text.now) (take p.0 into.new)
+        (thread_word t ++ ((32 ∷ codes "set") ++ 32 ∷ drop at text.now)) (drop p.1 text.now) (take p.0 into.new)
         runtime.new.machine) }
 {
     let (object, index, from, end) = set_at(text, at)?;
@@ -141,7 +141,7 @@ fn answer_put(
     ensures fits { IfSome result (λ p. p.0 ≤ 256) }
     ensures near { IfSome result (λ p. p.1 ≤ at + 48) }
     ensures done { MatchOption result (runtime.new ≡ runtime.old) (λ p. IsDone runtime.old.machine
-        (thread_word t ++ ((32 ∷ codes "put") ++ drop at text.now)) (drop p.1 text.now) (take p.0 into.new)
+        (thread_word t ++ ((32 ∷ codes "put") ++ 32 ∷ drop at text.now)) (drop p.1 text.now) (take p.0 into.new)
         runtime.new.machine) }
 {
     let (object, index, value, end) = put_at(text, at)?;
@@ -259,9 +259,9 @@ fn answer_verb(
         (thread_word t ++ 32 ∷ drop at text.now) (drop p.1 text.now) (take p.0 into.new) runtime.new.machine) }
 {
     match four_bytes(text, at) {
-        GET => answer_get(runtime, t, text, at + 3, into),
-        SET => answer_set(runtime, t, text, at + 3, into),
-        PUT => answer_put(runtime, t, text, at + 3, into),
+        GET => answer_get(runtime, t, text, at + 4, into),
+        SET => answer_set(runtime, t, text, at + 4, into),
+        PUT => answer_put(runtime, t, text, at + 4, into),
         NEW => answer_new(runtime, t, text, at + 3, into),
         READ => answer_read(runtime, t, text, at + 4, into),
         COPY => answer_copy(runtime, t, text, at + 4, into),

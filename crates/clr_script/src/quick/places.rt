@@ -39,18 +39,13 @@ fn is_at(text: &[u8], at: usize, byte: u8) -> bool
     text[at] == byte
 }
 
-// The digit at a place.
+// The digit at a place, and 10 or more where another byte stands there.
 #[inline(always)]
-fn digit_at(text: &[u8], at: usize) -> Option<u64>
+fn digit_at(text: &[u8], at: usize) -> u64
     requires { at < length text.now }
-    ensures { IfSome result (λ d. (d < 10) × (drop at text.now ≡ (48 + d) ∷ drop (at + 1) text.now)) }
+    ensures { result < 10 → drop at text.now ≡ (48 + result) ∷ drop (at + 1) text.now }
 {
-    let byte = text[at];
-    if byte.is_ascii_digit() {
-        Some(u64::from(byte - b'0'))
-    } else {
-        None
-    }
+    u64::from(text[at].wrapping_sub(b'0'))
 }
 
 // The number of one or two digits at a place, and where it ends.
@@ -60,10 +55,14 @@ fn short_number(text: &[u8], at: usize) -> Option<(u64, usize)>
     ensures read { IfSome result (λ p. (drop at text.now ≡ decimal p.0 ++ drop p.1 text.now) × (p.0 < 2 ^ 64)) }
     ensures near { IfSome result (λ p. p.1 ≤ at + 2) }
 {
-    let front = digit_at(text, at)?;
-    let Some(second) = digit_at(text, at + 1) else {
+    let front = digit_at(text, at);
+    if front > 9 {
+        return None;
+    }
+    let second = digit_at(text, at + 1);
+    if second > 9 {
         return Some((front, at + 1));
-    };
+    }
     if front == 0 {
         return None;
     }
@@ -83,9 +82,10 @@ fn more_digits(text: &[u8], from: usize, front: u64) -> (u64, usize)
     let mut number = front;
     let mut at = from;
     while number < ROOM {
-        let Some(digit) = digit_at(text, at) else {
+        let digit = digit_at(text, at);
+        if digit > 9 {
             break;
-        };
+        }
         number = number * 10 + digit;
         at += 1;
     }
@@ -99,7 +99,10 @@ fn long_number(text: &[u8], at: usize) -> Option<(u64, usize)>
     ensures read { IfSome result (λ p. (drop at text.now ≡ decimal p.0 ++ drop p.1 text.now) × (p.0 < 2 ^ 64)) }
     ensures near { IfSome result (λ p. p.1 ≤ at + 20) }
 {
-    let front = digit_at(text, at)?;
+    let front = digit_at(text, at);
+    if front > 9 {
+        return None;
+    }
     if front == 0 {
         return Some((0, at + 1));
     }
@@ -135,6 +138,21 @@ pub fn local_at(text: &[u8], at: usize) -> Option<(u64, usize)>
 {
     if two_bytes(text, at) == LOCAL {
         short_number(text, at + 2)
+    } else {
+        None
+    }
+}
+
+/// The local of the word whose space stands before a place, of one or two digits, and where it ends.
+#[inline(always)]
+pub fn local_here(text: &[u8], at: usize) -> Option<(u64, usize)>
+    requires { at + 3 ≤ length text.now }
+    ensures read { IfSome result (λ p. (32 ∷ drop at text.now ≡ (32 ∷ 108 ∷ decimal p.0) ++ drop p.1 text.now)
+        × (p.0 < 2 ^ 64)) }
+    ensures near { IfSome result (λ p. p.1 ≤ at + 3) }
+{
+    if is_at(text, at, b'l') {
+        short_number(text, at + 1)
     } else {
         None
     }

@@ -1,5 +1,5 @@
 -- The four bytes of a verb stand before its words.
-use Rattle.std.proofs.Common.{◌≡◌, ◌+◌, arith, codes, drop}
+use Rattle.std.proofs.Common.{◌≡◌, ◌+◌, ◌∷◌, arith, codes, drop}
 use Rattle.clr_lines.proofs.FrontSteps.{three_of, verb_told}
 use Rattle.clr_lines.proofs.front.answer_verb.Goals as goal
 
@@ -9,10 +9,9 @@ returns-in-544499047-clause-done c =
     let called = c.answer_get in
     verb_told called.result c.args.runtime.now.machine called.new.runtime.machine
     (called.new.runtime ≡ c.args.runtime.now) c.args.t c.args.text.now (codes "get")
-    (drop (c.args.at + 3) c.args.text.now) called.new.into c.args.at
-    (three_of c.args.text.now c.args.at 103 101 116 32
+    (32 ∷ drop (c.args.at + 4) c.args.text.now) called.new.into c.args.at
     (c.four_bytes.ensures 103 101 116 32 (omega arith) (omega arith) (omega arith) (omega arith)
-    (omega (arith, is))))
+    (omega (arith, is)))
     called.ensures.done
 
 pub returns-in-544499059-clause-done : goal.returns-in-544499059-clause-done
@@ -21,10 +20,9 @@ returns-in-544499059-clause-done c =
     let called = c.answer_set in
     verb_told called.result c.args.runtime.now.machine called.new.runtime.machine
     (called.new.runtime ≡ c.args.runtime.now) c.args.t c.args.text.now (codes "set")
-    (drop (c.args.at + 3) c.args.text.now) called.new.into c.args.at
-    (three_of c.args.text.now c.args.at 115 101 116 32
+    (32 ∷ drop (c.args.at + 4) c.args.text.now) called.new.into c.args.at
     (c.four_bytes.ensures 115 101 116 32 (omega arith) (omega arith) (omega arith) (omega arith)
-    (omega (arith, is))))
+    (omega (arith, is)))
     called.ensures.done
 
 pub returns-in-544503152-clause-done : goal.returns-in-544503152-clause-done
@@ -33,10 +31,9 @@ returns-in-544503152-clause-done c =
     let called = c.answer_put in
     verb_told called.result c.args.runtime.now.machine called.new.runtime.machine
     (called.new.runtime ≡ c.args.runtime.now) c.args.t c.args.text.now (codes "put")
-    (drop (c.args.at + 3) c.args.text.now) called.new.into c.args.at
-    (three_of c.args.text.now c.args.at 112 117 116 32
+    (32 ∷ drop (c.args.at + 4) c.args.text.now) called.new.into c.args.at
     (c.four_bytes.ensures 112 117 116 32 (omega arith) (omega arith) (omega arith) (omega arith)
-    (omega (arith, is))))
+    (omega (arith, is)))
     called.ensures.done
 
 pub returns-in-544695662-clause-done : goal.returns-in-544695662-clause-done

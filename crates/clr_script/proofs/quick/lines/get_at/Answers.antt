@@ -11,7 +11,7 @@ returns-clause-line c =
     let from = c.in_ok-from in
     let index = c.in_ok-index in
     front_made (codes "get") (local_word to.to ∷ local_word from.from ∷ decimal index.index ∷ [])
-    (λ t. get_slot t to.to from.from index.index) (drop c.args.at c.args.text.now) _ (λ t. refl)
+    (λ t. get_slot t to.to from.from index.index) (32 ∷ drop c.args.at c.args.text.now) _ (λ t. refl)
     (λ t fits. (fits, to.ensures.read.1, from.ensures.read.1, index.ensures.read.1)) (
       text_unfed (codes "get") refl,
       (

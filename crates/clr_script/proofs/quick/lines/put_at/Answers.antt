@@ -11,7 +11,7 @@ returns-clause-line c =
     let index = c.in_ok-index in
     let value = c.in_ok-value in
     front_made (codes "put") (local_word into.into ∷ decimal index.index ∷ decimal value.value ∷ [])
-    (λ t. put_number t into.into index.index value.value) (drop c.args.at c.args.text.now) _ (λ t. refl)
+    (λ t. put_number t into.into index.index value.value) (32 ∷ drop c.args.at c.args.text.now) _ (λ t. refl)
     (λ t fits. (fits, into.ensures.read.1, index.ensures.read.1, value.ensures.read.1)) (
       text_unfed (codes "put") refl,
       (

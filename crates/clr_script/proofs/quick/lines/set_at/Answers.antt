@@ -11,7 +11,7 @@ returns-clause-line c =
     let index = c.in_ok-index in
     let stored = c.in_ok-stored in
     front_made (codes "set") (local_word into.into ∷ decimal index.index ∷ local_word stored.stored ∷ [])
-    (λ t. set_slot t into.into index.index stored.stored) (drop c.args.at c.args.text.now) _ (λ t. refl)
+    (λ t. set_slot t into.into index.index stored.stored) (32 ∷ drop c.args.at c.args.text.now) _ (λ t. refl)
     (λ t fits. (fits, into.ensures.read.1, index.ensures.read.1, stored.ensures.read.1)) (
       text_unfed (codes "set") refl,
       (

@@ -1,5 +1,5 @@
 -- The references of an object that are one run, of which those that are null are passed over.
-use Rattle.std.proofs.Common.{◌≡◌, ◌≢◌, ℕ, zero, suc, ◌+◌, ◌-◌, ◌*◌, ◌<◌, ◌≤◌, ◌^◌, inl, inr, List, ap, sym, ◌∙◌, subst}
+use Rattle.std.proofs.Common.{◌≡◌, ◌≢◌, ℕ, zero, suc, ◌+◌, ◌-◌, ◌*◌, ◌<◌, ◌≤◌, ◌^◌, inl, inr, List, sym, ◌∙◌, subst}
 use Rattle.std.proofs.Common.{arith, false, true, leb, ltb, refl}
 use Rattle.std.proofs.lemmas.Bool.{and_from, both_ways, cases_eq, le-leb, lt-ltb}
 use Rattle.clr_types.specs.Descriptors.{offsets_from}

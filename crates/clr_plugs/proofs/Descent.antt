@@ -2,7 +2,7 @@
 use Rattle.std.proofs.Common.{◌⊎◌, ◌≡◌, ◌≢◌, inl, inr, ℕ, ◌+◌, ◌-◌, ◌*◌, ◌<◌, ◌≤◌, List, [], ◌∷◌, ◌++◌, length}
 use Rattle.std.proofs.Common.{refl}
 use Rattle.std.proofs.Common.{ap, sym, ◌∙◌, subst, arith}
-use Rattle.std.proofs.lemmas.Bool.{cases_Bool, cases_lt, leb-true, le-leb}
+use Rattle.std.proofs.lemmas.Bool.{cases_Bool, leb-true, le-leb}
 use Rattle.std.proofs.Common.{leb}
 use Rattle.std.specs.List.{AllByRecursion}
 use Rattle.clr_types.specs.Rising.{first, IsIn, IsRisingBy, later}
@@ -253,22 +253,30 @@ module _ (h : HeapView) (k brick from a end before : ℕ) where
         e.1,
       )
 
-  -- a step to either side
-  pub go_down : (found above at now : ℕ) → IsDescent h k brick from a end found above at before now → at ≢ 0
-      → (plug nearest lowest onwards next : ℕ) → plug ≡ brick * 4096 + (at - 1)
-      → (plug ≤ a → (nearest ≡ plug) × (lowest ≡ above) × (onwards ≡ right_of (word_of h) plug))
-      → (a < plug → (nearest ≡ found) × (lowest ≡ plug) × (onwards ≡ left_of (word_of h) plug))
-      → next ≡ now + 1 → IsDescent h k brick from a end nearest lowest onwards before next
-  go_down found above at now d some plug nearest lowest onwards next is right left en =
+  pub go_right : (found above at now : ℕ) → IsDescent h k brick from a end found above at before now → at ≢ 0
+      → brick * 4096 + (at - 1) ≤ a → (children : ℕ × ℕ) (next : ℕ)
+      → children ≡ (left_of (word_of h) (brick * 4096 + (at - 1)), right_of (word_of h) (brick * 4096 + (at - 1)))
+      → next ≡ now + 1 → IsDescent h k brick from a end (brick * 4096 + (at - 1)) above children.1 before next
+  go_right found above at now d some le children next both en =
       let p = at_plug found above at now d some in
-      let same : plug ≡ p.plug = is ∙ p.place in
-      elim (cases_lt a plug) [
-        | inl up ↦
-            let e = left up in
-            let there = p.left (omega (arith, up, same)) in
-            rw (e.0, e.1, e.2, en, same) there
-        | inr low ↦
-            let e = right low in
-            let there = p.right (omega (arith, low, same)) in
-            rw (e.0, e.1, e.2, en, same) there
-      ]
+      let place = p.place in
+      let P : ℕ → Type 0 = λ q. IsDescent h k brick from a end q above (right_of (word_of h) q) before (now + 1) in
+      let there = subst P (sym place) (p.right (omega (arith, place))) in
+      let Q : ℕ × ℕ → Type 0 =
+      λ c. IsDescent h k brick from a end (brick * 4096 + (at - 1)) above c.1 before (now + 1) in
+      let R : ℕ → Type 0 = λ n. IsDescent h k brick from a end (brick * 4096 + (at - 1)) above children.1 before n in
+      subst R (sym en) (subst Q (sym both) there)
+
+  pub go_left : (found above at now : ℕ) → IsDescent h k brick from a end found above at before now → at ≢ 0
+      → a < brick * 4096 + (at - 1) → (children : ℕ × ℕ) (next : ℕ)
+      → children ≡ (left_of (word_of h) (brick * 4096 + (at - 1)), right_of (word_of h) (brick * 4096 + (at - 1)))
+      → next ≡ now + 1 → IsDescent h k brick from a end found (brick * 4096 + (at - 1)) children.0 before next
+  go_left found above at now d some lt children next both en =
+      let p = at_plug found above at now d some in
+      let place = p.place in
+      let P : ℕ → Type 0 = λ q. IsDescent h k brick from a end found q (left_of (word_of h) q) before (now + 1) in
+      let there = subst P (sym place) (p.left (omega (arith, place))) in
+      let Q : ℕ × ℕ → Type 0 =
+      λ c. IsDescent h k brick from a end found (brick * 4096 + (at - 1)) c.0 before (now + 1) in
+      let R : ℕ → Type 0 = λ n. IsDescent h k brick from a end found (brick * 4096 + (at - 1)) children.0 before n in
+      subst R (sym en) (subst Q (sym both) there)

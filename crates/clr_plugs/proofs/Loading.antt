@@ -1,7 +1,7 @@
 -- The plugs of the next brick, as a cursor reads them.
 use Rattle.std.proofs.Common.{◌≡◌, inl, inr, ℕ, zero, suc, ◌+◌, ◌-◌, ◌*◌, ◌/◌, ◌<◌, ◌≤◌, List, [], ◌∷◌, ◌++◌, length}
 use Rattle.std.proofs.Common.{drop, filter, refl, ap, sym, ◌∙◌, subst, arith, true, false, Bool, ◌&&◌, if◌then◌else◌}
-use Rattle.std.proofs.Common.{leb, ltb, eqb, ℤ}
+use Rattle.std.proofs.Common.{leb, ltb, eqb, replicate, ℤ}
 use Rattle.std.proofs.lemmas.Bool.{cases_lt, eq-eqb, le-leb, leb-true, lt-ltb, ltb-true, ne_eqb, cases_Bool}
 use Rattle.std.proofs.lemmas.List.{append_assoc}
 use Rattle.clr_types.specs.Rising.{first, IsIn, later}
@@ -14,7 +14,7 @@ use Rattle.clr_plugs.specs.Builders.{places_from}
 use Rattle.clr_plugs.specs.Cursors.{ahead, AreLeft, starts_between}
 use Rattle.clr_plugs.specs.Forests.{CanReadAll, HaveFound}
 use Rattle.clr_plugs.specs.Offsets.{AreApart, AreListed}
-use Rattle.clr_plugs.specs.Plans.{AreSpaced, plug_starts, root_number, TellsBrick, tree_here}
+use Rattle.clr_plugs.specs.Plans.{AreSpaced, IsPart, PlannedPart, plug_starts, root_number, TellsBrick, tree_here}
 use Rattle.clr_plugs.specs.Plans.{tree_below, no_tree}
 use Rattle.clr_plugs.specs.Trees.{IsBrickTree, leaf, starts_in}
 use Rattle.clr_plugs.proofs.Finding.{plug_words}
@@ -22,6 +22,7 @@ use Rattle.clr_plugs.proofs.Gathering.{spaced_few}
 use Rattle.clr_plugs.proofs.Planning.{none_in}
 use Rattle.clr_plugs.proofs.Starts.{in_brick, into_filter, out_of_filter, spaced-above, spaced-apart}
 use Rattle.clr_plugs.proofs.Stepping.{none_ahead}
+use Rattle.clr_plugs.proofs.UnitBits.{none_set}
 
 -- the root that is read has the tree of the brick, also where there is none
 pub brick_tree : (word : ℕ → ℕ) (starts : List ℕ) (brick root : ℕ) (entry : ℤ) → TellsBrick word starts brick entry
@@ -252,26 +253,26 @@ module _ (h : HeapView) (base segment : ℕ) (starts : List ℕ) (can : CanReadA
       let P : ℕ → Type 0 = λ n. IsIn n (places_from base offsets) in
       subst P (omega (arith, low, z, even)) (IsIn-map (λ (o : ℕ). base + o) there))
 
+-- where no word has an offset, no plug starts
+pub none_found : (starts : List ℕ) (base k : ℕ) → HaveFound starts base (replicate k 0) → [] ≡ starts
+none_found [] base k found = refl
+none_found (x ∷ xs) base k found =
+    absurd (let bad : true ≡ false = sym (found.full x first) ∙ none_set k ((x - base) / 8) in cc)
+
 -- what a cursor is still to give stays where it reads the plugs of some bricks
-pub loaded : (h : HeapView) (bricks : BricksView) (at_hand : List ℕ) (brick past end : ℕ) (offsets bits : List ℕ)
-    → IsHeap h → at_hand ≡ [] → brick < past → brick ≤ end → end ≤ brick + 4 → end ≤ past
-    → (left : AreLeft h bricks brick past)
-    → HaveFound (starts_between brick end (plug_starts left.part.plugs)) (brick * 4096) bits
-    → AreListed bits 2048 offsets
+pub loaded : (at_hand : List ℕ) (brick past end : ℕ) (offsets : List ℕ) → at_hand ≡ [] → brick ≤ end → end ≤ past
+    → (h : HeapView) (part : PlannedPart) → IsPart h part
+    → places_from (brick * 4096) offsets ≡ starts_between brick end (plug_starts part.plugs)
     → ahead (record { at_hand = places_from (brick * 4096) (drop 0 offsets); brick = end; past = past })
-    (plug_starts left.part.plugs)
-    ≡ ahead (record { at_hand = at_hand; brick = brick; past = past }) (plug_starts left.part.plugs)
-loaded h bricks at_hand brick past end offsets bits heap none some le few within left found listed =
-    let starts = plug_starts left.part.plugs in
-    let can = can_read h bricks brick past end heap left some few within in
-    let all : places_from (brick * 4096) offsets ≡ starts_between brick end starts =
-    listed_all h (brick * 4096) left.part.segment (starts_between brick end starts) can bits found offsets listed in
+    (plug_starts part.plugs)
+    ≡ ahead (record { at_hand = at_hand; brick = brick; past = past }) (plug_starts part.plugs)
+loaded at_hand brick past end offsets none le within h part lies all =
+    let starts = plug_starts part.plugs in
     let n : brick + (end - brick) ≡ end = omega (arith, le) in
     let P : ℕ → Type 0 = λ m. starts_between brick past starts
     ≡ starts_between brick m starts ++ starts_between m past starts in
     let split : starts_between brick past starts ≡ starts_between brick end starts ++ starts_between end past starts =
-    subst P n (split_bricks left.part.low (end - brick) brick past starts left.lies.spaced
-    (omega (arith, le, within))) in
+    subst P n (split_bricks part.low (end - brick) brick past starts lies.spaced (omega (arith, le, within))) in
     ap (λ (xs : List ℕ). xs ++ starts_between end past starts) all
     ∙ sym split
     ∙ ap (λ (xs : List ℕ). xs ++ starts_between brick past starts) (sym none)

@@ -1,12 +1,11 @@
 // Going over the plugs of a part, by rising start.
-ghost use Rattle.std.specs.Prelude.{◌≡◌, ℕ, ◌+◌, ◌/◌, ◌<◌, ◌≤◌, ◌^◌, [], ◌∷◌};
+ghost use Rattle.std.specs.Prelude.{◌≡◌, ◌+◌, ◌/◌, ◌<◌, ◌≤◌, ◌^◌, [], ◌∷◌};
 ghost use Rattle.std.specs.Prelude.{MatchOption};
 ghost use Rattle.clr_heap.specs.View.{word_of};
 ghost use Rattle.clr_plugs.specs.Cursors.{ahead, AreLeft, TellLeft};
 ghost use Rattle.clr_plugs.specs.Plans.{IsPart, PlannedPart, plug_starts};
 
-use crate::forests::{MOST_OFFSETS, TOGETHER, gather, put_roots};
-use crate::offsets::{UNIT_WORDS, list_offsets};
+use crate::forests::{MOST_OFFSETS, TOGETHER, list_plugs, put_roots};
 use crate::search::BRICK;
 use clr_bricks::Bricks;
 use clr_heap::Heap;
@@ -107,10 +106,8 @@ impl PlugCursor {
         let first = self.brick;
         let past = self.past.min(first + TOGETHER);
         let base = first * BRICK;
-        let mut units = [0; UNIT_WORDS];
         let roots = put_roots(bricks, near, first, past, &mut self.offsets);
-        gather(heap, near, base, roots, &mut self.offsets, &mut units);
-        self.count = list_offsets(&units, &mut self.offsets);
+        self.count = list_plugs(heap, near, base, roots, &mut self.offsets);
         self.at = 0;
         self.base = base;
         self.brick = past;

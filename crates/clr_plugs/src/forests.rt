@@ -1,13 +1,13 @@
 // The trees of bricks side by side, read level by level.
-ghost use Rattle.std.specs.Prelude.{◌≡◌, ◌≢◌, ℕ, ◌+◌, ◌-◌, ◌*◌, ◌<◌, ◌≤◌, ◌^◌, ◌++◌, false, List, length, take};
-ghost use Rattle.clr_heap.specs.Memories.{memory_index};
+ghost use Rattle.std.specs.Prelude.{◌≡◌, ℕ, ◌+◌, ◌-◌, ◌*◌, ◌<◌, ◌≤◌, ◌++◌, false, List, length, replicate, take};
 ghost use Rattle.clr_heap.specs.View.{HeapView, word_of};
+ghost use Rattle.clr_plugs.specs.Builders.{places_from};
 ghost use Rattle.clr_plugs.specs.Cursors.{AreLeft, starts_between};
 ghost use Rattle.clr_plugs.specs.Forests.{AreWaiting, CanReadAll, HaveFound, told_offsets};
 ghost use Rattle.clr_plugs.specs.Offsets.{has_unit};
 ghost use Rattle.clr_plugs.specs.Plans.{plug_starts};
 
-use crate::offsets::add_unit;
+use crate::offsets::{UNIT_WORDS, add_unit, list_offsets};
 use crate::search::{BRICK, lead};
 use crate::words::{CHILDREN, children_of};
 use clr_bricks::Bricks;
@@ -62,16 +62,34 @@ fn put_plug(into: &mut [u16], count: usize, low: u64, told: u64) -> usize
     count + 1
 }
 
-// Puts the offsets of all plugs of the trees into the words whose roots are the first `roots` offsets of the list, from
-// `base` on. What stands in the list then means nothing.
-pub(crate) fn gather(
+// Lists the offsets of all plugs of the trees whose roots are the first `roots` offsets of the list, from `base` on, by
+// rising place, and answers how many there are.
+pub(crate) fn list_plugs(
     heap: &Heap,
     near: usize,
     base: u64,
     roots: usize,
     into: &mut [u16],
-    words: &mut [u64],
-)
+) -> usize
+    requires can { (starts : List ℕ) × (segment : ℕ) × CanReadAll heap.now base segment starts
+        × AreWaiting (word_of heap.now) starts base 0 (take roots into.old) (replicate 32 0) }
+    requires room { length into.old ≡ 685 }
+    ensures listed { (starts : List ℕ) (segment : ℕ) → CanReadAll heap.now base segment starts
+        → AreWaiting (word_of heap.now) starts base 0 (take roots into.old) (replicate 32 0)
+        → places_from base (take result into.new) ≡ starts }
+    ensures most { result ≤ 683 }
+{
+    if roots == 0 {
+        return 0;
+    }
+    let mut units = [0; UNIT_WORDS];
+    gather(heap, near, base, roots, into, &mut units);
+    list_offsets(&units, into)
+}
+
+// Puts the offsets of all plugs of these trees into the words. What stands in the list then means nothing.
+fn gather(heap: &Heap, near: usize, base: u64, roots: usize, into: &mut [u16], words: &mut [u64])
+    requires some { 0 < roots }
     requires can { (starts : List ℕ) × (segment : ℕ) × CanReadAll heap.now base segment starts
         × AreWaiting (word_of heap.now) starts base 0 (take roots into.old) words.old }
     requires room { length into.old ≡ 685 }
@@ -80,10 +98,8 @@ pub(crate) fn gather(
         → AreWaiting (word_of heap.now) starts base 0 (take roots into.old) words.old
         → HaveFound starts base words.new }
 {
-    if roots > 0 {
-        let k = heap.segment_near(near, base + u64::from(into[0]) - CHILDREN);
-        gather_in(heap, k, base, roots, into, words);
-    }
+    let k = heap.segment_near(near, base + u64::from(into[0]) - CHILDREN);
+    gather_in(heap, k, base, roots, into, words);
 }
 
 // The same for plugs whose words lie in segment `k`.

@@ -1,5 +1,5 @@
 // Offsets of plugs as bits of words, a bit for each 8 bytes, and lists of them by rising place.
-ghost use Rattle.std.specs.Prelude.{◌≡◌, ◌+◌, ◌*◌, ◌%◌, ◌^◌, ◌<◌, ◌≤◌, length, take, []};
+ghost use Rattle.std.specs.Prelude.{◌≡◌, ◌+◌, ◌*◌, ◌%◌, ◌<◌, ◌≤◌, length, take};
 ghost use Rattle.clr_plugs.specs.Offsets.{AreApart, AreListed, CanList, HasListed, with_unit};
 
 /// How many words have a bit for each 8 bytes of the bricks that are read together.

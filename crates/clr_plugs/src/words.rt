@@ -16,7 +16,7 @@ pub(crate) const DISTANCE: u64 = 24;
 pub(crate) const CHILDREN: u64 = 16;
 
 /// The right child is counted in units of this number, above the left one.
-pub(crate) const RIGHT_UNIT: u64 = 0x1_0000_0000;
+const RIGHT_UNIT: u64 = 0x1_0000_0000;
 
 /// What the 24 bytes that end 8 bytes before a plug tell of it.
 #[derive(Clone, Copy)]

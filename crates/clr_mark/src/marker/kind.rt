@@ -73,6 +73,31 @@ impl Marker {
     }
 }
 
+// What is known behind the object at `obj`, in segment `k`, whose method table word is `mt` without a mark. It looks
+// nothing up where that is of the kind that was known.
+#[inline(always)]
+pub(super) fn kind_like(
+    heap: &Heap,
+    types: &Types,
+    k: usize,
+    obj: u64,
+    mt: u64,
+    known: RunKind,
+) -> RunKind
+    requires closed { IsClosed types.now heap.now }
+    requires marked { Marked types.now heap.now obj }
+    requires segment { k ≡ memory_index heap.now.memories obj }
+    requires word { mt ≡ unmarked (word_of heap.now obj) }
+    requires known { IsRunKind types.now known }
+    ensures { IsRunKind types.now result }
+{
+    if mt == known.mt {
+        known
+    } else {
+        kind_behind(heap, types, k, obj, mt, known)
+    }
+}
+
 // What is known behind the object at `obj`, in segment `k`, whose method table word is `mt` without a mark: its kind,
 // where it is of one, else what was known.
 #[inline(always)]

@@ -1,7 +1,7 @@
 use Rattle.std.proofs.Common.{ℕ, ◌+◌, take, drop, subst, arith}
 use Rattle.clr_heap.specs.View.{word_of}
 use Rattle.clr_plugs.specs.Forests.{CanReadAll}
-use Rattle.clr_plugs.proofs.Waiting.{front_starts, none_waits, roots_few, segment_is, waits_first}
+use Rattle.clr_plugs.proofs.Waiting.{front_starts, roots_few, segment_is, waits_first}
 use Rattle.clr_plugs.proofs.forests.gather.Goals as goal
 
 pub overflow_sub-base : goal.overflow_sub-base
@@ -10,7 +10,7 @@ overflow_sub-base c =
     let few = roots_few (word_of c.args.heap.now) starts c.args.base c.args.roots c.args.into.now c.args.words.now
     c.requires.room begun in
     let room = c.requires.room in
-    let some = c.if-roots-gt0.true in
+    let some = c.requires.some in
     let o = c.from.result in
     let w = waits_first (word_of c.args.heap.now) starts c.args.base 0 c.args.roots o c.args.into.now
     c.args.words.now (omega (arith, some)) (omega (arith, few, room)) c.from.ensures begun in
@@ -25,7 +25,7 @@ segment_near-k-requires c =
     let few = roots_few (word_of c.args.heap.now) starts c.args.base c.args.roots c.args.into.now c.args.words.now
     c.requires.room begun in
     let room = c.requires.room in
-    let some = c.if-roots-gt0.true in
+    let some = c.requires.some in
     let o = c.from.result in
     let w = waits_first (word_of c.args.heap.now) starts c.args.base 0 c.args.roots o c.args.into.now
     c.args.words.now (omega (arith, some)) (omega (arith, few, room)) c.from.ensures begun in
@@ -39,7 +39,7 @@ gather_in-requires-clause-can c =
     let few = roots_few (word_of c.args.heap.now) starts c.args.base c.args.roots c.args.into.now c.args.words.now
     c.requires.room begun in
     let room = c.requires.room in
-    let some = c.if-roots-gt0.true in
+    let some = c.requires.some in
     let o = c.from.result in
     let w = waits_first (word_of c.args.heap.now) starts c.args.base 0 c.args.roots o c.args.into.now
     c.args.words.now (omega (arith, some)) (omega (arith, few, room)) c.from.ensures begun in
@@ -52,12 +52,12 @@ gather_in-requires-clause-can c =
       begun,
     )
 
-pub returns-then-roots-gt0 : goal.returns-then-roots-gt0
-returns-then-roots-gt0 c = λ starts segment can begun.
+pub returns : goal.returns
+returns c = λ starts segment can begun.
     let few = roots_few (word_of c.args.heap.now) starts c.args.base c.args.roots c.args.into.now c.args.words.now
     c.requires.room begun in
     let room = c.requires.room in
-    let some = c.if-roots-gt0.true in
+    let some = c.requires.some in
     let o = c.from.result in
     let w = waits_first (word_of c.args.heap.now) starts c.args.base 0 c.args.roots o c.args.into.now
     c.args.words.now (omega (arith, some)) (omega (arith, few, room)) c.from.ensures begun in
@@ -66,9 +66,3 @@ returns-then-roots-gt0 c = λ starts segment can begun.
     let P : ℕ → Type 0 = λ k. CanReadAll c.args.heap.now c.args.base k starts in
     c.gather_in.ensures starts (subst P (segment_is c.args.heap.now c.args.base segment c.segment_near-k.result
     (c.args.base + o) starts can start c.segment_near-k.ensures) can) begun
-
-pub returns-else-roots-gt0 : goal.returns-else-roots-gt0
-returns-else-roots-gt0 c = λ starts segment can begun.
-    let none = c.if-roots-gt0.false in
-    none_waits (word_of c.args.heap.now) starts c.args.base 0 c.args.roots c.args.into.now c.args.words.now
-    (omega (arith, none)) begun

@@ -1,6 +1,5 @@
-use Rattle.std.proofs.Common.{inl, inr, ℕ, ◌+◌, ◌-◌, ◌*◌, ◌/◌, ◌%◌, ap, ◌∙◌, refl, subst, arith}
-use Rattle.std.proofs.lemmas.Bool.{cases_lt}
-use Rattle.clr_plugs.proofs.Descent.{at_plug, begin_descent, found_in_tree, go_down, IsDescent}
+use Rattle.std.proofs.Common.{ℕ, subst, arith}
+use Rattle.clr_plugs.proofs.Descent.{at_plug, begin_descent, found_in_tree, go_left, go_right, IsDescent}
 use Rattle.clr_plugs.proofs.search.find_in_tree.Goals as goal
 
 pub loop-node-init : goal.loop-node-init
@@ -18,31 +17,23 @@ overflow_add-plug g c =
     let place = at.place in
     omega (arith, limit, high, place)
 
-pub overflow_sub-plug-in-loop-node : goal.overflow_sub-plug-in-loop-node
-overflow_sub-plug-in-loop-node g c =
+pub children_of-left-requires : goal.children_of-left-requires
+children_of-left-requires g c =
     let at = at_plug c.args.heap.now c.args.k c.args.brick c.args.root c.args.a c.args.end c.args.steps.now
     c.loop-node.found
     c.loop-node.above c.loop-node.node c.loop-node.steps c.loop-node.invariant c.loop-node-test.true in
-    let place = at.place in
-    let above = at.words.above in
-    omega (arith, place, above)
+    rw at.place (let w = at.words in let above = w.above in
+    record { above = omega (arith, above); word = w.children; segment = w.children_in })
 
-pub word_at-children-requires : goal.word_at-children-requires
-word_at-children-requires g c =
+pub loop-node-smaller-then-plug-a : goal.loop-node-smaller-then-plug-a
+loop-node-smaller-then-plug-a g c =
     let at = at_plug c.args.heap.now c.args.k c.args.brick c.args.root c.args.a c.args.end c.args.steps.now
     c.loop-node.found
     c.loop-node.above c.loop-node.node c.loop-node.steps c.loop-node.invariant c.loop-node-test.true in
-    rw at.place (record { word = at.words.children; segment = at.words.children_in })
-
-pub go_down-nearest-requires : goal.go_down-nearest-requires
-go_down-nearest-requires g c =
-    let at = at_plug c.args.heap.now c.args.k c.args.brick c.args.root c.args.a c.args.end c.args.steps.now
-    c.loop-node.found
-    c.loop-node.above c.loop-node.node c.loop-node.steps c.loop-node.invariant c.loop-node-test.true in
-    let place = at.place in
     let high = at.high in
     let better = at.better in
-    record { low = omega (arith, place, better); high = omega (arith, place, high) }
+    let place = at.place in
+    omega (arith, high, better, place)
 
 pub loop-node-smaller : goal.loop-node-smaller
 loop-node-smaller g c =
@@ -52,32 +43,23 @@ loop-node-smaller g c =
     let high = at.high in
     let better = at.better in
     let place = at.place in
-    let plug = c.args.brick * 4096 + (c.loop-node.node - 1) in
-    elim (cases_lt c.args.a plug) [
-      | inl up ↦
-          let e = c.go_down-nearest.ensures.left up in
-          let x = e.0 in
-          let y = e.1 in
-          omega (arith, x, y, high, better, place)
-      | inr low ↦
-          let e = c.go_down-nearest.ensures.right low in
-          let x = e.0 in
-          let y = e.1 in
-          omega (arith, x, y, high, better, place)
-    ]
+    omega (arith, high, better, place)
+
+pub loop-node-preserved-then-plug-a : goal.loop-node-preserved-then-plug-a
+loop-node-preserved-then-plug-a g c =
+    let l = c.loop-node in
+    go_right c.args.heap.now c.args.k c.args.brick c.args.root c.args.a c.args.end c.args.steps.now l.found l.above
+    l.node l.steps
+    l.invariant c.loop-node-test.true c.if-plug-a.true
+    c.children_of-left.result c.tick.new.self c.children_of-left.ensures c.tick.ensures
 
 pub loop-node-preserved : goal.loop-node-preserved
 loop-node-preserved g c =
     let l = c.loop-node in
-    let word = c.word_at-children.ensures in
-    go_down c.args.heap.now c.args.k c.args.brick c.args.root c.args.a c.args.end c.args.steps.now l.found l.above
-    l.node l.steps l.invariant c.loop-node-test.true (c.args.brick * 4096 + (l.node - 1)) c.go_down-nearest.result.0
-    c.go_down-nearest.result.1 c.go_down-nearest.result.2 c.tick.new.self refl
-    (λ low. let e = c.go_down-nearest.ensures.right low in
-    (e.0, e.1, e.2 ∙ ap (λ (w : ℕ). w / 4294967296) word))
-    (λ up. let e = c.go_down-nearest.ensures.left up in
-    (e.0, e.1, e.2 ∙ ap (λ (w : ℕ). w % 4294967296) word))
-    c.tick.ensures
+    go_left c.args.heap.now c.args.k c.args.brick c.args.root c.args.a c.args.end c.args.steps.now l.found l.above
+    l.node l.steps
+    l.invariant c.loop-node-test.true c.if-plug-a.false
+    c.children_of-left.result c.tick.new.self c.children_of-left.ensures c.tick.ensures
 
 pub returns : goal.returns
 returns g c =

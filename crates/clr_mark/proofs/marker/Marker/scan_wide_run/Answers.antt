@@ -1,10 +1,10 @@
-use Rattle.std.proofs.Common.{◌≡◌, ◌≢◌, ℕ, List, true, ◌+◌, ◌-◌, ◌*◌, ◌≤◌, ◌<◌, ap, arith, sym, subst, ◌∙◌}
+use Rattle.std.proofs.Common.{◌≡◌, ℕ, List, true, ◌+◌, ap, arith, sym, subst, ◌∙◌}
 use Rattle.clr_types.specs.Descriptors.{offsets_from}
 use Rattle.clr_types.specs.Rising.{IsIn}
 use Rattle.clr_view.specs.Marks.{Marked}
 use Rattle.clr_mark.specs.Marks.{is_condemned_place}
 use Rattle.clr_mark.specs.Markings.{IsMet}
-use Rattle.clr_mark.proofs.Following.{scan_ends, slot_met}
+use Rattle.clr_mark.proofs.Following.{scan_ends}
 use Rattle.clr_mark.proofs.Meeting.{all_met, closed_on, meeting_ends, meeting_on, meeting_starts, met_grayed}
 use Rattle.clr_mark.proofs.Meeting.{stack_marked}
 use Rattle.clr_mark.proofs.RunMeetings.{meeting_passed, meeting_run, run_low, run_met}
@@ -16,6 +16,7 @@ loop-at-init c = record {
   meeting = meeting_starts c.args.types.now c.args.heap.now c.args.self.now c.args.obj c.new-targets.result
       c.new-targets.ensures;
   within = omega arith;
+  known = c.none.ensures c.args.types.now;
 }
 
 pub overflow_add-obj : goal.overflow_add-obj
@@ -134,18 +135,19 @@ loop-at-preserved-then-target-eq0 c =
           (omega (arith, from)) c.pass_null-at.ensures.within
           (sym c.word_at-target.ensures ∙ c.if-target-eq0.true) c.pass_null-at.ensures.null s;
       within = c.pass_null-at.ensures.within;
+      known = c.loop-at.invariant.known;
     }
 
-pub meet-near-requires-clause-closed : goal.meet-near-requires-clause-closed
-meet-near-requires-clause-closed c =
+pub meet-last-requires-clause-closed : goal.meet-last-requires-clause-closed
+meet-last-requires-clause-closed c =
     let rows = c.args.types.now in
     let h = c.args.heap.now in
     let x = c.args.obj in
     let s = c.loop-at.invariant.meeting in
     closed_on rows h c.loop-at.heap c.args.self.now c.loop-at.self c.loop-at.targets c.requires.closed s.met
 
-pub meet-near-requires-clause-named : goal.meet-near-requires-clause-named
-meet-near-requires-clause-named c =
+pub meet-last-requires-clause-named : goal.meet-last-requires-clause-named
+meet-last-requires-clause-named c =
     let rows = c.args.types.now in
     let h = c.args.heap.now in
     let x = c.args.obj in
@@ -161,10 +163,10 @@ mark_if_full-requires-clause-closed c =
     let x = c.args.obj in
     let s = c.loop-at.invariant.meeting in
     let next = meeting_run rows h c.loop-at.heap x c.args.run c.requires.closed c.requires.marked c.requires.run
-    c.meet-near.new.heap c.args.self.now c.loop-at.self c.meet-near.new.self c.loop-at.at c.loop-at.targets
-    c.meet-near.new.targets s c.loop-at-test.true c.word_at-target.result c.word_at-target.ensures
-    c.meet-near.ensures.met c.meet-near.ensures.marked in
-    closed_on rows h c.meet-near.new.heap c.args.self.now c.meet-near.new.self c.meet-near.new.targets
+    c.meet-last.new.heap c.args.self.now c.loop-at.self c.meet-last.new.self c.loop-at.at c.loop-at.targets
+    c.meet-last.new.targets s c.loop-at-test.true c.word_at-target.result c.word_at-target.ensures
+    c.meet-last.ensures.met c.meet-last.ensures.marked in
+    closed_on rows h c.meet-last.new.heap c.args.self.now c.meet-last.new.self c.meet-last.new.targets
     c.requires.closed next.met
 
 pub mark_if_full-requires-clause-named : goal.mark_if_full-requires-clause-named
@@ -174,10 +176,10 @@ mark_if_full-requires-clause-named c =
     let x = c.args.obj in
     let s = c.loop-at.invariant.meeting in
     let next = meeting_run rows h c.loop-at.heap x c.args.run c.requires.closed c.requires.marked c.requires.run
-    c.meet-near.new.heap c.args.self.now c.loop-at.self c.meet-near.new.self c.loop-at.at c.loop-at.targets
-    c.meet-near.new.targets s c.loop-at-test.true c.word_at-target.result c.word_at-target.ensures
-    c.meet-near.ensures.met c.meet-near.ensures.marked in
-    all_met rows h c.meet-near.new.heap c.args.self.now c.meet-near.new.self c.meet-near.new.targets
+    c.meet-last.new.heap c.args.self.now c.loop-at.self c.meet-last.new.self c.loop-at.at c.loop-at.targets
+    c.meet-last.new.targets s c.loop-at-test.true c.word_at-target.result c.word_at-target.ensures
+    c.meet-last.ensures.met c.meet-last.ensures.marked in
+    all_met rows h c.meet-last.new.heap c.args.self.now c.meet-last.new.self c.meet-last.new.targets
     c.requires.closed next.met
 
 pub follow_if_over-requires-clause-closed : goal.follow_if_over-requires-clause-closed
@@ -187,11 +189,11 @@ follow_if_over-requires-clause-closed c =
     let x = c.args.obj in
     let s = c.loop-at.invariant.meeting in
     let next = meeting_run rows h c.loop-at.heap x c.args.run c.requires.closed c.requires.marked c.requires.run
-    c.meet-near.new.heap c.args.self.now c.loop-at.self c.meet-near.new.self c.loop-at.at c.loop-at.targets
-    c.meet-near.new.targets s c.loop-at-test.true c.word_at-target.result c.word_at-target.ensures
-    c.meet-near.ensures.met c.meet-near.ensures.marked in
-    let spent = meeting_on rows h c.meet-near.new.heap c.mark_if_full.new.heap c.args.self.now c.meet-near.new.self
-    c.mark_if_full.new.self x (offsets_from c.args.run.offset (c.loop-at.at + 1)) c.meet-near.new.targets
+    c.meet-last.new.heap c.args.self.now c.loop-at.self c.meet-last.new.self c.loop-at.at c.loop-at.targets
+    c.meet-last.new.targets s c.loop-at-test.true c.word_at-target.result c.word_at-target.ensures
+    c.meet-last.ensures.met c.meet-last.ensures.marked in
+    let spent = meeting_on rows h c.meet-last.new.heap c.mark_if_full.new.heap c.args.self.now c.meet-last.new.self
+    c.mark_if_full.new.self x (offsets_from c.args.run.offset (c.loop-at.at + 1)) c.meet-last.new.targets
     c.mark_if_full.new.targets c.requires.closed next c.mark_if_full.ensures.met in
     closed_on rows h c.mark_if_full.new.heap c.args.self.now c.mark_if_full.new.self c.mark_if_full.new.targets
     c.requires.closed spent.met
@@ -203,11 +205,11 @@ follow_if_over-requires-clause-stacked c =
     let x = c.args.obj in
     let s = c.loop-at.invariant.meeting in
     let next = meeting_run rows h c.loop-at.heap x c.args.run c.requires.closed c.requires.marked c.requires.run
-    c.meet-near.new.heap c.args.self.now c.loop-at.self c.meet-near.new.self c.loop-at.at c.loop-at.targets
-    c.meet-near.new.targets s c.loop-at-test.true c.word_at-target.result c.word_at-target.ensures
-    c.meet-near.ensures.met c.meet-near.ensures.marked in
-    let spent = meeting_on rows h c.meet-near.new.heap c.mark_if_full.new.heap c.args.self.now c.meet-near.new.self
-    c.mark_if_full.new.self x (offsets_from c.args.run.offset (c.loop-at.at + 1)) c.meet-near.new.targets
+    c.meet-last.new.heap c.args.self.now c.loop-at.self c.meet-last.new.self c.loop-at.at c.loop-at.targets
+    c.meet-last.new.targets s c.loop-at-test.true c.word_at-target.result c.word_at-target.ensures
+    c.meet-last.ensures.met c.meet-last.ensures.marked in
+    let spent = meeting_on rows h c.meet-last.new.heap c.mark_if_full.new.heap c.args.self.now c.meet-last.new.self
+    c.mark_if_full.new.self x (offsets_from c.args.run.offset (c.loop-at.at + 1)) c.meet-last.new.targets
     c.mark_if_full.new.targets c.requires.closed next c.mark_if_full.ensures.met in
     stack_marked rows h c.mark_if_full.new.heap c.args.self.now c.mark_if_full.new.self c.mark_if_full.new.targets
     c.requires.closed spent.met c.requires.stacked
@@ -219,11 +221,11 @@ loop-at-preserved c =
     let x = c.args.obj in
     let s = c.loop-at.invariant.meeting in
     let next = meeting_run rows h c.loop-at.heap x c.args.run c.requires.closed c.requires.marked c.requires.run
-    c.meet-near.new.heap c.args.self.now c.loop-at.self c.meet-near.new.self c.loop-at.at c.loop-at.targets
-    c.meet-near.new.targets s c.loop-at-test.true c.word_at-target.result c.word_at-target.ensures
-    c.meet-near.ensures.met c.meet-near.ensures.marked in
-    let spent = meeting_on rows h c.meet-near.new.heap c.mark_if_full.new.heap c.args.self.now c.meet-near.new.self
-    c.mark_if_full.new.self x (offsets_from c.args.run.offset (c.loop-at.at + 1)) c.meet-near.new.targets
+    c.meet-last.new.heap c.args.self.now c.loop-at.self c.meet-last.new.self c.loop-at.at c.loop-at.targets
+    c.meet-last.new.targets s c.loop-at-test.true c.word_at-target.result c.word_at-target.ensures
+    c.meet-last.ensures.met c.meet-last.ensures.marked in
+    let spent = meeting_on rows h c.meet-last.new.heap c.mark_if_full.new.heap c.args.self.now c.meet-last.new.self
+    c.mark_if_full.new.self x (offsets_from c.args.run.offset (c.loop-at.at + 1)) c.meet-last.new.targets
     c.mark_if_full.new.targets c.requires.closed next c.mark_if_full.ensures.met in
     let closed = closed_on rows h c.mark_if_full.new.heap c.args.self.now c.mark_if_full.new.self
     c.mark_if_full.new.targets c.requires.closed spent.met in
@@ -236,6 +238,7 @@ loop-at-preserved c =
           c.follow_if_over.new.self c.mark_if_full.new.targets closed.heap closed.held
           c.follow_if_over.ensures.grayed);
       within = omega (arith, inside);
+      known = c.meet-last.ensures.known;
     }
 
 pub mark_all-requires-clause-closed : goal.mark_all-requires-clause-closed

@@ -1,4 +1,4 @@
-use Rattle.std.proofs.Common.{◌≡◌, ◌≢◌, ℕ, ◌+◌, ◌-◌, ◌*◌, ◌≤◌, ◌<◌, ◌^◌, inl, inr, false, ap, sym, ◌∙◌, subst, arith}
+use Rattle.std.proofs.Common.{◌≡◌, ℕ, ◌+◌, ◌-◌, ◌*◌, false, ap, sym, ◌∙◌, subst, arith}
 use Rattle.clr_heap.specs.Memories.{HasWord, memory_index}
 use Rattle.clr_heap.specs.View.{may_refer, word_of}
 use Rattle.clr_mark.proofs.RunMeetings.{null_word, word_number}

@@ -3,7 +3,7 @@ use Rattle.clr_heap.specs.View.{word_of}
 use Rattle.clr_plugs.specs.Builders.{places_from}
 use Rattle.clr_plugs.specs.Cursors.{ahead, AreLeft, CursorView, starts_between, TellLeft}
 use Rattle.clr_plugs.specs.Plans.{IsPart, PlannedPart, plug_starts}
-use Rattle.clr_plugs.proofs.Loading.{can_read, found_apart, less_left, loaded}
+use Rattle.clr_plugs.proofs.Loading.{can_read, less_left, loaded}
 use Rattle.clr_plugs.proofs.UnitBits.{none_set}
 use Rattle.clr_plugs.proofs.cursor.PlugCursor.load.Goals as goal
 
@@ -20,8 +20,8 @@ put_roots-roots-requires-clause-left c =
     let least = c.min-past.ensures in
     (h, less_left h bricks i.brick i.past end (omega (arith, least)) left)
 
-pub gather-requires-clause-can : goal.gather-requires-clause-can
-gather-requires-clause-can c =
+pub list_plugs-self-inside-requires-clause-can : goal.list_plugs-self-inside-requires-clause-can
+list_plugs-self-inside-requires-clause-can c =
     let h = c.args.heap.now in
     let bricks = c.args.bricks.now in
     let i = c.self.inside in
@@ -38,25 +38,6 @@ gather-requires-clause-can c =
     (less_left h bricks i.brick i.past end (omega (arith, least)) left) in
     (starts, left.part.segment, can, begun)
 
-pub list_offsets-self-inside-requires-clause-apart : goal.list_offsets-self-inside-requires-clause-apart
-list_offsets-self-inside-requires-clause-apart c =
-    let h = c.args.heap.now in
-    let bricks = c.args.bricks.now in
-    let i = c.self.inside in
-    let P : CursorView → Type 0 = λ v. AreLeft h bricks v.brick v.past in
-    let left = subst P (sym c.self.view_is) c.requires.left in
-    let Q : CursorView → Type 0 = λ v. v.brick < v.past in
-    let some = subst Q (sym c.self.view_is) c.requires.some in
-    let end = c.min-past.result in
-    let least = c.min-past.ensures in
-    let starts = starts_between i.brick end (plug_starts left.part.plugs) in
-    let can = can_read h bricks i.brick i.past end c.lawful.ensures left some (omega (arith, least))
-    (omega (arith, least)) in
-    let begun = c.put_roots-roots.ensures.waiting h (replicate 32 0) (none_set 32)
-    (less_left h bricks i.brick i.past end (omega (arith, least)) left) in
-    found_apart h (i.brick * 4096) left.part.segment starts can c.gather.new.words
-    (c.gather.ensures starts left.part.segment can begun)
-
 pub returns-clause-ahead : goal.returns-clause-ahead
 returns-clause-ahead c =
     let h = c.args.heap.now in
@@ -69,7 +50,7 @@ returns-clause-ahead c =
     let end = c.min-past.result in
     let least = c.min-past.ensures in
     let none = ap (λ (v : CursorView). v.at_hand) c.self.view_is ∙ c.requires.none in
-    let offsets = take c.list_offsets-self-inside.result c.list_offsets-self-inside.new.into in
+    let offsets = take c.list_plugs-self-inside.result c.list_plugs-self-inside.new.into in
     let new : CursorView =
     record { at_hand = places_from (i.brick * 4096) (drop 0 offsets); brick = end; past = i.past } in
     let R : CursorView → Type 0 =
@@ -83,7 +64,6 @@ returns-clause-ahead c =
     (omega (arith, least)) in
     let begun = c.put_roots-roots.ensures.waiting h (replicate 32 0) (none_set 32)
     (less_left h bricks i.brick i.past end (omega (arith, least)) told) in
-    loaded h bricks (places_from i.base (drop i.at (take i.count i.offsets))) i.brick i.past end offsets
-    c.gather.new.words c.lawful.ensures none some (omega (arith, least, some)) (omega (arith, least))
-    (omega (arith, least)) told (c.gather.ensures starts part.segment can begun)
-    c.list_offsets-self-inside.ensures.listed)
+    loaded (places_from i.base (drop i.at (take i.count i.offsets))) i.brick i.past end offsets none
+    (omega (arith, least, some)) (omega (arith, least)) h part lies
+    (c.list_plugs-self-inside.ensures.listed starts part.segment can begun))

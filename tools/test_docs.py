@@ -11,6 +11,8 @@ TOP = Path(__file__).resolve().parent.parent
 CRATES = TOP / "crates"
 NAMES = ("ARCHITECTURE.md", "MODEL.md", "PROVED.md", "THEOREM.md")
 PAGES = {name: (TOP / "docs" / name).read_text(encoding="utf-8") for name in NAMES}
+# What pages name of other crates, of tools and of the system.
+BEYOND = {"ArrayVec", "README", "examples", "stdin", "stdout", "tools"}
 
 
 def uses():
@@ -101,6 +103,15 @@ class Names(unittest.TestCase):
         self.assertGreater(len(claims), 240)
         for _, where, clauses in claims:
             self.check_claim(where, clauses)
+
+    def test_reasons_name_what_is_there(self):
+        there = set(re.findall(r"\w+", text(uses(), "src", "specs", "proofs")))
+        there |= {path.stem for path in TOP.glob("tools/*")} | BEYOND
+        pages = {**crate_pages(), "DECISIONS.md": (TOP / "docs/DECISIONS.md").read_text(encoding="utf-8")}
+        for page, reasons in pages.items():
+            for name in re.findall(r"\w{4,}\b(?!\*)", " ".join(re.findall(r"`([^`]+)`", reasons))):
+                with self.subTest(page=page, name=name):
+                    self.assertTrue(name in there)
 
     def test_laws_are_functions(self):
         laws = [row for row in rows(crate_pages()["clr_model"], 2) if row[0] != "law"]

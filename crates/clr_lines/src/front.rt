@@ -271,8 +271,8 @@ fn answer_verb(
 }
 
 /// Does what the line in front of a text says where it is one of those that scripts are mostly made of, and writes its
-/// reply to the front of `into`. `None` where it is another or none ends in the text, and then nothing changes. No
-/// clause promises `Some`, since a `None` only costs the time of `execute`.
+/// reply to the front of `into`. `None` where it is another, none ends in the text, or few bytes of that are left, and
+/// then nothing changes. No clause promises `Some`, since a `None` only costs the time of `execute`.
 #[inline]
 pub fn answer_front(runtime: &mut Runtime, text: &[u8], into: &mut [u8; 256]) -> Option<Answered>
     ensures fits { IfSome result (λ a. a.written ≤ 256) }

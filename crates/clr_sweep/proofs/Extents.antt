@@ -1,6 +1,6 @@
 -- The bytes of the parts of the small heap that a collection goes over.
 use Rattle.std.proofs.Common.{◌≡◌, ℕ, ◌+◌, ◌-◌, ◌^◌, ◌<◌, ◌≤◌, [], ◌∷◌, filter, length, sum_by, sym, ap, subst, ◌∙◌}
-use Rattle.std.proofs.Common.{take, arith, Bool, true, false, ◌&&◌, ◌||◌, ◌==◌, if◌then◌else◌, refl}
+use Rattle.std.proofs.Common.{zero, suc, List, take, arith, Bool, true, false, ◌&&◌, ◌||◌, ◌==◌, if◌then◌else◌, refl}
 use Rattle.std.proofs.lemmas.Bool.{ne_eqb}
 use Rattle.std.proofs.lemmas.List.{take_more, take_all}
 use Rattle.std.proofs.lemmas.List.Elements.{filter-append}
@@ -111,6 +111,29 @@ module _ (h : HeapView) (heap : IsHeap h) (k total : ℕ) (s : IsSummed h k tota
 pub summed-all : (h : HeapView) (k total : ℕ) → IsSummed h k total → length h.segments ≤ k
     → total ≡ extent (frame h) 2
 summed-all h k total s l = s.is ∙ ap (λ ss. sum_by (adds h 2) (filter (takes 2) ss)) (take_all k h.segments l)
+
+-- the first of what passes a test have no more than all
+passing-take : (f : SegInfo → ℕ) (t : SegInfo → Bool) (n : ℕ) (ss : List SegInfo)
+    → sum_by f (filter t (take n ss)) ≤ sum_by f (filter t ss)
+passing-take f t zero ss = omega arith
+passing-take f t (suc n) [] = omega arith
+passing-take f t (suc n) (s ∷ ss) = go (t s) (passing-take f t n ss)
+  where
+    go : (b : Bool) → sum_by f (filter t (take n ss)) ≤ sum_by f (filter t ss)
+        → sum_by f (if b then s ∷ filter t (take n ss) else filter t (take n ss))
+        ≤ sum_by f (if b then s ∷ filter t ss else filter t ss)
+    go true less =
+        let one = sum_by-cons f s (filter t (take n ss)) in
+        let all = sum_by-cons f s (filter t ss) in
+        omega (arith, one, all, less)
+    go false less = less
+
+-- no number of segments has more bytes than all of them
+pub summed-within : (h : HeapView) (k total : ℕ) → IsSummed h k total → total ≤ extent (frame h) 2
+summed-within h k total s =
+    let is = s.is in
+    let less = passing-take (adds h 2) (takes 2) k h.segments in
+    omega (arith, is, less)
 
 -- no heap reserves more than a GiB
 pub summed-small-all : (h : HeapView) (k total : ℕ) → IsHeap h → IsSummed h k total → total ≤ 1073741824

@@ -1,6 +1,7 @@
-// The bytes that a collection would keep, and those of the parts of the small heap that it would go over.
-ghost use Rattle.std.specs.Prelude.{◌≡◌, ℕ, ◌+◌, ◌<◌, ◌≤◌, ◌^◌, ◌&&◌, Bool, true, false, if◌then◌else◌, length};
-ghost use Rattle.clr_heap.specs.View.{first_of, frame, heap_items, IsHeap, last_of, listing, no_rests, segment_at};
+// Whether a collection would free enough to compact: the bytes that it would keep, and those of the parts of the small
+// heap that it would go over.
+ghost use Rattle.std.specs.Prelude.{◌≡◌, ℕ, ◌+◌, ◌<◌, ◌≤◌, ◌^◌, ◌⊎◌, ◌&&◌, Bool, if◌then◌else◌, length, nat_lt};
+ghost use Rattle.clr_heap.specs.View.{frame, heap_items, IsHeap, last_of, no_rests};
 ghost use Rattle.clr_model.specs.Collection as collection;
 ghost use Rattle.clr_model.specs.Lawful.{IsLaid};
 ghost use Rattle.clr_model.specs.Machine.{Machine};
@@ -9,68 +10,78 @@ ghost use Rattle.clr_types.specs.Segments.{ephemeral, first_place, is_small_or_e
 ghost use Rattle.clr_view.specs.Marks.{has_mark};
 ghost use Rattle.clr_view.specs.Memory.{IsMemoryOf, TestsMarks};
 ghost use Rattle.clr_view.specs.View.{IsHeld, is_object, tail_of};
-ghost use Rattle.clr_sweep.specs.KeptBytes.{kept_size, kept_small};
+ghost use Rattle.clr_sweep.specs.KeptBytes.{IsWeighed, kept_size, kept_small};
 ghost use Rattle.clr_sweep.specs.SweptItems.{items_from};
 ghost use Rattle.clr_sweep.specs.SweptSegments.{IsParted};
 
+use crate::dead::{dead_size, item_and_kind};
 use crate::pass::is_kept;
 use crate::sweeping::start_of;
 use clr_heap::{Heap, Item};
 use clr_types::{FIRST_OFFSET, SegKind, Types};
 
-/// The bytes of the marked objects of generation `g` and of all younger ones in the small heap: what a collection of
-/// these generations would keep there. Nothing changes.
+/// Whether a collection of generation `g` and of all younger ones compacts where it decides by itself: whether more
+/// than `threshold` hundredths of the bytes of the parts of the small heap that it goes over are free, where it keeps
+/// what is marked. Nothing changes, and the walk ends where that is settled.
 ///
-/// The heap is that of a lawful machine whose contexts are given up. For generation 0 or 1 the young part of the
-/// ephemeral segment alone is looked at.
-pub fn kept_bytes(heap: &Heap, types: &Types, g: u8) -> u64
+/// The heap is that of a lawful machine whose contexts are given up.
+pub fn frees_enough(heap: &Heap, types: &Types, g: u8, threshold: u64) -> bool
     requires held { IsHeld types.now heap.now }
     requires no_contexts { heap.now.rests ≡ no_rests }
     requires laid { (m : Machine) × IsMemoryOf types.now heap.now m × IsLaid m }
     requires generation { g ≤ 2 }
+    requires threshold { threshold ≤ 100 }
     ensures { (m : Machine) (kept : ℕ → Bool) → IsMemoryOf types.now heap.now m → TestsMarks types.now heap.now g kept
-        → result ≡ collection.kept_bytes m.layout (survivors m g kept) }
+        → m.options.compact ≡ threshold → result ≡ collection.decides_to_compact m g (survivors m g kept) }
+{
+    let all = extent(heap, g);
+    let need = all - threshold * all / 100;
+    kept_bytes(heap, types, g, all, need) < need
+}
+
+// The bytes of the marked objects of generation `g` and of all younger ones in the small heap, or others that are below
+// `need` just where these are. A collection of these generations goes over `all` bytes there.
+fn kept_bytes(heap: &Heap, types: &Types, g: u8, all: u64, need: u64) -> u64
+    requires held { IsHeld types.now heap.now }
+    requires no_contexts { heap.now.rests ≡ no_rests }
+    requires laid { (m : Machine) × IsMemoryOf types.now heap.now m × IsLaid m }
+    requires generation { g ≤ 2 }
+    requires all { all ≡ collection.extent (frame heap.now) g }
+    requires small { all ≤ 1073741824 }
+    requires need { need ≤ all }
+    ensures { (m : Machine) (kept : ℕ → Bool) → IsMemoryOf types.now heap.now m → TestsMarks types.now heap.now g kept
+        → nat_lt result need ≡ nat_lt (collection.kept_bytes m.layout (survivors m g kept)) need }
 {
     if g == 2 {
-        return small_bytes(heap, types);
+        return small_bytes(heap, types, all, need);
     }
     let k = heap.ephemeral();
     let from = start_of(heap, g);
-    part_bytes(heap, types, k, from, 0)
+    part_bytes(heap, types, k, from, 0, need, 0)
 }
 
-// The bytes of the marked objects of the small heap.
-fn small_bytes(heap: &Heap, types: &Types) -> u64
+// The same for all generations: the bytes of the marked objects of the small heap.
+fn small_bytes(heap: &Heap, types: &Types, all: u64, need: u64) -> u64
     requires held { IsHeld types.now heap.now }
     requires no_contexts { heap.now.rests ≡ no_rests }
-    ensures bytes { result ≡ kept_small heap.now (heap_items types.now heap.now) }
+    requires all { all ≡ collection.extent (frame heap.now) 2 }
+    requires small { all ≤ 1073741824 }
+    requires need { need ≤ all }
+    ensures bytes { nat_lt result need ≡ nat_lt (kept_small heap.now (heap_items types.now heap.now)) need }
     ensures heap { IsHeap heap.now }
 {
     let count = heap.segments();
+    let mut ahead = all;
     let mut bytes = 0;
     for k in 0..count {
-        bytes = with_segment(heap, types, k, bytes);
+        let segment = heap.info(k);
+        if is_small(segment.kind) {
+            let from = segment.base + FIRST_OFFSET;
+            ahead -= segment.end - from;
+            bytes = part_bytes(heap, types, k, from, bytes, need, ahead);
+        }
     }
     bytes
-}
-
-// Adds the bytes of the marked objects of segment `k` if it is a small one.
-fn with_segment(heap: &Heap, types: &Types, k: usize, before: u64) -> u64
-    requires in_range { k < length heap.now.segments }
-    requires parted { IsParted types.now heap.now k (first_of heap.now k) }
-    requires no_contexts { heap.now.rests ≡ no_rests }
-    requires fits { before ≤ first_of heap.now k }
-    ensures small { is_small_or_ephemeral (segment_at heap.now k).kind ≡ true
-        → result ≡ before + kept_size heap.now (listing types.now heap.now k) }
-    ensures large { is_small_or_ephemeral (segment_at heap.now k).kind ≡ false → result ≡ before }
-    ensures fits { result ≤ last_of heap.now k }
-{
-    let segment = heap.info(k);
-    if is_small(segment.kind) {
-        part_bytes(heap, types, k, segment.base + FIRST_OFFSET, before)
-    } else {
-        before
-    }
 }
 
 // Whether segments of this kind belong to the small heap.
@@ -83,25 +94,61 @@ fn is_small(kind: SegKind) -> bool
     }
 }
 
-// Adds the bytes of the marked objects of the part of segment `k` from `from` on.
-fn part_bytes(heap: &Heap, types: &Types, k: usize, from: u64, before: u64) -> u64
+// Adds the bytes of the marked objects of the part of segment `k` from `from` on. Where other parts have at most `ahead`
+// bytes, it stops as soon as it is settled whether all marked objects together have fewer than `need`.
+fn part_bytes(
+    heap: &Heap,
+    types: &Types,
+    k: usize,
+    from: u64,
+    before: u64,
+    need: u64,
+    ahead: u64,
+) -> u64
     requires in_range { k < length heap.now.segments }
     requires parted { IsParted types.now heap.now k from }
     requires no_contexts { heap.now.rests ≡ no_rests }
     requires fits { before ≤ from }
-    ensures bytes { result ≡ before + kept_size heap.now (items_from types.now heap.now k from) }
+    requires need { need ≤ 1073741824 }
+    requires ahead { ahead ≤ 1073741824 }
+    ensures least { before ≤ result }
+    ensures weighed { IsWeighed (before + kept_size heap.now (items_from types.now heap.now k from)) need ahead
+        result }
     ensures fits { result ≤ last_of heap.now k }
 {
     let end = heap.info(k).end;
     let mut place = from;
     let mut bytes = before;
-    while place < end {
+    let mut stop = stop_of(end, bytes, need, ahead);
+    let mut known = None;
+    while place < stop {
         let mt = heap.word_at(k, place);
-        let found = heap.item_of_word(types, k, place, mt);
-        bytes = with_item(bytes, found, mt);
-        place += found.size;
+        if let Some(size) = dead_size(known, mt) {
+            place += size;
+        } else {
+            let found = item_and_kind(heap, types, k, place, mt, &mut known);
+            bytes = with_item(bytes, found, mt);
+            stop = stop_of(end, bytes, need, ahead);
+            place += found.size;
+        }
     }
     bytes
+}
+
+// The place from which on a walk to `end` tells no more, where nothing else is kept than the `bytes` that it has met:
+// these are enough, or with all that is ahead too few.
+#[inline(always)]
+fn stop_of(end: u64, bytes: u64, need: u64, ahead: u64) -> u64
+    requires { end + ahead + bytes + 1 < 2 ^ 64 }
+    ensures within { result ≤ end }
+    ensures settled { (place : ℕ) → result ≤ place
+        → (end ≤ place) ⊎ ((need ≤ bytes) ⊎ (end + ahead + bytes < place + need)) }
+{
+    if need <= bytes {
+        0
+    } else {
+        (end + ahead + bytes + 1).saturating_sub(need).min(end)
+    }
 }
 
 // The bytes with those of an item more, if it is a marked object.
@@ -117,9 +164,9 @@ fn with_item(bytes: u64, found: Item, mt: u64) -> u64
     }
 }
 
-/// The bytes of the parts of the small heap that a collection of generation `g` and of all younger ones goes over. They
-/// are no more than a GiB, as no heap reserves more.
-pub fn extent(heap: &Heap, g: u8) -> u64
+// The bytes of the parts of the small heap that a collection of generation `g` and of all younger ones goes over. They
+// are no more than a GiB, as no heap reserves more.
+fn extent(heap: &Heap, g: u8) -> u64
     requires generation { g ≤ 2 }
     requires low { first_place (ephemeral (frame heap.now)) ≤ heap.now.start1 }
     requires order { heap.now.start1 ≤ heap.now.start0 }

@@ -1,11 +1,9 @@
 // Counting what a collection would keep and free.
-ghost use Rattle.std.specs.Prelude.{◌≡◌, ℕ, ◌+◌, ◌<◌, ◌≤◌, ◌^◌, Bool, true, false, length};
+ghost use Rattle.std.specs.Prelude.{◌≡◌, ◌<◌, ◌≤◌, ◌^◌, true, false, length};
 ghost use Rattle.clr_heap.specs.View.{first_of, last_of, listing, no_rests};
-ghost use Rattle.clr_model.specs.Collection.{kept_bytes};
 ghost use Rattle.clr_model.specs.Lawful.{IsLaid};
 ghost use Rattle.clr_model.specs.Machine.{Machine};
-ghost use Rattle.clr_model.specs.Sweep.{survivors};
-ghost use Rattle.clr_view.specs.Memory.{IsMemoryOf, TestsMarks};
+ghost use Rattle.clr_view.specs.Memory.{IsMemoryOf};
 ghost use Rattle.clr_view.specs.View.{IsHeld};
 ghost use Rattle.clr_sweep.specs.Passes.{IsAtMost, plus};
 ghost use Rattle.clr_sweep.specs.Swept.{tally_of};
@@ -24,17 +22,13 @@ use clr_types::{FIRST_OFFSET, Types};
 /// Counts what a sweep of generation `g` and of all younger ones would count now: the objects that are marked and those
 /// that aren't, and the bytes of the marked ones of generations 0 and 1. Nothing changes.
 ///
-/// The heap is that of a lawful machine whose contexts are given up. A collection of generation 0 or 1 counts in the
-/// young part of the ephemeral segment alone, so the bytes of both are then what it would keep in the small heap.
+/// The heap is that of a lawful machine whose contexts are given up.
 pub fn count(heap: &Heap, types: &Types, g: u8) -> Tally
     requires held { IsHeld types.now heap.now }
     requires no_contexts { heap.now.rests ≡ no_rests }
     requires laid { (m : Machine) × IsMemoryOf types.now heap.now m × IsLaid m }
     requires generation { g ≤ 2 }
-    ensures tally { result ≡ tally_of types.now heap.now g }
-    ensures young { g ≤ 1 → (m : Machine) (kept : ℕ → Bool) → IsMemoryOf types.now heap.now m
-        → TestsMarks types.now heap.now g kept
-        → result.promoted1 + result.promoted2 ≡ kept_bytes m.layout (survivors m g kept) }
+    ensures { result ≡ tally_of types.now heap.now g }
 {
     if g == 2 {
         return count_whole(heap, types);

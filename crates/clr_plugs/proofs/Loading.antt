@@ -8,7 +8,8 @@ use Rattle.clr_types.specs.Rising.{first, IsIn, later}
 use Rattle.clr_types.proofs.ListMembers.{filter-on, from-map}
 use Rattle.clr_types.proofs.RisingLists.{in_cons}
 use Rattle.clr_types.proofs.ChangedLists.{IsIn-map}
-use Rattle.clr_heap.specs.View.{HeapView, IsHeap}
+use Rattle.clr_bricks.specs.Bricks.{entry_at}
+use Rattle.clr_heap.specs.View.{HeapView, IsHeap, word_of}
 use Rattle.clr_plugs.specs.BrickEntries.{BricksView}
 use Rattle.clr_plugs.specs.Builders.{places_from}
 use Rattle.clr_plugs.specs.Cursors.{ahead, AreLeft, starts_between}
@@ -137,6 +138,28 @@ split_bricks low (suc n) b past starts s le =
     ∙ ap (λ (xs : List ℕ). xs ++ starts_between (b + suc n) past starts)
     (sym (split_brick low b (b + suc n) starts s (omega arith)))
 
+-- where an entry names no root, no plug starts in the brick
+brick_empty : (word : ℕ → ℕ) (starts : List ℕ) (brick : ℕ) (entry : ℤ) → TellsBrick word starts brick entry
+    → root_number entry ≡ 0 → starts_in brick starts ≡ []
+brick_empty word starts brick entry (tree_here r e t) none =
+    let bad : suc r ≡ 0 = sym (ap root_number e) ∙ none in absurd (omega (arith, bad))
+brick_empty word starts brick entry (tree_below near i low most e) none =
+    none_in brick starts (λ x j at. let m = most x j (omega (arith, at)) in omega (arith, m, low, at))
+brick_empty word starts brick entry (no_tree above e) none =
+    none_in brick starts (λ x j at. let m = above x j in omega (arith, m, at))
+
+-- bricks in which none starts are passed over
+skip_bricks : (low n b past : ℕ) (starts : List ℕ) → AreSpaced low starts → b + n ≤ past
+    → ((i : ℕ) → b ≤ i → i < b + n → starts_in i starts ≡ [])
+    → starts_between b past starts ≡ starts_between (b + n) past starts
+skip_bricks low zero b past starts s le none = ap (λ (m : ℕ). starts_between m past starts) (omega arith)
+skip_bricks low (suc n) b past starts s le none =
+    split_brick low b past starts s (omega (arith, le))
+    ∙ ap (λ (xs : List ℕ). xs ++ starts_between (b + 1) past starts) (none b (omega arith) (omega arith))
+    ∙ skip_bricks low n (b + 1) past starts s (omega (arith, le))
+    (λ i from up. none i (omega (arith, from)) (omega (arith, up)))
+    ∙ ap (λ (m : ℕ). starts_between m past starts) (omega arith)
+
 -- ---- the plugs of some bricks
 
 between_of : (b past x : ℕ) → (leb b (x / 4096) && ltb (x / 4096) past) ≡ true → (b ≤ x / 4096) × (x / 4096 < past)
@@ -172,9 +195,34 @@ less_left h bricks b past end le left =
       fits = omega (arith, fits, le);
     }
 
+-- so are those from a brick above on
+abbrev pub left_above : (h : HeapView) (bricks : BricksView) (b past from : ℕ) → b ≤ from → AreLeft h bricks b past
+    → AreLeft h bricks from past
+left_above h bricks b past from up left = record {
+  part = left.part;
+  lies = left.lies;
+  covered = λ i low high. left.covered i (omega (arith, low, up)) high;
+  tell = λ i low high. left.tell i (omega (arith, low, up)) high;
+  fits = left.fits;
+}
+
+-- what is left starts in the bricks from one on, where no entry below it names a root
+pub skipped : (h : HeapView) (bricks : BricksView) (b past from : ℕ) → b ≤ from → from ≤ past
+    → ((i : ℕ) → b ≤ i → i < from → root_number (entry_at bricks i) ≡ 0) → (left : AreLeft h bricks b past)
+    → starts_between from past (plug_starts left.part.plugs) ≡ starts_between b past (plug_starts left.part.plugs)
+skipped h bricks b past from up within none left =
+    let starts = plug_starts left.part.plugs in
+    let n : b + (from - b) ≡ from = omega (arith, up) in
+    let P : ℕ → Type 0 = λ m. starts_between b past starts ≡ starts_between m past starts in
+    sym (subst P n
+    (skip_bricks left.part.low (from - b) b past starts left.lies.spaced (omega (arith, up, within))
+    (λ i low high.
+    brick_empty (word_of h) starts i (entry_at bricks i) (left.tell i low (omega (arith, high, up, within)))
+    (none i low (omega (arith, high, up))))))
+
 -- those of the next bricks can be read
 pub can_read : (h : HeapView) (bricks : BricksView) (b past end : ℕ) → IsHeap h → (left : AreLeft h bricks b past)
-    → b < past → end ≤ b + 4 → end ≤ past
+    → b ≤ past → end ≤ b + 4 → end ≤ past
     → CanReadAll h (b * 4096) left.part.segment (starts_between b end (plug_starts left.part.plugs))
 can_read h bricks b past end heap left some few within =
     let starts = plug_starts left.part.plugs in

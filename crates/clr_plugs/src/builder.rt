@@ -52,6 +52,16 @@ impl TreeBuilder {
         }
     }
 
+    /// Begins anew, without a plug, with the brick of this number. Faster than a new one, since nothing is cleared.
+    #[inline]
+    pub fn restart(&mut self, brick: u64)
+        requires { brick * 4096 + 4096 < 2 ^ 64 }
+        ensures { self.new ≡ record { brick = brick; plugs = [] } }
+    {
+        self.brick = brick;
+        self.count = 0;
+    }
+
     /// The number of the brick.
     pub fn brick(&self) -> u64
         ensures value { result ≡ self.now.brick }
@@ -80,12 +90,13 @@ impl TreeBuilder {
     /// Makes a balanced tree of the plugs that were added, whose information stands in the heap, and lets the brick's
     /// entry name its root. A brick without plugs gets no entry. Only the words of the plugs' children are written, and
     /// all other entries stay.
-    pub fn finish(self, heap: &mut Heap, bricks: &mut Bricks)
-        requires covered { IsCovered bricks.old self.brick }
-        requires info { (plug : ℕ) → IsIn plug self.plugs → HasInfo heap.old plug }
-        ensures tree { HasEntryTree (word_of heap.new) self.brick (entry_at bricks.new self.brick) self.plugs }
-        ensures entries { bricks.new ≡ with_value bricks.old self.brick (entry_at bricks.new self.brick) }
-        ensures words { (b : ℕ) → b % 8 ≡ 0 → IsNoChildren self.plugs b → word_of heap.new b ≡ word_of heap.old b }
+    pub fn finish(&self, heap: &mut Heap, bricks: &mut Bricks)
+        requires covered { IsCovered bricks.old self.now.brick }
+        requires info { (plug : ℕ) → IsIn plug self.now.plugs → HasInfo heap.old plug }
+        ensures tree { HasEntryTree (word_of heap.new) self.now.brick (entry_at bricks.new self.now.brick)
+            self.now.plugs }
+        ensures entries { bricks.new ≡ with_value bricks.old self.now.brick (entry_at bricks.new self.now.brick) }
+        ensures words { (b : ℕ) → b % 8 ≡ 0 → IsNoChildren self.now.plugs b → word_of heap.new b ≡ word_of heap.old b }
         ensures shape { SameShape heap.old heap.new }
     {
         let root = build(heap, 0, self.brick, &self.offsets[..self.count]);

@@ -1,9 +1,11 @@
 // Going over the plugs of a part, by rising start.
-ghost use Rattle.std.specs.Prelude.{◌≡◌, ◌+◌, ◌/◌, ◌<◌, ◌≤◌, ◌^◌, [], ◌∷◌};
+ghost use Rattle.std.specs.Prelude.{◌≡◌, ℕ, ◌+◌, ◌/◌, ◌<◌, ◌≤◌, ◌^◌, [], ◌∷◌};
 ghost use Rattle.std.specs.Prelude.{MatchOption};
 ghost use Rattle.clr_heap.specs.View.{word_of};
 ghost use Rattle.clr_plugs.specs.Cursors.{ahead, AreLeft, TellLeft};
-ghost use Rattle.clr_plugs.specs.Plans.{IsPart, PlannedPart, plug_starts};
+ghost use Rattle.clr_bricks.specs.Bricks.{entry_at};
+ghost use Rattle.clr_plugs.specs.BrickEntries.{IsCovered};
+ghost use Rattle.clr_plugs.specs.Plans.{IsPart, PlannedPart, plug_starts, root_number};
 
 use crate::forests::{MOST_OFFSETS, TOGETHER, list_plugs, put_roots};
 use crate::search::BRICK;
@@ -103,7 +105,7 @@ impl PlugCursor {
         ensures past { self.new.past ≡ self.old.past }
     {
         heap.lawful();
-        let first = self.brick;
+        let first = first_root(bricks, near, self.brick, self.past);
         let past = self.past.min(first + TOGETHER);
         let base = first * BRICK;
         let roots = put_roots(bricks, near, first, past, &mut self.offsets);
@@ -112,4 +114,20 @@ impl PlugCursor {
         self.base = base;
         self.brick = past;
     }
+}
+
+// The first brick from `from` on below `past` whose entry names a root, and `past` for none. It stands apart from what
+// reads trees, so that the cover stays in registers.
+fn first_root(bricks: &Bricks, near: usize, from: u64, past: u64) -> u64
+    requires order { from ≤ past }
+    requires covered { (i : ℕ) → from ≤ i → i < past → IsCovered bricks.now i }
+    ensures above { from ≤ result }
+    ensures within { result ≤ past }
+    ensures none { (i : ℕ) → from ≤ i → i < result → root_number (entry_at bricks.now i) ≡ 0 }
+{
+    let mut brick = from;
+    while brick < past && bricks.entry_near(near, brick) <= 0 {
+        brick += 1;
+    }
+    brick
 }

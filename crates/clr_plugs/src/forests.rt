@@ -45,8 +45,12 @@ pub(crate) fn put_roots(
     count
 }
 
+/// The offsets in a list are smaller.
+const MOST_TOLD: u64 = 65536;
+
 // Puts the offset of a plug behind the first `count` ones, where there is a plug, and answers their new number. It is
-// told by one more than its offset in a brick that begins at the offset `low`.
+// told by one more than its offset in a brick that begins at the offset `low`. There is no jump: it would wait for the
+// word that tells the plug, and later loads with it.
 #[inline(always)]
 fn put_plug(into: &mut [u16], count: usize, low: u64, told: u64) -> usize
     requires room { length into.old ≡ 685 }
@@ -55,11 +59,8 @@ fn put_plug(into: &mut [u16], count: usize, low: u64, told: u64) -> usize
     ensures offsets { take result into.new ≡ take count into.old ++ told_offsets low told }
     ensures count { result ≡ count + length (told_offsets low told) }
 {
-    if told == 0 {
-        return count;
-    }
-    into[count] = (low + (told - 1)) as u16;
-    count + 1
+    into[count] = ((low + told).wrapping_sub(1) % MOST_TOLD) as u16;
+    count + told.min(1) as usize
 }
 
 // Lists the offsets of all plugs of the trees whose roots are the first `roots` offsets of the list, from `base` on, by

@@ -1,5 +1,5 @@
 -- The first pause: what is taken in one segment, with its bits lent.
-use Rattle.std.proofs.Common.{◌≡◌, ◌≢◌, ℕ, zero, suc, ◌<◌, ◌≤◌, List, [], ◌∷◌, length, map, get_or, set}
+use Rattle.std.proofs.Common.{◌≡◌, ◌≢◌, ℕ, zero, suc, ◌+◌, ◌^◌, ◌<◌, ◌≤◌, List, [], ◌∷◌, length, map, get_or, set}
 use Rattle.std.proofs.Common.{refl, sym, ap, subst, ◌∙◌, arith, Bool, true, false, if◌then◌else◌, ◌&&◌, not, nat_eq}
 use Rattle.std.proofs.Common.{nat_lt, ◌==◌, Option, Some, None}
 use Rattle.std.proofs.lemmas.Bool.{eqb-true, lt-ltb, ne_eqb}
@@ -19,6 +19,7 @@ use Rattle.clr_heap.specs.View.{AfterItem, AreWalkable, extent_of, first_of, fra
 use Rattle.clr_heap.specs.View.{IsHeap, last_of, listing, segment_at, sight}
 use Rattle.clr_heap.specs.declared.kinds.ObjectKind.{ObjectKind}
 use Rattle.clr_heap.proofs.Addresses.{index_is_segment}
+use Rattle.clr_heap.proofs.ItemHeads.{head-in}
 use Rattle.clr_heap.proofs.Framing.{below_top_at, lawful_at}
 use Rattle.clr_view.proofs.Items.{IsItem}
 use Rattle.clr_view.proofs.Listings.{listing-are}
@@ -226,6 +227,8 @@ module _ (h : HeapView) (heap : IsHeap h) (k e : ℕ) (inside : k < length h.seg
 pub record CanTake (rows : List TypeRow) (h : HeapView) (k place : ℕ) (s : ShadeView) : Type 0 where
   pub item : HasItem rows h place
   pub segment : k ≡ memory_index h.memories place
+  pub behind : k ≡ memory_index h.memories (place + 8)
+  pub room : place + 8 < 2 ^ 64
   pub inside : covers s place ≡ true
 
 pub can_take : (rows : List TypeRow) (h : HeapView) → IsHeap h → (k : ℕ) → k < length h.segments → (place end : ℕ)
@@ -235,9 +238,12 @@ can_take rows h heap k inside place end s is low below last after =
     let base = ap (λ (p : ℕ × ℕ). p.0) is in
     let size = ap (λ (p : ℕ × ℕ). p.1) is in
     let high = (lawful_at h k heap inside).high in
+    let head = head-in rows h k place end heap inside low (omega (arith, last)) after in
     record {
       item = record { names = after.names; mt = after.mt; len = after.len };
-      segment = sym (index_is_segment h k place heap inside (omega (arith, low)) (omega (arith, below, last, high)));
+      segment = head.segment;
+      behind = head.behind;
+      room = head.room;
       inside = inside_covers s place
           (record { low = omega (arith, base, low); high = omega (arith, base, size, below, last, high) });
     }

@@ -1,28 +1,20 @@
 -- What a step of the marker does.
 use Rattle.std.specs.Prelude.{◌≡◌, ℕ, ◌+◌, ◌/◌, ◌%◌, ◌<◌, ◌^◌, ◌⊎◌, Bool, true, ◌&&◌, not, IsTrue, List, filter, length}
 use Rattle.std.specs.Prelude.{map, slice_get, Some}
-use Rattle.clr_types.specs.Descriptors.{offsets_from}
 use Rattle.clr_types.specs.Rising.{IsIn}
 use Rattle.clr_types.specs.Types.{TypeRow}
-use Rattle.clr_heap.specs.Parts.{item_at, unmarked}
 use Rattle.clr_heap.specs.View.{HeapView, word_of}
 use Rattle.clr_model.specs.Background.{Scans, ScansUpTo, taken}
 use Rattle.clr_model.specs.Machine.{ref, Object, Machine, Marking}
 use Rattle.clr_view.specs.SlotValues.{StandsAt}
 use Rattle.clr_background.specs.Log.{slot_address}
-use Rattle.clr_mark.specs.Markings.{item_references, references_at}
+use Rattle.clr_mark.specs.Markings.{references_at}
 use Rattle.clr_bgmark.specs.Shades.{BackgroundView, ShadeView, blackened, met_all, is_covered, is_logged, is_marked}
 use Rattle.clr_bgmark.specs.Shades.{is_scanned, is_taken}
-use Rattle.clr_bgmark.specs.declared.kind.RunKind.{RunKind}
 
 -- what the slots of an object name is followed, and it becomes black
 abbrev pub followed : List TypeRow → HeapView → BackgroundView → ℕ → BackgroundView
 followed rows h v obj = blackened (met_all (word_of h) v obj (references_at rows h obj)) obj
-
--- wherever this word stands, marked or not, the references of the item are this run
-pub record IsRunKind (rows : List TypeRow) (kind : RunKind) : Type 0 where
-  pub run : (word : ℕ → ℕ) (a : ℕ) → unmarked (word a) ≡ kind.mt
-      → item_references rows (item_at rows word a) ≡ offsets_from kind.run.offset kind.run.count
 
 -- ---- the colours as lists of names
 

@@ -13,6 +13,7 @@ ghost use Rattle.clr_types.specs.Descriptors.{offsets_from};
 ghost use Rattle.clr_heap.specs.Memories.{memory_index};
 ghost use Rattle.clr_heap.specs.Parts.{item_at};
 ghost use Rattle.clr_heap.specs.View.{IsHeap, word_of};
+ghost use Rattle.clr_mark.specs.Kinds.{IsRunKind};
 ghost use Rattle.clr_mark.specs.Marks.{IsClosed, IsRemarked};
 ghost use Rattle.clr_mark.specs.Markings.{references_at};
 ghost use Rattle.clr_mark.specs.Ties.{IsStart, Joins};
@@ -20,14 +21,14 @@ ghost use Rattle.clr_mark.specs.Waiting.{IsGray};
 ghost use Rattle.clr_bgmark.specs.LastPause.{LogHolds};
 ghost use Rattle.clr_bgmark.specs.Pauses.{roots_grayed, HasBegun, IsFound, root_grayed, target_grayed, targets_grayed};
 ghost use Rattle.clr_bgmark.specs.Scanning.{AreObjects, followed, HasScanned, HasScannedOne, HaveWholeObjects};
-ghost use Rattle.clr_bgmark.specs.Scanning.{IsCounted, HasLogged, IsRunKind, marking_in};
+ghost use Rattle.clr_bgmark.specs.Scanning.{IsCounted, HasLogged, marking_in};
 ghost use Rattle.clr_bgmark.specs.Shades.{BackgroundView, changed_at, IsShade, colour_at, grayed, is_covered, is_gray};
 ghost use Rattle.clr_bgmark.specs.Shades.{IsAt, is_logged, is_marked, met, met_all, passed, slot_logged, with_logged};
 ghost use Rattle.clr_mark.specs.Roots as roots;
 
 use crate::NoMemory;
 use crate::first_pause::{shades_of, take_oldest};
-use crate::kind::{RunKind, kind_behind};
+use crate::kind::kind_behind;
 use crate::last_pause::mark_found;
 use crate::shade::{Bit, Shade};
 use crate::shades::{
@@ -35,7 +36,7 @@ use crate::shades::{
 };
 use clr_handles::Handles;
 use clr_heap::Heap;
-use clr_mark::Marker;
+use clr_mark::{Marker, RunKind};
 use clr_types::{Handle, Item, ReferenceRun, Types};
 use std::alloc::Global;
 use std::marker::Model;

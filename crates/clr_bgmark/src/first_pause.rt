@@ -1,5 +1,5 @@
 // What a background collection takes at its first pause.
-ghost use Rattle.std.specs.Prelude.{◌≡◌, ℕ, ◌<◌, ◌≤◌, if◌then◌else◌, length, nat_lt, true, IfOk};
+ghost use Rattle.std.specs.Prelude.{◌≡◌, ℕ, ◌+◌, ◌<◌, ◌≤◌, ◌^◌, if◌then◌else◌, length, nat_lt, true, IfOk};
 ghost use Rattle.std.specs.List.{AllByRecursion};
 ghost use Rattle.clr_heap.specs.ObjectKinds.{IsObjectKind};
 ghost use Rattle.clr_heap.specs.Parts.{item_at};
@@ -106,6 +106,8 @@ fn take_item(
 ) -> u64
     requires item { HasItem types.now heap.now place }
     requires segment { k ≡ memory_index heap.now.memories place }
+    requires behind { k ≡ memory_index heap.now.memories (place + 8) }
+    requires room { place + 8 < 2 ^ 64 }
     requires inside { covers shade.old place ≡ true }
     requires old { IsOldBelow heap.now place old_end }
     requires known { IsObjectKind types.now known.old }
@@ -119,21 +121,25 @@ fn take_item(
             take_place(shade, place, old_end);
             size
         }
-        None => take_other(shade, heap, types, place, old_end, known),
+        None => take_other(shade, heap, types, k, place, old_end, known),
     }
 }
 
-// The same for an item of any kind. Its kind becomes known where it is an object without a length.
+// The same for an item of any kind in segment `k`. Its kind becomes known where it is an object without a length.
 #[inline(never)]
 fn take_other(
     shade: &mut Shade,
     heap: &Heap,
     types: &Types,
+    k: usize,
     place: u64,
     old_end: u64,
     known: &mut ObjectKind,
 ) -> u64
     requires item { HasItem types.now heap.now place }
+    requires segment { k ≡ memory_index heap.now.memories place }
+    requires behind { k ≡ memory_index heap.now.memories (place + 8) }
+    requires room { place + 8 < 2 ^ 64 }
     requires inside { covers shade.old place ≡ true }
     requires old { IsOldBelow heap.now place old_end }
     requires known { IsObjectKind types.now known.old }
@@ -141,7 +147,7 @@ fn take_other(
     ensures size { result ≡ (item_at types.now (word_of heap.now) place).size }
     ensures known { IsObjectKind types.now known.new }
 {
-    let found = heap.item_like(types, place, known);
+    let found = heap.item_like_in(types, k, place, known);
     if found.type_id.0 != 0 {
         take_place(shade, place, old_end);
     }

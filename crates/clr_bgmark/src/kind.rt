@@ -1,47 +1,15 @@
 // The references of objects that are like one before: most objects that are scanned in a row are of few types.
-ghost use Rattle.std.specs.Prelude.{◌≡◌, List, true};
-ghost use Rattle.clr_types.specs.Types.{TypeRow};
-ghost use Rattle.clr_heap.specs.Parts.{item_at, unmarked};
+ghost use Rattle.std.specs.Prelude.{◌≡◌};
+ghost use Rattle.clr_heap.specs.Parts.{item_at};
 ghost use Rattle.clr_heap.specs.View.{IsHeap, word_of};
 ghost use Rattle.clr_view.specs.SlotValues.{StandsAt};
 ghost use Rattle.clr_view.specs.View.{IsHeld};
-ghost use Rattle.clr_bgmark.specs.Scanning.{IsRunKind};
+ghost use Rattle.clr_mark.specs.Kinds.{IsRunKind};
 
 use clr_heap::Heap;
+use clr_mark::RunKind;
 use clr_types::mark::unmarked;
-use clr_types::{Item, ReferenceRun, Types};
-
-// What is known of the objects of one type without a length, whose references are one run.
-#[derive(Clone, Copy)]
-pub(crate) struct RunKind {
-    // Their method table word without a mark.
-    pub mt: u64,
-    pub run: ReferenceRun,
-}
-
-impl RunKind {
-    // Nothing is known: a word without a mark isn't odd.
-    #[inline(always)]
-    pub(crate) fn none() -> RunKind
-        ensures { (rows : List TypeRow) → IsRunKind rows result }
-    {
-        RunKind {
-            mt: 1,
-            run: ReferenceRun {
-                offset: 0,
-                count: 0,
-            },
-        }
-    }
-
-    // Whether an object with this method table word is of the kind.
-    #[inline(always)]
-    pub(crate) fn has(&self, mt: u64) -> bool
-        ensures { result ≡ true → unmarked mt ≡ self.now.mt }
-    {
-        unmarked(mt) == self.mt
-    }
-}
+use clr_types::{Item, Types};
 
 // What is known behind an object: its kind, where it is of one, else what was known. `mt` is its method table word.
 #[inline]

@@ -61,31 +61,9 @@ fn kind_behind(types: &Types, found: Item, mt: u64, known: ObjectKind) -> Object
 }
 
 impl Heap {
-    /// The item that starts at `a`, as `item` tells it. Where it is of the kind that is known, no table is waited for.
-    /// Its kind becomes known where it is an object without a length; else what is known stays. That is for speed
-    /// alone, so the clauses say only that what is known is so.
-    #[inline(always)]
-    pub fn item_like(&self, types: &Types, a: u64, known: &mut ObjectKind) -> Item
-        requires item { HasItem types.now self.now a }
-        requires known { IsObjectKind types.now known.old }
-        ensures item { result ≡ item_at types.now (word_of self.now) a }
-        ensures known { IsObjectKind types.now known.new }
-    {
-        let mt = self.word(a);
-        if let Some(size) = known.size_with(mt) {
-            return Item {
-                place: a,
-                size,
-                type_id: types.of_mt(unmarked(mt)),
-                len: 0,
-            };
-        }
-        let found = self.item(types, a);
-        *known = kind_behind(types, found, mt, *known);
-        found
-    }
-
-    /// The item that starts at `a` in segment `k`, where `mt` is its method table word: as `item_like`, faster.
+    /// The item that starts at `a` in segment `k`, as `item` tells it, where `mt` is its method table word. Where it is
+    /// of the kind that is known, no table is waited for. Its kind becomes known where it is an object without a length;
+    /// else what is known stays. That is for speed alone, so the clauses say only that what is known is so.
     #[inline(always)]
     pub fn item_like_word(
         &self,
@@ -116,7 +94,7 @@ impl Heap {
         found
     }
 
-    /// The same for an item of segment `k`, faster.
+    /// The same, where its method table word isn't read yet.
     #[inline(always)]
     pub fn item_like_in(&self, types: &Types, k: usize, a: u64, known: &mut ObjectKind) -> Item
         requires item { HasItem types.now self.now a }

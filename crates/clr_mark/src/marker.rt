@@ -32,7 +32,7 @@ mod unmark;
 mod wide;
 
 pub(crate) use ahead::Ahead;
-pub(crate) use kind::RunKind;
+pub use kind::RunKind;
 
 /// What marking needs: the objects whose slots are still to be followed, on a stack, and the lowest and the highest
 /// place of those that had no room on it.

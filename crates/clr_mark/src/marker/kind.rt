@@ -1,5 +1,5 @@
 // The references of objects that are like one before: most objects that are followed in a row are of few types.
-ghost use Rattle.std.specs.Prelude.{◌≡◌, ℕ, List};
+ghost use Rattle.std.specs.Prelude.{◌≡◌, ℕ, List, true};
 ghost use Rattle.clr_types.specs.Rising.{IsIn};
 ghost use Rattle.clr_types.specs.Types.{TypeRow};
 ghost use Rattle.clr_heap.specs.Memories.{memory_index};
@@ -16,18 +16,19 @@ use super::wide::FEW_SLOTS;
 use clr_heap::Heap;
 use clr_types::{ReferenceRun, Types, mark};
 
-// What is known of the objects of one type without a length, whose references are one run of few.
+/// What is known of the objects of one type without a length, marked or not, whose references are one run.
 #[derive(Clone, Copy)]
-pub(crate) struct RunKind {
-    // Their method table word without a mark.
+pub struct RunKind {
+    /// Their method table word without a mark. An odd one is no object's: then nothing is known.
     pub mt: u64,
+    /// Where their references stand.
     pub run: ReferenceRun,
 }
 
 impl RunKind {
-    // Nothing is known: a word without a mark isn't odd.
+    /// Nothing is known.
     #[inline(always)]
-    pub(crate) fn none() -> RunKind
+    pub fn none() -> RunKind
         ensures { (rows : List TypeRow) → IsRunKind rows result }
     {
         RunKind {
@@ -37,6 +38,14 @@ impl RunKind {
                 count: 0,
             },
         }
+    }
+
+    /// Whether an object whose method table word is `mt`, marked or not, is of this kind.
+    #[inline(always)]
+    pub fn has(&self, mt: u64) -> bool
+        ensures { result ≡ true → unmarked mt ≡ self.now.mt }
+    {
+        mark::unmarked(mt) == self.mt
     }
 }
 

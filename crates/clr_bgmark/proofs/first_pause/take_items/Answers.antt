@@ -78,6 +78,12 @@ take_item-place-requires-clause-item c = (can (goal.at.take_item-place-requires-
 pub take_item-place-requires-clause-segment : goal.take_item-place-requires-clause-segment
 take_item-place-requires-clause-segment c = (can (goal.at.take_item-place-requires-clause-segment c).In-None).segment
 
+pub take_item-place-requires-clause-behind : goal.take_item-place-requires-clause-behind
+take_item-place-requires-clause-behind c = (can (goal.at.take_item-place-requires-clause-behind c).In-None).behind
+
+pub take_item-place-requires-clause-room : goal.take_item-place-requires-clause-room
+take_item-place-requires-clause-room c = (can (goal.at.take_item-place-requires-clause-room c).In-None).room
+
 pub take_item-place-requires-clause-inside : goal.take_item-place-requires-clause-inside
 take_item-place-requires-clause-inside c = (can (goal.at.take_item-place-requires-clause-inside c).In-None).inside
 

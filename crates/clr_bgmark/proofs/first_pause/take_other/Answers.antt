@@ -10,9 +10,9 @@ pub returns-then-found-ne0-clause-taken : goal.returns-then-found-ne0-clause-tak
 returns-then-found-ne0-clause-taken c =
     let h = c.args.heap.now in
     let s = c.args.shade.now in
-    let found = c.item_like-found.ensures.item in
+    let found = c.item_like_in-found.ensures.item in
     c.take_place.ensures
-    ∙ object_taken h s c.item_like-found.result c.args.place c.args.old_end
+    ∙ object_taken h s c.item_like_in-found.result c.args.place c.args.old_end
     (ap (λ (i : Item). i.place) found ∙ place-item_at c.args.types.now (word_of h) c.args.place) c.if-found-ne0.true
     c.requires.old
     ∙ ap (taken_one h s) found

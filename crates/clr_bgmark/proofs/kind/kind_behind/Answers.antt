@@ -20,8 +20,7 @@ reference_run-requires c =
 
 pub returns-in-Some : goal.returns-in-Some
 returns-in-Some c =
-    let kind = run_kind c.args.types.now (word_of c.args.heap.now) c.args.item.place c.unmarked.result
+    run_kind c.args.types.now (word_of c.args.heap.now) c.args.item.place c.unmarked.result
     c.args.item.type_id c.in-Some.run' (c.unmarked.ensures ∙ ap unmarked c.requires.word)
     (ap (λ (i : Item). i.type_id) c.requires.item) (sym c.has_length.ensures ∙ c.if-has_length.false)
-    c.in-Some.ensures.spelled in
-    record { run = kind.run }
+    c.in-Some.ensures.spelled

@@ -1,6 +1,7 @@
 use Rattle.std.proofs.Common.{◌≡◌, ◌-◌, ◌≤◌}
 use Rattle.clr_view.specs.View.{objects_in}
-use Rattle.clr_bgmark.specs.Scanning.{AreObjects, HasLogged, HasScanned, HaveWholeObjects, IsCounted, IsRunKind}
+use Rattle.clr_mark.specs.Kinds.{IsRunKind}
+use Rattle.clr_bgmark.specs.Scanning.{AreObjects, HasLogged, HasScanned, HaveWholeObjects, IsCounted}
 use Rattle.clr_bgmark.proofs.background.Background.step.Given as goal
 
 abbrev pub invariant-loop-scanned : goal.invariant-loop-scanned

@@ -11,6 +11,7 @@ pub mod RootsFollowed
 pub mod Meeting
 pub mod RunMeetings
 pub mod Gathering
+pub mod Chains
 pub mod Visiting
 pub mod Rescanning
 pub mod Unmarking

@@ -22,6 +22,7 @@ use std::marker::Model;
 
 mod ahead;
 mod batch;
+mod chain;
 mod gather;
 mod kind;
 mod rescan;
@@ -205,9 +206,7 @@ impl Marker {
     {
         let mut known = RunKind::none();
         while let Some(obj) = self.stack.pop() {
-            let k = heap.segment_of(obj);
-            let mt = mark::unmarked(heap.word_at(k, obj));
-            known = self.follow(heap, types, k, obj, mt, known);
+            known = self.follow_on(heap, types, obj, known);
         }
     }
 

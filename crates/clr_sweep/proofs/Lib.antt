@@ -35,3 +35,4 @@ pub mod Extents
 pub mod KeptSizes
 pub mod KeptBytes
 pub mod DeadKinds
+pub mod Settled

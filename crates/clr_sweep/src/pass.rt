@@ -1,16 +1,20 @@
 // A pass over the items of one segment.
-ghost use Rattle.std.specs.Prelude.{◌≡◌, ℕ, ◌+◌, ◌-◌, ◌<◌, ◌≤◌, ◌^◌, ◌⊎◌, ◌&&◌, length, if◌then◌else◌};
+ghost use Rattle.std.specs.Prelude.{◌≡◌, ℕ, ◌+◌, ◌-◌, ◌<◌, ◌≤◌, ◌^◌, ◌⊎◌, ◌&&◌, true, length};
+ghost use Rattle.std.specs.Prelude.{if◌then◌else◌};
+ghost use Rattle.clr_types.specs.Segments.{generation};
 ghost use Rattle.clr_heap.specs.Memories.{HasWord, memory_index};
 ghost use Rattle.clr_heap.specs.Parts.{item_at, unmarked};
-ghost use Rattle.clr_heap.specs.View.{freed, IsHeap, last_of, no_rests, stored, word_of};
+ghost use Rattle.clr_heap.specs.ObjectKinds.{IsObjectKind};
+ghost use Rattle.clr_heap.specs.View.{frame, freed, IsHeap, last_of, no_rests, stored, word_of};
 ghost use Rattle.clr_view.specs.Marks.{has_mark};
 ghost use Rattle.clr_view.specs.View.{is_object};
-ghost use Rattle.clr_sweep.specs.Passes.{CanFill, CanStep, filled, IsAtMost, item_tally, plus, stepped, stepped_heap};
+ghost use Rattle.clr_sweep.specs.Passes.{CanFill, CanStep, filled, IsAtMost, item_tally, plus, settled, stepped};
+ghost use Rattle.clr_sweep.specs.Passes.{stepped_heap};
 ghost use Rattle.clr_sweep.specs.SweptItems.{is_cut, items_from, tally_among};
 ghost use Rattle.clr_sweep.specs.SweptSegments.{HasSweptSegment, IsParted};
 
 use crate::tally::Tally;
-use clr_heap::{Heap, Item};
+use clr_heap::{Heap, Item, ObjectKind};
 use clr_types::{FREE_MT, Types, mark};
 
 // Where a pass stands, where the run begins of what doesn't stay, where the last item that stays ended, and the counts
@@ -48,22 +52,29 @@ pub(crate) fn sweep_segment(
         last: from,
         tally,
     };
+    let mut known = ObjectKind::none();
     while pass.place < segment.end {
-        pass = step(heap, types, k, pass);
+        pass = step(heap, types, k, pass, &mut known);
     }
     heap.set_end(k, pass.last);
     pass.tally
 }
 
-// Goes over the next item.
+// Goes over the next item. `known` is the kind of an object before it, and becomes that of this one.
 #[inline]
-fn step(heap: &mut Heap, types: &Types, k: usize, pass: Pass) -> Pass
+fn step(heap: &mut Heap, types: &Types, k: usize, pass: Pass, known: &mut ObjectKind) -> Pass
     requires can { CanStep types.now heap.old k pass }
+    requires known { IsObjectKind types.now known.old }
     ensures heap { heap.new ≡ stepped_heap heap.old (item_at types.now (word_of heap.old) pass.place) pass }
     ensures pass { result ≡ stepped heap.old (item_at types.now (word_of heap.old) pass.place) pass }
+    ensures known { IsObjectKind types.now known.new }
 {
     let mt = heap.word_at(k, pass.place);
-    let found = heap.item_of_word(types, k, pass.place, mt);
+    let kind = *known;
+    if is_settled(heap, pass, kind, mt) {
+        return stay(heap, k, pass, kind);
+    }
+    let found = heap.item_like_word(types, k, pass.place, mt, known);
     let next = pass.place + found.size;
     let tally = with_item(heap, pass.tally, found, mt);
     if is_kept(found, mt) {
@@ -80,6 +91,44 @@ fn step(heap: &mut Heap, types: &Types, k: usize, pass: Pass) -> Pass
         run: end_run(heap, k, pass.run, next),
         last: pass.last,
         tally,
+    }
+}
+
+// Whether the next item, whose method table word is `mt`, is an old marked object of the known kind, and nothing before
+// it waits to become free. Most objects in an old segment are so.
+#[inline(always)]
+fn is_settled(heap: &Heap, pass: Pass, known: ObjectKind, mt: u64) -> bool
+    ensures word { result ≡ true → unmarked mt ≡ known.mt }
+    ensures mark { result ≡ true → has_mark mt ≡ true }
+    ensures run { result ≡ true → pass.run ≡ pass.place }
+    ensures old { result ≡ true → generation (frame heap.now) pass.place ≡ 2 }
+{
+    mark::unmarked(mt) == known.mt
+        && mark::is_marked(mt)
+        && pass.run == pass.place
+        && heap.gen_of(pass.place) == 2
+}
+
+// Goes over such an object: only its mark is cleared, and it is counted.
+#[inline(always)]
+fn stay(heap: &mut Heap, k: usize, pass: Pass, known: ObjectKind) -> Pass
+    requires word { HasWord heap.old.memories pass.place }
+    requires segment { k ≡ memory_index heap.old.memories pass.place }
+    requires room { pass.place + known.size < 2 ^ 64 }
+    requires counted { pass.tally.kept + 1 < 2 ^ 64 }
+    ensures heap { heap.new ≡ stored heap.old pass.place known.mt }
+    ensures pass { result ≡ settled pass known.size }
+{
+    heap.set_word_at(k, pass.place, known.mt);
+    let next = pass.place + known.size;
+    Pass {
+        place: next,
+        run: next,
+        last: next,
+        tally: Tally {
+            kept: pass.tally.kept + 1,
+            ..pass.tally
+        },
     }
 }
 

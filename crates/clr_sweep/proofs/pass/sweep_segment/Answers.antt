@@ -8,8 +8,11 @@ use Rattle.clr_sweep.proofs.pass.sweep_segment.Goals as goal
 pub loop-pass-init : goal.loop-pass-init
 loop-pass-init c =
     let h = c.args.heap.now in
-    (pass_starts c.args.types.now h c.args.k c.info-segment.ensures.heap c.args.from c.requires.in_range
-    c.requires.parted c.requires.no_contexts c.args.tally c.requires.counted)
+    record {
+      passing = pass_starts c.args.types.now h c.args.k c.info-segment.ensures.heap c.args.from c.requires.in_range
+          c.requires.parted c.requires.no_contexts c.args.tally c.requires.counted;
+      known = c.none-known.ensures c.args.types.now;
+    }
 
 pub step-pass-requires : goal.step-pass-requires
 step-pass-requires c =
@@ -22,7 +25,8 @@ step-pass-requires c =
     let below : c.loop-pass.pass.place < last_of h k = let l = c.loop-pass-test.true in omega (arith, end, l) in
     record {
       can = can_step rows h c.loop-pass.heap k c.args.from (last_of h k) c.args.tally c.loop-pass.pass home
-          c.loop-pass.invariant below;
+          c.loop-pass.invariant.passing below;
+      known = c.loop-pass.invariant.known;
     }
 
 pub loop-pass-smaller : goal.loop-pass-smaller
@@ -35,7 +39,7 @@ loop-pass-smaller c =
     let end = ap (λ (s : SegInfo). s.end) c.info-segment.ensures.value in
     let below : c.loop-pass.pass.place < last_of h k = let l = c.loop-pass-test.true in omega (arith, end, l) in
     let least = (can_step rows h c.loop-pass.heap k c.args.from (last_of h k) c.args.tally c.loop-pass.pass home
-    c.loop-pass.invariant below).least in
+    c.loop-pass.invariant.passing below).least in
     rw c.step-pass.ensures.pass (omega arith)
 
 pub loop-pass-preserved : goal.loop-pass-preserved
@@ -47,8 +51,11 @@ loop-pass-preserved c =
     c.requires.no_contexts in
     let end = ap (λ (s : SegInfo). s.end) c.info-segment.ensures.value in
     let below : c.loop-pass.pass.place < last_of h k = let l = c.loop-pass-test.true in omega (arith, end, l) in
-    rw (c.step-pass.ensures.heap, c.step-pass.ensures.pass) (passed rows h c.loop-pass.heap k c.args.from (last_of h k)
-    c.args.tally c.loop-pass.pass home c.loop-pass.invariant below)
+    record {
+      passing = rw (c.step-pass.ensures.heap, c.step-pass.ensures.pass) (passed rows h c.loop-pass.heap k c.args.from
+          (last_of h k) c.args.tally c.loop-pass.pass home c.loop-pass.invariant.passing below);
+      known = c.step-pass.ensures.known;
+    }
 
 pub set_end-requires : goal.set_end-requires
 set_end-requires c =
@@ -58,7 +65,7 @@ set_end-requires c =
     let end = ap (λ (s : SegInfo). s.end) c.info-segment.ensures.value in
     let past : last_of h k ≤ c.loop-pass.pass.place = let l = c.loop-pass-test.false in omega (arith, end, l) in
     let can = can_end rows h k c.info-segment.ensures.heap c.args.from c.requires.in_range c.requires.parted
-    c.requires.no_contexts c.loop-pass.heap c.args.tally c.loop-pass.pass c.loop-pass.invariant past in
+    c.requires.no_contexts c.loop-pass.heap c.args.tally c.loop-pass.pass c.loop-pass.invariant.passing past in
     record { in_range = can.in_range; above = can.above; below = can.below; aligned = can.aligned }
 
 pub returns : goal.returns
@@ -74,11 +81,11 @@ returns c =
     let heap = c.info-segment.ensures.heap in
     record {
       swept = rw c.set_end.ensures (pass_ends rows h k heap c.args.from c.requires.in_range w c.requires.no_contexts now
-          c.args.tally pass c.loop-pass.invariant past);
+          c.args.tally pass c.loop-pass.invariant.passing past);
       tally = pass_counts rows h k heap c.args.from c.requires.in_range w c.requires.no_contexts now c.args.tally pass
-          c.loop-pass.invariant past;
+          c.loop-pass.invariant.passing past;
       counted = pass_counted rows h k heap c.args.from c.requires.in_range w c.requires.no_contexts now c.args.tally
-          pass c.loop-pass.invariant past;
+          pass c.loop-pass.invariant.passing past;
       lawful = rw c.set_end.ensures (pass_lawful rows h k heap c.args.from c.requires.in_range w
-          c.requires.no_contexts now c.args.tally pass c.loop-pass.invariant past);
+          c.requires.no_contexts now c.args.tally pass c.loop-pass.invariant.passing past);
     }

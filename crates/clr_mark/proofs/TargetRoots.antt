@@ -1,22 +1,28 @@
 -- The targets of strong and pinned handles as roots of a marking.
-use Rattle.std.proofs.Common.{◌≡◌, ◌⊎◌, inl, inr, ℕ, ◌<◌, ◌≤◌, true, false, List, Some, IsTrue, refl, ap, sym, ◌∙◌}
+use Rattle.std.proofs.Common.{◌≡◌, ◌⊎◌, ◌↔◌, inl, inr, ℕ, ◌<◌, ◌≤◌, true, false, List, Some, IsTrue, refl, ap, sym, ◌∙◌}
 use Rattle.std.proofs.Common.{subst, arith}
 use Rattle.std.specs.FinMap as finmap
 use Rattle.std.proofs.lemmas.Bool.{and_cases, and_parts, both_ways, eqb-false, leb-false, not-false, not-true}
-use Rattle.std.proofs.lemmas.Bool.{eqb-true, or_parts}
+use Rattle.std.proofs.lemmas.Bool.{eqb-true, or_parts, true≢false}
 use Rattle.std.proofs.lemmas.Option.{same_Some}
 use Rattle.clr_types.specs.Types.{TypeRow}
 use Rattle.clr_types.specs.declared.handle.Handle.{Handle}
 use Rattle.clr_heap.specs.View.{HeapView}
 use Rattle.clr_handles.specs.Places.{names_from}
 use Rattle.clr_handles.specs.Tables.{Table}
+use Rattle.clr_handles.specs.Tops.{HasNone}
 use Rattle.clr_types.specs.Kinds.{is_root_kind}
+use Rattle.clr_types.specs.declared.handle.Kind.{Kind}
+use Rattle.clr_types.specs.declared.handle.Kind.TheVariants.{Dependent, Pinned, Strong, Weak, WeakLong}
+use Rattle.clr_model.specs.Reach.{HeldBy, Reach}
+use Rattle.clr_view.specs.Marks.{Marked}
 use Rattle.clr_view.specs.SlotValues.{StandsAt}
 use Rattle.clr_view.specs.World.{HandlesStand}
 use Rattle.clr_mark.specs.declared.marker.ahead.Ahead.{Ahead}
 use Rattle.clr_mark.specs.HandlePasses.{AllArePassed, HasTaken, IsBehind}
-use Rattle.clr_mark.specs.Marks.{is_condemned_place}
+use Rattle.clr_mark.specs.Marks.{is_condemned_place, LeadsTo}
 use Rattle.clr_mark.specs.Ties.{is_root_handle, IsCondemnedTarget, IsTarget}
+use Rattle.clr_mark.proofs.ReachParts.{iff_refl, iff_trans, reach_iff}
 
 -- the handle of a number is one
 pub same_row : (handles : Table) (j k : ℕ) (row other : Handle) → finmap.get handles j ≡ Some row
@@ -115,3 +121,31 @@ no_root_target row y none holds at some = elim (and_cases (is_root_kind row.kind
   | inl other ↦ both_ways _ other holds
   | inr null ↦ let zero = eqb-true row.target 0 (not-false _ null) in omega arith
 ]
+
+-- where there is neither a strong nor a pinned handle, none holds anything
+pub none_held : (handles : Table) → HasNone Strong handles → HasNone Pinned handles → (x : ℕ) → HeldBy handles x → ⊥
+none_held handles no_strong no_pinned x held = go held.row.kind refl held.holds
+  where
+    go : (k : Kind) → held.row.kind ≡ k → IsTrue (is_root_kind k) → ⊥
+    go Strong is holds = no_strong held.handle held.row held.in_use is
+    go Pinned is holds = no_pinned held.handle held.row held.in_use is
+    go Weak is holds = absurd (true≢false (sym holds))
+    go WeakLong is holds = absurd (true≢false (sym holds))
+    go Dependent is holds = absurd (true≢false (sym holds))
+
+-- and handles add nothing to what is reached
+pub none_added : (rows : List TypeRow) (h new : HeapView) (handles : Table) (g : ℕ) → HasNone Strong handles
+    → HasNone Pinned handles → ((x : ℕ) → Marked rows new x ↔ Reach (LeadsTo rows h g) (Marked rows h) x)
+    → (x : ℕ) → Marked rows new x
+    ↔ Reach (LeadsTo rows h g) (λ y. Marked rows h y ⊎ IsCondemnedTarget handles h g y) x
+none_added rows h new handles g no_strong no_pinned exact =
+    let start : ℕ → Type 0 = λ y. Marked rows h y ⊎ IsCondemnedTarget handles h g y in
+    iff_trans (Marked rows new) (Reach (LeadsTo rows h g) (Marked rows h)) (Reach (LeadsTo rows h g) start) exact
+    (reach_iff (LeadsTo rows h g) (LeadsTo rows h g) start (Marked rows h) (λ y z. iff_refl (LeadsTo rows h g y z))
+    (λ y. (
+      λ s. inl s,
+      λ s. elim s [
+        | inl was ↦ was
+        | inr t ↦ absurd (none_held handles no_strong no_pinned y t.target.held)
+      ],
+    )))

@@ -1,5 +1,6 @@
 // Marking from roots: lists of places, and the targets of handles.
-ghost use Rattle.std.specs.Prelude.{◌≡◌, ℕ, ◌/◌, ◌≤◌, ◌↔◌, ◌⊎◌, [], None, length};
+ghost use Rattle.std.specs.Prelude.{◌≡◌, ℕ, ◌/◌, ◌≤◌, ◌↔◌, ◌⊎◌, [], None, length, false};
+ghost use Rattle.clr_handles.specs.Tops.{HasNone};
 ghost use Rattle.clr_model.specs.Reach.{Reach};
 ghost use Rattle.clr_view.specs.Marks.{Marked};
 ghost use Rattle.clr_view.specs.World.{HandlesStand};
@@ -14,7 +15,7 @@ use crate::Marker;
 use crate::marker::{Ahead, RunKind};
 use clr_handles::Handles;
 use clr_heap::Heap;
-use clr_types::{Handle, Types};
+use clr_types::{Handle, Kind, Types};
 
 impl Marker {
     /// Marks condemned roots, and what they and the marked objects reach over condemned ones by slots. A root is 0 or
@@ -55,6 +56,10 @@ impl Marker {
             ↔ Reach (LeadsTo types.now heap.old self.old.oldest)
             (λ y. Marked types.now heap.old y ⊎ IsCondemnedTarget handles.now heap.old self.old.oldest y) x }
     {
+        if !are_any_held(handles) {
+            self.drain_slots(heap, types);
+            return;
+        }
         let low = self.lowest_condemned(heap);
         let mut ahead = Ahead::From(0);
         let mut known = RunKind::none();
@@ -109,6 +114,14 @@ impl Marker {
             self.drain_slots(heap, types);
         }
     }
+}
+
+// Whether there is any strong or pinned handle.
+fn are_any_held(handles: &Handles) -> bool
+    ensures strong { result ≡ false → HasNone Kind.Strong handles.now }
+    ensures pinned { result ≡ false → HasNone Kind.Pinned handles.now }
+{
+    handles.has_kind(Kind::Strong) || handles.has_kind(Kind::Pinned)
 }
 
 // Whether the target of a handle is a root.

@@ -3,9 +3,9 @@ use Rattle.clr_mark.specs.Markings.{HasMarked}
 use Rattle.clr_mark.specs.Ties.{IsCondemnedTarget, is_root_handle}
 use Rattle.clr_mark.proofs.Remarking.{keeps_stands}
 use Rattle.clr_mark.proofs.Rooting.{AfterRoots, rooting_ends, rooting_followed, rooting_skip, rooting_starts}
-use Rattle.clr_mark.proofs.TargetRoots.{IsVisited, no_root_target, root_target, target_all_visited, target_stands}
-use Rattle.clr_mark.proofs.TargetRoots.{target_visits}
-use Rattle.clr_mark.proofs.marker.Marker.handle_roots.Goals.{After-drain_slots}
+use Rattle.clr_mark.proofs.TargetRoots.{IsVisited, no_root_target, none_added, root_target, target_all_visited}
+use Rattle.clr_mark.proofs.TargetRoots.{target_stands, target_visits}
+use Rattle.clr_mark.proofs.marker.Marker.handle_roots.Goals.{After-drain_slots-2}
 use Rattle.clr_mark.proofs.marker.Marker.handle_roots.Goals as goal
 
 pub loop-handle-init : goal.loop-handle-init
@@ -77,10 +77,10 @@ loop-handle-preserved c =
       known = c.loop-handle.invariant.known;
     }
 
-ends : (c : After-drain_slots) → AfterRoots c.args.types.now c.args.heap.now c.loop-handle.heap c.args.self.now
+ends : (c : After-drain_slots-2) → AfterRoots c.args.types.now c.args.heap.now c.loop-handle.heap c.args.self.now
     c.loop-handle.self (IsCondemnedTarget c.args.handles.now c.args.heap.now c.args.self.now.oldest)
     (IsVisited c.args.handles.now c.loop-handle.ahead) c.requires.gray.closed.heap c.requires.gray.closed.held
-    c.loop-handle.invariant.rooting c.drain_slots.new.heap
+    c.loop-handle.invariant.rooting c.drain_slots-2.new.heap
 ends c =
     let h = c.args.heap.now in
     let m = c.args.self.now in
@@ -88,12 +88,18 @@ ends c =
     let closed = c.requires.gray.closed in
     rooting_ends c.args.types.now h c.loop-handle.heap m c.loop-handle.self (IsCondemnedTarget handles h m.oldest)
     (IsVisited handles c.loop-handle.ahead) closed.heap closed.held c.loop-handle.invariant.rooting
-    c.drain_slots.new.heap
+    c.drain_slots-2.new.heap
     (target_all_visited h handles m.oldest c.lowest_condemned-low.result c.lowest_condemned-low.ensures.below
-    c.loop-handle.ahead c.in_default.ensures.none) c.drain_slots.ensures.words c.drain_slots.ensures.marked
+    c.loop-handle.ahead c.in_default.ensures.none) c.drain_slots-2.ensures.words c.drain_slots-2.ensures.marked
 
 pub returns-clause-words : goal.returns-clause-words
 returns-clause-words c = (ends c).words
 
 pub returns-clause-marked : goal.returns-clause-marked
 returns-clause-marked c = (ends c).marked
+
+pub returns-then-not-are_any_held-clause-marked : goal.returns-then-not-are_any_held-clause-marked
+returns-then-not-are_any_held-clause-marked c =
+    none_added c.args.types.now c.args.heap.now c.drain_slots.new.heap c.args.handles.now c.args.self.now.oldest
+    (c.are_any_held.ensures.strong c.if-not-are_any_held.true)
+    (c.are_any_held.ensures.pinned c.if-not-are_any_held.true) c.drain_slots.ensures.marked

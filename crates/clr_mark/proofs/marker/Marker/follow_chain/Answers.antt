@@ -14,7 +14,8 @@ only_reference-requires-clause-run c =
 
 pub loop-link-init : goal.loop-link-init
 loop-link-init c = chain_starts c.args.types.now c.args.heap.now c.args.self.now c.args.obj
-    (with_target [] c.only_reference.result) c.requires.marked c.only_reference.ensures.only c.only_reference.ensures.all
+    (with_target [] c.only_reference.result) c.requires.marked c.only_reference.ensures.only
+    c.only_reference.ensures.all
 
 pub mark_link-link-requires : goal.mark_link-link-requires
 mark_link-link-requires c =

@@ -61,8 +61,8 @@ fn kind_behind(types: &Types, found: Item, mt: u64, known: ObjectKind) -> Object
 }
 
 impl Heap {
-    /// The item that starts at `a` in segment `k`, as `item` tells it, where `mt` is its method table word. Where it is
-    /// of the kind that is known, no table is waited for. Its kind becomes known where it is an object without a length;
+    /// The item that starts at `a` in segment `k`, as `item` tells it; `mt` is its method table word. Where it is of
+    /// the kind that is known, no table is waited for. Its kind becomes known where it is an object without a length;
     /// else what is known stays. That is for speed alone, so the clauses say only that what is known is so.
     #[inline(always)]
     pub fn item_like_word(

@@ -3,24 +3,23 @@ use Rattle.std.proofs.Common.{◌≡◌, ◌≢◌, ◌⊎◌, inl, inr, ℕ, �
 use Rattle.std.proofs.Common.{◌∷◌, ◌++◌, refl, ap, sym, ◌∙◌, subst, arith, length, if◌then◌else◌, nat_eq}
 use Rattle.std.proofs.lemmas.Bool.{cases_eq, eq-eqb, eqb-false, ne_eqb}
 use Rattle.clr_types.specs.Descriptors.{offsets_from}
-use Rattle.clr_types.specs.Rising.{first, IsIn}
+use Rattle.clr_types.specs.Rising.{IsIn}
 use Rattle.clr_types.specs.Types.{TypeRow}
 use Rattle.clr_types.specs.declared.descriptors.ReferenceRun.{ReferenceRun}
 use Rattle.clr_types.proofs.RisingLists.{in_cons}
 use Rattle.clr_heap.specs.Memories.{HasWord, memory_index}
 use Rattle.clr_heap.specs.Parts.{unmarked}
-use Rattle.clr_heap.specs.View.{HeapView, IsHeap, stored, word_of}
-use Rattle.clr_heap.proofs.Rewrite.{shaped_heap}
+use Rattle.clr_heap.specs.View.{HeapView, stored, word_of}
 use Rattle.clr_model.specs.Reach.{follows, SlotNames, starts}
-use Rattle.clr_view.specs.View.{IsHeld, objects_in}
+use Rattle.clr_view.specs.View.{objects_in}
 use Rattle.clr_view.specs.Marks.{has_mark, Marked}
 use Rattle.clr_mark.specs.Marks.{is_condemned_place, IsClosed, IsRemarked, LeadsTo, with_mark}
-use Rattle.clr_mark.specs.Markings.{HasGrayed, HasMet, IsHandled, IsMet, references_at, unmarked_count, with_target}
+use Rattle.clr_mark.specs.Markings.{HasGrayed, HasMet, IsMet, references_at, unmarked_count, with_target}
 use Rattle.clr_mark.specs.Waiting.{IsFollowed, MarkerView, with_waiting}
 use Rattle.clr_mark.proofs.Counting.{unmarked_lt}
 use Rattle.clr_mark.proofs.Gathering.{gathering_ends, gathering_next, gathering_starts, IsGathering}
 use Rattle.clr_mark.proofs.Graying.{followed_on, has_marked-refl, leads_back, leads_on, new_mark}
-use Rattle.clr_mark.proofs.Held.{keeps_held, remarked-refl}
+use Rattle.clr_mark.proofs.Held.{remarked-refl}
 use Rattle.clr_mark.proofs.Laws.{after_gray, AfterGray, grayed-more, grayed-refl}
 use Rattle.clr_mark.proofs.Meeting.{closed_on, grayed_from_met, met-trans}
 use Rattle.clr_mark.proofs.RunReferences.{can_follow_run}

@@ -12,10 +12,9 @@ use Rattle.clr_heap.specs.declared.kinds.ObjectKind.{ObjectKind}
 use Rattle.clr_heap.proofs.Spelling.{place-item_at}
 use Rattle.clr_view.specs.Marks.{has_mark}
 use Rattle.clr_view.specs.View.{is_object}
-use Rattle.clr_sweep.specs.Passes.{filled, item_tally, plus, settled, stepped, stepped_heap}
+use Rattle.clr_sweep.specs.Passes.{item_tally, plus, settled, stepped, stepped_heap}
 use Rattle.clr_sweep.specs.SweptItems.{is_cut, stays}
 use Rattle.clr_sweep.specs.declared.pass.Pass.{Pass}
-use Rattle.clr_sweep.specs.declared.tally.Tally.{Tally}
 
 module _ (rows : List TypeRow) (h : HeapView) (pass : Pass) (kind : ObjectKind) (mt : ℕ)
     (sure : IsObjectKind rows kind) (word : mt ≡ word_of h pass.place) (same : unmarked mt ≡ kind.mt)

@@ -1,6 +1,6 @@
 -- The words that an entry saves at its end.
-use Rattle.std.proofs.Common.{◌≡◌, ℕ, ◌+◌, ◌<◌, ◌≤◌, List, length, get_or, refl, ap, sym, ◌∙◌, subst, arith, Option, Some}
-use Rattle.std.proofs.Common.{None}
+use Rattle.std.proofs.Common.{◌≡◌, ℕ, ◌+◌, ◌<◌, ◌≤◌, List, length, get_or, refl, ap, sym, ◌∙◌, subst, arith, Option}
+use Rattle.std.proofs.Common.{None, Some}
 use Rattle.std.specs.Prelude.{IfSome, IsSome}
 use Rattle.std.proofs.lemmas.Bool.{eq-eqb, ne_eqb}
 use Rattle.clr_pinq.specs.Queue.{AreInOrder, AreRising, AreSavedFrom, entry_word, first_of_two, option_word, queue_word}

@@ -50,8 +50,8 @@ pub record IsPinnedFrom (table : FinMap nat_cmp Handle) (low n place : ℕ) : Ty
   pub high : low ≤ place
 
 -- `HasPins` of the handles with numbers from n on
-pub record HasPinsFrom (rows : List TypeRow) (old new : HeapView) (table : FinMap nat_cmp Handle) (low n : ℕ) (on : Bool)
-    : Type 0 where
+pub record HasPinsFrom (rows : List TypeRow) (old new : HeapView) (table : FinMap nat_cmp Handle) (low n : ℕ)
+    (on : Bool) : Type 0 where
   pub shape : SameShape old new
   pub objects : objects_in rows new ≡ objects_in rows old
   pub items : heap_items rows new ≡ heap_items rows old

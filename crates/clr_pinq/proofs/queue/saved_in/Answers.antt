@@ -1,4 +1,5 @@
-use Rattle.std.proofs.Common.{◌≡◌, ◌<◌, length, ap, refl, sym, ◌∙◌, subst, arith, Option, Some, None, ℕ, false, true≢false}
+use Rattle.std.proofs.Common.{◌≡◌, ◌<◌, length, ap, refl, sym, ◌∙◌, subst, arith, Option, Some, None, ℕ, false}
+use Rattle.std.proofs.Common.{true≢false}
 use Rattle.std.specs.Prelude.{IsSome, is_some}
 use Rattle.clr_pinq.specs.Queue.{entry_word}
 use Rattle.clr_pinq.specs.declared.entry.PinEntry.{PinEntry}

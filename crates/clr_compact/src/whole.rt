@@ -1,10 +1,10 @@
 // One plug goes where it goes, with the words that were saved at its end.
-ghost use Rattle.std.specs.Prelude.{◌≡◌, ℕ, ◌+◌, ◌-◌, ◌%◌, ◌<◌, ◌≤◌, ◌^◌, ◌⊎◌};
+ghost use Rattle.std.specs.Prelude.{◌≡◌, ℕ, ◌+◌, ◌-◌, ◌%◌, ◌<◌, ◌≤◌, ◌^◌, ◌⊎◌, IfNone, IfSome};
 ghost use Rattle.clr_heap.specs.View.{IsHeap, SameShape, word_of};
-ghost use Rattle.clr_pinq.specs.Queue.{logical};
+ghost use Rattle.clr_pinq.specs.Queue.{IsPlain, logical};
 ghost use Rattle.clr_plugs.specs.Info.{HasInfo};
 ghost use Rattle.clr_compact.specs.Slides.{CanLand};
-ghost use Rattle.clr_compact.specs.Landings.{EndsUnderInfo, HasLandedWhole};
+ghost use Rattle.clr_compact.specs.Landings.{EndsUnderInfo, HasLandedWhole, three_before};
 
 use crate::sliding::slide_plug;
 use clr_heap::Heap;
@@ -32,26 +32,40 @@ pub(crate) fn land_plug(
 {
     let end = plug.start() + plug.size();
     let near = pins.near(near, end - 32);
-    if pins.next_saved(near, end - 32) < end - 8 {
-        let saved = words_before(heap, pins, near, end);
-        slide_plug(heap, top, plug);
-        put_before(heap, plug.to() + plug.size(), saved);
-    } else {
-        slide_plug(heap, top, plug);
+    match saved_before(heap, pins, near, end) {
+        Some(saved) => {
+            slide_plug(heap, top, plug);
+            put_before(heap, plug.to() + plug.size(), saved);
+        }
+        None => slide_plug(heap, top, plug),
     }
     near
+}
+
+// The three words that end 8 bytes before a place, as they were saved: `None` where none of them was. Most often they
+// are those at the end of the guessed entry.
+#[inline]
+fn saved_before(heap: &Heap, pins: &PinQueue, near: usize, place: u64) -> Option<Saved>
+    requires heap { IsHeap heap.now }
+    requires info { HasInfo heap.now place }
+    ensures some { IfSome result (λ saved. saved ≡ three_before pins.now.entries (word_of heap.now) place) }
+    ensures none { IfNone result (IsPlain pins.now.entries (place - 32) (place - 8)) }
+{
+    let saved = pins.saved_from(near, place - 32);
+    if saved.is_some() {
+        return saved;
+    }
+    if pins.next_saved(near, place - 32) < place - 8 {
+        return Some(words_before(heap, pins, near, place));
+    }
+    None
 }
 
 // The three words that end 8 bytes before a place, as they were saved.
 pub(crate) fn words_before(heap: &Heap, pins: &PinQueue, near: usize, place: u64) -> Saved
     requires heap { IsHeap heap.now }
     requires info { HasInfo heap.now place }
-    ensures { result ≡ record {
-      at = place - 32;
-      w0 = logical pins.now.entries (word_of heap.now) (place - 32);
-      w1 = logical pins.now.entries (word_of heap.now) (place - 24);
-      w2 = logical pins.now.entries (word_of heap.now) (place - 16);
-    } }
+    ensures { result ≡ three_before pins.now.entries (word_of heap.now) place }
 {
     Saved {
         at: place - 32,

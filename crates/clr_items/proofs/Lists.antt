@@ -1,13 +1,14 @@
 -- Pieces by rising place: where one is put in, what is left of one that is taken from, and tests of such lists.
 use Rattle.std.proofs.Common.{◌≡◌, ◌≢◌, inl, inr, ℕ, zero, suc, ◌+◌, ◌-◌, ◌<◌, ◌≤◌, true, false, Bool, List, [], ◌∷◌}
 use Rattle.std.proofs.Common.{◌++◌, length, get_or, set, refl, ap, sym, ◌∙◌, subst, arith, filter, nat_le, ◌==◌}
-use Rattle.std.proofs.Common.{if◌then◌else◌}
+use Rattle.std.proofs.Common.{if◌then◌else◌, nat_lt}
 use Rattle.std.proofs.Common.{Option, Some, None, Result, Ok, Err, true≢false}
 use Rattle.std.specs.Prelude.{is_some, OnSome}
 use Rattle.std.specs.Result.{is_ok, OnOk}
 use Rattle.std.specs.List.{AllByRecursion, insert, remove}
-use Rattle.std.proofs.lemmas.Bool.{cases_lt, eq-eqb, le-leb, le-ltb, lt-leb, lt-ltb, ne_eqb, leb-true}
+use Rattle.std.proofs.lemmas.Bool.{cases_lt, eq-eqb, le-leb, le-ltb, lt-leb, lt-ltb, ltb-true, ne_eqb, leb-true}
 use Rattle.std.proofs.lemmas.List.Concat.{flat_map-cons}
+use Rattle.std.proofs.lemmas.List.Sums.{prefix_len_passes}
 use Rattle.clr_types.specs.Rising.{IsIn, IsRisingBy, insert_by}
 use Rattle.clr_types.specs.Ranges.{Piece, piece_end, range_piece}
 use Rattle.clr_types.proofs.ChangedLists.{all_imply, IsSortedBy}
@@ -46,6 +47,16 @@ counted (p ∷ ps) (suc k) at d rise l low =
     above [] j all l = absurd (omega arith)
     above (q ∷ qs) zero all l = all.0
     above (q ∷ qs) (suc j) all l = above qs j all.1 (omega arith)
+
+-- and none is where one stands that isn't below it
+pub not_counted : (ps : List Piece) (k at : ℕ) (d : Piece) → at ≤ (get_or ps k d).place → lower_count at ps ≤ k
+not_counted ps k at d high = elim (cases_lt k (lower_count at ps)) [
+  | inl wrong ↦
+      let passes = ltb-true (get_or ps k d).place at (prefix_len_passes (λ (p : Piece). nat_lt p.place at) ps k d wrong)
+      in
+      absurd (omega (arith, high, passes))
+  | inr right ↦ right
+]
 
 -- a piece is put in after those below it
 pub put_in : (ps : List Piece) (x : Piece) → insert ps (lower_count x.place ps) x ≡ insert_by place x ps

@@ -8,6 +8,9 @@ ghost use Rattle.clr_items.specs.Items.{lower_count};
 use clr_types::Span;
 use std::collections::VecDeque;
 
+// How many items at the front are searched first.
+const FRONT: usize = 128;
+
 /// Whether a size fits in a range of `bytes`: it fills it, or leaves at least 24 bytes.
 pub fn fits_in(size: u64, bytes: u64) -> bool
     requires { size < 2 ^ 62 }
@@ -47,7 +50,7 @@ fn count_below(items: &VecDeque<Span>, place: u64) -> usize
     ensures { result ≡ lower_count place items.now.items }
 {
     let mut low = 0;
-    let mut high = items.len();
+    let mut high = most_below(items, place);
     while low < high {
         let middle = low + (high - low) / 2;
         if items[middle].place() < place {
@@ -57,6 +60,23 @@ fn count_below(items: &VecDeque<Span>, place: u64) -> usize
         }
     }
     low
+}
+
+// A bound of that number: `FRONT` where item `FRONT` doesn't stand below the place. Items are taken near the front most
+// often, and a search among the first ones is short.
+fn most_below(items: &VecDeque<Span>, place: u64) -> usize
+    requires { IsRisingBy (λ p. p.place) items.now.items }
+    ensures count { lower_count place items.now.items ≤ result }
+    ensures within { result ≤ length items.now.items }
+{
+    let count = items.len();
+    if count <= FRONT {
+        return count;
+    }
+    if items[FRONT].place() < place {
+        return count;
+    }
+    FRONT
 }
 
 /// Puts an item in before those that do not stand below it: `false` where there is no memory for it.

@@ -9,7 +9,7 @@ use Rattle.clr_pinq.specs.declared.entry.PinEntry.{PinEntry}
 use Rattle.clr_pinq.specs.declared.entry.Saved.{Saved}
 
 -- nothing is saved for an address that is none of the three
-saved_none : (s : Saved) (a : ℕ) → a ≢ s.at → a ≢ s.at + 8 → a ≢ s.at + 16 → saved_word s a ≡ None
+pub saved_none : (s : Saved) (a : ℕ) → a ≢ s.at → a ≢ s.at + 8 → a ≢ s.at + 16 → saved_word s a ≡ None
 saved_none s a n0 n1 n2 = rw (ne_eqb a s.at n0, ne_eqb a (s.at + 8) n1, ne_eqb a (s.at + 16) n2) refl
 
 option_low : (low high : ℕ) (o : Option Saved) (a : ℕ) → AllLie low high o → high ≤ a + 8 → option_word o a ≡ None

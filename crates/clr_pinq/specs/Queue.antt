@@ -45,6 +45,13 @@ logical entries word a = or_else (queue_word entries a) (word a)
 abbrev pub IsPlain : List PinEntry → ℕ → ℕ → Type 0
 IsPlain entries low high = (a : ℕ) → low ≤ a → a < high → queue_word entries a ≡ None
 
+-- the words that are saved from an address on are these three
+pub record AreSavedFrom (entries : List PinEntry) (a : ℕ) (s : Saved) : Type 0 where
+  pub at : s.at ≡ a
+  pub first : queue_word entries a ≡ Some s.w0
+  pub second : queue_word entries (a + 8) ≡ Some s.w1
+  pub third : queue_word entries (a + 16) ≡ Some s.w2
+
 -- ---- writing
 
 abbrev pub saved_with : Saved → ℕ → ℕ → Saved

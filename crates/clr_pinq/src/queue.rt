@@ -1,13 +1,13 @@
 // The queue of saved words.
-ghost use Rattle.std.specs.Prelude.{false, true};
+ghost use Rattle.std.specs.Prelude.{false, IfSome, Some, true};
 ghost use Rattle.std.specs.Prelude.{◌≡◌, ◌≢◌, ℕ, ◌+◌, ◌-◌, ◌%◌, ◌<◌, ◌≤◌, ◌^◌, ◌⊎◌, ◌↔◌, ◌==◌, if◌then◌else◌, IsTrue};
 ghost use Rattle.std.specs.Prelude.{[], ◌∷◌, ◌++◌, length, get_or, set, map, None, IsSome, IfOk, OnOk, OnErr, is_some};
 ghost use Rattle.std.specs.Prelude.{nat_le};
 ghost use Rattle.std.specs.Prelude.{vec_len, vec_capacity};
 ghost use Rattle.clr_heap.specs.Memories.{HasWord, memory_index};
 ghost use Rattle.clr_heap.specs.View.{SameShape, stored, word_of};
-ghost use Rattle.clr_pinq.specs.Queue.{AreInOrder, AreRising, ComesAfter, entry_with, entry_word, IsPlain, last_end};
-ghost use Rattle.clr_pinq.specs.Queue.{logical, option_word, or_else, queue_with, queue_word};
+ghost use Rattle.clr_pinq.specs.Queue.{AreInOrder, AreRising, AreSavedFrom, ComesAfter, entry_with, entry_word};
+ghost use Rattle.clr_pinq.specs.Queue.{IsPlain, last_end, logical, option_word, or_else, queue_with, queue_word};
 ghost use Rattle.clr_pinq.specs.Bounds.{AreSavedHeld, CanPutBack, IsBracket, IsPlaceOf};
 
 use crate::NoMemory;
@@ -195,6 +195,18 @@ impl PinQueue {
         u64::MAX
     }
 
+    /// The three words that are saved from the address `a` on, where those at the end of the guessed entry are: `None`
+    /// tells nothing.
+    #[inline]
+    pub fn saved_from(&self, near: usize, a: u64) -> Option<Saved>
+        ensures { IfSome result (λ saved. AreSavedFrom self.now.entries a saved) }
+    {
+        if near < self.entries.len() {
+            return end_from(self.entries[near], a);
+        }
+        None
+    }
+
     /// Takes all entries out, without writing what they save. Their memory is kept for later entries.
     pub fn clear(&mut self)
         ensures entries { self.new.entries ≡ [] }
@@ -322,7 +334,7 @@ fn is_below(entry: PinEntry, a: u64) -> bool
     entry.end <= a || entry.end - a <= 8
 }
 
-// The word that is saved for `a`. Most often the guessed entry saves it.
+// The word that is saved for `a`. Most often the guessed entry saves it, or is the one that would.
 #[inline(always)]
 fn saved_in(entries: &Vec<PinEntry>, near: usize, a: u64) -> Option<u64>
     requires { AreRising 0 entries.now.items }
@@ -333,8 +345,25 @@ fn saved_in(entries: &Vec<PinEntry>, near: usize, a: u64) -> Option<u64>
         if word.is_some() {
             return word;
         }
+        if is_place(entries, near, a) {
+            return None;
+        }
     }
     searched_in(entries, near, a)
+}
+
+// Whether entry `i` is the first that ends above `a + 8`, so that no other one saves a word for `a`.
+#[inline]
+fn is_place(entries: &Vec<PinEntry>, i: usize, a: u64) -> bool
+    requires rising { AreRising 0 entries.now.items }
+    requires within { i < length entries.now.items }
+    ensures { result ≡ true → (d : PinEntry) → queue_word entries.now.items a
+        ≡ entry_word (get_or entries.now.items i d) a }
+{
+    if !are_below(entries, i, a) {
+        return false;
+    }
+    are_above(entries, i, a)
 }
 
 // The same by a search.
@@ -369,6 +398,17 @@ fn write_saved(entries: &mut Vec<PinEntry>, near: usize, a: u64, v: u64) -> bool
         }
     }
     false
+}
+
+// What the entry saves at its end, where that begins at `a`.
+#[inline]
+fn end_from(entry: PinEntry, a: u64) -> Option<Saved>
+    ensures { IfSome result (λ saved. (entry.post ≡ Some saved) × (saved.at ≡ a)) }
+{
+    match entry.post {
+        Some(saved) if saved.at == a => Some(saved),
+        _ => None,
+    }
 }
 
 // The lowest address at or above `a` for which the entry saves a word, and `u64::MAX` where there is none.

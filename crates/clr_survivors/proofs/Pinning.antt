@@ -1,5 +1,5 @@
 -- Pinned handles, one after the other: the bits of their targets' headers.
-use Rattle.std.proofs.Common.{◌≡◌, ◌≢◌, ◌⊎◌, inl, inr, ℕ, ◌+◌, ◌-◌, ◌%◌, ◌<◌, ◌≤◌, Bool, true, false, not, ◌&&◌}
+use Rattle.std.proofs.Common.{◌≡◌, ◌≢◌, ◌↔◌, ◌⊎◌, inl, inr, ℕ, ◌+◌, ◌-◌, ◌%◌, ◌<◌, ◌≤◌, Bool, true, false, not, ◌&&◌}
 use Rattle.std.proofs.Common.{List, None, Option, true≢false, ◌/◌, ◌||◌, if◌then◌else◌, refl, ap, sym, ◌∙◌, subst}
 use Rattle.std.proofs.Common.{arith, Some, nat_le}
 use Rattle.std.proofs.lemmas.Bool.{cases_eq, cases_lt, eq-eqb, eqb-false, eqb-true, le-leb, ne_eqb, leb-true}
@@ -9,15 +9,19 @@ use Rattle.std.specs.Ordering.{nat_cmp}
 use Rattle.clr_types.specs.Kinds.{is_pinned_kind}
 use Rattle.clr_types.specs.Types.{TypeRow}
 use Rattle.clr_types.specs.declared.handle.Handle.{Handle}
+use Rattle.clr_types.specs.declared.handle.Kind.{Kind}
+use Rattle.clr_types.specs.declared.handle.Kind.TheVariants.{Strong, Pinned, Weak, WeakLong, Dependent}
 use Rattle.clr_types.specs.declared.item.Item.{Item}
-use Rattle.clr_handles.specs.Places.{IsNext, NoneNames}
+use Rattle.clr_handles.specs.Places.{IsPrevious, NoneNames}
+use Rattle.clr_handles.specs.Tops.{HasNone}
 use Rattle.clr_heap.specs.Parts.{item_at}
-use Rattle.clr_heap.specs.View.{HeapView, IsHeap, SameShape, stored, word_of}
+use Rattle.clr_heap.specs.View.{heap_items, HeapView, IsHeap, SameShape, stored, word_of}
 use Rattle.clr_heap.proofs.Rewrite.{SameShape-refl, SameShape-stored}
 use Rattle.clr_model.specs.Machine.{Object}
 use Rattle.clr_types.specs.Rising.{IsIn}
 use Rattle.clr_view.specs.SlotValues.{IsObjectAt, StandsAt}
-use Rattle.clr_view.specs.View.{IsHeld}
+use Rattle.clr_view.specs.Marks.{Marked}
+use Rattle.clr_view.specs.View.{AreFreeHeads, IsHeld, layout_in, objects_in}
 use Rattle.clr_view.proofs.Headers.{header-high, header-word}
 use Rattle.clr_view.proofs.ObjectItems.{stands-item}
 use Rattle.clr_view.proofs.Stores.{elsewhere, there-now}
@@ -34,16 +38,42 @@ abbrev or_row : Handle → Option Handle → Handle
 or_row other None = other
 or_row other (Some row) = row
 
+-- a pinned handle with a number from n on has the place, from `low` on, as its target, which isn't null
+pub record IsPinnedFrom (table : FinMap nat_cmp Handle) (low n place : ℕ) : Type 0 where
+  pub number : ℕ
+  pub from : n ≤ number
+  pub row : Handle
+  pub in_use : finmap.get table number ≡ Some row
+  pub pinned : is_pinned_kind row.kind ≡ true
+  pub target : row.target ≡ place
+  pub some : 0 < place
+  pub high : low ≤ place
+
+-- `HasPins` of the handles with numbers from n on
+pub record HasPinsFrom (rows : List TypeRow) (old new : HeapView) (table : FinMap nat_cmp Handle) (low n : ℕ)
+    (on : Bool) : Type 0 where
+  pub shape : SameShape old new
+  pub objects : objects_in rows new ≡ objects_in rows old
+  pub items : heap_items rows new ≡ heap_items rows old
+  pub layout : layout_in rows new ≡ layout_in rows old
+  pub marks : (x : ℕ) → Marked rows new x ↔ Marked rows old x
+  pub free_heads : AreFreeHeads rows old → AreFreeHeads rows new
+  pub words : (b : ℕ) → b % 8 ≡ 0
+      → (IsPinnedFrom table low n (b + 8) × (word_of new b ≡ pinned_header on (word_of old b)))
+      ⊎ ((IsPinnedFrom table low n (b + 8) → ⊥) × (word_of new b ≡ word_of old b))
+  pub held : IsHeld rows new
+
 module _ (rows : List TypeRow) (old : HeapView) (table : FinMap nat_cmp Handle) (low : ℕ) (on : Bool) where
-  pub none_pinned : IsHeld rows old → HasPins rows old old table low 0 on
-  none_pinned held = record {
+  pub none_pinned : IsHeld rows old → ((h : ℕ) (row : Handle) → finmap.get table h ≡ Some row → h < 65536)
+      → HasPinsFrom rows old old table low 65536 on
+  none_pinned held below = record {
     shape = SameShape-refl old;
     objects = refl;
     items = refl;
     layout = refl;
     marks = λ x. (λ m. m, λ m. m);
     free_heads = λ heads. heads;
-    words = λ b z. inr (λ p. let l = p.below in absurd (omega arith), refl);
+    words = λ b z. inr (λ p. let up = p.from in let most = below p.number p.row p.in_use in absurd (omega arith), refl);
     held = held;
   }
 
@@ -74,17 +104,17 @@ module _ (rows : List TypeRow) (old : HeapView) (table : FinMap nat_cmp Handle) 
           ap (λ (b : Bool). if false && not b then header + pinned_bit else if not false && b then header - pinned_bit
           else header) is
 
-  module _ (now : HeapView) (from number : ℕ) (row : Handle) (p : HasPins rows old now table low from on)
-      (next : IsNext table low from number row) where
-    -- what is pinned below the next number: what was, and what this handle pins
-    pinned_more : (place : ℕ) → IsPinnedBelow table low (number + 1) place
-        → IsPinnedBelow table low from place
+  module _ (now : HeapView) (before number : ℕ) (row : Handle) (p : HasPinsFrom rows old now table low before on)
+      (next : IsPrevious table low before number row) where
+    -- what is pinned from this number on: what was, and what this handle pins
+    pinned_more : (place : ℕ) → IsPinnedFrom table low number place
+        → IsPinnedFrom table low before place
         ⊎ ((is_pinned_kind row.kind ≡ true) × (0 < row.target) × (low ≤ row.target) × (place ≡ row.target))
-    pinned_more place q = elim (cases_lt q.number from) [
-      | inl less ↦
+    pinned_more place q = elim (cases_lt q.number before) [
+      | inr not_less ↦
           inl (record {
             number = q.number;
-            below = less;
+            from = not_less;
             row = q.row;
             in_use = q.in_use;
             pinned = q.pinned;
@@ -92,7 +122,7 @@ module _ (rows : List TypeRow) (old : HeapView) (table : FinMap nat_cmp Handle) 
             some = q.some;
             high = q.high;
           })
-      | inr not_less ↦ elim (cases_eq q.number number) [
+      | inl less ↦ elim (cases_eq q.number number) [
         | inl here ↦
             let same : q.row ≡ row = ap (or_row q.row) (sym q.in_use ∙ ap (finmap.get table) here ∙ next.in_use) in
             let target : place ≡ row.target = sym q.target ∙ ap (λ (r : Handle). r.target) same in
@@ -103,21 +133,21 @@ module _ (rows : List TypeRow) (old : HeapView) (table : FinMap nat_cmp Handle) 
               target,
             )
         | inr apart ↦
-            let below = q.below in
-            let none = next.none_before q.number q.row not_less (omega arith) q.in_use in
+            let up = q.from in
+            let none = next.none_between q.number q.row (omega arith) less q.in_use in
             let above : low ≤ q.row.target = subst (λ (n : ℕ). low ≤ n) (sym q.target) q.high in
             absurd (true≢false (sym (ap (λ (b : Bool). b || nat_le low q.row.second) (le-leb low q.row.target above))
             ∙ none))
       ]
     ]
 
-    was_pinned : (place : ℕ) → IsPinnedBelow table low from place → IsPinnedBelow table low (number + 1) place
+    was_pinned : (place : ℕ) → IsPinnedFrom table low before place → IsPinnedFrom table low number place
     was_pinned place q =
-        let below = q.below in
-        let above = next.above in
+        let up = q.from in
+        let below = next.below in
         record {
           number = q.number;
-          below = omega arith;
+          from = omega arith;
           row = q.row;
           in_use = q.in_use;
           pinned = q.pinned;
@@ -127,10 +157,10 @@ module _ (rows : List TypeRow) (old : HeapView) (table : FinMap nat_cmp Handle) 
         }
 
     is_pinned_now : is_pinned_kind row.kind ≡ true → 0 < row.target → low ≤ row.target
-        → IsPinnedBelow table low (number + 1) row.target
+        → IsPinnedFrom table low number row.target
     is_pinned_now kind some above = record {
       number = number;
-      below = omega arith;
+      from = omega arith;
       row = row;
       in_use = next.in_use;
       pinned = kind;
@@ -141,7 +171,7 @@ module _ (rows : List TypeRow) (old : HeapView) (table : FinMap nat_cmp Handle) 
 
     -- a handle that pins nothing
     pub passed_by : ((is_pinned_kind row.kind ≡ true) × (0 < row.target) × (low ≤ row.target) → ⊥)
-        → HasPins rows old now table low (number + 1) on
+        → HasPinsFrom rows old now table low number on
     passed_by none = record {
       shape = p.shape;
       objects = p.objects;
@@ -201,16 +231,16 @@ module _ (rows : List TypeRow) (old : HeapView) (table : FinMap nat_cmp Handle) 
           apart
 
       words_more : (b : ℕ) → b % 8 ≡ 0
-          → (IsPinnedBelow table low (number + 1) (b + 8)
+          → (IsPinnedFrom table low number (b + 8)
           × (word_of (stored now a v) b ≡ pinned_header on (word_of old b)))
-          ⊎ ((IsPinnedBelow table low (number + 1) (b + 8) → ⊥) × (word_of (stored now a v) b ≡ word_of old b))
+          ⊎ ((IsPinnedFrom table low number (b + 8) → ⊥) × (word_of (stored now a v) b ≡ word_of old b))
       words_more b z = elim (cases_eq (b + 8) row.target) [
         | inl here ↦
             let at : b ≡ a = omega arith in
             let set : word_of (stored now a v) b ≡ pinned_header on (word_of now b) =
             ap (word_of (stored now a v)) at ∙ at_header ∙ ap (λ (n : ℕ). pinned_header on (word_of now n)) (sym at) in
             inl (
-              subst (IsPinnedBelow table low (number + 1)) (sym here) (is_pinned_now kind some above),
+              subst (IsPinnedFrom table low number) (sym here) (is_pinned_now kind some above),
               elim (p.words b z) [
                 | inl hit ↦ set ∙ ap (pinned_header on) hit.1 ∙ twice (word_of old b)
                 | inr miss ↦ set ∙ ap (pinned_header on) miss.1
@@ -232,7 +262,7 @@ module _ (rows : List TypeRow) (old : HeapView) (table : FinMap nat_cmp Handle) 
             ]
       ]
 
-      pub pins_more : HasPins rows old (stored now a v) table low (number + 1) on
+      pub pins_more : HasPinsFrom rows old (stored now a v) table low number on
       pins_more = record {
         shape = SameShape-stored old now a v p.shape;
         objects = written.objects ∙ p.objects;
@@ -246,43 +276,65 @@ module _ (rows : List TypeRow) (old : HeapView) (table : FinMap nat_cmp Handle) 
 
 -- what the next handle leaves
 pub pins_next : (rows : List TypeRow) (old : HeapView) (table : FinMap nat_cmp Handle) (low : ℕ) (on : Bool)
-    (now new : HeapView) (from number : ℕ) (row : Handle) → IsHeap now → PinsStand rows old table
-    → HasPins rows old now table low from on → IsNext table low from number row
+    (now new : HeapView) (before number : ℕ) (row : Handle) → IsHeap now → PinsStand rows old table
+    → HasPinsFrom rows old now table low before on → IsPrevious table low before number row
     → MatchBool (pins_from low row)
     (new ≡ stored now (row.target - 8) (pinned_header on (word_of now (row.target - 8)))) (new ≡ now)
-    → HasPins rows old new table low (number + 1) on
-pins_next rows old table low on now new from number row heap stand p next is =
+    → HasPinsFrom rows old new table low number on
+pins_next rows old table low on now new before number row heap stand p next is =
     go (is_pinned_kind row.kind) refl (row.target == 0) refl (nat_le low row.target) refl is
   where
     go : (k : Bool) → is_pinned_kind row.kind ≡ k → (z : Bool) → (row.target == 0) ≡ z
         → (l : Bool) → nat_le low row.target ≡ l
         → MatchBool ((k && not z) && l)
         (new ≡ stored now (row.target - 8) (pinned_header on (word_of now (row.target - 8)))) (new ≡ now)
-        → HasPins rows old new table low (number + 1) on
+        → HasPinsFrom rows old new table low number on
     go true kind true zero l e same =
-        subst (λ h. HasPins rows old h table low (number + 1) on) (sym same)
-        (passed_by rows old table low on now from number row p next
+        subst (λ h. HasPinsFrom rows old h table low number on) (sym same)
+        (passed_by rows old table low on now before number row p next
         (λ both. let some = both.1 in let none = eqb-true row.target 0 zero in omega arith))
     go true kind false some true high set =
         let ne = eqb-false row.target 0 some in
         let above : 0 < row.target = omega arith in
-        subst (λ h. HasPins rows old h table low (number + 1) on) (sym set)
-        (pins_more rows old table low on now from number row p next heap kind above (leb-true low row.target high)
+        subst (λ h. HasPinsFrom rows old h table low number on) (sym set)
+        (pins_more rows old table low on now before number row p next heap kind above (leb-true low row.target high)
         (stand number row next.in_use kind above))
     go true kind false some false under same =
-        subst (λ h. HasPins rows old h table low (number + 1) on) (sym same)
-        (passed_by rows old table low on now from number row p next
+        subst (λ h. HasPinsFrom rows old h table low number on) (sym same)
+        (passed_by rows old table low on now before number row p next
         (λ both. true≢false (sym (le-leb low row.target both.2) ∙ under)))
     go false kind z e l f same =
-        subst (λ h. HasPins rows old h table low (number + 1) on) (sym same)
-        (passed_by rows old table low on now from number row p next
+        subst (λ h. HasPinsFrom rows old h table low number on) (sym same)
+        (passed_by rows old table low on now before number row p next
         (λ both. true≢false (sym both.0 ∙ kind)))
+
+-- where no handle pins anything, all is told from the start
+pub nothing_pinned : (rows : List TypeRow) (old : HeapView) (table : FinMap nat_cmp Handle) (low : ℕ) (on : Bool)
+    → IsHeld rows old → HasNone Pinned table → HasPins rows old old table low 65536 on
+nothing_pinned rows old table low on held none = record {
+  shape = SameShape-refl old;
+  objects = refl;
+  items = refl;
+  layout = refl;
+  marks = λ x. (λ m. m, λ m. m);
+  free_heads = λ heads. heads;
+  words = λ b z. inr (λ q. none q.number q.row q.in_use (pins q.row.kind q.pinned), refl);
+  held = held;
+}
+  where
+    pins : (kind : Kind) → is_pinned_kind kind ≡ true → kind ≡ Pinned
+    pins Pinned e = refl
+    pins Strong e = absurd (true≢false (sym e))
+    pins Weak e = absurd (true≢false (sym e))
+    pins WeakLong e = absurd (true≢false (sym e))
+    pins Dependent e = absurd (true≢false (sym e))
 
 -- when all handles are passed
 pub pins_done : (rows : List TypeRow) (old : HeapView) (table : FinMap nat_cmp Handle) (low : ℕ) (on : Bool)
-    (now : HeapView) (from : ℕ) → from ≤ 65536 → HasPins rows old now table low from on → NoneNames table low from 65536
+    (now : HeapView) (before : ℕ) → ((h : ℕ) (row : Handle) → finmap.get table h ≡ Some row → h < 65536)
+    → HasPinsFrom rows old now table low before on → NoneNames table low 0 before
     → HasPins rows old now table low 65536 on
-pins_done rows old table low on now from most p none = record {
+pins_done rows old table low on now before below p none = record {
   shape = p.shape;
   objects = p.objects;
   items = p.items;
@@ -293,11 +345,10 @@ pins_done rows old table low on now from most p none = record {
   words = λ b z. elim (p.words b z) [
     | inl hit ↦
         let q = hit.0 in
-        let below = q.below in
         inl (
           record {
             number = q.number;
-            below = omega arith;
+            below = below q.number q.row q.in_use;
             row = q.row;
             in_use = q.in_use;
             pinned = q.pinned;
@@ -307,16 +358,16 @@ pins_done rows old table low on now from most p none = record {
           },
           hit.1,
         )
-    | inr miss ↦ inr (λ q. miss.0 (lower (b + 8) q), miss.1)
+    | inr miss ↦ inr (λ q. miss.0 (higher (b + 8) q), miss.1)
   ];
 }
   where
-    lower : (place : ℕ) → IsPinnedBelow table low 65536 place → IsPinnedBelow table low from place
-    lower place q = elim (cases_lt q.number from) [
-      | inl less ↦
+    higher : (place : ℕ) → IsPinnedBelow table low 65536 place → IsPinnedFrom table low before place
+    higher place q = elim (cases_lt q.number before) [
+      | inr up ↦
           record {
             number = q.number;
-            below = less;
+            from = up;
             row = q.row;
             in_use = q.in_use;
             pinned = q.pinned;
@@ -324,8 +375,8 @@ pins_done rows old table low on now from most p none = record {
             some = q.some;
             high = q.high;
           }
-      | inr not_less ↦
-          let off = none q.number q.row not_less q.below q.in_use in
+      | inl less ↦
+          let off = none q.number q.row (omega arith) less q.in_use in
           let above : low ≤ q.row.target = subst (λ (n : ℕ). low ≤ n) (sym q.target) q.high in
           absurd (true≢false (sym (ap (λ (b : Bool). b || nat_le low q.row.second) (le-leb low q.row.target above))
           ∙ off))

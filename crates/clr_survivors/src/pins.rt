@@ -7,9 +7,9 @@ ghost use Rattle.clr_view.specs.SlotValues.{StandsAt};
 ghost use Rattle.clr_view.specs.View.{IsHeld};
 ghost use Rattle.clr_survivors.specs.Pins.{HasPins, pinned_header, pins_from, PinsStand};
 
-use clr_handles::Handles;
+use clr_handles::{Handles, MOST_HANDLES};
 use clr_heap::Heap;
-use clr_types::{Handle, Types, header};
+use clr_types::{Handle, Kind, Types, header};
 
 /// Says in the headers of all targets of pinned handles, as far as they stand at `low` or above it, whether they are
 /// pinned. Null pins nothing. All else stays.
@@ -21,11 +21,17 @@ pub fn set_pins(heap: &mut Heap, types: &Types, handles: &Handles, low: u64, on:
     ensures pins { HasPins types.now heap.old heap.new handles.now low 65536 on }
     ensures below { (h : ℕ) (row : Row) → finmap.get handles.now h ≡ Some row → h < 65536 }
 {
+    handles.lawful();
+    if !handles.has_kind(Kind::Pinned) {
+        return;
+    }
+    // By falling numbers, which most often are falling places: the walks before this and behind it go up, so the caches
+    // hold what it begins with, and then what the next walk begins with.
     let near = heap.ephemeral();
-    let mut from = 0;
-    while let Some((number, handle)) = handles.next_from(from, low) {
+    let mut before = MOST_HANDLES as u64;
+    while let Some((number, handle)) = handles.previous_below(before, low) {
         set_pin_of(heap, types, near, handle, low, on);
-        from = number + 1;
+        before = number;
     }
 }
 

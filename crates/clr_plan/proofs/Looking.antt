@@ -1,5 +1,6 @@
 -- What a look at an item tells, and how the run before it goes on.
-use Rattle.std.proofs.Common.{◌≡◌, ℕ, ◌+◌, ◌-◌, ◌^◌, ◌<◌, ◌≤◌, List, [], ◌∷◌, refl, sym, ap, ap₂, subst, ◌∙◌, arith}
+use Rattle.std.proofs.Common.{◌≡◌, ℕ, ◌+◌, ◌-◌, ◌^◌, ◌<◌, ◌≤◌, List, [], ◌∷◌, refl, sym, ap, ap₂}
+use Rattle.std.proofs.Common.{subst, ◌∙◌, arith}
 use Rattle.std.proofs.Common.{Bool, true, false, not, ◌&&◌, ◌==◌, if◌then◌else◌, Option, Some, None}
 use Rattle.std.specs.Bool.{beq}
 use Rattle.std.proofs.lemmas.Bool.{and_parts, eqb-true, ne_eqb}
@@ -18,7 +19,7 @@ use Rattle.clr_model.specs.Compaction.{Plug, plug_end, plug_of, plugs_of, joined
 use Rattle.clr_sweep.specs.SweptItems.{stays}
 use Rattle.clr_plan.specs.Scans.{CanLook, CanScan, survivor_in, kept_plug, is_alike, plug_alone}
 use Rattle.clr_plan.specs.Scans.{plugs_between}
-use Rattle.clr_plan.specs.Runs.{merged, IsRun, HasRun, HasNext}
+use Rattle.clr_plan.specs.Runs.{merged, IsPassing, IsRun, HasRun, HasNext}
 use Rattle.clr_plan.specs.declared.scan.NextPlug.{NextPlug}
 use Rattle.clr_plan.proofs.Scanning.{it, after, AtItem, at_item, survivors-done, survivors-more, survivors-over}
 use Rattle.clr_plan.proofs.Scanning.{plugs-above}
@@ -240,10 +241,13 @@ module _ (rows : List TypeRow) (h : HeapView) (k e : ℕ) (plug run : Plug) (s :
 
 -- ---- the first plug of a part
 
--- nothing but what doesn't stay was passed
-abbrev pub IsPassing : List TypeRow → HeapView → ℕ → ℕ → ℕ → ℕ → Type 0
-IsPassing rows h k p e place = CanScan rows h k place e × (plugs_between rows h k p e ≡ plugs_between rows h k place e)
-    × (p ≤ place)
+-- one walk behind another
+pub passing-then : (rows : List TypeRow) (h : HeapView) (k p e q place : ℕ) → IsPassing rows h k p e q
+    → IsPassing rows h k q e place → IsPassing rows h k p e place
+passing-then rows h k p e q place s t =
+    let a = s.2 in
+    let b = t.2 in
+    (t.0, s.1 ∙ t.1, omega (arith, a, b))
 
 module _ (rows : List TypeRow) (h : HeapView) (k p e place : ℕ) (s : IsPassing rows h k p e place)
     (below : place < e) where

@@ -35,3 +35,8 @@ pub record HasNext (rows : List TypeRow) (h : HeapView) (k p e : ℕ) (found : N
   pub segment : found.plug.segment ≡ (segment_at h k).base
   pub scan : CanScan rows h k found.next e
   pub above : p < found.next
+
+-- a walk over segment k has come from p to a place, and nothing but what doesn't stay was passed
+abbrev pub IsPassing : List TypeRow → HeapView → ℕ → ℕ → ℕ → ℕ → Type 0
+IsPassing rows h k p e place = CanScan rows h k place e × (plugs_between rows h k p e ≡ plugs_between rows h k place e)
+    × (p ≤ place)

@@ -6,13 +6,13 @@ ghost use Rattle.clr_heap.specs.ObjectKinds.{IsObjectKind};
 ghost use Rattle.clr_heap.specs.View.{segment_at};
 ghost use Rattle.clr_plan.specs.Counts.{HasCounted, IsAtMost, no_counts};
 ghost use Rattle.clr_plan.specs.Scans.{CanScan, plugs_between};
-ghost use Rattle.clr_plan.specs.Runs.{HasNext, HasRun, IsRun};
+ghost use Rattle.clr_plan.specs.Runs.{HasNext, HasRun, IsPassing, IsRun};
 
 use crate::counts::Counts;
 use crate::look::look;
 use crate::plug::Plug;
 use clr_heap::{Heap, ObjectKind};
-use clr_types::Types;
+use clr_types::{Types, mark};
 
 /// What a walk over a part knows of the last kind of object, and how many objects it has met.
 #[derive(Clone, Copy)]
@@ -73,9 +73,37 @@ pub fn next_plug(
             return Some(whole_run(heap, types, k, base, plug, end, walk));
         }
         walk.counts = walk.counts.with_other(seen.is_object);
-        place += seen.size;
+        place = over_dead(heap, k, place + seen.size, end, walk);
     }
     None
+}
+
+// Goes on from `from` over the unmarked objects of the known kind that stand there side by side, and counts them. It
+// answers where they end.
+fn over_dead(heap: &Heap, k: usize, from: u64, end: u64, walk: &mut Walk) -> u64
+    requires scan { (rows : List TypeRow) × CanScan rows heap.now k from end × IsObjectKind rows walk.old.known }
+    requires counted { IsAtMost walk.old.counts from }
+    ensures passed { (rows : List TypeRow) → CanScan rows heap.now k from end → IsObjectKind rows walk.old.known
+        → IsPassing rows heap.now k from end result
+        × HasCounted rows heap.now k end from walk.old.counts result walk.new.counts }
+    ensures known { walk.new.known ≡ walk.old.known }
+{
+    let kind = walk.known;
+    let mut counts = walk.counts;
+    let mut place = from;
+    while place < end {
+        let mt = heap.word_at(k, place);
+        if mark::is_marked(mt) {
+            break;
+        }
+        let Some(size) = kind.size_with(mt) else {
+            break;
+        };
+        counts = counts.with_other(true);
+        place += size;
+    }
+    walk.counts = counts;
+    place
 }
 
 // The run that begins with a plug, as far as it goes.

@@ -1,9 +1,9 @@
 -- Bytes and digits at places of a text.
-use Rattle.std.proofs.Common.{◌≡◌, ◌∙◌, ℕ, ◌+◌, ◌-◌, ◌*◌, ◌/◌, ◌%◌, ◌<◌, ◌≤◌, ◌^◌, List, ◌∷◌, ◌++◌, ap, arith}
+use Rattle.std.proofs.Common.{◌≡◌, ◌∙◌, ℕ, ◌+◌, ◌-◌, ◌*◌, ◌/◌, ◌%◌, ◌<◌, ◌≤◌, ◌^◌, List, [], ◌∷◌, ◌++◌, ap, arith}
 use Rattle.std.proofs.Common.{decimal, drop, get_or, length, length-append, length-drop, refl, sym, Option, Some, None}
 use Rattle.std.proofs.Common.{IfSome, append_assoc, take}
 use Rattle.std.proofs.lemmas.Fmt.{decimal_digit, decimal_step, decimal_nonempty}
-use Rattle.std.proofs.lemmas.List.{drop-drop, drop_more, take-append-drop}
+use Rattle.std.proofs.lemmas.List.{drop-drop, drop_more, take-append-drop, take_rest}
 use Rattle.clr_nums.proofs.DecimalText.{length-decimal-most}
 
 -- ---- bytes
@@ -40,6 +40,13 @@ four_known text at a b c d within first second third fourth =
     ∙ (ap (λ (n : ℕ). n ∷ drop (at + 3) text) third
     ∙ ap (λ (l : List ℕ). c ∷ l) (one_byte text (at + 3) (at + 4) (omega arith) (omega arith)
     ∙ ap (λ (n : ℕ). n ∷ drop (at + 4) text) fourth)))
+
+-- the first four bytes of what is left
+pub first_four : (text bytes : List ℕ) (at : ℕ) → at + 4 ≤ length text
+    → bytes ≡ take 4 (take (length text - at) (drop at text))
+    → bytes ≡ get_or text at 0 ∷ get_or text (at + 1) 0 ∷ get_or text (at + 2) 0 ∷ get_or text (at + 3) 0 ∷ []
+first_four text bytes at within is =
+    is ∙ ap (take 4) (take_rest text at ∙ four_known text at _ _ _ _ within refl refl refl refl)
 
 -- ---- digits
 

@@ -29,7 +29,10 @@ pub fn four_bytes(text: &[u8], at: usize) -> u32
         → result ≡ a + 256 * b + 65536 * c + 16777216 * d
         → drop at text.now ≡ a ∷ b ∷ c ∷ d ∷ drop (at + 4) text.now }
 {
-    u32::from_le_bytes([text[at], text[at + 1], text[at + 2], text[at + 3]])
+    let Some(bytes) = text[at..].first_chunk::<4>() else {
+        unreachable!()
+    };
+    u32::from_le_bytes(*bytes)
 }
 
 /// Whether this byte stands at a place.

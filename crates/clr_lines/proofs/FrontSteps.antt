@@ -51,12 +51,12 @@ near_answered old new text reply read near within done =
 
 -- ---- verbs
 
--- four bytes, by the first three
-pub three_of : (text : List ℕ) (at a b c d : ℕ) → drop at text ≡ a ∷ b ∷ c ∷ d ∷ drop (at + 4) text
+-- what stands behind three bytes
+pub behind_three : (text more : List ℕ) (at a b c : ℕ) → drop at text ≡ a ∷ b ∷ c ∷ more
     → drop at text ≡ a ∷ b ∷ c ∷ drop (at + 3) text
-three_of text at a b c d is =
-    let fourth : drop (at + 3) text ≡ d ∷ drop (at + 4) text = sym (drop-drop 3 at text) ∙ ap (drop 3) is in
-    is ∙ ap (λ (l : List ℕ). a ∷ b ∷ c ∷ l) (sym fourth)
+behind_three text more at a b c is =
+    let left : drop (at + 3) text ≡ more = sym (drop-drop 3 at text) ∙ ap (drop 3) is in
+    is ∙ ap (λ (l : List ℕ). a ∷ b ∷ c ∷ l) (sym left)
 
 -- what a line did whose verb stands at a place
 pub verb_told : (result : Option (ℕ × ℕ)) (old new : Machine) (idle : Type 0) (t : ℕ) (text verb words into : List ℕ)

@@ -1,17 +1,20 @@
 //! The lines that scripts are mostly made of, each done in one pass from its bytes to its reply.
 ghost use Rattle.std.specs.Prelude.{◌≡◌, ◌+◌, ◌^◌, ◌≤◌, ◌∷◌, ◌++◌, codes, drop, length, take, IfSome};
-ghost use Rattle.std.specs.Prelude.{MatchOption};
-ghost use Rattle.clr_model.specs.LineGrammar.{thread_word};
-ghost use Rattle.clr_runtime.specs.Outcomes.{done_outcome, number_outcome, place_outcome};
+ghost use Rattle.std.specs.Prelude.{IsTrue, MatchOption, Some};
+ghost use Rattle.clr_model.specs.LineGrammar.{is_name, thread_word};
+ghost use Rattle.clr_runtime.specs.Births.{IsKnown};
+ghost use Rattle.clr_runtime.specs.Outcomes.{done_outcome, handle_outcome, number_outcome, place_outcome};
 ghost use Rattle.clr_model.specs.Outcomes.{outcome_text, refused};
 ghost use Rattle.clr_lines.specs.Fronts.{IsAnswered, IsDone};
 
 use clr_model::Refusal;
 use clr_runtime::Runtime;
 use clr_script::{
-    LONGEST, copy_at, four_bytes, get_at, null_at, put_at, put_done, put_number, put_place,
-    put_refusal, read_new, set_at, slot_at, thread_at,
+    LONGEST, copy_at, finalizer_at, four_bytes, get_at, handle_at, length_at, local_here, name_at,
+    null_at, put_at, put_done, put_handle, put_number, put_place, put_refusal, read_new, set_at,
+    slot_at, suppress_at, thread_at,
 };
+use clr_types::TypeId;
 
 /// So many bytes of a text hold the line of any of these verbs, but for `new`. Where less are left of it, the general
 /// way reads the line.
@@ -31,6 +34,12 @@ const READ: u32 = 0x6461_6572;
 const COPY: u32 = 0x7970_6f63;
 
 const NULL: u32 = 0x6c6c_756e;
+
+const FINALIZER: u32 = 0x616e_6966;
+
+const SUPPRESS: u32 = 0x7070_7573;
+
+const HANDLE: u32 = 0x646e_6168;
 
 /// How much of a text was a line that was done, with its line feed, and how long its reply is, with its own.
 #[derive(Clone, Copy)]
@@ -81,6 +90,18 @@ fn tell_number(told: Result<u64, Refusal>, into: &mut [u8; 256]) -> usize
 {
     match told {
         Ok(number) => put_number(number, into),
+        Err(refusal) => tell_refusal(refusal, into),
+    }
+}
+
+// Writes what a call tells that makes a handle.
+#[inline(always)]
+fn tell_handle(told: Result<u64, Refusal>, into: &mut [u8; 256]) -> usize
+    ensures fits { result ≤ 256 }
+    ensures text { take result into.new ≡ outcome_text (handle_outcome told) }
+{
+    match told {
+        Ok(h) => put_handle(h, into),
         Err(refusal) => tell_refusal(refusal, into),
     }
 }
@@ -212,9 +233,52 @@ fn answer_null(
     Some((written, end))
 }
 
-// The line `new`. It is none where it is too long.
+// The type that the word at a place names, where it is that of the last object asked for or the one before, its name,
+// and where that ends.
 #[inline(always)]
-fn answer_new(
+fn recent_at<'a>(runtime: &Runtime, text: &'a [u8], at: usize) -> Option<(TypeId, &'a [u8], usize)>
+    requires { at + 10 ≤ length text.now }
+    ensures known { IfSome result (λ p. IsKnown runtime.now.machine.types p.1.now (Some p.0)) }
+    ensures name { IfSome result (λ p. IsTrue (is_name p.1.now)) }
+    ensures read { IfSome result (λ p. drop at text.now ≡ (32 ∷ p.1.now) ++ drop p.2 text.now) }
+    ensures near { IfSome result (λ p. p.2 ≤ at + 9) }
+{
+    let (recent, hint) = runtime.recent()?;
+    if let Some((name, end)) = name_at(text, at, hint) {
+        return Some((recent, name, end));
+    }
+    let (earlier, hint) = runtime.earlier()?;
+    let (name, end) = name_at(text, at, hint)?;
+    Some((earlier, name, end))
+}
+
+// The line `new` of such a type.
+#[inline(always)]
+fn answer_recent(
+    runtime: &mut Runtime,
+    t: u64,
+    text: &[u8],
+    at: usize,
+    into: &mut [u8; 256],
+) -> Option<(usize, usize)>
+    requires { at + 48 ≤ length text.now }
+    ensures fits { IfSome result (λ p. p.0 ≤ 256) }
+    ensures near { IfSome result (λ p. p.1 ≤ at + 48) }
+    ensures done { MatchOption result (runtime.new ≡ runtime.old) (λ p. IsDone runtime.old.machine
+        (thread_word t ++ ((32 ∷ codes "new") ++ 32 ∷ drop at text.now)) (drop p.1 text.now) (take p.0 into.new)
+        runtime.new.machine) }
+{
+    let (local, next) = local_here(text, at)?;
+    let (known, name, next) = recent_at(runtime, text, next)?;
+    let (len, end) = length_at(text, next)?;
+    let told = runtime.new_known(t, local, name, Some(known), len);
+    Some((tell_place(told, into), end))
+}
+
+// The line `new` of any type, whose words stand behind its verb at a place. It is none where it is too long.
+#[cold]
+#[inline(never)]
+fn answer_named(
     runtime: &mut Runtime,
     t: u64,
     text: &[u8],
@@ -228,18 +292,125 @@ fn answer_new(
         (thread_word t ++ ((32 ∷ codes "new") ++ drop at text.now)) (drop p.1 text.now) (take p.0 into.new)
         runtime.new.machine) }
 {
-    let (recent, hint) = runtime.recent();
-    let line = read_new(&text[at..], hint)?;
+    let line = read_new(&text[at..])?;
     let end = text.len() - line.rest.len();
     if end > LONGEST + 1 {
         return None;
     }
-    let known = if line.hinted { recent } else { None };
-    let written = tell_place(
-        runtime.new_known(t, line.local, line.name, known, line.len),
-        into,
-    );
+    let told = runtime.new_object(t, line.local, line.name, line.len);
+    Some((tell_place(told, into), end))
+}
+
+// The line `new`, whose verb stands at a place.
+#[inline(always)]
+fn answer_new(
+    runtime: &mut Runtime,
+    t: u64,
+    text: &[u8],
+    at: usize,
+    into: &mut [u8; 256],
+) -> Option<(usize, usize)>
+    requires low { at ≤ 4 }
+    requires room { 64 ≤ length text.now }
+    requires verb { drop at text.now ≡ codes "new" ++ 32 ∷ drop (at + 4) text.now }
+    ensures fits { IfSome result (λ p. p.0 ≤ 256) }
+    ensures near { IfSome result (λ p. (p.1 ≤ 4097) × (p.1 ≤ length text.now)) }
+    ensures done { MatchOption result (runtime.new ≡ runtime.old) (λ p. IsDone runtime.old.machine
+        (thread_word t ++ 32 ∷ drop at text.now) (drop p.1 text.now) (take p.0 into.new) runtime.new.machine) }
+{
+    if let Some(answered) = answer_recent(runtime, t, text, at + 4, into) {
+        return Some(answered);
+    }
+    let (written, end) = answer_named(runtime, t, text, at + 3, into)?;
     Some((written, end))
+}
+
+// The line `finalizer`, whose words stand behind the first four letters of its verb. So do those of the next two.
+#[inline(always)]
+fn answer_finalizer(
+    runtime: &mut Runtime,
+    t: u64,
+    text: &[u8],
+    at: usize,
+    into: &mut [u8; 256],
+) -> Option<(usize, usize)>
+    requires { at + 48 ≤ length text.now }
+    ensures fits { IfSome result (λ p. p.0 ≤ 256) }
+    ensures near { IfSome result (λ p. p.1 ≤ at + 48) }
+    ensures done { MatchOption result (runtime.new ≡ runtime.old) (λ p. IsDone runtime.old.machine
+        (thread_word t ++ ((32 ∷ codes "fina") ++ drop at text.now)) (drop p.1 text.now) (take p.0 into.new)
+        runtime.new.machine) }
+{
+    let (to, end) = finalizer_at(text, at)?;
+    let written = tell_place(runtime.finalizer(t, to), into);
+    Some((written, end))
+}
+
+// The line `suppress`.
+#[inline(always)]
+fn answer_suppress(
+    runtime: &mut Runtime,
+    t: u64,
+    text: &[u8],
+    at: usize,
+    into: &mut [u8; 256],
+) -> Option<(usize, usize)>
+    requires { at + 48 ≤ length text.now }
+    ensures fits { IfSome result (λ p. p.0 ≤ 256) }
+    ensures near { IfSome result (λ p. p.1 ≤ at + 48) }
+    ensures done { MatchOption result (runtime.new ≡ runtime.old) (λ p. IsDone runtime.old.machine
+        (thread_word t ++ ((32 ∷ codes "supp") ++ drop at text.now)) (drop p.1 text.now) (take p.0 into.new)
+        runtime.new.machine) }
+{
+    let (local, end) = suppress_at(text, at)?;
+    let written = tell_done(runtime.suppress(t, local), into);
+    Some((written, end))
+}
+
+// The line `handle`.
+#[inline(always)]
+fn answer_handle(
+    runtime: &mut Runtime,
+    t: u64,
+    text: &[u8],
+    at: usize,
+    into: &mut [u8; 256],
+) -> Option<(usize, usize)>
+    requires { at + 48 ≤ length text.now }
+    ensures fits { IfSome result (λ p. p.0 ≤ 256) }
+    ensures near { IfSome result (λ p. p.1 ≤ at + 48) }
+    ensures done { MatchOption result (runtime.new ≡ runtime.old) (λ p. IsDone runtime.old.machine
+        (thread_word t ++ ((32 ∷ codes "hand") ++ drop at text.now)) (drop p.1 text.now) (take p.0 into.new)
+        runtime.new.machine) }
+{
+    let (kind, local, second, end) = handle_at(text, at)?;
+    let written = tell_handle(runtime.handle(t, kind, local, second), into);
+    Some((written, end))
+}
+
+// The same of a verb that is rarer.
+#[cold]
+#[inline(never)]
+fn answer_seldom(
+    runtime: &mut Runtime,
+    t: u64,
+    text: &[u8],
+    at: usize,
+    into: &mut [u8; 256],
+) -> Option<(usize, usize)>
+    requires low { at ≤ 4 }
+    requires room { 64 ≤ length text.now }
+    ensures fits { IfSome result (λ p. p.0 ≤ 256) }
+    ensures near { IfSome result (λ p. (p.1 ≤ 4097) × (p.1 ≤ length text.now)) }
+    ensures done { MatchOption result (runtime.new ≡ runtime.old) (λ p. IsDone runtime.old.machine
+        (thread_word t ++ 32 ∷ drop at text.now) (drop p.1 text.now) (take p.0 into.new) runtime.new.machine) }
+{
+    match four_bytes(text, at) {
+        FINALIZER => answer_finalizer(runtime, t, text, at + 4, into),
+        SUPPRESS => answer_suppress(runtime, t, text, at + 4, into),
+        HANDLE => answer_handle(runtime, t, text, at + 4, into),
+        _ => None,
+    }
 }
 
 // The line of thread `t` whose verb stands at a place.
@@ -262,11 +433,14 @@ fn answer_verb(
         GET => answer_get(runtime, t, text, at + 4, into),
         SET => answer_set(runtime, t, text, at + 4, into),
         PUT => answer_put(runtime, t, text, at + 4, into),
-        NEW => answer_new(runtime, t, text, at + 3, into),
+        NEW => answer_new(runtime, t, text, at, into),
         READ => answer_read(runtime, t, text, at + 4, into),
         COPY => answer_copy(runtime, t, text, at + 4, into),
         NULL => answer_null(runtime, t, text, at + 4, into),
-        _ => None,
+        _ => {
+            let (written, end) = answer_seldom(runtime, t, text, at, into)?;
+            Some((written, end))
+        }
     }
 }
 

@@ -1,7 +1,9 @@
+use clr_handles::Kind;
 use clr_model::{Collected, Refusal, Reply, Where};
 use clr_script::{
-    NewLine, put_refusal, put_reply, read_copy, read_get, read_line, read_new, read_null, read_put,
-    read_quick, read_set, read_slot, take_thread,
+    NewLine, copy_at, finalizer_at, get_at, handle_at, length_at, name_at, null_at, put_at,
+    put_refusal, put_reply, read_line, read_new, read_quick, set_at, slot_at, suppress_at,
+    take_thread, thread_at,
 };
 use std::test::Fail;
 
@@ -224,77 +226,103 @@ fn reads_collections_and_handles_quickly(rt: HostRuntime) -> Result<(), Fail> {
     Ok(())
 }
 
+// A text that begins so, and has enough bytes for any reader at a place.
+fn padded(front: &[u8]) -> [u8; 96] {
+    let mut text = [b'x'; 96];
+    for (to, from) in text.iter_mut().zip(front) {
+        *to = *from;
+    }
+    text
+}
+
 #[test]
-fn reads_frequent_lines_from_the_front(rt: HostRuntime) {
+fn reads_frequent_lines_at_a_place(rt: HostRuntime) {
     assert!(rt; matches!(take_thread(b"t16 x"), Some((16, [b'x']))));
+    assert!(rt; matches!(thread_at(b"t16 x"), Some((16, 4))));
     assert!(rt;
         matches!(
-            read_get(b" l63 l10 1000000000000000000\nx"),
-            Some((63, 10, 1_000_000_000_000_000_000, [b'x']))
+            get_at(&padded(b"l63 l10 1000000000000000000\n"), 0),
+            Some((63, 10, 1_000_000_000_000_000_000, 28))
         )
     );
-    assert!(rt; matches!(read_set(b" l2 3 l4\nx"), Some((2, 3, 4, [b'x']))));
+    assert!(rt; matches!(set_at(&padded(b"l2 3 l4\n"), 0), Some((2, 3, 4, 8))));
     assert!(rt;
         matches!(
-            read_put(b" l2 0 9999999999999999999\n"),
-            Some((2, 0, 9_999_999_999_999_999_999, []))
+            put_at(&padded(b"l2 0 9999999999999999999\n"), 0),
+            Some((2, 0, 9_999_999_999_999_999_999, 25))
         )
     );
-    assert!(rt; matches!(read_slot(b" l2 30\nx"), Some((2, 30, [b'x']))));
-    assert!(rt; matches!(read_copy(b" l2 l3\n"), Some((2, 3, []))));
-    assert!(rt; matches!(read_null(b" l20\nx"), Some((20, [b'x']))));
-    assert!(rt; read_null(b" l20").is_none());
-    assert!(rt; read_null(b" l20 \n").is_none());
-    assert!(rt; read_copy(b" l02 l3\n").is_none());
+    assert!(rt; matches!(slot_at(&padded(b" l2 30\n"), 0), Some((2, 30, 7))));
+    assert!(rt; matches!(copy_at(&padded(b" l2 l3\n"), 0), Some((2, 3, 7))));
+    assert!(rt; matches!(null_at(&padded(b" l20\n"), 0), Some((20, 5))));
+    assert!(rt; null_at(&padded(b" l20"), 0).is_none());
+    assert!(rt; null_at(&padded(b" l20 \n"), 0).is_none());
+    assert!(rt; copy_at(&padded(b" l02 l3\n"), 0).is_none());
+}
+
+#[test]
+fn reads_handles_at_a_place(rt: HostRuntime) {
+    assert!(rt; matches!(finalizer_at(&padded(b"lizer l61\n"), 0), Some((61, 10))));
+    assert!(rt; finalizer_at(&padded(b"lizzr l61\n"), 0).is_none());
+    assert!(rt; matches!(suppress_at(&padded(b"ress l3\n"), 0), Some((3, 8))));
+    assert!(rt;
+        matches!(
+            handle_at(&padded(b"le weak l5\n"), 0),
+            Some((Kind::Weak, 5, None, 11))
+        )
+    );
+    assert!(rt;
+        matches!(
+            handle_at(&padded(b"le weaklong l5\n"), 0),
+            Some((Kind::WeakLong, 5, None, 15))
+        )
+    );
+    assert!(rt;
+        matches!(
+            handle_at(&padded(b"le dependent l27 l33\n"), 0),
+            Some((Kind::Dependent, 27, Some(33), 21))
+        )
+    );
+    assert!(rt; handle_at(&padded(b"le dependent l27\n"), 0).is_none());
+    assert!(rt; handle_at(&padded(b"le strong l1 l2\n"), 0).is_none());
+}
+
+#[test]
+fn reads_births_at_a_place(rt: HostRuntime) {
+    assert!(rt;
+        matches!(
+            name_at(&padded(b" Node\n"), 0, b"Node"),
+            Some(([b'N', b'o', b'd', b'e'], 5))
+        )
+    );
+    assert!(rt; name_at(&padded(b" Nodes\n"), 0, b"Node").is_none());
+    assert!(rt; name_at(&padded(b" N\n"), 0, b"M").is_none());
+    assert!(rt; matches!(length_at(&padded(b" 40\n"), 0), Some((Some(40), 4))));
+    assert!(rt; matches!(length_at(&padded(b"\n"), 0), Some((None, 1))));
+    assert!(rt; length_at(&padded(b" 04\n"), 0).is_none());
 }
 
 #[test]
 fn reads_births_from_the_front(rt: HostRuntime) {
     assert!(rt;
         matches!(
-            read_new(b" l12 _9 40\nx", b"N"),
+            read_new(b" l12 _9 40\nx"),
             Some(NewLine {
                 local: 12,
                 name: [b'_', b'9'],
                 len: Some(40),
-                hinted: false,
                 rest: [b'x']
             })
         )
     );
     assert!(rt;
         matches!(
-            read_new(b" l12 N\nx", b"N"),
+            read_new(b" l12 N\nx"),
             Some(NewLine {
                 local: 12,
                 name: [b'N'],
                 len: None,
-                hinted: true,
                 rest: [b'x']
-            })
-        )
-    );
-    assert!(rt;
-        matches!(
-            read_new(b" l12 N\nx", b"M"),
-            Some(NewLine {
-                local: 12,
-                name: [b'N'],
-                len: None,
-                hinted: false,
-                rest: [b'x']
-            })
-        )
-    );
-    assert!(rt;
-        matches!(
-            read_new(b" l1 Nodes 4\n", b"Node"),
-            Some(NewLine {
-                local: 1,
-                name: [b'N', b'o', b'd', b'e', b's'],
-                len: Some(4),
-                hinted: false,
-                rest: []
             })
         )
     );

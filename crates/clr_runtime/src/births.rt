@@ -103,7 +103,7 @@ impl Runtime {
             Ok(request) => request,
             Err(refusal) => return Err(refusal),
         };
-        self.recent = request.type_id;
+        remember(&mut self.recent, &mut self.earlier, request.type_id);
         let owed = self.parts.safe.births_owed();
         let Ok(()) = reserve_entry(&mut self.parts.roots.finals, owed, request.finalizer) else {
             return Err(Refusal::NoMemory);
@@ -113,6 +113,15 @@ impl Runtime {
             return make_small(&mut self.parts, t, local, request);
         }
         make_large(&mut self.parts, t, local, request)
+    }
+}
+
+// Keeps the type as the one that was asked for last, and that before it, where it is another.
+#[inline(always)]
+fn remember(recent: &mut TypeId, earlier: &mut TypeId, t: TypeId) {
+    if t.0 != recent.0 {
+        *earlier = *recent;
+        *recent = t;
     }
 }
 
@@ -241,6 +250,7 @@ pub(crate) fn measure(
 }
 
 // Makes room for an entry beside those that are owed to objects that threads have begun, where one is wanted.
+#[inline(always)]
 pub(crate) fn reserve_entry(finals: &mut Finals, owed: usize, wanted: bool) -> Result<(), NoMemory>
     requires few { owed ≤ 16 }
     ensures ok { OnOk result (wanted ≡ true → owed + 1 ≤ finals.new.spare) }

@@ -1,5 +1,5 @@
 //! What the lines of a script work on: types, heap, locals, handles, and the finalisation queue.
-ghost use Rattle.std.specs.Prelude.{◌≡◌, ◌≤◌, ◌/◌, ◌⊎◌, ℕ, IfOk, length, true};
+ghost use Rattle.std.specs.Prelude.{◌≡◌, ◌≤◌, ◌/◌, ◌⊎◌, ℕ, IfOk, IfSome, Some, length, true};
 ghost use Rattle.clr_types.specs.Types.{form_of};
 ghost use Rattle.clr_runtime.specs.Options.{options_of};
 ghost use Rattle.clr_runtime.specs.Outcomes.{refusal_of_fault};
@@ -41,8 +41,10 @@ pub(crate) const LOCALS_OF_A_THREAD: u64 = 64;
 #[derive(Drop)]
 pub struct Runtime {
     pub(crate) parts: Parts,
-    /// The type of which an object was asked for last. It is a guess at the next one, and no clause speaks of it.
+    /// The type of which an object was asked for last, and the other one before it. They are guesses at the next one,
+    /// and no clause speaks of them.
     pub(crate) recent: TypeId,
+    pub(crate) earlier: TypeId,
 }
 
 impl Model for Runtime {
@@ -132,6 +134,7 @@ impl Runtime {
         Ok(Runtime {
             parts,
             recent: TypeId(0),
+            earlier: TypeId(0),
         })
     }
 
@@ -150,19 +153,35 @@ impl Runtime {
         }
     }
 
-    /// The type of which an object was asked for last, which the next line often names, too, and its name. Where there
-    /// was none, the name is that of unused space.
+    /// The type of which an object was asked for last, which the next line often names, too, and its name.
     #[inline(always)]
-    pub fn recent(&self) -> (Option<TypeId>, &[u8])
-        ensures name { is_name result.1.now ≡ true }
-        ensures known { IsKnown self.now.machine.types result.1.now result.0 }
+    pub fn recent(&self) -> Option<(TypeId, &[u8])>
+        ensures name { IfSome result (λ p. is_name p.1.now ≡ true) }
+        ensures known { IfSome result (λ p. IsKnown self.now.machine.types p.1.now (Some p.0)) }
+    {
+        self.with_name(self.recent)
+    }
+
+    /// The other one of which an object was asked for before.
+    #[inline(always)]
+    pub fn earlier(&self) -> Option<(TypeId, &[u8])>
+        ensures name { IfSome result (λ p. is_name p.1.now ≡ true) }
+        ensures known { IfSome result (λ p. IsKnown self.now.machine.types p.1.now (Some p.0)) }
+    {
+        self.with_name(self.earlier)
+    }
+
+    // A type that a script defined, and its name.
+    #[inline(always)]
+    fn with_name(&self, t: TypeId) -> Option<(TypeId, &[u8])>
+        ensures name { IfSome result (λ p. is_name p.1.now ≡ true) }
+        ensures known { IfSome result (λ p. IsKnown self.now.machine.types p.1.now (Some p.0)) }
     {
         let types = &self.parts.types;
-        let recent = self.recent;
-        if recent.0 != 0 && recent.0 < types.count() {
-            (Some(recent), types.name(recent))
+        if t.0 != 0 && t.0 < types.count() {
+            Some((t, types.name(t)))
         } else {
-            (None, types.name(TypeId(0)))
+            None
         }
     }
 

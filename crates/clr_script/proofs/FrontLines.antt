@@ -1,16 +1,18 @@
 -- Lines in front of a text, put together of what was read of them.
 use Rattle.std.proofs.Common.{◌≡◌, ◌≢◌, ◌∙◌, ℕ, ◌+◌, ◌%◌, ◌==◌, Bool, true, not, List, [], ◌∷◌, ◌++◌, refl, sym}
-use Rattle.std.proofs.Common.{ap, subst, arith, append_assoc, Option, Some, None, IfSome, decimal}
+use Rattle.std.proofs.Common.{ap, subst, arith, append_assoc, Option, Some, None, IfSome, codes, decimal}
 use Rattle.std.specs.Prelude.{IsTrue}
 use Rattle.std.specs.List.{AllByRecursion, list_all}
 use Rattle.std.proofs.lemmas.Bool.{and_parts}
 use Rattle.std.proofs.lemmas.Fmt.{decimal_by_steps}
 use Rattle.clr_types.proofs.ListMembers.{both_all}
-use Rattle.clr_model.specs.Instructions.{Instruction}
+use Rattle.clr_types.specs.declared.handle.Kind.{Kind}
+use Rattle.clr_types.specs.declared.handle.Kind.TheVariants.{Strong, Pinned, Weak, WeakLong, Dependent}
+use Rattle.clr_model.specs.Instructions.{Instruction, new_object}
 use Rattle.clr_model.specs.LineGrammar.{is_name, is_name_byte, is_name_start, number_words, thread_word, local_word}
-use Rattle.clr_model.specs.LineGrammar.{spelling, words_of, IsWellFormed, IsWord}
-use Rattle.clr_model.specs.ReplyText.{spaced}
-use Rattle.clr_script.specs.Fronts.{behind, Continues, IsUnfed}
+use Rattle.clr_model.specs.LineGrammar.{local_words, spelling, words_of, IsWellFormed, IsWord}
+use Rattle.clr_model.specs.ReplyText.{kind_word, spaced}
+use Rattle.clr_script.specs.Fronts.{behind, Continues, IsInFront, IsUnfed}
 use Rattle.clr_script.proofs.SpelledLines.{spaced_behind}
 
 -- ---- words without a line feed
@@ -55,6 +57,19 @@ pub length_unfed : (len : Option ℕ) → IfSome len IsWord → AllByRecursion I
 length_unfed None fits = tt
 length_unfed (Some n) fits = (number_unfed n fits, tt)
 
+-- a kind
+pub kind_unfed : (kind : Kind) → IsUnfed (kind_word kind)
+kind_unfed Strong = text_unfed (codes "strong") refl
+kind_unfed Pinned = text_unfed (codes "pinned") refl
+kind_unfed Weak = text_unfed (codes "weak") refl
+kind_unfed WeakLong = text_unfed (codes "weaklong") refl
+kind_unfed Dependent = text_unfed (codes "dependent") refl
+
+-- a second local
+pub second_unfed : (second : Option ℕ) → IfSome second IsWord → AllByRecursion IsUnfed (local_words second)
+second_unfed None fits = tt
+second_unfed (Some k) fits = (local_unfed k fits, tt)
+
 -- words with a space before each
 behind_unfed : (ws : List (List ℕ)) → AllByRecursion IsUnfed ws → IsUnfed (behind ws)
 behind_unfed [] h = tt
@@ -95,6 +110,27 @@ front_made verb ws instruction text rest are formed unfed is t fits =
       unfed = subst IsUnfed spelled (both_all (λ b. b ≢ 10) (thread_word t) line (thread_unfed t fits)
           (behind_unfed (verb ∷ ws) unfed));
     }
+
+-- and so do the letters of a verb and what stands behind them
+pub letters_told : (front back : List ℕ) (instruction : ℕ → Instruction) (text more rest : List ℕ) → text ≡ back ++ more
+    → Continues (front ++ back) instruction more rest
+    → Continues front instruction text rest
+letters_told front back instruction text more rest is told t fits =
+    subst (λ (l : List ℕ). IsInFront (instruction t) (thread_word t ++ (32 ∷ l)) rest)
+    (append_assoc front back more ∙ ap (λ (l : List ℕ). front ++ l) (sym is)) (told t fits)
+
+-- the line of a birth
+pub new_made : (local : ℕ) (name : List ℕ) (len : Option ℕ) (text named last rest : List ℕ)
+    → text ≡ (32 ∷ local_word local) ++ named → named ≡ (32 ∷ name) ++ last
+    → last ≡ behind (number_words len) ++ (10 ∷ rest) → IsWord local → IsTrue (is_name name) → IfSome len IsWord
+    → Continues (codes "new") (λ t. new_object t local name len) text rest
+new_made local name len text named last rest first second third local-fits spelled len-fits =
+    front_made (codes "new") (local_word local ∷ name ∷ number_words len) (λ t. new_object t local name len) text rest
+    (λ t. refl) (λ t fits. (fits, local-fits, spelled, len-fits)) (
+      text_unfed (codes "new") refl,
+      (local_unfed local local-fits, (name_unfed name spelled, length_unfed len len-fits)),
+    )
+    (_, first, (_, second, behind_goes_on (number_words len) _ _ third))
 
 -- and the text ends with what is behind their line
 pub ends_with : (ws : List (List ℕ)) (rest text : List ℕ) → GoesOn ws (10 ∷ rest) text

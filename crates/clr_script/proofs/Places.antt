@@ -1,9 +1,9 @@
 -- Bytes and digits at places of a text.
-use Rattle.std.proofs.Common.{◌≡◌, ◌∙◌, ℕ, ◌+◌, ◌*◌, ◌/◌, ◌%◌, ◌<◌, ◌≤◌, ◌^◌, List, ◌∷◌, ◌++◌, ap, append_assoc, arith}
+use Rattle.std.proofs.Common.{◌≡◌, ◌∙◌, ℕ, ◌+◌, ◌-◌, ◌*◌, ◌/◌, ◌%◌, ◌<◌, ◌≤◌, ◌^◌, List, [], ◌∷◌, ◌++◌, ap, arith}
 use Rattle.std.proofs.Common.{decimal, drop, get_or, length, length-append, length-drop, refl, sym, Option, Some, None}
-use Rattle.std.proofs.Common.{IfSome}
+use Rattle.std.proofs.Common.{IfSome, append_assoc, take}
 use Rattle.std.proofs.lemmas.Fmt.{decimal_digit, decimal_step, decimal_nonempty}
-use Rattle.std.proofs.lemmas.List.{drop_more}
+use Rattle.std.proofs.lemmas.List.{drop-drop, drop_more, take-append-drop, take_rest}
 use Rattle.clr_nums.proofs.DecimalText.{length-decimal-most}
 
 -- ---- bytes
@@ -41,6 +41,13 @@ four_known text at a b c d within first second third fourth =
     ∙ ap (λ (l : List ℕ). c ∷ l) (one_byte text (at + 3) (at + 4) (omega arith) (omega arith)
     ∙ ap (λ (n : ℕ). n ∷ drop (at + 4) text) fourth)))
 
+-- the first four bytes of what is left
+pub first_four : (text bytes : List ℕ) (at : ℕ) → at + 4 ≤ length text
+    → bytes ≡ take 4 (take (length text - at) (drop at text))
+    → bytes ≡ get_or text at 0 ∷ get_or text (at + 1) 0 ∷ get_or text (at + 2) 0 ∷ get_or text (at + 3) 0 ∷ []
+first_four text bytes at within is =
+    is ∙ ap (take 4) (take_rest text at ∙ four_known text at _ _ _ _ within refl refl refl refl)
+
 -- ---- digits
 
 -- a digit alone
@@ -71,6 +78,21 @@ number_near text front number from at small fits low within is =
     omega (arith, one, two, behind, left, some, most, same)
 
 -- ---- words
+
+-- what stands between two places
+pub slice_here : (text : List ℕ) (at end : ℕ) → at ≤ end
+    → drop at text ≡ take (end - at) (drop at text) ++ drop end text
+slice_here text at end up =
+    let back : at + (end - at) ≡ end = omega (arith, up) in
+    sym (take-append-drop (end - at) (drop at text))
+    ∙ ap (λ (l : List ℕ). take (end - at) (drop at text) ++ l)
+    (drop-drop (end - at) at text ∙ ap (λ (n : ℕ). drop n text) back)
+
+-- a word that stands there
+pub word_here : (text word : List ℕ) (at end : ℕ) → at ≤ end → take (end - at) (drop at text) ≡ word
+    → drop at text ≡ word ++ drop end text
+word_here text word at end up is =
+    slice_here text at end up ∙ ap (λ (l : List ℕ). l ++ drop end text) is
 
 -- a word of a number, of what stands before it
 pub word_told : (text : List ℕ) (at next : ℕ) (front : List ℕ) (found : Option (ℕ × ℕ))

@@ -15,8 +15,8 @@ mod threads;
 
 pub use made::Made;
 pub use quick::{
-    NewLine, copy_at, four_bytes, get_at, null_at, put_at, read_copy, read_get, read_new,
-    read_null, read_put, read_quick, read_set, read_slot, set_at, slot_at, take_thread, thread_at,
+    NewLine, copy_at, finalizer_at, four_bytes, get_at, handle_at, length_at, local_here, name_at,
+    null_at, put_at, read_new, read_quick, set_at, slot_at, suppress_at, take_thread, thread_at,
 };
 pub use reader::{LONGEST, read_line};
-pub use reply::{put_done, put_number, put_place, put_refusal, put_reply};
+pub use reply::{put_done, put_handle, put_number, put_place, put_refusal, put_reply};

@@ -9,18 +9,18 @@ mod digits;
 mod handles;
 mod lines;
 mod places;
-mod slots;
 
 use crate::cut::strip;
 use crate::reader::LONGEST;
 use births::read_collect;
-pub use births::{NewLine, read_new};
+pub use births::{NewLine, length_at, name_at, read_new};
 use clr_model::Command;
 pub use digits::take_thread;
 use handles::{read_create, read_fetch, read_free};
-pub use lines::{copy_at, get_at, null_at, put_at, set_at, slot_at};
-pub use places::{four_bytes, thread_at};
-pub use slots::{read_copy, read_get, read_null, read_put, read_set, read_slot};
+pub use lines::{
+    copy_at, finalizer_at, get_at, handle_at, null_at, put_at, set_at, slot_at, suppress_at,
+};
+pub use places::{four_bytes, local_here, thread_at};
 
 // Whether a text may begin with the verb of such a line, by its first letters.
 #[inline(always)]

@@ -270,6 +270,18 @@ pub fn put_number(number: u64, into: &mut [u8; 256]) -> usize
     append(into, at, b"\n")
 }
 
+/// Writes the number of a handle and a line feed at the front of `into`, and gives their length. The bytes behind them
+/// may be any.
+#[inline(always)]
+pub fn put_handle(h: u64, into: &mut [u8; 256]) -> usize
+    ensures fits { result ≤ 256 }
+    ensures text { take result into.new ≡ reply_text (Reply.HandleNumber h) ++ 10 ∷ [] }
+{
+    let at = append(into, 0, b"h");
+    let at = append_decimal(into, at, h);
+    append(into, at, b"\n")
+}
+
 /// Writes the text of a refusal and a line feed at the front of `into`, and gives their length. The bytes behind them
 /// may be any.
 pub fn put_refusal(refusal: &Refusal, into: &mut [u8; 256]) -> usize

@@ -1,6 +1,7 @@
 //! The lines that make objects, in front of a text, and the whole ones that collect them. Each reader takes the text
 //! behind the verb that its contract names.
-ghost use Rattle.std.specs.Prelude.{◌≡◌, ◌∷◌, ◌++◌, ◌≤◌, ℕ, List, IfSome, IsTrue, codes, position, not};
+ghost use Rattle.std.specs.Prelude.{◌≡◌, ◌∷◌, ◌++◌, ◌≤◌, ◌+◌, ℕ, List, IfSome, IsTrue, codes, drop, length};
+ghost use Rattle.std.specs.Prelude.{position, not};
 ghost use Rattle.std.specs.List.{list_all};
 ghost use Rattle.clr_model.specs.LineGrammar.{is_name, is_name_byte, how_words, number_words, IsHowForm, IsWord};
 ghost use Rattle.clr_model.specs.Instructions.{new_object};
@@ -8,6 +9,7 @@ ghost use Rattle.clr_script.specs.Fronts.{behind, Continues, SpellsBehind};
 
 use crate::fields::{continues_name, starts_name};
 use crate::quick::digits::{end_number, take_local, take_number};
+use crate::quick::places::{feed_at, is_at, number_at};
 use clr_model::{Command, How};
 
 // Where the first byte stands that may not stand in a name.
@@ -62,51 +64,58 @@ fn is_same(text: &[u8], other: &[u8]) -> bool
         && text.last_chunk::<4>() == other.last_chunk::<4>()
 }
 
-// Whether a word ends in front of a text.
+/// The name that is the word at a place, where it is the hint, and where it ends.
 #[inline(always)]
-fn is_word_end(text: &[u8]) -> bool {
-    matches!(text, [b'\n' | b' ', ..])
-}
-
-// The hint, where that is the word in front, and what is behind it.
-#[inline(always)]
-fn cut_hint<'a>(text: &'a [u8], hint: &[u8]) -> Option<(&'a [u8], &'a [u8])>
-    ensures { IfSome result (λ p. (text.now ≡ p.0.now ++ p.1.now) × (p.0.now ≡ hint.now)) }
+pub fn name_at<'a>(text: &'a [u8], at: usize, hint: &[u8]) -> Option<(&'a [u8], usize)>
+    requires { at + 10 ≤ length text.now }
+    ensures cut { IfSome result (λ p. drop at text.now ≡ (32 ∷ p.0.now) ++ drop p.1 text.now) }
+    ensures same { IfSome result (λ p. p.0.now ≡ hint.now) }
+    ensures near { IfSome result (λ p. p.1 ≤ at + 9) }
 {
-    if text.len() <= hint.len() {
+    if hint.len() > 8 {
         return None;
     }
-    let (name, rest) = text.split_at(hint.len());
-    if is_same(name, hint) && is_word_end(rest) {
-        Some((name, rest))
+    if !is_at(text, at, b' ') {
+        return None;
+    }
+    let end = at + 1 + hint.len();
+    let name = &text[at + 1..end];
+    if is_same(name, hint) && ends_word(text[end]) {
+        Some((name, end))
     } else {
         None
     }
 }
 
-// The name in front, whether it was found to be the hint, and what is behind it.
+// Whether a word ends before this byte.
 #[inline(always)]
-fn front_name_near<'a>(text: &'a [u8], hint: &[u8]) -> Option<(&'a [u8], bool, &'a [u8])>
-    requires { IsTrue (is_name hint.now) }
-    ensures cut { IfSome result (λ p. (text.now ≡ p.0.now ++ p.2.now) × IsTrue (is_name p.0.now)) }
-    ensures hinted { IfSome result (λ p. IsTrue p.1 → p.0.now ≡ hint.now) }
-{
-    if let Some((name, rest)) = cut_hint(text, hint) {
-        return Some((name, true, rest));
-    }
-    let (name, rest) = front_name(text)?;
-    Some((name, false, rest))
+fn ends_word(b: u8) -> bool {
+    b == b'\n' || b == b' '
 }
 
-// The name that is the next word, whether it was found to be the hint, and what is behind it.
+/// The length that is the last word of a line at a place, or nothing, and where what is behind the line feed begins.
 #[inline(always)]
-fn take_name<'a>(text: &'a [u8], hint: &[u8]) -> Option<(&'a [u8], bool, &'a [u8])>
-    requires { IsTrue (is_name hint.now) }
-    ensures cut { IfSome result (λ p. (text.now ≡ (32 ∷ p.0.now) ++ p.2.now) × IsTrue (is_name p.0.now)) }
-    ensures hinted { IfSome result (λ p. IsTrue p.1 → p.0.now ≡ hint.now) }
+pub fn length_at(text: &[u8], at: usize) -> Option<(Option<u64>, usize)>
+    requires { at + 23 ≤ length text.now }
+    ensures read { IfSome result (λ p. (drop at text.now ≡ behind (number_words p.0) ++ 10 ∷ drop p.1 text.now)
+        × IfSome p.0 IsWord) }
+    ensures near { IfSome result (λ p. p.1 ≤ at + 22) }
+{
+    if is_at(text, at, b'\n') {
+        return Some((None, at + 1));
+    }
+    let (len, next) = number_at(text, at)?;
+    let end = feed_at(text, next)?;
+    Some((Some(len), end))
+}
+
+// The name that is the next word, and what is behind it.
+#[inline(always)]
+fn take_name(text: &[u8]) -> Option<(&[u8], &[u8])>
+    ensures { IfSome result (λ p. (text.now ≡ (32 ∷ p.0.now) ++ p.1.now) × IsTrue (is_name p.0.now)) }
 {
     match text {
-        [b' ', word @ ..] => front_name_near(word, hint),
+        [b' ', word @ ..] => front_name(word),
         _ => None,
     }
 }
@@ -132,29 +141,23 @@ pub struct NewLine<'a> {
     pub name: &'a [u8],
     /// How many elements it has, where the line tells.
     pub len: Option<u64>,
-    /// Whether the name was found to be the hint, which costs less than to read another.
-    pub hinted: bool,
     /// What is behind the line's feed.
     pub rest: &'a [u8],
 }
 
 /// For which local, of which type and how long an object is made, and what is behind that line.
-#[inline(always)]
-pub fn read_new<'a>(text: &'a [u8], hint: &[u8]) -> Option<NewLine<'a>>
-    requires { IsTrue (is_name hint.now) }
+pub fn read_new<'a>(text: &'a [u8]) -> Option<NewLine<'a>>
     ensures line { IfSome result (λ l. Continues (codes "new") (λ t. new_object t l.local l.name.now l.len)
         text.now l.rest.now) }
-    ensures hinted { IfSome result (λ l. IsTrue l.hinted → l.name.now ≡ hint.now) }
     ensures ends { IfSome result (λ l. (front : List ℕ) × (text.now ≡ front ++ l.rest.now)) }
 {
     let (local, rest) = take_local(text)?;
-    let (name, hinted, rest) = take_name(rest, hint)?;
+    let (name, rest) = take_name(rest)?;
     let (len, rest) = end_length(rest)?;
     Some(NewLine {
         local,
         name,
         len,
-        hinted,
         rest,
     })
 }

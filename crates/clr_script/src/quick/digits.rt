@@ -174,14 +174,3 @@ pub fn end_number(text: &[u8]) -> Option<(u64, &[u8])>
         _ => None,
     }
 }
-
-/// The local that is the last word of a line, and what is behind its line feed.
-#[inline(always)]
-pub fn end_local(text: &[u8]) -> Option<(u64, &[u8])>
-    ensures { IfSome result (λ p. (text.now ≡ (32 ∷ 108 ∷ decimal p.0) ++ 10 ∷ p.1.now) × (p.0 < 2 ^ 64)) }
-{
-    match text {
-        [b' ', b'l', first, rest @ ..] => ended_number(*first, rest),
-        _ => None,
-    }
-}

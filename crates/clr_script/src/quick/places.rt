@@ -3,6 +3,8 @@
 ghost use Rattle.std.specs.Prelude.{◌≡◌, ◌<◌, ◌≤◌, ◌+◌, ◌*◌, ◌^◌, ◌∷◌, ◌++◌, ℕ, IfSome, IsTrue, decimal, drop, length};
 ghost use Rattle.clr_model.specs.LineGrammar.{thread_word};
 
+use crate::cut::is_word;
+
 /// Below this number one digit more fits 64 bits.
 const ROOM: u64 = 1_000_000_000_000_000_000;
 
@@ -27,12 +29,15 @@ pub fn four_bytes(text: &[u8], at: usize) -> u32
         → result ≡ a + 256 * b + 65536 * c + 16777216 * d
         → drop at text.now ≡ a ∷ b ∷ c ∷ d ∷ drop (at + 4) text.now }
 {
-    u32::from_le_bytes([text[at], text[at + 1], text[at + 2], text[at + 3]])
+    let Some(bytes) = text[at..].first_chunk::<4>() else {
+        unreachable!()
+    };
+    u32::from_le_bytes(*bytes)
 }
 
-// Whether this byte stands at a place.
+/// Whether this byte stands at a place.
 #[inline(always)]
-fn is_at(text: &[u8], at: usize, byte: u8) -> bool
+pub fn is_at(text: &[u8], at: usize, byte: u8) -> bool
     requires { at < length text.now }
     ensures { IsTrue result → drop at text.now ≡ byte ∷ drop (at + 1) text.now }
 {
@@ -181,6 +186,21 @@ pub fn feed_at(text: &[u8], at: usize) -> Option<usize>
 {
     if is_at(text, at, b'\n') {
         Some(at + 1)
+    } else {
+        None
+    }
+}
+
+/// Where a text ends that stands at a place.
+#[inline(always)]
+pub fn text_at(text: &[u8], at: usize, word: &[u8]) -> Option<usize>
+    requires { at + length word.now ≤ length text.now }
+    ensures read { IfSome result (λ end. drop at text.now ≡ word.now ++ drop end text.now) }
+    ensures near { IfSome result (λ end. end ≡ at + length word.now) }
+{
+    let end = at + word.len();
+    if is_word(&text[at..end], word) {
+        Some(end)
     } else {
         None
     }

@@ -1,6 +1,6 @@
 -- The four bytes of a verb stand before its words.
 use Rattle.std.proofs.Common.{◌≡◌, ◌+◌, ◌∷◌, arith, codes, drop}
-use Rattle.clr_lines.proofs.FrontSteps.{three_of, verb_told}
+use Rattle.clr_lines.proofs.FrontSteps.{verb_told}
 use Rattle.clr_lines.proofs.front.answer_verb.Goals as goal
 
 pub returns-in-544499047-clause-done : goal.returns-in-544499047-clause-done
@@ -36,17 +36,10 @@ returns-in-544503152-clause-done c =
     (omega (arith, is)))
     called.ensures.done
 
-pub returns-in-544695662-clause-done : goal.returns-in-544695662-clause-done
-returns-in-544695662-clause-done c =
+pub answer_new-requires-clause-verb : goal.answer_new-requires-clause-verb
+answer_new-requires-clause-verb c =
     let is = c.in-544695662.is in
-    let called = c.answer_new in
-    verb_told called.result c.args.runtime.now.machine called.new.runtime.machine
-    (called.new.runtime ≡ c.args.runtime.now) c.args.t c.args.text.now (codes "new")
-    (drop (c.args.at + 3) c.args.text.now) called.new.into c.args.at
-    (three_of c.args.text.now c.args.at 110 101 119 32
-    (c.four_bytes.ensures 110 101 119 32 (omega arith) (omega arith) (omega arith) (omega arith)
-    (omega (arith, is))))
-    called.ensures.done
+    c.four_bytes.ensures 110 101 119 32 (omega arith) (omega arith) (omega arith) (omega arith) (omega (arith, is))
 
 pub returns-in-1684104562-clause-done : goal.returns-in-1684104562-clause-done
 returns-in-1684104562-clause-done c =

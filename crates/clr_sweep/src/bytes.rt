@@ -94,8 +94,8 @@ fn is_small(kind: SegKind) -> bool
     }
 }
 
-// Adds the bytes of the marked objects of the part of segment `k` from `from` on. Where other parts have at most `ahead`
-// bytes, it stops as soon as it is settled whether all marked objects together have fewer than `need`.
+// Adds the bytes of the marked objects of the part of segment `k` from `from` on. Where other parts have at most
+// `ahead` bytes, it stops as soon as it is settled whether all marked objects together have fewer than `need`.
 fn part_bytes(
     heap: &Heap,
     types: &Types,

@@ -16,14 +16,14 @@ use Rattle.clr_model.specs.Machine.{Object, Machine}
 use Rattle.clr_model.specs.Reach.{Old, Roots}
 use Rattle.clr_model.proofs.LawfulSurvivors.{generation-least}
 use Rattle.clr_view.specs.View.{IsHeld, is_object, layout_in, object_in, objects_in}
-use Rattle.clr_view.proofs.ObjectItems.{stands-head}
-use Rattle.clr_view.proofs.Standing.{stands_from}
+use Rattle.clr_view.proofs.Standing.{mt_in, stands_from}
 use Rattle.clr_bgmark.specs.Bits.{has_bit}
 use Rattle.clr_bgmark.specs.Pauses.{all_taken, AreShadesOf, is_oldest, taken_item}
 use Rattle.clr_bgmark.specs.Scanning.{is_gray_place, is_white_place, marking_in, places_where}
 use Rattle.clr_bgmark.specs.Shades.{cell_of, changed_at, is_covered, is_marked, is_scanned, is_taken, ShadeView}
 use Rattle.clr_bgmark.specs.Shades.{with_taken}
-use Rattle.clr_bgmark.proofs.FirstColours.{IsInFirstPause, take_item, word_covered}
+use Rattle.clr_bgmark.proofs.FirstColours.{IsInFirstPause, take_item}
+use Rattle.clr_bgmark.proofs.FirstTaken.{cell_covered}
 use Rattle.clr_bgmark.proofs.Kept.{in_cell, or_true, taken_more, told_kept}
 use Rattle.clr_bgmark.proofs.Meeting.{HasMet, parts_white, white_parts}
 use Rattle.clr_bgmark.proofs.ScannedLists.{marking_apart, named_stands, names, none_passes, own_cell, stands_aligned}
@@ -87,16 +87,9 @@ module _ (h : HeapView) (items : List Item) (bare : List ShadeView) where
 
 module _ (rows : List TypeRow) (h : HeapView) (heap : IsHeap h) (held : IsHeld rows h) (bare : List ShadeView)
     (shapes : AreShadesOf h bare) where
-  object_of : (a b : Bool) → (not a && b) ≡ true → not a ≡ true
-  object_of true b e = absurd cc
-  object_of false b e = refl
-
   -- the segments cover the place of each that is to be taken
   pub items_covered : (i : Item) → IsIn i (heap_items rows h) → is_oldest h i ≡ true → is_covered bare i.place ≡ true
-  items_covered i k old =
-      let o = object_of (nat_eq i.type_id.0 0) (generation (frame h) i.place == 2) old in
-      word_covered h.memories bare i.place (heap.memories ∙ sym shapes)
-      (stands-head rows h heap held i.place (stands_from rows h i k o)).mt.inside
+  items_covered i k old = cell_covered rows h heap held bare shapes i k i.place (mt_in rows h heap held i k)
 
   module _ (ss now : List ShadeView) (f : IsInFirstPause h (heap_items rows h) bare ss)
       (unmarked : (b : ℕ) → is_marked ss b ≡ false)

@@ -1,9 +1,8 @@
 -- What the bits say all through a first pause: only cells of objects of generation 2 are taken or marked, and nothing
 -- is scanned or logged.
-use Rattle.std.proofs.Common.{◌≡◌, ℕ, zero, suc, ◌+◌, ◌/◌, List, [], ◌∷◌, length, get_or, ap, arith, refl, sym, subst}
+use Rattle.std.proofs.Common.{◌≡◌, ℕ, zero, suc, ◌+◌, ◌/◌, List, [], ◌∷◌, get_or, ap, arith, refl, sym, subst}
 use Rattle.std.proofs.Common.{◌∙◌, ◌⊎◌, inl, inr}
-use Rattle.std.proofs.Common.{Bool, true, false, ◌<◌, ◌%◌, ◌==◌, nat_le, nat_lt, drop, map, if◌then◌else◌, ◌||◌, ◌&&◌}
-use Rattle.std.proofs.Common.{not, nat_eq, Option, Some, None}
+use Rattle.std.proofs.Common.{Bool, true, false, ◌%◌, ◌==◌, if◌then◌else◌, ◌||◌, ◌&&◌, not, nat_eq, Option, Some, None}
 use Rattle.std.proofs.lemmas.Bool.{both_ways, eqb-true}
 use Rattle.std.specs.List.{AllByRecursion}
 use Rattle.std.specs.FinMap as finmap
@@ -14,15 +13,16 @@ use Rattle.clr_types.specs.declared.handle.Handle.{Handle}
 use Rattle.clr_types.specs.declared.item.Item.{Item}
 use Rattle.clr_types.specs.Segments.{generation}
 use Rattle.clr_types.specs.Types.{TypeRow}
-use Rattle.clr_mem.specs.Words.{Memory, end_of}
-use Rattle.clr_heap.specs.Memories.{contains, memory_index, shapes}
-use Rattle.clr_heap.specs.View.{frame, heap_items, HeapView, IsHeap}
+use Rattle.clr_heap.specs.Parts.{item_at}
+use Rattle.clr_heap.specs.View.{frame, heap_items, HeapView, IsHeap, word_of}
 use Rattle.clr_mark.specs.Marks.{IsClosed}
-use Rattle.clr_view.specs.SlotValues.{StandsAt}
+use Rattle.clr_mark.proofs.References.{reference_in}
+use Rattle.clr_view.specs.SlotValues.{IsObjectAt, StandsAt}
 use Rattle.clr_view.specs.View.{IsHeld, is_object}
+use Rattle.clr_view.proofs.ObjectItems.{stands-item}
 use Rattle.clr_view.proofs.Standing.{stands_from}
 use Rattle.clr_view.proofs.Unmarked.{stands-aligned}
-use Rattle.clr_bgmark.proofs.FollowedSlots.{slot_has}
+use Rattle.clr_bgmark.proofs.FirstTaken.{cell_covered}
 use Rattle.clr_bgmark.specs.Scanning.{AreObjects, HaveWholeObjects}
 use Rattle.clr_bgmark.specs.Bits.{has_bit}
 use Rattle.clr_bgmark.specs.Pauses.{all_taken, AreShadesOf, IsBare, is_oldest, root_grayed, roots_grayed, taken_item}
@@ -215,26 +215,6 @@ targets_running handles zero v = refl
 targets_running handles (suc n) v =
     target_running (finmap.get handles n) (targets_grayed handles n v) ∙ targets_running handles n v
 
--- ---- the heap's words
-
--- the segments have the memories' addresses
-pub word_covered : (ms : List Memory) (ss : List ShadeView) (a : ℕ)
-    → shapes ms ≡ map (λ (s : ShadeView). (s.base, s.size)) ss → memory_index ms a < length ms → is_covered ss a ≡ true
-word_covered [] ss a e l = absurd (omega (arith, l))
-word_covered (m ∷ ms) [] a e l = absurd cc
-word_covered (m ∷ ms) (s ∷ ss) a e l =
-    let base : m.base ≡ s.base = ap (λ (l : List (ℕ × ℕ)). (get_or l 0 (0, 0)).0) e in
-    let end : end_of m ≡ s.base + s.size = (λ i. base i + (get_or (e i) 0 (0, 0)).1) in
-    let same : contains m a ≡ covers s a = (λ i. nat_le (base i) a && nat_lt a (end i)) in
-    go (contains m a) same l (word_covered ms ss a (ap (drop 1) e))
-  where
-    go : (c : Bool) → c ≡ covers s a → (if c then 0 else suc (memory_index ms a)) < suc (length ms)
-        → (memory_index ms a < length ms → is_covered ss a ≡ true)
-        → (if covers s a then true else is_covered ss a) ≡ true
-    go true f l more = (λ i. if (sym f) i then true else is_covered ss a)
-    go false f l more =
-        (λ i. if (sym f) i then true else is_covered ss a) ∙ more (omega (arith, l))
-
 -- ---- what the bits of the first pause are for
 
 module _ (rows : List TypeRow) (h : HeapView) (heap : IsHeap h) (held : IsHeld rows h) (bare now : List ShadeView)
@@ -265,9 +245,11 @@ module _ (rows : List TypeRow) (h : HeapView) (heap : IsHeap h) (held : IsHeld r
 
   pub first_whole : IsClosed rows h → AreShadesOf h bare → HaveWholeObjects rows h now
   first_whole closed shapes x offset (aligned, bit) listed =
+      let i = item_at rows (word_of h) x in
+      let is : IsObjectAt rows h x i = stands-item rows h heap held x (stands bit) in
       f.covered (x + offset)
-      ∙ word_covered h.memories bare (x + offset) (heap.memories ∙ sym shapes)
-      (slot_has rows h heap held x (stands bit) offset listed).inside
+      ∙ cell_covered rows h heap held bare shapes i is.listed (x + offset)
+      (reference_in rows h heap held x i is.listed is.at offset listed)
     where
       stands : (is_taken now x ≡ true) ⊎ (is_marked now x ≡ true) → StandsAt rows h x
       stands (inl t) = first_objects.taken x aligned t

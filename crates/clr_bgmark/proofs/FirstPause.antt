@@ -6,15 +6,16 @@ use Rattle.std.proofs.lemmas.Bool.{both_ways, cases_lt, le-leb}
 use Rattle.std.specs.List.{AllByRecursion}
 use Rattle.std.specs.FinMap as finmap
 use Rattle.std.specs.Ordering.{nat_cmp}
-use Rattle.clr_types.specs.LawfulLayout.{AreDisjoint}
+use Rattle.clr_types.specs.LawfulLayout.{AreDisjoint, IsLawfulSegment}
+use Rattle.clr_types.specs.Segments.{reserved_end}
 use Rattle.clr_types.specs.Types.{TypeRow}
 use Rattle.clr_types.specs.declared.handle.Handle.{Handle}
 use Rattle.clr_types.specs.declared.item.Item.{Item}
 use Rattle.clr_types.specs.declared.segment.SegInfo.{SegInfo}
 use Rattle.clr_handles.specs.Places.{names_from, NoneNames}
-use Rattle.clr_heap.specs.View.{HeapView, extents, listing, listings}
+use Rattle.clr_heap.specs.View.{HeapView, listing, listings}
 use Rattle.clr_bgmark.specs.Pauses.{all_taken, is_oldest, root_grayed, roots_grayed, taken_item}
-use Rattle.clr_bgmark.specs.Pauses.{target_grayed, targets_grayed}
+use Rattle.clr_bgmark.specs.Pauses.{target_grayed, targets_grayed, used_of, used_size}
 use Rattle.clr_bgmark.specs.Shades.{AreApart, BackgroundView, changed_at, covers, is_covered, ShadeView, with_taken}
 use Rattle.clr_bgmark.proofs.Kept.{apart_kept, covers_inside}
 
@@ -93,7 +94,7 @@ targets_passed handles v from (suc n) l none = elim (cases_lt n from) [
 
 -- no segment has an address below all of them
 uncovered : (ss : List ShadeView) (segs : List SegInfo) (top a : ℕ)
-    → map (λ (s : ShadeView). (s.base, s.size)) ss ≡ extents segs
+    → map (λ (s : ShadeView). (s.base, s.size)) ss ≡ map used_of segs
     → AllByRecursion (λ (r : SegInfo). top ≤ r.base) segs → a < top → is_covered ss a ≡ false
 uncovered [] segs top a e above low = refl
 uncovered (s ∷ ss) [] top a e above low = absurd cc
@@ -110,16 +111,31 @@ uncovered (s ∷ ss) (g ∷ segs) top a e above low =
         absurd (omega (arith, out, in_it))
     go out rest false f = rest
 
--- segments that lie beside each other share no address
+-- The used part of a segment, in whole pages: all up to the segment's end lies in it, and it is reserved.
+pub record IsUsedPart (g : SegInfo) : Type 0 where
+  pub holds : g.end ≤ g.base + used_size g
+  pub reserved : g.base + used_size g ≤ reserved_end g
+
+pub used_part : (g : SegInfo) → IsLawfulSegment g → IsUsedPart g
+used_part g is =
+    let reserved = is.reserved in
+    let low = is.low in
+    let high = is.high in
+    record { holds = omega (arith, low); reserved = omega (arith, reserved, low, high) }
+
+-- the used parts of segments that lie beside each other share no address
 pub apart_shapes : (ss : List ShadeView) (segs : List SegInfo)
-    → map (λ (s : ShadeView). (s.base, s.size)) ss ≡ extents segs → AreDisjoint segs → AreApart ss
-apart_shapes [] segs e disjoint = tt
-apart_shapes (s ∷ ss) [] e disjoint = absurd cc
-apart_shapes (s ∷ ss) (g ∷ segs) e disjoint =
+    → map (λ (s : ShadeView). (s.base, s.size)) ss ≡ map used_of segs → AllByRecursion IsLawfulSegment segs
+    → AreDisjoint segs → AreApart ss
+apart_shapes [] segs e lawful disjoint = tt
+apart_shapes (s ∷ ss) [] e lawful disjoint = absurd cc
+apart_shapes (s ∷ ss) (g ∷ segs) e lawful disjoint =
     let base : s.base ≡ g.base = ap (λ (l : List (ℕ × ℕ)). (get_or l 0 (0, 0)).0) e in
-    let size : s.size ≡ g.reserved = ap (λ (l : List (ℕ × ℕ)). (get_or l 0 (0, 0)).1) e in (
+    let size : s.size ≡ used_size g = ap (λ (l : List (ℕ × ℕ)). (get_or l 0 (0, 0)).1) e in
+    let reserved = (used_part g lawful.0).reserved in (
       (λ a f.
           let low = (covers_inside s a f).high in
-          uncovered ss segs (g.base + g.reserved) a (ap (drop 1) e) disjoint.0 (omega (arith, base, size, low))),
-      apart_shapes ss segs (ap (drop 1) e) disjoint.1,
+          uncovered ss segs (reserved_end g) a (ap (drop 1) e) disjoint.0
+          (omega (arith, base, size, reserved, low))),
+      apart_shapes ss segs (ap (drop 1) e) lawful.1 disjoint.1,
     )

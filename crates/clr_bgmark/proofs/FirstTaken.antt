@@ -15,17 +15,21 @@ use Rattle.clr_types.proofs.RisingLists.{all_at}
 use Rattle.clr_heap.specs.Memories.{memory_index}
 use Rattle.clr_heap.specs.ObjectKinds.{IsObjectKind, known_size}
 use Rattle.clr_heap.specs.Parts.{item_at}
-use Rattle.clr_heap.specs.View.{AfterItem, AreWalkable, extent_of, first_of, frame, HasItem, HeapView}
+use Rattle.clr_heap.specs.View.{AfterItem, AreWalkable, first_of, frame, HasItem, heap_items, HeapView}
 use Rattle.clr_heap.specs.View.{IsHeap, last_of, listing, segment_at, sight}
 use Rattle.clr_heap.specs.declared.kinds.ObjectKind.{ObjectKind}
 use Rattle.clr_heap.proofs.Addresses.{index_is_segment}
 use Rattle.clr_heap.proofs.ItemHeads.{head-in}
 use Rattle.clr_heap.proofs.Framing.{below_top_at, lawful_at}
+use Rattle.clr_view.specs.View.{IsHeld}
 use Rattle.clr_view.proofs.Items.{IsItem}
 use Rattle.clr_view.proofs.Listings.{listing-are}
+use Rattle.clr_view.proofs.Standing.{InCell, standing}
 use Rattle.clr_bgmark.specs.Pauses.{all_taken, AreShadesOf, IsOldBelow, is_oldest, taken_in, taken_item, taken_one}
-use Rattle.clr_bgmark.specs.Shades.{AreApart, changed_at, covers, IsAt, ShadeView, with_taken}
-use Rattle.clr_bgmark.proofs.GrayPlaces.{apart_at}
+use Rattle.clr_bgmark.specs.Pauses.{used_of}
+use Rattle.clr_bgmark.specs.Shades.{AreApart, changed_at, covers, is_covered, IsAt, ShadeView, with_taken}
+use Rattle.clr_bgmark.proofs.FirstPause.{used_part}
+use Rattle.clr_bgmark.proofs.GrayPlaces.{apart_at, covered_by}
 use Rattle.clr_bgmark.proofs.Kept.{inside_covers}
 
 -- where a segment's bits begin, and of how many bytes they are
@@ -149,29 +153,54 @@ module _ (h : HeapView) (heap : IsHeap h) (ss : List ShadeView) (shapes : AreSha
     (inside : k < length h.segments) where
   pub shade_there : k < length ss
   shade_there =
-      let count = sym (length-map ss shape) ∙ ap length shapes ∙ length-map h.segments extent_of in
+      let count = sym (length-map ss shape) ∙ ap length shapes ∙ length-map h.segments used_of in
       omega (arith, count, inside)
 
-  -- the bits of segment k lie where it does
-  pub shade_shape : (d : ShadeView) → shape (get_or ss k d) ≡ extent_of (segment_at h k)
+  -- the bits of segment k are those of its used part
+  pub shade_shape : (d : ShadeView) → shape (get_or ss k d) ≡ used_of (segment_at h k)
   shade_shape d = sym (get_or-map shape ss k d (0, 0) shade_there)
       ∙ ap (λ ps. get_or ps k (0, 0)) shapes
-      ∙ get_or-map extent_of h.segments k empty_segment (0, 0) inside
+      ∙ get_or-map used_of h.segments k empty_segment (0, 0) inside
+
+  abbrev none : ShadeView
+  none = record { base = 0; size = 0; taken = []; marked = []; scanned = []; logged = [] }
+
+  -- they cover all addresses below its end
+  end_covers : (a : ℕ) → (segment_at h k).base ≤ a → a < last_of h k → covers (get_or ss k none) a ≡ true
+  end_covers a low below =
+      let base = ap (λ (p : ℕ × ℕ). p.0) (shade_shape none) in
+      let size = ap (λ (p : ℕ × ℕ). p.1) (shade_shape none) in
+      let holds = (used_part (segment_at h k) (lawful_at h k heap inside)).holds in
+      inside_covers (get_or ss k none) a
+      (record { low = omega (arith, base, low); high = omega (arith, base, size, holds, below) })
+
+  below_covered : (a : ℕ) → (segment_at h k).base ≤ a → a < last_of h k → is_covered ss a ≡ true
+  below_covered a low below = covered_by ss k a none shade_there (end_covers a low below)
 
   pub items_at : (rows : List TypeRow) → AreWalkable rows h → AreApart ss → (i : Item) → IsIn i (listing rows h k)
       → IsAt ss k i.place
   items_at rows walkable apart i l =
-      let d : ShadeView = record { base = 0; size = 0; taken = []; marked = []; scanned = []; logged = [] } in
       let is : IsItem rows (first_of h k) (last_of h k) i =
       all_at (IsItem rows (first_of h k) (last_of h k)) l (listing-are rows h walkable k inside) in
       let above = is.above in
       let below = is.below in
       let least = is.least in
-      let high = (lawful_at h k heap inside).high in
-      let base = ap (λ (p : ℕ × ℕ). p.0) (shade_shape d) in
-      let size = ap (λ (p : ℕ × ℕ). p.1) (shade_shape d) in
-      apart_at ss k i.place d apart shade_there (inside_covers (get_or ss k d) i.place
-      (record { low = omega (arith, base, above); high = omega (arith, base, size, below, least, high) }))
+      apart_at ss k i.place none apart shade_there
+      (end_covers i.place (omega (arith, above)) (omega (arith, below, least)))
+
+-- ---- the cells of items
+
+-- EACH WORD OF AN ITEM IS COVERED
+pub cell_covered : (rows : List TypeRow) (h : HeapView) → IsHeap h → IsHeld rows h → (ss : List ShadeView)
+    → AreShadesOf h ss → (i : Item) → IsIn i (heap_items rows h) → (a : ℕ) → InCell i a → is_covered ss a ≡ true
+cell_covered rows h heap held ss shapes i listed a cell =
+    let place = standing rows h heap held i listed in
+    let above = place.above in
+    let below = place.below in
+    let low = cell.low in
+    let high = cell.high in
+    below_covered h heap ss shapes place.segment place.in_range a (omega (arith, above, low))
+    (omega (arith, below, high))
 
 -- ---- where generation 2 ends
 
@@ -232,12 +261,12 @@ pub record CanTake (rows : List TypeRow) (h : HeapView) (k place : ℕ) (s : Sha
   pub inside : covers s place ≡ true
 
 pub can_take : (rows : List TypeRow) (h : HeapView) → IsHeap h → (k : ℕ) → k < length h.segments → (place end : ℕ)
-    → (s : ShadeView) → shape s ≡ extent_of (segment_at h k) → first_of h k ≤ place → place < end → end ≡ last_of h k
+    → (s : ShadeView) → shape s ≡ used_of (segment_at h k) → first_of h k ≤ place → place < end → end ≡ last_of h k
     → AfterItem (sight rows h k) h.memories place end → CanTake rows h k place s
 can_take rows h heap k inside place end s is low below last after =
     let base = ap (λ (p : ℕ × ℕ). p.0) is in
     let size = ap (λ (p : ℕ × ℕ). p.1) is in
-    let high = (lawful_at h k heap inside).high in
+    let holds = (used_part (segment_at h k) (lawful_at h k heap inside)).holds in
     let head = head-in rows h k place end heap inside low (omega (arith, last)) after in
     record {
       item = record { names = after.names; mt = after.mt; len = after.len };
@@ -245,5 +274,5 @@ can_take rows h heap k inside place end s is low below last after =
       behind = head.behind;
       room = head.room;
       inside = inside_covers s place
-          (record { low = omega (arith, base, low); high = omega (arith, base, size, below, last, high) });
+          (record { low = omega (arith, base, low); high = omega (arith, base, size, below, last, holds) });
     }

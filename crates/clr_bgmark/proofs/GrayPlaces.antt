@@ -61,7 +61,7 @@ no_gray_at_all (s ∷ ss) a h = go (covers s a) refl (no_gray_at_all ss a h.1)
 
 -- ---- a place that is found
 
-covered_by : (ss : List ShadeView) (k a : ℕ) (d : ShadeView) → k < length ss → covers (get_or ss k d) a ≡ true
+pub covered_by : (ss : List ShadeView) (k a : ℕ) (d : ShadeView) → k < length ss → covers (get_or ss k d) a ≡ true
     → is_covered ss a ≡ true
 covered_by [] k a d l e = absurd (omega arith)
 covered_by (s ∷ ss) zero a d l e = ap (λ b. if b then true else is_covered ss a) e

@@ -1,6 +1,6 @@
 -- The first and the last pause of a background collection.
-use Rattle.std.specs.Prelude.{◌≡◌, ℕ, zero, suc, ◌+◌, ◌/◌, ◌%◌, ◌*◌, ◌<◌, ◌≤◌, ◌⊎◌, ◌&&◌, not, nat_eq, nat_lt, Bool}
-use Rattle.std.specs.Prelude.{true, false, List, [], ◌∷◌, map}
+use Rattle.std.specs.Prelude.{◌≡◌, ℕ, zero, suc, ◌+◌, ◌-◌, ◌/◌, ◌%◌, ◌*◌, ◌<◌, ◌≤◌, ◌⊎◌, ◌&&◌, not, nat_eq, nat_lt}
+use Rattle.std.specs.Prelude.{Bool, true, false, List, [], ◌∷◌, map}
 use Rattle.std.specs.Prelude.{if◌then◌else◌, ◌==◌, get_or, Option, Some, None}
 use Rattle.std.specs.FinMap as finmap
 use Rattle.std.specs.Ordering.{nat_cmp}
@@ -9,7 +9,8 @@ use Rattle.clr_types.specs.Segments.{generation}
 use Rattle.clr_types.specs.Types.{TypeRow}
 use Rattle.clr_types.specs.declared.handle.Handle.{Handle}
 use Rattle.clr_types.specs.declared.item.Item.{Item}
-use Rattle.clr_heap.specs.View.{extents, frame, HeapView}
+use Rattle.clr_types.specs.declared.segment.SegInfo.{SegInfo}
+use Rattle.clr_heap.specs.View.{frame, HeapView}
 use Rattle.clr_model.specs.Background.{IsBegun}
 use Rattle.clr_model.specs.Machine.{Machine}
 use Rattle.clr_view.specs.View.{layout_in, objects_in}
@@ -37,9 +38,17 @@ pub record IsBare (s : ShadeView) : Type 0 where
   pub scanned : (n : ℕ) → has_bit s.scanned n ≡ false
   pub logged : (n : ℕ) → has_bit s.logged n ≡ false
 
--- these are the heap's segments
+-- how many bytes of a segment are in use up to its end, in whole pages of 4,096 bytes
+abbrev pub used_size : SegInfo → ℕ
+used_size s = (s.end - s.base + 4095) / 4096 * 4096
+
+-- where a segment begins and how many bytes of it are in use
+abbrev pub used_of : SegInfo → ℕ × ℕ
+used_of s = (s.base, used_size s)
+
+-- these are the bits for the used part of each of the heap's segments
 abbrev pub AreShadesOf : HeapView → List ShadeView → Type 0
-AreShadesOf h ss = map (λ (s : ShadeView). (s.base, s.size)) ss ≡ extents h.segments
+AreShadesOf h ss = map (λ (s : ShadeView). (s.base, s.size)) ss ≡ map used_of h.segments
 
 -- an item that is an object of generation 2
 abbrev pub is_oldest : HeapView → Item → Bool

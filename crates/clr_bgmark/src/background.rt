@@ -148,8 +148,8 @@ impl Background {
     /// The first pause: takes all objects of generation 2. Those that locals, the f-reachable queue or strong and
     /// pinned handles name are gray, and the others white. Nothing is logged.
     ///
-    /// This is the only call that takes memory: bits for all segments. `NoMemory` comes where there is none for them;
-    /// nothing has changed then.
+    /// This is the only call that takes memory: bits for the used part of each segment. `NoMemory` comes where there is
+    /// none for them; nothing has changed then.
     pub fn begin(
         &mut self,
         heap: &Heap,

@@ -4,19 +4,20 @@ ghost use Rattle.std.specs.List.{AllByRecursion};
 ghost use Rattle.clr_heap.specs.ObjectKinds.{IsObjectKind};
 ghost use Rattle.clr_heap.specs.Parts.{item_at};
 ghost use Rattle.clr_heap.specs.Memories.{memory_index};
-ghost use Rattle.clr_heap.specs.View.{AreWalkable, extent_of, first_of, HasItem, heap_items, IsHeap};
+ghost use Rattle.clr_heap.specs.View.{AreWalkable, first_of, HasItem, heap_items, IsHeap};
 ghost use Rattle.clr_heap.specs.View.{last_of, listing, segment_at, word_of};
 ghost use Rattle.clr_view.specs.View.{IsHeld};
-ghost use Rattle.clr_bgmark.specs.Pauses.{all_taken, AreShadesOf, IsBare, IsOldBelow, taken_in, taken_one};
+ghost use Rattle.clr_bgmark.specs.Pauses.{all_taken, AreShadesOf, IsBare, IsOldBelow, taken_in, taken_one, used_of};
+ghost use Rattle.clr_bgmark.specs.Pauses.{used_size};
 ghost use Rattle.clr_bgmark.specs.Shades.{AreApart, covers, IsShade, with_taken};
 
 use crate::NoMemory;
 use crate::shade::{Bit, Shade};
 use clr_heap::{Heap, ObjectKind};
-use clr_types::Types;
+use clr_types::{SegInfo, Types};
 use std::alloc::Global;
 
-/// Bits for all segments of the heap, of which none is set.
+/// Bits for the used part of each segment of the heap, of which none is set.
 pub(crate) fn shades_of(alloc: Global, heap: &Heap) -> Result<Vec<Shade>, NoMemory>
     ensures shades { IfOk result (λ v. AreShadesOf heap.now v.items) }
     ensures lawful { IfOk result (λ v. AllByRecursion IsShade v.items) }
@@ -26,10 +27,19 @@ pub(crate) fn shades_of(alloc: Global, heap: &Heap) -> Result<Vec<Shade>, NoMemo
     let mut shades = Vec::new(alloc);
     for k in 0..heap.segments() {
         let segment = heap.info(k);
-        let shade = Shade::new(alloc, segment.base, segment.reserved)?;
+        let shade = Shade::new(alloc, segment.base, used_size(segment))?;
         shades.push(shade)?;
     }
     Ok(shades)
+}
+
+// How many bytes of a segment are in use up to its end, in whole pages of 4,096 bytes.
+fn used_size(segment: SegInfo) -> u64
+    requires low { segment.base ≤ segment.end }
+    requires high { segment.end < 2 ^ 63 }
+    ensures { result ≡ used_size segment }
+{
+    (segment.end - segment.base + 4095) / 4096 * 4096
 }
 
 /// Takes the objects of generation 2.
@@ -63,7 +73,7 @@ fn take_segment(shades: &mut Vec<Shade>, heap: &Heap, types: &Types, k: usize)
 fn take_items(shade: &mut Shade, heap: &Heap, types: &Types, k: usize)
     requires in_range { k < length heap.now.segments }
     requires walkable { AreWalkable types.now heap.now }
-    requires shape { (shade.old.base, shade.old.size) ≡ extent_of (segment_at heap.now k) }
+    requires shape { (shade.old.base, shade.old.size) ≡ used_of (segment_at heap.now k) }
     ensures { shade.new ≡ taken_in heap.now shade.old (listing types.now heap.now k) }
 {
     let segment = heap.info(k);

@@ -133,8 +133,8 @@ impl Background {
         }
     }
 
-    /// A reference was stored into the slot: where its segment was there at the first pause of a collection that runs,
-    /// its card is logged. Else nothing changes.
+    /// A reference was stored into the slot: where it lies in what a segment had in use at the first pause of a
+    /// collection that runs, its card is logged. Else nothing changes.
     #[inline]
     pub fn wrote(&mut self, slot: u64)
         ensures value { self.new ≡ record self.old { shades = changed_at slot (with_logged slot) self.old.shades } }

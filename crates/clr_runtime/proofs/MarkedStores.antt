@@ -1,5 +1,5 @@
 -- A line that completes a store while a background collection runs: the card of the slot is logged, where the slot lies
--- in a segment of the first pause.
+-- in what a segment had in use at the first pause.
 use Rattle.std.proofs.Common.{◌≡◌, ◌∙◌, ◌⊎◌, inl, inr, ℕ, zero, suc, ◌+◌, ◌-◌, ◌/◌, Bool, true, false, not, ◌||◌, ◌&&◌}
 use Rattle.std.proofs.Common.{List, [], ◌∷◌, filter, if◌then◌else◌, length, map, refl, sym, ap, subst, arith, Some}
 use Rattle.std.proofs.Common.{None}
@@ -98,7 +98,7 @@ completes_seen m _ x n none = absurd none
 
 -- ---- the log
 
--- an address whose card is logged, or that lies in no segment of the first pause
+-- an address whose card is logged, or that lies in nothing that was in use at the first pause
 abbrev is_told : List ShadeView → ℕ → Bool
 is_told ss a = is_logged ss a || not (is_covered ss a)
 
@@ -187,7 +187,7 @@ abbrev pub IsStoredAt : Machine → Instruction → ℕ → Type 0
 IsStoredAt s i slot =
     (o : Object) (n : ℕ) → IsIn o s.objects → CompletesStore s i o.name n → slot_address s o n ≡ slot
 
--- the card of the slot is logged beside what was, where the slot lies in a segment of the first pause
+-- the card of the slot is logged beside what was, where the slot lies in what was in use at the first pause
 abbrev pub IsCardLogged : BackgroundView → ℕ → Type 0
 IsCardLogged v slot = (a : ℕ) → is_logged (changed_at slot (with_logged slot) v.shades) a
     ≡ ((is_covered v.shades slot && nat_eq (a / 2048) (slot / 2048)) || is_logged v.shades a)

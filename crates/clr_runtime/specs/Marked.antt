@@ -37,7 +37,7 @@ pub record AreColours (ss : List ShadeView) : Type 0 where
   pub marked : (a : ℕ) → a % 8 ≡ 0 → is_marked ss a ≡ true → a < 2 ^ 63
   pub scanned : (a : ℕ) → a % 8 ≡ 0 → is_scanned ss a ≡ true → is_marked ss a ≡ true
 
--- all references of what was taken lie in the segments of the first pause
+-- all references of what was taken lie in what the segments had in use at the first pause
 abbrev pub HaveWholeSlots : Machine → Marking → List ShadeView → Type 0
 HaveWholeSlots m marking ss =
     (o : Object) (offset : ℕ) → IsIn o m.objects → IsIn o.name (taken marking)

@@ -43,11 +43,11 @@ locals-gone to v lent gone same is =
 
 -- what lies below all parts stays
 stays : (c : After-relocate_from) (p : Plan) → Guides p c.args.heap.now c.args.bricks.now c.args.g → (place : ℕ)
-    → place < c.first_in_parts-low.result → moved_by p.moves place ≡ place
+    → place < c.first_in_parts-first.result → moved_by p.moves place ≡ place
 stays c p guides place under =
     sym (below-stays p.rows c.args.heap.now c.args.bricks.now c.args.g p.moves
     (shaped_heap p.view c.args.heap.now guides.overlaid.shape guides.overlaid.heap) guides.told place
-    (subst (λ low. place < low) c.first_in_parts-low.ensures under))
+    (subst (λ low. place < low) c.first_in_parts-first.ensures under))
 
 pub returns : goal.returns
 returns c = record {
@@ -57,7 +57,7 @@ returns c = record {
         (c.move_locals.ensures.gone p guides
         (subst (AllGo p c.args.g) (sym c.deref_mut.ensures.value) go.locals_go));
     table_is = c.move_handles.ensures.gone p guides go.handles_go go.null;
-    entries_is = moved-is_map _ c.first_in_parts-low.result (moved_by p.moves) c.args.roots.now.finals.entries c.relocate_from.new.self.entries
+    entries_is = moved-is_map _ c.first_in_parts-first.result (moved_by p.moves) c.args.roots.now.finals.entries c.relocate_from.new.self.entries
         c.relocate_from.ensures.entries
         (λ i moved l low answer.
         let say =
@@ -65,7 +65,7 @@ returns c = record {
         (go.entries_go _ (in-at c.args.roots.now.finals.entries i l)) in
         search (rules, say))
         (stays (goal.at.returns c).After-relocate_from p guides);
-    ready_is = moved-is_map _ c.first_in_parts-low.result (moved_by p.moves) c.args.roots.now.finals.ready c.relocate_from.new.self.ready
+    ready_is = moved-is_map _ c.first_in_parts-first.result (moved_by p.moves) c.args.roots.now.finals.ready c.relocate_from.new.self.ready
         c.relocate_from.ensures.ready
         (λ i moved l low answer.
         let say =

@@ -115,7 +115,7 @@ impl Session {
     // Answers the line that ends first in these bytes, and those behind it that are done at once. Gives where what is
     // behind the last one's line feed begins, and `None` where no line ends in them.
     #[inline]
-    fn answer_lines<K: Sink>(&mut self, sink: &mut K, text: &[u8]) -> Result<Option<usize>, Failed>
+    fn answer_first<K: Sink>(&mut self, sink: &mut K, text: &[u8]) -> Result<Option<usize>, Failed>
         requires { self.old.runtime.machine.layout.top ≤ 2 ^ 61 }
         ensures bytes { IfOk result (GoesLine self.old self.new text.now (K.written sink.old) (K.written sink.new)) }
         ensures stops { OnErr result (Stops self.old text.now (K.written sink.old) (K.written sink.new)) }
@@ -136,7 +136,7 @@ impl Session {
         self.answer_any(sink, text)
     }
 
-    // Answers the line that ends first in these bytes, and none behind it, as `answer_lines`, whichever it is.
+    // Answers the line that ends first in these bytes, and none behind it, as `answer_first`, whichever it is.
     #[cold]
     #[inline(never)]
     fn answer_any<K: Sink>(&mut self, sink: &mut K, text: &[u8]) -> Result<Option<usize>, Failed>
@@ -167,7 +167,7 @@ impl Session {
             ≤ self.old.runtime.machine.layout.top + 2 ^ 30 * length piece.now }
     {
         let mut from = 0;
-        while let Some(count) = self.answer_lines(sink, &piece[from..])? {
+        while let Some(count) = self.answer_first(sink, &piece[from..])? {
             from += count;
         }
         keep(&mut self.line, &piece[from..]);

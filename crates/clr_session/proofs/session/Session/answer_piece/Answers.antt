@@ -16,7 +16,7 @@ loop-count-init g c = record {
 pub loop-count-preserved : goal.loop-count-preserved
 loop-count-preserved g c =
     let turn = c.loop-count in
-    let (within, some, goes) = piece_goes_on c.args.self.now turn.self c.answer_lines.new.self c.args.piece.now
+    let (within, some, goes) = piece_goes_on c.args.self.now turn.self c.answer_first.new.self c.args.piece.now
     turn.from c.in-Some.count c.in_ok-count.field-0 _ (g.K.Sink.written turn.sink) _ turn.invariant.within
     c.in-Some.is turn.invariant.goes c.in_ok-count.ensures.bytes in
     record {
@@ -43,6 +43,6 @@ returns-in_err-count-clause-grows g c =
 
 pub returns-clause-bytes : goal.returns-clause-bytes
 returns-clause-bytes g c =
-    piece_ends c.args.self.now c.loop-count.self c.answer_lines.new.self c.args.piece.now c.keep.new.line.items
+    piece_ends c.args.self.now c.loop-count.self c.answer_first.new.self c.args.piece.now c.keep.new.line.items
     c.loop-count.from c.in_ok-count.field-0 _ (g.K.Sink.written c.loop-count.sink) _ c.in_default.is
     c.loop-count.invariant.goes c.in_ok-count.ensures.bytes c.keep.ensures.items

@@ -3,7 +3,7 @@ use Rattle.std.proofs.Common.{◌≤◌, ◌+◌, ◌*◌, ◌^◌, ℕ, arith, 
 use Rattle.std.proofs.lemmas.Bool.{eqb-true}
 use Rattle.std.proofs.lemmas.Result.{err_from_is_err_and}
 use Rattle.clr_session.proofs.FirstLines.{goes_front, grows_found, ok_same, rises_found, some_front, stops_front}
-use Rattle.clr_session.proofs.session.Session.answer_lines.Goals as goal
+use Rattle.clr_session.proofs.session.Session.answer_first.Goals as goal
 
 pub returns-then-not-is_empty-clause-grows : goal.returns-then-not-is_empty-clause-grows
 returns-then-not-is_empty-clause-grows g c =

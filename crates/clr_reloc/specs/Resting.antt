@@ -1,7 +1,7 @@
 -- References that a relocation may leave as they are.
-use Rattle.std.specs.Prelude.{◌≡◌, ℕ, ◌/◌, ◌<◌, Bool, true, List, None}
+use Rattle.std.specs.Prelude.{◌≡◌, ℕ, ◌/◌, ◌<◌, Bool, true, false, List, None}
 use Rattle.clr_types.specs.Segments.{ephemeral, generation, Layout, stands_in}
-use Rattle.clr_heap.specs.View.{frame, HeapView, word_of}
+use Rattle.clr_heap.specs.View.{frame, HeapView, may_refer, word_of}
 use Rattle.clr_pinq.specs.Queue.{queue_word}
 use Rattle.clr_pinq.specs.declared.entry.PinEntry.{PinEntry}
 use Rattle.clr_moves.specs.Moves.{start_of}
@@ -16,3 +16,8 @@ pub record MayRest (h : HeapView) (entries : List PinEntry) (g : Condemned) (lay
   pub stays : stands_in (ephemeral (frame h)) (word_of h a) ≡ true
       → word_of h a < start_of (frame h) g (ephemeral (frame h))
   pub carded : generation layout (word_of h a) < age → is_set (to / 2048) ≡ true
+
+-- The reference at a names nothing: no word is saved for it, and the heap's can't be a reference.
+pub record NamesNothing (h : HeapView) (entries : List PinEntry) (a : ℕ) : Type 0 where
+  pub plain : queue_word entries a ≡ None
+  pub none : may_refer (word_of h a) ≡ false

@@ -9,7 +9,7 @@ ghost use Rattle.clr_moves.specs.Moves.{start_of};
 ghost use Rattle.clr_moves.specs.declared.condemned.Condemned.TheVariants.{Generations};
 ghost use Rattle.clr_reloc.specs.Partial.{IsPartial};
 ghost use Rattle.clr_reloc.specs.Relocated.{rebounded};
-ghost use Rattle.clr_reloc.specs.Resting.{MayRest};
+ghost use Rattle.clr_reloc.specs.Resting.{MayRest, NamesNothing};
 
 use crate::relocation::{LeftObject, Relocation};
 use clr_cards::Cards;
@@ -50,6 +50,29 @@ pub(crate) fn resting_words(
     let plain = pins.next_saved(object.near, a).saturating_sub(a) / 8;
     let most = count.min(plain).min((CARD - to % CARD) / 8);
     heap.first_naming(object.segment, a, most, low)
+}
+
+// Of `count` references of an object side by side, how many of the first ones name nothing: those before the first one
+// that isn't null, or for which a word is saved. The first one stands at this offset.
+#[inline(never)]
+pub(crate) fn empty_words(
+    heap: &Heap,
+    pins: &PinQueue,
+    object: &LeftObject,
+    offset: u64,
+    count: u64,
+) -> u64
+    requires fits { object.now.found.place + offset < 2 ^ 64 }
+    requires words { (j : ℕ) → j < count → HasWord heap.now.memories (object.now.found.place + offset + 8 * j) }
+    requires segment { (j : ℕ) → j < count
+        → object.now.segment ≡ memory_index heap.now.memories (object.now.found.place + offset + 8 * j) }
+    ensures within { result ≤ count }
+    ensures empty { (j : ℕ) → j < result
+        → NamesNothing heap.now pins.now.entries (object.now.found.place + offset + 8 * j) }
+{
+    let a = object.found.place + offset;
+    let plain = pins.next_saved(object.near, a).saturating_sub(a) / 8;
+    heap.first_reference(object.segment, a, count.min(plain))
 }
 
 // The place from which on references to places of the ephemeral segment matter: where its part begins, and, unless the

@@ -1,5 +1,5 @@
--- The colours of objects and the logged cards, as bits beside the segments that there were at the first pause. A segment
--- is here the part that was in use then, in whole pages.
+-- The colours of objects and the logged cards, as bits beside the segments that there were at the first pause. Here a
+-- segment is the part that was in use then, in whole pages.
 use Rattle.std.specs.Prelude.{◌≡◌, ℕ, ◌+◌, ◌-◌, ◌*◌, ◌/◌, ◌%◌, ◌^◌, ◌<◌, ◌≤◌, Bool, true, false, ◌&&◌, not, nat_le}
 use Rattle.std.specs.Prelude.{nat_lt, refl}
 use Rattle.std.specs.Prelude.{if◌then◌else◌, List, [], ◌∷◌, length, zero, suc, min, ◌==◌}

@@ -1,4 +1,4 @@
-use Rattle.std.proofs.Common.{◌≡◌, ◌+◌, ◌-◌, ◌*◌, ◌<◌, ap, sym, ◌∙◌, subst, arith}
+use Rattle.std.proofs.Common.{◌≡◌, ◌+◌, ◌-◌, ap, sym, ◌∙◌, subst, arith}
 use Rattle.clr_types.specs.Descriptors.{offsets_from}
 use Rattle.clr_heap.specs.View.{frame}
 use Rattle.clr_generations.proofs.BarrierLaw.{generation-most}
@@ -16,8 +16,9 @@ loop-at-init c = (
 
 pub overflow_mul-at : goal.overflow_mul-at
 overflow_mul-at c =
-    let fits = (run_fits c.args.work.now c.args.object.now c.args.heap.now c.args.pins.now c.args.cards.now c.args.last.now
-    c.loop-at.heap c.loop-at.pins c.loop-at.cards c.loop-at.last c.args.run.offset c.args.run.count c.requires.run
+    let fits = (run_fits c.args.work.now c.args.object.now c.args.heap.now c.args.pins.now c.args.cards.now
+    c.args.last.now c.loop-at.heap c.loop-at.pins c.loop-at.cards c.loop-at.last c.args.run.offset c.args.run.count
+    c.requires.run
     (offsets_from c.args.run.offset c.loop-at.at) c.loop-at.invariant.0 c.requires.can c.loop-at.at
     c.loop-at-test.true) in
     let small = fits.0 in
@@ -25,8 +26,9 @@ overflow_mul-at c =
 
 pub overflow_add-run : goal.overflow_add-run
 overflow_add-run c =
-    let fits = (run_fits c.args.work.now c.args.object.now c.args.heap.now c.args.pins.now c.args.cards.now c.args.last.now
-    c.loop-at.heap c.loop-at.pins c.loop-at.cards c.loop-at.last c.args.run.offset c.args.run.count c.requires.run
+    let fits = (run_fits c.args.work.now c.args.object.now c.args.heap.now c.args.pins.now c.args.cards.now
+    c.args.last.now c.loop-at.heap c.loop-at.pins c.loop-at.cards c.loop-at.last c.args.run.offset c.args.run.count
+    c.requires.run
     (offsets_from c.args.run.offset c.loop-at.at) c.loop-at.invariant.0 c.requires.can c.loop-at.at
     c.loop-at-test.true) in
     let small = fits.0 in
@@ -75,8 +77,9 @@ relocate_slot-requires-clause-card c =
 pub next_number-at-requires-clause-fits : goal.next_number-at-requires-clause-fits
 next_number-at-requires-clause-fits c j l =
     let slot = c.relocate_slot in
-    let passed = run_passed c.args.work.now c.args.object.now c.args.heap.now c.args.pins.now c.args.cards.now c.args.last.now
-    c.loop-at.heap c.loop-at.pins c.loop-at.cards c.loop-at.last c.args.run.offset c.args.run.count c.requires.run
+    let passed = run_passed c.args.work.now c.args.object.now c.args.heap.now c.args.pins.now c.args.cards.now
+    c.args.last.now c.loop-at.heap c.loop-at.pins c.loop-at.cards c.loop-at.last c.args.run.offset c.args.run.count
+    c.requires.run
     c.loop-at.at c.loop-at-test.true c.loop-at.invariant.0 c.requires.placed.age slot.new.heap slot.new.pins
     slot.new.cards slot.new.last slot.ensures.gone slot.ensures.beside in
     (run_fits c.args.work.now c.args.object.now c.args.heap.now c.args.pins.now c.args.cards.now c.args.last.now
@@ -86,8 +89,9 @@ next_number-at-requires-clause-fits c j l =
 pub next_number-at-requires-clause-words : goal.next_number-at-requires-clause-words
 next_number-at-requires-clause-words c j l =
     let slot = c.relocate_slot in
-    let passed = run_passed c.args.work.now c.args.object.now c.args.heap.now c.args.pins.now c.args.cards.now c.args.last.now
-    c.loop-at.heap c.loop-at.pins c.loop-at.cards c.loop-at.last c.args.run.offset c.args.run.count c.requires.run
+    let passed = run_passed c.args.work.now c.args.object.now c.args.heap.now c.args.pins.now c.args.cards.now
+    c.args.last.now c.loop-at.heap c.loop-at.pins c.loop-at.cards c.loop-at.last c.args.run.offset c.args.run.count
+    c.requires.run
     c.loop-at.at c.loop-at-test.true c.loop-at.invariant.0 c.requires.placed.age slot.new.heap slot.new.pins
     slot.new.cards slot.new.last slot.ensures.gone slot.ensures.beside in
     run_has c.args.work.now c.args.object.now c.args.heap.now c.args.pins.now c.args.cards.now c.args.last.now
@@ -97,8 +101,9 @@ next_number-at-requires-clause-words c j l =
 pub next_number-at-requires-clause-segment : goal.next_number-at-requires-clause-segment
 next_number-at-requires-clause-segment c j l =
     let slot = c.relocate_slot in
-    let passed = run_passed c.args.work.now c.args.object.now c.args.heap.now c.args.pins.now c.args.cards.now c.args.last.now
-    c.loop-at.heap c.loop-at.pins c.loop-at.cards c.loop-at.last c.args.run.offset c.args.run.count c.requires.run
+    let passed = run_passed c.args.work.now c.args.object.now c.args.heap.now c.args.pins.now c.args.cards.now
+    c.args.last.now c.loop-at.heap c.loop-at.pins c.loop-at.cards c.loop-at.last c.args.run.offset c.args.run.count
+    c.requires.run
     c.loop-at.at c.loop-at-test.true c.loop-at.invariant.0 c.requires.placed.age slot.new.heap slot.new.pins
     slot.new.cards slot.new.last slot.ensures.gone slot.ensures.beside in
     run_index c.args.work.now c.args.object.now c.args.heap.now c.args.pins.now c.args.cards.now c.args.last.now
@@ -108,8 +113,9 @@ next_number-at-requires-clause-segment c j l =
 pub loop-at-preserved : goal.loop-at-preserved
 loop-at-preserved c =
     let slot = c.relocate_slot in
-    let passed = run_passed c.args.work.now c.args.object.now c.args.heap.now c.args.pins.now c.args.cards.now c.args.last.now
-    c.loop-at.heap c.loop-at.pins c.loop-at.cards c.loop-at.last c.args.run.offset c.args.run.count c.requires.run
+    let passed = run_passed c.args.work.now c.args.object.now c.args.heap.now c.args.pins.now c.args.cards.now
+    c.args.last.now c.loop-at.heap c.loop-at.pins c.loop-at.cards c.loop-at.last c.args.run.offset c.args.run.count
+    c.requires.run
     c.loop-at.at c.loop-at-test.true c.loop-at.invariant.0 c.requires.placed.age slot.new.heap slot.new.pins
     slot.new.cards slot.new.last slot.ensures.gone slot.ensures.beside in
     let next = c.next_number-at.ensures in
@@ -119,12 +125,14 @@ loop-at-preserved c =
     let age = c.requires.placed.age in
     let e : c.loop-at.at + 1 + (c.next_number-at.result - (c.loop-at.at + 1)) ≡ c.next_number-at.result
     = omega (arith, after) in
-    let more = all_empty c.args.work.now c.args.object.now c.args.heap.now c.args.pins.now c.args.cards.now c.args.last.now
-    slot.new.heap slot.new.pins slot.new.cards slot.new.last age (omega (arith, most, age)) c.requires.least
-    c.args.run.offset c.args.run.count c.requires.run (c.loop-at.at + 1) (c.next_number-at.result - (c.loop-at.at + 1)) (omega (arith, after, within)) passed
+    let more = all_empty c.args.work.now c.args.object.now c.args.heap.now c.args.pins.now c.args.cards.now
+    c.args.last.now slot.new.heap slot.new.pins slot.new.cards slot.new.last age (omega (arith, most, age))
+    c.requires.least c.args.run.offset c.args.run.count c.requires.run (c.loop-at.at + 1)
+    (c.next_number-at.result - (c.loop-at.at + 1)) (omega (arith, after, within)) passed
     (λ i low high. next.empty i (omega (arith, low)) (omega (arith, high, after))) in (
       subst (λ m. HasPassed c.args.work.now c.args.object.now c.args.heap.now c.args.pins.now c.args.cards.now
-          c.args.last.now slot.new.heap slot.new.pins slot.new.cards slot.new.last (offsets_from c.args.run.offset m)) e more,
+          c.args.last.now slot.new.heap slot.new.pins slot.new.cards slot.new.last
+          (offsets_from c.args.run.offset m)) e more,
       within,
     )
 

@@ -57,16 +57,16 @@ returns c = record {
         (c.move_locals.ensures.gone p guides
         (subst (AllGo p c.args.g) (sym c.deref_mut.ensures.value) go.locals_go));
     table_is = c.move_handles.ensures.gone p guides go.handles_go go.null;
-    entries_is = moved-is_map _ c.first_in_parts-first.result (moved_by p.moves) c.args.roots.now.finals.entries c.relocate_from.new.self.entries
-        c.relocate_from.ensures.entries
+    entries_is = moved-is_map _ c.first_in_parts-first.result (moved_by p.moves) c.args.roots.now.finals.entries
+        c.relocate_from.new.self.entries c.relocate_from.ensures.entries
         (λ i moved l low answer.
         let say =
         told p c.args.heap.now c.args.bricks.now c.args.g _ moved guides
         (go.entries_go _ (in-at c.args.roots.now.finals.entries i l)) in
         search (rules, say))
         (stays (goal.at.returns c).After-relocate_from p guides);
-    ready_is = moved-is_map _ c.first_in_parts-first.result (moved_by p.moves) c.args.roots.now.finals.ready c.relocate_from.new.self.ready
-        c.relocate_from.ensures.ready
+    ready_is = moved-is_map _ c.first_in_parts-first.result (moved_by p.moves) c.args.roots.now.finals.ready
+        c.relocate_from.new.self.ready c.relocate_from.ensures.ready
         (λ i moved l low answer.
         let say =
         told p c.args.heap.now c.args.bricks.now c.args.g _ moved guides

@@ -1,8 +1,8 @@
 -- The first pause: what is taken in one segment, with its bits lent.
 use Rattle.std.proofs.Common.{◌≡◌, ◌≢◌, ℕ, zero, suc, ◌+◌, ◌^◌, ◌<◌, ◌≤◌, List, [], ◌∷◌, length, map, get_or, set}
 use Rattle.std.proofs.Common.{refl, sym, ap, subst, ◌∙◌, arith, Bool, true, false, if◌then◌else◌, ◌&&◌, not, nat_eq}
-use Rattle.std.proofs.Common.{nat_lt, ◌==◌, Option, Some, None}
-use Rattle.std.proofs.lemmas.Bool.{eqb-true, lt-ltb, ne_eqb}
+use Rattle.std.proofs.Common.{nat_lt, ◌==◌, Option, Some, None, min}
+use Rattle.std.proofs.lemmas.Bool.{eqb-true, le-ltb, lt-ltb, ne_eqb}
 use Rattle.std.proofs.lemmas.List.{get_or-map, length-map}
 use Rattle.clr_types.specs.Bits.{unmarked}
 use Rattle.clr_types.specs.Rising.{IsIn, first, later}
@@ -14,15 +14,15 @@ use Rattle.clr_types.proofs.SegmentFacts.{between-stands, stands-between}
 use Rattle.clr_types.proofs.RisingLists.{all_at}
 use Rattle.clr_heap.specs.Memories.{memory_index}
 use Rattle.clr_heap.specs.ObjectKinds.{IsObjectKind, known_size}
-use Rattle.clr_heap.specs.Parts.{item_at}
-use Rattle.clr_heap.specs.View.{AfterItem, AreWalkable, first_of, frame, HasItem, heap_items, HeapView}
-use Rattle.clr_heap.specs.View.{IsHeap, last_of, listing, segment_at, sight}
+use Rattle.clr_heap.specs.Parts.{item_at, parts}
+use Rattle.clr_heap.specs.View.{AfterItem, AreWalkable, CanWalk, first_of, frame, HasItem, heap_items, HeapView}
+use Rattle.clr_heap.specs.View.{IsHeap, items_between, last_of, listing, segment_at, sight}
 use Rattle.clr_heap.specs.declared.kinds.ObjectKind.{ObjectKind}
 use Rattle.clr_heap.proofs.Addresses.{index_is_segment}
 use Rattle.clr_heap.proofs.ItemHeads.{head-in}
 use Rattle.clr_heap.proofs.Framing.{below_top_at, lawful_at}
 use Rattle.clr_view.specs.View.{IsHeld}
-use Rattle.clr_view.proofs.Items.{IsItem}
+use Rattle.clr_view.proofs.Items.{IsItem, items-are}
 use Rattle.clr_view.proofs.Listings.{listing-are}
 use Rattle.clr_view.proofs.Standing.{InCell, standing}
 use Rattle.clr_bgmark.specs.Pauses.{all_taken, AreShadesOf, IsOldBelow, is_oldest, taken_in, taken_item, taken_one}
@@ -45,22 +45,55 @@ one_shape h s i = go (is_oldest h i)
     go true = refl
     go false = refl
 
--- an object is taken as its generation tells
-pub object_taken : (h : HeapView) (s : ShadeView) (i : Item) (place end : ℕ) → i.place ≡ place → i.type_id.0 ≢ 0
-    → IsOldBelow h place end → (if nat_lt place end then with_taken place s else s) ≡ taken_one h s i
-object_taken h s i place end at object old =
-    ap (λ b. if b then with_taken place s else s) (sym old)
-    ∙ go (nat_eq i.type_id.0 0) (ne_eqb i.type_id.0 0 object)
+-- an object of generation 2 is taken
+pub object_taken : (h : HeapView) (s : ShadeView) (i : Item) (place : ℕ) → i.place ≡ place → i.type_id.0 ≢ 0
+    → generation (frame h) place ≡ 2 → with_taken place s ≡ taken_one h s i
+object_taken h s i place at object old =
+    go (nat_eq i.type_id.0 0) (generation (frame h) i.place == 2) (ne_eqb i.type_id.0 0 object)
+    (ap (λ a. generation (frame h) a == 2) at ∙ ap (λ n. n == 2) old)
   where
-    go : (z : Bool) → z ≡ false → (if generation (frame h) place == 2 then with_taken place s else s)
-        ≡ (if not z && (generation (frame h) i.place == 2) then with_taken i.place s else s)
-    go true e = absurd cc
-    go false e = ap (λ p. if generation (frame h) p == 2 then with_taken p s else s) (sym at)
+    go : (z b : Bool) → z ≡ false → b ≡ true
+        → with_taken place s ≡ (if not z && b then with_taken i.place s else s)
+    go true b e f = absurd cc
+    go false false e f = absurd cc
+    go false true e f = ap (λ p. with_taken p s) (sym at)
 
 -- and a free item isn't
 pub free_left : (h : HeapView) (s : ShadeView) (i : Item) → i.type_id.0 ≡ 0 → s ≡ taken_one h s i
 free_left h s i free =
     ap (λ n. if not (nat_eq n 0) && (generation (frame h) i.place == 2) then with_taken i.place s else s) (sym free)
+
+-- of items of younger generations none is taken
+young_left : (h : HeapView) (s : ShadeView) (items : List Item)
+    → ((i : Item) → IsIn i items → (generation (frame h) i.place == 2) ≡ false) → taken_in h s items ≡ s
+young_left h s [] young = refl
+young_left h s (i ∷ items) young =
+    ap (λ now. taken_in h now items)
+    (here (not (nat_eq i.type_id.0 0)) (generation (frame h) i.place == 2) (young i first))
+    ∙ young_left h s items (λ j l. young j (later l))
+  where
+    here : (b c : Bool) → c ≡ false → (if b && c then with_taken i.place s else s) ≡ s
+    here true true e = absurd cc
+    here true false e = refl
+    here false c e = refl
+
+-- NOTHING IS TAKEN BEHIND WHERE GENERATION 2 ENDS
+pub rest_left : (rows : List TypeRow) (h : HeapView) (k place stop : ℕ) (s : ShadeView)
+    → CanWalk (sight rows h k) h.memories place (last_of h k) → first_of h k ≤ place
+    → ((a : ℕ) → first_of h k ≤ a → a < last_of h k → IsOldBelow h a stop) → min stop (last_of h k) ≤ place
+    → taken_in h s (items_between (sight rows h k) place (last_of h k)) ≡ s
+rest_left rows h k place stop s walk low old behind =
+    let end = last_of h k in
+    young_left h s (items_between (sight rows h k) place end)
+    (λ i l.
+    let is : IsItem rows place end i =
+    all_at (IsItem rows place end) l
+    (items-are (sight rows h k) (parts end (sight rows h k) place end) place end walk.start walk.spelled) in
+    let above = is.above in
+    let below = is.below in
+    let least = is.least in
+    old i.place (omega (arith, low, above)) (omega (arith, below, least))
+    ∙ le-ltb i.place stop (omega (arith, behind, above, below, least)))
 
 -- what has the word of a known kind is an object, of the size that is known
 pub known_kind : (rows : List TypeRow) (word : ℕ → ℕ) (a size : ℕ) (kind : ObjectKind) → IsObjectKind rows kind

@@ -1,15 +1,16 @@
 // What a background collection takes at its first pause.
-ghost use Rattle.std.specs.Prelude.{◌≡◌, ℕ, ◌+◌, ◌<◌, ◌≤◌, ◌^◌, if◌then◌else◌, length, nat_lt, true, IfOk};
+ghost use Rattle.std.specs.Prelude.{◌≡◌, ℕ, ◌+◌, ◌<◌, ◌≤◌, ◌^◌, length, true, IfOk};
 ghost use Rattle.std.specs.List.{AllByRecursion};
 ghost use Rattle.clr_heap.specs.ObjectKinds.{IsObjectKind};
 ghost use Rattle.clr_heap.specs.Parts.{item_at};
 ghost use Rattle.clr_heap.specs.Memories.{memory_index};
-ghost use Rattle.clr_heap.specs.View.{AreWalkable, first_of, HasItem, heap_items, IsHeap};
+ghost use Rattle.clr_types.specs.Segments.{generation};
+ghost use Rattle.clr_heap.specs.View.{AreWalkable, first_of, frame, HasItem, heap_items, IsHeap};
 ghost use Rattle.clr_heap.specs.View.{last_of, listing, segment_at, word_of};
 ghost use Rattle.clr_view.specs.View.{IsHeld};
 ghost use Rattle.clr_bgmark.specs.Pauses.{all_taken, AreShadesOf, IsBare, IsOldBelow, taken_in, taken_one, used_of};
 ghost use Rattle.clr_bgmark.specs.Pauses.{used_size};
-ghost use Rattle.clr_bgmark.specs.Shades.{AreApart, covers, IsShade, with_taken};
+ghost use Rattle.clr_bgmark.specs.Shades.{AreApart, covers, IsShade};
 
 use crate::NoMemory;
 use crate::shade::{Bit, Shade};
@@ -67,8 +68,8 @@ fn take_segment(shades: &mut Vec<Shade>, heap: &Heap, types: &Types, k: usize)
     take_items(shade, heap, types, k);
 }
 
-// Takes those of segment `k` on a walk, with its bits lent. It stands apart, so that its loop keeps what it needs in
-// registers.
+// Takes those of segment `k` on a walk, with its bits lent. The walk ends where generation 2 does. It stands apart, so
+// that its loop keeps what it needs in registers.
 #[inline(never)]
 fn take_items(shade: &mut Shade, heap: &Heap, types: &Types, k: usize)
     requires in_range { k < length heap.now.segments }
@@ -80,11 +81,11 @@ fn take_items(shade: &mut Shade, heap: &Heap, types: &Types, k: usize)
     let mut place = segment.first_place();
     let mut next_hole = place;
     let mut known = ObjectKind::none();
-    let old_end = end_of_old(heap, k);
-    while place < segment.end {
+    let stop = end_of_old(heap, k).min(segment.end);
+    while place < stop {
         match heap.hole_here(k, place, &mut next_hole) {
             Some(high) => place = high,
-            None => place += take_item(shade, heap, types, k, place, old_end, &mut known),
+            None => place += take_item(shade, heap, types, k, place, &mut known),
         }
     }
 }
@@ -102,7 +103,7 @@ fn end_of_old(heap: &Heap, k: usize) -> u64
     }
 }
 
-// Takes the item at `place` in segment `k`, where it is an object of generation 2, and answers its size. Where it is of
+// Takes the item at `place` of generation 2 in segment `k`, where it is an object, and answers its size. Where it is of
 // the kind that is known, no table is waited for.
 #[inline(always)]
 fn take_item(
@@ -111,7 +112,6 @@ fn take_item(
     types: &Types,
     k: usize,
     place: u64,
-    old_end: u64,
     known: &mut ObjectKind,
 ) -> u64
     requires item { HasItem types.now heap.now place }
@@ -119,7 +119,7 @@ fn take_item(
     requires behind { k ≡ memory_index heap.now.memories (place + 8) }
     requires room { place + 8 < 2 ^ 64 }
     requires inside { covers shade.old place ≡ true }
-    requires old { IsOldBelow heap.now place old_end }
+    requires old { generation (frame heap.now) place ≡ 2 }
     requires known { IsObjectKind types.now known.old }
     ensures taken { shade.new ≡ taken_one heap.now shade.old (item_at types.now (word_of heap.now) place) }
     ensures size { result ≡ (item_at types.now (word_of heap.now) place).size }
@@ -128,10 +128,10 @@ fn take_item(
     let mt = heap.word_at(k, place);
     match known.size_with(mt) {
         Some(size) => {
-            take_place(shade, place, old_end);
+            shade.set_bit(Bit::Taken, place);
             size
         }
-        None => take_other(shade, heap, types, k, place, old_end, known),
+        None => take_other(shade, heap, types, k, place, known),
     }
 }
 
@@ -143,7 +143,6 @@ fn take_other(
     types: &Types,
     k: usize,
     place: u64,
-    old_end: u64,
     known: &mut ObjectKind,
 ) -> u64
     requires item { HasItem types.now heap.now place }
@@ -151,7 +150,7 @@ fn take_other(
     requires behind { k ≡ memory_index heap.now.memories (place + 8) }
     requires room { place + 8 < 2 ^ 64 }
     requires inside { covers shade.old place ≡ true }
-    requires old { IsOldBelow heap.now place old_end }
+    requires old { generation (frame heap.now) place ≡ 2 }
     requires known { IsObjectKind types.now known.old }
     ensures taken { shade.new ≡ taken_one heap.now shade.old (item_at types.now (word_of heap.now) place) }
     ensures size { result ≡ (item_at types.now (word_of heap.now) place).size }
@@ -159,18 +158,7 @@ fn take_other(
 {
     let found = heap.item_like_in(types, k, place, known);
     if found.type_id.0 != 0 {
-        take_place(shade, place, old_end);
-    }
-    found.size
-}
-
-// Takes the place, where it is below the end of those of generation 2.
-#[inline(always)]
-fn take_place(shade: &mut Shade, place: u64, old_end: u64)
-    requires { covers shade.old place ≡ true }
-    ensures { shade.new ≡ (if nat_lt place old_end then with_taken place shade.old else shade.old) }
-{
-    if place < old_end {
         shade.set_bit(Bit::Taken, place);
     }
+    found.size
 }

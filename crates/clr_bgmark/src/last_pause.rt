@@ -138,7 +138,8 @@ fn mark_word(heap: &mut Heap, types: &Types, near: usize, place: u64, bits: u64)
     k
 }
 
-// Marks the object at `obj`, in segment `k`.
+// Marks the object at `obj`, in segment `k`. It decides nothing: often whether an object is marked already can't be
+// foreseen.
 #[inline]
 fn mark_at(heap: &mut Heap, k: usize, obj: u64)
     requires word { HasWord heap.old.memories obj }
@@ -147,9 +148,8 @@ fn mark_at(heap: &mut Heap, k: usize, obj: u64)
     ensures { heap.new ≡ with_mark heap.old 2 obj }
 {
     let word = heap.word_at(k, obj);
-    if !mark::is_marked(word) {
-        heap.set_word_at(k, obj, word + 1);
-    }
+    let new = 1 - mark::mark_of(word);
+    heap.set_word_at(k, obj, word + new);
 }
 
 // Where the search for marked places stands: at a segment, and at an address from which on they are still to be looked

@@ -12,8 +12,8 @@ returns-in-Some-clause-taken c =
     let rows = c.args.types.now in
     let known = known_kind rows (word_of h) c.args.place c.in-Some.size c.args.known.now c.requires.known
     (sym c.in-Some.is ∙ c.size_with.ensures ∙ ap (known_size c.args.known.now) c.word_at-mt.ensures) in
-    c.take_place.ensures
-    ∙ object_taken h c.args.shade.now (item_at rows (word_of h) c.args.place) c.args.place c.args.old_end
+    c.set_bit.ensures
+    ∙ object_taken h c.args.shade.now (item_at rows (word_of h) c.args.place) c.args.place
     (place-item_at rows (word_of h) c.args.place) known.0 c.requires.old
 
 pub returns-in-Some-clause-size : goal.returns-in-Some-clause-size

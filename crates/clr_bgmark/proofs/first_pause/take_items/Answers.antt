@@ -1,11 +1,12 @@
-use Rattle.std.proofs.Common.{◌≡◌, ◌+◌, refl, ap, sym, ◌∙◌, subst, arith}
-use Rattle.clr_types.specs.Segments.{first_place}
+use Rattle.std.proofs.Common.{◌≡◌, ℕ, ◌+◌, ◌<◌, min, refl, ap, sym, ◌∙◌, subst, arith}
+use Rattle.std.proofs.lemmas.Bool.{eqb-true, lt-ltb}
+use Rattle.clr_types.specs.Segments.{first_place, generation}
 use Rattle.clr_types.specs.declared.segment.SegInfo.{SegInfo}
 use Rattle.clr_heap.specs.Parts.{item_at}
-use Rattle.clr_heap.specs.View.{AfterItem, CanWalk, first_of, items_between, last_of, sight, word_of}
-use Rattle.clr_heap.proofs.Walking.{walk_done, walk_hole, walk_item}
+use Rattle.clr_heap.specs.View.{AfterItem, CanWalk, first_of, frame, items_between, last_of, sight, word_of}
+use Rattle.clr_heap.proofs.Walking.{walk_hole, walk_item}
 use Rattle.clr_bgmark.specs.Pauses.{taken_in}
-use Rattle.clr_bgmark.proofs.FirstTaken.{can_take, CanTake, one_shape, shape}
+use Rattle.clr_bgmark.proofs.FirstTaken.{can_take, CanTake, one_shape, rest_left, shape}
 use Rattle.clr_bgmark.proofs.first_pause.take_items.Goals.{In-None}
 use Rattle.clr_bgmark.proofs.first_pause.take_items.Goals as goal
 
@@ -16,14 +17,13 @@ loop-place-init c =
     let value = c.info-segment.ensures.value in
     let start : c.first_place-place.result ≡ first_of h c.args.k =
     c.first_place-place.ensures ∙ ap first_place value in
-    let last : c.info-segment.result.end ≡ last_of h c.args.k = ap (λ (s : SegInfo). s.end) value in
+    let last = last_of h c.args.k in
     record {
-      walk = subst (λ p. CanWalk (sight rows h c.args.k) h.memories p c.info-segment.result.end) (sym start)
-          (subst (λ e. CanWalk (sight rows h c.args.k) h.memories (first_of h c.args.k) e) (sym last)
-          (c.requires.walkable c.args.k c.requires.in_range));
+      walk = subst (λ p. CanWalk (sight rows h c.args.k) h.memories p last) (sym start)
+          (c.requires.walkable c.args.k c.requires.in_range);
       low = omega (arith, start);
       shape = refl;
-      taken = λ i. taken_in h c.args.shade.now (items_between (sight rows h c.args.k) (start i) (last i));
+      taken = λ i. taken_in h c.args.shade.now (items_between (sight rows h c.args.k) (start i) last);
       clear = λ q low high. absurd (omega (arith, low, high));
       known = c.none-known.ensures rows;
     }
@@ -31,10 +31,17 @@ loop-place-init c =
 pub hole_here-requires-clause-clear : goal.hole_here-requires-clause-clear
 hole_here-requires-clause-clear c = c.loop-place.invariant.clear
 
+-- the place is below the segment's end
+within_segment : (place stop old end last : ℕ) → stop ≡ min old end → end ≡ last → place < stop → place < last
+within_segment place stop old end last is same below = omega (arith, is, same, below)
+
 pub loop-place-smaller-in-Some : goal.loop-place-smaller-in-Some
 loop-place-smaller-in-Some c =
     let step = walk_hole (sight c.args.types.now c.args.heap.now c.args.k) c.args.heap.now.memories c.loop-place.place
-    c.in-Some.high c.info-segment.result.end c.loop-place.invariant.walk c.loop-place-test.true
+    c.in-Some.high (last_of c.args.heap.now c.args.k) c.loop-place.invariant.walk
+    (within_segment c.loop-place.place c.min-stop.result c.end_of_old.result c.info-segment.result.end
+    (last_of c.args.heap.now c.args.k) c.min-stop.ensures (ap (λ (s : SegInfo). s.end) c.info-segment.ensures.value)
+    c.loop-place-test.true)
     (sym c.hole_here.ensures.hole ∙ c.in-Some.is) in
     let higher = step.higher in
     let within = step.within in
@@ -45,7 +52,10 @@ loop-place-preserved-in-Some c =
     let h = c.args.heap.now in
     let inv = c.loop-place.invariant in
     let step = walk_hole (sight c.args.types.now h c.args.k) h.memories c.loop-place.place
-    c.in-Some.high c.info-segment.result.end inv.walk c.loop-place-test.true
+    c.in-Some.high (last_of h c.args.k) inv.walk
+    (within_segment c.loop-place.place c.min-stop.result c.end_of_old.result c.info-segment.result.end
+    (last_of c.args.heap.now c.args.k) c.min-stop.ensures (ap (λ (s : SegInfo). s.end) c.info-segment.ensures.value)
+    c.loop-place-test.true)
     (sym c.hole_here.ensures.hole ∙ c.in-Some.is) in
     let higher = step.higher in
     let low = inv.low in
@@ -58,19 +68,24 @@ loop-place-preserved-in-Some c =
       known = inv.known;
     }
 
+in_segment : (c : In-None) → c.loop-place.place < last_of c.args.heap.now c.args.k
+in_segment c = within_segment c.loop-place.place c.min-stop.result c.end_of_old.result c.info-segment.result.end
+    (last_of c.args.heap.now c.args.k) c.min-stop.ensures (ap (λ (s : SegInfo). s.end) c.info-segment.ensures.value)
+    c.loop-place-test.true
+
 -- an item stands at the place
 after : (c : In-None) → AfterItem (sight c.args.types.now c.args.heap.now c.args.k) c.args.heap.now.memories
-    c.loop-place.place c.info-segment.result.end
+    c.loop-place.place (last_of c.args.heap.now c.args.k)
 after c = walk_item (sight c.args.types.now c.args.heap.now c.args.k) c.args.heap.now.memories c.loop-place.place
-    c.info-segment.result.end c.loop-place.invariant.walk c.loop-place-test.true
+    (last_of c.args.heap.now c.args.k) c.loop-place.invariant.walk (in_segment c)
     (sym c.hole_here.ensures.hole ∙ c.in-None.is)
 
 can : (c : In-None) → CanTake c.args.types.now c.args.heap.now c.args.k c.loop-place.place c.loop-place.shade
 can c =
     can_take c.args.types.now c.args.heap.now c.info-segment.ensures.heap c.args.k c.requires.in_range
-    c.loop-place.place c.info-segment.result.end c.loop-place.shade
-    (c.loop-place.invariant.shape ∙ c.requires.shape) c.loop-place.invariant.low c.loop-place-test.true
-    (ap (λ (s : SegInfo). s.end) c.info-segment.ensures.value) (after c)
+    c.loop-place.place (last_of c.args.heap.now c.args.k) c.loop-place.shade
+    (c.loop-place.invariant.shape ∙ c.requires.shape) c.loop-place.invariant.low (in_segment c)
+    refl (after c)
 
 pub take_item-place-requires-clause-item : goal.take_item-place-requires-clause-item
 take_item-place-requires-clause-item c = (can (goal.at.take_item-place-requires-clause-item c).In-None).item
@@ -89,9 +104,14 @@ take_item-place-requires-clause-inside c = (can (goal.at.take_item-place-require
 
 pub take_item-place-requires-clause-old : goal.take_item-place-requires-clause-old
 take_item-place-requires-clause-old c =
-    let below = c.loop-place-test.true in
+    let place = c.loop-place.place in
+    let stop = c.min-stop.ensures in
+    let test = c.loop-place-test.true in
     let last = ap (λ (s : SegInfo). s.end) c.info-segment.ensures.value in
-    c.end_of_old-old_end.ensures c.loop-place.place c.loop-place.invariant.low (omega (arith, below, last))
+    let below : place < c.end_of_old.result = omega (arith, stop, test) in
+    eqb-true (generation (frame c.args.heap.now) place) 2
+    (c.end_of_old.ensures place c.loop-place.invariant.low (omega (arith, stop, test, last))
+    ∙ lt-ltb place c.end_of_old.result below)
 
 pub take_item-place-requires-clause-known : goal.take_item-place-requires-clause-known
 take_item-place-requires-clause-known c = c.loop-place.invariant.known
@@ -120,7 +140,7 @@ loop-place-preserved c =
     let rows = c.args.types.now in
     let s = sight rows h c.args.k in
     let inv = c.loop-place.invariant in
-    let end = c.info-segment.result.end in
+    let end = last_of h c.args.k in
     let step = after (goal.at.loop-place-preserved c).In-None in
     let size : c.loop-place.place + c.take_item-place.result
     ≡ c.loop-place.place + (item_at rows (word_of h) c.loop-place.place).size =
@@ -141,6 +161,10 @@ loop-place-preserved c =
 pub returns : goal.returns
 returns c =
     let h = c.args.heap.now in
-    let done = walk_done (sight c.args.types.now h c.args.k) h.memories c.loop-place.place c.info-segment.result.end
-    c.loop-place.invariant.walk c.loop-place-test.false in
-    ap (taken_in h c.loop-place.shade) (sym done) ∙ c.loop-place.invariant.taken
+    let inv = c.loop-place.invariant in
+    let stop = c.min-stop.ensures in
+    let test = c.loop-place-test.false in
+    let last = ap (λ (s : SegInfo). s.end) c.info-segment.ensures.value in
+    sym (rest_left c.args.types.now h c.args.k c.loop-place.place c.end_of_old.result c.loop-place.shade inv.walk
+    inv.low c.end_of_old.ensures (omega (arith, stop, test, last)))
+    ∙ inv.taken

@@ -11,8 +11,8 @@ returns-then-found-ne0-clause-taken c =
     let h = c.args.heap.now in
     let s = c.args.shade.now in
     let found = c.item_like_in-found.ensures.item in
-    c.take_place.ensures
-    ∙ object_taken h s c.item_like_in-found.result c.args.place c.args.old_end
+    c.set_bit.ensures
+    ∙ object_taken h s c.item_like_in-found.result c.args.place
     (ap (λ (i : Item). i.place) found ∙ place-item_at c.args.types.now (word_of h) c.args.place) c.if-found-ne0.true
     c.requires.old
     ∙ ap (taken_one h s) found

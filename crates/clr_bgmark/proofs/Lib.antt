@@ -28,3 +28,4 @@ pub mod OwnSlots
 pub mod RootedFound
 pub mod EachMarked
 pub mod EachFound
+pub mod Lent

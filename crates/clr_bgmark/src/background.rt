@@ -1,5 +1,5 @@
 // The colours and the log of a background collection.
-ghost use Rattle.std.specs.Prelude.{◌≡◌, ℕ, ◌^◌, ◌/◌, ◌%◌, ◌<◌, ◌&&◌, ◌||◌, nat_eq, true, false, [], length, None};
+ghost use Rattle.std.specs.Prelude.{◌≡◌, ℕ, ◌^◌, ◌/◌, ◌%◌, ◌<◌, ◌≤◌, ◌&&◌, ◌||◌, nat_eq, true, false, [], length, None};
 ghost use Rattle.std.specs.Prelude.{IfSome, IfNone, OnOk, OnErr, Some, ◌↔◌, ◌⊎◌, ◌≢◌};
 ghost use Rattle.std.specs.FinMap as finmap;
 ghost use Rattle.clr_types.specs.declared.handle.Handle.{Handle as Row};
@@ -30,6 +30,7 @@ use crate::NoMemory;
 use crate::first_pause::{shades_of, take_oldest};
 use crate::kind::kind_behind;
 use crate::last_pause::mark_found;
+use crate::lending::meet_near;
 use crate::shade::{Bit, Shade};
 use crate::shades::{
     colour_in, find, find_near, is_in, logged_in, meet_in, set_bit_at, set_bit_near, take_gray,
@@ -395,7 +396,7 @@ impl Background {
             ≡ met_all (word_of heap.now) self.old item.place (references_at types.now heap.now item.place) }
     {
         match types.reference_run(item.type_id, item.len) {
-            Some(run) => self.meet_run(heap, types, near, k, item.place, run),
+            Some(run) => self.meet_long_run(heap, types, near, k, item.place, run),
             None => self.meet_each(heap, types, near, k, item),
         }
     }
@@ -424,6 +425,64 @@ impl Background {
             let slot = obj + run.offset + 8 * i;
             shade = self.meet(shade, heap.word_at(k, slot), slot);
         }
+    }
+
+    // The same for a run that may be long, as that of an array: stretches of references into one segment are followed
+    // with its bits lent.
+    #[inline(always)]
+    fn meet_long_run(
+        &mut self,
+        heap: &Heap,
+        types: &Types,
+        near: usize,
+        k: usize,
+        obj: u64,
+        run: ReferenceRun,
+    )
+        requires heap { IsHeap heap.now }
+        requires held { IsHeld types.now heap.now }
+        requires stands { StandsAt types.now heap.now obj }
+        requires segment { k ≡ memory_index heap.now.memories obj }
+        requires run { references_at types.now heap.now obj ≡ offsets_from run.offset run.count }
+        ensures { self.new ≡ met_all (word_of heap.now) self.old obj (references_at types.now heap.now obj) }
+    {
+        let mut shade = near;
+        let mut i = self.meet_stretch(heap, types, shade, k, obj, run, 0);
+        while i < run.count {
+            let slot = obj + run.offset + 8 * i;
+            shade = self.meet(shade, heap.word_at(k, slot), slot);
+            i = self.meet_stretch(heap, types, shade, k, obj, run, i + 1);
+        }
+    }
+
+    // References of a run are followed from number `from` on, while their targets were taken in segment `near`. It
+    // answers at which one it stopped.
+    #[inline(never)]
+    fn meet_stretch(
+        &mut self,
+        heap: &Heap,
+        types: &Types,
+        near: usize,
+        k: usize,
+        obj: u64,
+        run: ReferenceRun,
+        from: u64,
+    ) -> u64
+        requires heap { IsHeap heap.now }
+        requires held { IsHeld types.now heap.now }
+        requires stands { StandsAt types.now heap.now obj }
+        requires segment { k ≡ memory_index heap.now.memories obj }
+        requires run { references_at types.now heap.now obj ≡ offsets_from run.offset run.count }
+        requires from { from ≤ run.count }
+        ensures low { from ≤ result }
+        ensures high { result ≤ run.count }
+        ensures met { (first : BackgroundView)
+            → self.old ≡ met_all (word_of heap.now) first obj (offsets_from run.offset from)
+            → self.new ≡ met_all (word_of heap.now) first obj (offsets_from run.offset result) }
+    {
+        let (stop, found) = meet_near(&mut self.shades, near, heap, types, k, obj, run, from);
+        self.gray = self.gray.saturating_add(found);
+        stop
     }
 
     // The same for any object, one after the other.

@@ -7,6 +7,7 @@ mod bits;
 mod first_pause;
 mod kind;
 mod last_pause;
+mod lending;
 mod shade;
 mod shades;
 

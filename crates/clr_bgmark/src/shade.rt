@@ -2,6 +2,7 @@
 ghost use Rattle.std.specs.Prelude.{◌≡◌, ℕ, ◌+◌, ◌*◌, ◌/◌, ◌%◌, ◌<◌, ◌≤◌, ◌^◌, ◌&&◌, not, true, false, IfOk, IfSome};
 ghost use Rattle.std.specs.Prelude.{get_or, IfNone};
 ghost use Rattle.clr_bgmark.specs.Bits.{has_bit};
+ghost use Rattle.clr_bgmark.specs.Lending.{found_near, IsNear, met_near};
 ghost use Rattle.clr_bgmark.specs.Pauses.{IsUnlogged, PassesCell};
 ghost use Rattle.clr_bgmark.specs.Shades.{card_of, cell_colour, cell_of, covers, is_gray_cell, is_outside, is_white};
 ghost use Rattle.clr_bgmark.specs.Shades.{with_scanned, with_set};
@@ -153,6 +154,31 @@ impl Shade {
             Colour::White
         } else {
             Colour::Outside
+        }
+    }
+
+    /// A reference to `target` is met: where that is white it becomes gray. It answers how many became gray, and none
+    /// where the target lies elsewhere or wasn't taken; nothing has changed then.
+    #[inline(always)]
+    pub(crate) fn meet(&mut self, target: u64) -> Option<u64>
+        ensures near { IfSome result (λ _. IsNear self.old target) }
+        ensures met { IfSome result (λ _. self.new ≡ met_near self.old target) }
+        ensures found { IfSome result (λ n. n ≡ found_near self.old target) }
+        ensures same { IfNone result (self.new ≡ self.old) }
+    {
+        if target == 0 {
+            return Some(0);
+        }
+        if !self.covers(target) {
+            return None;
+        }
+        match self.colour_met(target) {
+            Colour::White => {
+                self.set_bit(Bit::Marked, target);
+                Some(1)
+            }
+            Colour::Outside => None,
+            Colour::Gray | Colour::Black => Some(0),
         }
     }
 

@@ -10,8 +10,8 @@ reference_run-requires c =
     subst (λ (i : Item). i.type_id.0 ≤ length rows) (sym c.requires.item)
     (at rows c.args.heap.now c.requires.heap c.requires.held c.args.item.place c.requires.stands).known
 
-pub meet_run-requires-clause-run : goal.meet_run-requires-clause-run
-meet_run-requires-clause-run c =
+pub meet_long_run-requires-clause-run : goal.meet_long_run-requires-clause-run
+meet_long_run-requires-clause-run c =
     run_references c.args.types.now c.args.heap.now c.args.item.place c.args.item.type_id c.args.item.len
     c.in-Some.run' (ap (λ (i : Item). i.type_id) c.requires.item) (ap (λ (i : Item). i.len) c.requires.item)
     c.in-Some.ensures.spelled

@@ -14,9 +14,11 @@ use Rattle.clr_view.specs.World.{HandlesStand}
 use Rattle.clr_view.proofs.Headers.{header-high}
 use Rattle.clr_mark.specs.Roots.{IsRoot}
 use Rattle.clr_mark.proofs.Rooting.{at_in}
+use Rattle.clr_sweep.specs.declared.behind.Front.{Front}
 use Rattle.clr_bgmark.specs.Pauses.{root_grayed, roots_grayed, target_grayed, targets_grayed}
 use Rattle.clr_bgmark.specs.Scanning.{is_gray_place, IsCounted}
-use Rattle.clr_bgmark.specs.Shades.{BackgroundView, colour_at, grayed, is_marked, is_scanned, is_white, ShadeView}
+use Rattle.clr_bgmark.specs.Shades.{BackgroundView, colour_at, grayed, is_marked, is_scanned, is_white, PartView}
+use Rattle.clr_bgmark.specs.Shades.{ShadeView}
 use Rattle.clr_bgmark.proofs.Counted.{grayed_counted}
 use Rattle.clr_bgmark.proofs.FirstColours.{first_objects, IsInFirstPause, roots_first, targets_first}
 use Rattle.clr_bgmark.proofs.Meeting.{white_is, white_parts}
@@ -25,8 +27,10 @@ use Rattle.clr_bgmark.proofs.ScannedLists.{names, none_passes, stands_named}
 module _ (rows : List TypeRow) (h : HeapView) (heap : IsHeap h) (held : IsHeld rows h) (bare : List ShadeView) where
   -- where nothing is marked, none is gray
   pub none_counted : (ss : List ShadeView) → ((b : ℕ) → is_marked ss b ≡ false)
-      → IsCounted (objects_in rows h) (record { running = true; shades = ss; gray = 0 })
-  none_counted ss unmarked = sym (ap length (none_passes (is_gray_place ss) (names rows h heap held)
+      → (ps : List PartView) (fronts : List Front)
+      → IsCounted (objects_in rows h)
+      (record { running = true; shades = ss; gray = 0; parts = ps; fronts = fronts })
+  none_counted ss unmarked ps fronts = sym (ap length (none_passes (is_gray_place ss) (names rows h heap held)
       (λ b. ap (λ (m : Bool). m && not (is_scanned ss b)) (unmarked b))))
 
   root_counted : (v : BackgroundView) (y : ℕ) → IsInFirstPause h (heap_items rows h) bare v.shades

@@ -21,6 +21,10 @@ pub mod FirstPause
 pub mod FirstTaken
 pub mod FirstColours
 pub mod FirstRoots
+pub mod ToldParts
+pub mod AllParts
+pub mod SameTiles
+pub mod FirstTiles
 pub mod FirstBegun
 pub mod FirstCounted
 pub mod FoundMarked
@@ -29,3 +33,14 @@ pub mod RootedFound
 pub mod EachMarked
 pub mod EachFound
 pub mod Lent
+pub mod FoundMore
+pub mod StartFound
+pub mod ScannedMore
+pub mod AllFound
+pub mod CellCounts
+pub mod FrontWalk
+pub mod FrontSearch
+pub mod FrontFound
+pub mod MarkedBehind
+pub mod PutFronts
+pub mod FrontsMarked

@@ -9,7 +9,7 @@ use Rattle.clr_bgmark.specs.Bits.{has_bit}
 use Rattle.clr_bgmark.specs.Scanning.{is_white_place}
 use Rattle.clr_bgmark.specs.Shades.{ShadeView, IsShade, BackgroundView, cell_of, changed_at, colour_at, colour_by}
 use Rattle.clr_bgmark.specs.Shades.{is_covered, is_marked, is_outside, is_scanned, is_taken, is_white, met}
-use Rattle.clr_bgmark.specs.Shades.{met_all, grayed, slot_logged, told, with_logged, with_marked}
+use Rattle.clr_bgmark.specs.Shades.{met_all, grayed, rest_of, slot_logged, told, with_logged, with_marked}
 use Rattle.clr_bgmark.proofs.Lookups.{none_told}
 use Rattle.clr_bgmark.proofs.Kept.{in_cell, logged_shades, marked_more, marked_shades, or_true, told_kept}
 
@@ -221,19 +221,18 @@ all_met word x (o ∷ os) v all whole =
         go (inl e) = inl (n.is ∙ ap (λ k. word (x + k)) e, subst (λ k. word (x + k) ≢ 0) e n.not_null)
         go (inr l) = inr (record { offset = n.offset; listed = l; is = n.is; not_null = n.not_null })
 
--- whether one runs doesn't change
-pub met_running : (v : BackgroundView) (y a : ℕ) → (met v y a).running ≡ v.running
-met_running v y a = go (y == 0) (is_white (colour_at v.shades y)) (is_outside (colour_at v.shades y))
+-- all but the bits and the count stays
+pub met_rest : (v : BackgroundView) (y a : ℕ) → rest_of (met v y a) ≡ rest_of v
+met_rest v y a = go (y == 0) (is_white (colour_at v.shades y)) (is_outside (colour_at v.shades y))
   where
     go : (z w o : Bool)
-        → (if z then v else (if w then grayed v y else (if o then slot_logged v a else v))).running ≡ v.running
+        → rest_of (if z then v else (if w then grayed v y else (if o then slot_logged v a else v))) ≡ rest_of v
     go true w o = refl
     go false true o = refl
     go false false true = refl
     go false false false = refl
 
-pub all_running : (word : ℕ → ℕ) (x : ℕ) (offsets : List ℕ) (v : BackgroundView)
-    → (met_all word v x offsets).running ≡ v.running
-all_running word x [] v = refl
-all_running word x (o ∷ os) v =
-    all_running word x os (met v (word (x + o)) (x + o)) ∙ met_running v (word (x + o)) (x + o)
+pub all_rest : (word : ℕ → ℕ) (x : ℕ) (offsets : List ℕ) (v : BackgroundView)
+    → rest_of (met_all word v x offsets) ≡ rest_of v
+all_rest word x [] v = refl
+all_rest word x (o ∷ os) v = all_rest word x os (met v (word (x + o)) (x + o)) ∙ met_rest v (word (x + o)) (x + o)

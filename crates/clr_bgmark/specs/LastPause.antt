@@ -1,5 +1,5 @@
 -- What the last pause of a background collection has to follow.
-use Rattle.std.specs.Prelude.{◌≡◌, ℕ, ◌+◌, ◌*◌, ◌%◌, ◌<◌, ◌⊎◌, true, false, List, slice_get, Some}
+use Rattle.std.specs.Prelude.{◌≡◌, ℕ, ◌+◌, ◌*◌, ◌%◌, ◌<◌, ◌≤◌, ◌⊎◌, true, false, List, slice_get, Some}
 use Rattle.std.specs.Int.{bit_at}
 use Rattle.clr_types.specs.Rising.{IsIn}
 use Rattle.clr_types.specs.Types.{TypeRow, form_at, slot_offset}
@@ -11,10 +11,12 @@ use Rattle.clr_background.specs.Log.{StrictLogLaw}
 use Rattle.clr_mark.specs.Marks.{IsRemarked, LeadsTo}
 use Rattle.clr_mark.specs.Markings.{HasReached}
 use Rattle.clr_mark.specs.Waiting.{IsGray, MarkerView}
+use Rattle.clr_sweep.specs.Fronts.{front_at}
+use Rattle.clr_sweep.specs.declared.behind.Front.{Front}
 use Rattle.clr_bgmark.specs.Bits.{has_bit}
 use Rattle.clr_bgmark.specs.Pauses.{IsFound, Passes}
 use Rattle.clr_bgmark.specs.Scanning.{marking_in}
-use Rattle.clr_bgmark.specs.Shades.{cell_of, covers, is_logged, is_scanned, ShadeView}
+use Rattle.clr_bgmark.specs.Shades.{cell_of, covers, is_logged, is_scanned, IsAt, ShadeView}
 use Rattle.clr_bgmark.specs.declared.shade.Search.{Search}
 
 -- In a machine of these types and objects each reference slot of a black object is null, or names what is gray or
@@ -64,6 +66,18 @@ pub record IsMarkedIn (s : ShadeView) (x : ℕ) : Type 0 where
   pub aligned : x % 8 ≡ 0
   pub inside : covers s x ≡ true
   pub marked : has_bit s.marked (cell_of s x) ≡ true
+
+-- a marked place of a segment from an address on
+pub record IsMarkedBehind (s : ShadeView) (from x : ℕ) : Type 0 where
+  pub here : IsMarkedIn s x
+  pub behind : from ≤ x
+
+-- a found place behind the front of its segment
+pub record IsFoundBehind (ss : List ShadeView) (fronts : List Front) (x : ℕ) : Type 0 where
+  pub found : IsFound ss x
+  pub index : ℕ
+  pub at : IsAt ss index x
+  pub behind : (front_at fronts index).place ≤ x
 
 -- a place whose bit a word of bits has, of which the lowest one is that of `place`
 pub record IsInWord (place bits x : ℕ) : Type 0 where

@@ -5,6 +5,7 @@ use Rattle.std.specs.Prelude.{nat_lt, refl}
 use Rattle.std.specs.Prelude.{if◌then◌else◌, List, [], ◌∷◌, length, zero, suc, min, ◌==◌}
 use Rattle.std.specs.List.{AllByRecursion}
 use Rattle.std.specs.Coded.{Coded, code_by, coded×, coded_ℕ, coded_list}
+use Rattle.clr_sweep.specs.declared.behind.Front.{Front}
 use Rattle.clr_bgmark.specs.Bits.{has_bit, with_bit}
 use Rattle.clr_bgmark.specs.declared.shade.Bit.{Bit}
 use Rattle.clr_bgmark.specs.declared.shade.Bit.TheVariants.{Taken, Marked, Scanned, Logged}
@@ -38,6 +39,17 @@ shade_code =
       scanned = p.1.1.1.1.0;
       logged = p.1.1.1.1.1;
     }) (λ _. refl)
+
+-- of each eight bytes of a segment whether a gap began there, something that isn't an object, and where its old part
+-- ended
+pub record PartView : Type 0 where
+  pub gaps : List ℕ
+  pub stop : ℕ
+
+abbrev pub part_code : Coded PartView
+part_code =
+    code_by (List ℕ × ℕ) (coded× (coded_list coded_ℕ) coded_ℕ) (λ p. (p.gaps, p.stop))
+    (λ p. record { gaps = p.0; stop = p.1 }) (λ _. refl)
 
 -- whether the address lies in the segment
 abbrev pub covers : ShadeView → ℕ → Bool
@@ -145,11 +157,18 @@ abbrev pub AreApart : List ShadeView → Type 0
 AreApart [] = Unit {0}
 AreApart (s ∷ ss) = ((a : ℕ) → covers s a ≡ true → is_covered ss a ≡ false) × AreApart ss
 
--- a background collection as its callers see it: whether it runs, the bits, and how many objects are gray
+-- a background collection as its callers see it: whether it runs, the bits, how many objects are gray, the old parts of
+-- the segments as they were at the first pause, and their fronts, which the last pause tells
 pub record BackgroundView : Type 0 where
   pub running : Bool
   pub shades : List ShadeView
   pub gray : ℕ
+  pub parts : List PartView
+  pub fronts : List Front
+
+-- all but the bits and the count
+abbrev pub rest_of : BackgroundView → BackgroundView
+rest_of v = record v { shades = []; gray = 0 }
 
 -- what holds of every one
 pub record IsBackground (ss : List ShadeView) : Type 0 where

@@ -1,6 +1,6 @@
 // The colours and the log of a background collection.
 ghost use Rattle.std.specs.Prelude.{◌≡◌, ℕ, ◌^◌, ◌/◌, ◌%◌, ◌<◌, ◌≤◌, ◌&&◌, ◌||◌, nat_eq, true, false, [], length, None};
-ghost use Rattle.std.specs.Prelude.{IfSome, IfNone, OnOk, OnErr, Some, ◌↔◌, ◌⊎◌, ◌≢◌};
+ghost use Rattle.std.specs.Prelude.{IfSome, IfNone, OnOk, OnErr, Some, ◌↔◌, ◌⊎◌, ◌≢◌, map};
 ghost use Rattle.std.specs.FinMap as finmap;
 ghost use Rattle.clr_types.specs.declared.handle.Handle.{Handle as Row};
 ghost use Rattle.clr_view.specs.SlotValues.{StandsAt};
@@ -18,19 +18,23 @@ ghost use Rattle.clr_mark.specs.Marks.{IsClosed, IsRemarked};
 ghost use Rattle.clr_mark.specs.Markings.{references_at};
 ghost use Rattle.clr_mark.specs.Ties.{IsStart, Joins};
 ghost use Rattle.clr_mark.specs.Waiting.{IsGray};
+ghost use Rattle.clr_bgmark.specs.Closing.{without_colours};
 ghost use Rattle.clr_bgmark.specs.LastPause.{LogHolds};
 ghost use Rattle.clr_bgmark.specs.Pauses.{roots_grayed, HasBegun, IsFound, root_grayed, target_grayed, targets_grayed};
 ghost use Rattle.clr_bgmark.specs.Scanning.{AreObjects, followed, HasScanned, HasScannedOne, HaveWholeObjects};
 ghost use Rattle.clr_bgmark.specs.Scanning.{IsCounted, HasLogged, marking_in};
 ghost use Rattle.clr_bgmark.specs.Shades.{BackgroundView, changed_at, IsShade, colour_at, grayed, is_covered, is_gray};
-ghost use Rattle.clr_bgmark.specs.Shades.{IsAt, is_logged, is_marked, met, met_all, passed, slot_logged, with_logged};
+ghost use Rattle.clr_bgmark.specs.Tiles.{AreParts, AreTiled};
+ghost use Rattle.clr_bgmark.specs.Shades.{IsAt, is_logged, is_marked, met, met_all, passed, rest_of, slot_logged};
+ghost use Rattle.clr_bgmark.specs.Shades.{with_logged};
 ghost use Rattle.clr_mark.specs.Roots as roots;
 
 use crate::NoMemory;
-use crate::first_pause::{shades_of, take_oldest};
+use crate::first_pause::{fronts_of, parts_of, shades_of, take_oldest};
 use crate::kind::kind_behind;
 use crate::last_pause::mark_found;
 use crate::lending::meet_near;
+use crate::part::Part;
 use crate::shade::{Bit, Shade};
 use crate::shades::{
     colour_in, find, find_near, is_in, logged_in, meet_in, set_bit_at, set_bit_near, take_gray,
@@ -38,9 +42,13 @@ use crate::shades::{
 use clr_handles::Handles;
 use clr_heap::Heap;
 use clr_mark::{Marker, RunKind};
+use clr_sweep::Front;
 use clr_types::{Handle, Item, ReferenceRun, Types};
 use std::alloc::Global;
 use std::marker::Model;
+
+mod behind;
+mod closing;
 
 /// What a background collection knows of a place.
 #[derive(Clone, Copy, Debug, PartialEq, Eq)]
@@ -65,13 +73,16 @@ pub struct Progress {
 }
 
 /// A background collection: the colours of the objects that it took at its first pause, and the log of the cards on
-/// which a slot of a black object may name what isn't marked.
+/// which a slot of a black object may name what isn't marked; and what the last pause needs to pass over what is as it
+/// was: the old part of each segment at the first pause, and room for its front.
 #[derive(Drop)]
 pub struct Background {
     alloc: Global,
     running: bool,
     shades: Vec<Shade>,
     gray: u64,
+    parts: Vec<Part>,
+    fronts: Vec<Front>,
 }
 
 impl Model for Background {
@@ -79,7 +90,13 @@ impl Model for Background {
 
     ghost Value = { BackgroundView };
 
-    ghost view = { λ b. record { running = b.running; shades = b.shades.items; gray = b.gray } };
+    ghost view = { λ b. record {
+      running = b.running;
+      shades = b.shades.items;
+      gray = b.gray;
+      parts = b.parts.items;
+      fronts = b.fronts.items;
+    } };
 
     ghost invariant = { λ b. IsBackground b.shades.items };
 }
@@ -87,13 +104,15 @@ impl Model for Background {
 impl Background {
     /// None runs. Takes no memory.
     pub fn new(alloc: Global) -> Background
-        ensures { result ≡ record { running = false; shades = []; gray = 0 } }
+        ensures { result ≡ record { running = false; shades = []; gray = 0; parts = []; fronts = [] } }
     {
         Background {
             alloc,
             running: false,
             shades: Vec::new(alloc),
             gray: 0,
+            parts: Vec::new(alloc),
+            fronts: Vec::new(alloc),
         }
     }
 
@@ -170,11 +189,18 @@ impl Background {
         ensures objects { OnOk result (AreObjects types.now heap.now self.new.shades) }
         ensures whole { OnOk result (HaveWholeObjects types.now heap.now self.new.shades) }
         ensures counted { OnOk result (IsCounted (objects_in types.now heap.now) self.new) }
+        ensures parts { OnOk result (AreParts self.new.shades self.new.parts) }
+        ensures tiled { OnOk result (AreTiled types.now heap.now self.new.shades self.new.parts) }
+        ensures fronts { OnOk result (length self.new.fronts ≡ length self.new.shades) }
         ensures err { OnErr result (self.new ≡ self.old) }
     {
         let mut shades = shades_of(self.alloc, heap)?;
-        take_oldest(&mut shades, heap, types);
+        let mut parts = parts_of(self.alloc, heap)?;
+        let fronts = fronts_of(self.alloc, heap)?;
+        take_oldest(&mut shades, &mut parts, heap, types);
         self.shades = shades;
+        self.parts = parts;
+        self.fronts = fronts;
         self.running = true;
         self.gray = 0;
         self.gray_roots(locals);
@@ -241,7 +267,7 @@ impl Background {
         requires locals { roots.AreObjects types.now heap.old locals.now }
         requires ready { roots.AreObjects types.now heap.old ready.now }
         requires log { LogHolds types.now (objects_in types.now heap.old) self.old.shades }
-        ensures background { self.new ≡ record { running = false; shades = []; gray = 0 } }
+        ensures background { self.new ≡ record { running = false; shades = []; gray = 0; parts = []; fronts = [] } }
         ensures marker { marker.new ≡ record marker.old { stack = []; range = None; oldest = 2 } }
         ensures gray { IsGray types.now heap.new marker.new }
         ensures words { IsRemarked types.now heap.old heap.new }
@@ -266,6 +292,9 @@ impl Background {
         requires whole { HaveWholeObjects types.now heap.now self.old.shades }
         requires counted { IsCounted (objects_in types.now heap.now) self.old }
         ensures running { self.new.running ≡ self.old.running }
+        ensures parts { self.new.parts ≡ self.old.parts }
+        ensures fronts { self.new.fronts ≡ self.old.fronts }
+        ensures taken { map without_colours self.new.shades ≡ map without_colours self.old.shades }
         ensures objects { AreObjects types.now heap.now self.new.shades }
         ensures whole { HaveWholeObjects types.now heap.now self.new.shades }
         ensures counted { IsCounted (objects_in types.now heap.now) self.new }
@@ -303,7 +332,7 @@ impl Background {
         requires objects { AreObjects types.now heap.now self.old.shades }
         requires whole { HaveWholeObjects types.now heap.now self.old.shades }
         requires counted { IsCounted (objects_in types.now heap.now) self.old }
-        ensures running { self.new.running ≡ self.old.running }
+        ensures rest { rest_of self.new ≡ rest_of self.old }
         ensures objects { AreObjects types.now heap.now self.new.shades }
         ensures whole { HaveWholeObjects types.now heap.now self.new.shades }
         ensures counted { IsCounted (objects_in types.now heap.now) self.new }
@@ -314,6 +343,7 @@ impl Background {
         ensures empty { result ≡ false
             → (marking_in (objects_in types.now heap.now) self.old.shades).gray ≡ [] }
         ensures known { IsRunKind types.now known.new }
+        ensures taken { map without_colours self.new.shades ≡ map without_colours self.old.shades }
     {
         match self.next_gray() {
             Some((near, obj)) => {
@@ -572,9 +602,11 @@ impl Background {
 
     /// None runs any more.
     pub fn stop(&mut self)
-        ensures { self.new ≡ record { running = false; shades = []; gray = 0 } }
+        ensures { self.new ≡ record { running = false; shades = []; gray = 0; parts = []; fronts = [] } }
     {
         self.shades.clear();
+        self.parts.clear();
+        self.fronts.clear();
         self.running = false;
         self.gray = 0;
     }

@@ -2,7 +2,8 @@
 ghost use Rattle.std.specs.Int.{bit_at};
 ghost use Rattle.std.specs.Prelude.{◌≡◌, ◌⊎◌, ℕ, ◌*◌, ◌/◌, ◌%◌, ◌<◌, ◌≤◌, ◌^◌, ◌&&◌, not, true, false, length, get_or};
 ghost use Rattle.std.specs.Prelude.{IfNone, IfOk, IfSome};
-ghost use Rattle.clr_bgmark.specs.Bits.{has_bit, with_bit};
+ghost use Rattle.clr_bgmark.specs.Bits.{count_below, has_bit, with_bit};
+ghost use Rattle.std.specs.Prelude.{◌+◌, count_ones};
 
 use std::alloc::{AllocError, Global};
 use std::marker::Model;
@@ -165,6 +166,23 @@ impl Bits {
         self.first_beside(other, from, past)
     }
 
+    /// Whether all of the 64 numbers from 64 times this one on that are in this set are in the other, too.
+    #[inline(always)]
+    pub(crate) fn is_within(&self, other: &Bits, k: u64) -> bool
+        ensures { result ≡ true → (n : ℕ) → 64 * k ≤ n → n < 64 * k + 64 → has_bit self.now n ≡ true
+            → has_bit other.now n ≡ true }
+    {
+        beside(self.word(k), other.word(k)) == 0
+    }
+
+    /// How many of these 64 numbers are in the set.
+    #[inline(always)]
+    pub(crate) fn count_in(&self, k: u64) -> u64
+        ensures { count_below self.now (64 * k) + result ≡ count_below self.now (64 * k + 64) }
+    {
+        ones_of(self.word(k))
+    }
+
     /// Whether a number, for which there is room, is in the set.
     #[inline(always)]
     pub(crate) fn holds(&self, n: u64) -> bool
@@ -210,6 +228,14 @@ fn last_in(word: u64, n: u64) -> Option<u64>
         return None;
     }
     Some(n - rest.leading_zeros() as u64)
+}
+
+// How many bits a word has.
+#[inline(always)]
+fn ones_of(word: u64) -> u64
+    ensures { result ≡ count_ones (word % 2 ^ 64) }
+{
+    word.count_ones() as u64
 }
 
 // The bits of a word that aren't in the other.

@@ -1,5 +1,5 @@
 // What a background collection takes at its first pause.
-ghost use Rattle.std.specs.Prelude.{◌≡◌, ℕ, ◌+◌, ◌<◌, ◌≤◌, ◌^◌, length, true, IfOk};
+ghost use Rattle.std.specs.Prelude.{◌≡◌, ℕ, ◌+◌, ◌*◌, ◌<◌, ◌≤◌, ◌^◌, length, get_or, true, IfOk};
 ghost use Rattle.std.specs.List.{AllByRecursion};
 ghost use Rattle.clr_heap.specs.ObjectKinds.{IsObjectKind};
 ghost use Rattle.clr_heap.specs.Parts.{item_at};
@@ -10,11 +10,15 @@ ghost use Rattle.clr_heap.specs.View.{last_of, listing, segment_at, word_of};
 ghost use Rattle.clr_view.specs.View.{IsHeld};
 ghost use Rattle.clr_bgmark.specs.Pauses.{all_taken, AreShadesOf, IsBare, IsOldBelow, taken_in, taken_one, used_of};
 ghost use Rattle.clr_bgmark.specs.Pauses.{used_size};
+ghost use Rattle.clr_bgmark.specs.FirstParts.{AreUntold, gapped_one, HasTold, IsFresh, IsTold, no_part, no_shade};
 ghost use Rattle.clr_bgmark.specs.Shades.{AreApart, covers, IsShade};
+ghost use Rattle.clr_bgmark.specs.Tiles.{AreParts, HaveEdges};
 
 use crate::NoMemory;
+use crate::part::Part;
 use crate::shade::{Bit, Shade};
 use clr_heap::{Heap, ObjectKind};
+use clr_sweep::Front;
 use clr_types::{SegInfo, Types};
 use std::alloc::Global;
 
@@ -43,39 +47,85 @@ fn used_size(segment: SegInfo) -> u64
     (segment.end - segment.base + 4095) / 4096 * 4096
 }
 
-/// Takes the objects of generation 2.
-pub(crate) fn take_oldest(shades: &mut Vec<Shade>, heap: &Heap, types: &Types)
+/// The old part of each segment of the heap, of which nothing is known yet.
+pub(crate) fn parts_of(alloc: Global, heap: &Heap) -> Result<Vec<Part>, NoMemory>
+    ensures { IfOk result (λ v. AreUntold heap.now v.items) }
+{
+    let mut parts = Vec::new(alloc);
+    for k in 0..heap.segments() {
+        let segment = heap.info(k);
+        let part = Part::new(alloc, used_size(segment))?;
+        parts.push(part)?;
+    }
+    Ok(parts)
+}
+
+/// Room for the front of each segment of the heap.
+pub(crate) fn fronts_of(alloc: Global, heap: &Heap) -> Result<Vec<Front>, NoMemory>
+    ensures { IfOk result (λ v. length v.items ≡ length heap.now.segments) }
+{
+    let mut fronts = Vec::new(alloc);
+    for _ in 0..heap.segments() {
+        fronts.push(Front { place: 0, count: 0 })?;
+    }
+    Ok(fronts)
+}
+
+/// Takes the objects of generation 2, and learns where the gaps between them are.
+pub(crate) fn take_oldest(
+    shades: &mut Vec<Shade>,
+    parts: &mut Vec<Part>,
+    heap: &Heap,
+    types: &Types,
+)
     requires held { IsHeld types.now heap.now }
     requires shapes { AreShadesOf heap.now shades.old.items }
     requires apart { AreApart shades.old.items }
-    ensures { shades.new.items ≡ all_taken heap.now shades.old.items (heap_items types.now heap.now) }
+    requires lawful { AllByRecursion IsShade shades.old.items }
+    requires bare { AllByRecursion IsBare shades.old.items }
+    requires untold { AreUntold heap.now parts.old.items }
+    ensures taken { shades.new.items ≡ all_taken heap.now shades.old.items (heap_items types.now heap.now) }
+    ensures parts { AreParts shades.new.items parts.new.items }
+    ensures edges { HaveEdges types.now heap.now shades.new.items parts.new.items }
 {
     for k in 0..heap.segments() {
-        take_segment(shades, heap, types, k);
+        take_segment(shades, parts, heap, types, k);
     }
 }
 
 // Takes those of segment `k`.
-fn take_segment(shades: &mut Vec<Shade>, heap: &Heap, types: &Types, k: usize)
+fn take_segment(
+    shades: &mut Vec<Shade>,
+    parts: &mut Vec<Part>,
+    heap: &Heap,
+    types: &Types,
+    k: usize,
+)
     requires heap { IsHeap heap.now }
     requires in_range { k < length heap.now.segments }
     requires walkable { AreWalkable types.now heap.now }
     requires shapes { AreShadesOf heap.now shades.old.items }
     requires apart { AreApart shades.old.items }
-    ensures { shades.new.items ≡ all_taken heap.now shades.old.items (listing types.now heap.now k) }
+    requires count { length parts.old.items ≡ length heap.now.segments }
+    requires fresh { IsFresh (get_or shades.old.items k no_shade) (get_or parts.old.items k no_part) }
+    ensures taken { shades.new.items ≡ all_taken heap.now shades.old.items (listing types.now heap.now k) }
+    ensures told { HasTold types.now heap.now k shades.old.items shades.new.items parts.old.items parts.new.items }
 {
     let shade = &mut shades[k];
-    take_items(shade, heap, types, k);
+    let part = &mut parts[k];
+    take_items(shade, part, heap, types, k);
 }
 
 // Takes those of segment `k` on a walk, with its bits lent. The walk ends where generation 2 does. It stands apart, so
 // that its loop keeps what it needs in registers.
 #[inline(never)]
-fn take_items(shade: &mut Shade, heap: &Heap, types: &Types, k: usize)
+fn take_items(shade: &mut Shade, part: &mut Part, heap: &Heap, types: &Types, k: usize)
     requires in_range { k < length heap.now.segments }
     requires walkable { AreWalkable types.now heap.now }
     requires shape { (shade.old.base, shade.old.size) ≡ used_of (segment_at heap.now k) }
-    ensures { shade.new ≡ taken_in heap.now shade.old (listing types.now heap.now k) }
+    requires fresh { IsFresh shade.old part.old }
+    ensures taken { shade.new ≡ taken_in heap.now shade.old (listing types.now heap.now k) }
+    ensures told { IsTold types.now heap.now shade.new part.new }
 {
     let segment = heap.info(k);
     let mut place = segment.first_place();
@@ -84,14 +134,18 @@ fn take_items(shade: &mut Shade, heap: &Heap, types: &Types, k: usize)
     let stop = end_of_old(heap, k).min(segment.end);
     while place < stop {
         match heap.hole_here(k, place, &mut next_hole) {
-            Some(high) => place = high,
-            None => place += take_item(shade, heap, types, k, place, &mut known),
+            Some(high) => {
+                part.add_gap((place - segment.base) / 8);
+                place = high;
+            }
+            None => place += take_item(shade, part, heap, types, k, place, &mut known),
         }
     }
+    part.end_at(place);
 }
 
 // Where the places of generation 2 end in segment `k`.
-fn end_of_old(heap: &Heap, k: usize) -> u64
+pub(crate) fn end_of_old(heap: &Heap, k: usize) -> u64
     requires { k < length heap.now.segments }
     ensures { (a : ℕ) → first_of heap.now k ≤ a → a < last_of heap.now k → IsOldBelow heap.now a result }
 {
@@ -108,6 +162,7 @@ fn end_of_old(heap: &Heap, k: usize) -> u64
 #[inline(always)]
 fn take_item(
     shade: &mut Shade,
+    part: &mut Part,
     heap: &Heap,
     types: &Types,
     k: usize,
@@ -121,7 +176,9 @@ fn take_item(
     requires inside { covers shade.old place ≡ true }
     requires old { generation (frame heap.now) place ≡ 2 }
     requires known { IsObjectKind types.now known.old }
+    requires gaps { shade.old.size ≤ 512 * length part.old.gaps }
     ensures taken { shade.new ≡ taken_one heap.now shade.old (item_at types.now (word_of heap.now) place) }
+    ensures gaps { part.new ≡ gapped_one shade.old part.old (item_at types.now (word_of heap.now) place) }
     ensures size { result ≡ (item_at types.now (word_of heap.now) place).size }
     ensures known { IsObjectKind types.now known.new }
 {
@@ -131,7 +188,7 @@ fn take_item(
             shade.set_bit(Bit::Taken, place);
             size
         }
-        None => take_other(shade, heap, types, k, place, known),
+        None => take_other(shade, part, heap, types, k, place, known),
     }
 }
 
@@ -139,6 +196,7 @@ fn take_item(
 #[inline(never)]
 fn take_other(
     shade: &mut Shade,
+    part: &mut Part,
     heap: &Heap,
     types: &Types,
     k: usize,
@@ -152,13 +210,17 @@ fn take_other(
     requires inside { covers shade.old place ≡ true }
     requires old { generation (frame heap.now) place ≡ 2 }
     requires known { IsObjectKind types.now known.old }
+    requires gaps { shade.old.size ≤ 512 * length part.old.gaps }
     ensures taken { shade.new ≡ taken_one heap.now shade.old (item_at types.now (word_of heap.now) place) }
+    ensures gaps { part.new ≡ gapped_one shade.old part.old (item_at types.now (word_of heap.now) place) }
     ensures size { result ≡ (item_at types.now (word_of heap.now) place).size }
     ensures known { IsObjectKind types.now known.new }
 {
     let found = heap.item_like_in(types, k, place, known);
     if found.type_id.0 != 0 {
         shade.set_bit(Bit::Taken, place);
+    } else {
+        part.add_gap(shade.cell(place));
     }
     found.size
 }

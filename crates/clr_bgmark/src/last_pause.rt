@@ -1,6 +1,7 @@
 // What is gray or black is marked in the heap.
 ghost use Rattle.std.specs.Prelude.{◌≡◌, ℕ, ◌^◌, ◌/◌, ◌%◌, ◌<◌, ◌≤◌, [], length, true, None, IfSome, IfNone};
-ghost use Rattle.std.specs.Prelude.{◌↔◌, ◌⊎◌};
+ghost use Rattle.std.specs.Prelude.{◌↔◌, ◌⊎◌, ◌+◌, ◌*◌};
+ghost use Rattle.std.specs.Int.{bit_at};
 ghost use Rattle.std.specs.List.{AllByRecursion};
 ghost use Rattle.clr_heap.specs.Memories.{HasWord, memory_index};
 ghost use Rattle.clr_heap.specs.View.{IsHeap};
@@ -10,7 +11,9 @@ ghost use Rattle.clr_view.specs.SlotValues.{StandsAt};
 ghost use Rattle.clr_view.specs.View.{IsHeld, objects_in};
 ghost use Rattle.clr_mark.specs.Marks.{is_condemned_place, IsRemarked, LeadsTo, with_mark};
 ghost use Rattle.clr_mark.specs.Waiting.{IsGray};
-ghost use Rattle.clr_bgmark.specs.LastPause.{HasMarked, HasRooted, IsDue, IsInWord, IsMarkedIn, IsSought, LogHolds};
+ghost use Rattle.clr_bgmark.specs.LastPause.{HasMarked, HasRooted, IsDue, IsFoundBehind, IsInWord, IsMarkedBehind};
+ghost use Rattle.clr_bgmark.specs.LastPause.{IsMarkedIn, IsSought, LogHolds};
+ghost use Rattle.clr_sweep.specs.Fronts.{front_at};
 ghost use Rattle.clr_bgmark.specs.Pauses.{IsBehind, IsFound, IsNextFound, Passes};
 ghost use Rattle.clr_bgmark.specs.Scanning.{AreObjects};
 ghost use Rattle.clr_bgmark.specs.Shades.{AreApart, IsShade};
@@ -18,6 +21,7 @@ ghost use Rattle.clr_bgmark.specs.Shades.{AreApart, IsShade};
 use crate::shade::{Search, Shade};
 use clr_heap::Heap;
 use clr_mark::Marker;
+use clr_sweep::Front;
 use clr_types::{Types, mark};
 
 /// Marks in the heap what is gray or black, and what that reaches by slots. Of the black objects those are followed
@@ -116,6 +120,57 @@ fn mark_segment(shade: &Shade, near: usize, heap: &mut Heap, types: &Types)
     }
 }
 
+/// Marks what is gray or black behind the front of each segment.
+pub(crate) fn mark_behind(shades: &Vec<Shade>, fronts: &Vec<Front>, heap: &mut Heap, types: &Types)
+    requires apart { AreApart shades.now.items }
+    requires shades { AllByRecursion IsShade shades.now.items }
+    requires heap { IsHeap heap.old }
+    requires held { IsHeld types.now heap.old }
+    requires objects { AreObjects types.now heap.old shades.now.items }
+    requires room { length fronts.now.items ≡ length shades.now.items }
+    requires aligned { (k : ℕ) → k < length shades.now.items → (front_at fronts.now.items k).place % 8 ≡ 0 }
+    ensures { HasMarked types.now (IsFoundBehind shades.now.items fronts.now.items) heap.old heap.new }
+{
+    for k in 0..fronts.len() {
+        mark_from(&shades[k], k, fronts[k].place, heap, types);
+    }
+}
+
+// Marks those of one segment from an address on. It is looked for in the heap at `near` first.
+#[inline(never)]
+fn mark_from(shade: &Shade, near: usize, from: u64, heap: &mut Heap, types: &Types)
+    requires shade { IsShade shade.now }
+    requires aligned { from % 8 ≡ 0 }
+    requires heap { IsHeap heap.old }
+    requires held { IsHeld types.now heap.old }
+    requires stands { (x : ℕ) → IsMarkedBehind shade.now from x → StandsAt types.now heap.old x }
+    ensures { HasMarked types.now (IsMarkedBehind shade.now from) heap.old heap.new }
+{
+    let mut near = near;
+    for n in (from.saturating_sub(shade.base()) / 512)..shade.marked_words() {
+        let (place, word) = shade.marked_word(n);
+        let bits = bits_from(word, place, from);
+        if bits != 0 {
+            near = mark_word(heap, types, near, place, bits);
+        }
+    }
+}
+
+// Of a word of bits, whose lowest one is that of `place`, those of places from `from` on, which lies below its end.
+fn bits_from(word: u64, place: u64, from: u64) -> u64
+    requires aligned { from % 8 ≡ 0 }
+    requires place { place % 8 ≡ 0 }
+    requires below { from < place + 512 }
+    ensures only { (i : ℕ) → bit_at result i ≡ 1 → (bit_at word i ≡ 1) × (from ≤ place + 8 * i) }
+    ensures all { (i : ℕ) → bit_at word i ≡ 1 → from ≤ place + 8 * i → bit_at result i ≡ 1 }
+{
+    if from <= place {
+        return word;
+    }
+    let low = (from - place) / 8;
+    word >> low << low
+}
+
 // Marks those of one word of bits, whose lowest one is that of `place`. Their segment is looked for at `near` first. It
 // answers which one it is, a guess for the next word.
 #[inline]
@@ -155,13 +210,13 @@ fn mark_at(heap: &mut Heap, k: usize, obj: u64)
 // Where the search for marked places stands: at a segment, and at an address from which on they are still to be looked
 // for there.
 #[derive(Clone, Copy)]
-struct Spot {
-    k: usize,
-    from: u64,
+pub(crate) struct Spot {
+    pub(crate) k: usize,
+    pub(crate) from: u64,
 }
 
 // The next marked place from a spot on by a search, with the number of its segment.
-fn next_found(shades: &Vec<Shade>, search: Search, spot: Spot) -> Option<(usize, u64)>
+pub(crate) fn next_found(shades: &Vec<Shade>, search: Search, spot: Spot) -> Option<(usize, u64)>
     requires apart { AreApart shades.now.items }
     requires shades { AllByRecursion IsShade shades.now.items }
     ensures found { IfSome result (λ f. IsNextFound search shades.now.items spot.k spot.from f.0 f.1) }

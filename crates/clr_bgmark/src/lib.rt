@@ -5,9 +5,11 @@
 mod background;
 mod bits;
 mod first_pause;
+mod front;
 mod kind;
 mod last_pause;
 mod lending;
+mod part;
 mod shade;
 mod shades;
 

@@ -1,9 +1,10 @@
 // The bits of one segment.
 ghost use Rattle.std.specs.Prelude.{◌≡◌, ℕ, ◌+◌, ◌*◌, ◌/◌, ◌%◌, ◌<◌, ◌≤◌, ◌^◌, ◌&&◌, not, true, false, IfOk, IfSome};
 ghost use Rattle.std.specs.Prelude.{get_or, IfNone};
-ghost use Rattle.clr_bgmark.specs.Bits.{has_bit};
+ghost use Rattle.clr_bgmark.specs.Bits.{count_below, has_bit};
 ghost use Rattle.clr_bgmark.specs.Lending.{found_near, IsNear, met_near};
 ghost use Rattle.clr_bgmark.specs.Pauses.{IsUnlogged, PassesCell};
+ghost use Rattle.clr_bgmark.specs.Settling.{IsTakenIn};
 ghost use Rattle.clr_bgmark.specs.Shades.{card_of, cell_colour, cell_of, covers, is_gray_cell, is_outside, is_white};
 ghost use Rattle.clr_bgmark.specs.Shades.{with_scanned, with_set};
 
@@ -99,6 +100,23 @@ impl Shade {
             logged,
             lowest: 0,
         })
+    }
+
+    /// Where the segment begins.
+    #[inline]
+    pub(crate) fn base(&self) -> u64
+        ensures { result ≡ self.now.base }
+    {
+        self.base
+    }
+
+    /// The number of the eight bytes of an address.
+    #[inline]
+    pub(crate) fn cell(&self, a: u64) -> u64
+        requires { covers self.now a ≡ true }
+        ensures { result ≡ cell_of self.now a }
+    {
+        (a - self.base) / 8
     }
 
     /// Whether the address lies in the segment.
@@ -326,5 +344,43 @@ impl Shade {
         ensures bits { result.1 ≡ get_or self.now.marked n 0 }
     {
         (self.base + 512 * n, self.marked.word(n))
+    }
+
+    /// Whether all is marked that was taken in the 512 bytes of this number.
+    #[inline(always)]
+    pub(crate) fn is_found(&self, n: u64) -> bool
+        ensures { result ≡ true → (c : ℕ) → 64 * n ≤ c → c < 64 * n + 64 → has_bit self.now.taken c ≡ true
+            → has_bit self.now.marked c ≡ true }
+    {
+        self.taken.is_within(&self.marked, n)
+    }
+
+    /// How many objects were taken in the 512 bytes of this number.
+    #[inline(always)]
+    pub(crate) fn taken_count(&self, n: u64) -> u64
+        ensures { count_below self.now.taken (64 * n) + result ≡ count_below self.now.taken (64 * n + 64) }
+    {
+        self.taken.count_in(n)
+    }
+
+    /// Whether the place lies in the segment, and was taken.
+    pub(crate) fn has_taken(&self, a: u64) -> bool
+        ensures inside { result ≡ true → covers self.now a ≡ true }
+        ensures taken { result ≡ true → has_bit self.now.taken (cell_of self.now a) ≡ true }
+    {
+        self.covers(a) && self.is_taken(a)
+    }
+
+    /// The last place that was taken in the first 512 bytes, so many times.
+    pub(crate) fn last_taken(&self, words: u64) -> Option<u64>
+        requires { words ≤ self.now.size / 512 }
+        ensures taken { IfSome result (IsTakenIn self.now) }
+        ensures low { IfSome result (λ a. cell_of self.now a < 64 * words) }
+        ensures last { IfSome result (λ a. (c : ℕ) → cell_of self.now a < c → c < 64 * words
+            → has_bit self.now.taken c ≡ false) }
+        ensures none { IfNone result ((c : ℕ) → c < 64 * words → has_bit self.now.taken c ≡ false) }
+    {
+        let n = self.taken.last(0, 64 * words)?;
+        Some(self.base + 8 * n)
     }
 }

@@ -31,7 +31,7 @@ use Rattle.clr_collect.proofs.LeftCases.{left-cases}
 use Rattle.clr_collect.proofs.ReachedMarks.{edge-here, edge-there, marked_alive, stands-given}
 
 -- a collection of all generations condemns every place
-all_condemned : (h : HeapView) (x : ℕ) → is_condemned_place h 2 x ≡ true
+pub all_condemned : (h : HeapView) (x : ℕ) → is_condemned_place h 2 x ≡ true
 all_condemned h x =
     condemned-is h 2 x ∙ le-leb (generation (frame h) x) 2 (generation-least (frame h) x)
 

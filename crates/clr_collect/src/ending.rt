@@ -1,5 +1,6 @@
 // The last pause of a background collection.
-ghost use Rattle.std.specs.Prelude.{◌≡◌, ◌+◌, ◌≤◌, [], length, None, Some, false};
+ghost use Rattle.std.specs.Prelude.{◌≡◌, ℕ, ◌+◌, ◌<◌, ◌≤◌, ◌⊎◌, [], length, None, Some, true, false};
+ghost use Rattle.clr_types.specs.Rising.{IsIn};
 ghost use Rattle.clr_model.specs.Collection.{EndsBackground};
 ghost use Rattle.clr_model.specs.Lawful.{IsPlaceNamed};
 ghost use Rattle.clr_model.specs.Lookups.{lowest_in_step};
@@ -14,9 +15,15 @@ ghost use Rattle.clr_generations.specs.Tidy.{IsTidy};
 ghost use Rattle.clr_survivors.specs.Survivors.{world_of};
 ghost use Rattle.clr_mark.specs.Waiting.{IsGray};
 ghost use Rattle.clr_bgmark.specs.LastPause.{LogHolds};
-ghost use Rattle.clr_bgmark.specs.Scanning.{AreObjects, marking_in};
+ghost use Rattle.clr_bgmark.specs.Closing.{HaveFoundTargets};
+ghost use Rattle.clr_bgmark.specs.Pauses.{IsFound};
+ghost use Rattle.clr_bgmark.specs.Scanning.{AreObjects, HaveWholeObjects, IsCounted, marking_in};
+ghost use Rattle.clr_bgmark.specs.Tiles.{AreParts, AreTiled, HaveEdges, HaveSameBases};
+ghost use Rattle.clr_mark.specs.Ties.{IsStart, Joins};
+ghost use Rattle.clr_model.specs.Reach.{Reach};
 ghost use Rattle.clr_handles.specs.Tops.{pinned_in};
 ghost use Rattle.clr_collect.specs.Collecting.{HasMarkedAlive, HasMarkedKept, LastPauseStart};
+ghost use Rattle.clr_collect.specs.Ending.{HasSweptRest};
 
 use crate::collecting::{answer, give_up_contexts, release_after};
 use crate::judging::leave_kept;
@@ -27,7 +34,7 @@ use clr_generations::Space;
 use clr_mark::Marker;
 use clr_model::Collected;
 use clr_survivors::Roots;
-use clr_sweep::sweep;
+use clr_sweep::{Tally, sweep, sweep_behind};
 use clr_types::Types;
 
 /// Ends a background collection: the contexts are given up, and of all objects exactly those stay that locals, strong
@@ -61,12 +68,17 @@ pub fn end_background(
     requires world { (m : Machine) × IsWorldOf (world_of types.now space.old.heap roots.old) m × IsPlaceNamed m
         × (lowest_in_step m ≡ None) }
     requires objects { AreObjects types.now space.old.heap background.old.shades }
+    requires whole { HaveWholeObjects types.now space.old.heap background.old.shades }
+    requires counted { IsCounted (objects_in types.now space.old.heap) background.old }
+    requires parts { AreParts background.old.shades background.old.parts }
+    requires tiled { AreTiled types.now space.old.heap background.old.shades background.old.parts }
+    requires room { length background.old.fronts ≡ length background.old.shades }
     requires log { LogHolds types.now (objects_in types.now space.old.heap) background.old.shades }
     ensures collected { (m : Machine) → IsWorldOf (world_of types.now space.old.heap roots.old) m → IsPlaceNamed m
         → lowest_in_step m ≡ None → (after : Machine)
         × EndsBackground m (marking_in (objects_in types.now space.old.heap) background.old.shades) result after
         × IsWorldOf (world_of types.now space.new.heap roots.new) (picture after) }
-    ensures background { background.new ≡ record { running = false; shades = []; gray = 0 } }
+    ensures background { background.new ≡ record { running = false; shades = []; gray = 0; parts = []; fronts = [] } }
     ensures tidy { IsTidy types.now space.new }
     ensures unmarked { IsUnmarked types.now space.new.heap }
     ensures index { IsIndex types.now space.new.heap workshop.new.young }
@@ -81,6 +93,155 @@ pub fn end_background(
         ≤ roots.old.finals.spare + length roots.old.finals.entries }
     ensures pinned { pinned_in roots.new.handles ≡ pinned_in roots.old.handles }
 {
+    let swept = sweep_rest(types, space, roots, workshop, background);
+    release_after(types, space, 2);
+    workshop.young.forget();
+    Collected {
+        background: true,
+        ..answer(2, false, false, swept)
+    }
+}
+
+// Sweeps what the last pause doesn't keep: by bits, where all that it keeps is found so, and what handles and entries
+// name, too, and else by marks in the heap. No background collection runs then.
+fn sweep_rest(
+    types: &Types,
+    space: &mut Space,
+    roots: &mut Roots,
+    workshop: &mut Workshop,
+    background: &mut Background,
+) -> Tally
+    requires tidy { IsTidy types.now space.old }
+    requires unmarked { IsUnmarked types.now space.old.heap }
+    requires world { (m : Machine) × IsWorldOf (world_of types.now space.old.heap roots.old) m × IsPlaceNamed m
+        × (lowest_in_step m ≡ None) }
+    requires objects { AreObjects types.now space.old.heap background.old.shades }
+    requires whole { HaveWholeObjects types.now space.old.heap background.old.shades }
+    requires counted { IsCounted (objects_in types.now space.old.heap) background.old }
+    requires parts { AreParts background.old.shades background.old.parts }
+    requires tiled { AreTiled types.now space.old.heap background.old.shades background.old.parts }
+    requires room { length background.old.fronts ≡ length background.old.shades }
+    requires log { LogHolds types.now (objects_in types.now space.old.heap) background.old.shades }
+    ensures ended { HasSweptRest (world_of types.now space.old.heap roots.old)
+        (marking_in (objects_in types.now space.old.heap) background.old.shades) space.old space.new roots.new.handles
+        roots.new.finals result }
+    ensures background { background.new ≡ record {
+      running = false;
+      shades = [];
+      gray = 0;
+      parts = [];
+      fronts = [];
+    } }
+    ensures workshop { workshop.new ≡ record workshop.old {
+      marker = record workshop.old.marker { stack = []; range = None; oldest = 2 };
+      young = workshop.new.young;
+    } }
+    ensures locals { roots.new.locals ≡ roots.old.locals }
+    ensures spare { roots.old.finals.spare ≤ roots.new.finals.spare }
+    ensures none_added { roots.new.finals.spare + length roots.new.finals.entries
+        ≤ roots.old.finals.spare + length roots.old.finals.entries }
+{
+    let found = background.close(
+        &space.heap,
+        types,
+        &roots.handles,
+        &roots.locals,
+        roots.finals.ready(),
+        roots.finals.entries(),
+    );
+    if found && background.has_same_segments(&space.heap) {
+        sweep_behind_fronts(types, space, roots, workshop, background)
+    } else {
+        sweep_unmarked(types, space, roots, workshop, background)
+    }
+}
+
+// The same where all that the last pause keeps is found, and what handles and entries name, too: neither they nor the
+// queue change.
+fn sweep_behind_fronts(
+    types: &Types,
+    space: &mut Space,
+    roots: &Roots,
+    workshop: &mut Workshop,
+    background: &mut Background,
+) -> Tally
+    requires tidy { IsTidy types.now space.old }
+    requires unmarked { IsUnmarked types.now space.old.heap }
+    requires world { (m : Machine) × IsWorldOf (world_of types.now space.old.heap roots.now) m × IsPlaceNamed m
+        × (lowest_in_step m ≡ None) }
+    requires objects { AreObjects types.now space.old.heap background.old.shades }
+    requires parts { AreParts background.old.shades background.old.parts }
+    requires edges { HaveEdges types.now space.old.heap background.old.shades background.old.parts }
+    requires room { length background.old.fronts ≡ length background.old.shades }
+    requires bases { HaveSameBases space.old.heap background.old.shades }
+    requires all { (x : ℕ) → Reach (Joins types.now space.old.heap roots.now.handles)
+        (λ y. IsStart roots.now.handles roots.now.locals.items roots.now.finals.ready y
+        ⊎ IsFound background.old.shades y) x → IsFound background.old.shades x }
+    requires targets { HaveFoundTargets roots.now.handles background.old.shades }
+    requires entries { (x : ℕ) → IsIn x roots.now.finals.entries → 0 < x → IsFound background.old.shades x }
+    ensures ended { HasSweptRest (world_of types.now space.old.heap roots.now)
+        (marking_in (objects_in types.now space.old.heap) background.old.shades) space.old space.new
+        roots.now.handles roots.now.finals result }
+    ensures background { background.new ≡ record {
+      running = false;
+      shades = [];
+      gray = 0;
+      parts = [];
+      fronts = [];
+    } }
+    ensures workshop { workshop.new ≡ record workshop.old {
+      marker = record workshop.old.marker { stack = []; range = None; oldest = 2 };
+      young = workshop.new.young;
+    } }
+{
+    let _ = roots;
+    give_up_contexts(types, space, &mut workshop.young);
+    workshop.marker.begin(2);
+    background.settle(&space.heap, types);
+    background.mark_behind(&mut space.heap, types);
+    let swept = sweep_behind(
+        &mut space.heap,
+        types,
+        &mut space.bricks,
+        background.fronts(),
+    );
+    background.stop();
+    swept
+}
+
+// The same by marks in the heap, whatever is found.
+fn sweep_unmarked(
+    types: &Types,
+    space: &mut Space,
+    roots: &mut Roots,
+    workshop: &mut Workshop,
+    background: &mut Background,
+) -> Tally
+    requires tidy { IsTidy types.now space.old }
+    requires unmarked { IsUnmarked types.now space.old.heap }
+    requires world { (m : Machine) × IsWorldOf (world_of types.now space.old.heap roots.old) m × IsPlaceNamed m
+        × (lowest_in_step m ≡ None) }
+    requires objects { AreObjects types.now space.old.heap background.old.shades }
+    requires log { LogHolds types.now (objects_in types.now space.old.heap) background.old.shades }
+    ensures ended { HasSweptRest (world_of types.now space.old.heap roots.old)
+        (marking_in (objects_in types.now space.old.heap) background.old.shades) space.old space.new roots.new.handles
+        roots.new.finals result }
+    ensures background { background.new ≡ record {
+      running = false;
+      shades = [];
+      gray = 0;
+      parts = [];
+      fronts = [];
+    } }
+    ensures workshop { workshop.new ≡ record workshop.old {
+      marker = record workshop.old.marker { stack = []; range = None; oldest = 2 };
+      young = workshop.new.young;
+    } }
+    ensures locals { roots.new.locals ≡ roots.old.locals }
+    ensures spare { roots.old.finals.spare ≤ roots.new.finals.spare }
+    ensures none_added { roots.new.finals.spare + length roots.new.finals.entries
+        ≤ roots.old.finals.spare + length roots.old.finals.entries }
+{
     mark_found_kept(
         types,
         space,
@@ -89,13 +250,7 @@ pub fn end_background(
         &mut workshop.young,
         background,
     );
-    let swept = sweep(&mut space.heap, types, &mut space.bricks, 2);
-    release_after(types, space, 2);
-    workshop.young.forget();
-    Collected {
-        background: true,
-        ..answer(2, false, false, swept)
-    }
+    sweep(&mut space.heap, types, &mut space.bricks, 2)
 }
 
 // Gives up the contexts, marks exactly what the last pause keeps, and leaves handles and entries as it does. No
@@ -117,7 +272,7 @@ fn mark_found_kept(
         (LastPauseStart (marking_in (objects_in types.now space.old.heap) background.old.shades)) space.new.heap
         roots.new.handles roots.new.finals 2 }
     ensures tidy { IsTidy types.now space.new }
-    ensures background { background.new ≡ record { running = false; shades = []; gray = 0 } }
+    ensures background { background.new ≡ record { running = false; shades = []; gray = 0; parts = []; fronts = [] } }
     ensures marker { marker.new ≡ record marker.old { stack = []; range = None; oldest = 2 } }
     ensures locals { roots.new.locals ≡ roots.old.locals }
     ensures spare { roots.old.finals.spare ≤ roots.new.finals.spare }
@@ -151,7 +306,7 @@ fn mark_found_alive(
     ensures alive { HasMarkedAlive (world_of types.now space.old.heap roots.now)
         (LastPauseStart (marking_in (objects_in types.now space.old.heap) background.old.shades)) space.new.heap 2 }
     ensures gray { IsGray types.now space.new.heap marker.new }
-    ensures background { background.new ≡ record { running = false; shades = []; gray = 0 } }
+    ensures background { background.new ≡ record { running = false; shades = []; gray = 0; parts = []; fronts = [] } }
     ensures marker { marker.new ≡ record marker.old { stack = []; range = None; oldest = 2 } }
     ensures tables { AreTablesOf types.now space.new.heap space.new.cards space.new.bricks }
 {

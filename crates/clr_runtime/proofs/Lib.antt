@@ -11,6 +11,7 @@ pub mod Opened
 pub mod IndexKept
 pub mod MarkingSeen
 pub mod MarkingRead
+pub mod StandingWhole
 pub mod MarkedLines
 pub mod MarkedKept
 pub mod MarkedStores

@@ -3,7 +3,6 @@
 use Rattle.std.proofs.Common.{◌≡◌, ◌∙◌, ◌⊎◌, inl, inr, ℕ, ◌+◌, Bool, true, false, sym, ap, subst, if◌then◌else◌}
 use Rattle.std.proofs.Common.{None, Some}
 use Rattle.std.specs.Prelude.{IfSome, IsTrue}
-use Rattle.clr_types.specs.Descriptors.{reference_offsets}
 use Rattle.clr_types.specs.Rising.{IsIn}
 use Rattle.clr_types.specs.Types.{form_at, slot_offset}
 use Rattle.clr_types.proofs.ChangedLists.{rising-distinct}
@@ -21,7 +20,7 @@ use Rattle.clr_background.specs.Log.{CompletesStore, IsNullOrMarked, slot_addres
 use Rattle.clr_background.proofs.Changes.{IsUsualLine}
 use Rattle.clr_background.proofs.Markings.{marked_taken}
 use Rattle.clr_bgmark.specs.Shades.{BackgroundView, is_logged}
-use Rattle.clr_runtime.specs.Marked.{IsMarkedSoFar, marking_by, marking_of}
+use Rattle.clr_runtime.specs.Marked.{IsMarkedSoFar, marking_by, marking_of, StandsWhole}
 use Rattle.clr_runtime.proofs.MarkedLines.{LogsStores, marked_on}
 
 -- ---- objects stay as they are
@@ -37,9 +36,11 @@ pub stays_marked : (s after : Machine) (v : BackgroundView) → StayTaken s afte
 stays_marked s after v stay is = record {
   colours = is.colours;
   counted = is.counted;
-  slots = λ o offset here took listed.
+  whole = λ o here took.
       let j = stay.objects o here took in
-      is.slots o offset j took (subst (λ f. IsIn offset (reference_offsets f o.len)) (stay.forms o j) listed);
+      subst (λ f. StandsWhole v.shades v.parts o.place f o.len) (sym (stay.forms o j)) (is.whole o j took);
+  parts = is.parts;
+  fronts = is.fronts;
   log = λ o i name here black e.
       let j = stay.objects o here (marked_taken (marking_by v.shades) o.name (inr black)) in
       go o i name (stay.forms o j) (is.log o i name j black e);
@@ -113,10 +114,17 @@ module _ (s : Machine) (i : Instruction) (outcome : Outcome) (after : Machine) (
       let is = marked running in
       let logs : LogsStores s i (is_logged v.shades) (is_logged v.shades) =
       record { stays = λ a e. e; stored = λ m seen o slot here c. absurd (none m seen o.name slot c) } in
-      let (slots, log) = marked_on s i outcome after line (marking_by v.shades) v.shades (is_logged v.shades)
+      let (whole, log) = marked_on s i outcome after line (marking_by v.shades) v.shades v.parts (is_logged v.shades)
       (is_logged v.shades) logs sound follows (was ∙ running_marking v running) (now ∙ running_marking v running)
-      (is.slots, is.log) in
-      record { colours = is.colours; counted = is.counted; slots = slots; log = log }
+      (is.whole, is.log) in
+      record {
+        colours = is.colours;
+        counted = is.counted;
+        whole = whole;
+        parts = is.parts;
+        fronts = is.fronts;
+        log = log;
+      }
 
 pub quiet_marked : (s : Machine) (i : Instruction) (outcome : Outcome) (after : Machine) → IsPlaceNamed s
     → is_quiet i ≡ true → Follows s i outcome after → (v : BackgroundView) → s.background ≡ marking_of v

@@ -1,10 +1,9 @@
 -- A line while a background collection runs: what holds of its bits and its log holds on, where what the line stores is
 -- logged.
-use Rattle.std.proofs.Common.{◌≡◌, ◌∙◌, ℕ, ◌+◌, ◌<◌, inr, Bool, List, map, refl, sym, ap, subst, Option, None}
+use Rattle.std.proofs.Common.{◌≡◌, ◌∙◌, ℕ, inr, Bool, List, map, refl, sym, ap, subst, Option, None}
 use Rattle.std.proofs.Common.{Some}
 use Rattle.std.specs.Prelude.{IfSome, IsTrue, is_some}
 use Rattle.std.specs.Option.{option_map}
-use Rattle.clr_types.specs.Descriptors.{reference_offsets}
 use Rattle.clr_types.specs.Rising.{IsIn}
 use Rattle.clr_types.specs.Types.{form_at, form_of_row}
 use Rattle.clr_types.proofs.ChangedLists.{IsIn-map, rising-distinct}
@@ -32,31 +31,31 @@ use Rattle.clr_background.proofs.LogNames.{log_names}
 use Rattle.clr_background.proofs.Markings.{marked_taken, MarksOn}
 use Rattle.clr_background.proofs.OldStays.{LeavesOld}
 use Rattle.clr_background.proofs.PlaceNames.{back_in, taken_renamed}
-use Rattle.clr_bgmark.specs.Shades.{is_covered, ShadeView}
-use Rattle.clr_runtime.specs.Marked.{HaveWholeSlots}
+use Rattle.clr_bgmark.specs.Shades.{PartView, ShadeView}
+use Rattle.clr_runtime.specs.Marked.{StandsWhole, StandWhole}
+use Rattle.clr_runtime.proofs.StandingWhole.{stands_so}
 
 -- ---- names
 
-module _ (m : Machine) (h : AreNamed m) (k : Marking) (ss : List ShadeView) where
+module _ (m : Machine) (h : AreNamed m) (k : Marking) (ss : List ShadeView) (ps : List PartView) where
   abbrev to : ℕ → ℕ
   to = place_of m.objects
 
-  whole_of_picture : HaveWholeSlots (picture m) (renamed_marking to k) ss → HaveWholeSlots m k ss
-  whole_of_picture whole o offset here took listed =
-      whole (renamed_object to o) offset
+  whole_of_picture : StandWhole (picture m) (renamed_marking to k) ss ps → StandWhole m k ss ps
+  whole_of_picture whole o here took =
+      whole (renamed_object to o)
       (into_sorted_by (λ (o : Object). o.name) (renamed_object to o) (map (renamed_object to) m.objects)
       (IsIn-map (renamed_object to) here))
-      (subst (IsIn (to o.name)) (sym (taken_renamed to k)) (IsIn-map to took)) listed
+      (subst (IsIn (to o.name)) (sym (taken_renamed to k)) (IsIn-map to took))
 
-  whole_seen : HaveWholeSlots m k ss → HaveWholeSlots (picture m) (renamed_marking to k) ss
-  whole_seen whole p offset here took listed =
+  whole_seen : StandWhole m k ss ps → StandWhole (picture m) (renamed_marking to k) ss ps
+  whole_seen whole p here took =
       let (o, e, j) = from-map (renamed_object to) p m.objects
       (out_of_sorted_by (λ (o : Object). o.name) p (map (renamed_object to) m.objects) here) in
       let name : IsIn (to o.name) (map to (taken k)) =
       subst (λ (w : Object). IsIn w.name (map to (taken k))) e (subst (IsIn p.name) (taken_renamed to k) took) in
-      ap (λ (w : Object). is_covered ss (w.place + offset)) e
-      ∙ whole o offset j (back_in m h o.name (o, j, refl) (taken k) name)
-      (subst (λ (w : Object). IsIn offset (reference_offsets (form_at m.types w.type) w.len)) e listed)
+      subst (λ (w : Object). StandsWhole ss ps w.place (form_at m.types w.type) w.len) (sym e)
+      (whole o j (back_in m h o.name (o, j, refl) (taken k) name))
 
 -- what a machine took, by what its picture took
 pub unrenamed : (to : ℕ → ℕ) (r : Option Marking) (k : Marking) → option_map (renamed_marking to) r ≡ Some k
@@ -103,15 +102,14 @@ module _ (m : Machine) (i : Instruction) (next : Machine) (h : IsBirthNamed m) (
         len = ap (λ (o : Object). o.len) one ∙ put.len;
       }
 
-  whole_goes_on : (ss : List ShadeView) → HaveWholeSlots m old ss → HaveWholeSlots next final ss
-  whole_goes_on ss whole p offset here took listed =
+  whole_goes_on : (ss : List ShadeView) (ps : List PartView) → StandWhole m old ss ps → StandWhole next final ss ps
+  whole_goes_on ss ps whole p here took =
       let w = as_it_was p here took in
       let typed = (all_at (IsShaped m) w.present h.lawful.shapes).typed in
       let form : form_at next.types p.type ≡ form_at m.types w.was.type =
       ap (form_at next.types) w.type ∙ ap form_of_row (s.types w.was.type typed) in
-      ap (λ a. is_covered ss (a + offset)) w.place
-      ∙ whole w.was offset w.present (subst (λ n. IsIn n (taken old)) w.name ((marks.same p.name).1 took))
-      (subst (IsIn offset) (λ k. reference_offsets (form k) (w.len k)) listed)
+      stands_so ss ps w.place form w.len
+      (whole w.was w.present (subst (λ n. IsIn n (taken old)) w.name ((marks.same p.name).1 took)))
 
   -- where the picture shows the same marking before and after, what is black was black
   black_was : renamed_marking (place_of m.objects) old ≡ renamed_marking (place_of next.objects) final → (o : Object)
@@ -142,15 +140,15 @@ pub record LogsStores (s : Machine) (i : Instruction) (log more : ℕ → Bool) 
   pub stored : (m : Machine) → picture m ≡ s → (o : Object) (slot : ℕ) → IsIn o m.objects
       → CompletesStore m i o.name slot → IsTrue (more (slot_address m o slot))
 
--- what holds of a machine, of what it took, of the segments of the first pause, and of a log
-abbrev pub IsLogged : Machine → Marking → List ShadeView → (ℕ → Bool) → Type 0
-IsLogged m k ss log = HaveWholeSlots m k ss × LogLaw m k log
+-- what holds of a machine, of what it took, of the segments of the first pause and their old parts, and of a log
+abbrev pub IsLogged : Machine → Marking → List ShadeView → List PartView → (ℕ → Bool) → Type 0
+IsLogged m k ss ps log = StandWhole m k ss ps × LogLaw m k log
 
 module _ (s : Machine) (i : Instruction) (outcome : Outcome) (after : Machine) (line : IsUsualLine i) (k : Marking)
-    (ss : List ShadeView) (log more : ℕ → Bool) (logs : LogsStores s i log more) where
+    (ss : List ShadeView) (ps : List PartView) (log more : ℕ → Bool) (logs : LogsStores s i log more) where
   -- of a machine that is seen so
   goes_on : (m next : Machine) → StandsFor s m → Obeys m i outcome next → StandsFor after next
-      → s.background ≡ Some k → after.background ≡ Some k → IsLogged s k ss log → IsLogged after k ss more
+      → s.background ≡ Some k → after.background ≡ Some k → IsLogged s k ss ps log → IsLogged after k ss ps more
   goes_on m next stands obeys shown runs now (whole, law) =
       let (old, began, is) = unrenamed (place_of m.objects) m.background k
       (ap (λ (w : Machine). w.background) stands.seen_is ∙ runs) in
@@ -162,10 +160,10 @@ module _ (s : Machine) (i : Instruction) (outcome : Outcome) (after : Machine) (
       let marks = change_marks m i next change old final began goes in
       let was_named = lawful-named m stands.lawful.lawful in
       let now_named = lawful-named next shown.lawful.lawful in
-      let was_whole : HaveWholeSlots m old ss =
-      whole_of_picture m was_named old ss
-      (subst (λ w. HaveWholeSlots (picture m) w ss) (sym is)
-      (subst (λ w. HaveWholeSlots w k ss) (sym stands.seen_is) whole)) in
+      let was_whole : StandWhole m old ss ps =
+      whole_of_picture m was_named old ss ps
+      (subst (λ w. StandWhole (picture m) w ss ps) (sym is)
+      (subst (λ w. StandWhole w k ss ps) (sym stands.seen_is) whole)) in
       let was_law : LogLaw m old log =
       (log_names m old log stands.lawful.lawful).0
       (subst (λ w. LogLaw (picture m) w log) (sym is) (subst (λ w. LogLaw w k log) (sym stands.seen_is) law)) in
@@ -178,11 +176,12 @@ module _ (s : Machine) (i : Instruction) (outcome : Outcome) (after : Machine) (
             (is ∙ sym final_is) o here black));
       } in
       let now_whole = whole_goes_on m i next stands.lawful shown.lawful.lawful stores leaves old final began marks ss
-      was_whole in
+      ps was_whole in
       let now_law = line_logs_on m i outcome next old final stands.lawful line obeys began goes log more line_logs
       was_law in (
-        subst (λ w. HaveWholeSlots w k ss) shown.seen_is
-            (subst (λ w. HaveWholeSlots (picture next) w ss) final_is (whole_seen next now_named final ss now_whole)),
+        subst (λ w. StandWhole w k ss ps) shown.seen_is
+            (subst (λ w. StandWhole (picture next) w ss ps) final_is
+            (whole_seen next now_named final ss ps now_whole)),
         subst (λ w. LogLaw w k more) shown.seen_is
             (subst (λ w. LogLaw (picture next) w more) final_is
             ((log_names next final more shown.lawful.lawful).1 now_law)),
@@ -190,7 +189,7 @@ module _ (s : Machine) (i : Instruction) (outcome : Outcome) (after : Machine) (
 
   -- so it is seen
   pub marked_on : IsPlaceNamed s → Follows s i outcome after → s.background ≡ Some k → after.background ≡ Some k
-      → IsLogged s k ss log → IsLogged after k ss more
+      → IsLogged s k ss ps log → IsLogged after k ss ps more
   unfolding Follows
   marked_on sound follows runs now =
       let (m, stands) = sound_stands s sound in

@@ -35,14 +35,16 @@ use Rattle.clr_background.specs.Log.{CompletesStore, LogLaw, slot_address}
 use Rattle.clr_background.proofs.Changes.{IsUsualLine}
 use Rattle.clr_background.proofs.Markings.{marked_taken}
 use Rattle.clr_bgmark.specs.Bits.{has_bit}
-use Rattle.clr_bgmark.specs.Shades.{BackgroundView, cell_of, changed_at, is_covered, is_logged, ShadeView}
+use Rattle.clr_bgmark.specs.Shades.{BackgroundView, cell_of, changed_at, is_covered, is_logged, PartView, ShadeView}
 use Rattle.clr_bgmark.specs.Shades.{is_marked, is_scanned, is_taken, with_logged}
 use Rattle.clr_bgmark.proofs.Kept.{covered_kept, told_kept}
-use Rattle.clr_runtime.specs.Marked.{AreColours, HaveWholeSlots, IsMarkedSoFar, marking_by, marking_of}
+use Rattle.clr_bgmark.proofs.SameTiles.{logged_bare, same_count, same_parts}
+use Rattle.clr_runtime.specs.Marked.{AreColours, IsMarkedSoFar, marking_by, marking_of, StandWhole}
 use Rattle.clr_runtime.specs.Shown.{Ahead, shown}
 use Rattle.clr_runtime.proofs.MarkedKept.{running_marking}
 use Rattle.clr_runtime.proofs.MarkedLines.{LogsStores, marked_on}
 use Rattle.clr_runtime.proofs.MarkingRead.{marking_logged}
+use Rattle.clr_runtime.proofs.StandingWhole.{same_stands}
 
 -- ---- the slots that refer
 
@@ -151,11 +153,11 @@ law_told m k ss law o i name here black e = elim (law o i name here black e) [
   | inr store ↦ inr store
 ]
 
-told_law : (m : Machine) → IsPlaceNamed m → (k : Marking) (ss : List ShadeView) → HaveWholeSlots m k ss
-    → LogLaw m k (is_told ss) → LogLaw m k (is_logged ss)
-told_law m sound k ss whole law o i name here black e =
+told_law : (m : Machine) → IsPlaceNamed m → (k : Marking) (ss : List ShadeView) (ps : List PartView)
+    → StandWhole m k ss ps → LogLaw m k (is_told ss) → LogLaw m k (is_logged ss)
+told_law m sound k ss ps whole law o i name here black e =
     let shaped = all_at (IsShaped m) here sound.lawful.shapes in
-    let covered = whole o (slot_offset (form_at m.types o.type) i) here (marked_taken k o.name (inr black))
+    let covered = (whole o here (marked_taken k o.name (inr black))).slots (slot_offset (form_at m.types o.type) i)
     (reference_listed m o shaped i name e) in
     elim (law o i name here black e) [
       | inl (inl marked) ↦ inl (inl marked)
@@ -262,15 +264,20 @@ module _ (s : Machine) (i : Instruction) (outcome : Outcome) (after : Machine) (
       → (v.running ≡ true → IsMarkedSoFar s v) → v.running ≡ true → IsMarkedSoFar after (with_slot_logged v slot)
   stored_marked was still marked running =
       let is = marked running in
-      let (slots, law) = marked_on s i outcome after line k ss (is_told ss) (is_told then_shades) logs sound follows
-      (was ∙ running_marking v running) (still ∙ running_marking v running) (is.slots, law_told s k ss is.log) in
+      let (was_whole, law) = marked_on s i outcome after line k ss v.parts (is_told ss) (is_told then_shades) logs sound
+      follows (was ∙ running_marking v running) (still ∙ running_marking v running)
+      (is.whole, law_told s k ss is.log) in
       let same : marking_by then_shades ≡ k = marking_logged ss slot in
-      let whole : HaveWholeSlots after k then_shades =
-      λ o offset here took listed. same_covered ss slot (o.place + offset) ∙ slots o offset here took listed in
+      let whole : StandWhole after k then_shades v.parts =
+      λ o here took.
+      same_stands ss then_shades (logged_bare ss slot) v.parts o.place (form_at after.types o.type) o.len
+      (was_whole o here took) in
       record {
         colours = logged_colours is.colours;
         counted = is.counted ∙ sym (ap (λ (w : Marking). length w.gray) same);
-        slots = subst (λ w. HaveWholeSlots after w then_shades) (sym same) whole;
+        whole = subst (λ w. StandWhole after w then_shades v.parts) (sym same) whole;
+        parts = same_parts ss then_shades (logged_bare ss slot) v.parts is.parts;
+        fronts = is.fronts ∙ sym (same_count ss then_shades (logged_bare ss slot));
         log = subst (λ w. LogLaw after w (is_logged then_shades)) (sym same)
-            (told_law after (follows_sound s i outcome after sound follows) k then_shades whole law);
+            (told_law after (follows_sound s i outcome after sound follows) k then_shades v.parts whole law);
       }

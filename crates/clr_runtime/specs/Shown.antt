@@ -14,7 +14,7 @@ pub record Ahead : Type 0 where
 
 -- no background collection runs
 abbrev pub none_running : BackgroundView
-none_running = record { running = false; shades = []; gray = 0 }
+none_running = record { running = false; shades = []; gray = 0; parts = []; fronts = [] }
 
 -- nothing but what it always does
 abbrev pub nothing_ahead : Ahead

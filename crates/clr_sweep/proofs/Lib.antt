@@ -8,6 +8,7 @@ pub mod Parting
 pub mod Passing
 pub mod PassEnds
 pub mod Agreeing
+pub mod OtherSegments
 pub mod MoreSwept
 pub mod LargeSteps
 pub mod AllSegments
@@ -36,3 +37,11 @@ pub mod KeptSizes
 pub mod KeptBytes
 pub mod DeadKinds
 pub mod Settled
+pub mod FrontItems
+pub mod RenewedBehind
+pub mod FrontFacts
+pub mod SweptBehind
+pub mod AllBehind
+pub mod BehindBricks
+pub mod BehindWhole
+pub mod RemarkedFronts

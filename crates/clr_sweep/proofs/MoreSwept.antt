@@ -1,9 +1,9 @@
 -- One segment more is swept, and the others stay as they are.
-use Rattle.std.proofs.Common.{◌≡◌, ◌≢◌, inl, inr, ℕ, ◌+◌, ◌%◌, ◌<◌, ◌≤◌, Bool, true, false, ◌||◌, nat_eq, List}
+use Rattle.std.proofs.Common.{◌≡◌, inl, inr, ℕ, ◌<◌, ◌≤◌, Bool, true, false, ◌||◌, nat_eq, List}
 use Rattle.std.proofs.Common.{[], ◌++◌, length, set, refl, ap, ap₂, sym, ◌∙◌, subst, arith, length-set, cond, eqb}
 use Rattle.std.proofs.Common.{Option}
 use Rattle.std.proofs.lemmas.Bool.{both_ways, cases_eq, eq-eqb, ne_eqb, or_right}
-use Rattle.std.proofs.lemmas.List.{get_or-set_other, get_or-set_same}
+use Rattle.std.proofs.lemmas.List.{get_or-set_same}
 use Rattle.clr_types.specs.Ranges.{Piece}
 use Rattle.clr_types.specs.Rising.{IsIn}
 use Rattle.clr_types.specs.Segments.{empty_segment, ended_at, first_place, same_kind}
@@ -13,26 +13,18 @@ use Rattle.clr_types.specs.declared.segment.SegInfo.{SegInfo}
 use Rattle.clr_types.specs.declared.segment.SegKind.TheVariants.{Ephemeral}
 use Rattle.clr_types.proofs.RisingLists.{all_at}
 use Rattle.clr_heap.specs.Parts.{hole_from, items_in, unmarked}
-use Rattle.clr_heap.specs.View.{AreWalkable, first_of, HeapView, IsHeap, IsWalkable, last_of, listing, parts_of}
+use Rattle.clr_heap.specs.View.{first_of, HeapView, IsHeap, IsWalkable, last_of, listing}
 use Rattle.clr_heap.specs.View.{segment_at, sight, word_of}
-use Rattle.clr_heap.proofs.Framing.{lawful_at}
-use Rattle.clr_heap.proofs.Staying.{outside_other, parts_stay, StaysAs}
+use Rattle.clr_heap.proofs.Staying.{parts_stay, StaysAs}
 use Rattle.clr_heap.proofs.Storing.{length-shapes, memory_index-shapes}
 use Rattle.clr_view.specs.View.{HaveFreeHeads, IsHeld}
 use Rattle.clr_view.proofs.Items.{IsItem}
 use Rattle.clr_view.proofs.Listings.{listing-are}
 use Rattle.clr_sweep.specs.SweptItems.{is_cut, items_below, last_end, stays, swept_from, swept_items, swept_last}
 use Rattle.clr_sweep.specs.SweptSegments.{AreSwept, HasSweptSegment, IsAhead, IsParted, IsSwept}
-use Rattle.clr_sweep.proofs.Agreeing.{last_agrees, last_end_le, swept_agrees}
-use Rattle.clr_sweep.proofs.FreeHeads.{part_heads_stay}
+use Rattle.clr_sweep.proofs.Agreeing.{last_agrees, swept_agrees}
+use Rattle.clr_sweep.proofs.OtherSegments.{still_ahead, still_swept}
 use Rattle.clr_sweep.proofs.Parting.{none_between}
-
--- a sweep moves no end up
-pub swept_last_le : (rows : List TypeRow) (h : HeapView) (j : ℕ) → IsHeap h → AreWalkable rows h → j < length h.segments
-    → swept_last rows h j ≤ last_of h j
-swept_last_le rows h j heap walkable l =
-    last_end_le (stays (word_of h)) (first_of h j) (last_of h j) (listing rows h j) (lawful_at h j heap l).low
-    (λ i m. (all_at (IsItem rows (first_of h j) (last_of h j)) m (listing-are rows h walkable j l)).below)
 
 -- a segment is swept whole from its first place on: nothing stands below it
 none_below : (rows : List TypeRow) (h : HeapView) (k : ℕ) → items_below rows h k (first_of h k) ≡ []
@@ -154,77 +146,10 @@ module _ (rows : List TypeRow) (old now : HeapView) (swept : ℕ → Bool) (k : 
     this_segment = ap (λ (h : HeapView). segment_at h k) w.others ∙ get_or-set_same now.segments k ended empty_segment
         next_in_range ∙ ap₂ ended_at same_last here.segment
 
-    other_segment : (j : ℕ) → j ≢ k → segment_at new j ≡ segment_at now j
-    other_segment j ne = ap (λ (h : HeapView). segment_at h j) w.others
-        ∙ get_or-set_other now.segments k j ended empty_segment ne
+    first_same : first_of old k ≤ first_of now k
+    first_same = let first = ap first_place here.segment in omega (arith, first)
 
-    -- the words of the cells of another segment
-    other_word : (j b : ℕ) → j < length old.segments → j ≢ k → b % 8 ≡ 0 → first_of old j ≤ b + 8
-        → b + 8 < last_of old j → word_of new b ≡ word_of now b
-    other_word j b l ne z lo hi =
-        let first = ap first_place here.segment in
-        let last = ap (λ (t : SegInfo). t.end) here.segment in
-        let high = (lawful_at old j heap l).high in
-        let top = (lawful_at old k heap inside).high in
-        w.outside b z (elim (outside_other old j k (b + 8) heap l inside ne (omega arith) (omega arith)) [
-          | inl under ↦ inl (omega (arith, first, under))
-          | inr over ↦ inr (omega (arith, last, top, over))
-        ])
-
-    -- those that were swept stay so
-    still_swept : (j : ℕ) → j ≢ k → swept j ≡ true → j < length old.segments → IsSwept rows old new j
-    still_swept j ne on l =
-        let was = s.done j l on in
-        let same = other_segment j ne in
-        let there : StaysAs now j new j = record {
-          first = ap first_place same;
-          last = ap (λ (t : SegInfo). t.end) same;
-          words = λ b z lo hi.
-              let first = ap first_place was.segment in
-              let last = ap (λ (t : SegInfo). t.end) was.segment in
-              let lower = swept_last_le rows old j heap held.walkable l in
-              other_word j b l ne z (omega (arith, first, lo)) (omega (arith, last, lower, hi));
-          holes = λ q lo hi. ap₂ (λ (t : SegInfo) (rs : List (Option Piece)).
-              hole_from (cond (same_kind t.kind Ephemeral) rs []) q) same (ap (λ (h : HeapView). h.rests) w.others);
-          held = λ b lo hi in_one. rw (
-            memory_index-shapes new.memories now.memories b w.memories,
-            length-shapes
-                new.memories now.memories w.memories,
-          ) in_one;
-        } in
-        let parts = parts_stay rows now new j j was.walkable there in
-        record {
-          segment = same ∙ was.segment;
-          walkable = parts.walkable;
-          items = ap items_in parts.parts ∙ was.items;
-          cells = λ i m on b z lo hi.
-              let is = all_at (IsItem rows (first_of old j) (last_of old j)) m
-              (listing-are rows old held.walkable j l) in
-              let low = is.above in
-              let high = is.below in
-              other_word j b l ne z (omega arith) (omega arith) ∙ was.cells i m on b z lo hi;
-          free_heads =
-              let first = ap first_place was.segment in
-              let last = ap (λ (t : SegInfo). t.end) was.segment in
-              let lower = swept_last_le rows old j heap held.walkable l in
-              subst (HaveFreeHeads (word_of new)) (sym (ap items_in parts.parts))
-              (part_heads_stay (sight rows now j) (word_of new) (parts_of rows now j) (first_of now j) (last_of now j)
-              was.walkable.start was.walkable.spelled
-              (λ b z lo hi. other_word j b l ne z (omega (arith, first, lo)) (omega (arith, last, lower, hi)))
-              was.free_heads);
-        }
-
-    -- those ahead stay as they were
-    still_ahead : (j : ℕ) → j ≢ k → swept j ≡ false → j < length old.segments → IsAhead old new j
-    still_ahead j ne off l =
-        let was = s.ahead j l off in
-        record {
-          segment = other_segment j ne ∙ was.segment;
-          words = λ b z lo hi. other_word j b l ne z lo hi
-              ∙ was.words b z lo hi;
-        }
-
-    -- and this one is swept
+    -- this one is swept
     swept_here : IsSwept rows old new k
     swept_here = record {
       segment = this_segment;
@@ -253,10 +178,12 @@ module _ (rows : List TypeRow) (old now : HeapView) (swept : ℕ → Bool) (k : 
       count = ap length segments_are ∙ length-set now.segments k ended ∙ s.count;
       done = λ j l on. elim (cases_eq j k) [
         | inl e ↦ subst (λ (i : ℕ). IsSwept rows old new i) (sym e) swept_here
-        | inr ne ↦ still_swept j ne (or_left_only (swept j) (nat_eq j k) (ne_eqb j k ne) on) l
+        | inr ne ↦ still_swept rows old now new k (first_of now k) heap held inside here.segment first_same w j ne
+            (s.done j l (or_left_only (swept j) (nat_eq j k) (ne_eqb j k ne) on)) l
       ];
       ahead = λ j l off. elim (cases_eq j k) [
         | inl e ↦ absurd (both_ways (swept j || nat_eq j k) off (or_right (swept j) (nat_eq j k) (eq-eqb j k e)))
-        | inr ne ↦ still_ahead j ne (neither (swept j) (nat_eq j k) off) l
+        | inr ne ↦ still_ahead rows old now new k (first_of now k) heap held inside here.segment first_same w j ne
+            (s.ahead j l (neither (swept j) (nat_eq j k) off)) l
       ];
     }

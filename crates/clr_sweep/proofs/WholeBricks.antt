@@ -37,20 +37,28 @@ module _ (rows : List TypeRow) (old new : HeapView) (swept : HasSweptItems rows 
       not-below : (p : ℕ) → stands_in (segment_at old k) p ≡ true → p < first_of old k → ⊥
       not-below p in_s below = let low = (stands-between (segment_at old k) p in_s).0 in omega arith
 
-  -- THE LAW OF BRICKS holds where they were renewed before
+  -- THE LAW OF BRICKS holds where each segment's tell of the marked objects
+  pub law_from : (entry : ℕ → ℤ)
+      → ((k : ℕ) → k < length old.segments
+      → AreEntered rows (frame new) (left_in rows old (is_marked old)) entry (segment_at old k))
+      → BrickLaw rows (frame new) (objects_in rows new) entry
+  law_from entry entered s l =
+      let found = number-of new.segments s l in
+      let k = found.0 in
+      let count = swept.count in
+      let inside : k < length old.segments = let n = found.1 in omega arith in
+      subst (AreEntered rows (frame new) (objects_in rows new) entry) found.2
+      (subst (λ (t : SegInfo). AreEntered rows (frame new) (objects_in rows new) entry t)
+      (sym (swept.segments k inside))
+      (ended_entered rows (frame new) (objects_in rows new) entry (segment_at old k) (swept_last rows old k)
+      (subst (λ (os : List Object). AreEntered rows (frame new) os entry (segment_at old k)) (sym objects-left)
+      (entered k inside))))
+
+  -- so it does where they were renewed before
   pub whole-law : (entry : ℕ → ℤ)
       → ((k : ℕ) (layout : Layout) (keep : Object → Bool) → k < length old.segments
       → AreLeft rows old k (first_of old k) layout keep
       → AreEntered rows layout (left_in rows old keep) entry (segment_at old k))
       → BrickLaw rows (frame new) (objects_in rows new) entry
-  whole-law entry renewed s l =
-      let found = number-of new.segments s l in
-      let k = found.0 in
-      let count = swept.count in
-      let inside : k < length old.segments = let n = found.1 in omega arith in
-      let this = renewed k (frame new) (is_marked old) inside (whole-left k) in
-      subst (AreEntered rows (frame new) (objects_in rows new) entry) found.2
-      (subst (λ (t : SegInfo). AreEntered rows (frame new) (objects_in rows new) entry t)
-      (sym (swept.segments k inside))
-      (ended_entered rows (frame new) (objects_in rows new) entry (segment_at old k) (swept_last rows old k)
-      (subst (λ (os : List Object). AreEntered rows (frame new) os entry (segment_at old k)) (sym objects-left) this)))
+  whole-law entry renewed =
+      law_from entry (λ k inside. renewed k (frame new) (is_marked old) inside (whole-left k))

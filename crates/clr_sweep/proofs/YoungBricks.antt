@@ -1,17 +1,16 @@
 -- The bricks after a sweep of the young part of the ephemeral segment.
-use Rattle.std.proofs.Common.{◌≡◌, ◌≢◌, inl, inr, ℕ, ◌+◌, ◌<◌, ◌≤◌, Bool, true, false, not, ◌||◌, List, [], ◌∷◌}
-use Rattle.std.proofs.Common.{filter, length, if◌then◌else◌, refl, ap, sym, ◌∙◌, subst, arith, ℤ}
+use Rattle.std.proofs.Common.{◌≡◌, ◌≢◌, inl, inr, ℕ, ◌<◌, ◌≤◌, Bool, true, false, not, ◌||◌, List}
+use Rattle.std.proofs.Common.{filter, length, refl, ap, sym, ◌∙◌, subst, arith, ℤ}
 use Rattle.std.proofs.lemmas.Bool.{cases_eq, cases_order}
-use Rattle.clr_types.specs.Rising.{first, IsIn, later}
+use Rattle.clr_types.specs.Rising.{IsIn}
 use Rattle.clr_types.specs.Segments.{empty_segment, ended_at, ephemeral, generation, reserved_end, same_kind}
 use Rattle.clr_types.specs.Segments.{segments_of, stands_in}
 use Rattle.clr_types.specs.Types.{TypeRow}
-use Rattle.clr_types.specs.declared.item.Item.{Item}
 use Rattle.clr_types.specs.declared.segment.SegInfo.{SegInfo}
 use Rattle.clr_types.specs.declared.segment.SegKind.TheVariants.{Ephemeral}
 use Rattle.clr_types.proofs.ChangedLists.{into_filter}
 use Rattle.clr_types.proofs.RisingLists.{in_cons}
-use Rattle.clr_types.proofs.SegmentFacts.{one_alone, stands-between}
+use Rattle.clr_types.proofs.SegmentFacts.{one_alone}
 use Rattle.clr_bricks.specs.Bricks.{entry_at}
 use Rattle.clr_covers.specs.Covers.{CoverView}
 use Rattle.clr_generations.specs.Laws.{AreEntered, BrickLaw, IsBrickOf}
@@ -22,28 +21,19 @@ use Rattle.clr_generations.proofs.Collected.{alike-left, all-old, ended_entered,
 use Rattle.clr_generations.proofs.Homes.{old-away, old-before, old-may_lead}
 use Rattle.clr_heap.specs.View.{first_of, frame, HeapView, IsHeap, no_rests, segment_at, word_of}
 use Rattle.clr_heap.proofs.Framing.{lawful_at}
-use Rattle.clr_heap.proofs.Staying.{outside_other, segment_order}
+use Rattle.clr_heap.proofs.Staying.{segment_order}
 use Rattle.clr_model.specs.Lawful.{IsLaid}
 use Rattle.clr_model.specs.Machine.{Machine, Object}
 use Rattle.clr_view.specs.Memory.{is_left, is_marked}
 use Rattle.clr_view.specs.View.{IsHeld, objects_in}
-use Rattle.clr_sweep.specs.SweptItems.{aged, items_from, last_end, part_last, stays, young_start}
+use Rattle.clr_sweep.specs.SweptItems.{aged, items_from, part_last, stays, young_start}
 use Rattle.clr_sweep.specs.SweptSegments.{HasSweptSegment}
+use Rattle.clr_sweep.proofs.Agreeing.{last_end_ge}
+use Rattle.clr_sweep.proofs.OtherSegments.{apart_places}
 use Rattle.clr_sweep.proofs.SurvivorsSwept.{at-in, seen}
 use Rattle.clr_sweep.proofs.YoungPart.{from-is, old-below, old-elsewhere, swept-off, swept-on, young-in, young-kind}
 use Rattle.clr_sweep.proofs.YoungPart.{young-low}
 use Rattle.clr_sweep.proofs.YoungSwept.{young-count, young-held, young-objects, young-other, young-this}
-
--- the last item that stays doesn't end below the part
-last_end_ge : (keep : Item → Bool) (low end : ℕ) (is : List Item) → low ≤ end
-    → ((i : Item) → IsIn i is → low ≤ i.place) → low ≤ last_end keep end is
-last_end_ge keep low end [] l above = l
-last_end_ge keep low end (i ∷ is) l above =
-    last_end_ge keep low (if keep i then i.place + i.size else end) is (go (keep i)) (λ j m. above j (later m))
-  where
-    go : (b : Bool) → low ≤ (if b then i.place + i.size else end)
-    go true = let up = above i first in omega arith
-    go false = l
 
 -- a segment of a heap that is ephemeral is the one
 one-ephemeral : (h : HeapView) (k : ℕ) → IsHeap h → k < length h.segments
@@ -138,17 +128,7 @@ module _ (rows : List TypeRow) (old : HeapView) (base : Machine) (heap : IsHeap 
   -- a place of another segment doesn't stand in the ephemeral one
   away : (j p : ℕ) → j < length old.segments → j ≢ k → stands_in (segment_at old j) p ≡ true
       → stands_in (segment_at old k) p ≡ false
-  away j p in_j ne in_s = go (stands_in (segment_at old k) p) refl
-    where
-      go : (b : Bool) → stands_in (segment_at old k) p ≡ b → stands_in (segment_at old k) p ≡ false
-      go false e = e
-      go true e =
-          let (low_j, high_j) = stands-between (segment_at old j) p in_s in
-          let (low_k, high_k) = stands-between (segment_at old k) p e in
-          elim (outside_other old j k p heap in_j inside ne (omega arith) high_j) [
-            | inl under ↦ absurd (omega arith)
-            | inr over ↦ absurd (omega arith)
-          ]
+  away j p in_j ne in_s = apart_places old j k p heap in_j inside ne in_s
 
   alike-other : (j : ℕ) → j < length old.segments → j ≢ k
       → AreAlike rows (frame old) (frame new) (objects_in rows old) (objects_in rows new) (segment_at old j)

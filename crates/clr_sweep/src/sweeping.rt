@@ -129,7 +129,7 @@ pub(crate) fn start_of(heap: &Heap, g: u8) -> u64
 
 // What was generation 0 begins where generation 1 ends, what was generation 1 is older now, and generation 0 begins at
 // the end of the ephemeral segment.
-fn age(heap: &mut Heap, g: u8)
+pub(crate) fn age(heap: &mut Heap, g: u8)
     ensures aged { heap.new ≡ aged heap.old g }
     ensures lawful { IsHeap heap.new }
 {

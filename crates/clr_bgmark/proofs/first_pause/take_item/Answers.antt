@@ -4,6 +4,7 @@ use Rattle.clr_heap.specs.Parts.{item_at}
 use Rattle.clr_heap.specs.View.{word_of}
 use Rattle.clr_heap.proofs.Spelling.{place-item_at}
 use Rattle.clr_bgmark.proofs.FirstTaken.{known_kind, object_taken}
+use Rattle.clr_bgmark.proofs.ToldParts.{gap_none}
 use Rattle.clr_bgmark.proofs.first_pause.take_item.Goals as goal
 
 pub returns-in-Some-clause-taken : goal.returns-in-Some-clause-taken
@@ -22,3 +23,11 @@ returns-in-Some-clause-size c =
     let rows = c.args.types.now in
     (known_kind rows (word_of h) c.args.place c.in-Some.size c.args.known.now c.requires.known
     (sym c.in-Some.is ∙ c.size_with.ensures ∙ ap (known_size c.args.known.now) c.word_at-mt.ensures)).1
+
+pub returns-in-Some-clause-gaps : goal.returns-in-Some-clause-gaps
+returns-in-Some-clause-gaps c =
+    let h = c.args.heap.now in
+    let rows = c.args.types.now in
+    gap_none c.args.shade.now c.args.part.now (item_at rows (word_of h) c.args.place)
+    (known_kind rows (word_of h) c.args.place c.in-Some.size c.args.known.now c.requires.known
+    (sym c.in-Some.is ∙ c.size_with.ensures ∙ ap (known_size c.args.known.now) c.word_at-mt.ensures)).0

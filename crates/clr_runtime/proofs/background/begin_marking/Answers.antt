@@ -27,7 +27,7 @@ pub returns-clause-begun : goal.returns-clause-begun
 returns-clause-begun c =
     let done = c.begin.ensures in
     begun_ok c.args.parts.now c.requires.runtime c.begin.new.self c.begin.result done.running
-    (rw (c.deref.ensures.value, c.ready.ensures) at done.begun) done.objects done.whole done.counted
+    (rw (c.deref.ensures.value, c.ready.ensures) at done.begun) done.objects
 
 pub returns-clause-err : goal.returns-clause-err
 returns-clause-err c =
@@ -37,4 +37,5 @@ pub returns-clause-runtime : goal.returns-clause-runtime
 returns-clause-runtime c =
     let done = c.begin.ensures in
     begun_runtime c.args.parts.now c.requires.runtime c.begin.new.self c.begin.result done.running
-    (rw (c.deref.ensures.value, c.ready.ensures) at done.begun) done.objects done.whole done.counted done.err
+    (rw (c.deref.ensures.value, c.ready.ensures) at done.begun) done.objects done.whole done.counted done.parts
+    done.tiled done.fronts done.err

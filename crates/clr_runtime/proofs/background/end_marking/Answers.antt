@@ -9,7 +9,8 @@ use Rattle.clr_collect.specs.declared.workshop.Workshop.{Workshop}
 use Rattle.clr_runtime.specs.Marked.{marking_by}
 use Rattle.clr_runtime.specs.Options.{options_of}
 use Rattle.clr_runtime.specs.RuntimeView.{ahead_of, seen, sums_of, world_of}
-use Rattle.clr_runtime.proofs.BackgroundParts.{parts_log, parts_objects, runs_seen, same_old}
+use Rattle.clr_runtime.proofs.BackgroundParts.{parts_counted, parts_fronts, parts_log, parts_objects, parts_old}
+use Rattle.clr_runtime.proofs.BackgroundParts.{parts_tiled, parts_whole, runs_seen, same_old}
 use Rattle.clr_runtime.proofs.CollectLines.{whole_world}
 use Rattle.clr_runtime.proofs.EndedParts.{ended_kept, ended_told, has_ended}
 use Rattle.clr_runtime.proofs.PinnedRoom.{ready_on}
@@ -48,6 +49,26 @@ end_background-collected-requires-clause-objects c =
 pub end_background-collected-requires-clause-log : goal.end_background-collected-requires-clause-log
 end_background-collected-requires-clause-log c =
     parts_log c.args.parts.now c.requires.runtime c.requires.running c.requires.idle
+
+pub end_background-collected-requires-clause-whole : goal.end_background-collected-requires-clause-whole
+end_background-collected-requires-clause-whole c =
+    parts_whole c.args.parts.now c.requires.runtime c.requires.running
+
+pub end_background-collected-requires-clause-counted : goal.end_background-collected-requires-clause-counted
+end_background-collected-requires-clause-counted c =
+    parts_counted c.args.parts.now c.requires.runtime c.requires.running
+
+pub end_background-collected-requires-clause-parts : goal.end_background-collected-requires-clause-parts
+end_background-collected-requires-clause-parts c =
+    parts_old c.args.parts.now c.requires.runtime c.requires.running
+
+pub end_background-collected-requires-clause-tiled : goal.end_background-collected-requires-clause-tiled
+end_background-collected-requires-clause-tiled c =
+    parts_tiled c.args.parts.now c.requires.runtime c.requires.running
+
+pub end_background-collected-requires-clause-room : goal.end_background-collected-requires-clause-room
+end_background-collected-requires-clause-room c =
+    parts_fronts c.args.parts.now c.requires.runtime c.requires.running
 
 pub returns-clause-ended : goal.returns-clause-ended
 returns-clause-ended c =

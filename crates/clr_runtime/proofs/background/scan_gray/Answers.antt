@@ -21,12 +21,11 @@ pub returns-clause-scans : goal.returns-clause-scans
 returns-clause-scans c =
     let done = c.step.ensures in
     scanned_answer c.args.parts.now c.requires.runtime c.requires.running c.step.new.self c.args.n
-    c.step.result.scanned c.step.result.gray done.running done.objects done.whole done.counted done.log done.scans
-    done.gray
+    c.step.result.scanned c.step.result.gray done.running done.objects done.counted done.log done.scans done.gray
 
 pub returns-clause-runtime : goal.returns-clause-runtime
 returns-clause-runtime c =
     let done = c.step.ensures in
     scanned_kept c.args.parts.now c.requires.runtime c.requires.running c.step.new.self c.args.n
-    c.step.result.scanned c.step.result.gray done.running done.objects done.whole done.counted done.log done.scans
-    done.gray
+    c.step.result.scanned c.step.result.gray done.running done.objects done.counted done.log done.scans done.gray
+    done.taken done.parts done.fronts

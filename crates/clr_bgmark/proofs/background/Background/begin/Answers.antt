@@ -1,15 +1,24 @@
-use Rattle.std.proofs.Common.{◌≡◌, ℕ, List, ◌⊎◌, inl, inr, arith, true, false, length, ap, sym, subst, ◌∙◌}
+use Rattle.std.proofs.Common.{◌≡◌, ℕ, List, ◌⊎◌, inl, inr, arith, true, false, length, map, ap, sym, subst, ◌∙◌}
+use Rattle.std.proofs.lemmas.List.{length-map}
 use Rattle.clr_heap.specs.View.{heap_items}
 use Rattle.clr_view.specs.View.{objects_in}
+use Rattle.clr_sweep.specs.declared.behind.Front.{Front}
+use Rattle.clr_bgmark.specs.Closing.{without_colours}
+use Rattle.clr_bgmark.specs.Pauses.{all_taken}
 use Rattle.clr_bgmark.specs.Scanning.{IsCounted}
-use Rattle.clr_bgmark.specs.Shades.{BackgroundView, is_marked, is_taken, ShadeView}
+use Rattle.clr_bgmark.specs.Shades.{BackgroundView, is_marked, is_taken, PartView, ShadeView}
+use Rattle.clr_bgmark.specs.Tiles.{AreParts, AreTiled}
+use Rattle.clr_bgmark.proofs.AllParts.{shade_count}
 use Rattle.clr_bgmark.proofs.FirstBegun.{first_begun, items_covered, taking_found, taking_marks}
 use Rattle.clr_bgmark.proofs.FirstColours.{bare_marks, first_bare, first_objects, first_whole, IsInFirstPause}
 use Rattle.clr_bgmark.proofs.FirstColours.{roots_first, roots_running, take_all_first, targets_first, targets_running}
 use Rattle.clr_bgmark.proofs.FirstCounted.{none_counted, roots_counted, targets_counted}
+use Rattle.clr_bgmark.proofs.FirstTaken.{all_shapes, shape}
+use Rattle.clr_bgmark.proofs.FirstTiles.{beside_colours, first_tiled, roots_beside, targets_beside}
 use Rattle.clr_bgmark.proofs.FirstRoots.{IsMemberBelow, IsNamed, IsTargetBelow, named_root, root_named, roots_met}
 use Rattle.clr_bgmark.proofs.FirstRoots.{targets_met}
 use Rattle.clr_bgmark.proofs.Meeting.{HasMet, met_after}
+use Rattle.clr_bgmark.proofs.SameTiles.{same_count, same_parts}
 use Rattle.clr_bgmark.proofs.background.Background.begin.Goals.{After-gray_targets}
 use Rattle.clr_bgmark.proofs.background.Background.begin.Goals as goal
 
@@ -21,7 +30,13 @@ IsBegunTo c ss =
 
 -- the collection when the objects are taken
 abbrev taken : After-gray_targets → BackgroundView
-taken c = record { running = true; shades = c.take_oldest.new.shades.items; gray = 0 }
+taken c = record {
+  running = true;
+  shades = c.take_oldest.new.shades.items;
+  gray = 0;
+  parts = c.take_oldest.new.parts.items;
+  fronts = c.in_ok-fronts.fronts.items;
+}
 
 bare_first : (c : After-gray_targets) → IsBegunTo c c.in_ok-shades.shades.items
 bare_first c =
@@ -33,7 +48,7 @@ taken_first : (c : After-gray_targets) → IsBegunTo c c.take_oldest.new.shades.
 taken_first c =
     let items = heap_items c.args.types.now c.args.heap.now in
     let bare = c.in_ok-shades.shades.items in
-    subst (IsBegunTo c) (sym c.take_oldest.ensures)
+    subst (IsBegunTo c) (sym c.take_oldest.ensures.taken)
     (take_all_first c.args.heap.now items bare bare items (bare_first c) (λ i k. k))
 
 locals_first : (c : After-gray_targets) → IsBegunTo c c.gray_roots.new.self.shades
@@ -59,7 +74,7 @@ unmarked : (c : After-gray_targets) (b : ℕ) → is_marked c.take_oldest.new.sh
 unmarked c b =
     let items = heap_items c.args.types.now c.args.heap.now in
     let bare = c.in_ok-shades.shades.items in
-    ap (λ (now : List ShadeView). is_marked now b) c.take_oldest.ensures
+    ap (λ (now : List ShadeView). is_marked now b) c.take_oldest.ensures.taken
     ∙ taking_marks c.args.heap.now items bare bare items b ∙ bare_marks bare c.in_ok-shades.ensures.none b
 
 -- ---- the answers
@@ -70,7 +85,7 @@ invariant_of-self c =
     let items = heap_items c.args.types.now h in
     let bare = c.in_ok-shades.shades.items in
     let f : IsInFirstPause h items bare c.take_oldest.new.shades.items =
-    subst (IsInFirstPause h items bare) (sym c.take_oldest.ensures)
+    subst (IsInFirstPause h items bare) (sym c.take_oldest.ensures.taken)
     (take_all_first h items bare bare items
     (first_bare h items bare c.in_ok-shades.ensures.lawful c.in_ok-shades.ensures.apart c.in_ok-shades.ensures.none)
     (λ i k. k)) in
@@ -84,7 +99,7 @@ returns-clause-running c =
     ∙ roots_running c.args.ready.now (length c.args.ready.now) c.gray_roots.new.self
     ∙ ap (λ (v : BackgroundView). v.running) c.gray_roots.ensures
     ∙ roots_running c.args.locals.now (length c.args.locals.now)
-    (record { running = true; shades = c.take_oldest.new.shades.items; gray = 0 })
+    (taken c)
 
 -- what was named is gray
 named_met : (c : After-gray_targets)
@@ -135,7 +150,7 @@ returns-clause-begun c m objects layout handles locals ready =
     first_begun rows h heap held bare shapes c.take_oldest.new.shades.items c.gray_targets.new.self.shades
     (taken_first c) (unmarked c)
     (λ i k old.
-    subst (λ (now : List ShadeView). is_taken now i.place ≡ true) (sym c.take_oldest.ensures)
+    subst (λ (now : List ShadeView). is_taken now i.place ≡ true) (sym c.take_oldest.ensures.taken)
     (taking_found h items bare bare items (bare_first c) (λ j l. l) (items_covered rows h heap held bare shapes) i k
     old))
     (IsNamed hs ls rs) (named_met c) m objects layout (named_root m hs ls rs handles locals ready)
@@ -169,7 +184,8 @@ returns-clause-counted c =
     let two = c.gray_roots-2.new.self in
     let counted : BackgroundView → Type 0 = IsCounted (objects_in rows h) in
     let none : counted (taken c) =
-    none_counted rows h heap held bare c.take_oldest.new.shades.items (unmarked c) in
+    none_counted rows h heap held bare c.take_oldest.new.shades.items (unmarked c) c.take_oldest.new.parts.items
+    c.in_ok-fronts.fronts.items in
     let of_locals : counted one =
     subst counted (sym c.gray_roots.ensures)
     (roots_counted rows h heap held bare ls c.requires.locals (length ls) (omega arith) (taken c) (taken_first c) none)
@@ -180,3 +196,47 @@ returns-clause-counted c =
     in
     subst counted (sym c.gray_targets.ensures.grayed)
     (targets_counted rows h heap held bare c.args.handles.now c.requires.handles 65536 two (ready_first c) of_ready)
+
+-- ---- what is known of the old parts
+
+beside : (c : After-gray_targets) → beside_colours c.gray_targets.new.self ≡ beside_colours (taken c)
+beside c =
+    ap beside_colours c.gray_targets.ensures.grayed
+    ∙ targets_beside c.args.handles.now 65536 c.gray_roots-2.new.self
+    ∙ ap beside_colours c.gray_roots-2.ensures
+    ∙ roots_beside c.args.ready.now (length c.args.ready.now) c.gray_roots.new.self
+    ∙ ap beside_colours c.gray_roots.ensures
+    ∙ roots_beside c.args.locals.now (length c.args.locals.now) (taken c)
+
+same_taken : (c : After-gray_targets)
+    → map without_colours c.gray_targets.new.self.shades ≡ map without_colours c.take_oldest.new.shades.items
+same_taken c = ap (λ (b : List ShadeView × (List PartView × List Front)). b.0) (beside c)
+
+pub returns-clause-parts : goal.returns-clause-parts
+returns-clause-parts c =
+    subst (λ (ps : List PartView). AreParts c.gray_targets.new.self.shades ps)
+    (sym (ap (λ (b : List ShadeView × (List PartView × List Front)). b.1.0) (beside c)))
+    (same_parts c.take_oldest.new.shades.items c.gray_targets.new.self.shades (same_taken c)
+    c.take_oldest.new.parts.items c.take_oldest.ensures.parts)
+
+pub returns-clause-tiled : goal.returns-clause-tiled
+returns-clause-tiled c =
+    let rows = c.args.types.now in
+    let h = c.args.heap.now in
+    subst (λ (ps : List PartView). AreTiled rows h c.gray_targets.new.self.shades ps)
+    (sym (ap (λ (b : List ShadeView × (List PartView × List Front)). b.1.0) (beside c)))
+    (first_tiled rows h c.take_oldest.new.shades.items c.gray_targets.new.self.shades c.take_oldest.new.parts.items
+    (IsNamed c.args.handles.now c.args.locals.now c.args.ready.now) (same_taken c) (named_met c) (unmarked c)
+    c.take_oldest.ensures.edges)
+
+pub returns-clause-fronts : goal.returns-clause-fronts
+returns-clause-fronts c =
+    let bare = c.in_ok-shades.shades.items in
+    let items = heap_items c.args.types.now c.args.heap.now in
+    ap (λ (b : List ShadeView × (List PartView × List Front)). length b.1.1) (beside c)
+    ∙ c.in_ok-fronts.ensures
+    ∙ sym (shade_count c.args.heap.now bare c.in_ok-shades.ensures.shades)
+    ∙ sym (length-map bare shape) ∙ ap length (sym (all_shapes c.args.heap.now items bare))
+    ∙ length-map (all_taken c.args.heap.now bare items) shape
+    ∙ ap length (sym c.take_oldest.ensures.taken)
+    ∙ sym (same_count c.take_oldest.new.shades.items c.gray_targets.new.self.shades (same_taken c))

@@ -12,6 +12,8 @@ pub returns : goal.returns
 returns c =
     (λ i. record {
       running = c.self.inside.running;
+      parts = c.self.inside.parts.items;
+      fronts = c.self.inside.fronts.items;
       shades = c.set_bit_near.ensures i;
       gray = c.saturating_add-self-inside.ensures i;
     })

@@ -16,6 +16,8 @@ returns-clause-value c v all gray old =
     let offsets = references_at c.args.types.now c.args.heap.now c.args.obj in
     (λ i. record {
       running = c.self.inside.running;
+      parts = c.self.inside.parts.items;
+      fronts = c.self.inside.fronts.items;
       shades = c.self.inside.shades.items;
       gray = c.saturating_sub-self-inside.ensures i;
     })

@@ -1,18 +1,20 @@
-use Rattle.std.proofs.Common.{◌≡◌, ℕ, ◌&&◌, inr, not, Bool, true, false, List, refl, sym, ap, subst, ◌∙◌, ◌+◌, ◌%◌}
+use Rattle.std.proofs.Common.{◌≡◌, ℕ, inr, true, List, sym, ap, subst, ◌∙◌, ◌+◌, ◌%◌, map}
 use Rattle.clr_types.specs.Rising.{IsIn}
 use Rattle.clr_types.specs.Types.{TypeRow}
 use Rattle.clr_heap.specs.View.{HeapView}
 use Rattle.clr_heap.specs.View.{word_of}
 use Rattle.clr_view.specs.View.{objects_in}
 use Rattle.clr_mark.specs.Markings.{references_at}
+use Rattle.clr_bgmark.specs.Closing.{without_colours}
 use Rattle.clr_bgmark.specs.Scanning.{AreObjects, followed, HasLogged, HasScannedOne, HaveWholeObjects, is_gray_place}
 use Rattle.clr_bgmark.specs.Scanning.{IsTakenAt}
 use Rattle.clr_bgmark.specs.Scanning.{IsCounted}
-use Rattle.clr_bgmark.specs.Shades.{BackgroundView, is_covered, is_marked, is_scanned}
+use Rattle.clr_bgmark.specs.Shades.{BackgroundView, is_covered, rest_of}
 use Rattle.clr_bgmark.proofs.LoggedRuns.{logged_none}
 use Rattle.clr_bgmark.proofs.LoggedScan.{covered_now, log_scanned}
-use Rattle.clr_bgmark.proofs.Meeting.{all_running}
+use Rattle.clr_bgmark.proofs.Meeting.{all_rest}
 use Rattle.clr_bgmark.proofs.Counted.{followed_counted}
+use Rattle.clr_bgmark.proofs.ScannedMore.{followed_taken}
 use Rattle.clr_bgmark.proofs.ScanRuns.{none_gray}
 use Rattle.clr_bgmark.proofs.ScannedLists.{gray_parts, objects_now, scans_one, taken_was}
 use Rattle.clr_bgmark.proofs.background.Background.scan_next.Goals.{After-scan}
@@ -29,10 +31,10 @@ pub returns-in-None-clause-empty : goal.returns-in-None-clause-empty
 returns-in-None-clause-empty c e =
     none_gray (objects_in c.args.types.now c.args.heap.now) c.args.self.now.shades c.in-None.ensures.none
 
-pub returns-in-Some-clause-running : goal.returns-in-Some-clause-running
-returns-in-Some-clause-running c =
-    ap (λ (v : BackgroundView). v.running) (scan_is c)
-    ∙ all_running (word_of c.args.heap.now) c.in-Some.obj
+pub returns-in-Some-clause-rest : goal.returns-in-Some-clause-rest
+returns-in-Some-clause-rest c =
+    ap rest_of (scan_is c)
+    ∙ all_rest (word_of c.args.heap.now) c.in-Some.obj
     (references_at c.args.types.now c.args.heap.now c.in-Some.obj) c.args.self.now
 
 pub returns-in-Some-clause-objects : goal.returns-in-Some-clause-objects
@@ -106,3 +108,11 @@ returns-in-Some-clause-counted c =
     subst (IsCounted (objects_in rows h)) (sym (scan_is c))
     (followed_counted rows h closed.heap closed.held c.args.self.now found.shades c.requires.objects c.in-Some.obj
     found.aligned found.gray (closed.named c.in-Some.obj) c.requires.counted)
+
+pub returns-in-Some-clause-taken : goal.returns-in-Some-clause-taken
+returns-in-Some-clause-taken c =
+    let rows = c.args.types.now in
+    let h = c.args.heap.now in
+    let v = c.args.self.now in
+    subst (λ (w : BackgroundView). map without_colours w.shades ≡ map without_colours v.shades) (sym (scan_is c))
+    (followed_taken rows h v c.in-Some.obj)

@@ -1,4 +1,5 @@
-use Rattle.std.proofs.Common.{inl, inr, refl, arith, subst, ◌∙◌, sym}
+use Rattle.std.proofs.Common.{inl, inr, refl, ap, arith, map, subst, ◌∙◌, sym}
+use Rattle.clr_bgmark.specs.Closing.{without_colours}
 use Rattle.clr_view.specs.View.{objects_in}
 use Rattle.clr_bgmark.specs.Scanning.{HasLogged, HasScanned}
 use Rattle.clr_bgmark.specs.Shades.{BackgroundView}
@@ -11,7 +12,8 @@ pub loop-scanned-init : goal.loop-scanned-init
 loop-scanned-init c = record {
   low = omega arith;
   known = c.none-known.ensures c.args.types.now;
-  running = refl;
+  rest = refl;
+  taken = refl;
   objects = c.requires.objects;
   counted = c.requires.counted;
   whole = c.requires.whole;
@@ -27,7 +29,8 @@ loop-scanned-preserved c =
     record {
       low = omega (arith, below);
       known = done.known;
-      running = done.running ∙ so_far.running;
+      rest = done.rest ∙ so_far.rest;
+      taken = done.taken ∙ so_far.taken;
       objects = done.objects;
       counted = done.counted;
       whole = done.whole;
@@ -68,3 +71,35 @@ returns-then-not-scan_next-clause-log c =
     let objects = objects_in c.args.types.now c.args.heap.now in
     subst (λ (v : BackgroundView). HasLogged c.args.types.now objects c.args.self.now.shades v.shades)
     (sym (c.scan_next.ensures.none c.if-not-scan_next.true)) c.loop-scanned.invariant.log
+
+pub returns-then-not-scan_next-clause-running : goal.returns-then-not-scan_next-clause-running
+returns-then-not-scan_next-clause-running c =
+    ap (λ (v : BackgroundView). v.running) (c.scan_next.ensures.none c.if-not-scan_next.true)
+    ∙ ap (λ (v : BackgroundView). v.running) c.loop-scanned.invariant.rest
+
+pub returns-then-not-scan_next-clause-parts : goal.returns-then-not-scan_next-clause-parts
+returns-then-not-scan_next-clause-parts c =
+    ap (λ (v : BackgroundView). v.parts) (c.scan_next.ensures.none c.if-not-scan_next.true)
+    ∙ ap (λ (v : BackgroundView). v.parts) c.loop-scanned.invariant.rest
+
+pub returns-then-not-scan_next-clause-fronts : goal.returns-then-not-scan_next-clause-fronts
+returns-then-not-scan_next-clause-fronts c =
+    ap (λ (v : BackgroundView). v.fronts) (c.scan_next.ensures.none c.if-not-scan_next.true)
+    ∙ ap (λ (v : BackgroundView). v.fronts) c.loop-scanned.invariant.rest
+
+pub returns-clause-running : goal.returns-clause-running
+returns-clause-running c =
+    ap (λ (v : BackgroundView). v.running) c.loop-scanned.invariant.rest
+
+pub returns-clause-parts : goal.returns-clause-parts
+returns-clause-parts c =
+    ap (λ (v : BackgroundView). v.parts) c.loop-scanned.invariant.rest
+
+pub returns-clause-fronts : goal.returns-clause-fronts
+returns-clause-fronts c =
+    ap (λ (v : BackgroundView). v.fronts) c.loop-scanned.invariant.rest
+
+pub returns-then-not-scan_next-clause-taken : goal.returns-then-not-scan_next-clause-taken
+returns-then-not-scan_next-clause-taken c =
+    ap (λ (v : BackgroundView). map without_colours v.shades)
+    (c.scan_next.ensures.none c.if-not-scan_next.true) ∙ c.loop-scanned.invariant.taken

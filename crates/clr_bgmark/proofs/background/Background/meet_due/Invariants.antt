@@ -1,0 +1,12 @@
+use Rattle.std.proofs.Common.{◌+◌, ◌-◌, ◌*◌, ◌^◌, length}
+use Rattle.clr_bgmark.specs.Closing.{HasFoundMore, IsAtWork}
+use Rattle.clr_bgmark.proofs.background.Background.meet_due.Given as goal
+
+abbrev pub invariant-loop-near : goal.invariant-loop-near
+invariant-loop-near l = record {
+  work : IsAtWork l.types l.heap l.self;
+  more : HasFoundMore l.types l.heap (λ y. ⊥) l.initial.self l.self;
+}
+
+abbrev pub decreases-loop-near : goal.decreases-loop-near
+decreases-loop-near l = (length l.initial.self.shades - l.spot.k) * 2 ^ 64 + (2 ^ 64 - l.spot.from)

@@ -8,3 +8,4 @@ pub mod Walks
 pub mod Renewing
 pub mod Choices
 pub mod GivingAll
+pub mod WholeItems

@@ -1,7 +1,7 @@
 // Ranges of the ephemeral segment that become a thread's context, or a free item again.
 ghost use Rattle.std.specs.Prelude.{◌≡◌, ℕ, ◌+◌, ◌-◌, ◌%◌, ◌<◌, ◌≤◌, ◌^◌, IfNone, IfSome, None, true};
 ghost use Rattle.clr_types.specs.Rising.{insert_by, IsIn};
-ghost use Rattle.clr_types.specs.Ranges.{fits};
+ghost use Rattle.clr_types.specs.Ranges.{fits, Piece};
 ghost use Rattle.clr_types.specs.Segments.{ephemeral, fits_in_tail, rest_of};
 ghost use Rattle.clr_heap.specs.View.{frame, IsHeap};
 ghost use Rattle.clr_model.specs.Allocation.{from_item, from_tail, taken_from};
@@ -55,6 +55,22 @@ pub fn open_in_item(heap: &mut Heap, types: &Types, t: usize, item: Span, taken:
     }
     heap.clear_cells(low - 8, taken);
     heap.set_hole(t, low, middle);
+}
+
+/// Makes a free item of generation 0, all of it, the context of a thread that has none. Its words are clear then.
+pub fn open_whole(heap: &mut Heap, types: &Types, t: usize, place: u64)
+    requires held { IsHeld types.now heap.old }
+    requires positive { 0 < t }
+    requires few { t ≤ 16 }
+    requires none { rest_of (frame heap.old) t ≡ None }
+    requires listed { (item : Piece) × IsIn item (young_items (layout_in types.now heap.old))
+        × (item.place ≡ place) }
+    ensures relaid { (item : Piece) → IsIn item (young_items (layout_in types.now heap.old)) → item.place ≡ place
+        → IsRelaid types.now heap.old heap.new (from_item (layout_in types.now heap.old) t item item.size) }
+{
+    heap.lawful();
+    let size = heap.item(types, place).size;
+    open_in_item(heap, types, t, Span::between(place, place + size), size);
 }
 
 /// Makes the bytes behind the end of the ephemeral segment, which then ends past them, the context of a thread that has

@@ -43,7 +43,7 @@ use Rattle.clr_generations.proofs.SameBounds.{HasSameBounds, units-same}
 -- ---- generations
 
 -- a place of the ephemeral segment that isn't of generation 0 is below a boundary
-below-boundary : (layout : Layout) (p : ℕ) → stands_in (ephemeral layout) p ≡ true → 0 < generation layout p
+pub below-boundary : (layout : Layout) (p : ℕ) → stands_in (ephemeral layout) p ≡ true → 0 < generation layout p
     → (p < layout.start1) ⊎ (p < layout.start0)
 below-boundary layout p e aged =
     go (ltb p layout.start1) (ltb p layout.start0) refl refl

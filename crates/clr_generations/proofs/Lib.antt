@@ -27,3 +27,5 @@ pub mod Homes
 pub mod NewCovers
 pub mod KeptItems
 pub mod NewSegments
+pub mod EnteredObjects
+pub mod EnteredSegments

@@ -67,7 +67,7 @@ pub fn bear(
 
 // Lets the brick of a new object's place name it, where it may and names no place up to it.
 #[inline(always)]
-fn enter_newborn(heap: &Heap, bricks: &mut Bricks, place: u64)
+pub(crate) fn enter_newborn(heap: &Heap, bricks: &mut Bricks, place: u64)
     requires { is_covered bricks.old (place / 4096) ≡ true }
     ensures entries { (i : ℕ) → entry_at bricks.new i ≡ with_place (frame heap.now) (entry_at bricks.old) place i }
     ensures spans { spans bricks.new ≡ spans bricks.old }

@@ -13,6 +13,7 @@ mod finding;
 mod old_births;
 mod renewing;
 mod space;
+mod standing;
 
 pub use crate::acquiring::acquire;
 pub use crate::all_bricks::renew_all_bricks;
@@ -23,3 +24,4 @@ pub use crate::finding::object_at;
 pub use crate::old_births::enter_old_newborn;
 pub use crate::renewing::{renew_aged_bricks, renew_bricks};
 pub use crate::space::Space;
+pub use crate::standing::cover_standing;

@@ -13,7 +13,7 @@ use clr_objsize::objsize;
 use clr_runtime::Runtime;
 use clr_sos::{
     View, clean_states_are_lawful, dumpheap, dumpobj, eeheap, finalizequeue, gchandles, gcroot,
-    gcwhere, verifyheap,
+    gcwhere, verifyheap_at_once,
 };
 use std::alloc::Global;
 
@@ -31,7 +31,7 @@ pub fn obey_look(runtime: &Runtime, alloc: Global, command: Command<'_>) -> Outc
         Command::DumpObj { a } => told_found(dumpobj(alloc, &view, a)),
         Command::GcRoot { a } => told_found(gcroot(alloc, &view, a)),
         Command::EeHeap => told_text(eeheap(alloc, &view)),
-        Command::VerifyHeap => verify(runtime),
+        Command::VerifyHeap => verify(runtime, alloc),
         Command::GcHandles => told_text(gchandles(alloc, &view)),
         Command::FinalizeQueue => told_text(finalizequeue(alloc, &view)),
         Command::GcWhere { a } => told_where(gcwhere(&view, a)),
@@ -42,13 +42,13 @@ pub fn obey_look(runtime: &Runtime, alloc: Global, command: Command<'_>) -> Outc
 
 // Checks the heap, and finds no fault.
 #[inline(never)]
-fn verify(runtime: &Runtime) -> Outcome
+fn verify(runtime: &Runtime, alloc: Global) -> Outcome
     ensures follows { Follows runtime.now.machine verify_heap (outcome_of result) runtime.now.machine }
     ensures shows { CanShow result }
 {
     clean_states_are_lawful();
     let view = view_of(runtime);
-    match verifyheap(&view) {
+    match verifyheap_at_once(alloc, &view) {
         Ok(()) => Outcome::Reply(Reply::Clean),
         Err(_) => unreachable!(),
     }

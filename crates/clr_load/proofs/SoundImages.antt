@@ -1,8 +1,9 @@
 -- What holds of an image whose words name what they may.
-use Rattle.std.proofs.Common.{◌≡◌, ℕ, ◌+◌, ◌*◌, ◌-◌, true, List, map, length, Option, Some, None, refl, sym, ◌∙◌, ap}
-use Rattle.std.proofs.Common.{subst}
+use Rattle.std.proofs.Common.{◌≡◌, ℕ, ◌+◌, ◌*◌, ◌-◌, List, map, length, Option, Some, None, refl, sym, ◌∙◌, ap}
+use Rattle.std.proofs.Common.{subst, Bool, true, false, not, ◌&&◌, []}
+use Rattle.std.specs.List.{AllByRecursion}
 use Rattle.clr_types.specs.Rising.{IsIn}
-use Rattle.clr_types.specs.Types.{has_finalizer, type_row, TypeRow}
+use Rattle.clr_types.specs.Types.{form_at, has_finalizer, size_of, type_row, TypeRow}
 use Rattle.clr_types.specs.declared.handle.Handle.{Handle}
 use Rattle.clr_types.specs.declared.item.Item.{Item}
 use Rattle.clr_types.proofs.RisingLists.{all_at}
@@ -23,14 +24,16 @@ use Rattle.clr_sos.proofs.NamedPlaces.{name-stands}
 use Rattle.clr_fields.specs.Fields.{found}
 use Rattle.clr_format.specs.Images.{fields_of, Parts, tests_in}
 use Rattle.clr_format.specs.NameTests.{final_tests, first_failed, handle_tests, is_final_object, name_tests, object_at}
-use Rattle.clr_format.specs.NameTests.{reference_test, tests_of}
+use Rattle.clr_format.specs.NameTests.{is_among, is_front, reference_test, step_tests, tests_of, with_earlier}
+use Rattle.clr_format.specs.declared.step.Step.{Step}
+use Rattle.clr_format.specs.declared.step.Step.TheVariants.{Idle, Store, Begun}
 use Rattle.clr_load.specs.Shown.{ShowsParts}
-use Rattle.clr_load.specs.Sound.{IsFinal, IsSound}
+use Rattle.clr_load.specs.Sound.{IsFinal, IsSound, StepStands}
 use Rattle.clr_load.specs.TableTests.{first_in_tables}
 use Rattle.clr_load.specs.declared.image.Image.{Image}
 use Rattle.clr_load.proofs.LoadedHeaps.{are_inside, items_are}
 use Rattle.clr_load.proofs.LoadedNames.{is_faultless, is_held}
-use Rattle.clr_load.proofs.PassedTests.{each_passed, names_passed, or_both, tests_are}
+use Rattle.clr_load.proofs.PassedTests.{each_passed, names_passed, or_both, Passes, tests_are}
 use Rattle.clr_load.proofs.ReadImages.{ArePartsFound, parts_found}
 use Rattle.clr_load.proofs.RestoredHandles.{value_among}
 use Rattle.clr_load.proofs.SeenObjects.{stands_found, stands_there, the_object}
@@ -39,6 +42,8 @@ use Rattle.clr_load.proofs.SeenObjects.{stands_found, stands_there, the_object}
 pub record AllPass (p : Parts) : Type 0 where
   pub references : first_failed (map (reference_test p.body.items) p.body.references) ≡ None
   pub locals : first_failed (tests_of 8 (name_tests p.body.items) (p.rest.tables_at - 8192) p.rest.locals) ≡ None
+  pub steps : first_failed (tests_of 40 (step_tests p.types p.body.items p.body.heap) (p.rest.tables_at + 8)
+      (with_earlier [] p.rest.tables.steps)) ≡ None
   pub handles : first_failed (tests_of 32 (handle_tests p.body.items) (p.rest.tables_at + 656) p.rest.tables.handles)
       ≡ None
   pub entries : first_failed (tests_of 8 (final_tests p.types p.body.items)
@@ -55,7 +60,7 @@ all_pass p e =
     let d = or_both _ _ f.0 in
     let c = or_both _ _ d.0 in
     let b = or_both _ _ c.0 in
-    record { references = a.0; locals = b.0; handles = c.1; entries = d.1; ready = f.1 }
+    record { references = a.0; locals = b.0; steps = b.1; handles = c.1; entries = d.1; ready = f.1 }
 
 module _ (rows : List TypeRow) (h : HeapView) (heap : IsHeap h) (held : IsHeld rows h) where
   -- an object whose type has a finaliser
@@ -87,7 +92,7 @@ module _ (bytes : List ℕ) (p : Parts) (n : ℕ) (fields : fields_of bytes ≡ 
   heap_is : IsHeap p.body.heap
   heap_is = subst IsHeap shows.heap heap
 
-  items_is : heap_items p.types p.body.heap ≡ p.body.items
+  pub items_is : heap_items p.types p.body.heap ≡ p.body.items
   items_is = items_are bytes p.head.large p.types p.body parts.body.segs parts.body.made heap_is
 
   all_named : (x : ℕ) → is_name p.body.items x ≡ true → IsNullOrStands p.types p.body.heap x
@@ -135,6 +140,26 @@ module _ (bytes : List ℕ) (p : Parts) (n : ℕ) (fields : fields_of bytes ≡ 
       (p.rest.tables_at + 656 + 32 * length p.rest.tables.handles + 8 + 8 * length p.rest.tables.entries + 8)
       p.rest.tables.ready passes.ready x m).0
 
+  step_in : (e : List ℕ × Step) → AllByRecursion Passes (step_tests p.types (heap_items p.types p.body.heap) p.body.heap e)
+      → StepStands p.types p.body.heap e
+  step_in (earlier, Idle) tests = tt
+  step_in (earlier, Store object slot) tests =
+      (stands_there p.types p.body.heap heap_is held object tests.0, tests.1.0)
+  step_in (earlier, Begun t len local front) tests =
+      both (is_front (heap_items p.types p.body.heap) p.body.heap (size_of (form_at p.types t.0) len) front)
+      (is_among earlier front) tests.0
+    where
+      both : (a b : Bool) → (a && not b) ≡ true → (a ≡ true) × (b ≡ false)
+      both true false e = (refl, refl)
+      both true true e = absurd cc
+      both false b e = absurd cc
+
+  step_stands : (e : List ℕ × Step) → IsIn e (with_earlier [] p.rest.tables.steps) → StepStands p.types p.body.heap e
+  step_stands e m =
+      step_in e (subst (λ (is : List Item). AllByRecursion Passes (step_tests p.types is p.body.heap e)) (sym items_is)
+      (each_passed 40 (step_tests p.types p.body.items p.body.heap) (p.rest.tables_at + 8)
+      (with_earlier [] p.rest.tables.steps) passes.steps e m))
+
   -- what is shown of types and heap
   abbrev Shown : (List TypeRow → HeapView → Type 0) → Type 0
   Shown P = P image.types image.heap
@@ -163,6 +188,9 @@ module _ (bytes : List ℕ) (p : Parts) (n : ℕ) (fields : fields_of bytes ≡ 
     locals = λ x m.
         shown (λ rows h. IsNullOrStands rows h x)
         (all_named x (locals_named x (subst (IsIn x) shows.locals m)));
+    steps = λ e m.
+        shown (λ rows h. StepStands rows h e)
+        (step_stands e (subst (λ (steps : List Step). IsIn e (with_earlier [] steps)) shows.steps m));
     handles = λ k row e.
         let among = value_among image.handles k row e in
         let m = subst (IsIn among.0) shows.handles among.1 in

@@ -124,6 +124,7 @@ chain_starts rows h m x targets o only all = record {
     fresh = λ z s. inl s;
     met = λ y i. inr (record { by = x; marked = o; named = only y i });
     stacked = λ z i. inl i;
+    lowest = λ z i. inl i;
     spent = omega arith;
     lighter = omega arith;
     capacity = refl;
@@ -167,6 +168,7 @@ module _ (rows : List TypeRow) (h now new : HeapView) (m n : MarkerView) (x t : 
     fresh = p.fresh;
     met = λ y i. elim (p.met y i) [ inl none ↦ elim none [ ] | inr met ↦ inr met ];
     stacked = p.stacked;
+    lowest = p.lowest;
     spent = p.spent;
     lighter = p.lighter;
     capacity = p.capacity;

@@ -14,6 +14,7 @@ use Rattle.clr_mark.specs.Waiting.{IsFollowed, IsGray, IsSettled, MarkerView}
 use Rattle.clr_mark.proofs.Graying.{AfterMark, followed_on, leads_back, new_mark, object_word, reached-refl}
 use Rattle.clr_mark.proofs.Graying.{reached-trans}
 use Rattle.clr_mark.proofs.Held.{keeps_closed}
+use Rattle.clr_mark.proofs.Laws.{known_on}
 
 -- nothing is to be done for a root that isn't condemned, or is marked
 pub rooted-refl : (rows : List TypeRow) (g : ℕ) (h : HeapView) (root : ℕ)
@@ -68,10 +69,7 @@ module _ (rows : List TypeRow) (h mid : HeapView) (m : MarkerView) (root : ℕ) 
         all y (leads_back rows mid new closed.heap closed.held p.marked.remarked m.oldest root y n)) in
         record {
           closed = keeps_closed rows mid new closed.heap closed.held p.marked.remarked closed.named;
-          stacked = λ x i. elim (p.stacked x i) [
-            | inl before ↦ p.marked.kept x (a.kept x (gray.stacked x before))
-            | inr there ↦ there
-          ];
+          stacked = known_on rows h new m now (λ x s. p.marked.kept x (a.kept x s)) gray.stacked p.stacked p.lowest;
           settled = λ x s. elim (p.fresh x s) [
             | inl was ↦ elim (a.only x was) [
               | inl e ↦

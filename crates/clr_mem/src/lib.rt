@@ -18,7 +18,6 @@ ghost use Rattle.clr_mem.specs.Words as words;
 ghost use Rattle.std.specs.Prelude.{◌/◌, get_or, set};
 
 use crate::lazy::LazyBytes;
-use crate::pages::PagedWords;
 use std::alloc::Global;
 use std::marker::Model;
 
@@ -28,6 +27,7 @@ mod no_memory;
 mod pages;
 
 pub use crate::no_memory::NoMemory;
+pub use crate::pages::PagedWords;
 
 /// The bytes `[base, base + len)`: `base` and `len` are multiples of 8, and `base + len` is below
 /// 2^64. Clauses see its words.

@@ -12,9 +12,9 @@ use std::marker::Model;
 // How many words a page has: 4 KiB.
 const PAGE: usize = 512;
 
-// Words that are 0 until they are written. Those pages are stored in which a word was written, one behind another, and
-// the others take no memory. The room for all is reserved when they are made, so no write can fail. Clauses see the
-// list of all.
+/// Words that are 0 until they are written. Those pages are stored in which a word was written, one behind another, and
+/// the others take no memory. The room for all is reserved when they are made, so no write can fail. Clauses see the
+/// list of all.
 #[derive(Drop)]
 pub struct PagedWords {
     // Of each page up to the last one that is stored, one more than its number among the stored pages, and 0 where it

@@ -10,6 +10,7 @@ pub mod OneSegment
 pub mod OneObject
 pub mod ObjectLoops
 pub mod RestingWords
+pub mod CardedSlots
 pub mod EmptyWords
 pub mod OneItem
 pub mod ManyItems

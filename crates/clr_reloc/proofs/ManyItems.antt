@@ -2,14 +2,14 @@
 use Rattle.std.proofs.Common.{◌≡◌, inl, inr, ℕ, ◌+◌, ◌-◌, ◌/◌, ◌<◌, ◌≤◌, Bool, true, List, [], ◌∷◌}
 use Rattle.std.proofs.Common.{refl}
 use Rattle.std.proofs.Common.{◌∙◌, ap, subst, arith}
-use Rattle.std.proofs.lemmas.Bool.{cases_lt}
+use Rattle.std.proofs.lemmas.Bool.{both_ways, cases_Bool, cases_lt}
 use Rattle.clr_types.specs.Rising.{IsIn}
 use Rattle.clr_types.specs.Segments.{Layout}
 use Rattle.clr_types.specs.Types.{TypeRow}
 use Rattle.clr_types.specs.declared.item.Item.{Item}
 use Rattle.clr_cards.specs.Cards.{is_card_set}
 use Rattle.clr_covers.specs.Covers.{CoverView, is_covered, spans}
-use Rattle.clr_covers.proofs.Spans.{is_covered-spans}
+use Rattle.clr_covers.proofs.Spans.{is_covered-spans, share_cover-spans}
 use Rattle.clr_heap.specs.Memories.{HasWord}
 use Rattle.clr_heap.specs.View.{frame, heap_items, HeapView, IsHeap, SameShape}
 use Rattle.clr_heap.proofs.Storing.{HasWord-shapes}
@@ -20,7 +20,7 @@ use Rattle.clr_pinq.specs.Queue.{QueueView}
 use Rattle.clr_moves.specs.declared.condemned.Condemned.{Condemned}
 use Rattle.clr_moves.specs.declared.stretch.Stretch.{Stretch}
 use Rattle.clr_reloc.specs.Relocated.{rebounded}
-use Rattle.clr_reloc.specs.Relocations.{AreRelocated, IsRelocatingBy, KeepsBeside}
+use Rattle.clr_reloc.specs.Relocations.{AreRelocated, CanSkip, IsRelocatingBy, KeepsBeside}
 use Rattle.clr_reloc.specs.declared.relocation.Relocation.{Relocation}
 use Rattle.clr_reloc.specs.Relocating.{AreCarded, GoesDown, HasGone, HaveCardsDown, IsAhead, IsItemAhead, Tracks}
 use Rattle.clr_reloc.proofs.Cells.{left_inside, one_item}
@@ -157,6 +157,29 @@ module _ (rows : List TypeRow) (view now next : HeapView) (g : Condemned) (vs : 
         ∙ subst (λ n. is_covered covers (n / 2048) ≡ true) y
         (have (x + down) (omega (arith, d, lo, low)) (omega (arith, d, hi, w)));
   }
+
+-- clear cards may be skipped on it, too
+pub skip_item : (work : Relocation) (view : HeapView) (vs : List Move) (cards flags : List (CoverView ℕ))
+    → IsHeap view → IsHeld work.types.now view → (from place e : ℕ) → from ≤ place
+    → (t : StartsTrack work.types.now view place e)
+    → ((c : ℕ) → is_card_set cards c ≡ true → is_card_set flags c ≡ true) → spans flags ≡ spans cards → (carded : Bool)
+    → (carded ≡ true → CanSkip work view vs cards from e) → carded ≡ true
+    → CanSkip work view vs flags place (place + t.item.size)
+skip_item work view vs cards flags heap held from place e low t kept same carded skip on =
+    let all = skip on in
+    let w = track_order work.types.now view t.rest (place + t.item.size) e t.track in
+    record {
+      quiet = λ i offset left a b m off. all.quiet i offset left (omega (arith, low, a)) (omega (arith, w, b)) m
+          (elim (cases_Bool (is_card_set cards ((i.place + offset) / 2048))) [
+            | inr no_card ↦ no_card
+            | inl set ↦ absurd (both_ways (is_card_set flags ((i.place + offset) / 2048)) off
+                (kept ((i.place + offset) / 2048) set))
+          ]);
+      row = λ a b from_a to_a from_b to_b. share_cover-spans flags cards (a / 2048) (b / 2048) same
+          ∙ all.row a b (omega (arith, low, from_a)) (omega (arith, w, to_a)) (omega (arith, low, from_b))
+          (omega (arith, w, to_b));
+      stays = λ x lo hi. all.stays x (omega (arith, low, lo)) (omega (arith, w, hi));
+    }
 
 -- an item of the heap that starts on a track ends on it
 pub on_track : (rows : List TypeRow) (view : HeapView) → IsHeap view → IsHeld rows view → (is : List Item) (p e : ℕ)

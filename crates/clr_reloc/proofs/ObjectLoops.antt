@@ -57,7 +57,7 @@ module _ (work : Relocation) (object : LeftObject) (h : HeapView) (pins : QueueV
   pub record HasPassed (after : HeapView) (queue : QueueView) (flags : List (CoverView ℕ)) (near : Stretch)
       (offsets : List ℕ) : Type 0 where
     pub gone : (view now : HeapView) (vs : List Move) → IsRelocatingBy work view now h pins.entries vs last
-        → IsObjectAhead work view now vs object
+        → IsObjectAhead work view now vs cards object
         → (next : HeapView) × IsRelocatingBy work view next after queue.entries vs near
         × KeepsTelling work.types.now view work.g vs pins.entries h after
         × HasGoneAt work.types.now view now next work.g vs object.found offsets (rebounded (frame view) work.planned)
@@ -85,7 +85,7 @@ module _ (work : Relocation) (object : LeftObject) (h : HeapView) (pins : QueueV
     listed = listed_next_of offset yielded rest (references_of rows found) walked
 
     module _ (view now : HeapView) (vs : List Move) (r : IsRelocatingBy work view now h pins.entries vs last)
-        (ahead : IsObjectAhead work view now vs object) where
+        (ahead : IsObjectAhead work view now vs cards object) where
       inside : InItem rows view r.0.begun.plan.overlaid.heap r.0.begun.plan.held found (found.place + offset)
       inside = reference_inside rows view r.0.begun.plan.overlaid.heap r.0.begun.plan.held found offset
           ahead.left.listed listed
@@ -125,13 +125,14 @@ module _ (work : Relocation) (object : LeftObject) (h : HeapView) (pins : QueueV
           ∙ placed.covered (object.to + offset) (omega arith) (omega (arith, high))
 
     -- once it has been relocated, the loop has passed one offset more
-    pub passed_more : object.age ≡ generation (rebounded (frame h) work.planned) object.to
+    pub passed_by : object.age ≡ generation (rebounded (frame h) work.planned) object.to
         → (new : HeapView) (saved : QueueView) (set : List (CoverView ℕ)) (nearer : Stretch)
-        → ((view next : HeapView) (vs : List Move) → IsRelocatingBy work view next after queue.entries vs near
+        → ((view now next : HeapView) (vs : List Move) → IsRelocatingBy work view now h pins.entries vs last
+        → IsObjectAhead work view now vs cards object → IsRelocatingBy work view next after queue.entries vs near
         → IsSlotAhead work.types.now view next work.g vs (object.found.place + offset)
         → IsSlotRelocated work view next vs after new queue saved set nearer object offset)
         → KeepsBeside flags set queue saved → HasPassed new saved set nearer (yielded ++ offset ∷ [])
-    passed_more age_is new saved set nearer slot beside = record {
+    passed_by age_is new saved set nearer slot beside = record {
       gone = λ view now vs r ahead.
           let (next, q, keeps, gone) = passed.gone view now vs r ahead in
           let layout = rebounded (frame view) work.planned in
@@ -139,7 +140,7 @@ module _ (work : Relocation) (object : LeftObject) (h : HeapView) (pins : QueueV
           let held = r.0.begun.plan.held in
           let here = slot_ahead rows view now next g vs found layout (is_card_set flags) heap held ahead.left
           ahead.ahead yielded offset rest walked gone in
-          let done = slot view next vs q here in
+          let done = slot view now next vs r ahead q here in
           let same : frame h ≡ frame view = ap (λ (x : HeapView). frame x) r.0.shape.others in
           let own : object.age ≡ generation layout (moved_by vs found.place) =
           age_is ∙ ap (λ (l : Layout). generation (rebounded l work.planned) object.to) same
@@ -158,12 +159,21 @@ module _ (work : Relocation) (object : LeftObject) (h : HeapView) (pins : QueueV
       beside = beside_trans cards flags set pins queue saved passed.beside beside;
     }
 
+    pub passed_more : object.age ≡ generation (rebounded (frame h) work.planned) object.to
+        → (new : HeapView) (saved : QueueView) (set : List (CoverView ℕ)) (nearer : Stretch)
+        → ((view next : HeapView) (vs : List Move) → IsRelocatingBy work view next after queue.entries vs near
+        → IsSlotAhead work.types.now view next work.g vs (object.found.place + offset)
+        → IsSlotRelocated work view next vs after new queue saved set nearer object offset)
+        → KeepsBeside flags set queue saved → HasPassed new saved set nearer (yielded ++ offset ∷ [])
+    passed_more age_is new saved set nearer slot beside =
+        passed_by age_is new saved set nearer (λ view now next vs r ahead. slot view next vs) beside
+
   -- all of them
   pub passed_all : (after : HeapView) (queue : QueueView) (flags : List (CoverView ℕ)) (near : Stretch)
       (offsets : List ℕ) → HasPassed after queue flags near offsets
       → offsets ≡ references_of work.types.now object.found
       → (view now : HeapView) (vs : List Move) → IsRelocatingBy work view now h pins.entries vs last
-      → IsObjectAhead work view now vs object
+      → IsObjectAhead work view now vs cards object
       → AreRelocated work view now vs h after pins queue flags near object.found.place
       (object.found.place + object.found.size)
   passed_all after queue flags near offsets passed all view now vs r ahead =

@@ -26,7 +26,7 @@ use Rattle.clr_reloc.specs.Relocated.{rebounded}
 use Rattle.clr_reloc.specs.Relocating.{AreCarded, HasGone, is_gone_over, is_gone_over_in, is_left_at, IsAhead}
 use Rattle.clr_reloc.specs.References.{references_of}
 use Rattle.clr_reloc.specs.Relocating.{IsItemAhead, IsLeftItem, IsLeftReference}
-use Rattle.clr_reloc.specs.Relocations.{AreRelocated, IsObjectAhead, IsPlaced, IsRelocatingBy}
+use Rattle.clr_reloc.specs.Relocations.{AreRelocated, CanSkip, IsObjectAhead, IsPlaced, IsRelocatingBy}
 use Rattle.clr_reloc.specs.declared.relocation.Relocation.{Relocation}
 use Rattle.clr_reloc.proofs.Cells.{left_inside, one_item}
 use Rattle.clr_reloc.proofs.LeftHomes.{gone_over_told}
@@ -254,18 +254,23 @@ module _ (work : Relocation) (view now h : HeapView) (pins : QueueView) (vs : Li
 
     -- it goes where the item goes
     module _ (near age : ℕ) where
-      pub found_ahead : tested ≡ true
-          → IsObjectAhead work view now vs (record { segment = k; near = near; found = found; to = to; age = age })
-      found_ahead on = record {
+      pub found_ahead : tested ≡ true → (carded : Bool)
+          → (carded ≡ true → CanSkip work view vs cards place (place + i.size))
+          → IsObjectAhead work view now vs cards
+          (record { segment = k; near = near; found = found; to = to; age = age; carded = carded })
+      found_ahead on carded skip = record {
         left = subst (IsLeftItem rows view g) (sym found_is) (left_item (sym test_is ∙ on));
         ahead = subst (λ (x : Item). IsAhead view now g vs x.place (x.place + x.size)) (sym found_is)
             (subst (λ p. IsAhead view now g vs p (p + i.size)) (sym q.at) q.ahead);
         goes = q.goes ∙ ap (moved_by vs) (sym q.at ∙ ap (λ (x : Item). x.place) (sym found_is));
+        skip = λ told. subst (λ (x : Item). CanSkip work view vs cards x.place (x.place + x.size)) (sym found_is)
+            (subst (λ p. CanSkip work view vs cards p (p + i.size)) (sym q.at) (skip told));
       }
 
-      pub found_placed : age ≡ generation (rebounded (frame h) work.planned) to
-          → IsPlaced work h cards (record { segment = k; near = near; found = found; to = to; age = age })
-      found_placed age_is = record {
+      pub found_placed : age ≡ generation (rebounded (frame h) work.planned) to → (carded : Bool)
+          → IsPlaced work h cards
+          (record { segment = k; near = near; found = found; to = to; age = age; carded = carded })
+      found_placed age_is carded = record {
         segment = is ∙ ap (memory_index h.memories) (sym q.at ∙ ap (λ (x : Item). x.place) (sym found_is));
         age = age_is;
         covered = subst (λ (y : Item). (x : ℕ) → to ≤ x → x < to + y.size → is_covered cards (x / 2048) ≡ true)

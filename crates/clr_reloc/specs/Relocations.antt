@@ -11,7 +11,9 @@ use Rattle.clr_pinq.specs.declared.entry.PinEntry.{PinEntry}
 use Rattle.clr_moves.specs.Going.{IsStretchOf}
 use Rattle.clr_moves.specs.declared.stretch.Stretch.{Stretch}
 use Rattle.clr_reloc.specs.Relocated.{rebounded}
-use Rattle.clr_reloc.specs.Relocating.{AreCarded, HasGone, IsAhead, IsLeftItem, IsRelocating, KeepsTelling, SavesSame}
+use Rattle.clr_reloc.specs.Relocating.{AreCarded, GoesDown, HasGone, IsAhead, IsLeftItem, IsRelocating, KeepsTelling}
+use Rattle.clr_reloc.specs.Relocating.{SavesSame}
+use Rattle.clr_reloc.specs.Scanning.{AreInRow, AreQuietWhereClear}
 use Rattle.clr_reloc.specs.declared.relocation.LeftObject.{LeftObject}
 use Rattle.clr_reloc.specs.declared.relocation.Relocation.{Relocation}
 
@@ -24,12 +26,23 @@ IsRelocatingBy work view now h entries vs last =
 
 -- ---- one object
 
--- the object is left and still to be relocated, and goes to its place
-pub record IsObjectAhead (work : Relocation) (view now : HeapView) (vs : List Move) (object : LeftObject)
+-- Between two places nothing goes, and where the card of a reference isn't set, its target stays, and isn't of a lower
+-- generation then. The cards lie in one row.
+pub record CanSkip (work : Relocation) (view : HeapView) (vs : List Move) (cards : List (CoverView ℕ)) (low high : ℕ)
     : Type 0 where
+  pub quiet : AreQuietWhereClear work.types.now view work.g vs (rebounded (frame view) work.planned) (is_card_set cards)
+      low high
+  pub row : AreInRow cards low high
+  pub stays : GoesDown vs low high 0
+
+-- the object is left and still to be relocated, and goes to its place; if it is carded, clear cards may be skipped
+pub record IsObjectAhead (work : Relocation) (view now : HeapView) (vs : List Move) (cards : List (CoverView ℕ))
+    (object : LeftObject) : Type 0 where
   pub left : IsLeftItem work.types.now view work.g object.found
   pub ahead : IsAhead view now work.g vs object.found.place (object.found.place + object.found.size)
   pub goes : object.to ≡ moved_by vs object.found.place
+  pub skip : object.carded ≡ true
+      → CanSkip work view vs cards object.found.place (object.found.place + object.found.size)
 
 -- the object stands in its segment, is of its generation where it goes, and there are cards for it
 pub record IsPlaced (work : Relocation) (h : HeapView) (cards : List (CoverView ℕ)) (object : LeftObject)

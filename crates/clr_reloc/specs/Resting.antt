@@ -21,3 +21,8 @@ pub record MayRest (h : HeapView) (entries : List PinEntry) (g : Condemned) (lay
 pub record NamesNothing (h : HeapView) (entries : List PinEntry) (a : ℕ) : Type 0 where
   pub plain : queue_word entries a ≡ None
   pub none : may_refer (word_of h a) ≡ false
+
+-- The reference at a is of an object that is carded, and stands on a clear card.
+pub record IsPassed (by : Bool) (is_set : ℕ → Bool) (a : ℕ) : Type 0 where
+  pub carded : by ≡ true
+  pub clear : is_set (a / 2048) ≡ false

@@ -61,12 +61,12 @@ pub(crate) fn relocate_carded(
     let mut cursor = first;
     while let Some((lo, hi)) = next_run(cards, cursor, end) {
         let from = nearest(work.bricks, &work.planned, border, first, cursor, lo);
-        cursor = relocate_items(heap, work, cards, pins, met, from, hi, 0);
+        cursor = relocate_items(heap, work, cards, pins, met, from, hi, 0, true);
     }
 }
 
 // The first stretch in `[lo, hi)` on which all cards are set.
-fn next_run(cards: &Cards, lo: u64, hi: u64) -> Option<(u64, u64)>
+pub(crate) fn next_run(cards: &Cards, lo: u64, hi: u64) -> Option<(u64, u64)>
     requires { lo < hi → share_cover cards.now (lo / 2048) ((hi - 1) / 2048) ≡ true }
     ensures none { IfNone result (AreClear (is_card_set cards.now) lo hi) }
     ensures some { IfSome result (λ run. (lo ≤ run.0) × (run.0 < run.1) × (run.1 ≤ hi)

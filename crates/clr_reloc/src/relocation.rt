@@ -28,8 +28,8 @@ pub struct Met {
     pub kind: RunKind,
 }
 
-// An object that is left, in its segment, with a guess of the queue's entry: where it goes, and of which generation it
-// is then.
+// An object that is left, in its segment, with a guess of the queue's entry: where it goes, of which generation it is
+// then, and whether those of its references alone count whose card is set.
 #[derive(Clone, Copy)]
 pub struct LeftObject {
     pub segment: usize,
@@ -37,6 +37,7 @@ pub struct LeftObject {
     pub found: Item,
     pub to: u64,
     pub age: u8,
+    pub carded: bool,
 }
 
 // Whether the parts are those of less than all generations, so that set cards tell which references of what stands

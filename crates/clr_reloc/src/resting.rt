@@ -1,5 +1,5 @@
 // Passing over references that stay as they are.
-ghost use Rattle.std.specs.Prelude.{◌≡◌, ◌&&◌, ℕ, ◌+◌, ◌*◌, ◌/◌, ◌<◌, ◌≤◌, ◌^◌, false, true, nat_le};
+ghost use Rattle.std.specs.Prelude.{◌≡◌, ◌&&◌, ℕ, ◌+◌, ◌*◌, ◌/◌, ◌<◌, ◌≤◌, ◌⊎◌, ◌^◌, false, true, nat_le};
 ghost use Rattle.clr_types.specs.Segments.{ephemeral, generation, Layout, stands_in};
 ghost use Rattle.clr_cards.specs.Cards.{is_card_set};
 ghost use Rattle.clr_covers.specs.Covers.{is_covered};
@@ -9,8 +9,10 @@ ghost use Rattle.clr_moves.specs.Moves.{start_of};
 ghost use Rattle.clr_moves.specs.declared.condemned.Condemned.TheVariants.{Generations};
 ghost use Rattle.clr_reloc.specs.Partial.{IsPartial};
 ghost use Rattle.clr_reloc.specs.Relocated.{rebounded};
-ghost use Rattle.clr_reloc.specs.Resting.{MayRest, NamesNothing};
+ghost use Rattle.clr_reloc.specs.Resting.{IsPassed, MayRest, NamesNothing};
+ghost use Rattle.clr_reloc.specs.Scanning.{AreInRow};
 
+use crate::cards::next_run;
 use crate::relocation::{LeftObject, Relocation};
 use clr_cards::Cards;
 use clr_heap::Heap;
@@ -50,6 +52,63 @@ pub(crate) fn resting_words(
     let plain = pins.next_saved(object.near, a).saturating_sub(a) / 8;
     let most = count.min(plain).min((CARD - to % CARD) / 8);
     heap.first_naming(object.segment, a, most, low)
+}
+
+// Of `count` references of an object side by side, how many of the first ones may stay as they are, by clear cards or by
+// what they name. The first one stands at this offset. What it passes over by clear cards, it doesn't read.
+#[inline(always)]
+pub(crate) fn still_words(
+    heap: &Heap,
+    work: &Relocation<'_>,
+    cards: &Cards,
+    pins: &PinQueue,
+    object: &LeftObject,
+    offset: u64,
+    count: u64,
+) -> u64
+    requires few { IsPartial work.now.g }
+    requires age { object.now.age ≤ 2 }
+    requires some { 0 < count }
+    requires fits { (j : ℕ) → j < count → object.now.found.place + offset + 8 * j < 2 ^ 64 }
+    requires goes { object.now.to + offset < 2 ^ 64 }
+    requires words { (j : ℕ) → j < count → HasWord heap.now.memories (object.now.found.place + offset + 8 * j) }
+    requires segment { (j : ℕ) → j < count
+        → object.now.segment ≡ memory_index heap.now.memories (object.now.found.place + offset + 8 * j) }
+    requires card { is_covered cards.now ((object.now.to + offset) / 2048) ≡ true }
+    requires row { object.now.carded ≡ true
+        → AreInRow cards.now (object.now.found.place + offset) (object.now.found.place + offset + 8 * count) }
+    requires ends { object.now.carded ≡ true → object.now.found.place + offset + 8 * count < 2 ^ 64 }
+    ensures within { result ≤ count }
+    ensures rest { (j : ℕ) → j < result → MayRest heap.now pins.now.entries work.now.g
+        (rebounded (frame heap.now) work.now.planned) (is_card_set cards.now) object.now.age
+        (object.now.found.place + offset + 8 * j) (object.now.to + offset + 8 * j)
+        ⊎ IsPassed object.now.carded (is_card_set cards.now) (object.now.found.place + offset + 8 * j) }
+{
+    if object.carded {
+        let clear = clear_words(cards, object.found.place + offset, count);
+        if clear > 0 {
+            return clear;
+        }
+    }
+    resting_words(heap, work, cards, pins, object, offset, count)
+}
+
+// How many of the first of `count` words from `a` on stand on clear cards.
+#[inline]
+pub(crate) fn clear_words(cards: &Cards, a: u64, count: u64) -> u64
+    requires some { 0 < count }
+    requires fits { a + 8 * count < 2 ^ 64 }
+    requires row { AreInRow cards.now a (a + 8 * count) }
+    ensures within { result ≤ count }
+    ensures clear { (j : ℕ) → j < result → is_card_set cards.now ((a + 8 * j) / 2048) ≡ false }
+{
+    if cards.is_set(a) {
+        return 0;
+    }
+    match next_run(cards, a, a + 8 * count) {
+        Some((lo, _)) => (lo - a) / 8,
+        None => count,
+    }
 }
 
 // Of `count` references of an object side by side, how many of the first ones name nothing: those before the first one

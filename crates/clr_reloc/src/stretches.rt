@@ -12,7 +12,7 @@ ghost use Rattle.clr_moves.specs.Moves.{age_of};
 ghost use Rattle.clr_view.specs.View.{is_object};
 ghost use Rattle.clr_pinq.specs.Queue.{logical};
 ghost use Rattle.clr_reloc.specs.RunKinds.{IsRunKind};
-ghost use Rattle.clr_reloc.specs.Relocations.{AreRelocated, IsRelocatingBy, KeepsBeside};
+ghost use Rattle.clr_reloc.specs.Relocations.{AreRelocated, CanSkip, IsRelocatingBy, KeepsBeside};
 ghost use Rattle.clr_reloc.specs.Relocating.{GoesDown, HaveCardsDown, IsAhead, IsItemAhead};
 ghost use Rattle.clr_reloc.specs.Relocating.{is_gone_over_in, Tracks};
 
@@ -54,11 +54,11 @@ pub(crate) fn relocate_stretch(
     ensures beside { KeepsBeside cards.old cards.new pins.old pins.new }
     ensures kind { IsRunKind work.now.types.now met.new.kind }
 {
-    relocate_items(heap, work, cards, pins, met, from, end, down);
+    relocate_items(heap, work, cards, pins, met, from, end, down, false);
 }
 
-// The same for those of the items from the place `from` on, up to any end above, that begin below `hi`. It answers the
-// place where they end.
+// The same for those of the items from the place `from` on, up to any end above, that begin below `hi`. Where they are
+// `carded`, cards tell which of their references count. It answers the place where they end.
 pub(crate) fn relocate_items(
     heap: &mut Heap,
     work: &Relocation<'_>,
@@ -68,19 +68,22 @@ pub(crate) fn relocate_items(
     from: u64,
     hi: u64,
     down: u64,
+    carded: bool,
 ) -> u64
     requires least { age_of work.now.g ≤ 2 }
     requires kind { IsRunKind work.now.types.now met.old.kind }
     requires can { (view : HeapView) × (now : HeapView) × (vs : List Move) × (is : List Item) × (end : ℕ)
         × IsRelocatingBy work.now view now heap.old pins.old.entries vs met.old.stretch
         × Tracks work.now.types.now view is from end × IsAhead view now work.now.g vs from end
-        × GoesDown vs from end down × HaveCardsDown cards.old from end down × (hi ≤ end) }
+        × GoesDown vs from end down × HaveCardsDown cards.old from end down × (hi ≤ end)
+        × (carded ≡ true → CanSkip work.now view vs cards.old from end) }
     ensures from { from ≤ result }
     ensures past { hi ≤ result }
     ensures gone { (view now : HeapView) (vs : List Move) (is : List Item) (end : ℕ)
         → IsRelocatingBy work.now view now heap.old pins.old.entries vs met.old.stretch
         → Tracks work.now.types.now view is from end → IsAhead view now work.now.g vs from end
         → GoesDown vs from end down → HaveCardsDown cards.old from end down → hi ≤ end
+        → (carded ≡ true → CanSkip work.now view vs cards.old from end)
         → ((rest : List Item) × Tracks work.now.types.now view rest result end)
         × AreRelocated work.now view now vs heap.old heap.new pins.old pins.new cards.new met.new.stretch from
         result }
@@ -91,7 +94,7 @@ pub(crate) fn relocate_items(
     while place < hi {
         met.near = pins.near(met.near, place);
         met.segment = heap.segment_near(met.segment, place);
-        place += relocate_item(heap, work, cards, pins, met, place, place - down);
+        place += relocate_item(heap, work, cards, pins, met, place, place - down, carded);
     }
     place
 }
@@ -106,16 +109,19 @@ fn relocate_item(
     met: &mut Met,
     place: u64,
     to: u64,
+    carded: bool,
 ) -> u64
     requires least { age_of work.now.g ≤ 2 }
     requires can { (view : HeapView) × (now : HeapView) × (vs : List Move) × (i : Item)
         × IsRelocatingBy work.now view now heap.old pins.old.entries vs met.old.stretch
-        × IsItemAhead work.now.types.now view now work.now.g vs i place to cards.old }
+        × IsItemAhead work.now.types.now view now work.now.g vs i place to cards.old
+        × (carded ≡ true → CanSkip work.now view vs cards.old place (place + i.size)) }
     requires segment { met.old.segment ≡ memory_index heap.old.memories place }
     requires kind { IsRunKind work.now.types.now met.old.kind }
     ensures gone { (view now : HeapView) (vs : List Move) (i : Item)
         → IsRelocatingBy work.now view now heap.old pins.old.entries vs met.old.stretch
         → IsItemAhead work.now.types.now view now work.now.g vs i place to cards.old
+        → (carded ≡ true → CanSkip work.now view vs cards.old place (place + i.size))
         → (result ≡ i.size)
         × AreRelocated work.now view now vs heap.old heap.new pins.old pins.new cards.new met.new.stretch place
         (place + i.size) }
@@ -133,7 +139,7 @@ fn relocate_item(
         relocate_known(heap, work, cards, pins, met, found, to, mt);
         return size;
     }
-    relocate_read(heap, work, cards, pins, met, place, to, mt)
+    relocate_read(heap, work, cards, pins, met, place, to, mt, carded)
 }
 
 // The same for an object of the kind that was met last, with the method table word `mt`. No table is waited for.
@@ -174,6 +180,7 @@ fn relocate_known(
             found,
             to,
             age,
+            carded: false,
         };
         let run = met.kind.run;
         relocate_run(heap, work, cards, pins, &mut met.stretch, &object, run);
@@ -192,17 +199,20 @@ fn relocate_read(
     place: u64,
     to: u64,
     mt: u64,
+    carded: bool,
 ) -> u64
     requires least { age_of work.now.g ≤ 2 }
     requires can { (view : HeapView) × (now : HeapView) × (vs : List Move) × (i : Item)
         × IsRelocatingBy work.now view now heap.old pins.old.entries vs met.old.stretch
-        × IsItemAhead work.now.types.now view now work.now.g vs i place to cards.old }
+        × IsItemAhead work.now.types.now view now work.now.g vs i place to cards.old
+        × (carded ≡ true → CanSkip work.now view vs cards.old place (place + i.size)) }
     requires segment { met.old.segment ≡ memory_index heap.old.memories place }
     requires word { mt ≡ logical pins.old.entries (word_of heap.old) place }
     requires kind { IsRunKind work.now.types.now met.old.kind }
     ensures gone { (view now : HeapView) (vs : List Move) (i : Item)
         → IsRelocatingBy work.now view now heap.old pins.old.entries vs met.old.stretch
         → IsItemAhead work.now.types.now view now work.now.g vs i place to cards.old
+        → (carded ≡ true → CanSkip work.now view vs cards.old place (place + i.size))
         → (result ≡ i.size)
         × AreRelocated work.now view now vs heap.old heap.new pins.old pins.new cards.new met.new.stretch place
         (place + i.size) }
@@ -223,6 +233,7 @@ fn relocate_read(
             found,
             to,
             age,
+            carded,
         };
         relocate_object(heap, work, cards, pins, &mut met.stretch, &object);
         return found.size;

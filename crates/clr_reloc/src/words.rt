@@ -12,7 +12,7 @@ ghost use Rattle.clr_reloc.specs.Resting.{NamesNothing};
 
 use crate::objects::relocate_slot;
 use crate::relocation::{LeftObject, Relocation};
-use crate::resting::{empty_words, resting_words};
+use crate::resting::{empty_words, still_words};
 use clr_cards::Cards;
 use clr_heap::Heap;
 use clr_moves::Stretch;
@@ -23,7 +23,8 @@ use clr_types::ReferenceRun;
 pub(crate) const MANY: u64 = 16;
 
 // Relocates the references of an object that is left, where they are one run, in a collection of less than all
-// generations. In an old table most of them stay, so a loop passes over those. `last` is the stretch that was met last.
+// generations. In an old table most of them stay, so a loop passes over those, and over clear cards. `last` is the
+// stretch that was met last.
 #[inline(never)]
 pub(crate) fn relocate_words(
     heap: &mut Heap,
@@ -37,19 +38,19 @@ pub(crate) fn relocate_words(
     requires few { IsPartial work.now.g }
     requires can { (view : HeapView) × (now : HeapView) × (vs : List Move)
         × IsRelocatingBy work.now view now heap.old pins.old.entries vs last.old
-        × IsObjectAhead work.now view now vs object.now }
+        × IsObjectAhead work.now view now vs cards.old object.now }
     requires placed { IsPlaced work.now heap.old cards.old object.now }
     requires run { SpellsReferences (form_at work.now.types.now object.now.found.type_id.0) object.now.found.len run }
     ensures gone { (view now : HeapView) (vs : List Move)
         → IsRelocatingBy work.now view now heap.old pins.old.entries vs last.old
-        → IsObjectAhead work.now view now vs object.now
+        → IsObjectAhead work.now view now vs cards.old object.now
         → AreRelocated work.now view now vs heap.old heap.new pins.old pins.new cards.new last.new
         object.now.found.place (object.now.found.place + object.now.found.size) }
     ensures beside { KeepsBeside cards.old cards.new pins.old pins.new }
 {
     let mut at = 0;
     while at < run.count {
-        at += resting_words(
+        at += still_words(
             heap,
             work,
             cards,
@@ -80,12 +81,12 @@ pub(crate) fn relocate_sparse(
     requires least { age_of work.now.g ≤ 2 }
     requires can { (view : HeapView) × (now : HeapView) × (vs : List Move)
         × IsRelocatingBy work.now view now heap.old pins.old.entries vs last.old
-        × IsObjectAhead work.now view now vs object.now }
+        × IsObjectAhead work.now view now vs cards.old object.now }
     requires placed { IsPlaced work.now heap.old cards.old object.now }
     requires run { SpellsReferences (form_at work.now.types.now object.now.found.type_id.0) object.now.found.len run }
     ensures gone { (view now : HeapView) (vs : List Move)
         → IsRelocatingBy work.now view now heap.old pins.old.entries vs last.old
-        → IsObjectAhead work.now view now vs object.now
+        → IsObjectAhead work.now view now vs cards.old object.now
         → AreRelocated work.now view now vs heap.old heap.new pins.old pins.new cards.new last.new
         object.now.found.place (object.now.found.place + object.now.found.size) }
     ensures beside { KeepsBeside cards.old cards.new pins.old pins.new }

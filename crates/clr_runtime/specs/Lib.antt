@@ -14,3 +14,4 @@ pub mod PinnedRooms
 pub mod Slots
 pub mod Handles
 pub mod Steps
+pub mod Standings

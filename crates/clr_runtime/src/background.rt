@@ -23,10 +23,10 @@ impl Runtime {
     /// The first pause of a background collection: takes all objects of generation 2. Those that locals, strong and
     /// pinned handles or the f-reachable queue name are gray, and the others white. Nothing else changes.
     ///
-    /// It is refused for an unknown thread, with `Blocked` where another thread holds all others, with `MidStep` where
-    /// the thread is in mid-step itself, with `BackgroundRunning` where one runs, with `Wait` for the lowest other
-    /// thread in mid-step, and with `NoMemory` where there is no memory for its bits, in this order. No other line of a
-    /// background collection takes memory.
+    /// It is refused for an unknown thread, with `Blocked` where another thread holds all others and this one isn't in
+    /// mid-step, with `MidStep` where the thread is in mid-step itself, with `BackgroundRunning` where one runs, with
+    /// `Wait` for the lowest other thread in mid-step, and with `NoMemory` where there is no memory for its bits, in
+    /// this order. No other line of a background collection takes memory.
     pub fn begin_background(&mut self, t: u64) -> Result<(), Refusal>
         ensures { Follows self.old.machine (begin_background t) (done_outcome result) self.new.machine }
     {
@@ -62,10 +62,10 @@ impl Runtime {
     /// The last pause: a sweep of all generations that keeps what a `collect` would keep, and besides what gray and
     /// black objects reach. None runs afterwards. Gives what `collect` gives.
     ///
-    /// It is refused for an unknown thread, with `Blocked` where another thread holds all others, with `MidStep` where
-    /// the thread is in mid-step itself, with `NoBackground` where none runs, and with `Wait` for the lowest other
-    /// thread in mid-step, in this order. It takes no memory, and whether the next full collection slides the large
-    /// heap stays as it is.
+    /// It is refused for an unknown thread, with `Blocked` where another thread holds all others and this one isn't in
+    /// mid-step, with `MidStep` where the thread is in mid-step itself, with `NoBackground` where none runs, and with
+    /// `Wait` for the lowest other thread in mid-step, in this order. It takes no memory, and whether the next full
+    /// collection slides the large heap stays as it is.
     pub fn end_background(&mut self, t: u64) -> Result<Collected, Refusal>
         ensures { Follows self.old.machine (end_background t) (collected_outcome result) self.new.machine }
     {

@@ -40,10 +40,10 @@ impl Runtime {
     /// the local of thread `t` takes. Where the type has a finaliser, the object is put among those that are to be
     /// finalised.
     ///
-    /// It is refused for an unknown thread, with `Blocked` where another thread holds all others, with `MidStep` where
-    /// the thread is in mid-step, for an unknown type, a length that doesn't suit the type, a local from 64 on, and
-    /// more than 2^30 bytes, in this order; then with `NoMemory` where a finalisation entry is wanted and there is no
-    /// memory for it. Such a line changes nothing.
+    /// It is refused for an unknown thread, with `Blocked` where another thread holds all others and this one isn't in
+    /// mid-step, with `MidStep` where the thread is in mid-step, for an unknown type, a length that doesn't suit the
+    /// type, a local from 64 on, and more than 2^30 bytes, in this order; then with `NoMemory` where a finalisation
+    /// entry is wanted and there is no memory for it. Such a line changes nothing.
     ///
     /// An object of fewer bytes than the option `large` stands at the front of the context of its thread. Where that
     /// has no room, the thread gets a new one: from the first free item of generation 0 in which the object fits, or

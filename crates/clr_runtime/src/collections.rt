@@ -33,9 +33,9 @@ impl Runtime {
     /// where there is one, and compacts the others. Entries of objects that only finalisation would reach are woken,
     /// or dropped where the finaliser is suppressed, and weak and dependent handles lose what goes.
     ///
-    /// It is refused for an unknown thread, with `Blocked` where another thread holds all others, with `MidStep` where
-    /// the thread is in mid-step itself, and with `Wait` for the lowest other thread in mid-step, in this order. It
-    /// takes no memory. `slides` counts a compaction and a fit, and no sweep.
+    /// It is refused for an unknown thread, with `Blocked` where another thread holds all others and this one isn't in
+    /// mid-step, with `MidStep` where the thread is in mid-step itself, and with `Wait` for the lowest other thread in
+    /// mid-step, in this order. It takes no memory. `slides` counts a compaction and a fit, and no sweep.
     pub fn collect(&mut self, t: u64, g: u8, how: How) -> Result<Collected, Refusal>
         requires generation { g ≤ 2 }
         requires usual { IsUsual g how }

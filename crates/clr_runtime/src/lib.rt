@@ -3,6 +3,7 @@
 
 pub use crate::options::Options;
 pub use crate::runtime::Runtime;
+pub use crate::standing::Standing;
 pub use clr_bgmark::Progress;
 pub use clr_mark::NoMemory;
 
@@ -24,6 +25,7 @@ mod sealing;
 mod segments;
 mod sliding;
 mod slots;
+mod standing;
 mod steps;
 mod sums;
 mod suspending;

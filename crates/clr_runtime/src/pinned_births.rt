@@ -24,10 +24,10 @@ impl Runtime {
     /// Makes an array without references that never moves, of the type of this name, with `len` elements, and gives its
     /// place, which the local of thread `t` takes.
     ///
-    /// It is refused for an unknown thread, with `Blocked` where another thread holds all others, with `MidStep` where
-    /// the thread is in mid-step, for an unknown type, with `BadShape` for a class, with `HasReferences` for an array
-    /// whose elements have references, for a local from 64 on, and for more than 2^30 bytes, in this order. Such a line
-    /// changes nothing.
+    /// It is refused for an unknown thread, with `Blocked` where another thread holds all others and this one isn't in
+    /// mid-step, with `MidStep` where the thread is in mid-step, for an unknown type, with `BadShape` for a class, with
+    /// `HasReferences` for an array whose elements have references, for a local from 64 on, and for more than 2^30
+    /// bytes, in this order. Such a line changes nothing.
     ///
     /// The object stands in a pinned segment, at the lowest place at which it fits: the front of a free item, or the
     /// bytes behind a segment's end. Where there is none, the line acquires a pinned segment, of the size that the

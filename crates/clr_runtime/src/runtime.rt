@@ -23,7 +23,7 @@ use std::alloc::Global;
 use std::marker::Model;
 
 /// So many objects may wait on the stack of a marking. What has no room on it is found again by a walk.
-const MARK_STACK: usize = 1024;
+pub(crate) const MARK_STACK: usize = 1024;
 
 /// So many locals has each of the 16 threads.
 pub(crate) const LOCALS_OF_A_THREAD: u64 = 64;
@@ -36,8 +36,9 @@ pub(crate) const LOCALS_OF_A_THREAD: u64 = 64;
 /// is that step's reply. A refused call leaves the state as it was, but for one of `new_object`, `new_pinned` or
 /// `begin_new` that finds no room after it has collected.
 ///
-/// A thread may not go on where its number isn't one from 1 to 16, where another thread holds all others (`Blocked`),
-/// and where it is in mid-step itself (`MidStep`). Each line of a thread is refused for that first, in this order.
+/// A thread may not go on where its number isn't one from 1 to 16, where another thread holds all others and it isn't
+/// in mid-step itself (`Blocked`), and where it is in mid-step itself (`MidStep`). Each line of a thread is refused for
+/// that first, in this order.
 #[derive(Drop)]
 pub struct Runtime {
     pub(crate) parts: Parts,

@@ -11,8 +11,8 @@ impl Runtime {
     /// it: what isn't pinned there goes down to where it fits. That collection alone does, whatever asks for it; until
     /// then this line changes nothing where it was obeyed before.
     ///
-    /// It is refused for an unknown thread, with `Blocked` where another thread holds all others, and with `MidStep`
-    /// where the thread is in mid-step, in this order. It takes no memory.
+    /// It is refused for an unknown thread, with `Blocked` where another thread holds all others and this one isn't in
+    /// mid-step, and with `MidStep` where the thread is in mid-step, in this order. It takes no memory.
     pub fn compact_large_once(&mut self, t: u64) -> Result<(), Refusal>
         ensures { Follows self.old.machine (compact_large_once t) (done_outcome result) self.new.machine }
     {

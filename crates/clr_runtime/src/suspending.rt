@@ -10,8 +10,8 @@ impl Runtime {
     /// Thread `t` holds all others from now on: each of their lines is refused, but for the `step` of one that is in
     /// mid-step. Where it holds them already, nothing changes.
     ///
-    /// It is refused for an unknown thread, with `Blocked` where another thread holds all others, and with `MidStep`
-    /// where the thread is in mid-step, in this order.
+    /// It is refused for an unknown thread, with `Blocked` where another thread holds all others and this one isn't in
+    /// mid-step, and with `MidStep` where the thread is in mid-step, in this order.
     pub fn suspend(&mut self, t: u64) -> Result<(), Refusal>
         ensures { Follows self.old.machine (suspend_others t) (done_outcome result) self.new.machine }
     {

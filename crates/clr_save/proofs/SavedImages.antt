@@ -116,7 +116,7 @@ module _ (s : Snapshot) (m0 : Machine) (heap : IsHeap s.heap.now) (shows : Shows
       ap (λ (n : ℕ). suits_object n (segment_at h k).kind i.size) shows.seen.large
       ∙ ((nothing-wrong s m0 heap shows sound).placed k i l here).suits object
 
-  filled : (k : ℕ) → k < length h.segments → IsFilled head rows (written_segment rows h k)
+  pub filled : (k : ℕ) → k < length h.segments → IsFilled head rows (written_segment rows h k)
   filled k l =
       let laid = lawful.laid in
       segment-filled rows h heap head lawful.type_count k l (shows.held.walkable k l)
@@ -126,7 +126,7 @@ module _ (s : Snapshot) (m0 : Machine) (heap : IsHeap s.heap.now) (shows : Shows
 
   -- ---- what is read back
 
-  abbrev w : WrittenImage
+  abbrev pub w : WrittenImage
   w = written_of contents
 
   items-are : image_items rows h heap shows.held ≡ items_of w
@@ -169,7 +169,7 @@ module _ (s : Snapshot) (m0 : Machine) (heap : IsHeap s.heap.now) (shows : Shows
   }
 
   -- THE CONTENTS of a lawful machine may be written
-  written : IsWritten w
+  pub written : IsWritten w
   written = record {
     head = head-written;
     types = types-written;
@@ -220,11 +220,11 @@ module _ (s : Snapshot) (m0 : Machine) (heap : IsHeap s.heap.now) (shows : Shows
         };
       }
 
-  bytes-are : written_bytes w ≡ image_bytes m0
+  pub bytes-are : written_bytes w ≡ image_bytes m0
   bytes-are = written-are contents ∙ ap bytes_of (sym contents-same)
       ∙ image_is m0 (saved s) (contents-are s m0 heap shows)
 
-  parts-say : (p : Parts) → ArePartsOf w p → AreMachineParts m0 p
+  pub parts-say : (p : Parts) → ArePartsOf w p → AreMachineParts m0 p
   parts-say p are =
       let seen = shows.seen in
       let starts = starts-are rows h heap head.limit in

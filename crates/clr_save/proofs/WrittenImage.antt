@@ -80,7 +80,7 @@ references_pass : (body : Body) (items : List Item) (references : List (ℕ × �
     → AllPass (map (reference_test body.items) references)
 references_pass body items references same all = record { all = references_all body items references same all }
 
-all_pass : (w : WrittenImage) (p : Parts) → IsWritten w → ArePartsOf w p → AllPass (tests_in p)
+pub all_pass : (w : WrittenImage) (p : Parts) → IsWritten w → ArePartsOf w p → AllPass (tests_in p)
 all_pass w p is are =
     let body = are.body in
     let items = body.items in

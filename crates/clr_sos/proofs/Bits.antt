@@ -46,3 +46,12 @@ module _ (words : List ℕ) (n word : ℕ) (room : n < 64 * length words) (read 
     | inl is ↦ rw is (ap (has_bit (set words (n / 64) new)) (eqb-true i n is) ∙ same-bit)
     | inr other ↦ rw other (other-bit i (eqb-false i n other))
   ]
+
+-- THE SAME AS CODE DOES IT: the word was read, and written with the bit
+pub bit_more : (words : List ℕ) (n word : ℕ) (now : List ℕ) → n < 64 * length words
+    → word ≡ get_or words (n / 64) 0 → now ≡ set words (n / 64) (bit_or word (1 * 2 ^ (n % 64) % 2 ^ 64))
+    → (i : ℕ) → has_bit now i ≡ (nat_eq i n || has_bit words i)
+bit_more words n word now room read written i =
+    let same : word ≡ get_or words (n / 64) word =
+    read ∙ get_or_default words (n / 64) 0 word (omega (arith, room)) in
+    ap (λ (ws : List ℕ). has_bit ws i) written ∙ bit_added words n word room same i

@@ -1,12 +1,22 @@
 -- Marks of no object, a set for one segment behind another.
-use Rattle.std.proofs.Common.{◌≡◌, ◌<◌, ◌+◌, ◌%◌, ◌∙◌, ℕ, zero, suc, List, [], ◌∷◌, ◌++◌, length, get_or, false}
+use Rattle.std.proofs.Common.{◌≡◌, ◌<◌, ◌+◌, ◌/◌, ◌%◌, ◌∙◌, ℕ, zero, suc, List, [], ◌∷◌, ◌++◌, length, get_or, false}
 use Rattle.std.proofs.Common.{ap, arith, length-append, nat_eq, subst, sym}
+use Rattle.std.specs.Int.{bit_at}
 use Rattle.std.proofs.lemmas.Nat.Bits.{bit_at-zero}
+use Rattle.clr_mem.specs.Words.{zeros}
+use Rattle.clr_mem.proofs.Callers.{get_or-zeros}
 use Rattle.clr_sos.specs.Bits.{has_bit}
 
 -- no number is in a set of no words
 pub none-in_none : (n : ℕ) → has_bit [] n ≡ false
 none-in_none n = ap (λ b. nat_eq b 1) (bit_at-zero (n % 64))
+
+-- nor in one of words that are zero
+pub none-in_zeros : (words : List ℕ) (count : ℕ) → words ≡ zeros count → (n : ℕ) → has_bit words n ≡ false
+none-in_zeros words count is n =
+    ap (λ (ws : List ℕ). has_bit ws n) is
+    ∙ ap (λ (w : ℕ). nat_eq (bit_at w (n % 64)) 1) (get_or-zeros count (n / 64))
+    ∙ ap (λ b. nat_eq b 1) (bit_at-zero (n % 64))
 
 -- one set more is one more
 pub fresh-count : (seen : List (List ℕ)) (bits : List ℕ) (k : ℕ) → length seen ≡ k

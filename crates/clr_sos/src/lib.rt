@@ -10,7 +10,8 @@ pub use crate::reach::{FoundObject, Reached};
 pub use crate::roots::gcroot;
 pub use crate::segments::eeheap;
 pub use crate::verify::{
-    clean_states_are_lawful, faultless_heaps_are_held, verifyheap, verifyheap_with_room,
+    clean_states_are_lawful, faultless_heaps_are_held, verifyheap, verifyheap_at_once,
+    verifyheap_with_room,
 };
 pub use crate::view::View;
 pub use crate::whereabouts::gcwhere;

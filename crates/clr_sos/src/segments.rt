@@ -22,8 +22,8 @@ const THREADS: usize = 16;
 /// The segments of the heap, the contexts of the threads, and how much is reserved.
 ///
 /// First a line for each segment, by rising base: `segment BASE KIND end END reserved BYTES`. `KIND` is `small`,
-/// `ephemeral` or `large`, and `END` is the place up to which the segment is in use. The line of the ephemeral one goes
-/// on with `gen1 START gen0 START`: where generations 1 and 0 begin in it.
+/// `ephemeral`, `large` or `pinned`, and `END` is the place up to which the segment is in use. The line of the
+/// ephemeral one goes on with `gen1 START gen0 START`: where generations 1 and 0 begin in it.
 ///
 /// Then a line for each thread of whose context something is left, by thread, from 1 to 16:
 /// `context tTHREAD START END`, where `END` is one past its last address.

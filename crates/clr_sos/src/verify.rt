@@ -1,5 +1,5 @@
 // The command that verifies a heap.
-ghost use Rattle.std.specs.Prelude.{◌≡◌, ◌<◌, ◌↔◌, length};
+ghost use Rattle.std.specs.Prelude.{◌≡◌, ◌<◌, ◌↔◌, ◌^◌, length, IfOk};
 ghost use Rattle.clr_heap.specs.View.{IsHeap};
 ghost use Rattle.clr_sos.specs.Faultless.{IsFaultless};
 ghost use Rattle.clr_sos.specs.Faults.{AreInside, first_fault, verdict};
@@ -15,6 +15,8 @@ pub use crate::verify::laws::{clean_states_are_lawful, faultless_heaps_are_held}
 use crate::verify::references::names_fault;
 use crate::verify::segments::segments_fault;
 use crate::view::View;
+use clr_heap::Heap;
+use std::alloc::{AllocError, Global};
 
 /// How many words `verifyheap` has to work in: their bits tell of 16 MiB of a heap at once.
 const ROOM: usize = 32768;
@@ -35,6 +37,7 @@ const ROOM: usize = 32768;
 /// The types, the limit, `large`, handles and queues aren't checked. The view may be any: its heap needn't spell items.
 /// It takes no memory. References are judged by a bit for each word of 16 MiB of places at a time, and the heap is
 /// walked once for each such range that has places: where a caller has more room, `verifyheap_with_room` is faster.
+#[inline(never)]
 pub fn verifyheap(view: &View<'_>) -> Result<(), u64>
     requires holes { AreInside view.now.heap.now }
     ensures fault { result
@@ -48,6 +51,7 @@ pub fn verifyheap(view: &View<'_>) -> Result<(), u64>
 
 /// The same, with room to work in, whose words may be any and are lost. The heap is walked once for each range of 512
 /// bytes a word of the room that has places: with a word for each 512 bytes of the reservations one walk is enough.
+#[inline(always)]
 pub fn verifyheap_with_room(view: &View<'_>, room: &mut [u64]) -> Result<(), u64>
     requires holes { AreInside view.now.heap.now }
     requires some { 0 < length room.old }
@@ -62,7 +66,64 @@ pub fn verifyheap_with_room(view: &View<'_>, room: &mut [u64]) -> Result<(), u64
     }
 }
 
+/// The same, with room for all places at once wherever the allocator has it: then the heap is walked once. The room is a
+/// bit for each word between the heap's first place and its last, or as many words as the used ranges have bytes / 128
+/// where these lie far apart. Where it is refused the room is that of `verifyheap`, so the answer doesn't depend on it.
+pub fn verifyheap_at_once(alloc: Global, view: &View<'_>) -> Result<(), u64>
+    requires holes { AreInside view.now.heap.now }
+    ensures fault { result
+        ≡ verdict (first_fault view.now.types.now view.now.large view.now.heap.now view.now.locals.now) }
+    ensures lawful { (result ≡ Ok tt)
+        ↔ IsFaultless view.now.types.now view.now.large view.now.heap.now view.now.locals.now }
+{
+    match room_for(alloc, view.heap) {
+        Ok(room) => verifyheap_in(view, room),
+        Err(_) => verifyheap(view),
+    }
+}
+
+// The same with room that was taken, and is given back.
+#[inline(always)]
+fn verifyheap_in(view: &View<'_>, room: Vec<u64>) -> Result<(), u64>
+    requires holes { AreInside view.now.heap.now }
+    requires some { 0 < length room.items }
+    ensures fault { result
+        ≡ verdict (first_fault view.now.types.now view.now.large view.now.heap.now view.now.locals.now) }
+    ensures lawful { (result ≡ Ok tt)
+        ↔ IsFaultless view.now.types.now view.now.large view.now.heap.now view.now.locals.now }
+{
+    let mut room = room;
+    verifyheap_with_room(view, &mut room)
+}
+
+// Room for a window over all places, or over four times as many bytes as are used where places lie far apart.
+fn room_for(alloc: Global, heap: &Heap) -> Result<Vec<u64>, AllocError>
+    ensures { IfOk result (λ room. 0 < length room.items) }
+{
+    let count = window_words(heap);
+    vec![in alloc; 0; count + 1]
+}
+
+// How many words less one such a window has.
+fn window_words(heap: &Heap) -> usize
+    ensures { result < 2 ^ 60 }
+{
+    let mut start = u64::MAX;
+    let mut top = 0;
+    let mut used = 0_u64;
+    for k in 0..heap.segments() {
+        let segment = heap.info(k);
+        if segment.base < segment.end {
+            start = start.min(segment.base);
+            top = top.max(segment.end);
+            used = used.saturating_add(segment.end - segment.base);
+        }
+    }
+    (top.saturating_sub(start) / 512).min(used / 128) as usize
+}
+
 // The address of the first fault of a view.
+#[inline(always)]
 fn fault(view: &View<'_>, room: &mut [u64]) -> Option<u64>
     requires holes { AreInside view.now.heap.now }
     requires some { 0 < length room.old }

@@ -15,8 +15,8 @@ use clr_generations::object_at;
 use clr_model::Where;
 use clr_types::SegKind;
 
-/// Where the object with the place `a` stands: its generation, the kind of its segment, 0 small, 1 ephemeral and 2
-/// large, the base of that segment, an address, and its own size in bytes.
+/// Where the object with the place `a` stands: its generation, the kind of its segment (0 small, 1 ephemeral, 2 large,
+/// 3 pinned), the base of that segment, an address, and its own size in bytes.
 ///
 /// `None` comes exactly where no object has the place. The object is found by bricks, without a walk of its segment.
 pub fn gcwhere(view: &View<'_>, a: u64) -> Option<Where>

@@ -2,13 +2,14 @@
 ghost use Rattle.std.specs.Prelude.{◌≡◌, ℕ, ◌*◌, ◌<◌, ◌≤◌, ◌||◌, false, length, nat_eq, IfOk};
 ghost use Rattle.clr_sos.specs.Bits.{has_bit};
 
+use clr_mem::PagedWords;
 use std::alloc::{AllocError, Global};
 use std::marker::Model;
 
 /// A set of numbers below a bound, with a bit for each.
 #[derive(Drop)]
 pub(crate) struct Bits {
-    words: Vec<u64>,
+    words: PagedWords,
 }
 
 impl Model for Bits {
@@ -16,7 +17,7 @@ impl Model for Bits {
 
     ghost Value = { List ℕ };
 
-    ghost view = { λ b. b.words.items };
+    ghost view = { λ b. b.words };
 }
 
 impl Bits {
@@ -25,7 +26,7 @@ impl Bits {
         ensures room { IfOk result (λ b. count ≤ 64 * length b) }
         ensures none { IfOk result (λ b. (n : ℕ) → has_bit b n ≡ false) }
     {
-        let words = vec![in alloc; 0; (count / 64 + 1) as usize]?;
+        let words = PagedWords::new(alloc, (count / 32768 + 1) as usize * 512)?;
         Ok(Bits { words })
     }
 
@@ -34,10 +35,7 @@ impl Bits {
     pub(crate) fn has(&self, n: u64) -> bool
         ensures { result ≡ has_bit self.now n }
     {
-        match self.words.get((n / 64) as usize) {
-            Some(word) => (word >> (n % 64)) & 1 == 1,
-            None => false,
-        }
+        (self.words.word((n / 64) as usize) >> (n % 64)) & 1 == 1
     }
 
     /// Puts a number in, for which there is room.
@@ -48,6 +46,7 @@ impl Bits {
         ensures added { (i : ℕ) → has_bit self.new i ≡ (nat_eq i n || has_bit self.old i) }
     {
         let k = (n / 64) as usize;
-        self.words[k] |= 1 << (n % 64);
+        let word = self.words.word(k);
+        self.words.set_word(k, word | 1 << (n % 64));
     }
 }

@@ -26,6 +26,7 @@ pub struct Judge<'a> {
 
 // The first fault of the references, and else that of the locals. The bits are room to work in, one for each word of a
 // window.
+#[inline(always)]
 pub fn names_fault(heap: &Heap, types: &Types, locals: &[u64], bits: &mut [u64]) -> Option<u64>
     requires heap { IsHeap heap.now }
     requires walkable { AreWalkable types.now heap.now }
@@ -60,6 +61,7 @@ pub fn names_fault(heap: &Heap, types: &Types, locals: &[u64], bits: &mut [u64])
 }
 
 // The lowest of an address and of those of the bad references of the heap, in a window.
+#[inline(always)]
 fn judge_heap(judge: &Judge<'_>, low: Option<u64>) -> Option<u64>
     requires { CanJudge judge.now }
     ensures { result ≡ lowest_bad judge.now low
@@ -73,6 +75,7 @@ fn judge_heap(judge: &Judge<'_>, low: Option<u64>) -> Option<u64>
 }
 
 // The same of the references of a segment.
+#[inline(always)]
 fn judge_segment(judge: &Judge<'_>, k: usize, low: Option<u64>) -> Option<u64>
     requires in_range { k < length judge.now.heap.now.segments }
     requires judging { CanJudge judge.now }
@@ -87,7 +90,7 @@ fn judge_segment(judge: &Judge<'_>, k: usize, low: Option<u64>) -> Option<u64>
 }
 
 // The same of the references of an item.
-#[inline]
+#[inline(always)]
 fn judge_item(judge: &Judge<'_>, k: usize, item: Item, low: Option<u64>) -> Option<u64>
     requires in_range { k < length judge.now.heap.now.segments }
     requires judging { CanJudge judge.now }

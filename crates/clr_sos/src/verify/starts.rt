@@ -10,6 +10,7 @@ use clr_heap::{Heap, Item, SegInfo};
 use clr_types::Types;
 
 // Sets exactly the bits of the words of the window that are the places of objects.
+#[inline(always)]
 pub fn mark_starts(heap: &Heap, types: &Types, window: Window, bits: &mut [u64])
     requires walkable { AreWalkable types.now heap.now }
     requires aligned { window.start % 8 ≡ 0 }
@@ -31,6 +32,7 @@ fn clear(bits: &mut [u64])
 }
 
 // Sets the bits of the objects of a segment.
+#[inline(always)]
 fn mark_segment(heap: &Heap, types: &Types, k: usize, window: Window, bits: &mut [u64])
     requires in_range { k < length heap.now.segments }
     requires walkable { AreWalkable types.now heap.now }

@@ -2,8 +2,8 @@
 use Rattle.clr_lines.proofs.LookLines.{clean_follows}
 use Rattle.clr_lines.proofs.looks.verify.Goals as goal
 
-pub verifyheap-requires : goal.verifyheap-requires
-verifyheap-requires c = record {
+pub verifyheap_at_once-requires : goal.verifyheap_at_once-requires
+verifyheap_at_once-requires c = record {
   holes =
       (c.clean_states_are_lawful.ensures c.view_of-view.result c.args.runtime.now.machine
       c.view_of-view.ensures.lawful.heap c.view_of-view.ensures.clean).0;

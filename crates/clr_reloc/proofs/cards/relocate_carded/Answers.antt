@@ -1,11 +1,12 @@
-use Rattle.std.proofs.Common.{◌-◌, ◌/◌, ◌∙◌, arith}
+use Rattle.std.proofs.Common.{◌≡◌, ◌-◌, ◌/◌, ◌∙◌, true, arith}
 use Rattle.clr_cards.specs.Cards.{is_card_set}
 use Rattle.clr_covers.proofs.Spans.{is_covered-spans, share_cover-spans}
 use Rattle.clr_heap.specs.View.{frame}
 use Rattle.clr_reloc.specs.Relocated.{rebounded}
 use Rattle.clr_reloc.specs.Relocating.{GoesDown, HaveCardsDown}
 use Rattle.clr_reloc.specs.Scanning.{entry_before}
-use Rattle.clr_reloc.proofs.ClearCards.{all_passed, begin_at, entry_stands, sub_ahead}
+use Rattle.clr_reloc.specs.Relocations.{CanSkip}
+use Rattle.clr_reloc.proofs.ClearCards.{all_passed, begin_at, entry_stands, quiet_on, sub_ahead}
 use Rattle.clr_reloc.proofs.ManyItems.{relocated_both, relocated_none}
 use Rattle.clr_reloc.proofs.OneObject.{beside_refl, beside_trans}
 use Rattle.clr_reloc.proofs.cards.relocate_carded.Goals as goal
@@ -57,7 +58,17 @@ relocate_items-cursor-requires-clause-can c =
     let have : HaveCardsDown c.loop-lo.cards c.nearest-from.result c.args.end 0 = λ x from to.
     is_covered-spans c.loop-lo.cards c.args.cards.now ((x - 0) / 2048) inv.beside.cards
     ∙ c.requires.cards x (omega (arith, above, low, from)) to in
-    (view, done.next, vs, b.items, c.args.end, done.relocating, b.tracks, near, stays, have, under)
+    let skip : true ≡ true → CanSkip c.args.work.now view vs c.loop-lo.cards c.nearest-from.result c.args.end = λ on.
+    record {
+      quiet = λ i offset left a b m off. quiet_on rows view c.args.work.now.g vs layout (is_card_set c.args.cards.now)
+          (is_card_set c.loop-lo.cards) c.args.first c.args.end inv.beside.set quiet i offset left
+          (omega (arith, above, low, a)) b m off;
+      row = λ a b from_a to_a from_b to_b. share_cover-spans c.loop-lo.cards c.args.cards.now (a / 2048) (b / 2048)
+          inv.beside.cards
+          ∙ c.requires.row a b (omega (arith, above, low, from_a)) to_a (omega (arith, above, low, from_b)) to_b;
+      stays = stays;
+    } in
+    (view, done.next, vs, b.items, c.args.end, done.relocating, b.tracks, near, stays, have, under, skip)
 
 pub loop-lo-preserved : goal.loop-lo-preserved
 loop-lo-preserved c =
@@ -115,9 +126,19 @@ loop-lo-preserved c =
           let have : HaveCardsDown c.loop-lo.cards c.nearest-from.result c.args.end 0 = λ x from to.
           is_covered-spans c.loop-lo.cards c.args.cards.now ((x - 0) / 2048) inv.beside.cards
           ∙ c.requires.cards x (omega (arith, above, low, from)) to in
+          let skip : true ≡ true → CanSkip c.args.work.now view vs c.loop-lo.cards c.nearest-from.result c.args.end = λ on.
+          record {
+            quiet = λ i offset left a b m off. quiet_on rows view c.args.work.now.g vs layout (is_card_set c.args.cards.now)
+                (is_card_set c.loop-lo.cards) c.args.first c.args.end inv.beside.set quiet i offset left
+                (omega (arith, above, low, a)) b m off;
+            row = λ a b from_a to_a from_b to_b. share_cover-spans c.loop-lo.cards c.args.cards.now (a / 2048) (b / 2048)
+                inv.beside.cards
+                ∙ c.requires.row a b (omega (arith, above, low, from_a)) to_a (omega (arith, above, low, from_b)) to_b;
+            stays = stays;
+          } in
           let (more, after) = items.ensures.gone view done.next vs b.items c.args.end done.relocating b.tracks near
           stays
-          have under in (
+          have under skip in (
             more,
             relocated_both c.args.work.now view now vs c.args.heap.now c.loop-lo.heap items.new.heap c.args.pins.now
                 c.loop-lo.pins items.new.pins c.args.cards.now c.loop-lo.cards items.new.cards c.loop-lo.met.stretch

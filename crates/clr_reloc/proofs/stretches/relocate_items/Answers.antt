@@ -3,7 +3,8 @@ use Rattle.clr_view.proofs.Listed.{listed-low}
 use Rattle.clr_view.proofs.Standing.{standing}
 use Rattle.clr_reloc.specs.Relocating.{Tracks}
 use Rattle.clr_reloc.specs.Relocations.{AreRelocated}
-use Rattle.clr_reloc.proofs.ManyItems.{below_end, item_ahead, relocated_both, relocated_none, track_first, track_has}
+use Rattle.clr_reloc.proofs.ManyItems.{below_end, item_ahead, relocated_both, relocated_none, skip_item, track_first}
+use Rattle.clr_reloc.proofs.ManyItems.{track_has}
 use Rattle.clr_reloc.proofs.OneObject.{beside_refl, beside_trans}
 use Rattle.clr_reloc.proofs.stretches.relocate_items.Goals as goal
 
@@ -11,7 +12,7 @@ pub loop-place-init : goal.loop-place-init
 loop-place-init c =
     record {
       low = omega arith;
-      gone = λ view now vs is end r track ahead goes cards within. (
+      gone = λ view now vs is end r track ahead goes cards within skip. (
         (is, track),
         relocated_none c.args.work.now view now vs c.args.heap.now c.args.pins.now c.args.cards.now
             c.args.met.now.stretch c.args.from r,
@@ -22,16 +23,16 @@ loop-place-init c =
 
 pub overflow_sub-place : goal.overflow_sub-place
 overflow_sub-place c =
-    let (view, now, vs, is, end, r, track, ahead, goes, cards, within) = c.requires.can in
+    let (view, now, vs, is, end, r, track, ahead, goes, cards, within, skip) = c.requires.can in
     let low = c.loop-place.invariant.low in
     let down = goes c.loop-place.place low (below_end c.loop-place.place c.args.hi end c.loop-place-test.true within) in
     omega (arith, down)
 
 pub segment_near-met-requires : goal.segment_near-met-requires
 segment_near-met-requires c =
-    let (view, now, vs, is, end, r, track, ahead, goes, cards, within) = c.requires.can in
+    let (view, now, vs, is, end, r, track, ahead, goes, cards, within, skip) = c.requires.can in
     let inv = c.loop-place.invariant in
-    let ((rest, left), done) = inv.gone view now vs is end r track ahead goes cards within in
+    let ((rest, left), done) = inv.gone view now vs is end r track ahead goes cards within skip in
     let below = below_end c.loop-place.place c.args.hi end c.loop-place-test.true within in
     let heap = r.0.begun.plan.overlaid.heap in
     let held = r.0.begun.plan.held in
@@ -41,9 +42,9 @@ segment_near-met-requires c =
 
 pub relocate_item-place-requires-clause-can : goal.relocate_item-place-requires-clause-can
 relocate_item-place-requires-clause-can c =
-    let (view, now, vs, is, end, r, track, ahead, goes, cards, within) = c.requires.can in
+    let (view, now, vs, is, end, r, track, ahead, goes, cards, within, skip) = c.requires.can in
     let inv = c.loop-place.invariant in
-    let ((rest, left), done) = inv.gone view now vs is end r track ahead goes cards within in
+    let ((rest, left), done) = inv.gone view now vs is end r track ahead goes cards within skip in
     let below = below_end c.loop-place.place c.args.hi end c.loop-place-test.true within in
     let heap = r.0.begun.plan.overlaid.heap in
     let held = r.0.begun.plan.held in
@@ -56,13 +57,15 @@ relocate_item-place-requires-clause-can c =
       done.relocating,
       item_ahead rows view now done.next c.args.work.now.g vs heap held c.args.from c.loop-place.place end c.args.down
           c.loop-place.cards inv.low below ahead goes done.gone t c.args.cards.now cards inv.beside.cards,
+      skip_item c.args.work.now view vs c.args.cards.now c.loop-place.cards heap held c.args.from
+          c.loop-place.place end inv.low t inv.beside.set inv.beside.cards c.args.carded skip,
     )
 
 pub overflow_add-place : goal.overflow_add-place
 overflow_add-place c =
-    let (view, now, vs, is, end, r, track, ahead, goes, cards, within) = c.requires.can in
+    let (view, now, vs, is, end, r, track, ahead, goes, cards, within, skip) = c.requires.can in
     let inv = c.loop-place.invariant in
-    let ((rest, left), done) = inv.gone view now vs is end r track ahead goes cards within in
+    let ((rest, left), done) = inv.gone view now vs is end r track ahead goes cards within skip in
     let below = below_end c.loop-place.place c.args.hi end c.loop-place-test.true within in
     let heap = r.0.begun.plan.overlaid.heap in
     let held = r.0.begun.plan.held in
@@ -70,16 +73,18 @@ overflow_add-place c =
     let t = track_first rows view rest c.loop-place.place end left below in
     let there = item_ahead rows view now done.next c.args.work.now.g vs heap held c.args.from c.loop-place.place end
     c.args.down c.loop-place.cards inv.low below ahead goes done.gone t c.args.cards.now cards inv.beside.cards in
-    let (size, more) = c.relocate_item-place.ensures.gone view done.next vs t.item done.relocating there in
+    let (size, more) = c.relocate_item-place.ensures.gone view done.next vs t.item done.relocating there
+    (skip_item c.args.work.now view vs c.args.cards.now c.loop-place.cards heap held c.args.from
+    c.loop-place.place end inv.low t inv.beside.set inv.beside.cards c.args.carded skip) in
     let low = listed-low rows view t.item heap held t.listed in
     let at = t.at in
     omega (arith, size, low, at)
 
 pub loop-place-smaller : goal.loop-place-smaller
 loop-place-smaller c =
-    let (view, now, vs, is, end, r, track, ahead, goes, cards, within) = c.requires.can in
+    let (view, now, vs, is, end, r, track, ahead, goes, cards, within, skip) = c.requires.can in
     let inv = c.loop-place.invariant in
-    let ((rest, left), done) = inv.gone view now vs is end r track ahead goes cards within in
+    let ((rest, left), done) = inv.gone view now vs is end r track ahead goes cards within skip in
     let below = below_end c.loop-place.place c.args.hi end c.loop-place-test.true within in
     let heap = r.0.begun.plan.overlaid.heap in
     let held = r.0.begun.plan.held in
@@ -87,7 +92,9 @@ loop-place-smaller c =
     let t = track_first rows view rest c.loop-place.place end left below in
     let there = item_ahead rows view now done.next c.args.work.now.g vs heap held c.args.from c.loop-place.place end
     c.args.down c.loop-place.cards inv.low below ahead goes done.gone t c.args.cards.now cards inv.beside.cards in
-    let (size, more) = c.relocate_item-place.ensures.gone view done.next vs t.item done.relocating there in
+    let (size, more) = c.relocate_item-place.ensures.gone view done.next vs t.item done.relocating there
+    (skip_item c.args.work.now view vs c.args.cards.now c.loop-place.cards heap held c.args.from
+    c.loop-place.place end inv.low t inv.beside.set inv.beside.cards c.args.carded skip) in
     let up = (standing rows view heap held t.item t.listed).least in
     let test = c.loop-place-test.true in
     omega (arith, size, up, test)
@@ -98,8 +105,8 @@ loop-place-preserved c =
     let item = c.relocate_item-place in
     record {
       low = let low = inv.low in omega (arith, low);
-      gone = λ view now vs is end r track ahead goes cards within.
-          let ((rest, left), done) = inv.gone view now vs is end r track ahead goes cards within in
+      gone = λ view now vs is end r track ahead goes cards within skip.
+          let ((rest, left), done) = inv.gone view now vs is end r track ahead goes cards within skip in
           let below = below_end c.loop-place.place c.args.hi end c.loop-place-test.true within in
           let heap = r.0.begun.plan.overlaid.heap in
           let held = r.0.begun.plan.held in
@@ -108,7 +115,9 @@ loop-place-preserved c =
           let there = item_ahead rows view now done.next c.args.work.now.g vs heap held c.args.from c.loop-place.place
           end
           c.args.down c.loop-place.cards inv.low below ahead goes done.gone t c.args.cards.now cards inv.beside.cards in
-          let (size, more) = c.relocate_item-place.ensures.gone view done.next vs t.item done.relocating there in
+          let (size, more) = c.relocate_item-place.ensures.gone view done.next vs t.item done.relocating there
+          (skip_item c.args.work.now view vs c.args.cards.now c.loop-place.cards heap held c.args.from
+          c.loop-place.place end inv.low t inv.beside.set inv.beside.cards c.args.carded skip) in
           let to = c.loop-place.place + t.item.size in
           let ends : c.loop-place.place + item.result ≡ to = ap (λ n. c.loop-place.place + n) size in (
             (t.rest, subst (λ p. Tracks rows view t.rest p end) (sym ends) t.track),

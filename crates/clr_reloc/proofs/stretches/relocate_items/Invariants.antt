@@ -1,10 +1,10 @@
-use Rattle.std.proofs.Common.{◌≤◌, ◌-◌, ℕ, List}
+use Rattle.std.proofs.Common.{◌≡◌, ◌≤◌, true, ◌-◌, ℕ, List}
 use Rattle.clr_types.specs.declared.item.Item.{Item}
 use Rattle.clr_heap.specs.View.{HeapView}
 use Rattle.clr_model.specs.Compaction.{Move}
 use Rattle.clr_reloc.specs.Relocating.{GoesDown, HaveCardsDown, IsAhead, Tracks}
 use Rattle.clr_reloc.specs.RunKinds.{IsRunKind}
-use Rattle.clr_reloc.specs.Relocations.{AreRelocated, IsRelocatingBy, KeepsBeside}
+use Rattle.clr_reloc.specs.Relocations.{AreRelocated, CanSkip, IsRelocatingBy, KeepsBeside}
 use Rattle.clr_reloc.proofs.stretches.relocate_items.Given as goal
 
 abbrev pub invariant-loop-place : goal.invariant-loop-place
@@ -14,6 +14,7 @@ invariant-loop-place l = record {
       → IsRelocatingBy l.work view now l.initial.heap l.initial.pins.entries vs l.initial.met.stretch
       → Tracks l.work.types.now view is l.from end → IsAhead view now l.work.g vs l.from end
       → GoesDown vs l.from end l.down → HaveCardsDown l.initial.cards l.from end l.down → l.hi ≤ end
+      → (l.carded ≡ true → CanSkip l.work view vs l.initial.cards l.from end)
       → ((rest : List Item) × Tracks l.work.types.now view rest l.place end)
       × AreRelocated l.work view now vs l.initial.heap l.heap l.initial.pins l.pins l.cards l.met.stretch l.from
       l.place;

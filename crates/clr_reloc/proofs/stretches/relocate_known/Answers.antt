@@ -1,4 +1,5 @@
-use Rattle.std.proofs.Common.{◌∙◌, ◌&&◌, ◌||◌, Bool, not, ap, sym}
+use Rattle.std.proofs.Common.{◌∙◌, ◌&&◌, ◌||◌, Bool, false, not, ap, refl, sym}
+use Rattle.std.proofs.lemmas.Bool.{both_ways}
 use Rattle.clr_view.specs.Marks.{has_mark}
 use Rattle.clr_reloc.specs.Relocating.{is_gone_over_in}
 use Rattle.clr_reloc.proofs.OneItem.{found_ahead, found_done, found_placed, found_stays, segment_inside}
@@ -19,7 +20,7 @@ relocate_run-requires-clause-can c =
     let ahead = found_ahead c.args.work.now view now c.args.heap.now c.args.pins.now vs c.args.met.now.stretch r i
     c.args.found.place c.args.to c.args.cards.now q c.args.met.now.segment c.requires.segment c.args.found
     c.requires.item c.args.mt c.requires.word c.is_kept.result told
-    c.args.met.now.near c.planned_gen-age.result c.if-is_kept.true in
+    c.args.met.now.near c.planned_gen-age.result c.if-is_kept.true false (λ no. absurd (both_ways false refl no)) in
     (view, now, vs, r, ahead)
 
 pub relocate_run-requires-clause-placed : goal.relocate_run-requires-clause-placed
@@ -30,7 +31,7 @@ relocate_run-requires-clause-placed c =
     found_placed c.args.work.now view now c.args.heap.now c.args.pins.now vs c.args.met.now.stretch r i
     c.args.found.place c.args.to c.args.cards.now q c.args.met.now.segment c.requires.segment c.args.found
     c.requires.item c.args.mt c.requires.word c.is_kept.result told
-    c.args.met.now.near c.planned_gen-age.result c.planned_gen-age.ensures
+    c.args.met.now.near c.planned_gen-age.result c.planned_gen-age.ensures false
 
 pub returns-then-is_kept-clause-gone : goal.returns-then-is_kept-clause-gone
 returns-then-is_kept-clause-gone c view now vs i r q =
@@ -40,7 +41,7 @@ returns-then-is_kept-clause-gone c view now vs i r q =
     let ahead = found_ahead c.args.work.now view now c.args.heap.now c.args.pins.now vs c.args.met.now.stretch r i
     c.args.found.place c.args.to c.args.cards.now q c.args.met.now.segment c.requires.segment c.args.found
     c.requires.item c.args.mt c.requires.word c.is_kept.result told
-    c.args.met.now.near c.planned_gen-age.result c.if-is_kept.true in
+    c.args.met.now.near c.planned_gen-age.result c.if-is_kept.true false (λ no. absurd (both_ways false refl no)) in
     found_done c.args.work.now view now c.args.heap.now c.args.pins.now vs c.args.met.now.stretch r i
     c.args.found.place c.args.to c.args.cards.now q c.args.met.now.segment c.requires.segment c.args.found
     c.requires.item c.args.mt c.requires.word c.is_kept.result told

@@ -16,35 +16,35 @@ use Rattle.clr_reloc.proofs.stretches.relocate_read.Goals as goal
 
 pub logical_item-found-requires-clause-names : goal.logical_item-found-requires-clause-names
 logical_item-found-requires-clause-names c =
-    let (view, now, vs, i, r, q) = c.requires.can in
+    let (view, now, vs, i, r, q, skip) = c.requires.can in
     item_named c.args.work.now view now c.args.heap.now c.args.pins.now vs c.args.met.now.stretch r i c.args.place
     c.args.to
     c.args.cards.now q
 
 pub logical_item-found-requires-clause-len : goal.logical_item-found-requires-clause-len
 logical_item-found-requires-clause-len c =
-    let (view, now, vs, i, r, q) = c.requires.can in
+    let (view, now, vs, i, r, q, skip) = c.requires.can in
     len_has c.args.work.now view now c.args.heap.now c.args.pins.now vs c.args.met.now.stretch r i c.args.place
     c.args.to
     c.args.cards.now q
 
 pub logical_item-found-requires-clause-segment : goal.logical_item-found-requires-clause-segment
 logical_item-found-requires-clause-segment c =
-    let (view, now, vs, i, r, q) = c.requires.can in
+    let (view, now, vs, i, r, q, skip) = c.requires.can in
     len_segment c.args.work.now view now c.args.heap.now c.args.pins.now vs c.args.met.now.stretch r i c.args.place
     c.args.to
     c.args.cards.now q c.args.met.now.segment c.requires.segment
 
 pub logical_item-found-requires-clause-room : goal.logical_item-found-requires-clause-room
 logical_item-found-requires-clause-room c =
-    let (view, now, vs, i, r, q) = c.requires.can in
+    let (view, now, vs, i, r, q, skip) = c.requires.can in
     fits_len c.args.work.now view now c.args.heap.now c.args.pins.now vs c.args.met.now.stretch r i c.args.place
     c.args.to
     c.args.cards.now q
 
 pub series-requires : goal.series-requires
 series-requires c =
-    let (view, now, vs, i, r, q) = c.requires.can in
+    let (view, now, vs, i, r, q, skip) = c.requires.can in
     let named = item_named c.args.work.now view now c.args.heap.now c.args.pins.now vs c.args.met.now.stretch r i
     c.args.place c.args.to c.args.cards.now q in
     let number = ap (λ (x : Item). x.type_id.0) c.logical_item-found.ensures
@@ -53,7 +53,7 @@ series-requires c =
 
 pub kind_behind-met-requires-clause-number : goal.kind_behind-met-requires-clause-number
 kind_behind-met-requires-clause-number c =
-    let (view, now, vs, i, r, q) = c.requires.can in
+    let (view, now, vs, i, r, q, skip) = c.requires.can in
     let named = item_named c.args.work.now view now c.args.heap.now c.args.pins.now vs c.args.met.now.stretch r i
     c.args.place c.args.to c.args.cards.now q in
     let number = ap (λ (x : Item). x.type_id.0) c.logical_item-found.ensures
@@ -61,7 +61,7 @@ kind_behind-met-requires-clause-number c =
     subst (λ (n : ℕ). n ≤ length c.args.work.now.types.now) (sym number) named.known
 
 pub returns-then-is_empty-clause-gone : goal.returns-then-is_empty-clause-gone
-returns-then-is_empty-clause-gone c view now vs i r q =
+returns-then-is_empty-clause-gone c view now vs i r q skip =
     let rows = c.args.work.now.types.now in
     let found = c.logical_item-found.result in
     let same = c.logical_item-found.ensures ∙ item_is c.args.work.now view now c.args.heap.now c.args.pins.now vs
@@ -88,14 +88,14 @@ kind_behind-met-requires-clause-item c = (
 
 pub is_left-requires : goal.is_left-requires
 is_left-requires c =
-    let (view, now, vs, i, r, q) = c.requires.can in
+    let (view, now, vs, i, r, q, skip) = c.requires.can in
     segment_inside c.args.work.now view now c.args.heap.now c.args.pins.now vs c.args.met.now.stretch r i c.args.place
     c.args.to
     c.args.cards.now q c.args.met.now.segment c.requires.segment
 
 pub relocate_object-requires-clause-can : goal.relocate_object-requires-clause-can
 relocate_object-requires-clause-can c =
-    let (view, now, vs, i, r, q) = c.requires.can in (
+    let (view, now, vs, i, r, q, skip) = c.requires.can in (
       view,
       now,
       vs,
@@ -106,21 +106,21 @@ relocate_object-requires-clause-can c =
           c.logical_item-found.ensures
           c.args.mt c.requires.word c.is_left.result c.is_left.ensures
           c.args.met.now.near
-          c.planned_gen-age.result c.if-is_left.true,
+          c.planned_gen-age.result c.if-is_left.true c.args.carded skip,
     )
 
 pub relocate_object-requires-clause-placed : goal.relocate_object-requires-clause-placed
 relocate_object-requires-clause-placed c =
-    let (view, now, vs, i, r, q) = c.requires.can in
+    let (view, now, vs, i, r, q, skip) = c.requires.can in
     found_placed c.args.work.now view now c.args.heap.now c.args.pins.now vs c.args.met.now.stretch r i c.args.place
     c.args.to
     c.args.cards.now q c.args.met.now.segment c.requires.segment c.logical_item-found.result
     c.logical_item-found.ensures
     c.args.mt c.requires.word c.is_left.result c.is_left.ensures c.args.met.now.near
-    c.planned_gen-age.result c.planned_gen-age.ensures
+    c.planned_gen-age.result c.planned_gen-age.ensures c.args.carded
 
 pub returns-then-is_left-clause-gone : goal.returns-then-is_left-clause-gone
-returns-then-is_left-clause-gone c view now vs i r q =
+returns-then-is_left-clause-gone c view now vs i r q skip =
     let done = c.relocate_object in (
       ap (λ (x : Item). x.size) (found_is c.args.work.now view now c.args.heap.now c.args.pins.now vs
           c.args.met.now.stretch r i c.args.place c.args.to
@@ -138,11 +138,11 @@ returns-then-is_left-clause-gone c view now vs i r q =
           c.args.cards.now q c.args.met.now.segment c.requires.segment c.logical_item-found.result
           c.logical_item-found.ensures
           c.args.mt c.requires.word c.is_left.result c.is_left.ensures
-          c.args.met.now.near c.planned_gen-age.result c.if-is_left.true)),
+          c.args.met.now.near c.planned_gen-age.result c.if-is_left.true c.args.carded skip)),
     )
 
 pub returns-clause-gone : goal.returns-clause-gone
-returns-clause-gone c view now vs i r q = (
+returns-clause-gone c view now vs i r q skip = (
   ap (λ (x : Item). x.size) (found_is c.args.work.now view now c.args.heap.now c.args.pins.now vs
       c.args.met.now.stretch r i c.args.place c.args.to
       c.args.cards.now q c.args.met.now.segment c.requires.segment c.logical_item-found.result

@@ -2,7 +2,7 @@ use Rattle.std.proofs.Common.{◌≡◌, sym, ap, ◌∙◌, subst, ℕ, Some, N
 use Rattle.clr_mark.specs.Waiting.{IsGray, MarkerView}
 use Rattle.clr_mark.specs.Markings.{HasGrayed, HasMarked, IsRescanned}
 use Rattle.clr_mark.proofs.Graying.{has_marked-trans}
-use Rattle.clr_mark.proofs.Laws.{all_marked, gray_on, gray_round, round_lighter}
+use Rattle.clr_mark.proofs.Laws.{all_marked, gray_lowest, gray_on, gray_round, gray_stack, round_lighter}
 use Rattle.clr_mark.proofs.marker.Marker.drain_slots.Goals as goal
 
 pub loop-low-init : goal.loop-low-init
@@ -17,10 +17,18 @@ loop-low-init c =
       oldest = g.oldest;
     }
 
+pub empty_stack-requires : goal.empty_stack-requires
+empty_stack-requires c = record {
+  closed = c.requires.closed;
+  stacked = gray_stack c.args.types.now c.args.heap.now c.args.self.now c.requires;
+}
+
 pub rescan-requires : goal.rescan-requires
 rescan-requires c = record {
   closed = c.loop-low.invariant.gray.closed;
   empty = ap (λ (m : MarkerView). m.stack) c.take_range.ensures.marker ∙ c.loop-low.invariant.empty;
+  lowest = gray_lowest c.args.types.now c.loop-low.heap c.loop-low.self c.in-Some.low c.in-Some.high
+      (sym c.take_range.ensures.range ∙ c.in-Some.is) c.loop-low.invariant.gray;
 }
 
 pub loop-low-preserved : goal.loop-low-preserved

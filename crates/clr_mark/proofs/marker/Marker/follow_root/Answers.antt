@@ -4,6 +4,7 @@ use Rattle.clr_heap.specs.Parts.{unmarked}
 use Rattle.clr_view.specs.Marks.{has_mark}
 use Rattle.clr_mark.specs.Marks.{is_condemned_place}
 use Rattle.clr_mark.proofs.Graying.{object_word}
+use Rattle.clr_mark.proofs.Laws.{gray_stack}
 use Rattle.clr_mark.proofs.RootsFollowed.{root_closed, root_mark, rooted-refl, rooted_gray, rooted_new}
 use Rattle.clr_mark.proofs.marker.Marker.follow_root.Goals as goal
 
@@ -29,7 +30,8 @@ follow-requires c =
       closed = root_closed c.args.types.now c.args.heap.now c.set_word_at.new.self c.args.self.now c.args.obj
           c.requires.gray mark.after;
       marked = mark.after.there near;
-      stacked = λ x i. mark.after.kept x (c.requires.gray.stacked x i);
+      stacked = λ x i. mark.after.kept x
+          (gray_stack c.args.types.now c.args.heap.now c.args.self.now c.requires.gray x i);
       segment = c.segment_of-k.ensures ∙ mark.index;
       word = c.unmarked.ensures ∙ ap unmarked c.word_at-word.ensures ∙ mark.word;
       known = c.requires.known;

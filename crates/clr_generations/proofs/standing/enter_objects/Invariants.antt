@@ -1,0 +1,14 @@
+use Rattle.std.proofs.Common.{◌≡◌}
+use Rattle.clr_bricks.specs.Bricks.{entry_at}
+use Rattle.clr_covers.specs.Covers.{spans}
+use Rattle.clr_heap.specs.View.{frame, listings, word_of}
+use Rattle.clr_view.specs.View.{objects_among}
+use Rattle.clr_generations.specs.Laws.{BrickLaw}
+use Rattle.clr_generations.proofs.standing.enter_objects.Given as goal
+
+abbrev pub invariant-loop-k : goal.invariant-loop-k
+invariant-loop-k l = record {
+  law : BrickLaw l.types (frame l.heap) (objects_among l.types (word_of l.heap) (listings l.types l.heap 0 l.k))
+      (entry_at l.bricks);
+  spans : spans l.bricks ≡ spans l.initial.bricks;
+}

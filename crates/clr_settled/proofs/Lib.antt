@@ -1,0 +1,5 @@
+pub mod KeptRests
+pub mod SettledPieces
+pub mod SettledLawful
+pub mod Asked
+pub mod Dumped

@@ -29,7 +29,7 @@ abbrev pub ComesTo : World → ℕ → How → ℕ → Collected → World → �
 ComesTo w g how threshold answer gone slides slides_after =
     (m : Machine) → IsWorldOf w m → IsPlaceNamed m → lowest_in_step m ≡ None → m.options.compact ≡ threshold
     → (mid : Machine) × (d : IsCollected (begun m) g how false (StartOf (begun m) g) answer mid)
-    × IsWorldOf gone (picture mid) × CountsSlides d.moves answer slides slides_after
+    × IsWorldOf gone (picture mid) × CountsSlides how (begun m).layout d.survive d.moves answer slides slides_after
 
 -- what follows takes this world to that one, and slides the large heap or doesn't
 abbrev pub Ends : Bool → ℕ → World → World → Type 0
@@ -121,9 +121,9 @@ module _ (m : Machine) (named : IsPlaceNamed m) (idle : lowest_in_step m ≡ Non
   -- THE COLLECTION: with what follows
   pub comes_whole : (new : World) (slid : Machine) → SlidesIf (m.compacts_large && (g == 2)) (picture mid) slid
       → IsWorldOf new (ended g (picture slid)) → (slides slides_after : ℕ)
-      → CountsSlides d.moves answer slides slides_after
+      → CountsSlides how (begun m).layout d.survive d.moves answer slides slides_after
       → (after : Machine) × (c : Collects m g how answer after) × IsWorldOf new (picture after)
-      × CountsSlides c.collects.moves answer slides slides_after
+      × CountsSlides how (begun m).layout c.collects.survive c.collects.moves answer slides slides_after
   comes_whole new slid s is slides slides_after counts =
       let (next, t, same) = slide_seen (m.compacts_large && (g == 2)) slid s in (
         record (ended g next) { compacts_large = m.compacts_large && not (g == 2) },
@@ -139,7 +139,7 @@ pub whole_collection : (w : World) (g : ℕ) (how : How) → IsUsual g how → (
     → (m : Machine) → IsWorldOf w m → IsPlaceNamed m → lowest_in_step m ≡ None → m.compacts_large ≡ flag
     → m.options.compact ≡ threshold
     → (after : Machine) × (c : Collects m g how answer after) × IsWorldOf new (picture after)
-    × CountsSlides c.collects.moves answer slides slides_after
+    × CountsSlides how (begun m).layout c.collects.survive c.collects.moves answer slides slides_after
 whole_collection w g how usual threshold answer gone new slides slides_after flag comes ends m is named idle same
     option =
     let (mid, d, seen, counts) = comes m is named idle option in

@@ -163,3 +163,8 @@ module _ (m : Machine) (g : ℕ) (first kept : ℕ → Bool) where
         → (compaction_collects answer is).moves ≡ moves
     unfolding compaction_collects
     compaction_moves answer is = refl
+
+    pub compaction_survivors : (answer : Collected) (is : answer ≡ moved_answer true fitted)
+        → (compaction_collects answer is).survive ≡ survivors m g kept
+    unfolding compaction_collects
+    compaction_survivors answer is = refl

@@ -26,10 +26,11 @@ use Rattle.clr_view.specs.Memory.{is_marked, is_reached_by, IsMemoryOf, TestsMar
 use Rattle.clr_view.specs.World.{IsWorldOf, World}
 use Rattle.clr_sweep.specs.Swept.{is_kept, tally_of}
 use Rattle.clr_sweep.specs.declared.tally.Tally.{Tally}
-use Rattle.clr_survivors.specs.Survivors.{HaveMoved}
+use Rattle.clr_survivors.specs.Survivors.{compaction_part, HaveMoved}
 use Rattle.clr_collect.specs.Collecting.{BlockingStart, HasMarkedKept, world_with}
 use Rattle.clr_collect.proofs.BeforeSlide.{comes_seen, ComesTo}
 use Rattle.clr_collect.proofs.SweepCollects.{counted, freed-is, kept-is, survive-plain}
+use Rattle.clr_collect.proofs.MovedCollects.{survive-turned}
 use Rattle.clr_collect.proofs.WholeCollection.{begun_laid, due, due_laid, due_memory, older_kept}
 use Rattle.clr_collect.proofs.WholeMoved.{left, move_comes, ready_laid, ready_machine, ready_memory}
 
@@ -124,6 +125,7 @@ module _ (w : World) (marked : HeapView) (handles : FinMap nat_cmp Handle) (queu
         → lowest_in_step m ≡ None
         → (mid : Machine) × (d : IsCollected (begun m) g how false (StartOf (begun m) g) answer mid)
         × IsWorldOf world (picture mid) × (d.moves ≡ moved.moves)
+        × (d.survive ≡ survivors (begun m) g (left w marked handles queues g least k))
     one_comes how usual same decided idle =
         move_comes w marked handles queues g least k gone locals table after_queues m is named promoted1 promoted2
         before_count after_count fitted moved how usual same decided answer answered idle
@@ -143,16 +145,19 @@ module _ (w : World) (marked : HeapView) (handles : FinMap nat_cmp Handle) (queu
       ∙ sym (decides (due w marked handles queues g least k m) (left w marked handles queues g least k)
       (due_memory w marked handles queues g least k m is named) (due_laid w marked handles queues g least k m named)
       k.marks option) in
-      let (mid, d, seen, same) = one_comes m is named how usual fits decided idle in (
+      let (mid, d, seen, same, survive) = one_comes m is named how usual fits decided idle in
+      let turned = survive-turned (begun m) g k.first (left w marked handles queues g least k) ∙ sym survive in (
         mid,
         d,
         seen,
         subst (λ (b : Bool). MatchBool b
-            (after_count ≡ min (2 ^ 64 - 1) (before_count + (1 + moved_bytes d.moves)))
+            (after_count ≡ min (2 ^ 64 - 1) (before_count
+            + (1 + moved_bytes (compaction_part (is_fit how) (begun m).layout d.survive d.moves))))
             (after_count ≡ before_count))
             (sym (ap (λ (a : Collected). a.compacted) told))
             ((moved m is named).slid
-            ∙ ap (λ (vs : List Move). min (2 ^ 64 - 1) (before_count + (1 + moved_bytes vs))) (sym same)),
+            ∙ (λ j. min (2 ^ 64 - 1) (before_count
+            + (1 + moved_bytes (compaction_part (sym fits j) (begun m).layout (turned j) (sym same j)))))),
       )
 
   -- what is left of one machine, by a kind that always compacts
@@ -160,7 +165,7 @@ module _ (w : World) (marked : HeapView) (handles : FinMap nat_cmp Handle) (queu
       → is_fit how ≡ fitted
       → ((decision : Bool) → compacts how decision ≡ true) → (n : Machine) × IsWorldOf world n × IsPlaceNamed n
   one_left m is named idle how usual fits always =
-      let (mid, d, seen, same) = one_comes m is named how usual fits (always _) idle in
+      let (mid, d, seen, same, survive) = one_comes m is named how usual fits (always _) idle in
       (picture mid, seen, comes_seen m named idle g how usual answer mid d)
 
   -- THE WORLD of what is left, whatever its kind: it is that of a compaction, or of a fit

@@ -33,7 +33,8 @@ use Rattle.clr_moves.specs.Objects.{moved_object, relocated_object}
 use Rattle.clr_survivors.specs.Survivors.{GoBy, HaveMoved}
 use Rattle.clr_collect.specs.Collecting.{BlockingStart, HasMarkedKept, LeavesKept, world_with}
 use Rattle.clr_collect.proofs.BeforeSlide.{comes_lawful}
-use Rattle.clr_collect.proofs.MovedCollects.{compaction_collects, compaction_moves, moved_answer, moved_machine}
+use Rattle.clr_collect.proofs.MovedCollects.{compaction_collects, compaction_moves, compaction_survivors, moved_answer}
+use Rattle.clr_collect.proofs.MovedCollects.{moved_machine}
 use Rattle.clr_collect.proofs.MovedCollects.{promoted-turned, survive-turned, turned}
 use Rattle.clr_collect.proofs.MovedNames.{names-go, objects-go, rows-go}
 use Rattle.clr_collect.proofs.SweepCollects.{left-is}
@@ -138,6 +139,12 @@ module _ (w : World) (marked : HeapView) (handles : FinMap nat_cmp Handle) (queu
             compaction_moves (begun m) g k.first left leaves.tests how fitted same moved.moves moved.after decided went
             answer _
 
+        survive-are : (collects answer is_told).survive ≡ survivors (begun m) g left
+        unfolding collects
+        survive-are =
+            compaction_survivors (begun m) g k.first left leaves.tests how fitted same moved.moves moved.after decided
+            went answer _
+
         abbrev mid : Machine
         mid = next answer
 
@@ -191,5 +198,5 @@ module _ (w : World) (marked : HeapView) (handles : FinMap nat_cmp Handle) (queu
           -- WHAT A COMPACTION COMES TO, of one machine
           pub move_comes : (mid : Machine)
               × (d : IsCollected (begun m) g how false (StartOf (begun m) g) answer mid)
-              × IsWorldOf world (picture mid) × (d.moves ≡ moved.moves)
-          move_comes = (mid, collects answer is_told, world-is, moves-are)
+              × IsWorldOf world (picture mid) × (d.moves ≡ moved.moves) × (d.survive ≡ survivors (begun m) g left)
+          move_comes = (mid, collects answer is_told, world-is, moves-are, survive-are)

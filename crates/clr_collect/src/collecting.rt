@@ -63,14 +63,14 @@ use clr_types::Types;
 /// and handles, this finalisation queue, this threshold and this flag, and no thread between the halves of a step. Sums
 /// and the other options are that machine's own. Locals, handles and queues name the new places afterwards.
 ///
-/// The answer counts the objects that stay and those that go, and the bytes that went from generation 0 to 1 and from
-/// 1 to 2. Heap, cards and bricks are tidy before and after, and nothing is marked. The finalisation queue has room for
+/// The answer counts the objects that stay and those that go, and the bytes that went from generation 0 to 1 and from 1
+/// to 2. Heap, cards and bricks are tidy before and after, and nothing is marked. The finalisation queue has room for
 /// as many entries as before. Of the workshop, the queue of saved words is empty before and after, with room for four
-/// entries more than there are pinned handles, and `slides` counts one for a compaction, and each byte of a plug that
-/// went; a slide of the large heap counts neither way. It takes no memory: the finalisation queue and the queue of
-/// saved words have room for no more than they had room for, nor has the marker's stack. The index of young free
-/// items is that of none after a sweep, which leaves none, and after a compaction it is dropped: it is made anew where
-/// room is next wanted.
+/// entries more than there are pinned handles, and `slides` counts one for a compaction, and each byte that it moved; a
+/// fit in front of it and a slide of the large heap count neither way. It takes no memory: the finalisation queue and
+/// the queue of saved words have room for no more than they had room for, nor has the marker's stack. The index of
+/// young free items is that of none after a sweep, which leaves none, and after a compaction it is dropped: it is made
+/// anew where room is next wanted.
 pub fn collect(
     types: &Types,
     space: &mut Space,
@@ -92,7 +92,8 @@ pub fn collect(
         → lowest_in_step m ≡ None → m.compacts_large ≡ workshop.old.compacts_large → m.options.compact ≡ threshold
         → (after : Machine) × (c : Collects m g how result after)
         × IsWorldOf (world_of types.now space.new.heap roots.new) (picture after)
-        × CountsSlides c.collects.moves result workshop.old.slides workshop.new.slides }
+        × CountsSlides how (collection.begun m).layout c.collects.survive c.collects.moves result workshop.old.slides
+        workshop.new.slides }
     ensures flag { workshop.new.compacts_large ≡ workshop.old.compacts_large && not (g == 2) }
     ensures tidy { IsTidy types.now space.new }
     ensures unmarked { IsUnmarked types.now space.new.heap }

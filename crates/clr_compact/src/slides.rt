@@ -35,8 +35,9 @@ impl Slides {
         self.count
     }
 
-    /// Counts `n` more: so many bytes went elsewhere. It stays at the last value of a `u64` where it would pass it.
-    pub fn add(&mut self, n: u64)
+    // Counts `n` more: so many bytes went elsewhere. It stays at the last value of a `u64` where it would pass it. No
+    // other crate raises the count, so whatever it says was moved by a compaction of this crate.
+    pub(crate) fn add(&mut self, n: u64)
         ensures { self.new ≡ min (2 ^ 64 - 1) (self.old + n) }
     {
         self.count = self.count.saturating_add(n);

@@ -1,8 +1,7 @@
 -- A fit, and then a compaction of generation 1 of what is seen of it: both are a fitting.
 use Rattle.std.proofs.Common.{◌≡◌, ℕ, ◌+◌, ◌-◌, ◌^◌, ◌<◌, ◌≤◌, Bool, true, false, ◌&&◌, ◌==◌, List, [], ◌∷◌}
-use Rattle.std.proofs.Common.{◌++◌, filter, if◌then◌else◌, map, min, refl, ap, sym, ◌∙◌, subst, arith, sum_by}
-use Rattle.std.proofs.lemmas.Bool.{lt-ltb}
-use Rattle.std.proofs.lemmas.List.Sums.{sum_by-cons}
+use Rattle.std.proofs.Common.{◌++◌, drop, filter, if◌then◌else◌, map, min, length, refl, ap, sym, ◌∙◌, subst, arith, sum_by}
+use Rattle.std.proofs.Math.Seq.{drop-append_seam}
 use Rattle.std.specs.FinMap as finmap
 use Rattle.std.specs.FinMap.{FinMap}
 use Rattle.std.specs.Ordering.{nat_cmp}
@@ -55,27 +54,6 @@ use Rattle.clr_evacuate.specs.Evacuated.{moves_in}
 use Rattle.clr_evacuate.proofs.LeftAfterFit.{bare, FitStages, IsFit, left-still, null-fits, world_before, world_between}
 use Rattle.clr_evacuate.proofs.SeenAfterFit.{kept_then, seen-as, seen_in}
 
--- ---- bytes that went
-
-moved-append : (vs ws : List Move) → moved_bytes (vs ++ ws) ≡ moved_bytes vs + moved_bytes ws
-moved-append [] ws = omega arith
-moved-append (v ∷ vs) ws = let rest = moved-append vs ws in omega (arith, rest)
-
--- where each move goes down, all their bytes went
-moved-all : (vs : List Move) → ((v : Move) → IsIn v vs → v.to < v.start)
-    → moved_bytes vs ≡ sum_by (λ (v : Move). v.size) vs
-moved-all [] down = refl
-moved-all (v ∷ vs) down =
-    let rest = moved-all vs (λ w i. down w (later i)) in
-    let sum = sum_by-cons (λ (v : Move). v.size) v vs in
-    let here : goes v ≡ true = lt-ltb v.to v.start (down v first) in
-    ap (λ (b : Bool). (if b then v.size else 0) + moved_bytes vs) here ∙ omega (arith, rest, sum)
-
--- a count that stops at its last value, in two steps
-two-counts : (top before mid after a b : ℕ) → mid ≡ min top (before + (1 + a)) → after ≡ min top (mid + b)
-    → after ≡ min top (before + (1 + (b + a)))
-two-counts top before mid after a b e f = omega (arith, e, f)
-
 -- ---- names that go twice
 
 map-twice : (f g h : ℕ → ℕ) → ((x : ℕ) → h x ≡ g (f x)) → (was mid now : List ℕ) → mid ≡ map f was → now ≡ map g mid
@@ -101,7 +79,7 @@ rows-twice f g h both was mid now e d =
 
 -- ---- both steps
 
--- what the moves behind the fit leave, and what is counted before, between and after both
+-- what the moves behind the fit leave, and what is counted before and after both
 pub record MoveStages : Type 0 where
   pub new : HeapView
   pub locals_new : List ℕ
@@ -110,7 +88,6 @@ pub record MoveStages : Type 0 where
   pub to1 : ℕ
   pub to2 : ℕ
   pub before : ℕ
-  pub between : ℕ
   pub after : ℕ
 
 abbrev pub world_after : FitStages → MoveStages → World
@@ -120,7 +97,7 @@ world_after s e = world_with s.rows e.new e.locals_new e.table_new e.queues_new
 abbrev pub HaveMovedThen : FitStages → MoveStages → Machine → (ℕ → Bool) → Type 0
 HaveMovedThen s e n kept =
     HaveMoved false (world_between s) (world_after s e) 1 (seen_in s.rows s.mid s.table_mid n) (kept_then n kept) e.to1
-    e.to2 e.before e.between
+    e.to2 e.before e.after
 
 module _ (s : FitStages) (n : Machine) (kept : ℕ → Bool) (f : IsFit s n kept) (e : MoveStages)
     (d : HaveMovedThen s e n kept) where
@@ -265,22 +242,17 @@ module _ (s : FitStages) (n : Machine) (kept : ℕ → Bool) (f : IsFit s n kept
       let small = heap.limit_small in
       omega (arith, is, below, all, bound, within, small)
 
-  counted-twice : e.after ≡ min (2 ^ 64 - 1) (e.between + s.bytes)
-      → e.after ≡ min (2 ^ 64 - 1) (e.before + (1 + moved_bytes (moves_in n kept ++ d.moves)))
-  counted-twice more =
-      two-counts (2 ^ 64 - 1) e.before e.between e.after (moved_bytes others) s.bytes d.slid more
-      ∙ ap (λ (x : ℕ). min (2 ^ 64 - 1) (e.before + (1 + x)))
-      (ap (λ (x : ℕ). x + moved_bytes others)
-      (f.fitted.counted
-      ∙ sym (moved-all F (λ v i. let is : IsFitMove n.layout v = move_is n kept f.laid none v i in
-      let least = is.least in let from = is.from in let to = is.to in omega (arith, least, from, to))))
-      ∙ sym (moved-append F others))
+  -- the count is that of the moves behind the fit
+  counted-behind : e.after
+      ≡ min (2 ^ 64 - 1) (e.before + (1 + moved_bytes (drop (length F) (F ++ others))))
+  counted-behind =
+      d.slid
+      ∙ ap (λ (vs : List Move). min (2 ^ 64 - 1) (e.before + (1 + moved_bytes vs))) (sym (drop-append_seam F others))
 
   -- THE WORLD after both
   pub moved-twice : IsHeap e.new → IsHeld s.rows e.new → (all2 : ℕ) → all2 ≡ e.to2 + s.bytes
-      → e.after ≡ min (2 ^ 64 - 1) (e.between + s.bytes)
       → HaveMoved true (world_before s) (world_after s e) 1 n kept e.to1 all2 e.before e.after
-  moved-twice heap held all2 sum more = record {
+  moved-twice heap held all2 sum = record {
     moves = F ++ others;
     after = d.after;
     compacted = two_steps n kept f.laid none others d.after compacts;
@@ -297,5 +269,5 @@ module _ (s : FitStages) (n : Machine) (kept : ℕ → Bool) (f : IsFit s n kept
         s.queues_mid.ready e.queues_new.ready f.fitted.ready d.ready;
     promoted1_is = first-bytes;
     promoted2_is = sum ∙ second-bytes;
-    slid = counted-twice more;
+    slid = counted-behind;
   }

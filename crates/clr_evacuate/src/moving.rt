@@ -22,8 +22,8 @@ use clr_types::Types;
 /// takes it, as `move_survivors` does. Locals, handles, entries, the f-reachable queue and all references of what is
 /// left name the new places then. It answers the bytes that went to generations 1 and 2.
 ///
-/// `slides` counts one, and each byte of a plug that went. The other conditions, and what is so afterwards, are those
-/// of `move_survivors`.
+/// `slides` counts one, and each byte of a plug that the compaction moved. The other conditions, and what is so
+/// afterwards, are those of `move_survivors`.
 pub fn fit_and_move(
     types: &Types,
     space: &mut Space,
@@ -48,7 +48,6 @@ pub fn fit_and_move(
 {
     let bytes = fit_survivors(types, space, roots);
     let moved = move_survivors(types, space, roots, pins, slides, 1);
-    slides.add(bytes);
     Promoted {
         to1: moved.promoted1,
         to2: moved.promoted2 + bytes,

@@ -18,7 +18,7 @@ use Rattle.clr_model.specs.declared.Collected.{Collected}
 use Rattle.clr_model.specs.declared.How.{How}
 use Rattle.clr_model.specs.declared.Refusal.TheVariants as refusal
 use Rattle.clr_model.specs.declared.Reply.TheVariants as reply
-use Rattle.clr_model.specs.Collection.{Collects, marking_after, sums_after}
+use Rattle.clr_model.specs.Collection.{begun, Collects, marking_after, sums_after}
 use Rattle.clr_model.proofs.CollectionKeeps.{collects_keeps}
 use Rattle.clr_model.specs.Instructions.{collect_heap}
 use Rattle.clr_model.specs.Lawful.{IsLawful, IsPlaceNamed}
@@ -225,7 +225,7 @@ pub told_of : (w : World) (sums : Sums) (options : Options) (threads : Threads) 
     → ((m : Machine) → IsWorldOf w m → IsPlaceNamed m → lowest_in_step m ≡ None
     → m.compacts_large ≡ ahead.compacts_large → m.options.compact ≡ options.compact → (left : Machine)
     × (c : Collects m g how answer left)
-    × IsWorldOf new (picture left) × CountsSlides c.collects.moves answer before after)
+    × IsWorldOf new (picture left) × CountsSlides how (begun m).layout c.collects.survive c.collects.moves answer before after)
     → Told w sums options threads ahead g how new answer
 told_of w sums options threads ahead is idle g how new answer before after collected =
     let (left, collects, world, counts) =
@@ -240,12 +240,13 @@ pub counts_of : (w : World) (sums : Sums) (options : Options) (threads : Threads
     → ((m : Machine) → IsWorldOf w m → IsPlaceNamed m → lowest_in_step m ≡ None
     → m.compacts_large ≡ ahead.compacts_large → m.options.compact ≡ options.compact → (left : Machine)
     × (c : Collects m g how answer left)
-    × IsWorldOf new (picture left) × CountsSlides c.collects.moves answer before after)
+    × IsWorldOf new (picture left) × CountsSlides how (begun m).layout c.collects.survive c.collects.moves answer before after)
     → CountsCollection answer.compacted before after
 counts_of w sums options threads ahead is idle g how new answer before after collected =
     let (left, collects, world, counts) =
     collected (shown w sums options threads ahead) (world-seen threads ahead) is.sound idle refl refl in
-    counted_slides collects.collects.moves answer before after counts
+    let c = collects.collects in
+    counted_slides how (begun (shown w sums options threads ahead)).layout c.survive c.moves answer before after counts
 
 -- what a collection leaves of what is seen of a background collection
 marking_left : (v : BackgroundView) (full : Bool)

@@ -14,6 +14,7 @@ use crate::parts::Parts;
 use crate::runtime::Runtime;
 use clr_bgmark::Background;
 use clr_collect::collect;
+use clr_compact::Slides;
 use clr_model::{Collected, How, Refusal};
 
 impl Runtime {
@@ -35,7 +36,7 @@ impl Runtime {
     ///
     /// It is refused for an unknown thread, with `Blocked` where another thread holds all others and this one isn't in
     /// mid-step, with `MidStep` where the thread is in mid-step itself, and with `Wait` for the lowest other thread in
-    /// mid-step, in this order. It takes no memory. `slides` counts a compaction and a fit, and no sweep.
+    /// mid-step, in this order. It takes no memory. `slides` counts a compaction, also that behind a fit, and no sweep.
     pub fn collect(&mut self, t: u64, g: u8, how: How) -> Result<Collected, Refusal>
         requires generation { g ≤ 2 }
         requires usual { IsUsual g how }
@@ -51,12 +52,12 @@ impl Runtime {
         Ok(collect_parts(&mut self.parts, g, how))
     }
 
-    /// How many compactions and fits there were, and how many bytes they moved, together. It stays at the last value of
-    /// a `u64` where it would pass it.
-    pub fn slides(&self) -> u64
-        ensures { result ≡ self.now.slides }
+    /// The count of compactions and of the bytes that they moved, together. Only a compaction in the heap's own gaps
+    /// raises it, so a collection that answers that it compacted did so by one.
+    pub fn slides(&self) -> &Slides
+        ensures { result.now ≡ self.now.slides }
     {
-        self.parts.workshop.slides.count()
+        &self.parts.workshop.slides
     }
 }
 

@@ -80,7 +80,10 @@ impl Runtime {
     ghost use Rattle.clr_runtime.specs.RuntimeView.{IsBegunStore, StandsFor};
     ghost use Rattle.clr_generations.specs.Tables.{AreBricksOf, AreCardsOf};
     ghost use Rattle.clr_safe.specs.Threads.{steps_of};
+    ghost use Rattle.clr_background.specs.Log.{LogLaw};
+    ghost use Rattle.clr_bgmark.specs.Shades.{is_logged};
     ghost use Rattle.clr_runtime.specs.Births.{IsKnown};
+    ghost use Rattle.clr_runtime.specs.Marked.{marking_by, marking_of};
     ghost use Rattle.clr_runtime.specs.Outcomes.{mt_outcome};
 
     /// No types, no objects, no handles, and every local is null.
@@ -235,6 +238,18 @@ impl Runtime {
             (entry_at result.now) }
     {
         &self.parts.space.bricks
+    }
+
+    /// The background collection: whether one runs, and then the bits that tell the colour of each object that it took,
+    /// and its write log. While one runs, each reference in a slot of a black object is null, or refers to a gray or
+    /// black object, or stands on a logged card, or is that of a store that a thread has begun and not finished.
+    #[inline]
+    pub fn background(&self) -> &Background
+        ensures colours { self.now.machine.background ≡ marking_of result.now }
+        ensures law { result.now.running ≡ true → LogLaw self.now.machine (marking_by result.now.shades)
+            (is_logged result.now.shades) }
+    {
+        &self.parts.background
     }
 
     /// The locals, 64 for each of 16 threads, by thread. Null is 0.

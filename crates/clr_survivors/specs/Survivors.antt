@@ -1,6 +1,6 @@
 -- What a compacting collection moves: what it leaves, and all that names it.
 use Rattle.std.specs.Prelude.{◌≡◌, ℕ, ◌+◌, ◌-◌, ◌^◌, min, ◌<◌, ◌≤◌, ◌⊎◌, Bool, true, false, ◌&&◌, ◌==◌, List, map}
-use Rattle.std.specs.Prelude.{filter, MatchBool}
+use Rattle.std.specs.Prelude.{drop, filter, length, MatchBool}
 use Rattle.std.specs.Prelude.{if◌then◌else◌, slice_get, Some}
 use Rattle.std.specs.List.{list_any}
 use Rattle.std.specs.FinMap as finmap
@@ -19,7 +19,7 @@ use Rattle.clr_handles.specs.Laws.{relocated}
 use Rattle.clr_heap.specs.View.{HeapView}
 use Rattle.clr_model.specs.Collection.{bytes_promoted}
 use Rattle.clr_model.specs.Compaction.{IsCompacted, Move, moved_by}
-use Rattle.clr_model.specs.Fitting.{IsFitted}
+use Rattle.clr_model.specs.Fitting.{fit_of, IsFitted}
 use Rattle.clr_model.specs.Machine.{Machine, Object, ref}
 use Rattle.clr_model.specs.Sweep.{Survivor, survivors, swept_others}
 use Rattle.clr_view.specs.Memory.{is_left, IsLeft}
@@ -87,9 +87,13 @@ abbrev pub GoBy : Bool → Layout → ℕ → List Survivor → List Move → La
 GoBy fitted layout g kept moves after =
     MatchBool fitted (IsFitted layout kept moves after) (IsCompacted layout g kept moves after)
 
+-- those of them that the compaction makes: all, or those behind the moves of the fit
+abbrev pub compaction_part : Bool → Layout → List Survivor → List Move → List Move
+compaction_part fitted layout kept moves = if fitted then drop (length (fit_of layout kept).moves) moves else moves
+
 -- The old world after a compacting collection of generation g of a machine whose memory its heap is, with a fit or
 -- without one: the marked objects of the small heap went where these moves take them, and all names went along. Large
--- objects stay or are swept.
+-- objects stay or are swept. The compaction is counted, with the bytes that it moved.
 pub record HaveMoved (fitted : Bool) (old new : World) (g : ℕ) (n : Machine) (kept : ℕ
     → Bool) (promoted1 promoted2 slides_before slides_after : ℕ) : Type 0 where
   pub moves : List Move
@@ -105,4 +109,5 @@ pub record HaveMoved (fitted : Bool) (old new : World) (g : ℕ) (n : Machine) (
   pub ready : new.ready ≡ map (moved_by moves) old.ready
   pub promoted1_is : promoted1 ≡ bytes_promoted n (layout_in new.rows new.heap) kept moves 0
   pub promoted2_is : promoted2 ≡ bytes_promoted n (layout_in new.rows new.heap) kept moves 1
-  pub slid : slides_after ≡ min (2 ^ 64 - 1) (slides_before + (1 + moved_bytes moves))
+  pub slid : slides_after
+      ≡ min (2 ^ 64 - 1) (slides_before + (1 + moved_bytes (compaction_part fitted n.layout (survivors n g kept) moves)))

@@ -9,7 +9,7 @@ use Rattle.clr_evacuate.proofs.BothMoves.{few-bytes, HaveMovedThen, moved-twice,
 use Rattle.clr_evacuate.proofs.LeftAfterFit.{closed-after, FitStages, IsFit, named-after, stands-after, young-after}
 use Rattle.clr_evacuate.proofs.SeenAfterFit.{kept_then, seen-laid, seen-memory, seen_in, then-marks}
 use Rattle.clr_evacuate.proofs.moving.fit_and_move.Goals as goal
-use Rattle.clr_evacuate.proofs.moving.fit_and_move.Goals.{After-add, After-fit_survivors-bytes}
+use Rattle.clr_evacuate.proofs.moving.fit_and_move.Goals.{After-fit_survivors-bytes, After-move_survivors-moved}
 
 -- ---- the fit
 
@@ -78,7 +78,7 @@ move_survivors-moved-requires-clause-ready c =
 
 -- ---- both
 
-abbrev ends : After-add → MoveStages
+abbrev ends : After-move_survivors-moved → MoveStages
 ends c = record {
   new = c.move_survivors-moved.new.space.heap;
   locals_new = c.move_survivors-moved.new.roots.locals.items;
@@ -87,14 +87,13 @@ ends c = record {
   to1 = c.move_survivors-moved.result.promoted1;
   to2 = c.move_survivors-moved.result.promoted2;
   before = c.args.slides.now;
-  between = c.move_survivors-moved.new.slides;
-  after = c.add.new.self;
+  after = c.move_survivors-moved.new.slides;
 }
 
 pub overflow_add-result : goal.overflow_add-result
 overflow_add-result c =
     let at = (goal.at.overflow_add-result c).After-fit_survivors-bytes in
-    let last = (goal.at.overflow_add-result c).After-add in
+    let last = (goal.at.overflow_add-result c).After-move_survivors-moved in
     let s = stages at in
     let (m, kept, f) = some-fit at in
     let moved : HaveMovedThen s (ends last) m kept =
@@ -106,7 +105,7 @@ overflow_add-result c =
 pub returns-clause-moved : goal.returns-clause-moved
 returns-clause-moved c =
     let at = (goal.at.returns-clause-moved c).After-fit_survivors-bytes in
-    let last = (goal.at.returns-clause-moved c).After-add in
+    let last = (goal.at.returns-clause-moved c).After-move_survivors-moved in
     let s = stages at in
     λ m kept memory laid same tests.
     let f = fit-made at m kept memory laid same tests in
@@ -114,7 +113,7 @@ returns-clause-moved c =
     c.move_survivors-moved.ensures.moved (seen_in s.rows s.mid s.table_mid m) (kept_then m kept)
     (seen-memory s m kept f) (seen-laid s m kept f) refl (then-marks s m kept f) in
     let tidy = c.move_survivors-moved.ensures.tidy in
-    moved-twice s m kept f (ends last) moved tidy.heap tidy.held _ (omega arith) c.add.ensures
+    moved-twice s m kept f (ends last) moved tidy.heap tidy.held _ (omega arith)
 
 pub returns-clause-limit : goal.returns-clause-limit
 returns-clause-limit c = c.move_survivors-moved.ensures.limit ∙ c.fit_survivors-bytes.ensures.limit

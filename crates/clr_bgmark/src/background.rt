@@ -268,7 +268,7 @@ impl Background {
         requires ready { roots.AreObjects types.now heap.old ready.now }
         requires log { LogHolds types.now (objects_in types.now heap.old) self.old.shades }
         ensures background { self.new ≡ record { running = false; shades = []; gray = 0; parts = []; fronts = [] } }
-        ensures marker { marker.new ≡ record marker.old { stack = []; range = None; oldest = 2 } }
+        ensures marker { marker.new ≡ record marker.old { stack = []; ranges = []; oldest = 2 } }
         ensures gray { IsGray types.now heap.new marker.new }
         ensures words { IsRemarked types.now heap.old heap.new }
         ensures marked { (x : ℕ) → Marked types.now heap.new x ↔ Reach (Joins types.now heap.old handles.now)

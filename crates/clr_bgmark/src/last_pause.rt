@@ -1,5 +1,5 @@
 // What is gray or black is marked in the heap.
-ghost use Rattle.std.specs.Prelude.{◌≡◌, ℕ, ◌^◌, ◌/◌, ◌%◌, ◌<◌, ◌≤◌, [], length, true, None, IfSome, IfNone};
+ghost use Rattle.std.specs.Prelude.{◌≡◌, ℕ, ◌^◌, ◌/◌, ◌%◌, ◌<◌, ◌≤◌, [], length, true, IfSome, IfNone};
 ghost use Rattle.std.specs.Prelude.{◌↔◌, ◌⊎◌, ◌+◌, ◌*◌};
 ghost use Rattle.std.specs.Int.{bit_at};
 ghost use Rattle.std.specs.List.{AllByRecursion};
@@ -33,7 +33,7 @@ pub(crate) fn mark_found(shades: &Vec<Shade>, heap: &mut Heap, types: &Types, ma
     requires oldest { marker.old.oldest ≡ 2 }
     requires objects { AreObjects types.now heap.old shades.now.items }
     requires log { LogHolds types.now (objects_in types.now heap.old) shades.now.items }
-    ensures marker { marker.new ≡ record marker.old { stack = []; range = None } }
+    ensures marker { marker.new ≡ record marker.old { stack = []; ranges = [] } }
     ensures gray { IsGray types.now heap.new marker.new }
     ensures words { IsRemarked types.now heap.old heap.new }
     ensures marked { (x : ℕ) → Marked types.now heap.new x ↔ Reach (LeadsTo types.now heap.old marker.old.oldest)

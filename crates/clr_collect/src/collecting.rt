@@ -99,7 +99,7 @@ pub fn collect(
     ensures unmarked { IsUnmarked types.now space.new.heap }
     ensures index { IsIndex types.now space.new.heap workshop.new.young }
     ensures limit { space.new.heap.limit ≡ space.old.heap.limit }
-    ensures marker { workshop.new.marker ≡ record workshop.old.marker { stack = []; range = None; oldest = g } }
+    ensures marker { workshop.new.marker ≡ record workshop.old.marker { stack = []; ranges = []; oldest = g } }
     ensures index_after { MatchBool result.compacted (workshop.new.young ≡ None) (workshop.new.young ≡ Some []) }
     ensures spare { roots.old.finals.spare ≤ roots.new.finals.spare }
     ensures none_added { roots.new.finals.spare + length roots.new.finals.entries
@@ -244,7 +244,7 @@ fn mark_kept(
     ensures kept { HasMarkedKept (world_of types.now space.old.heap roots.old) (BlockingStart g) space.new.heap
         roots.new.handles roots.new.finals g }
     ensures tidy { IsTidy types.now space.new }
-    ensures marker { marker.new ≡ record marker.old { stack = []; range = None; oldest = g } }
+    ensures marker { marker.new ≡ record marker.old { stack = []; ranges = []; oldest = g } }
     ensures locals { roots.new.locals ≡ roots.old.locals }
     ensures spare { roots.old.finals.spare ≤ roots.new.finals.spare }
     ensures none_added { roots.new.finals.spare + length roots.new.finals.entries
@@ -275,7 +275,7 @@ fn mark_alive(
     requires world { (m : Machine) × IsWorldOf (world_of types.now space.old.heap roots.now) m × IsPlaceNamed m }
     ensures alive { HasMarkedAlive (world_of types.now space.old.heap roots.now) (BlockingStart g) space.new.heap g }
     ensures gray { IsGray types.now space.new.heap marker.new }
-    ensures marker { marker.new ≡ record marker.old { stack = []; range = None; oldest = g } }
+    ensures marker { marker.new ≡ record marker.old { stack = []; ranges = []; oldest = g } }
     ensures tables { AreTablesOf types.now space.new.heap space.new.cards space.new.bricks }
 {
     give_up_contexts(types, space, young);

@@ -84,7 +84,7 @@ pub fn end_background(
     ensures index { IsIndex types.now space.new.heap workshop.new.young }
     ensures limit { space.new.heap.limit ≡ space.old.heap.limit }
     ensures workshop { workshop.new ≡ record workshop.old {
-      marker = record workshop.old.marker { stack = []; range = None; oldest = 2 };
+      marker = record workshop.old.marker { stack = []; ranges = []; oldest = 2 };
       young = Some [];
     } }
     ensures locals { roots.new.locals ≡ roots.old.locals }
@@ -133,7 +133,7 @@ fn sweep_rest(
       fronts = [];
     } }
     ensures workshop { workshop.new ≡ record workshop.old {
-      marker = record workshop.old.marker { stack = []; range = None; oldest = 2 };
+      marker = record workshop.old.marker { stack = []; ranges = []; oldest = 2 };
       young = workshop.new.young;
     } }
     ensures locals { roots.new.locals ≡ roots.old.locals }
@@ -190,7 +190,7 @@ fn sweep_behind_fronts(
       fronts = [];
     } }
     ensures workshop { workshop.new ≡ record workshop.old {
-      marker = record workshop.old.marker { stack = []; range = None; oldest = 2 };
+      marker = record workshop.old.marker { stack = []; ranges = []; oldest = 2 };
       young = workshop.new.young;
     } }
 {
@@ -234,7 +234,7 @@ fn sweep_unmarked(
       fronts = [];
     } }
     ensures workshop { workshop.new ≡ record workshop.old {
-      marker = record workshop.old.marker { stack = []; range = None; oldest = 2 };
+      marker = record workshop.old.marker { stack = []; ranges = []; oldest = 2 };
       young = workshop.new.young;
     } }
     ensures locals { roots.new.locals ≡ roots.old.locals }
@@ -273,7 +273,7 @@ fn mark_found_kept(
         roots.new.handles roots.new.finals 2 }
     ensures tidy { IsTidy types.now space.new }
     ensures background { background.new ≡ record { running = false; shades = []; gray = 0; parts = []; fronts = [] } }
-    ensures marker { marker.new ≡ record marker.old { stack = []; range = None; oldest = 2 } }
+    ensures marker { marker.new ≡ record marker.old { stack = []; ranges = []; oldest = 2 } }
     ensures locals { roots.new.locals ≡ roots.old.locals }
     ensures spare { roots.old.finals.spare ≤ roots.new.finals.spare }
     ensures none_added { roots.new.finals.spare + length roots.new.finals.entries
@@ -307,7 +307,7 @@ fn mark_found_alive(
         (LastPauseStart (marking_in (objects_in types.now space.old.heap) background.old.shades)) space.new.heap 2 }
     ensures gray { IsGray types.now space.new.heap marker.new }
     ensures background { background.new ≡ record { running = false; shades = []; gray = 0; parts = []; fronts = [] } }
-    ensures marker { marker.new ≡ record marker.old { stack = []; range = None; oldest = 2 } }
+    ensures marker { marker.new ≡ record marker.old { stack = []; ranges = []; oldest = 2 } }
     ensures tables { AreTablesOf types.now space.new.heap space.new.cards space.new.bricks }
 {
     give_up_contexts(types, space, young);

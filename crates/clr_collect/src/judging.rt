@@ -1,5 +1,5 @@
 // What becomes of finalisation entries and of handles whose objects aren't reached.
-ghost use Rattle.std.specs.Prelude.{◌≡◌, ℕ, ℤ, ◌+◌, ◌≤◌, false, filter, length, [], None, List};
+ghost use Rattle.std.specs.Prelude.{◌≡◌, ℕ, ℤ, ◌+◌, ◌≤◌, false, filter, length, [], List};
 ghost use Rattle.clr_types.specs.Maps.{map_values};
 ghost use Rattle.clr_types.specs.declared.handle.Kind.TheVariants.{Dependent, Weak, WeakLong};
 ghost use Rattle.clr_handles.specs.Laws.{cleared};
@@ -39,7 +39,7 @@ pub(crate) fn leave_kept(
         (LeftStart types.now heap.old marker.old.oldest) heap.old marker.old.oldest
         → HasMarkedKept (world_with types.now old locals handles.old finals.old)
         (LeftStart types.now heap.old marker.old.oldest) heap.new handles.new finals.new marker.old.oldest }
-    ensures marker { marker.new ≡ record marker.old { stack = []; range = None } }
+    ensures marker { marker.new ≡ record marker.old { stack = []; ranges = [] } }
     ensures spare { finals.old.spare ≤ finals.new.spare }
     ensures none_added { finals.new.spare + length finals.new.entries ≤ finals.old.spare + length finals.old.entries }
     ensures tables { (cards : List (CoverView ℕ)) (bricks : List (CoverView ℤ))

@@ -3,6 +3,12 @@ pub mod Held
 pub mod References
 pub mod Counting
 pub mod Graying
+pub mod OverflowNumbers
+pub mod WidenedRanges
+pub mod OneMark
+pub mod EdgeLaws
+pub mod TieLaws
+pub mod NewParts
 pub mod Laws
 pub mod Following
 pub mod RunReferences
@@ -21,6 +27,9 @@ pub mod TiedMarks
 pub mod TargetRoots
 pub mod HandleSteps
 pub mod Tying
+pub mod TieMarks
+pub mod TieLists
+pub mod TieDrains
 pub mod WholeMarkings
 pub mod LeftObjects
 pub mod Young

@@ -14,7 +14,7 @@ use Rattle.clr_mark.specs.Waiting.{IsFollowed, IsGray, IsSettled, MarkerView}
 use Rattle.clr_mark.proofs.Graying.{AfterMark, followed_on, leads_back, new_mark, object_word, reached-refl}
 use Rattle.clr_mark.proofs.Graying.{reached-trans}
 use Rattle.clr_mark.proofs.Held.{keeps_closed}
-use Rattle.clr_mark.proofs.Laws.{known_on}
+use Rattle.clr_mark.proofs.OneMark.{known_on}
 
 -- nothing is to be done for a root that isn't condemned, or is marked
 pub rooted-refl : (rows : List TypeRow) (g : ℕ) (h : HeapView) (root : ℕ)

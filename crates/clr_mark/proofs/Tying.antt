@@ -30,27 +30,11 @@ use Rattle.clr_mark.proofs.Graying.{leads_back, leads_on, reach_in, reach_on, re
 use Rattle.clr_mark.proofs.Graying.{same_condemned}
 use Rattle.clr_mark.proofs.Held.{keeps_held}
 use Rattle.clr_mark.proofs.Laws.{settled_marked}
+use Rattle.clr_mark.proofs.NewParts.{new_parts, not_new}
 use Rattle.clr_mark.proofs.Remarking.{keeps_stands, stands_before}
 use Rattle.clr_mark.proofs.TargetRoots.{names_below, same_row}
 use Rattle.clr_mark.proofs.ReachParts.{iff_trans, reach_iff}
 use Rattle.clr_mark.proofs.TiedMarks.{draws_same, handles_on, leads_draws, leads_same, tied_same}
-
--- ---- new marks
-
--- a mark would be new
-pub new_parts : (h : HeapView) (g y : ℕ) → is_new h g y ≡ true
-    → (is_condemned_place h g y ≡ true) × (has_mark (word_of h y) ≡ false)
-new_parts h g y e =
-    let parts = and_parts (is_condemned_place h g y) (not (has_mark (word_of h y))) e in
-    (parts.0, not-true _ parts.1)
-
--- it wouldn't
-pub not_new : (h : HeapView) (g y : ℕ) → is_new h g y ≡ false
-    → (is_condemned_place h g y ≡ false) ⊎ (has_mark (word_of h y) ≡ true)
-not_new h g y e = elim (and_cases (is_condemned_place h g y) (not (has_mark (word_of h y))) e) [
-  | inl far ↦ inl far
-  | inr on ↦ inr (not-false _ on)
-]
 
 -- ---- a handle's second that is still to be marked
 
@@ -294,12 +278,12 @@ module _ (rows : List TypeRow) (h now : HeapView) (m mark : MarkerView) (handles
 -- nothing waits; `h` is the heap and `m` the marker at the start
 pub record IsDraining (rows : List TypeRow) (h now : HeapView) (m mark : MarkerView) (handles : Table) : Type 0 where
   pub gray : IsGray rows now mark
-  pub marker : mark ≡ record m { stack = []; range = None }
+  pub marker : mark ≡ record m { stack = []; ranges = [] }
   pub reached : HasReached rows (Draws rows h handles m.oldest) (MarkedOrTied rows h handles m.oldest) h now
 
 -- what was to be followed by slots is
 pub draining_starts : (rows : List TypeRow) (h now : HeapView) (m mark : MarkerView) (handles : Table)
-    → IsGray rows now mark → mark ≡ record m { stack = []; range = None } → IsRemarked rows h now
+    → IsGray rows now mark → mark ≡ record m { stack = []; ranges = [] } → IsRemarked rows h now
     → ((x : ℕ) → Marked rows now x ↔ Reach (LeadsTo rows h m.oldest) (Marked rows h) x)
     → IsDraining rows h now m mark handles
 draining_starts rows h now m mark handles gray same words exact = record {
@@ -315,9 +299,9 @@ draining_starts rows h now m mark handles gray same words exact = record {
 }
 
 -- nothing waits on such a marker
-idle_marker : (m mark : MarkerView) → mark ≡ record m { stack = []; range = None } → IsIdle mark
+idle_marker : (m mark : MarkerView) → mark ≡ record m { stack = []; ranges = [] } → IsIdle mark
 idle_marker m mark e =
-    record { stack = ap (λ (n : MarkerView). n.stack) e; range = ap (λ (n : MarkerView). n.range) e }
+    record { stack = ap (λ (n : MarkerView). n.stack) e; ranges = ap (λ (n : MarkerView). n.ranges) e }
 
 module _ (rows : List TypeRow) (h now : HeapView) (m mark : MarkerView) (handles : Table) (heap : IsHeap h)
     (held : IsHeld rows h) (r : IsDraining rows h now m mark handles) where

@@ -1,3 +1,4 @@
+pub mod Overflow
 pub mod Marks
 pub mod Waiting
 pub mod Markings
@@ -5,4 +6,5 @@ pub mod Kinds
 pub mod Roots
 pub mod Ties
 pub mod HandlePasses
+pub mod TieLists
 pub mod LargeMarks

@@ -1,6 +1,6 @@
-// The marker: a stack of objects to follow, and the range of those that had no room on it.
+// The marker: a stack of objects to follow, and the ranges of those that had no room on it.
 ghost use Rattle.std.specs.Prelude.{◌≡◌, ◌≢◌, ℕ, ◌+◌, ◌/◌, ◌%◌, ◌<◌, ◌≤◌, ◌^◌, ◌↔◌, ◌⊎◌, Bool, true, false, [], ◌∷◌};
-ghost use Rattle.std.specs.Prelude.{◌++◌, length, nat_le, IfOk, None};
+ghost use Rattle.std.specs.Prelude.{◌++◌, length, nat_le, IfOk, IfNone, IfSome};
 ghost use Rattle.clr_types.specs.Rising.{IsIn};
 ghost use Rattle.clr_heap.specs.Memories.{HasWord, memory_index};
 ghost use Rattle.clr_heap.specs.View.{word_of};
@@ -12,7 +12,8 @@ ghost use Rattle.clr_view.specs.View.{IsHeld};
 ghost use Rattle.clr_mark.specs.Marks.{is_condemned_place, is_new, IsClosed, IsRemarked, LeadsTo, with_mark};
 ghost use Rattle.clr_mark.specs.Kinds.{IsRunKind};
 ghost use Rattle.clr_mark.specs.Markings.{HasGrayed, HasRooted};
-ghost use Rattle.clr_mark.specs.Waiting.{IsGray, widened, with_next, with_waiting};
+ghost use Rattle.clr_mark.specs.Overflow.{widened};
+ghost use Rattle.clr_mark.specs.Waiting.{IsGray, with_next, with_waiting};
 
 use crate::NoMemory;
 use clr_heap::Heap;
@@ -25,25 +26,32 @@ mod batch;
 mod chain;
 mod gather;
 mod kind;
+mod listed;
+mod overflow;
 mod rescan;
 mod scan;
 mod targets;
+mod tied;
 mod ties;
 mod unmark;
 mod wide;
 
 pub(crate) use ahead::Ahead;
 pub use kind::RunKind;
+use listed::Tie;
+use overflow::OverflowRanges;
 
 /// What marking needs: the objects whose slots are still to be followed, on a stack, and the lowest and the highest
-/// place of those that had no room on it.
+/// address of those that had no room on it, for each window of addresses.
 ///
 /// The mark is the low bit of an object's method table word. Marking takes no memory.
 #[derive(Drop)]
 pub struct Marker {
     stack: Vec<u64>,
-    range: Option<(u64, u64)>,
+    ranges: OverflowRanges,
     oldest: u8,
+    // Room for a list of what dependent handles tie. It is `None` only while the list is in use.
+    ties: Option<Vec<Tie>>,
 }
 
 impl Model for Marker {
@@ -55,30 +63,32 @@ impl Model for Marker {
     ghost view = { λ m. record {
       stack = m.stack.items;
       capacity = vec_capacity m.stack;
-      range = m.range;
+      ranges = m.ranges;
       oldest = m.oldest;
     } };
 }
 
 impl Marker {
-    /// A marker with room for `capacity` objects on its stack, for collections of all generations. This is the only
-    /// call that takes memory: `NoMemory` where there is none for the stack.
+    /// A marker with room for `capacity` objects on its stack, for collections of all generations. `NoMemory` where
+    /// there is none for the stack. Beside this call only `reserve_ties` takes memory.
     pub fn new(alloc: Global, capacity: usize) -> Result<Marker, NoMemory>
         requires { 1 ≤ capacity }
-        ensures { IfOk result (λ m. m ≡ record { stack = []; capacity = capacity; range = None; oldest = 2 }) }
+        ensures { IfOk result (λ m. m ≡ record { stack = []; capacity = capacity; ranges = []; oldest = 2 }) }
     {
         let stack = Vec::with_capacity(alloc, capacity)?;
+        let ranges = OverflowRanges::new(alloc)?;
         Ok(Marker {
             stack,
-            range: None,
+            ranges,
             oldest: 2,
+            ties: Some(Vec::new(alloc)),
         })
     }
 
     /// Begins a marking for a collection of the generations up to `g`, whose objects are condemned. Nothing waits.
     pub fn begin(&mut self, g: u8)
         requires { g ≤ 2 }
-        ensures { self.new ≡ record self.old { stack = []; range = None; oldest = g } }
+        ensures { self.new ≡ record self.old { stack = []; ranges = []; oldest = g } }
     {
         self.forget();
         self.oldest = g;
@@ -138,7 +148,7 @@ impl Marker {
     // Marks the object at `obj`, where it is condemned, and lets it wait where it wasn't marked. Only where it is
     // condemned its segment is looked for.
     #[inline(always)]
-    fn mark_condemned(&mut self, heap: &mut Heap, obj: u64)
+    pub(super) fn mark_condemned(&mut self, heap: &mut Heap, obj: u64)
         requires { HasWord heap.old.memories obj }
         ensures heap { heap.new ≡ with_mark heap.old self.old.oldest obj }
         ensures marker { self.new ≡ with_waiting heap.old self.old obj }
@@ -185,20 +195,17 @@ impl Marker {
     /// All else stays.
     pub fn drain_slots(&mut self, heap: &mut Heap, types: &Types)
         requires { IsGray types.now heap.old self.old }
-        ensures marker { self.new ≡ record self.old { stack = []; range = None } }
+        ensures marker { self.new ≡ record self.old { stack = []; ranges = [] } }
         ensures gray { IsGray types.now heap.new self.new }
         ensures words { IsRemarked types.now heap.old heap.new }
         ensures marked { (x : ℕ) → Marked types.now heap.new x
             ↔ Reach (LeadsTo types.now heap.old self.old.oldest) (Marked types.now heap.old) x }
     {
-        self.empty_stack(heap, types);
-        while let Some((low, high)) = self.take_range() {
-            self.rescan(heap, types, low, high);
-        }
+        self.drain_over(heap, types, &[]);
     }
 
     // Follows what is on the stack, until nothing is.
-    fn empty_stack(&mut self, heap: &mut Heap, types: &Types)
+    pub(super) fn empty_stack(&mut self, heap: &mut Heap, types: &Types)
         requires closed { IsClosed types.now heap.old }
         requires stacked { (x : ℕ) → IsIn x self.old.stack → Marked types.now heap.old x }
         ensures grayed { HasGrayed types.now heap.old heap.new self.old self.new }
@@ -307,7 +314,7 @@ impl Marker {
         }
     }
 
-    // Puts `obj` on the stack, or into the range where the stack is full.
+    // Puts `obj` on the stack, or into the range of its window where the stack is full.
     fn push(&mut self, obj: u64)
         ensures { self.new ≡ with_next self.old obj }
     {
@@ -318,22 +325,20 @@ impl Marker {
         }
     }
 
-    // Widens the range to `obj`.
+    // Widens the range of the window of `obj` to it.
     fn widen(&mut self, obj: u64)
-        ensures { self.new ≡ record self.old { range = widened self.old.range obj } }
+        ensures { self.new ≡ record self.old { ranges = widened self.old.ranges obj } }
     {
-        self.range = match self.range {
-            Some((low, high)) => Some((low.min(obj), high.max(obj))),
-            None => Some((obj, obj)),
-        };
+        self.ranges.widen(obj);
     }
 
-    // Empties the range, and answers what it was.
-    fn take_range(&mut self) -> Option<(u64, u64)>
-        ensures range { result ≡ self.old.range }
-        ensures marker { self.new ≡ record self.old { range = None } }
+    // Takes the last range away.
+    pub(super) fn take_range(&mut self) -> Option<(u64, u64)>
+        ensures some { IfSome result (λ r. self.old ≡ record self.new { ranges = self.new.ranges ++ r ∷ [] }) }
+        ensures none { IfNone result (self.new ≡ self.old) }
+        ensures last { IfNone result (self.old.ranges ≡ []) }
     {
-        self.range.take()
+        self.ranges.take()
     }
 
     // Whether half of the stack or more is in use.
@@ -345,9 +350,9 @@ impl Marker {
 
     // Forgets what waits.
     fn forget(&mut self)
-        ensures { self.new ≡ record self.old { stack = []; range = None } }
+        ensures { self.new ≡ record self.old { stack = []; ranges = [] } }
     {
         self.stack.clear();
-        self.range = None;
+        self.ranges.clear();
     }
 }

@@ -25,7 +25,7 @@ impl Marker {
     pub fn roots(&mut self, heap: &mut Heap, types: &Types, roots: &[u64])
         requires gray { IsGray types.now heap.old self.old }
         requires objects { AreObjects types.now heap.old roots.now }
-        ensures marker { self.new ≡ record self.old { stack = []; range = None } }
+        ensures marker { self.new ≡ record self.old { stack = []; ranges = [] } }
         ensures gray { IsGray types.now heap.new self.new }
         ensures words { IsRemarked types.now heap.old heap.new }
         ensures marked { (x : ℕ) → Marked types.now heap.new x
@@ -49,7 +49,7 @@ impl Marker {
     pub fn handle_roots(&mut self, heap: &mut Heap, types: &Types, handles: &Handles)
         requires gray { IsGray types.now heap.old self.old }
         requires handles { HandlesStand types.now heap.old handles.now }
-        ensures marker { self.new ≡ record self.old { stack = []; range = None } }
+        ensures marker { self.new ≡ record self.old { stack = []; ranges = [] } }
         ensures gray { IsGray types.now heap.new self.new }
         ensures words { IsRemarked types.now heap.old heap.new }
         ensures marked { (x : ℕ) → Marked types.now heap.new x
@@ -81,7 +81,7 @@ impl Marker {
         requires gray { IsGray types.now heap.old self.old }
         requires handles { HandlesStand types.now heap.old handles.now }
         requires objects { AreObjects types.now heap.old roots.now }
-        ensures marker { self.new ≡ record self.old { stack = []; range = None } }
+        ensures marker { self.new ≡ record self.old { stack = []; ranges = [] } }
         ensures gray { IsGray types.now heap.new self.new }
         ensures words { IsRemarked types.now heap.old heap.new }
         ensures marked { (x : ℕ) → Marked types.now heap.new x

@@ -12,6 +12,7 @@ use crate::checks::index_of;
 use crate::opening::SPARE_SAVES;
 use crate::runtime::Runtime;
 use clr_handles::{CreateFault, Handles, Kind};
+use clr_mark::Marker;
 use clr_model::Refusal;
 use clr_pinq::PinQueue;
 
@@ -49,6 +50,7 @@ impl Runtime {
         match create_with_room(
             &mut self.parts.roots.handles,
             &mut self.parts.workshop.pins,
+            &mut self.parts.workshop.marker,
             kind,
             target,
             other,
@@ -112,10 +114,12 @@ impl Runtime {
 }
 
 // Makes a handle, as `create` does, and takes memory, so that a compaction can save words for each pinned one. Where
-// there is none, the handle isn't made.
+// there is none, the handle isn't made. It also takes memory, so that a marking can list each dependent one; where
+// there is none, markings do without the list.
 fn create_with_room(
     handles: &mut Handles,
     pins: &mut PinQueue,
+    marker: &mut Marker,
     kind: Kind,
     target: u64,
     second: u64,
@@ -129,8 +133,12 @@ fn create_with_room(
     ensures err { OnErr result (handles.new ≡ handles.old) }
     ensures entries { pins.new.entries ≡ pins.old.entries }
     ensures room { pinned_in handles.new + 4 ≤ pins.new.spare }
+    ensures marker { marker.new ≡ marker.old }
 {
     let h = handles.create(kind, target, second)?;
+    if kind.is_dependent() {
+        reserve_ties(marker, h);
+    }
     match pins.reserve(handles.pinned_count() + SPARE_SAVES) {
         Ok(()) => Ok(h),
         Err(_) => {
@@ -138,6 +146,14 @@ fn create_with_room(
             Err(CreateFault::NoMemory)
         }
     }
+}
+
+// Takes memory for a list of the dependent handles up to number `h`, where there is any.
+pub(crate) fn reserve_ties(marker: &mut Marker, h: u64)
+    requires { h < 65536 }
+    ensures { marker.new ≡ marker.old }
+{
+    let _ = marker.reserve_ties(h as usize + 1);
 }
 
 // How a refusal of the table of handles is told.

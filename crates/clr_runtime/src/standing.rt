@@ -7,6 +7,7 @@ ghost use Rattle.clr_runtime.specs.Standings.{CanGoOn, standing_machine};
 ghost use Rattle.clr_view.specs.View.{IsHeld};
 
 use crate::NoMemory;
+use crate::handles::reserve_ties;
 use crate::opening::{SPARE_SAVES, first_workshop};
 use crate::options::Options;
 use crate::parts::Parts;
@@ -18,9 +19,10 @@ use clr_cards::Cards;
 use clr_collect::Workshop;
 use clr_final::Finals;
 use clr_generations::{Space, cover_standing};
-use clr_handles::Handles;
+use clr_handles::{Handles, Kind, MOST_HANDLES};
 use clr_heap::Heap;
 use clr_large::KindItems;
+use clr_mark::Marker;
 use clr_safe::Safe;
 use clr_survivors::Roots;
 use clr_types::{TypeId, Types};
@@ -130,7 +132,20 @@ fn workshop_of(alloc: Global, handles: &Handles, compacts_large: bool) -> Result
         drop(workshop);
         return Err(NoMemory);
     };
+    list_dependent(&mut workshop.marker, handles);
     Ok(workshop)
+}
+
+// Takes memory, so that a marking can list what dependent handles tie, where there are any.
+fn list_dependent(marker: &mut Marker, handles: &Handles)
+    ensures { marker.new ≡ marker.old }
+{
+    if !handles.has_kind(Kind::Dependent) {
+        return;
+    }
+    if let Some((last, _)) = handles.previous_below(MOST_HANDLES as u64, 0) {
+        reserve_ties(marker, last);
+    }
 }
 
 // An index that is made where it is asked first.

@@ -1,5 +1,5 @@
 // Marking what older objects name, by the cards on which they do.
-ghost use Rattle.std.specs.Prelude.{◌≡◌, ℕ, ◌-◌, ◌/◌, ◌%◌, ◌<◌, ◌≤◌, ◌⊎◌, ◌↔◌, true, [], length, None, IfSome, IfNone};
+ghost use Rattle.std.specs.Prelude.{◌≡◌, ℕ, ◌-◌, ◌/◌, ◌%◌, ◌<◌, ◌≤◌, ◌⊎◌, ◌↔◌, true, [], length, IfSome, IfNone};
 ghost use Rattle.clr_bricks.specs.Bricks.{entry_at};
 ghost use Rattle.clr_cards.specs.Cards.{is_card_set};
 ghost use Rattle.clr_covers.specs.Covers.{is_covered, share_cover, spans};
@@ -43,7 +43,7 @@ pub fn scan_cards(
     requires no_contexts { heap.old.rests ≡ no_rests }
     requires parts { HaveOldParts types.now heap.old marker.old.oldest }
     requires tables { AreTablesOf types.now heap.old cards.old bricks.now }
-    ensures marker { marker.new ≡ record marker.old { stack = []; range = None } }
+    ensures marker { marker.new ≡ record marker.old { stack = []; ranges = [] } }
     ensures gray { IsGray types.now heap.new marker.new }
     ensures words { IsRemarked types.now heap.old heap.new }
     ensures marked { (x : ℕ) → Marked types.now heap.new x

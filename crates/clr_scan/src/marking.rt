@@ -1,5 +1,5 @@
 // Marking for a collection of any generation.
-ghost use Rattle.std.specs.Prelude.{◌≡◌, ℕ, ◌<◌, ◌≤◌, ◌↔◌, ◌⊎◌, true, [], length, None};
+ghost use Rattle.std.specs.Prelude.{◌≡◌, ℕ, ◌<◌, ◌≤◌, ◌↔◌, ◌⊎◌, true, [], length};
 ghost use Rattle.clr_cards.specs.Cards.{is_card_set};
 ghost use Rattle.clr_heap.specs.View.{first_of, no_rests};
 ghost use Rattle.clr_model.specs.Reach.{Reach};
@@ -50,7 +50,7 @@ pub fn mark_from(
     requires no_contexts { space.old.heap.rests ≡ no_rests }
     requires parts { g ≤ 1 → HaveOldParts types.now space.old.heap g }
     requires tables { AreTablesOf types.now space.old.heap space.old.cards space.old.bricks }
-    ensures marker { marker.new ≡ record marker.old { stack = []; range = None; oldest = g } }
+    ensures marker { marker.new ≡ record marker.old { stack = []; ranges = []; oldest = g } }
     ensures gray { IsGray types.now space.new.heap marker.new }
     ensures words { IsRemarked types.now space.old.heap space.new.heap }
     ensures marked { (x : ℕ) → Marked types.now space.new.heap x

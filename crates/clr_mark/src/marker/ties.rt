@@ -26,7 +26,7 @@ impl Marker {
     pub fn drain(&mut self, heap: &mut Heap, types: &Types, handles: &Handles)
         requires gray { IsGray types.now heap.old self.old }
         requires handles { HandlesStand types.now heap.old handles.now }
-        ensures marker { self.new ≡ record self.old { stack = []; range = None } }
+        ensures marker { self.new ≡ record self.old { stack = []; ranges = [] } }
         ensures gray { IsGray types.now heap.new self.new }
         ensures words { IsRemarked types.now heap.old heap.new }
         ensures marked { (x : ℕ) → Marked types.now heap.new x
@@ -34,11 +34,15 @@ impl Marker {
             (λ y. Marked types.now heap.old y ⊎ IsTiedToOld types.now heap.old handles.now self.old.oldest y) x }
     {
         self.drain_slots(heap, types);
-        // Passes in both directions by turns: a chain whose numbers rise or fall takes two or three, any other about
-        // one for each turn of its numbers.
+        // Passes in both directions by turns: a chain whose numbers rise or fall takes two or three. What is open after
+        // two that marked something is listed. Passes go on only where there is no room for the list.
         while self.follow_ties(heap, types, handles, Ahead::From(0))
             && self.follow_ties(heap, types, handles, Ahead::Below(MOST_HANDLES as u64))
-        {}
+        {
+            if self.drain_listed(heap, types, handles) {
+                return;
+            }
+        }
     }
 
     // Follows each of the handles ahead once, and answers whether that marked anything. Then what is marked now may be

@@ -1,4 +1,4 @@
-use Rattle.std.proofs.Common.{None, [], ◌∙◌}
+use Rattle.std.proofs.Common.{[], ◌∙◌}
 use Rattle.clr_mark.proofs.Rooting.{IsRooting, rooting_ends}
 use Rattle.clr_bgmark.specs.Pauses.{IsFound}
 use Rattle.clr_bgmark.proofs.RootedFound.{found_rooting, known_on}
@@ -42,7 +42,7 @@ returns c =
       marker = c.drain_slots.ensures.marker ∙ (λ k. record c.root_due.new.marker {
         stack = [];
         capacity = inv.capacity k;
-        range = None;
+        ranges = [];
         oldest = inv.oldest k;
       });
       gray = c.drain_slots.ensures.gray;

@@ -1,5 +1,5 @@
 -- The contexts are given up, and what is alive is marked.
-use Rattle.std.proofs.Common.{◌↔◌, ◌⊎◌, ℕ, List, [], None, ap, ◌∙◌, subst, sym}
+use Rattle.std.proofs.Common.{◌↔◌, ◌⊎◌, ℕ, List, [], ap, ◌∙◌, subst, sym}
 use Rattle.clr_model.specs.Reach.{Reach}
 use Rattle.clr_view.specs.Marks.{Marked}
 use Rattle.clr_mark.specs.Roots.{AreObjects}
@@ -82,4 +82,4 @@ returns-clause-alive c =
 pub returns-clause-marker : goal.returns-clause-marker
 returns-clause-marker c =
     c.mark_from.ensures.marker
-    ∙ ap (λ (m : MarkerView). record m { stack = []; range = None; oldest = c.args.g }) c.begin.ensures
+    ∙ ap (λ (m : MarkerView). record m { stack = []; ranges = []; oldest = c.args.g }) c.begin.ensures

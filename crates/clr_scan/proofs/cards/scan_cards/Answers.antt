@@ -1,4 +1,4 @@
-use Rattle.std.proofs.Common.{◌≡◌, ℕ, ◌<◌, ◌≤◌, List, length, None, [], ap, sym, ◌∙◌, subst, arith}
+use Rattle.std.proofs.Common.{◌≡◌, ℕ, ◌<◌, ◌≤◌, List, length, [], ap, sym, ◌∙◌, subst, arith}
 use Rattle.clr_bricks.specs.Bricks.{entry_at}
 use Rattle.clr_cards.specs.Cards.{is_card_set}
 use Rattle.clr_heap.specs.View.{HeapView}
@@ -64,7 +64,7 @@ returns c =
     record {
       marker = c.drain_slots.ensures.marker
           ∙ (λ i. record c.loop-k.marker
-          { stack = []; capacity = inv.scanned.capacity i; range = None; oldest = inv.scanned.oldest i });
+          { stack = []; capacity = inv.scanned.capacity i; ranges = []; oldest = inv.scanned.oldest i });
       gray = c.drain_slots.ensures.gray;
       words = words;
       marked = card_scan_ends c.args.types.now c.args.heap.now c.loop-k.heap c.args.marker.now c.loop-k.marker

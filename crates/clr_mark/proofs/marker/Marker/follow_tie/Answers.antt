@@ -3,7 +3,8 @@ use Rattle.clr_mark.specs.Waiting.{MarkerView}
 use Rattle.clr_mark.proofs.Graying.{object_word}
 use Rattle.clr_mark.proofs.Held.{remarked-trans}
 use Rattle.clr_mark.proofs.Laws.{waiting_keeps}
-use Rattle.clr_mark.proofs.Tying.{both_stand, due_marked, due_parts, new_parts}
+use Rattle.clr_mark.proofs.NewParts.{new_parts}
+use Rattle.clr_mark.proofs.Tying.{both_stand, due_marked, due_parts}
 use Rattle.clr_mark.proofs.marker.Marker.follow_tie.Goals as goal
 
 pub is_tie_due-requires : goal.is_tie_due-requires

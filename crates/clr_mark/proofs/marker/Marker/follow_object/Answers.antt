@@ -1,0 +1,16 @@
+use Rattle.std.proofs.Common.{length, sym, ◌∙◌}
+use Rattle.std.proofs.lemmas.Bool.{eqb-true}
+use Rattle.clr_mark.proofs.Following.{none_left}
+use Rattle.clr_mark.proofs.TieDrains.{grayed_alone, led_alone}
+use Rattle.clr_mark.proofs.marker.Marker.follow_object.Goals as goal
+
+pub returns-then-is_empty-clause-grayed : goal.returns-then-is_empty-clause-grayed
+returns-then-is_empty-clause-grayed c = grayed_alone c.args.types.now c.args.ties.now c.args.heap.now
+    c.scan_object.new.heap c.args.self.now c.scan_object.new.self
+    (none_left c.args.ties.now (eqb-true (length c.args.ties.now) 0 (sym c.is_empty.ensures ∙ c.if-is_empty.true)))
+    c.scan_object.ensures.grayed
+
+pub returns-then-is_empty-clause-followed : goal.returns-then-is_empty-clause-followed
+returns-then-is_empty-clause-followed c = λ y e. c.scan_object.ensures.followed y
+    (led_alone c.args.types.now c.args.ties.now c.args.heap.now c.args.self.now.oldest c.args.obj y
+    (none_left c.args.ties.now (eqb-true (length c.args.ties.now) 0 (sym c.is_empty.ensures ∙ c.if-is_empty.true))) e)

@@ -17,6 +17,8 @@ import tempfile
 
 from programs import Program
 
+if sys.argv[1:2] in ([], ["-h"], ["--help"]):
+    sys.exit(print(__doc__.strip()) if sys.argv[1:] else "lines: the words are PROGRAM [CORE]; --help tells more")
 PROGRAM = Program(str(pathlib.Path(sys.argv[1]).resolve()), sys.argv[2] if len(sys.argv) > 2 else "2")
 TURNS = 7
 # Lines a second that are wanted.

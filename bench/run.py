@@ -16,6 +16,8 @@ import subprocess
 import sys
 import tempfile
 
+if sys.argv[1:] in (["-h"], ["--help"]):
+    sys.exit(print(__doc__.strip()))
 HERE = pathlib.Path(__file__).resolve().parent
 WORK = pathlib.Path(tempfile.gettempdir()) / "clr_mem_bench"
 CORE = sys.argv[1] if len(sys.argv) > 1 else "2"

@@ -1,7 +1,8 @@
 #!/usr/bin/env bash
-# Makes an image of a small heap, shows it, damages it, and shows where: images.sh PROGRAM
+# Makes an image of a small heap, shows it, damages it, and shows where: images.sh [PROGRAM]
+# Without PROGRAM it is the one that the tools find.
 set -u
-program=$1
+program=${1:-$(python3 -B "$(dirname "$0")/../tools/program.py")} || exit
 folder=$(mktemp -d)
 trap 'rm -rf "$folder"' EXIT
 image=$folder/cycle.image

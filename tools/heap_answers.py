@@ -39,6 +39,11 @@ class Segment:
     def first(self):
         return self.base + FIRST_PLACE
 
+    @property
+    def borders(self):
+        """Where a generation begins inside the segment."""
+        return (self.start1, self.start0) if self.kind == "ephemeral" else ()
+
     def generation(self, place):
         if self.kind != "ephemeral" or place < self.start1:
             return 2
@@ -111,10 +116,15 @@ class Heap:
         counts, sizes = Counter(), Counter()
         for segment in self.segments:
             spans = self.spans[segment.base]
-            for start, end, key in zip(spans.starts, spans.ends, spans.keys):
-                which = key, segment.generation(start)
-                counts[which] += 1
-                sizes[which] += end - start
+            borders = sorted({0, *(bisect_left(spans.starts, at) for at in segment.borders), len(spans)})
+            for low, high in zip(borders, borders[1:]):
+                generation = segment.generation(spans.starts[low])
+                keys, found = spans.keys[low:high], [0] * len(self.names)
+                for key, start, end in zip(keys, spans.starts[low:high], spans.ends[low:high]):
+                    found[key] += end - start
+                for key, count in Counter(keys).items():
+                    counts[key, generation] += count
+                    sizes[key, generation] += found[key]
         return counts, sizes
 
 
@@ -128,10 +138,13 @@ class Lines:
         lines = text.split("\n")
         if lines and lines[-1] == "":
             lines.pop()
+        # `ask` ends each answer with an empty line.
         match = re.compile(ITEM).fullmatch
         forms = [(form, re.compile(words).fullmatch) for form, words in FORMS.items()]
         for number in range(len(lines), 0, -1):
             item = match(lines[number - 1])
+            if not lines[number - 1]:
+                continue
             if item:
                 self._take(item, number)
             elif not self._take_other(lines[number - 1], number, forms):
@@ -179,7 +192,7 @@ def read_heap(text):
     }
     for command, answer in answers.items():
         if answer is None:
-            behind = f" behind line {lines.stop[0]}, `{lines.stop[1][:60]}`" if lines.stop else ""
+            behind = f" after line {lines.stop[0]}, `{lines.stop[1][:60]}`" if lines.stop else ""
             raise BadInput(f"no answer of `{command}`{behind}")
     handles = lines.last(("handle",), "handles") or {"handle": []}
     heap = read_segments(answers["eeheap -gc"])

@@ -3,7 +3,6 @@
 An object is a number here: its rank by address among all objects that aren't free. What is known of objects stands in
 arrays by these numbers.
 """
-import signal
 import sys
 from array import array
 from bisect import bisect_right
@@ -95,20 +94,20 @@ class Image:
         self.firsts = [segment.first for segment in self.segments]
 
     def segment_of(self, address):
-        """The segment in which a place, or the header before one, lies, or nothing."""
+        """The segment in which an address, or the header before one, lies, or nothing."""
         at = bisect_right(self.firsts, address + 8) - 1
         return self.segments[at] if at >= 0 and address < self.segments[at].end - 8 else None
 
     def roots(self):
-        """What the locals, strong and pinned handles and the f-reachable queue name: pairs of a name and a place."""
-        for at, place in enumerate(self.locals):
-            if place:
-                yield local_name(at), place
+        """What the locals, strong and pinned handles and the f-reachable queue name: pairs of a name and an address."""
+        for at, address in enumerate(self.locals):
+            if address:
+                yield local_name(at), address
         for handle in self.handles:
             if handle.kind in ("strong", "pinned") and handle.target:
                 yield f"h{handle.number}", handle.target
-        for at, place in enumerate(self.ready):
-            yield f"ready {at}", place
+        for at, address in enumerate(self.ready):
+            yield f"ready {at}", address
 
 
 class Reader:
@@ -209,9 +208,3 @@ def walk(image, segment, first=0):
             raise BadImage(f"the item at {segment.offset + 8 * at} passes the end of its segment")
         yield at, number, size
         at += size >> 3
-
-
-def end_with_the_reader():
-    """Lets the tool end without a word where the reader of its output goes away, as `head` does."""
-    if hasattr(signal, "SIGPIPE"):
-        signal.signal(signal.SIGPIPE, signal.SIG_DFL)

@@ -66,14 +66,14 @@ def rows_of(parts, row_bytes):
         index += max(skipped, 1)
 
 
-def choose_row_bytes(groups):
+def choose_row_bytes(groups, most_rows=MOST_ROWS):
     """The least size of a row, a power of two, for which the picture has few rows. A group has one base."""
     row_bytes, most = LEAST_ROW, max(part.segment.reserved for parts in groups for part in parts)
-    while row_bytes < most and not are_few(groups, row_bytes):
+    while row_bytes < most and not are_few(groups, row_bytes, most_rows):
         row_bytes *= 2
     return row_bytes
 
 
-def are_few(groups, row_bytes):
+def are_few(groups, row_bytes, most_rows):
     rows = (row for parts in groups for row in rows_of(parts, row_bytes))
-    return sum(1 for _ in islice(rows, MOST_ROWS + 1)) <= MOST_ROWS
+    return sum(1 for _ in islice(rows, most_rows + 1)) <= most_rows

@@ -1,26 +1,18 @@
 """For the tests of the tools: loads a tool as a module, writes small images, and runs a program."""
-import importlib.util
 import os
 import struct
 import subprocess
 import sys
-from importlib.machinery import SourceFileLoader
 from pathlib import Path
 
 TOOLS = Path(__file__).resolve().parent
 sys.path.insert(0, str(TOOLS))
+
+from image_tools import load_tool  # noqa: E402, F401
+
 FREE_WORD = 0x7FF0_0000_0000
 BASE, LARGE, PINNED = 0x1000_0000, 0x1100_0000, 0x1200_0000
 FIRST = BASE + 0x1000
-
-
-def load_tool(name):
-    """A tool as a module, though its file's name isn't one of a module."""
-    loader = SourceFileLoader(name.replace("-", "_"), str(TOOLS / name))
-    module = importlib.util.module_from_spec(importlib.util.spec_from_loader(loader.name, loader))
-    sys.modules[loader.name] = module
-    loader.exec_module(module)
-    return module
 
 
 def run_tool(name, *words):

@@ -9,8 +9,9 @@ from pathlib import Path
 sys.dont_write_bytecode = True
 TOP = Path(__file__).resolve().parent.parent
 CRATES = TOP / "crates"
-NAMES = ("ARCHITECTURE.md", "MODEL.md", "PROVED.md", "THEOREM.md")
+NAMES = ("ARCHITECTURE.md", "HEAP.md", "MODEL.md", "PROVED.md", "THEOREM.md")
 PAGES = {name: (TOP / "docs" / name).read_text(encoding="utf-8") for name in NAMES}
+LINKING = [TOP / "README.md", TOP / "bench/README.md", *TOP.glob("docs/*.md"), *TOP.glob("*/*/README.md")]
 # What pages name of other crates, of tools and of the system.
 BEYOND = {"ArrayVec", "README", "examples", "stdin", "stdout", "tools"}
 
@@ -49,6 +50,12 @@ def rows(page, columns):
     return [[cell.strip() for cell in row] for row in split if len(row) == columns and set(row[0]) != {"-"}]
 
 
+def anchors(page):
+    """The anchors of a page's headings."""
+    heads = re.findall(r"^#+ (.*)$", re.sub(r"^```.*?^```$", "", page, flags=re.MULTILINE | re.DOTALL), re.MULTILINE)
+    return {re.sub(r"[^\w\- ]", "", head.lower()).replace(" ", "-") for head in heads}
+
+
 def crate_pages():
     """The README of each crate, by the crate's name."""
     return {name: (CRATES / name / "README.md").read_text(encoding="utf-8") for name in uses()}
@@ -62,10 +69,13 @@ def sections():
 
 
 class Names(unittest.TestCase):
-    def test_crates_are_those_of_crates_txt(self):
-        crates = [row for row in rows(PAGES["ARCHITECTURE.md"], 3) if row[0].startswith("clr")]
-        told = {name: set(re.findall(r"\w+", words)) - {"nothing"} for name, _, words in crates}
-        self.assertEqual(told, {name: set(words) for name, words in uses().items()})
+    def test_crates_are_those_of_crates_txt_lowest_first(self):
+        cells = [row[0] for row in rows(PAGES["ARCHITECTURE.md"], 2) if row[0].startswith("clr")]
+        told = [name for cell in cells for name in cell.split(", ")]
+        self.assertEqual(sorted(told), sorted(uses()))
+        for place, name in enumerate(told):
+            with self.subTest(crate=name):
+                self.assertLessEqual(set(uses()[name]) & set(told), set(told[:place]))
 
     def test_files_stand_in_their_crate(self):
         for crate, section in sections():
@@ -95,8 +105,17 @@ class Names(unittest.TestCase):
                 self.assertTrue(has_word(name.split(".")[-1], code) or has_word(name.split(".")[-1], definitions))
 
     def test_claims_name_functions_and_clauses(self):
-        claims = [row for row in rows(PAGES["PROVED.md"], 3) if "clr" in row[1]]
-        self.assertGreater(len(claims), 30)
+        page = re.search(r"^## What is proved\n(.*?)^## ", PAGES["PROVED.md"], re.MULTILINE | re.DOTALL)[1]
+        items = re.findall(r"^- (.*?)(?=^- |^$)", page, re.MULTILINE | re.DOTALL)
+        items = [re.sub(r"\s+", " ", item) for item in items]
+        claims = []
+        for item in items:
+            told = re.search(r" \((clr_[^()]*)\) ?$", item)
+            self.assertTrue(told, item)
+            for claim in told[1].split("; "):
+                where, _, clauses = claim.partition("`: ")
+                claims.append(["", where if not clauses else f"{where}`", clauses])
+        self.assertGreater(len(claims), 45)
         for name, page in crate_pages().items():
             told = [row for row in rows(page, 3) if row[0] not in ("property", "fact")]
             claims += [[row[0], row[1] if row[1].startswith("clr") else f"{name}, {row[1]}", row[2]] for row in told]
@@ -127,22 +146,77 @@ class Names(unittest.TestCase):
                 words = set() if "no other crate of ours" in told.group(1) else set(re.findall(r"\w+", told.group(1)))
                 self.assertEqual(words, set(uses()[name]))
 
+    def check_definitions(self, where, defined):
+        """Each file that is linked in the words has the definitions that stand behind it."""
+        for label, names in re.findall(r"\[((?:\w+/)?\w+\.antt)\]((?: `\w+`,?)*)", defined):
+            crate, name = label.split("/") if "/" in label else ("clr_model", label)
+            within = (CRATES / crate / "specs" / name).read_text(encoding="utf-8")
+            for definition in re.findall(r"`(\w+)`", names):
+                with self.subTest(rule=where, file=label, definition=definition):
+                    self.assertTrue(is_defined(definition, within))
+
+    def check_code(self, where, code):
+        """Each file that is linked in the words has the functions that stand behind it; and the crates of all."""
+        crates = []
+        for crate, name, functions in re.findall(r"\[(\w+)/(\w+\.rt)\]((?: `[\w:]+`,?)*)", code):
+            within = "\n".join(path.read_text(encoding="utf-8") for path in files(crate, "src") if path.name == name)
+            for function in re.findall(r"`(?:\w+::)?(\w+)`", functions):
+                with self.subTest(rule=where, file=name, function=function):
+                    self.assertRegex(within, rf"\bfn {function}\b")
+            crates.append(crate)
+        return crates
+
     def test_rules_name_definitions_code_and_tests(self):
-        rules = [row for row in rows(PAGES["MODEL.md"], 6) if row[3].startswith("clr")]
-        self.assertGreater(len(rules), 20)
-        for _, _, defined, where, clauses, test in rules:
-            self.check_claim(where, re.sub(r" of `\w+`", "", clauses))
-            for crate, name, definitions in re.findall(r"(clr_\w+)? ?`(\w+\.antt)`(?:: ((?:`\w+`(?:, )?)+))?", defined):
-                path = CRATES / (crate or "clr_model") / "specs" / name
-                with self.subTest(where=where, file=name):
-                    self.assertTrue(path.exists())
-                for definition in re.findall(r"`(\w+)`", definitions):
-                    with self.subTest(file=name, definition=definition):
-                        self.assertTrue(is_defined(definition, path.read_text(encoding="utf-8")))
-            name = test.strip("`")
-            scripts = [TOP / folder / f"{name}.script" for folder in ("tests", "examples")]
-            with self.subTest(where=where, test=name):
-                self.assertTrue(any(script.exists() for script in scripts) or f"fn {name}(" in text(uses(), "src"))
+        rules = re.findall(r"^#### (.*)\n\n((?:.+\n)+)\n((?:.+\n)+)", PAGES["MODEL.md"], re.MULTILINE)
+        self.assertGreater(len(rules), 30)
+        links = dict(re.findall(r"^\[(\S+)\]: (\S+)$", PAGES["MODEL.md"], re.MULTILINE))
+        for name, _, places in rules:
+            told = places.replace("\n", " ").strip()
+            parts = re.fullmatch(r"Definition: (.*?)\. Code: (.*)\. Clause: (.*)\. Test: (.*)\.", told)
+            self.assertTrue(parts, name)
+            defined, code, clauses, tests = parts.groups()
+            self.check_definitions(name, defined)
+            crates = self.check_code(name, code)
+            self.check_claim(", ".join(crates), re.sub(r" of `\w+`", "", clauses))
+            for label in re.findall(r"\[([^\]]+)\]", tests):
+                with self.subTest(rule=name, test=label):
+                    path = TOP / "docs" / links[label]
+                    self.assertTrue(path.stem == label or f"fn {label}(" in path.read_text(encoding="utf-8"))
+
+    def test_links_lead_to_what_is_there(self):
+        for page in LINKING:
+            told = page.read_text(encoding="utf-8")
+            links = re.findall(r"\]\(([^)\s]+)\)", told) + re.findall(r"^\[[^\]]+\]: (\S+)$", told, re.MULTILINE)
+            for link in links:
+                path, _, anchor = link.partition("#")
+                with self.subTest(page=page.name, link=link):
+                    goal = page.parent / path if path else page
+                    self.assertTrue("://" in link or goal.exists())
+                    self.assertTrue(not anchor or anchor in anchors(goal.read_text(encoding="utf-8")))
+
+    def test_links_by_label_have_one(self):
+        for page in LINKING:
+            told = page.read_text(encoding="utf-8")
+            there = set(re.findall(r"^\[([^\]]+)\]: \S+$", told, re.MULTILINE))
+            for label in re.findall(r"\[([\w/.-]+\.(?:antt|rt))\](?![:(])", told):
+                with self.subTest(page=page.name, label=label):
+                    self.assertIn(label, there)
+
+    def test_lines_outside_of_code_are_short(self):
+        for page in (TOP / "README.md", TOP / "bench/README.md", *TOP.glob("docs/*.md")):
+            fenced = re.split(r"^```.*$", page.read_text(encoding="utf-8"), flags=re.MULTILINE)
+            for line in "\n".join(fenced[::2]).splitlines():
+                with self.subTest(page=page.name, line=line):
+                    self.assertTrue(len(line) <= 120 or line.startswith("    "))
+
+    def test_the_rules_of_the_heap_name_definitions(self):
+        named = re.findall(r"[(]`(\w+)`(?: in `(\w+\.antt)`)?[)]", re.sub(r"\s+", " ", PAGES["HEAP.md"]))
+        self.assertGreater(len(named), 15)
+        for definition, name in named:
+            with self.subTest(definition=definition):
+                path = CRATES / "clr_model/specs" / name
+                within = path.read_text(encoding="utf-8") if name else text(["clr_model"], "specs")
+                self.assertTrue(is_defined(definition, within))
 
     def test_the_theorem_names_definitions_by_their_files(self):
         page = re.sub(r"\s+(> )?", " ", PAGES["THEOREM.md"])
@@ -153,12 +227,16 @@ class Names(unittest.TestCase):
             for definition in re.findall(r"`(\w+)`", definitions):
                 with self.subTest(file=name, definition=definition):
                     self.assertTrue(is_defined(definition, path.read_text(encoding="utf-8")))
-        clauses = re.findall(r"\| `(\w+)` of `(\w+)`, (clr\w+) \|", page)
+        clauses = re.findall(r"- `(\w+)` of `(\w+)`, (clr\w+):", page)
         self.assertGreater(len(clauses), 2)
         for clause, function, crate in clauses:
             with self.subTest(clause=clause, function=function):
                 contract = rf"fn {function}\b[^;]*\n    ensures {clause} "
                 self.assertTrue(re.search(contract, text([crate], "src")))
+        told = page.partition(" ## Laws")[2].partition("## Where")[0]
+        laws = re.findall(r"`(\w+)`", " ".join(re.findall(r"\((`\w+_[^)]*`)\)", told)))
+        functions = re.findall(r"^pub fn (\w+)", text(["clr_laws"], "src"), re.MULTILINE)
+        self.assertEqual(sorted(laws), sorted(functions))
 
 
 if __name__ == "__main__":

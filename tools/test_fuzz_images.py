@@ -57,12 +57,12 @@ class Fuzzing(unittest.TestCase):
         return data
 
     def test_programs_that_answer_alike(self):
-        ran = writer.run_tool("fuzz-images", self.stand_in("one"), self.stand_in("other"), 8)
+        ran = writer.run_tool("fuzz-images", "--program", self.stand_in("one"), self.stand_in("other"), 8)
         self.assertEqual((ran.returncode, ran.stderr), (0, ""))
         self.assertRegex(ran.stdout, r"^8 damaged images of \d, 0 of them images still: 0 differences\n$")
 
     def test_a_program_that_is_wrong_where_an_image_is_cut(self):
-        ran = writer.run_tool("fuzz-images", self.stand_in("one"), self.stand_in("other", SHORT), 20)
+        ran = writer.run_tool("fuzz-images", "--program", self.stand_in("one"), self.stand_in("other", SHORT), 20)
         what = r"^image \d+, .*, it ends after \d+ bytes: inspect: status 7 with b'bad image at [1-9]"
         data = self.check_told(ran, 20, what)
         self.assertIn(f"it ends after {len(data)} bytes", ran.stdout)
@@ -72,19 +72,19 @@ class Fuzzing(unittest.TestCase):
         for otherwise, what in wrong:
             with self.subTest(what=what):
                 programs = [self.stand_in(name, otherwise) for name in ("one", "other")]
-                self.check_told(writer.run_tool("fuzz-images", *programs, 4), 4, what)
+                self.check_told(writer.run_tool("fuzz-images", "--program", *programs, 4), 4, what)
 
     def test_a_program_that_is_not_there(self):
-        ran = writer.run_tool("fuzz-images", self.folder / "none", self.folder / "none", 1)
-        self.assertEqual((ran.returncode, ran.stdout, len(ran.stderr.splitlines())), (2, "", 1))
+        ran = writer.run_tool("fuzz-images", "--program", self.folder / "none", self.folder / "none", 1)
+        self.assertEqual((ran.returncode, ran.stdout, len(ran.stderr.splitlines())), (1, "", 1))
 
     @unittest.skipUnless(writer.program_with_images(), "CLRHEAP names no program that writes images")
     def test_the_program(self):
         program = os.path.abspath(writer.program_with_images())
-        ran = writer.run_tool("fuzz-images", program, program, 30)
+        ran = writer.run_tool("fuzz-images", "--program", program, program, 30)
         self.assertIn(": 0 differences\n", ran.stdout)
         wrapped = self.program("wrapped", WRAPPED.format(program=program))
-        self.check_told(writer.run_tool("fuzz-images", program, wrapped, 60), 60, "inspect: status ")
+        self.check_told(writer.run_tool("fuzz-images", "--program", program, wrapped, 60), 60, "inspect: status ")
 
 
 if __name__ == "__main__":

@@ -14,7 +14,7 @@ from heap_image import BadImage, parse, walk  # noqa: E402
 
 NODE, FILE, BYTES, ENTRY = range(1, 5)
 TYPES = [("Node", 0, 0, "rn"), ("File", 0, 1, "-"[:0]), ("byte[]", 2, 0, ""), ("Entry[]", 3, 0, "nr")]
-AT_NODE, AT_FILE, AT_BYTES, AT_ENTRY, AT_FREE = (writer.FIRST + place for place in (0, 32, 56, 96, 136))
+AT_NODE, AT_FILE, AT_BYTES, AT_ENTRY, AT_FREE = (writer.FIRST + address for address in (0, 32, 56, 96, 136))
 WORDS = [
     0, writer.table_word(NODE), AT_BYTES, 77,
     0x4000_0000, writer.table_word(FILE), 0,
@@ -89,7 +89,7 @@ class Lines(WithImage):
 
 
 class Faults(WithImage):
-    def test_a_place_outside(self):
+    def test_an_address_outside(self):
         for words in (("--object", "1"), ("--segment", "2")):
             ran = self.run_on(small(), *words)
             self.assertEqual((ran.returncode, ran.stderr.count("\n")), (1, 1))

@@ -1,11 +1,13 @@
 """Runs what the pages show with the program that CLRHEAP names, and compares what it answers: run this file.
 
-Compared are scripts with replies (`> ` stands before a line), sessions of a shell (`$ ` stands before a command), the
-table of README.md, and the bytes and words of IMAGES.md. Other commands of a page are run: those of a hunt for a leak
-on a tiny dump, as they need no Java then.
+Compared are scripts with replies (`> ` stands before a line), sessions of a shell (`$ ` stands before a command), and
+the bytes and words of IMAGES.md. Other commands of a page are run: those of a hunt for a leak on a tiny dump of Java
+and a stored one of Mono, as they need neither then. The first command of README.md builds the program, where the kit is
+there; what `.ci/run` of that page is, runs this file.
 """
 import os
 import re
+import shutil
 import subprocess
 import sys
 import tempfile
@@ -14,16 +16,21 @@ from pathlib import Path
 
 sys.dont_write_bytecode = True
 TOP = Path(__file__).resolve().parent.parent
-sys.path.insert(0, str(TOP / "tools/from-hprof"))
+sys.path.insert(0, str(TOP / "tools/from_hprof"))
 
 from test_from_hprof import tiny_dump  # noqa: E402
 
 PROGRAM = os.environ.get("CLRHEAP")
-PATHS = ("README.md", "docs/LINES.md", "docs/LEAKS.md", "docs/IMAGES.md", "tools/from-hprof/README.md")
+PATHS = (
+    "README.md", "docs/LINES.md", "docs/HEAP.md", "docs/TOOLS.md", "docs/LEAKS.md", "docs/IMAGES.md",
+    "tools/from_hprof/README.md", "tools/from_mono/README.md",
+)
 PAGES = {path: (TOP / path).read_text(encoding="utf-8") for path in PATHS}
-# How commands of the pages begin that need no Java, and what forms of commands have.
+# How commands of the pages begin that need no Java, and what forms of commands have, or those that need Mono.
 RUN = ("clrheap ", "crates/", "tools/", "python3 tools/", "sed ", "echo ", "printf ")
-FORM = re.compile(r"\b[A-Z]{4,}\b|\[|--limit")
+# The first page's first command builds the program, and stands alone.
+FIRST = "python3 bench/unproved.py "
+FORM = re.compile(r"\b[A-Z]{4,}\b|\[|--limit|/dev/tcp|--field-names")
 
 
 def blocks(page):
@@ -65,17 +72,48 @@ class Scripts(unittest.TestCase):
 
     @unittest.skipUnless(PROGRAM, "CLRHEAP names no program")
     def test_replies_are_those_of_the_program(self):
-        found = sessions("> ")
+        found = [(page, pairs) for page, pairs in sessions("> ") if page != "README.md"]
         self.assertGreater(len(found), 30)
         for page, pairs in found:
             with self.subTest(page=page, script=pairs[-1][0]):
                 self.assertEqual(replies(line for line, _ in pairs), [line for _, answer in pairs for line in answer])
 
-    @unittest.skipUnless(PROGRAM, "CLRHEAP names no program")
-    def test_the_session_of_the_first_page(self):
-        rows = re.findall(r"^\| (?:`([^|`]*)` )?\| `([^|`]*)` \|$", PAGES["README.md"], re.MULTILINE)
-        self.assertGreater(len(rows), 10)
-        self.assertEqual(replies(line for line, _ in rows if line), [reply for _, reply in rows])
+    def test_the_session_of_the_first_page_is_a_part_of_one(self):
+        shown = [block for block in blocks("README.md") if block[0].startswith("> ")]
+        name = re.search(r"tools/transcript (examples/\w+)\.script$", PAGES["README.md"], re.MULTILINE)[1]
+        whole = (TOP / f"{name}.session").read_text(encoding="utf-8")
+        self.assertEqual(len(shown), 1)
+        self.assertIn("".join(f"\n{line}" for line in shown[0]) + "\n", whole)
+
+
+class First(unittest.TestCase):
+    """The first command of the first page, in a folder that has all that stands at the top of the repository."""
+
+    def run_first(self, path):
+        with tempfile.TemporaryDirectory() as name:
+            for part in TOP.iterdir():
+                if part.name not in ("tools", "unproved"):
+                    (Path(name) / part.name).symlink_to(part)
+            shutil.copytree(TOP / "tools", Path(name) / "tools")
+            command = next(line for block in blocks("README.md") for line in block if line.startswith(FIRST))
+            env = {**os.environ, "PATH": path, "PYTHONDONTWRITEBYTECODE": "1"}
+            env.pop("CLRHEAP", None)
+            words = ["bash", "-c", command]
+            return subprocess.run(words, cwd=name, env=env, capture_output=True, text=True, check=False)
+
+    @unittest.skipUnless(shutil.which("rt"), "the kit isn't on the path")
+    def test_it_builds_the_program_and_shows_a_session(self):
+        ran = self.run_first(os.environ["PATH"])
+        self.assertEqual(ran.returncode, 0, ran.stderr)
+        self.assertEqual(ran.stdout, (TOP / "examples/cycle.session").read_text(encoding="utf-8"))
+
+    def test_without_the_kit_it_says_so(self):
+        with tempfile.TemporaryDirectory() as bare:
+            for name in ("bash", "python3"):
+                (Path(bare) / name).symlink_to(shutil.which(name))
+            ran = self.run_first(bare)
+        self.assertEqual(ran.returncode, 1)
+        self.assertRegex(ran.stderr, r"\Aunproved: the kit isn't here: .*\n\Z")
 
 
 @unittest.skipUnless(PROGRAM, "CLRHEAP names no program")
@@ -114,6 +152,8 @@ class Commands(unittest.TestCase):
         """Those of a page run in their order."""
         for name in ("leak", "app"):
             (self.folder / f"{name}.hprof").write_bytes(tiny_dump())
+        for ending in (".mlpd", ".offsets"):
+            shutil.copy(TOP / f"tools/from_mono/samples/shop{ending}", self.folder)
         lines = [(page, line) for page in PAGES for block in blocks(page) for line in block if line.startswith(RUN)]
         commands = [(page, line) for page, line in lines if not FORM.search(line)]
         self.assertGreater(len(commands), 8)

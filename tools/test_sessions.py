@@ -1,13 +1,11 @@
 """Tests of `ask` and `transcript`: run this file. A small program stands in for the real one, and where CLRHEAP names
 that, it is asked, too."""
-import importlib.util
 import io
 import os
 import subprocess
 import sys
 import tempfile
 import unittest
-from importlib.machinery import SourceFileLoader
 from pathlib import Path
 
 sys.dont_write_bytecode = True
@@ -15,15 +13,8 @@ TOOLS = Path(__file__).resolve().parent
 sys.path.insert(0, str(TOOLS))
 
 import session as sessions  # noqa: E402
-
-
-def load_tool(name):
-    """A tool as a module, though its file's name isn't one of a module."""
-    loader = SourceFileLoader(name, str(TOOLS / name))
-    module = importlib.util.module_from_spec(importlib.util.spec_from_loader(name, loader))
-    sys.modules[name] = module
-    loader.exec_module(module)
-    return module
+from heap_names import Names as Beside  # noqa: E402
+from image_tools import load_tool  # noqa: E402
 
 
 ask = load_tool("ask")
@@ -59,7 +50,7 @@ class WithProgram(unittest.TestCase):
         return str(path)
 
     def run_tool(self, name, text, *words, program=""):
-        command = [sys.executable, "-B", str(TOOLS / name), program or str(self.program), *words]
+        command = [sys.executable, "-B", str(TOOLS / name), "--program", program or str(self.program), *words]
         return subprocess.run(command, input=text, capture_output=True, text=True, check=False, timeout=60)
 
 
@@ -120,8 +111,19 @@ class Asking(WithProgram):
         self.assertIn("the program ended with status 3", ran.stderr)
 
     def test_words_that_are_wrong(self):
-        self.assertEqual(self.run_tool("ask", "").returncode, 2)
-        self.assertEqual(self.run_tool("ask", "", str(self.folder / "none")).returncode, 2)
+        script, none = self.write("a.script", ""), str(self.folder / "none")
+        for tool in ("ask", "transcript"):
+            for words, status in (((), 2), ((str(self.program), script), 2), ((none,), 1), ((str(self.folder),), 1)):
+                ran = self.run_tool(tool, "", *words)
+                self.assertEqual((ran.returncode, ran.stdout, ran.stderr.count("\n")), (status, "", 1), ran.stderr)
+            ran = self.run_tool(tool, "", script, program=none)
+            self.assertEqual((ran.returncode, ran.stderr), (1, f"{tool}: {none}: No such file or directory\n"))
+        self.assertEqual(self.run_tool("ask", "", "-").returncode, 2)
+
+    def test_a_script_of_which_each_line_is_refused(self):
+        ran = self.run_tool("ask", "", self.write("a.script", "type A class r\r\nwhat\r\n"))
+        self.assertIn("a.script is no script, as its lines end with a carriage return\n", ran.stderr)
+        self.assertNotIn("no script", self.run_tool("ask", "", self.write("a.script", "full\ntwo\n")).stderr)
 
 
 class Told:
@@ -139,6 +141,23 @@ class Told:
             "root t1 l0", "0000000000000010 Shop", "0000000000000020 Bus[]", "0000000000000030 Bus",
         ],
         "gcroot 0000000000000050": ["none"],
+        "dumpobj 0000000000000030": ["object 0000000000000030 Bus size 24 gen 2"],
+        "dumpobj 0000000000000060": [
+            "object 0000000000000060 Sum size 40 gen 0", "slot 0 num 0", "slot 1 num 0",
+            "slot 2 num 18446744073709551614",
+        ],
+        "dumpobj 0000000000000070": [
+            "object 0000000000000070 shared.1.0 size 32 gen 2", "slot 0 num 7", "slot 1 ref 0000000000000010",
+        ],
+        "gcroot 0000000000000070": ["root t1 l1", "0000000000000070 shared.1.0"],
+        "dumpobj 0000000000000080": [
+            "object 0000000000000080 java.lang.String size 32 gen 2", "slot 0 ref 0000000000000090", "slot 1 num 0",
+        ],
+        "dumpobj 0000000000000090": [
+            "object 0000000000000090 byte[] size 32 gen 2 length 3", "slot 0 num 116", "slot 1 num 101",
+            "slot 2 num 97",
+        ],
+        "gcroot 0000000000000080": ["root t1 l1", "0000000000000080 java.lang.String"],
     }
 
     def ask(self, line):
@@ -146,8 +165,8 @@ class Told:
 
 
 class Names(unittest.TestCase):
-    def answer(self, question, fields="Shop bus count\n"):
-        return ask.Answers(Told(), ask.Fields(fields)).answer(question)
+    def answer(self, question, names=Beside({"Shop": ["bus", "count"]})):
+        return ask.Answers(Told(), names).answer(question)
 
     def test_behind_slots(self):
         shown = self.answer("dumpobj 0000000000000010")
@@ -163,7 +182,35 @@ class Names(unittest.TestCase):
 
     def test_without_them_replies_stay(self):
         for question, reply in Told.REPLIES.items():
-            self.assertEqual(self.answer(question, ""), reply)
+            self.assertEqual(self.answer(question, Beside()), reply)
+
+    def test_numbers_that_the_script_lacks(self):
+        names = Beside({"Shop": ["bus", "count?"], "Sum": ["lost?", "kept", "less"]})
+        self.assertEqual(self.answer("dumpobj 0000000000000010", names)[2], "slot 1 num 5 count")
+        self.assertEqual(self.answer("dumpobj 0000000000000060", names)[1:], [
+            "slot 0 num ? lost", "slot 1 num 0 kept", "slot 2 num -2 less",
+        ])
+
+    def test_classes_that_share_a_type(self):
+        names = Beside({"Order": ["class", "bus"]}, {"shared.1.0": {7: "Order"}})
+        self.assertEqual(self.answer("dumpobj 0000000000000070", names), [
+            "object 0000000000000070 Order size 32 gen 2", "slot 0 num 7 class", "slot 1 ref 0000000000000010 bus",
+        ])
+        self.assertEqual(self.answer("gcroot 0000000000000070", names), ["root t1 l1", "0000000000000070 Order"])
+
+    def test_texts(self):
+        names = Beside({"java.lang.String": ["value", "coder"]})
+        self.assertEqual(self.answer("dumpobj 0000000000000080", names)[-1], 'text "tea"')
+        self.assertEqual(self.answer("gcroot 0000000000000080", names)[-1], '0000000000000080 java.lang.String "tea"')
+
+    def test_spellings(self):
+        for question in ("!DumpObj 10", "sos do 0x10", "DUMPARRAY 0x0010", " dumpobj  0x10 "):
+            said = "dumpobj 0000000000000010" if "0x" in question else "dumpobj 10"
+            self.assertEqual(ask.forgive(question), said)
+        self.assertEqual(ask.forgive("dumpheap -live -short"), "dumpheap -short -live")
+        self.assertEqual(ask.forgive("dumpheap -min 0x20 -mt 7ff000000040"), "dumpheap -mt 00007ff000000040 -min 32")
+        self.assertEqual(ask.forgive("dumpheap -min"), "dumpheap -min")
+        self.assertEqual(ask.forgive("t1 collect 2"), "t1 collect 2")
 
 
 class Transcripts(WithProgram):
@@ -183,7 +230,7 @@ class Transcripts(WithProgram):
         asked = "retained 1\nt1 null l1\nretained 1\nretained B\nretained 0000000010001018\n"
         ran = self.run_tool("ask", asked, script, program=os.environ["CLRHEAP"])
         first, null, second, of_type, of_object, rest = ran.stdout.split("\n\n")
-        head = "retained objects size place            name\n"
+        head = "retained objects size address          name\n"
         self.assertEqual(first, head + "      24       1   24 0000000010001000 A\ntotal 2 bytes 48")
         self.assertEqual(null, "ok")
         self.assertEqual(second, head + "      48       2   24 0000000010001000 A\ntotal 2 bytes 48")

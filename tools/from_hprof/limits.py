@@ -5,30 +5,18 @@ refused so is measured when all of it is read.
 """
 from collections import Counter
 
+from heap_script import HOLDER, LIMIT, LINK, MAKE, MOST_BYTES, MOST_NAME, TooMuch, digits_below
 from hprof import NUMBERS, Kind
-from layout import MOST_NAME, WEAK, readable
-from room import LIMIT
+from layout import WEAK, readable
 
-MOST_BYTES = 268_435_456
-ADVICE = "take the dump after less work of the program, and without `-all`: a leak shows in a smaller heap, too"
 # Objects have no fewer bytes in a heap than in their dump, but for classes, and for numbers of what shares a type.
 MOST_DUMPED = LIMIT + LIMIT // 8
 # Where there are more sorts of objects, types may have to be shared, and so have a short name.
 FEW_SORTS = 800
-SHORT_NAME = "others"
+SHORT_NAME = "static"
 LOOK_EVERY = 100_000
 # Of instances one in so many is looked at, and stands for all of them. They have few references each.
 ONE_IN = 8
-MAKE = len("t1 new l2 \nt1 set l0  l2\n")
-HOLDER = len("t1 get l2 l0 \n")
-LINK = len("t1 get l3 l0 0\nt1 set l2 0 l3\n")
-
-
-class TooMuch(Exception):
-    """What the dump has is more than a heap or a script can have."""
-
-    def __init__(self, what):
-        super().__init__(f"{what}; {ADVICE}")
 
 
 class Limits:
@@ -94,8 +82,3 @@ def has_known_references(dump, sort):
         return False
     above = dump.chain(sort.of)
     return bool(above) and not dump.classes[above[-1]].superclass
-
-
-def digits_below(count):
-    """How many digits all numbers below a count have."""
-    return count + sum(max(count - 10 ** power, 0) for power in range(1, 20))

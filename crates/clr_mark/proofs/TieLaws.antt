@@ -69,5 +69,6 @@ no_ties_are rows h = record {
 }
 
 -- the tie at an index is one of the list
-pub tie_at : (ties : List Tie) (k : ℕ) (t : Tie) → k < length ties → t ≡ get_or ties k t → IsTied ties t.primary t.second
+pub tie_at : (ties : List Tie) (k : ℕ) (t : Tie) → k < length ties → t ≡ get_or ties k t
+    → IsTied ties t.primary t.second
 tie_at ties k t l read = (k, l, sym read)

@@ -1,10 +1,12 @@
 -- The list of what dependent handles tie, made by a pass over them.
-use Rattle.std.proofs.Common.{◌≡◌, inl, inr, ℕ, ◌<◌, ◌≤◌, ◌&&◌, true, false, not, List, [], ◌∷◌, ◌++◌, length, Some, refl}
+use Rattle.std.proofs.Common.{◌≡◌, inl, inr, ℕ, ◌<◌, ◌≤◌, ◌&&◌, true, false, not, List, [], ◌∷◌, ◌++◌, length, Some}
+use Rattle.std.proofs.Common.{refl}
 use Rattle.std.proofs.Common.{sym, ◌∙◌, subst, arith, get_or, IsTrue, ltb, nat_eq, ap, ◌⊎◌}
 use Rattle.std.specs.FinMap as finmap
 use Rattle.std.specs.List.{All, Contains}
 use Rattle.std.specs.List.Sorted.{IsNonDecreasingBy, IsPartitionedBy}
-use Rattle.std.proofs.lemmas.Bool.{and_from, and_parts, cases_Bool, eqb-false, eqb-true, lt-ltb, ltb-true, not-true, true≢false}
+use Rattle.std.proofs.lemmas.Bool.{and_from, and_parts, cases_Bool, eqb-false, eqb-true, lt-ltb, ltb-true, not-true}
+use Rattle.std.proofs.lemmas.Bool.{true≢false}
 use Rattle.std.proofs.lemmas.List.Elements.{All-push, Contains-append_left, Contains-push}
 use Rattle.clr_types.specs.Kinds.{is_dependent}
 use Rattle.clr_types.specs.Types.{TypeRow}
@@ -119,7 +121,7 @@ module _ (h : HeapView) (handles : Table) (g low : ℕ)
         let own : is_new h g row.second ≡ true = subst P (sym at) fresh in
         let some : not (nat_eq row.second 0) ≡ true = elim (cases_Bool (nat_eq row.second 0)) [
           | inl null ↦ let zero = eqb-true row.second 0 null in absurd (omega (arith, zero, at, n))
-          | inr no ↦ ap not no
+          | inr other ↦ ap not other
         ] in
         let fits : is_open h g row ≡ true = and_from (is_dependent row.kind) _ s.dependent
         (and_from (not (nat_eq row.second 0)) _ some own) in
@@ -138,7 +140,8 @@ listed_only handles ties only x y t =
     subst P t.2 (only t.0 (record { primary = x; second = y }) t.1)
 
 -- and stands
-pub listed_stand : (rows : List TypeRow) (h : HeapView) (handles : Table) (ties : List Tie) → HandlesStand rows h handles
+pub listed_stand : (rows : List TypeRow) (h : HeapView) (handles : Table) (ties : List Tie)
+    → HandlesStand rows h handles
     → All (λ (t : Tie). SecondOf handles t.primary t.second) ties → (x y : ℕ) → IsTied ties x y
     → StandsAt rows h x × StandsAt rows h y
 listed_stand rows h handles ties stand only x y t =

@@ -136,9 +136,7 @@ fn create_with_room(
     ensures marker { marker.new ≡ marker.old }
 {
     let h = handles.create(kind, target, second)?;
-    if kind.is_dependent() {
-        reserve_ties(marker, h);
-    }
+    reserve_ties(marker, kind, h);
     match pins.reserve(handles.pinned_count() + SPARE_SAVES) {
         Ok(()) => Ok(h),
         Err(_) => {
@@ -148,12 +146,14 @@ fn create_with_room(
     }
 }
 
-// Takes memory for a list of the dependent handles up to number `h`, where there is any.
-pub(crate) fn reserve_ties(marker: &mut Marker, h: u64)
+// Takes memory, so that a marking can list the dependent handles up to number `h`, where that is one and there is any.
+pub(crate) fn reserve_ties(marker: &mut Marker, kind: Kind, h: u64)
     requires { h < 65536 }
     ensures { marker.new ≡ marker.old }
 {
-    let _ = marker.reserve_ties(h as usize + 1);
+    if kind.is_dependent() {
+        let _ = marker.reserve_ties(h as usize + 1);
+    }
 }
 
 // How a refusal of the table of handles is told.

@@ -144,7 +144,7 @@ fn list_dependent(marker: &mut Marker, handles: &Handles)
         return;
     }
     if let Some((last, _)) = handles.previous_below(MOST_HANDLES as u64, 0) {
-        reserve_ties(marker, last);
+        reserve_ties(marker, Kind::Dependent, last);
     }
 }
 

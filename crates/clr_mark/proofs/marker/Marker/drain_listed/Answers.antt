@@ -1,4 +1,6 @@
-use Rattle.std.proofs.Common.{inl}
+use Rattle.std.proofs.Common.{inl, ap, subst, ℕ}
+use Rattle.clr_mark.specs.Markings.{HasReached}
+use Rattle.clr_mark.specs.Waiting.{MarkerView}
 use Rattle.clr_mark.specs.Ties.{Draws}
 use Rattle.clr_mark.proofs.Graying.{reached-refl}
 use Rattle.clr_mark.proofs.Tying.{MarkedOrTied}
@@ -12,4 +14,10 @@ returns-in_default-clause-reached c =
     reached-refl rows (Draws rows h c.args.handles.now g) (MarkedOrTied rows h c.args.handles.now g) h (λ x s. inl s)
 
 pub returns-clause-reached : goal.returns-clause-reached
-returns-clause-reached c = c.drain_with.ensures.reached
+returns-clause-reached c =
+    let rows = c.args.types.now in
+    let h = c.args.heap.now in
+    let handles = c.args.handles.now in
+    let P : ℕ → Type 0 = λ g. HasReached rows (Draws rows h handles g) (MarkedOrTied rows h handles g) h
+    c.drain_with-listed.new.heap in
+    subst P (ap (λ (m : MarkerView). m.oldest) c.self.view_is) c.drain_with-listed.ensures.reached

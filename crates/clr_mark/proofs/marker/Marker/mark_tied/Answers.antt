@@ -12,8 +12,8 @@ returns-then-tie-obj-clause-followed c =
     let ties = c.args.ties.now in
     tied_ends c.args.types.now ties c.args.heap.now c.loop-i.heap c.args.self.now c.loop-i.self c.args.obj c.loop-i.i
     c.requires.closed c.requires.ties c.requires.marked c.loop-i.invariant
-    (none_behind ties c.args.obj c.first_tie-start.result c.loop-i.i c.requires.ties.rise c.first_tie-start.ensures.above
-    c.loop-i.auto.i c.loop-i-test.true c.if-tie-obj.true)
+    (none_behind ties c.args.obj c.first_tie-start.result c.loop-i.i c.requires.ties.rise
+    c.first_tie-start.ensures.above c.loop-i.auto.i c.loop-i-test.true c.if-tie-obj.true)
 
 pub mark_condemned-requires : goal.mark_condemned-requires
 mark_condemned-requires c = tied_word c.args.types.now c.args.ties.now c.args.heap.now c.loop-i.heap c.args.self.now

@@ -15,10 +15,9 @@ ghost use Rattle.clr_ctx.specs.Contexts.{first_fit, IsIndex, IsRelaid, refilled,
 use crate::ranges::{close, open_behind, open_in_item};
 use crate::rooms::{first_walked, fits_behind, share_of, tail_share_of};
 use clr_heap::Heap;
-use clr_items::{first_in, fits_in, insert_item, list_free, take_front};
+use clr_items::{FreeItems, first_in, fits_in, insert_item, list_free, take_front};
 use clr_types::{Span, Types};
 use std::alloc::Global;
-use std::collections::VecDeque;
 use std::marker::Model;
 
 /// What makes contexts fast to refill: an index of the free items of generation 0, by rising place.
@@ -27,7 +26,7 @@ use std::marker::Model;
 /// is kept.
 #[derive(Drop)]
 pub struct YoungItems {
-    items: VecDeque<Span>,
+    items: FreeItems,
     complete: bool,
 }
 
@@ -46,7 +45,7 @@ impl YoungItems {
         ensures { result ≡ Some [] }
     {
         YoungItems {
-            items: VecDeque::new(alloc),
+            items: FreeItems::new(alloc),
             complete: true,
         }
     }

@@ -6,10 +6,9 @@ ghost use Rattle.clr_ctx.specs.Contexts.{IsIndex};
 
 use clr_ctx::YoungItems;
 use clr_heap::Heap;
-use clr_items::{first_in, insert_item};
+use clr_items::{FreeItems, first_in, insert_item};
 use clr_types::{Span, Types};
 use std::alloc::Global;
-use std::collections::VecDeque;
 use std::process::Abort;
 use std::test::Fail;
 
@@ -145,7 +144,7 @@ fn an_index_is_made_anew(rt: HostRuntime) -> Result<(), Fail> {
 
 #[test]
 fn an_item_is_put_in(rt: HostRuntime) {
-    let mut items = VecDeque::new(rt.alloc());
+    let mut items = FreeItems::new(rt.alloc());
     assert!(rt; insert_item(&mut items, Span::between(0x1000, 0x1020)));
     let found = first_in(&items, 32);
     assert_eq!(rt; found.map(|item| item.place()), Some(0x1000));

@@ -4,7 +4,7 @@ use Rattle.std.proofs.Common.{◌++◌, length, get_or, set, refl, ap, sym, ◌�
 use Rattle.std.proofs.Common.{if◌then◌else◌, nat_lt}
 use Rattle.std.proofs.Common.{Option, Some, None, Result, Ok, Err, true≢false}
 use Rattle.std.specs.Prelude.{is_some, OnSome}
-use Rattle.std.specs.Result.{is_ok, OnOk}
+use Rattle.std.specs.Result.{is_err, is_ok, OnErr, OnOk}
 use Rattle.std.specs.List.{AllByRecursion, insert, remove}
 use Rattle.std.proofs.lemmas.Bool.{cases_lt, eq-eqb, le-leb, le-ltb, lt-leb, lt-ltb, ltb-true, ne_eqb, leb-true}
 use Rattle.std.proofs.lemmas.List.Concat.{flat_map-cons}
@@ -24,6 +24,10 @@ place p = p.place
 pub on_ok : {A B P : Type 0} (r : Result A B) → is_ok r ≡ true → OnOk r P → P
 on_ok (Ok x) fine promise = promise
 on_ok (Err y) fine promise = absurd (true≢false (sym fine))
+
+pub on_err : {A B P : Type 0} (r : Result A B) → is_err r ≡ true → OnErr r P → P
+on_err (Ok x) wrong promise = absurd (true≢false (sym wrong))
+on_err (Err y) wrong promise = promise
 
 pub on_some : {A P : Type 0} (r : Option A) → is_some r ≡ true → OnSome r P → P
 on_some (Some x) fine promise = promise
@@ -135,6 +139,7 @@ pub record Spot (ps : List Piece) (x : Piece) : Type 0 where
   pub whole : taken_from x.place x.size ps ≡ remove ps (lower_count x.place ps)
   pub part : (n : ℕ) (y : Piece) → n < x.size → y ≡ record { place = x.place + n; size = piece_end x - (x.place + n) }
       → taken_from x.place n ps ≡ set ps (lower_count x.place ps) y
+  pub is : (d : Piece) → get_or ps (lower_count x.place ps) d ≡ x
 
 spot-first : (ps : List Piece) (x : Piece) → IsRisingBy place (x ∷ ps) → Spot (x ∷ ps) x
 spot-first ps x rise =
@@ -153,6 +158,7 @@ spot-first ps x rise =
           ∙ ap (λ (b : Bool). (if b then record { place = x.place + n; size = piece_end x - (x.place + n) }
           ∷ [] else []) ++ ps) some
           ∙ ap (λ (z : Piece). z ∷ ps) (sym e));
+      is = λ d. rw here refl;
     }
 
 spot-later : (p : Piece) (ps : List Piece) (x : Piece) → p.place < x.place → Spot ps x → Spot (p ∷ ps) x
@@ -169,6 +175,7 @@ spot-later p ps x low s =
       in_range = rw here (omega arith);
       whole = rw (here, count) (step x.size ∙ ap (λ (qs : List Piece). p ∷ qs) s.whole);
       part = λ n y l e. rw (here, count) (step n ∙ ap (λ (qs : List Piece). p ∷ qs) (s.part n y l e));
+      is = λ d. rw (here, count) (s.is d);
     }
 
 pub spot : (ps : List Piece) (x : Piece) → IsRisingBy place ps → IsIn x ps → Spot ps x

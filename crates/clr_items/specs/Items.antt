@@ -7,6 +7,10 @@ use Rattle.clr_heap.specs.Parts.{hole_from}
 use Rattle.clr_heap.specs.View.{HeapView, holes_of}
 use Rattle.clr_view.specs.View.{free_among}
 
+-- what is seen of free items that are listed
+pub record Listed : Type 0 where
+  pub items : List Piece
+
 -- how many pieces, from the first on, stand below a place
 abbrev pub lower_count : ℕ → List Piece → ℕ
 lower_count place ps = prefix_len (λ p. nat_lt p.place place) ps

@@ -9,18 +9,12 @@ ghost use Rattle.clr_sweep.specs.SweptItems.{items_from};
 ghost use Rattle.clr_sweep.specs.SweptSegments.{IsParted};
 ghost use Rattle.clr_items.specs.Items.{HasNoRests};
 
+use crate::items::FreeItems;
 use clr_heap::{Heap, Item, ObjectKind};
 use clr_types::{FREE_MT, Span, TypeId, Types};
-use std::collections::VecDeque;
 
 /// Adds the free items of segment `k` from `from` on to a list: `false` where there is no memory for all of them.
-pub fn list_free(
-    heap: &Heap,
-    types: &Types,
-    k: usize,
-    from: u64,
-    items: &mut VecDeque<Span>,
-) -> bool
+pub fn list_free(heap: &Heap, types: &Types, k: usize, from: u64, items: &mut FreeItems) -> bool
     requires in_range { k < length heap.now.segments }
     requires parted { IsParted types.now heap.now k from }
     requires no_contexts { HasNoRests heap.now k }
@@ -73,13 +67,13 @@ fn free_item(place: u64, len: u64) -> Item
 
 // Adds an item to a list where it is free: `false` where there is no memory for it.
 #[inline]
-fn add_free(items: &mut VecDeque<Span>, found: Item) -> bool
+fn add_free(items: &mut FreeItems, found: Item) -> bool
     requires { found.place + found.size < 2 ^ 64 }
     ensures { result ≡ true → items.new.items ≡ items.old.items ++ free_among (found ∷ []) }
 {
     if found.type_id.0 == 0 {
         let item = Span::between(found.place, found.place + found.size);
-        items.push_back(item).is_ok()
+        items.push_back(item)
     } else {
         true
     }

@@ -20,10 +20,9 @@ use crate::places::{Birthplace, first_tail, first_walked, lower};
 use clr_bricks::Bricks;
 use clr_generations::enter_old_newborn;
 use clr_heap::{Heap, SegKind};
-use clr_items::{first_in, take_front};
+use clr_items::{FreeItems, first_in, take_front};
 use clr_types::{Span, TypeId, Types};
 use std::alloc::Global;
-use std::collections::VecDeque;
 use std::marker::Model;
 
 /// What makes places in the segments of a kind fast to find: an index of their free items, by rising place. The kind is
@@ -33,7 +32,7 @@ use std::marker::Model;
 /// is kept.
 #[derive(Drop)]
 pub struct KindItems {
-    items: VecDeque<Span>,
+    items: FreeItems,
     complete: bool,
 }
 
@@ -52,7 +51,7 @@ impl KindItems {
         ensures { result ≡ Some [] }
     {
         KindItems {
-            items: VecDeque::new(alloc),
+            items: FreeItems::new(alloc),
             complete: true,
         }
     }
@@ -212,7 +211,7 @@ impl KindItems {
 }
 
 // Takes so many bytes from the front of an item, where the place is one.
-fn take_place(items: &mut VecDeque<Span>, place: &Birthplace, taken: u64)
+fn take_place(items: &mut FreeItems, place: &Birthplace, taken: u64)
     requires rising { IsRisingBy (λ p. p.place) items.old.items }
     requires listed { IsListed taken place.now items.old.items }
     ensures { items.new.items ≡ items_left taken place.now items.old.items }

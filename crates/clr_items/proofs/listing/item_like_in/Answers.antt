@@ -1,4 +1,4 @@
-use Rattle.std.proofs.Common.{ℕ, ◌≤◌, arith, sym, ◌∙◌}
+use Rattle.std.proofs.Common.{arith, sym, ◌∙◌}
 use Rattle.clr_heap.specs.View.{word_of}
 use Rattle.clr_items.proofs.ListedItems.{free-here, free-size}
 use Rattle.clr_items.proofs.listing.item_like_in.Goals as goal

@@ -25,7 +25,7 @@ returns c =
           renewed_index c.args.types.now c.args.heap.now c.list_free-self-inside.result c.clear.new.self.items
           c.list_free-self-inside.new.items.items
           (free_among (items_from c.args.types.now c.args.heap.now c.args.k c.boundaries-start0.result.1))
-          c.clear.ensures.items c.list_free-self-inside.ensures
+          c.clear.ensures c.list_free-self-inside.ensures
           (young_listed c.args.types.now c.args.heap.now c.requires.heap c.requires.held c.requires.no_contexts
           c.requires.laid c.args.k c.requires.in_range c.requires.segment
           ∙ ap (λ (n : ℕ). free_among (items_from c.args.types.now c.args.heap.now c.args.k n))

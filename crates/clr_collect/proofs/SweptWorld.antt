@@ -37,7 +37,7 @@ use Rattle.clr_collect.proofs.SweepCollects.{laid, layout-swept, objects-after, 
 use Rattle.clr_collect.proofs.SweepCollects.{sweep_laid, swept_full, swept_machine, told}
 use Rattle.clr_collect.proofs.SweptLayouts.{unreleased_tail}
 use Rattle.clr_collect.proofs.WholeCollection.{begun_laid, due, due_laid, due_memory, left, older_kept}
-use Rattle.clr_survivors.specs.Survivors.{HasObjects}
+use Rattle.clr_survivors.specs.Survivors.{compaction_part, HasObjects}
 
 -- what doesn't compact is no fit
 swept_plain : (how : How) (decision : Bool) → compacts how decision ≡ false → is_fit how ≡ false
@@ -202,7 +202,8 @@ module _ (w : World) (marked : HeapView) (handles : FinMap nat_cmp Handle) (queu
         mid,
         d,
         seen,
-        subst (λ (b : Bool). MatchBool b (slides ≡ min (2 ^ 64 - 1) (slides + (1 + moved_bytes d.moves)))
+        subst (λ (b : Bool). MatchBool b (slides ≡ min (2 ^ 64 - 1) (slides
+            + (1 + moved_bytes (compaction_part (is_fit how) (begun m).layout d.survive d.moves))))
             (slides ≡ slides)) (sym (ap (λ (a : Collected). a.compacted) same)) refl,
       )
 

@@ -25,8 +25,9 @@ pub struct Total {
 /// of these names, and so on. Each object counts once, whatever else names it. Dependent handles don't count.
 ///
 /// `NoObject` comes exactly where no object has the place, and `NoMemory` only where there is no memory for the search.
-/// The search leaves the heap as it is, and follows each slot of what is reached once. It takes a bit for each word of
-/// the heap's used ranges, and 24 bytes for each object that it finds.
+/// The search leaves the heap as it is, and follows each slot of what is reached once. It reserves a bit for each word
+/// of the heap's used ranges, clears of these the pages where it finds an object, and takes 24 bytes for each object
+/// that it finds.
 pub fn objsize(alloc: Global, view: &View<'_>, a: u64) -> Result<Total, SosFault>
     requires lawful { IsLawfulView view.now }
     ensures size { IfOk result (λ total. (m : Machine) → IsViewOf view.now m → IsSizeOf m a total) }

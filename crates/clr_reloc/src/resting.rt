@@ -54,8 +54,8 @@ pub(crate) fn resting_words(
     heap.first_naming(object.segment, a, most, low)
 }
 
-// Of `count` references of an object side by side, how many of the first ones may stay as they are, by clear cards or by
-// what they name. The first one stands at this offset. What it passes over by clear cards, it doesn't read.
+// Of `count` references of an object side by side, how many of the first ones may stay as they are, by clear cards or
+// by what they name. The first one stands at this offset. What it passes over by clear cards, it doesn't read.
 #[inline(always)]
 pub(crate) fn still_words(
     heap: &Heap,

@@ -1,7 +1,8 @@
 -- Marks of no object, a set for one segment behind another.
 use Rattle.std.proofs.Common.{◌≡◌, ◌<◌, ◌+◌, ◌/◌, ◌%◌, ◌∙◌, ℕ, zero, suc, List, [], ◌∷◌, ◌++◌, length, get_or, false}
-use Rattle.std.proofs.Common.{ap, arith, length-append, nat_eq, subst, sym}
+use Rattle.std.proofs.Common.{ap, ap₂, arith, length-append, replicate, nat_eq, subst, sym}
 use Rattle.std.specs.Int.{bit_at}
+use Rattle.std.proofs.lemmas.List.{replicate-append-replicate}
 use Rattle.std.proofs.lemmas.Nat.Bits.{bit_at-zero}
 use Rattle.clr_mem.specs.Words.{zeros}
 use Rattle.clr_mem.proofs.Callers.{get_or-zeros}
@@ -17,6 +18,14 @@ none-in_zeros words count is n =
     ap (λ (ws : List ℕ). has_bit ws n) is
     ∙ ap (λ (w : ℕ). nat_eq (bit_at w (n % 64)) 1) (get_or-zeros count (n / 64))
     ∙ ap (λ b. nat_eq b 1) (bit_at-zero (n % 64))
+
+-- nor in one of such words in front and others behind them
+pub none-in_both : (front pages : List ℕ) (m n : ℕ) → front ≡ replicate m 0 → pages ≡ zeros n
+    → (k : ℕ) → has_bit (front ++ pages) k ≡ false
+unfolding zeros
+none-in_both front pages m n front_is pages_is =
+    none-in_zeros (front ++ pages) (m + n)
+    (ap₂ (λ (xs ys : List ℕ). xs ++ ys) front_is pages_is ∙ replicate-append-replicate m n 0)
 
 -- one set more is one more
 pub fresh-count : (seen : List (List ℕ)) (bits : List ℕ) (k : ℕ) → length seen ≡ k

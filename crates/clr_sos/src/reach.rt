@@ -56,7 +56,7 @@ pub struct Reached {
 /// What the roots of a view reach. The roots come first: what locals name by threads and numbers, what strong and
 /// pinned handles hold by their numbers, and the f-reachable queue. Each slot of what is reached is followed once, and
 /// a bit tells whether its object was found before. It takes such a bit for each word of the heap's used ranges, and 24
-/// bytes for each object that it finds. `find` then goes over all that was found.
+/// bytes for each object that it finds. Bits are cleared at once. `find` then goes over all that was found.
 pub(crate) fn reach(alloc: Global, view: &View<'_>) -> Result<Reached, AllocError>
     requires sound { IsSound view.now }
     ensures search { IfOk result (λ r. IsSearch view.now r.seen.items r.entries.items) }
@@ -66,7 +66,7 @@ pub(crate) fn reach(alloc: Global, view: &View<'_>) -> Result<Reached, AllocErro
         → is_seen view.now.heap.now r.seen.items x ≡ is_listed r.entries.items x) }
 {
     let ties = ties_of(alloc, view.handles)?;
-    let mut reached = Reached::from_roots(alloc, view)?;
+    let mut reached = Reached::from_roots(alloc, view, true)?;
     let mut next = 0;
     while next < reached.entries.len() {
         reached.follow(view, &ties, next)?;
@@ -75,7 +75,8 @@ pub(crate) fn reach(alloc: Global, view: &View<'_>) -> Result<Reached, AllocErro
     Ok(reached)
 }
 
-/// The same search up to where the object with the place `a` is found: all that the roots reach where it isn't.
+/// The search of `reach` up to where the object with the place `a` is found: all that the roots reach where it isn't.
+/// Its bits are cleared page by page, as they are set.
 pub(crate) fn reach_to(alloc: Global, view: &View<'_>, a: u64) -> Result<Reached, AllocError>
     requires sound { IsSound view.now }
     requires stands { IsObjectOf view.now a }
@@ -84,7 +85,7 @@ pub(crate) fn reach_to(alloc: Global, view: &View<'_>, a: u64) -> Result<Reached
         → Tests (is_listed r.entries.items) (Live m)) }
 {
     let ties = ties_of(alloc, view.handles)?;
-    let mut reached = Reached::from_roots(alloc, view)?;
+    let mut reached = Reached::from_roots(alloc, view, false)?;
     let mut next = 0;
     while next < reached.entries.len() {
         if reached.has(view.heap, a) {
@@ -102,26 +103,26 @@ impl Reached {
         requires { IsSound view.now }
         ensures { IfOk result (λ r. HasAdded view.now [] r.seen.items r.entries.items (IsRoot view.now.locals.now)) }
     {
-        let mut reached = Reached::new(alloc, view.heap)?;
+        let mut reached = Reached::new(alloc, view.heap, false)?;
         reached.add_locals(view)?;
         Ok(reached)
     }
 
-    // What the roots name, and nothing else yet.
-    fn from_roots(alloc: Global, view: &View<'_>) -> Result<Reached, AllocError>
+    // What the roots name, and nothing else yet. It is told whether all that they reach is looked for.
+    fn from_roots(alloc: Global, view: &View<'_>, all: bool) -> Result<Reached, AllocError>
         requires { IsSound view.now }
         ensures search { IfOk result (λ r. IsSearch view.now r.seen.items r.entries.items) }
         ensures roots { IfOk result (λ r. (x : ℕ) → IsRootOf view.now x → IsListed r.entries.items x) }
     {
-        let mut reached = Reached::new(alloc, view.heap)?;
+        let mut reached = Reached::new(alloc, view.heap, all)?;
         reached.add_locals(view)?;
         reached.add_targets(view)?;
         reached.add_ready(view)?;
         Ok(reached)
     }
 
-    // Nothing, with room for marks of all objects.
-    fn new(alloc: Global, heap: &Heap) -> Result<Reached, AllocError>
+    // Nothing, with room for marks of all objects. Marks for `all` are cleared at once.
+    fn new(alloc: Global, heap: &Heap, all: bool) -> Result<Reached, AllocError>
         ensures entries { IfOk result (λ r. r.entries.items ≡ []) }
         ensures room { IfOk result (λ r. HasRoom heap.now r.seen.items) }
         ensures clear { IfOk result (λ r. (x : ℕ) → is_seen heap.now r.seen.items x ≡ false) }
@@ -129,7 +130,7 @@ impl Reached {
         let mut seen = Vec::new(alloc);
         for k in 0..heap.segments() {
             let segment = heap.info(k);
-            let bits = Bits::new(alloc, (segment.end - segment.base) / 8)?;
+            let bits = Bits::new(alloc, (segment.end - segment.base) / 8, all)?;
             seen.push(bits)?;
         }
         let entries = Vec::new(alloc);

@@ -1,8 +1,9 @@
 // The command that verifies a heap.
 ghost use Rattle.std.specs.Prelude.{◌≡◌, ◌<◌, ◌↔◌, ◌^◌, length, IfOk};
-ghost use Rattle.clr_heap.specs.View.{IsHeap};
+ghost use Rattle.clr_heap.specs.View.{AreWalkable, IsHeap};
+ghost use Rattle.clr_sos.specs.CheckedCells.{or_else};
 ghost use Rattle.clr_sos.specs.Faultless.{IsFaultless};
-ghost use Rattle.clr_sos.specs.Faults.{AreInside, first_fault, verdict};
+ghost use Rattle.clr_sos.specs.Faults.{AreInside, first_fault, locals_fault, references_fault, verdict};
 
 mod cells;
 mod laws;
@@ -49,7 +50,7 @@ pub fn verifyheap(view: &View<'_>) -> Result<(), u64>
     verifyheap_with_room(view, &mut room)
 }
 
-/// The same, with room to work in, whose words may be any and are lost. The heap is walked once for each range of 512
+/// `verifyheap` with room to work in, whose words may be any and are lost. The heap is walked once for each range of 512
 /// bytes a word of the room that has places: with a word for each 512 bytes of the reservations one walk is enough.
 #[inline(always)]
 pub fn verifyheap_with_room(view: &View<'_>, room: &mut [u64]) -> Result<(), u64>
@@ -66,9 +67,10 @@ pub fn verifyheap_with_room(view: &View<'_>, room: &mut [u64]) -> Result<(), u64
     }
 }
 
-/// The same, with room for all places at once wherever the allocator has it: then the heap is walked once. The room is a
-/// bit for each word between the heap's first place and its last, or as many words as the used ranges have bytes / 128
-/// where these lie far apart. Where it is refused the room is that of `verifyheap`, so the answer doesn't depend on it.
+/// `verifyheap` with room for all places at once wherever the allocator has it: then the heap is walked once. The room
+/// is a bit for each word between the heap's first place and its last, or as many words as the used ranges have bytes /
+/// 128 where these lie far apart. Where it is refused the room is that of `verifyheap`, so the answer doesn't depend on
+/// it.
 pub fn verifyheap_at_once(alloc: Global, view: &View<'_>) -> Result<(), u64>
     requires holes { AreInside view.now.heap.now }
     ensures fault { result
@@ -76,24 +78,64 @@ pub fn verifyheap_at_once(alloc: Global, view: &View<'_>) -> Result<(), u64>
     ensures lawful { (result ≡ Ok tt)
         ↔ IsFaultless view.now.types.now view.now.large view.now.heap.now view.now.locals.now }
 {
-    match room_for(alloc, view.heap) {
-        Ok(room) => verifyheap_in(view, room),
-        Err(_) => verifyheap(view),
+    match fault_at_once(alloc, view) {
+        Some(address) => Err(address),
+        None => Ok(()),
     }
 }
 
-// The same with room that was taken, and is given back.
+// The address of the first fault of a view, for which room is taken. Segments are checked before that, by the one call
+// for whatever room there is, which the compiler puts in line.
 #[inline(always)]
-fn verifyheap_in(view: &View<'_>, room: Vec<u64>) -> Result<(), u64>
+fn fault_at_once(alloc: Global, view: &View<'_>) -> Option<u64>
     requires holes { AreInside view.now.heap.now }
+    ensures heap { IsHeap view.now.heap.now }
+    ensures fault { result ≡ first_fault view.now.types.now view.now.large view.now.heap.now view.now.locals.now }
+{
+    match segments_fault(view.heap, view.types, view.large) {
+        Some(address) => Some(address),
+        None => names_fault_at_once(alloc, view),
+    }
+}
+
+// The first fault of the references, and else that of the locals, by a window for which room is taken.
+#[inline(always)]
+fn names_fault_at_once(alloc: Global, view: &View<'_>) -> Option<u64>
+    requires heap { IsHeap view.now.heap.now }
+    requires walkable { AreWalkable view.now.types.now view.now.heap.now }
+    ensures { result ≡ or_else (references_fault view.now.types.now view.now.heap.now)
+        (locals_fault view.now.types.now view.now.heap.now view.now.locals.now) }
+{
+    match room_for(alloc, view.heap) {
+        Ok(room) => names_fault_in(view, room),
+        Err(_) => names_fault_by_windows(view),
+    }
+}
+
+// The first fault of the references, and else that of the locals, by a window in room that was taken, and is given back.
+#[inline(always)]
+fn names_fault_in(view: &View<'_>, room: Vec<u64>) -> Option<u64>
+    requires heap { IsHeap view.now.heap.now }
+    requires walkable { AreWalkable view.now.types.now view.now.heap.now }
     requires some { 0 < length room.items }
-    ensures fault { result
-        ≡ verdict (first_fault view.now.types.now view.now.large view.now.heap.now view.now.locals.now) }
-    ensures lawful { (result ≡ Ok tt)
-        ↔ IsFaultless view.now.types.now view.now.large view.now.heap.now view.now.locals.now }
+    ensures { result ≡ or_else (references_fault view.now.types.now view.now.heap.now)
+        (locals_fault view.now.types.now view.now.heap.now view.now.locals.now) }
 {
     let mut room = room;
-    verifyheap_with_room(view, &mut room)
+    names_fault(view.heap, view.types, view.locals, &mut room)
+}
+
+// The first fault of the references, and else that of the locals, by windows in the room of `verifyheap`.
+#[cold]
+#[inline(never)]
+fn names_fault_by_windows(view: &View<'_>) -> Option<u64>
+    requires heap { IsHeap view.now.heap.now }
+    requires walkable { AreWalkable view.now.types.now view.now.heap.now }
+    ensures { result ≡ or_else (references_fault view.now.types.now view.now.heap.now)
+        (locals_fault view.now.types.now view.now.heap.now view.now.locals.now) }
+{
+    let mut room = [0; ROOM];
+    names_fault(view.heap, view.types, view.locals, &mut room)
 }
 
 // Room for a window over all places, or over four times as many bytes as are used where places lie far apart.

@@ -12,6 +12,20 @@ use Rattle.clr_reloc.proofs.Cells.{reference_words}
 use Rattle.clr_reloc.proofs.ObjectLoops.{passed_all, passed_more, slot_at, slot_card, slot_fits, slot_next}
 use Rattle.clr_reloc.proofs.objects.relocate_carded_slots.Goals as goal
 
+pub is_mostly_set-requires-clause-fits : goal.is_mostly_set-requires-clause-fits
+is_mostly_set-requires-clause-fits c =
+    let high = (slots_row c.args.work.now c.args.object.now c.args.heap.now c.args.pins.now c.args.cards.now
+    c.args.last.now c.args.heap.now c.args.pins.now c.args.cards.now c.args.last.now
+    0 (slots_none c.args.work.now c.args.object.now c.args.heap.now c.args.pins.now c.args.cards.now
+    c.args.last.now) c.requires.carded c.requires.can).0 in
+    omega (arith, high)
+
+pub is_mostly_set-requires-clause-row : goal.is_mostly_set-requires-clause-row
+is_mostly_set-requires-clause-row c = (slots_row c.args.work.now c.args.object.now c.args.heap.now c.args.pins.now
+    c.args.cards.now c.args.last.now c.args.heap.now c.args.pins.now c.args.cards.now c.args.last.now
+    0 (slots_none c.args.work.now c.args.object.now c.args.heap.now c.args.pins.now c.args.cards.now
+    c.args.last.now) c.requires.carded c.requires.can).1
+
 pub loop-at-init : goal.loop-at-init
 loop-at-init c = slots_none c.args.work.now c.args.object.now c.args.heap.now c.args.pins.now c.args.cards.now
     c.args.last.now

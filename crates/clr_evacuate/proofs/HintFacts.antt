@@ -2,7 +2,7 @@
 use Rattle.std.proofs.Common.{◌≡◌, ℕ, ◌+◌, ◌-◌, ◌<◌, ◌≤◌, inl, inr, true, false, Bool, List, []}
 use Rattle.std.proofs.Common.{◌∷◌, ◌++◌, filter}
 use Rattle.std.proofs.Common.{refl, sym, ap, subst, ◌∙◌, arith, None, Option, Some, IfSome, nat_lt}
-use Rattle.std.proofs.Common.{if◌then◌else◌, ◌==◌, MatchOption, replicate, suc, zero}
+use Rattle.std.proofs.Common.{get_or, if◌then◌else◌, ◌==◌, MatchOption, replicate, suc, zero}
 use Rattle.std.proofs.lemmas.Bool.{both_ways, cases_Bool, ltb-true}
 use Rattle.clr_types.specs.Ranges.{fits, Piece, piece_end, range_piece}
 use Rattle.clr_types.specs.Rising.{first, IsIn, IsRisingBy, later}
@@ -93,7 +93,7 @@ module _ (rows : List TypeRow) (h : HeapView) (heap : IsHeap h) (held : IsHeld r
 -- ---- at first
 
 -- a search for any size may begin at place 0
-starts-low : (rows : List TypeRow) (h : HeapView) (size : ℕ) → IsStartFor rows h size 0
+pub starts-low : (rows : List TypeRow) (h : HeapView) (size : ℕ) → IsStartFor rows h size 0
 starts-low rows h size = record {
   begins = λ k inside above below. absurd (omega (arith, above));
   none_below = λ i n low. absurd (omega (arith, low));
@@ -104,6 +104,34 @@ pub hints-begin : (rows : List TypeRow) (h : HeapView) (n : ℕ)
     → AreHints rows h (replicate n (record { size = 0; place = 0 }))
 hints-begin rows h zero = tt
 hints-begin rows h (suc n) = (starts-low rows h 0, hints-begin rows h n)
+
+-- ---- greater sizes
+
+-- what has no room for a size has none for one that is greater by 24 or more
+no-more-room : (size more bytes : ℕ) → size + 24 ≤ more → fits size bytes ≡ false → fits more bytes ≡ false
+no-more-room size more bytes l e = elim (cases_Bool (fits more bytes)) [
+  | inr off ↦ off
+  | inl on ↦ elim (fits-is more bytes on) [
+    | inl same ↦ absurd (both_ways (fits size bytes) e (fits-more size bytes (omega arith)))
+    | inr behind ↦ absurd (both_ways (fits size bytes) e (fits-more size bytes (omega arith)))
+  ]
+]
+
+-- so a search for such a size may begin there, too
+pub starts-more : (rows : List TypeRow) (h : HeapView) (size more place : ℕ) → size + 24 ≤ more
+    → IsStartFor rows h size place → IsStartFor rows h more place
+starts-more rows h size more place l start = record {
+  begins = start.begins;
+  none_below = λ i n low. no-more-room size more i.size l (start.none_below i n low);
+}
+
+-- each hint of a table is right
+pub hint-at : (rows : List TypeRow) (h : HeapView) (hints : List Hint) (k : ℕ) → AreHints rows h hints
+    → IsStartFor rows h (get_or hints k (record { size = 0; place = 0 })).size
+    (get_or hints k (record { size = 0; place = 0 })).place
+hint-at rows h [] k are = starts-low rows h 0
+hint-at rows h (e ∷ hints) zero are = are.0
+hint-at rows h (e ∷ hints) (suc k) are = hint-at rows h hints k are.1
 
 -- ---- while plugs go into items
 

@@ -3,3 +3,4 @@ pub mod Migration
 pub mod Shifted
 pub mod ShiftedHeap
 pub mod ImageMachines
+pub mod ShownTexts

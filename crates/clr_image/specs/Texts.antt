@@ -1,5 +1,6 @@
 -- What is written of an image: its second version, or what the commands show of the heap in it.
-use Rattle.std.specs.Prelude.{◌≡◌, ℕ, List, [], ◌++◌, Bool, true, map, if◌then◌else◌, None, Result, Ok, Err, Vec}
+use Rattle.std.specs.Prelude.{◌≡◌, ℕ, List, [], ◌++◌, Bool, true, map, if◌then◌else◌, None, Option, Result, Ok, Err}
+use Rattle.std.specs.Prelude.{Vec}
 use Rattle.std.specs.FinMap as finmap
 use Rattle.std.specs.Global.{Global}
 use Rattle.clr_model.specs.declared.Life.TheVariants.{Any}
@@ -10,6 +11,10 @@ use Rattle.clr_model.specs.Machine.{begun_new, begun_store, Machine, no_step, Th
 use Rattle.clr_model.specs.Outcomes.{answered, outcome_text}
 use Rattle.clr_model.specs.Sos.{dumpheap_text, eeheap_text, finalizequeue_text, gchandles_text}
 use Rattle.clr_view.specs.View.{layout_in, objects_in}
+use Rattle.clr_sos.specs.Buffered.{IsCut}
+use Rattle.clr_streams.specs.Faults.{Appended}
+use Rattle.clr_image.specs.declared.inspecting.Written.{Written}
+use Rattle.clr_image.specs.declared.inspecting.Written.TheVariants.{BadImage, Cut, Refused, Whole}
 use Rattle.clr_fields.specs.declared.fault.LoadFault.{LoadFault}
 use Rattle.clr_fields.specs.declared.fault.LoadFault.TheVariants.{At, NoMemory}
 use Rattle.clr_format.specs.Images.{HasFault, is_first, IsImage, Parts}
@@ -55,6 +60,10 @@ all_text m = dumpheap_text m (λ place. true) (plain_options all_options)
 abbrev pub tables_text : Bool → Machine → List ℕ
 tables_text first m = if first then [] else gchandles_text m ++ finalizequeue_text m
 
+-- the first of them
+abbrev pub handles_text : Bool → Machine → List ℕ
+handles_text first m = if first then [] else gchandles_text m
+
 -- the replies to `eeheap`, `dumpheap`, those two, and `verifyheap`
 abbrev pub shown_text : Bool → Machine → List ℕ
 shown_text first m =
@@ -75,6 +84,25 @@ abbrev pub Tells : TextOf → List ℕ → Result (Vec ℕ Global) LoadFault →
 Tells IsText bytes (Ok text) = (parts : Parts) × IsImage bytes parts × IsText bytes parts text.items
 Tells IsText bytes (Err (At o)) = HasFault bytes o
 Tells IsText bytes (Err NoMemory) = Unit {0}
+
+-- What was written of the bytes of an image: its text, or a part of the text's front where a write failed. Of other
+-- bytes the offset of their first fault is told.
+abbrev pub Writes : TextOf → List ℕ → Option (List ℕ) → Option (List ℕ) → ℕ → ℕ → Written → Type 0
+Writes IsText bytes written written_after faults faults_after Whole =
+    (parts : Parts) × IsImage bytes parts × (text : List ℕ) × IsText bytes parts text
+    × Appended written written_after text × (faults_after ≡ faults)
+Writes IsText bytes written written_after faults faults_after Cut =
+    (parts : Parts) × IsImage bytes parts × (text : List ℕ) × IsText bytes parts text
+    × IsCut written written_after faults faults_after text
+Writes IsText bytes written written_after faults faults_after (BadImage o) = HasFault bytes o
+Writes IsText bytes written written_after faults faults_after Refused = Unit {0}
+
+-- this holds where nothing was written
+abbrev pub IfUnwritten : Written → Type 0 → Type 0
+IfUnwritten Whole P = Unit {0}
+IfUnwritten Cut P = Unit {0}
+IfUnwritten (BadImage o) P = P
+IfUnwritten Refused P = P
 
 -- whether the image is of the first version; what is told of other bytes is as above
 abbrev pub TellsVersion : List ℕ → Result Bool LoadFault → Type 0

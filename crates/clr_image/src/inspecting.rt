@@ -1,44 +1,81 @@
 //! What the commands show of the heap in an image.
-ghost use Rattle.std.specs.Prelude.{◌≡◌, ◌++◌, IfOk, OnOk};
+ghost use Rattle.std.specs.Prelude.{◌≡◌, ◌++◌, [], IfOk, OnErr, OnOk};
 ghost use Rattle.clr_format.specs.Images.{is_first};
 ghost use Rattle.clr_load.specs.Loading.{IsLoaded};
 ghost use Rattle.clr_load.specs.Sound.{IsSound};
-ghost use Rattle.clr_image.specs.Texts.{all_text, Inspected, shown_text, tables_text, Tells};
+ghost use Rattle.clr_image.specs.Texts.{handles_text, IfUnwritten, Inspected, shown_text, tables_text};
+ghost use Rattle.clr_image.specs.Texts.{Tells, Writes};
 ghost use Rattle.clr_model.specs.Machine.{Machine};
+ghost use Rattle.clr_model.specs.Sos.{eeheap_text};
 ghost use Rattle.clr_view.specs.View.{IsHeld};
+ghost use Rattle.clr_sos.specs.Buffered.{IsCut, IsPut};
 ghost use Rattle.clr_sos.specs.Views.{AllStand, IsViewOf};
 
+use crate::grown::Grown;
 use clr_bricks::Bricks;
 use clr_fields::LoadFault;
 use clr_load::{Image, load};
 use clr_mem::NoMemory;
-use clr_model::{Filter, Life, Mode};
-use clr_sos::{View, dumpheap, eeheap, finalizequeue, gchandles};
-use std::alloc::{AllocError, Global};
-
-/// All items of a heap, a line for each.
-const ALL: Filter<'static> = Filter {
-    mode: Mode::Full,
-    life: Life::Any,
-    mt: None,
-    name: None,
-    min: 0,
-    max: u64::MAX,
+use clr_sos::{
+    View, eeheap, flush, gchandles, write_buffered, write_dumpheap, write_finalizequeue,
 };
+use clr_streams::{Failed, Sink};
+use std::alloc::Global;
 
-/// What the commands show of the heap in an image: the replies to `eeheap` and `dumpheap`, of the second version those
-/// to `gchandles` and `finalizequeue`, and that to `verifyheap`, which of an image is always `clean`.
+/// So many bytes of the text wait at most to be written.
+const BUFFER: usize = 65_536;
+
+/// What became of the text of an image.
+#[derive(Clone, Copy, Debug, PartialEq, Eq)]
+pub enum Written {
+    /// It was written to its end.
+    Whole,
+    /// A write failed, and a part of its front was written.
+    Cut,
+    /// The bytes are no image, and their first fault is at this offset. Nothing was written.
+    BadImage(u64),
+    /// There was no memory for the heap or for the text. Nothing was written.
+    Refused,
+}
+
+/// What the commands show of the heap in an image, as one text: what `inspect_to` writes.
 ///
 /// Bytes that are no image have the fault of `load`. `NoMemory` comes only where there was no memory for the heap or
-/// for the text. The bytes are given back once they were read, so that beside the heap there is the text alone.
+/// for the text.
 pub fn inspect(alloc: Global, bytes: Vec<u8>) -> Result<Vec<u8>, LoadFault>
     ensures { Tells Inspected bytes.items result }
 {
-    let image = read(alloc, bytes)?;
+    let mut text = Grown::new(alloc);
+    match inspect_to(alloc, bytes, &mut text) {
+        Written::Whole => Ok(text.into_bytes()),
+        Written::BadImage(offset) => Err(LoadFault::At(offset)),
+        Written::Cut | Written::Refused => Err(LoadFault::NoMemory),
+    }
+}
+
+/// Writes what the commands show of the heap in an image: the replies to `eeheap` and `dumpheap`, of the second version
+/// those to `gchandles` and `finalizequeue`, and that to `verifyheap`, which of an image is always `clean`.
+///
+/// Memory is taken for the heap, for the replies to `eeheap` and `gchandles`, and for a buffer of 64 KiB, all before
+/// the first byte is written. The bytes are given back once they were read.
+pub fn inspect_to<K: Sink>(alloc: Global, bytes: Vec<u8>, sink: &mut K) -> Written
+    ensures written { Writes Inspected bytes.items (K.written sink.old) (K.written sink.new)
+        (K.faults sink.old) (K.faults sink.new) result }
+    ensures unwritten { IfUnwritten result (sink.new ≡ sink.old) }
+{
+    let image = match read(alloc, bytes) {
+        Ok(image) => image,
+        Err(LoadFault::At(offset)) => return Written::BadImage(offset),
+        Err(LoadFault::NoMemory) => return Written::Refused,
+    };
     let bricks = Bricks::new(alloc);
-    match show(alloc, &view_of(&image, &bricks), image.first) {
-        Ok(text) => Ok(text),
-        Err(NoMemory) => Err(LoadFault::NoMemory),
+    let view = view_of(&image, &bricks);
+    let Ok(prepared) = prepare(alloc, &view, image.first) else {
+        return Written::Refused;
+    };
+    match show(sink, prepared, &view, image.first) {
+        Ok(()) => Written::Whole,
+        Err(_) => Written::Cut,
     }
 }
 
@@ -72,60 +109,120 @@ fn view_of<'a>(image: &'a Image, bricks: &'a Bricks) -> View<'a>
     }
 }
 
-// The replies of all commands, one behind the other.
-fn show(alloc: Global, view: &View<'_>, first: bool) -> Result<Vec<u8>, NoMemory>
+// What is there before the first byte is written: the replies that have a bound of their own, and a buffer for the
+// others.
+#[derive(Drop)]
+struct Prepared {
+    heap: Vec<u8>,
+    handles: Vec<u8>,
+    buffer: Vec<u8>,
+}
+
+// Takes all memory that the text needs.
+fn prepare(alloc: Global, view: &View<'_>, first: bool) -> Result<Prepared, NoMemory>
+    ensures heap { IfOk result (λ made. (m : Machine) → IsViewOf view.now m → made.heap.items ≡ eeheap_text m) }
+    ensures handles { IfOk result (λ made. (m : Machine) → IsViewOf view.now m
+        → made.handles.items ≡ handles_text first m) }
+    ensures buffer { IfOk result (λ made. made.buffer.items ≡ []) }
+{
+    let heap = eeheap(alloc, view)?;
+    let handles = handles_of(alloc, view, first)?;
+    let buffer = Vec::with_capacity(alloc, BUFFER)?;
+    Ok(Prepared {
+        heap,
+        handles,
+        buffer,
+    })
+}
+
+// The reply to `gchandles`, for an image of the second version.
+fn handles_of(alloc: Global, view: &View<'_>, first: bool) -> Result<Vec<u8>, NoMemory>
+    ensures { IfOk result (λ text. (m : Machine) → IsViewOf view.now m → text.items ≡ handles_text first m) }
+{
+    if !first {
+        return gchandles(alloc, view);
+    }
+    Ok(Vec::new(alloc))
+}
+
+// Writes the replies of all commands, one behind the other.
+fn show<K: Sink>(
+    sink: &mut K,
+    prepared: Prepared,
+    view: &View<'_>,
+    first: bool,
+) -> Result<(), Failed>
     requires held { IsHeld view.now.types.now view.now.heap.now }
     requires entries { AllStand view.now.types.now view.now.heap.now view.now.finals.now.entries }
     requires ready { AllStand view.now.types.now view.now.heap.now view.now.finals.now.ready }
-    ensures { IfOk result (λ text. (m : Machine) → IsViewOf view.now m → text.items ≡ shown_text first m) }
+    requires heap { (m : Machine) → IsViewOf view.now m → prepared.heap.items ≡ eeheap_text m }
+    requires handles { (m : Machine) → IsViewOf view.now m → prepared.handles.items ≡ handles_text first m }
+    requires buffer { prepared.buffer.items ≡ [] }
+    ensures whole { OnOk result ((m : Machine) → IsViewOf view.now m → IsPut (K.written sink.old) (K.written sink.new)
+        (K.faults sink.old) (K.faults sink.new) (shown_text first m) []) }
+    ensures cut { OnErr result ((m : Machine) → IsViewOf view.now m → IsCut (K.written sink.old) (K.written sink.new)
+        (K.faults sink.old) (K.faults sink.new) (shown_text first m)) }
 {
-    let front = eeheap(alloc, view)?;
-    // (most of the text, so the rest is put around it)
-    let mut text = all_items(alloc, view)?;
-    put_front(&mut text, &front)?;
-    put_tables(&mut text, alloc, view, first)?;
-    text.extend_from_slice(b"clean\n")?;
-    Ok(text)
-}
-
-// Puts bytes in front of others.
-fn put_front(text: &mut Vec<u8>, front: &[u8]) -> Result<(), AllocError>
-    ensures { OnOk result (text.new.items ≡ front.now ++ text.old.items) }
-{
-    let behind = text.len();
-    text.extend_from_slice(front)?;
-    text.rotate_left(behind);
+    let mut buffer = prepared.buffer;
+    write_replies(
+        sink,
+        &mut buffer,
+        &prepared.heap,
+        &prepared.handles,
+        view,
+        first,
+    )?;
+    flush(sink, &mut buffer)?;
     Ok(())
 }
 
-// The reply to `dumpheap`. There is no other fault, as no type is asked for.
-fn all_items(alloc: Global, view: &View<'_>) -> Result<Vec<u8>, NoMemory>
-    requires held { IsHeld view.now.types.now view.now.heap.now }
-    ensures { IfOk result (λ text. (m : Machine) → IsViewOf view.now m → text.items ≡ all_text m) }
-{
-    match dumpheap(alloc, view, &ALL) {
-        Ok(text) => Ok(text),
-        Err(_) => Err(NoMemory),
-    }
-}
-
-// Puts the replies to `gchandles` and `finalizequeue` at the end, for an image of the second version.
-fn put_tables(
-    text: &mut Vec<u8>,
-    alloc: Global,
+// Writes the replies of all commands, one behind the other, of which two were made.
+fn write_replies<K: Sink>(
+    sink: &mut K,
+    buffer: &mut Vec<u8>,
+    heap: &[u8],
+    handles: &[u8],
     view: &View<'_>,
     first: bool,
-) -> Result<(), NoMemory>
+) -> Result<(), Failed>
     requires held { IsHeld view.now.types.now view.now.heap.now }
     requires entries { AllStand view.now.types.now view.now.heap.now view.now.finals.now.entries }
     requires ready { AllStand view.now.types.now view.now.heap.now view.now.finals.now.ready }
-    ensures { OnOk result ((m : Machine) → IsViewOf view.now m
-        → text.new.items ≡ text.old.items ++ tables_text first m) }
+    requires heap { (m : Machine) → IsViewOf view.now m → heap.now ≡ eeheap_text m }
+    requires handles { (m : Machine) → IsViewOf view.now m → handles.now ≡ handles_text first m }
+    ensures put { OnOk result ((m : Machine) → IsViewOf view.now m → IsPut (K.written sink.old) (K.written sink.new)
+        (K.faults sink.old) (K.faults sink.new) (buffer.old.items ++ shown_text first m) buffer.new.items) }
+    ensures cut { OnErr result ((m : Machine) → IsViewOf view.now m → IsCut (K.written sink.old) (K.written sink.new)
+        (K.faults sink.old) (K.faults sink.new) (buffer.old.items ++ shown_text first m)) }
+{
+    write_buffered(sink, buffer, heap)?;
+    write_dumpheap(sink, buffer, view)?;
+    write_tables(sink, buffer, handles, view, first)?;
+    write_buffered(sink, buffer, b"clean\n")?;
+    Ok(())
+}
+
+// Writes the replies to `gchandles` and `finalizequeue`, for an image of the second version.
+fn write_tables<K: Sink>(
+    sink: &mut K,
+    buffer: &mut Vec<u8>,
+    handles: &[u8],
+    view: &View<'_>,
+    first: bool,
+) -> Result<(), Failed>
+    requires held { IsHeld view.now.types.now view.now.heap.now }
+    requires entries { AllStand view.now.types.now view.now.heap.now view.now.finals.now.entries }
+    requires ready { AllStand view.now.types.now view.now.heap.now view.now.finals.now.ready }
+    requires handles { (m : Machine) → IsViewOf view.now m → handles.now ≡ handles_text first m }
+    ensures put { OnOk result ((m : Machine) → IsViewOf view.now m → IsPut (K.written sink.old) (K.written sink.new)
+        (K.faults sink.old) (K.faults sink.new) (buffer.old.items ++ tables_text first m) buffer.new.items) }
+    ensures cut { OnErr result ((m : Machine) → IsViewOf view.now m → IsCut (K.written sink.old) (K.written sink.new)
+        (K.faults sink.old) (K.faults sink.new) (buffer.old.items ++ tables_text first m)) }
 {
     if first {
         return Ok(());
     }
-    text.extend_from_slice(&gchandles(alloc, view)?)?;
-    text.extend_from_slice(&finalizequeue(alloc, view)?)?;
+    write_buffered(sink, buffer, handles)?;
+    write_finalizequeue(sink, buffer, view)?;
     Ok(())
 }

@@ -1,8 +1,10 @@
 -- What a command that looks at an image comes to, from what was read and what was made of it.
 use Rattle.std.proofs.Common.{◌≡◌, ◌≢◌, ℕ, List, Option, Result, Ok, Err, Vec, Global, subst, sym, take, inl, inr}
+use Rattle.std.proofs.Common.{◌∙◌, ◌++◌, ap, arith, length}
+use Rattle.std.proofs.lemmas.List.{take-append-le, take_all}
 use Rattle.clr_fields.specs.declared.fault.LoadFault.{LoadFault}
 use Rattle.clr_fields.specs.declared.fault.LoadFault.TheVariants.{At, NoMemory}
-use Rattle.clr_format.specs.Images.{HasFault}
+use Rattle.clr_format.specs.Images.{HasFault, IsImage, Parts}
 use Rattle.clr_image.specs.Texts.{Tells, TextOf}
 use Rattle.clr_streams.specs.Faults.{Appended}
 use Rattle.clr_streams.specs.Reading.{ReadTooMuch, ReadWhole}
@@ -70,6 +72,54 @@ shows_answer IsText limit bytes made held held_after written written_after resul
       };
       too_much = λ e. absurd (much e);
     }
+
+-- all was read, and what it says was written
+pub shows_written : (IsText : TextOf) (limit : ℕ) (bytes : List ℕ)
+    (held held_after written written_after : Option (List ℕ)) (result : Status)
+    → ReadWhole limit held held_after bytes
+    → (result ≡ Done → (parts : Parts) × IsImage bytes parts × (text : List ℕ) × IsText bytes parts text
+    × Appended written written_after text)
+    → (result ≡ BadImage → (offset : ℕ) × HasFault bytes offset
+    × Appended written written_after (bad_image_text offset))
+    → (result ≡ WriteFault → (text : List ℕ) × IsTextOf IsText bytes text × (count : ℕ)
+    × Appended written written_after (take count text))
+    → result ≢ TooMuch → ShowsImage IsText limit held held_after written written_after result
+shows_written IsText limit bytes held held_after written written_after result read done bad part much = record {
+  done = λ e. let (parts, is, text, says, wrote) = done e in record {
+    bytes = bytes;
+    read = read;
+    parts = parts;
+    is = is;
+    text = text;
+    text_is = says;
+    wrote = wrote;
+  };
+  bad_image = λ e. let (offset, is, wrote) = bad e in record {
+    bytes = bytes;
+    read = read;
+    offset = offset;
+    is = is;
+    wrote = wrote;
+  };
+  write_before = λ e. let (text, is, count, wrote) = part e in record {
+    bytes = bytes;
+    read = read;
+    text = text;
+    is = is;
+    count = count;
+    wrote = wrote;
+  };
+  too_much = λ e. absurd (much e);
+}
+
+-- bytes from the front of a text are so many as they are
+pub front_taken : (written written_after : Option (List ℕ)) (out rest text : List ℕ) → out ++ rest ≡ text
+    → Appended written written_after out → Appended written written_after (take (length out) text)
+front_taken written written_after out rest text e appended =
+    subst (λ (l : List ℕ). Appended written written_after l)
+    (sym (ap (take (length out)) (sym e) ∙ take-append-le (length out) out rest (omega arith)
+    ∙ take_all (length out) out (omega arith)))
+    appended
 
 -- not all could be read
 pub shows_none : (IsText : TextOf) (limit : ℕ) (held held_after written written_after : Option (List ℕ))

@@ -1,18 +1,20 @@
 //! Commands that look at an image: its text, or the offset of the first fault.
 ghost use Rattle.std.specs.Prelude.{◌≡◌, ◌≢◌, ◌⊎◌, IfOk, List, ℕ, take};
+ghost use Rattle.clr_format.specs.Images.{HasFault, IsImage, Parts};
 ghost use Rattle.clr_image.specs.Texts.{Inspected, Migrated};
 ghost use Rattle.clr_streams.specs.Faults.{Appended, Rose};
-ghost use Rattle.clr_image_io.specs.Images.{bad_image_text, IsAnswerOf, IsFaultAt, IsMade, ShowsImage};
+ghost use Rattle.clr_image_io.specs.Images.{bad_image_text, IsAnswerOf, IsFaultAt, IsMade, IsTextOf, ShowsImage};
 
 use crate::reading::{IMAGE_LIMIT, read_image};
-use clr_image::{LoadFault, inspect, migrate};
+use clr_image::{LoadFault, Written, inspect_to, migrate};
 use clr_streams::{Sink, Source, Status, write_all};
 use std::alloc::{AllocError, Global};
 
 /// Reads an image of either version from the source, and writes what the commands show of its heap. Bytes that are no
 /// image have one line with the offset of their first fault written.
 ///
-/// All is read before anything is written, and there is memory for the whole text before its first byte is written.
+/// All is read before anything is written, and all memory for the text is there before its first byte is written: it is
+/// written through a buffer, and not made as a whole.
 pub fn inspect_source<S: Source, K: Sink>(alloc: Global, source: &mut S, sink: &mut K) -> Status
     ensures shows { ShowsImage Inspected IMAGE_LIMIT
         (S.held source.old) (S.held source.new) (K.written sink.old) (K.written sink.new) result }
@@ -28,8 +30,7 @@ pub fn inspect_source<S: Source, K: Sink>(alloc: Global, source: &mut S, sink: &
         Ok(bytes) => bytes,
         Err(fault) => return fault,
     };
-    let made = inspect(alloc, bytes);
-    write_answer(alloc, made, sink)
+    show_image(alloc, bytes, sink)
 }
 
 /// Reads an image of either version from the source, and writes it in the second version. Bytes that are no image have
@@ -53,6 +54,29 @@ pub fn migrate_source<S: Source, K: Sink>(alloc: Global, source: &mut S, sink: &
     };
     let made = migrate(alloc, &bytes);
     write_answer(alloc, made, sink)
+}
+
+// Writes what the commands show of the heap in an image, or the line for bytes that are none.
+fn show_image<K: Sink>(alloc: Global, bytes: Vec<u8>, sink: &mut K) -> Status
+    ensures done { result ≡ Status.Done → (parts : Parts) × IsImage bytes.items parts × (text : List ℕ)
+        × Inspected bytes.items parts text × Appended (K.written sink.old) (K.written sink.new) text }
+    ensures bad_image { result ≡ Status.BadImage → (offset : ℕ) × HasFault bytes.items offset
+        × Appended (K.written sink.old) (K.written sink.new) (bad_image_text offset) }
+    ensures part { result ≡ Status.WriteFault → (text : List ℕ) × IsTextOf Inspected bytes.items text × (count : ℕ)
+        × Appended (K.written sink.old) (K.written sink.new) (take count text) }
+    ensures write_fault { result ≡ Status.WriteFault → Rose (K.faults sink.old) (K.faults sink.new) }
+    ensures sink_counted { result ≢ Status.WriteFault → K.faults sink.new ≡ K.faults sink.old }
+    ensures memory { result ≡ Status.Memory → sink.new ≡ sink.old }
+    ensures usage { result ≢ Status.Usage }
+    ensures read_fault { result ≢ Status.ReadFault }
+    ensures too_much { result ≢ Status.TooMuch }
+{
+    match inspect_to(alloc, bytes, sink) {
+        Written::Whole => Status::Done,
+        Written::Cut => Status::WriteFault,
+        Written::BadImage(offset) => write_fault(alloc, offset, sink),
+        Written::Refused => Status::Memory,
+    }
 }
 
 // Writes what was made of the bytes of an image, or the line for bytes that are none.

@@ -127,6 +127,24 @@ fn built(alloc: Global, first: bool) -> Result<Vec<u8>, Fail> {
     Ok(bytes)
 }
 
+/// The image of a heap whose object is registered for its finaliser so many times.
+fn built_registered(alloc: Global, count: u64) -> Result<Vec<u8>, Fail> {
+    let mut bytes = front(alloc, false)?;
+    put_words(&mut bytes, &[1, 1])?;
+    bytes.push(b'N')?;
+    put_words(&mut bytes, &[0, 1, 1])?;
+    bytes.push(b'r')?;
+    put_words(&mut bytes, &SEGMENTS)?;
+    put_words(&mut bytes, &[0; 1_024])?;
+    put_words(&mut bytes, &[0; 82])?;
+    put_words(&mut bytes, &[count])?;
+    for _ in 0..count {
+        put_words(&mut bytes, &[0x1000_1000])?;
+    }
+    put_words(&mut bytes, &[0])?;
+    Ok(bytes)
+}
+
 /// An image with a pinned segment. Only the second version may have one.
 fn built_pinned(alloc: Global, first: bool) -> Result<Vec<u8>, Fail> {
     let mut bytes = front(alloc, first)?;
@@ -186,6 +204,46 @@ fn shows_images(rt: HostRuntime) -> Result<(), Fail> {
         let (status, text) = whole_outcome(alloc, Command::Inspect, image)?;
         assert_eq!(rt; status, Status::Done);
         assert_eq!(rt; text.as_slice(), want.as_slice());
+    }
+    Ok(())
+}
+
+/// What is shown of a heap whose object is registered 3,000 times.
+fn shown_registered(alloc: Global) -> Result<Vec<u8>, Fail> {
+    let mut text = bytes_of(alloc, SHOWN.as_bytes())?;
+    text.extend_from_slice(b"handles 0\n")?;
+    for _ in 0..3_000 {
+        text.extend_from_slice(b"entry 0000000010001000 N\n")?;
+    }
+    text.extend_from_slice(b"entries 3000 ready 0\nclean\n")?;
+    Ok(text)
+}
+
+// The text has 75,000 bytes and more, and goes through a buffer of 65,536. Where there is room for 70,000 the write of
+// what the buffer holds at the end fails.
+#[test]
+fn shows_more_than_a_buffer_holds(rt: HostRuntime) -> Result<(), Fail> {
+    let alloc = rt.alloc();
+    let image = built_registered(alloc, 3_000)?;
+    let want = shown_registered(alloc)?;
+    for (room, status, written) in [
+        (1_000_000, Status::Done, want.len()),
+        (70_000, Status::WriteFault, 70_000),
+        (60_000, Status::WriteFault, 60_000),
+    ] {
+        let trial = Trial {
+            command: Command::Inspect,
+            input: &image,
+            read_piece: 1_000,
+            failing_read: 0,
+            write_piece: 700,
+            failing_write: 0,
+            room,
+        };
+        let (ended, text) = outcome_of(alloc, trial)?;
+        assert_eq!(rt; ended, status);
+        assert_eq!(rt; text.len(), written);
+        assert!(rt; want.as_slice().starts_with(text.as_slice()));
     }
     Ok(())
 }

@@ -45,3 +45,6 @@ pub mod PlaceLines
 pub mod Trails
 pub mod HeldHeaps
 pub mod FreshMarks
+pub mod BufferedTexts
+pub mod BufferedLines
+pub mod PlainListings

@@ -15,3 +15,4 @@ pub mod Reaching
 pub mod Walks
 pub mod Wants
 pub mod RootTexts
+pub mod Buffered

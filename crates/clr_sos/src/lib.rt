@@ -1,6 +1,7 @@
 //! The commands that show the heap, each a text by definition.
 #![tactic(auto)]
 
+pub use crate::buffered::{flush, write_buffered, write_dumpheap, write_finalizequeue};
 pub use crate::fault::SosFault;
 pub use crate::handles::gchandles;
 pub use crate::listing::dumpheap;
@@ -16,6 +17,7 @@ pub use crate::verify::{
 pub use crate::view::View;
 pub use crate::whereabouts::gcwhere;
 
+mod buffered;
 mod fault;
 mod handles;
 mod heap_items;

@@ -77,9 +77,10 @@ pub(crate) fn put_head(text: &mut Vec<u8>, place: u64, mt: u64, size: u64) -> Re
     Ok(())
 }
 
-// Writes them at the front, and gives where the last space ends.
+/// Writes a place, a method table word and a size at the front, a space behind each, and gives where the last space
+/// ends.
 #[inline(always)]
-fn write_head(into: &mut [u8; 56], place: u64, mt: u64, size: u64) -> usize
+pub(crate) fn write_head(into: &mut [u8; 56], place: u64, mt: u64, size: u64) -> usize
     ensures end { result ≤ 56 }
     ensures text { take result into.new ≡ head_words place mt size }
 {

@@ -6,18 +6,20 @@ pub find_item-found-requires-clause-begins : goal.find_item-found-requires-claus
 find_item-found-requires-clause-begins c =
     (c.start_for-from.ensures c.args.types.now c.args.heap.now c.requires.hints).begins
 
+pub learn_found-requires-clause-found : goal.learn_found-requires-clause-found
+learn_found-requires-clause-found c =
+    let start = c.start_for-from.ensures c.args.types.now c.args.heap.now c.requires.hints in
+    starts-found c.args.types.now c.args.heap.now c.find_item-found.ensures.heap c.requires.held c.requires.order
+    c.args.size c.find_item-found.result (c.find_item-found.ensures.lowest start.none_below)
+
 pub returns-clause-lowest : goal.returns-clause-lowest
 returns-clause-lowest c =
-    c.learned.ensures.same
+    c.learn_found.ensures.same
     ∙ c.find_item-found.ensures.lowest
     (c.start_for-from.ensures c.args.types.now c.args.heap.now c.requires.hints).none_below
 
 pub returns-clause-hints : goal.returns-clause-hints
-returns-clause-hints c =
-    let start = c.start_for-from.ensures c.args.types.now c.args.heap.now c.requires.hints in
-    c.learned.ensures.hints c.args.types.now c.args.heap.now c.requires.hints
-    (starts-found c.args.types.now c.args.heap.now c.find_item-found.ensures.heap c.requires.held c.requires.order
-    c.args.size c.find_item-found.result (c.find_item-found.ensures.lowest start.none_below))
+returns-clause-hints c = c.learn_found.ensures.hints
 
 pub returns-clause-heap : goal.returns-clause-heap
 returns-clause-heap c = c.find_item-found.ensures.heap

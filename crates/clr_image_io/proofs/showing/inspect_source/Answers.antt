@@ -1,15 +1,14 @@
--- What is written is what was made of all that was read.
+-- What is written is what all that was read says.
 use Rattle.std.proofs.Common.{◌≡◌, ◌∙◌, Err, ap}
 use Rattle.clr_image.specs.Texts.{Inspected}
-use Rattle.clr_image_io.proofs.ShownImages.{shows_answer, shows_none}
+use Rattle.clr_image_io.proofs.ShownImages.{shows_none, shows_written}
 use Rattle.clr_image_io.proofs.showing.inspect_source.Goals as goal
 
 pub returns-clause-shows : goal.returns-clause-shows
 returns-clause-shows g c =
-    let told = c.write_answer.ensures in
-    let made = c.inspect-made.result in
-    shows_answer Inspected _ c.in-Ok.bytes.items made _ _ _ _ c.write_answer.result c.in-Ok.ensures.whole
-    c.inspect-made.ensures told.done told.bad_image told.part told.too_much
+    let told = c.show_image.ensures in
+    shows_written Inspected _ c.in-Ok.bytes.items _ _ _ _ c.show_image.result c.in-Ok.ensures.whole
+    told.done told.bad_image told.part told.too_much
 
 pub returns-in-Err-clause-shows : goal.returns-in-Err-clause-shows
 returns-in-Err-clause-shows g c =

@@ -16,8 +16,8 @@ use Rattle.clr_handles.specs.Places.{names_from, NoneNames}
 use Rattle.clr_heap.specs.View.{HeapView, listing, listings}
 use Rattle.clr_bgmark.specs.Pauses.{all_taken, is_oldest, root_grayed, roots_grayed, taken_item}
 use Rattle.clr_bgmark.specs.Pauses.{target_grayed, targets_grayed, used_of, used_size}
-use Rattle.clr_bgmark.specs.Shades.{AreApart, BackgroundView, changed_at, covers, is_covered, ShadeView, with_taken}
-use Rattle.clr_bgmark.proofs.Kept.{apart_kept, covers_inside}
+use Rattle.clr_bgmark.specs.Shades.{AreApart, AreRising, BackgroundView, changed_at, covers, is_covered, ShadeView, with_taken}
+use Rattle.clr_bgmark.proofs.Kept.{apart_kept, covers_inside, rising_kept}
 
 pub taken_more : (h : HeapView) (ss : List ShadeView) (xs ys : List Item)
     → all_taken h ss (xs ++ ys) ≡ all_taken h (all_taken h ss xs) ys
@@ -33,6 +33,16 @@ taken_apart h (i ∷ items) ss apart = taken_apart h items (taken_item h ss i) (
     one : (b : Bool) → AreApart (if b then changed_at i.place (with_taken i.place) ss else ss)
     one true = apart_kept (with_taken i.place) (λ s b. refl) ss i.place apart
     one false = apart
+
+-- and rising
+pub taken_rising : (h : HeapView) (items : List Item) (ss : List ShadeView) → AreRising ss
+    → AreRising (all_taken h ss items)
+taken_rising h [] ss rising = rising
+taken_rising h (i ∷ items) ss rising = taken_rising h items (taken_item h ss i) (one (is_oldest h i))
+  where
+    one : (b : Bool) → AreRising (if b then changed_at i.place (with_taken i.place) ss else ss)
+    one true = rising_kept (with_taken i.place) (λ s. refl) (λ s. refl) ss i.place rising
+    one false = rising
 
 -- n + 1 segments are n segments and the one after them
 pub listings_more : (rows : List TypeRow) (h : HeapView) (k n : ℕ)
@@ -138,4 +148,30 @@ apart_shapes (s ∷ ss) (g ∷ segs) e lawful disjoint =
           uncovered ss segs (reserved_end g) a (ap (drop 1) e) disjoint.0
           (omega (arith, base, size, reserved, low))),
       apart_shapes ss segs (ap (drop 1) e) lawful.1 disjoint.1,
+    )
+
+-- what stands above a segment stands above its used part
+above_used : (ss : List ShadeView) (segs : List SegInfo) (end top : ℕ) → end ≤ top
+    → map (λ (s : ShadeView). (s.base, s.size)) ss ≡ map used_of segs
+    → AllByRecursion (λ (r : SegInfo). top ≤ r.base) segs → AllByRecursion (λ (t : ShadeView). end ≤ t.base) ss
+above_used [] segs end top low e above = tt
+above_used (s ∷ ss) [] end top low e above = absurd cc
+above_used (s ∷ ss) (g ∷ segs) end top low e above =
+    let base : s.base ≡ g.base = ap (λ (l : List (ℕ × ℕ)). (get_or l 0 (0, 0)).0) e in
+    let over = above.0 in
+    (omega (arith, base, over, low), above_used ss segs end top low (ap (drop 1) e) above.1)
+
+-- the used parts of segments that lie above each other do so, too
+pub rising_shapes : (ss : List ShadeView) (segs : List SegInfo)
+    → map (λ (s : ShadeView). (s.base, s.size)) ss ≡ map used_of segs → AllByRecursion IsLawfulSegment segs
+    → AreDisjoint segs → AreRising ss
+rising_shapes [] segs e lawful disjoint = tt
+rising_shapes (s ∷ ss) [] e lawful disjoint = absurd cc
+rising_shapes (s ∷ ss) (g ∷ segs) e lawful disjoint =
+    let base : s.base ≡ g.base = ap (λ (l : List (ℕ × ℕ)). (get_or l 0 (0, 0)).0) e in
+    let size : s.size ≡ used_size g = ap (λ (l : List (ℕ × ℕ)). (get_or l 0 (0, 0)).1) e in
+    let reserved = (used_part g lawful.0).reserved in (
+      above_used ss segs (s.base + s.size) (reserved_end g) (omega (arith, base, size, reserved)) (ap (drop 1) e)
+          disjoint.0,
+      rising_shapes ss segs (ap (drop 1) e) lawful.1 disjoint.1,
     )

@@ -1,62 +1,100 @@
--- The search for a gray place.
-use Rattle.std.proofs.Common.{◌≡◌, ℕ, zero, suc, ◌+◌, ◌/◌, ◌%◌, ◌<◌, ◌≤◌, List, [], ◌∷◌, length, refl, sym, ap, ◌∙◌}
-use Rattle.std.proofs.Common.{arith, Bool, true, false, if◌then◌else◌, ◌&&◌, ◌||◌, not, get_or, nat_eq, min, ◌*◌}
-use Rattle.std.specs.Int.{bit_at}
-use Rattle.std.proofs.lemmas.Bool.{both_ways, ne_eqb}
+-- Gray places: of one segment, and of all.
+use Rattle.std.proofs.Common.{◌≡◌, ℕ, zero, suc, ◌+◌, ◌/◌, ◌<◌, ◌≤◌, List, [], ◌∷◌, length, refl, sym, ap, ◌∙◌}
+use Rattle.std.proofs.Common.{arith, Bool, true, false, if◌then◌else◌, ◌&&◌, ◌||◌, not, get_or, nat_eq, ◌*◌, ◌⊎◌, inl, inr}
+use Rattle.std.proofs.lemmas.Bool.{both_ways, cases_Bool, eqb-true}
 use Rattle.clr_bgmark.specs.Bits.{has_bit, with_bit}
 use Rattle.clr_bgmark.specs.Shades.{ShadeView, covers, is_covered, cell_of, is_marked, is_scanned, is_gray, AreApart}
-use Rattle.clr_bgmark.specs.Shades.{HasNoGrayBelow, IsAt, is_gray_cell}
+use Rattle.clr_bgmark.specs.Shades.{HasNoGray, IsAt, is_gray_cell, is_gray_number}
 use Rattle.clr_bgmark.proofs.Lookups.{at_told}
 use Rattle.clr_bgmark.proofs.MoreBits.{bit_added}
 
--- ---- where the search begins
+-- ---- in one segment
 
--- below a mark and below where none was gray, none is
-pub marked_below : (s : ShadeView) (cell lowest : ℕ) → cell < 64 * length s.marked → HasNoGrayBelow s lowest
-    → HasNoGrayBelow (record s { marked = with_bit s.marked cell }) (min lowest cell)
-marked_below s cell lowest room none n below =
-    let first : n < lowest = grind arith in
-    let other : n < cell = grind arith in
-    let apart : nat_eq n cell ≡ false = ne_eqb n cell (λ e. omega (arith, other, e)) in
-    (λ i. (bit_added s.marked cell room n ∙ ap (λ b. b || has_bit s.marked n) apart) i && not (has_bit s.scanned n))
-    ∙ none n first
+-- where nothing is marked nothing is gray
+pub none_marked : (marked scanned : List ℕ) → ((n : ℕ) → has_bit marked n ≡ false) → (n : ℕ)
+    → is_gray_number marked scanned n ≡ true → ⊥
+none_marked marked scanned none n gray =
+    both_ways (is_gray_number marked scanned n) (λ i. none n i && not (has_bit scanned n)) gray
+
+-- a mark makes its number gray, and no other
+pub gray_marked : (marked scanned : List ℕ) (cell : ℕ) → cell < 64 * length marked → (n : ℕ)
+    → is_gray_number (with_bit marked cell) scanned n ≡ true → (n ≡ cell) ⊎ (is_gray_number marked scanned n ≡ true)
+gray_marked marked scanned cell room n e = elim (cases_Bool (nat_eq n cell)) [
+  | inl is ↦ inl (eqb-true n cell is)
+  | inr other ↦
+      inr (sym (λ i. (bit_added marked cell room n ∙ ap (λ b. b || has_bit marked n) other) i && not (has_bit scanned n))
+      ∙ e)
+]
 
 -- what was scanned makes nothing gray
-pub scanned_below : (s : ShadeView) (cell lowest : ℕ) → cell < 64 * length s.scanned → HasNoGrayBelow s lowest
-    → HasNoGrayBelow (record s { scanned = with_bit s.scanned cell }) lowest
-scanned_below s cell lowest room none n below =
-    (λ i. has_bit s.marked n && not (bit_added s.scanned cell room n i))
-    ∙ less (has_bit s.marked n) (nat_eq n cell) (has_bit s.scanned n) (none n below)
+pub gray_scanned : (marked scanned : List ℕ) (cell : ℕ) → cell < 64 * length scanned → (n : ℕ)
+    → is_gray_number marked (with_bit scanned cell) n ≡ true → is_gray_number marked scanned n ≡ true
+gray_scanned marked scanned cell room n e =
+    less (has_bit marked n) (nat_eq n cell) (has_bit scanned n)
+    (sym (λ i. has_bit marked n && not (bit_added scanned cell room n i)) ∙ e)
   where
-    less : (marked here scanned : Bool) → (marked && not scanned) ≡ false → (marked && not (here || scanned)) ≡ false
-    less false here scanned e = refl
-    less true true scanned e = refl
+    less : (marked here scanned : Bool) → (marked && not (here || scanned)) ≡ true → (marked && not scanned) ≡ true
+    less false here scanned e = absurd cc
+    less true true scanned e = absurd cc
     less true false scanned e = e
 
--- ---- the search in all segments
+-- a word that is passed has no gray number, and those that have one stay pending
+pub gray_left : (marked scanned old new : List ℕ) (k lowest : ℕ) → k ≡ lowest
+    → ((i : ℕ) → has_bit new i ≡ (not (nat_eq i lowest) && has_bit old i))
+    → ((i : ℕ) → 64 * k ≤ i → i < 64 * k + 64 → is_gray_number marked scanned i ≡ false)
+    → (n : ℕ) → is_gray_number marked scanned n ≡ true → has_bit old (n / 64) ≡ true → has_bit new (n / 64) ≡ true
+gray_left marked scanned old new k lowest at less none n gray was = elim (cases_Bool (nat_eq (n / 64) lowest)) [
+  | inl is ↦
+      let word = eqb-true (n / 64) lowest is in
+      absurd (both_ways (is_gray_number marked scanned n)
+      (none n (omega (arith, word, at)) (omega (arith, word, at))) gray)
+  | inr other ↦ less (n / 64) ∙ ap (λ b. not b && has_bit old (n / 64)) other ∙ was
+]
 
--- none of the first k segments has a gray place
-abbrev pub HaveNoGray : List ShadeView → ℕ → Type 0
-HaveNoGray ss zero = Unit {0}
-HaveNoGray [] (suc k) = Unit {0}
-HaveNoGray (s ∷ ss) (suc k) =
-    ((a : ℕ) → covers s a ≡ true → is_gray_cell s (cell_of s a) ≡ false) × HaveNoGray ss k
+module _ (marked scanned pending : List ℕ) (k past : ℕ) (above : (n : ℕ) → has_bit pending n ≡ true → k ≤ n)
+    (kept : (n : ℕ) → n < 64 * past → is_gray_number marked scanned n ≡ true → has_bit pending (n / 64) ≡ true) where
+  -- below the first gray number of the lowest word that is pending none is gray
+  pub none_lower : (n : ℕ) → n < 64 * past
+      → ((i : ℕ) → 64 * k ≤ i → i < n → is_gray_number marked scanned i ≡ false)
+      → (i : ℕ) → i < n → is_gray_number marked scanned i ≡ false
+  none_lower n high first i less = elim (cases_Bool (is_gray_number marked scanned i)) [
+    | inr f ↦ f
+    | inl gray ↦
+        let up = above (i / 64) (kept i (omega (arith, less, high)) gray) in
+        first i (omega (arith, up)) less
+  ]
 
-pub no_gray_more : (ss : List ShadeView) (k : ℕ) (d : ShadeView) → HaveNoGray ss k → k < length ss
-    → ((a : ℕ) → covers (get_or ss k d) a ≡ true → is_gray_cell (get_or ss k d) (cell_of (get_or ss k d) a) ≡ false)
-    → HaveNoGray ss (suc k)
-no_gray_more [] k d p l e = tt
-no_gray_more (s ∷ ss) zero d p l e = (e, tt)
-no_gray_more (s ∷ ss) (suc k) d p l e = (p.0, no_gray_more ss k d p.1 (omega arith) e)
+  -- below the lowest word that is pending none is gray
+  pub none_under : (i : ℕ) → i < 64 * past → i / 64 < k → is_gray_number marked scanned i ≡ false
+  none_under i high under = elim (cases_Bool (is_gray_number marked scanned i)) [
+    | inr f ↦ f
+    | inl gray ↦
+        let up = above (i / 64) (kept i high gray) in
+        absurd (omega (arith, up, under))
+  ]
 
-pub no_gray_at_all : (ss : List ShadeView) (a : ℕ) → HaveNoGray ss (length ss) → is_gray ss a ≡ false
-no_gray_at_all [] a h = refl
-no_gray_at_all (s ∷ ss) a h = go (covers s a) refl (no_gray_at_all ss a h.1)
+  -- where no word is pending none is gray
+  pub none_waits : past ≤ k → (i : ℕ) → i < 64 * past → is_gray_number marked scanned i ≡ false
+  none_waits over i high = elim (cases_Bool (is_gray_number marked scanned i)) [
+    | inr f ↦ f
+    | inl gray ↦
+        let up = above (i / 64) (kept i high gray) in
+        absurd (omega (arith, up, over, high))
+  ]
+
+-- ---- in all segments
+
+-- where no segment has a gray place, none is gray
+pub no_gray_at_all : (ss : List ShadeView) (a : ℕ)
+    → ((k : ℕ) (d : ShadeView) → k < length ss → HasNoGray (get_or ss k d)) → is_gray ss a ≡ false
+no_gray_at_all [] a none = refl
+no_gray_at_all (s ∷ ss) a none =
+    go (covers s a) refl (no_gray_at_all ss a (λ k d l. none (suc k) d (omega (arith, l))))
   where
     go : (x : Bool) → covers s a ≡ x → is_gray ss a ≡ false
         → ((if x then has_bit s.marked (cell_of s a) else is_marked ss a)
         && not (if x then has_bit s.scanned (cell_of s a) else is_scanned ss a)) ≡ false
-    go true f more = h.0 a f
+    go true f more = none zero s (omega arith) a f
     go false f more = more
 
 -- ---- a place that is found

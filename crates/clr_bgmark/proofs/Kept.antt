@@ -7,7 +7,8 @@ use Rattle.std.specs.List.{AllByRecursion}
 use Rattle.std.proofs.lemmas.Bool.{cases_Bool, cases_eq, eqb-true, eq-eqb, ne_eqb, leb-true, le-leb, ltb-true, lt-ltb}
 use Rattle.std.proofs.lemmas.Bool.{both_ways}
 use Rattle.clr_bgmark.specs.Bits.{has_bit, with_bit}
-use Rattle.clr_bgmark.specs.Shades.{ShadeView, IsShade, covers, is_covered, told, changed_at, AreApart, IsBackground}
+use Rattle.clr_bgmark.specs.Shades.{ShadeView, IsShade, covers, is_covered, told, changed_at, AreApart, AreRising}
+use Rattle.clr_bgmark.specs.Shades.{IsBackground}
 use Rattle.clr_bgmark.specs.Shades.{cell_of, card_of, colour_at, colour_by, with_taken, with_marked, with_scanned}
 use Rattle.clr_bgmark.specs.Shades.{with_logged}
 use Rattle.clr_bgmark.specs.Shades.{is_taken, is_marked, is_scanned, is_logged, is_gray}
@@ -116,6 +117,24 @@ apart_kept change same (s ∷ ss) a apart = go (covers s a) (apart_kept change s
         → AreApart (if x then change s ∷ ss else s ∷ changed_at a change ss)
     go true more = (λ b e. apart.0 b (sym (same s b) ∙ e), apart.1)
     go false more = (λ b e. covered_kept change same ss a b ∙ apart.0 b e, more)
+
+-- a change that moves no segment leaves them rising
+pub rising_kept : (change : ShadeView → ShadeView) → ((s : ShadeView) → (change s).base ≡ s.base)
+    → ((s : ShadeView) → (change s).size ≡ s.size) → (ss : List ShadeView) (a : ℕ) → AreRising ss
+    → AreRising (changed_at a change ss)
+rising_kept change base size [] a rising = tt
+rising_kept change base size (s ∷ ss) a rising = go (covers s a) (rising_kept change base size ss a rising.1)
+  where
+    go : (x : Bool) → AreRising (changed_at a change ss)
+        → AreRising (if x then change s ∷ ss else s ∷ changed_at a change ss)
+    go true more =
+        let same : s.base + s.size ≡ (change s).base + (change s).size = λ i. sym (base s) i + sym (size s) i in
+        (subst (λ (n : ℕ). AllByRecursion (λ (t : ShadeView). n ≤ t.base) ss) same rising.0, rising.1)
+    go false more = (
+      all_changed (λ (t : ShadeView). s.base + s.size ≤ t.base) change a
+          (λ t low e. subst (λ (n : ℕ). s.base + s.size ≤ n) (sym (base t)) low) ss rising.0,
+      more,
+    )
 
 -- ---- a bit more
 
@@ -270,18 +289,21 @@ module _ (ss : List ShadeView) (a : ℕ) where
   logged_background h = record {
     shades = logged_shades h.shades;
     apart = apart_kept (with_logged a) (λ s b. refl) ss a h.apart;
+    rising = rising_kept (with_logged a) (λ s. refl) (λ s. refl) ss a h.rising;
   }
 
   pub marked_background : IsBackground ss → IsBackground (changed_at a (with_marked a) ss)
   marked_background h = record {
     shades = marked_shades h.shades;
     apart = apart_kept (with_marked a) (λ s b. refl) ss a h.apart;
+    rising = rising_kept (with_marked a) (λ s. refl) (λ s. refl) ss a h.rising;
   }
 
   pub scanned_background : IsBackground ss → IsBackground (changed_at a (with_scanned a) ss)
   scanned_background h = record {
     shades = scanned_shades h.shades;
     apart = apart_kept (with_scanned a) (λ s b. refl) ss a h.apart;
+    rising = rising_kept (with_scanned a) (λ s. refl) (λ s. refl) ss a h.rising;
   }
 
   -- where some segment has the address its card is logged, and else none

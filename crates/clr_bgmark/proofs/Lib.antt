@@ -1,11 +1,15 @@
 pub mod Lookups
 pub mod MoreBits
+pub mod Groups
 pub mod WordSearch
 pub mod LastInWord
 pub mod Kept
 pub mod GrayPlaces
+pub mod Rising
+pub mod Watched
 pub mod PassedCells
 pub mod FoundPlaces
+pub mod LowestGray
 pub mod FollowedSlots
 pub mod Meeting
 pub mod ScannedLists

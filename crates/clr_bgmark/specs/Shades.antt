@@ -1,7 +1,7 @@
 -- The colours of objects and the logged cards, as bits beside the segments that there were at the first pause. Here a
 -- segment is the part that was in use then, in whole pages.
 use Rattle.std.specs.Prelude.{◌≡◌, ℕ, ◌+◌, ◌-◌, ◌*◌, ◌/◌, ◌%◌, ◌^◌, ◌<◌, ◌≤◌, Bool, true, false, ◌&&◌, not, nat_le}
-use Rattle.std.specs.Prelude.{nat_lt, refl}
+use Rattle.std.specs.Prelude.{nat_lt, refl, get_or}
 use Rattle.std.specs.Prelude.{if◌then◌else◌, List, [], ◌∷◌, length, zero, suc, min, ◌==◌}
 use Rattle.std.specs.List.{AllByRecursion}
 use Rattle.std.specs.Coded.{Coded, code_by, coded×, coded_ℕ, coded_list}
@@ -72,18 +72,23 @@ pub record IsShade (s : ShadeView) : Type 0 where
   pub scanned : s.size ≤ 512 * length s.scanned
   pub logged : s.size ≤ 131072 * length s.logged
 
+-- whether a number is marked, and wasn't scanned
+abbrev pub is_gray_number : List ℕ → List ℕ → ℕ → Bool
+is_gray_number marked scanned n = has_bit marked n && not (has_bit scanned n)
+
 -- whether the place of this number is gray
 abbrev pub is_gray_cell : ShadeView → ℕ → Bool
-is_gray_cell s n = has_bit s.marked n && not (has_bit s.scanned n)
+is_gray_cell s n = is_gray_number s.marked s.scanned n
 
--- no gray place of a segment has a number below this one
-abbrev pub HasNoGrayBelow : ShadeView → ℕ → Type 0
-HasNoGrayBelow s lowest = (n : ℕ) → n < lowest → is_gray_cell s n ≡ false
+-- no place of a segment is gray
+abbrev pub HasNoGray : ShadeView → Type 0
+HasNoGray s = (a : ℕ) → covers s a ≡ true → is_gray_cell s (cell_of s a) ≡ false
 
--- bits of which gray ones are looked for from this number on
-pub record IsSearched (s : ShadeView) (lowest : ℕ) : Type 0 where
+-- a word of bits of a segment that has a gray place is among those that are pending
+pub record IsSearched (s : ShadeView) (waiting : List ℕ) : Type 0 where
   pub shade : IsShade s
-  pub none_below : HasNoGrayBelow s lowest
+  pub room : s.size / 512 ≤ 64 * length waiting
+  pub pending : (n : ℕ) → n < s.size / 8 → is_gray_cell s n ≡ true → has_bit waiting (n / 64) ≡ true
 
 -- ---- all segments
 
@@ -157,6 +162,11 @@ abbrev pub AreApart : List ShadeView → Type 0
 AreApart [] = Unit {0}
 AreApart (s ∷ ss) = ((a : ℕ) → covers s a ≡ true → is_covered ss a ≡ false) × AreApart ss
 
+-- the segments stand one above the other, by rising base
+abbrev pub AreRising : List ShadeView → Type 0
+AreRising [] = Unit {0}
+AreRising (s ∷ ss) = AllByRecursion (λ (t : ShadeView). s.base + s.size ≤ t.base) ss × AreRising ss
+
 -- a background collection as its callers see it: whether it runs, the bits, how many objects are gray, the old parts of
 -- the segments as they were at the first pause, and their fronts, which the last pause tells
 pub record BackgroundView : Type 0 where
@@ -174,6 +184,13 @@ rest_of v = record v { shades = []; gray = 0 }
 pub record IsBackground (ss : List ShadeView) : Type 0 where
   pub shades : AllByRecursion IsShade ss
   pub apart : AreApart ss
+  pub rising : AreRising ss
+
+-- a segment that has a gray place is among those that are pending
+pub record IsWatched (ss : List ShadeView) (waiting : List ℕ) : Type 0 where
+  pub background : IsBackground ss
+  pub room : length ss ≤ 64 * length waiting
+  pub pending : (k : ℕ) (d : ShadeView) → k < length ss → has_bit waiting k ≡ false → HasNoGray (get_or ss k d)
 
 -- none of the first k segments has the address
 abbrev pub IsPast : List ShadeView → ℕ → ℕ → Type 0

@@ -1,54 +1,44 @@
 // The colours and the log of a background collection.
-ghost use Rattle.std.specs.Prelude.{◌≡◌, ℕ, ◌^◌, ◌/◌, ◌%◌, ◌<◌, ◌≤◌, ◌&&◌, ◌||◌, nat_eq, true, false, [], length, None};
-ghost use Rattle.std.specs.Prelude.{IfSome, IfNone, OnOk, OnErr, Some, ◌↔◌, ◌⊎◌, ◌≢◌, map};
+ghost use Rattle.std.specs.Prelude.{◌≡◌, ℕ, ◌/◌, ◌<◌, ◌&&◌, ◌||◌, nat_eq, true, false, [], length, None};
+ghost use Rattle.std.specs.Prelude.{OnOk, OnErr, Some, ◌↔◌, ◌⊎◌, map};
 ghost use Rattle.std.specs.FinMap as finmap;
 ghost use Rattle.clr_types.specs.declared.handle.Handle.{Handle as Row};
-ghost use Rattle.clr_view.specs.SlotValues.{StandsAt};
-ghost use Rattle.clr_view.specs.View.{IsHeld, objects_in};
-ghost use Rattle.std.specs.List.{AllByRecursion};
+ghost use Rattle.clr_view.specs.View.{objects_in};
 ghost use Rattle.clr_model.specs.Reach.{Reach};
 ghost use Rattle.clr_view.specs.Marks.{Marked};
 ghost use Rattle.clr_view.specs.World.{HandlesStand};
-ghost use Rattle.clr_types.specs.Descriptors.{offsets_from};
-ghost use Rattle.clr_heap.specs.Memories.{memory_index};
-ghost use Rattle.clr_heap.specs.Parts.{item_at};
-ghost use Rattle.clr_heap.specs.View.{IsHeap, word_of};
-ghost use Rattle.clr_mark.specs.Kinds.{IsRunKind};
 ghost use Rattle.clr_mark.specs.Marks.{IsClosed, IsRemarked};
-ghost use Rattle.clr_mark.specs.Markings.{references_at};
 ghost use Rattle.clr_mark.specs.Ties.{IsStart, Joins};
 ghost use Rattle.clr_mark.specs.Waiting.{IsGray};
 ghost use Rattle.clr_bgmark.specs.Closing.{without_colours};
 ghost use Rattle.clr_bgmark.specs.LastPause.{LogHolds};
 ghost use Rattle.clr_bgmark.specs.Pauses.{roots_grayed, HasBegun, IsFound, root_grayed, target_grayed, targets_grayed};
-ghost use Rattle.clr_bgmark.specs.Scanning.{AreObjects, followed, HasScanned, HasScannedOne, HaveWholeObjects};
+ghost use Rattle.clr_bgmark.specs.Scanning.{AreObjects, HasScanned, HaveWholeObjects};
 ghost use Rattle.clr_bgmark.specs.Scanning.{IsCounted, HasLogged, marking_in};
-ghost use Rattle.clr_bgmark.specs.Shades.{BackgroundView, changed_at, IsShade, colour_at, grayed, is_covered, is_gray};
+ghost use Rattle.clr_bgmark.specs.Shades.{changed_at, colour_at, grayed, is_covered};
 ghost use Rattle.clr_bgmark.specs.Tiles.{AreParts, AreTiled};
-ghost use Rattle.clr_bgmark.specs.Shades.{IsAt, is_logged, is_marked, met, met_all, passed, rest_of, slot_logged};
-ghost use Rattle.clr_bgmark.specs.Shades.{with_logged};
+ghost use Rattle.clr_bgmark.specs.Shades.{is_logged};
+ghost use Rattle.clr_bgmark.specs.Shades.{with_logged, with_marked};
 ghost use Rattle.clr_mark.specs.Roots as roots;
 
 use crate::NoMemory;
 use crate::first_pause::{fronts_of, parts_of, shades_of, take_oldest};
-use crate::kind::kind_behind;
 use crate::last_pause::mark_found;
-use crate::lending::meet_near;
 use crate::part::Part;
+use crate::pending::Pending;
 use crate::shade::{Bit, Shade};
-use crate::shades::{
-    colour_in, find, find_near, is_in, logged_in, meet_in, set_bit_at, set_bit_near, take_gray,
-};
+use crate::shades::{colour_in, find, find_near, logged_in, set_bit_at, set_bit_in};
 use clr_handles::Handles;
 use clr_heap::Heap;
 use clr_mark::{Marker, RunKind};
 use clr_sweep::Front;
-use clr_types::{Handle, Item, ReferenceRun, Types};
+use clr_types::{Handle, Types};
 use std::alloc::Global;
 use std::marker::Model;
 
 mod behind;
 mod closing;
+mod scanning;
 
 /// What a background collection knows of a place.
 #[derive(Clone, Copy, Debug, PartialEq, Eq)]
@@ -80,13 +70,15 @@ pub struct Background {
     alloc: Global,
     running: bool,
     shades: Vec<Shade>,
+    // Which segments may have a gray object.
+    pending: Pending,
     gray: u64,
     parts: Vec<Part>,
     fronts: Vec<Front>,
 }
 
 impl Model for Background {
-    ghost use Rattle.clr_bgmark.specs.Shades.{BackgroundView, IsBackground};
+    ghost use Rattle.clr_bgmark.specs.Shades.{BackgroundView, IsWatched};
 
     ghost Value = { BackgroundView };
 
@@ -98,7 +90,7 @@ impl Model for Background {
       fronts = b.fronts.items;
     } };
 
-    ghost invariant = { λ b. IsBackground b.shades.items };
+    ghost invariant = { λ b. IsWatched b.shades.items b.pending.numbers };
 }
 
 impl Background {
@@ -110,6 +102,7 @@ impl Background {
             alloc,
             running: false,
             shades: Vec::new(alloc),
+            pending: Pending::none(alloc),
             gray: 0,
             parts: Vec::new(alloc),
             fronts: Vec::new(alloc),
@@ -132,7 +125,7 @@ impl Background {
         colour
     }
 
-    // The same, and which segment has the place, a guess for the next one. It is looked for at `near` first.
+    // The colour of a place, and which segment has it, a guess for the next one. It is looked for at `near` first.
     #[inline(always)]
     fn colour_near(&self, near: usize, obj: u64) -> (usize, Colour)
         ensures { result.1 ≡ colour_at self.now.shades obj }
@@ -197,8 +190,10 @@ impl Background {
         let mut shades = shades_of(self.alloc, heap)?;
         let mut parts = parts_of(self.alloc, heap)?;
         let fronts = fronts_of(self.alloc, heap)?;
+        let pending = Pending::new(self.alloc, heap.segments() as u64)?;
         take_oldest(&mut shades, &mut parts, heap, types);
         self.shades = shades;
+        self.pending = pending;
         self.parts = parts;
         self.fronts = fronts;
         self.running = true;
@@ -323,281 +318,27 @@ impl Background {
         }
     }
 
-    // Scans a gray object. It answers no where none is gray. `known` is what is known of objects before it, and then of
-    // this one, too.
-    #[inline(always)]
-    fn scan_next(&mut self, heap: &Heap, types: &Types, known: &mut RunKind) -> bool
-        requires closed { IsClosed types.now heap.now }
-        requires known { IsRunKind types.now known.old }
-        requires objects { AreObjects types.now heap.now self.old.shades }
-        requires whole { HaveWholeObjects types.now heap.now self.old.shades }
-        requires counted { IsCounted (objects_in types.now heap.now) self.old }
-        ensures rest { rest_of self.new ≡ rest_of self.old }
-        ensures objects { AreObjects types.now heap.now self.new.shades }
-        ensures whole { HaveWholeObjects types.now heap.now self.new.shades }
-        ensures counted { IsCounted (objects_in types.now heap.now) self.new }
-        ensures log { HasLogged types.now (objects_in types.now heap.now) self.old.shades self.new.shades }
-        ensures scans { result ≡ true
-            → HasScannedOne (objects_in types.now heap.now) self.old.shades self.new.shades }
-        ensures none { result ≡ false → self.new ≡ self.old }
-        ensures empty { result ≡ false
-            → (marking_in (objects_in types.now heap.now) self.old.shades).gray ≡ [] }
-        ensures known { IsRunKind types.now known.new }
-        ensures taken { map without_colours self.new.shades ≡ map without_colours self.old.shades }
-    {
-        match self.next_gray() {
-            Some((near, obj)) => {
-                self.scan(heap, types, near, obj, known);
-                true
-            }
-            None => false,
-        }
-    }
-
-    // A gray object, which is scanned then, and where its segment is looked for first.
-    #[inline(always)]
-    fn next_gray(&mut self) -> Option<(usize, u64)>
-        ensures passed { IfSome result (λ f. self.new ≡ passed self.old f.1) }
-        ensures same { IfNone result (self.new ≡ self.old) }
-        ensures shades { AllByRecursion IsShade self.old.shades }
-        ensures gray { IfSome result (λ f. is_gray self.old.shades f.1 ≡ true) }
-        ensures aligned { IfSome result (λ f. f.1 % 8 ≡ 0) }
-        ensures none { IfNone result ((a : ℕ) → is_gray self.old.shades a ≡ false) }
-    {
-        take_gray(&mut self.shades)
-    }
-
-    // Follows what the slots of an object name, which is scanned already and counted as gray, and makes it black. Its
-    // segment is looked for at `near` first.
-    #[inline(always)]
-    fn scan(&mut self, heap: &Heap, types: &Types, near: usize, obj: u64, known: &mut RunKind)
-        requires heap { IsHeap heap.now }
-        requires held { IsHeld types.now heap.now }
-        requires stands { StandsAt types.now heap.now obj }
-        requires known { IsRunKind types.now known.old }
-        ensures value { (v : BackgroundView) → AllByRecursion IsShade v.shades → is_marked v.shades obj ≡ true
-            → self.old ≡ passed v obj → self.new ≡ followed types.now heap.now v obj }
-        ensures known { IsRunKind types.now known.new }
-    {
-        let k = heap.segment_near(near, obj);
-        *known = self.meet_object(heap, types, near, k, obj, *known);
-        self.gray = self.gray.saturating_sub(1);
-    }
-
-    // Follows the references of an object in segment `k`, with no look at the types where it is like those that are
-    // known. It answers what is known then.
-    #[inline(always)]
-    fn meet_object(
-        &mut self,
-        heap: &Heap,
-        types: &Types,
-        near: usize,
-        k: usize,
-        obj: u64,
-        known: RunKind,
-    ) -> RunKind
-        requires heap { IsHeap heap.now }
-        requires held { IsHeld types.now heap.now }
-        requires stands { StandsAt types.now heap.now obj }
-        requires segment { k ≡ memory_index heap.now.memories obj }
-        requires known { IsRunKind types.now known }
-        ensures met { self.new ≡ met_all (word_of heap.now) self.old obj (references_at types.now heap.now obj) }
-        ensures known { IsRunKind types.now result }
-    {
-        let mt = heap.word_at(k, obj);
-        if known.has(mt) {
-            self.meet_run(heap, types, near, k, obj, known.run);
-            return known;
-        }
-        let item = heap.item_of_word(types, k, obj, mt);
-        self.meet_references(heap, types, near, k, item);
-        kind_behind(heap, types, item, mt, known)
-    }
-
-    // Follows the references of the object that an item in segment `k` is.
-    #[inline(never)]
-    fn meet_references(&mut self, heap: &Heap, types: &Types, near: usize, k: usize, item: Item)
-        requires heap { IsHeap heap.now }
-        requires held { IsHeld types.now heap.now }
-        requires stands { StandsAt types.now heap.now item.place }
-        requires segment { k ≡ memory_index heap.now.memories item.place }
-        requires item { item ≡ item_at types.now (word_of heap.now) item.place }
-        ensures { self.new
-            ≡ met_all (word_of heap.now) self.old item.place (references_at types.now heap.now item.place) }
-    {
-        match types.reference_run(item.type_id, item.len) {
-            Some(run) => self.meet_long_run(heap, types, near, k, item.place, run),
-            None => self.meet_each(heap, types, near, k, item),
-        }
-    }
-
-    // The references of an object are followed, where they are one run.
-    #[inline(always)]
-    fn meet_run(
-        &mut self,
-        heap: &Heap,
-        types: &Types,
-        near: usize,
-        k: usize,
-        obj: u64,
-        run: ReferenceRun,
-    )
-        requires heap { IsHeap heap.now }
-        requires held { IsHeld types.now heap.now }
-        requires stands { StandsAt types.now heap.now obj }
-        requires segment { k ≡ memory_index heap.now.memories obj }
-        requires run { references_at types.now heap.now obj ≡ offsets_from run.offset run.count }
-        ensures { self.new ≡ met_all (word_of heap.now) self.old obj (references_at types.now heap.now obj) }
-    {
-        let _ = types;
-        let mut shade = near;
-        for i in 0..run.count {
-            let slot = obj + run.offset + 8 * i;
-            shade = self.meet(shade, heap.word_at(k, slot), slot);
-        }
-    }
-
-    // The same for a run that may be long, as that of an array: stretches of references into one segment are followed
-    // with its bits lent.
-    #[inline(always)]
-    fn meet_long_run(
-        &mut self,
-        heap: &Heap,
-        types: &Types,
-        near: usize,
-        k: usize,
-        obj: u64,
-        run: ReferenceRun,
-    )
-        requires heap { IsHeap heap.now }
-        requires held { IsHeld types.now heap.now }
-        requires stands { StandsAt types.now heap.now obj }
-        requires segment { k ≡ memory_index heap.now.memories obj }
-        requires run { references_at types.now heap.now obj ≡ offsets_from run.offset run.count }
-        ensures { self.new ≡ met_all (word_of heap.now) self.old obj (references_at types.now heap.now obj) }
-    {
-        let mut shade = near;
-        let mut i = self.meet_stretch(heap, types, shade, k, obj, run, 0);
-        while i < run.count {
-            let slot = obj + run.offset + 8 * i;
-            shade = self.meet(shade, heap.word_at(k, slot), slot);
-            i = self.meet_stretch(heap, types, shade, k, obj, run, i + 1);
-        }
-    }
-
-    // References of a run are followed from number `from` on, while their targets were taken in segment `near`. It
-    // answers at which one it stopped.
-    #[inline(never)]
-    fn meet_stretch(
-        &mut self,
-        heap: &Heap,
-        types: &Types,
-        near: usize,
-        k: usize,
-        obj: u64,
-        run: ReferenceRun,
-        from: u64,
-    ) -> u64
-        requires heap { IsHeap heap.now }
-        requires held { IsHeld types.now heap.now }
-        requires stands { StandsAt types.now heap.now obj }
-        requires segment { k ≡ memory_index heap.now.memories obj }
-        requires run { references_at types.now heap.now obj ≡ offsets_from run.offset run.count }
-        requires from { from ≤ run.count }
-        ensures low { from ≤ result }
-        ensures high { result ≤ run.count }
-        ensures met { (first : BackgroundView)
-            → self.old ≡ met_all (word_of heap.now) first obj (offsets_from run.offset from)
-            → self.new ≡ met_all (word_of heap.now) first obj (offsets_from run.offset result) }
-    {
-        let (stop, found) = meet_near(&mut self.shades, near, heap, types, k, obj, run, from);
-        self.gray = self.gray.saturating_add(found);
-        stop
-    }
-
-    // The same for any object, one after the other.
-    #[inline(never)]
-    fn meet_each(&mut self, heap: &Heap, types: &Types, near: usize, k: usize, item: Item)
-        requires heap { IsHeap heap.now }
-        requires held { IsHeld types.now heap.now }
-        requires stands { StandsAt types.now heap.now item.place }
-        requires segment { k ≡ memory_index heap.now.memories item.place }
-        requires item { item ≡ item_at types.now (word_of heap.now) item.place }
-        ensures { self.new
-            ≡ met_all (word_of heap.now) self.old item.place (references_at types.now heap.now item.place) }
-    {
-        let mut shade = near;
-        for offset in types.slots(item.type_id, item.len) {
-            let slot = item.place + offset;
-            shade = self.meet(shade, heap.word_at(k, slot), slot);
-        }
-    }
-
-    // The slot at an address names `target`: where that is white it becomes gray, and where it wasn't taken the slot's
-    // card is logged. The segment of the target is looked for at `near` first. It answers which one it is, a guess for
-    // the next target.
-    #[inline(always)]
-    fn meet(&mut self, near: usize, target: u64, slot: u64) -> usize
-        ensures { self.new ≡ met self.old target slot }
-    {
-        if target == 0 {
-            return near;
-        }
-        if is_in(&self.shades, near, target) {
-            self.meet_within(near, target, slot);
-            return near;
-        }
-        self.meet_far(near, target, slot)
-    }
-
-    // The same, where the target is one and lies in another segment than `near`, most likely.
-    #[inline(never)]
-    fn meet_far(&mut self, near: usize, target: u64, slot: u64) -> usize
-        requires object { target ≢ 0 }
-        ensures { self.new ≡ met self.old target slot }
-    {
-        match find(&self.shades, target) {
-            Some(k) => {
-                self.meet_within(k, target, slot);
-                k
-            }
-            None => {
-                self.wrote(slot);
-                near
-            }
-        }
-    }
-
-    // The same, where the target is one and lies in segment `k`.
-    #[inline(always)]
-    fn meet_within(&mut self, k: usize, target: u64, slot: u64)
-        requires within { k < length self.old.shades }
-        requires at { IsAt self.old.shades k target }
-        requires object { target ≢ 0 }
-        ensures { self.new ≡ met self.old target slot }
-    {
-        match meet_in(&mut self.shades, k, target) {
-            Colour::White => self.gray = self.gray.saturating_add(1),
-            Colour::Outside => self.log_slot(slot),
-            Colour::Gray | Colour::Black => {}
-        }
-    }
-
-    // The slot's card is logged.
-    #[inline(never)]
-    fn log_slot(&mut self, slot: u64)
-        ensures { self.new ≡ slot_logged self.old slot }
-    {
-        self.wrote(slot);
-    }
-
     // A white object becomes gray. Its segment is looked for at `near` first.
     #[inline(always)]
     fn gray_white(&mut self, near: usize, obj: u64)
         ensures { self.new ≡ grayed self.old obj }
     {
-        set_bit_near(&mut self.shades, near, Bit::Marked, obj);
+        self.mark_near(near, obj);
         self.gray = self.gray.saturating_add(1);
+    }
+
+    // An object is marked, and its segment may have gray ones. It is looked for at `near` first.
+    #[inline(always)]
+    fn mark_near(&mut self, near: usize, obj: u64)
+        ensures { self.new ≡ record self.old { shades = changed_at obj (with_marked obj) self.old.shades } }
+    {
+        match find_near(&self.shades, near, obj) {
+            Some(k) => {
+                self.pending.add(k as u64);
+                set_bit_in(&mut self.shades, k, Bit::Marked, obj);
+            }
+            None => {}
+        }
     }
 
     /// None runs any more.
@@ -605,6 +346,7 @@ impl Background {
         ensures { self.new ≡ record { running = false; shades = []; gray = 0; parts = []; fronts = [] } }
     {
         self.shades.clear();
+        self.pending = Pending::none(self.alloc);
         self.parts.clear();
         self.fronts.clear();
         self.running = false;

@@ -1,7 +1,7 @@
 // Sets of numbers.
 ghost use Rattle.std.specs.Int.{bit_at};
 ghost use Rattle.std.specs.Prelude.{◌≡◌, ◌⊎◌, ℕ, ◌*◌, ◌/◌, ◌%◌, ◌<◌, ◌≤◌, ◌^◌, ◌&&◌, not, true, false, length, get_or};
-ghost use Rattle.std.specs.Prelude.{IfNone, IfOk, IfSome};
+ghost use Rattle.std.specs.Prelude.{IfNone, IfOk, IfSome, nat_eq, []};
 ghost use Rattle.clr_bgmark.specs.Bits.{count_below, has_bit, with_bit};
 ghost use Rattle.std.specs.Prelude.{◌+◌, count_ones};
 
@@ -26,10 +26,20 @@ impl Bits {
     /// No number, with room for those below `count`.
     pub(crate) fn new(alloc: Global, count: u64) -> Result<Bits, AllocError>
         ensures room { IfOk result (λ b. count ≤ 64 * length b) }
+        ensures length { IfOk result (λ b. length b ≡ count / 64 + 1) }
         ensures none { IfOk result (λ b. (n : ℕ) → has_bit b n ≡ false) }
     {
         let words = vec![in alloc; 0; (count / 64 + 1) as usize]?;
         Ok(Bits { words })
+    }
+
+    /// No number, and room for none. Takes no memory.
+    pub(crate) fn none(alloc: Global) -> Bits
+        ensures { result ≡ [] }
+    {
+        Bits {
+            words: Vec::new(alloc),
+        }
     }
 
     /// Whether a number is in the set.
@@ -67,7 +77,7 @@ impl Bits {
 
     /// The first number from `from` on, below `past`, that is in the set.
     pub(crate) fn first(&self, from: u64, past: u64) -> Option<u64>
-        requires { past < 2 ^ 62 }
+        requires { past < 2 ^ 63 }
         ensures low { IfSome result (λ n. from ≤ n) }
         ensures high { IfSome result (λ n. n < past) }
         ensures here { IfSome result (λ n. has_bit self.now n ≡ true) }
@@ -124,46 +134,36 @@ impl Bits {
         self.words[k] |= 1 << (n % 64);
     }
 
-    /// The same as `first_beside`, at once where the number is among those of the first word.
-    #[inline(always)]
-    pub(crate) fn next_beside(&self, other: &Bits, from: u64, past: u64) -> Option<u64>
-        requires room { past ≤ 64 * length self.now }
-        requires other_room { past ≤ 64 * length other.now }
-        requires few { past < 2 ^ 62 }
-        ensures low { IfSome result (λ n. from ≤ n) }
-        ensures high { IfSome result (λ n. n < past) }
-        ensures here { IfSome result (λ n. has_bit self.now n ≡ true) }
-        ensures not_there { IfSome result (λ n. has_bit other.now n ≡ false) }
-        ensures first { IfSome result (λ n. (i : ℕ) → from ≤ i → i < n
-            → (has_bit self.now i && not (has_bit other.now i)) ≡ false) }
-        ensures none { IfNone result ((n : ℕ) → from ≤ n → n < past
-            → (has_bit self.now n && not (has_bit other.now n)) ≡ false) }
+    /// Takes a number out, for which there is room.
+    #[inline]
+    pub(crate) fn remove(&mut self, n: u64)
+        requires room { n < 64 * length self.old }
+        ensures length { length self.new ≡ length self.old }
+        ensures bits { (i : ℕ) → has_bit self.new i ≡ (not (nat_eq i n) && has_bit self.old i) }
     {
-        if from < past {
-            let k = (from / 64) as usize;
-            if let Some(m) = first_in(beside(self.words[k], other.words[k]), from) {
-                if m < past {
-                    return Some(m);
-                }
-            }
-        }
-        self.later_beside(other, from, past)
+        let k = (n / 64) as usize;
+        self.words[k] &= !(1 << (n % 64));
     }
 
-    // The same, where the number isn't among those of the first word, most likely.
-    #[inline(never)]
-    fn later_beside(&self, other: &Bits, from: u64, past: u64) -> Option<u64>
-        requires { past < 2 ^ 62 }
-        ensures low { IfSome result (λ n. from ≤ n) }
-        ensures high { IfSome result (λ n. n < past) }
+    /// The lowest of the 64 numbers from 64 times this one on that is in this set and not in the other.
+    #[inline(always)]
+    pub(crate) fn lowest_beside(&self, other: &Bits, k: u64) -> Option<u64>
+        requires room { k < length self.now }
+        requires other_room { k < length other.now }
+        requires few { k < 2 ^ 57 }
+        ensures low { IfSome result (λ n. 64 * k ≤ n) }
+        ensures high { IfSome result (λ n. n < 64 * k + 64) }
         ensures here { IfSome result (λ n. has_bit self.now n ≡ true) }
         ensures not_there { IfSome result (λ n. has_bit other.now n ≡ false) }
-        ensures first { IfSome result (λ n. (i : ℕ) → from ≤ i → i < n
+        ensures first { IfSome result (λ n. (i : ℕ) → 64 * k ≤ i → i < n
             → (has_bit self.now i && not (has_bit other.now i)) ≡ false) }
-        ensures none { IfNone result ((n : ℕ) → from ≤ n → n < past
+        ensures none { IfNone result ((n : ℕ) → 64 * k ≤ n → n < 64 * k + 64
             → (has_bit self.now n && not (has_bit other.now n)) ≡ false) }
     {
-        self.first_beside(other, from, past)
+        first_in(
+            beside(self.words[k as usize], other.words[k as usize]),
+            64 * k,
+        )
     }
 
     /// Whether all of the 64 numbers from 64 times this one on that are in this set are in the other, too.
@@ -197,7 +197,7 @@ impl Bits {
 // The first number from `n` on that is among the 64 numbers of its word, and in the word.
 #[inline]
 fn first_in(word: u64, n: u64) -> Option<u64>
-    requires { n < 2 ^ 62 }
+    requires { n < 2 ^ 63 }
     ensures low { IfSome result (λ m. n ≤ m) }
     ensures near { IfSome result (λ m. m / 64 ≡ n / 64) }
     ensures here { IfSome result (λ m. bit_at word (m % 64) ≡ 1) }

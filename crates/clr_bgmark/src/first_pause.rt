@@ -11,7 +11,7 @@ ghost use Rattle.clr_view.specs.View.{IsHeld};
 ghost use Rattle.clr_bgmark.specs.Pauses.{all_taken, AreShadesOf, IsBare, IsOldBelow, taken_in, taken_one, used_of};
 ghost use Rattle.clr_bgmark.specs.Pauses.{used_size};
 ghost use Rattle.clr_bgmark.specs.FirstParts.{AreUntold, gapped_one, HasTold, IsFresh, IsTold, no_part, no_shade};
-ghost use Rattle.clr_bgmark.specs.Shades.{AreApart, covers, IsShade};
+ghost use Rattle.clr_bgmark.specs.Shades.{AreApart, AreRising, covers, IsShade};
 ghost use Rattle.clr_bgmark.specs.Tiles.{AreParts, HaveEdges};
 
 use crate::NoMemory;
@@ -27,6 +27,7 @@ pub(crate) fn shades_of(alloc: Global, heap: &Heap) -> Result<Vec<Shade>, NoMemo
     ensures shades { IfOk result (λ v. AreShadesOf heap.now v.items) }
     ensures lawful { IfOk result (λ v. AllByRecursion IsShade v.items) }
     ensures apart { IfOk result (λ v. AreApart v.items) }
+    ensures rising { IfOk result (λ v. AreRising v.items) }
     ensures none { IfOk result (λ v. AllByRecursion IsBare v.items) }
 {
     let mut shades = Vec::new(alloc);
@@ -192,7 +193,7 @@ fn take_item(
     }
 }
 
-// The same for an item of any kind in segment `k`. Its kind becomes known where it is an object without a length.
+// Takes an item of any kind in segment `k`. Its kind becomes known where it is an object without a length.
 #[inline(never)]
 fn take_other(
     shade: &mut Shade,

@@ -1,5 +1,5 @@
 // References of an object that are followed with the bits of one segment lent.
-ghost use Rattle.std.specs.Prelude.{◌≡◌, ◌+◌, ◌^◌, ◌<◌, ◌≤◌, min};
+ghost use Rattle.std.specs.Prelude.{◌≡◌, ◌≢◌, ℕ, ◌+◌, ◌^◌, ◌<◌, ◌≤◌, get_or, length, min};
 ghost use Rattle.clr_types.specs.Descriptors.{offsets_from};
 ghost use Rattle.clr_heap.specs.Memories.{memory_index};
 ghost use Rattle.clr_heap.specs.View.{IsHeap, word_of};
@@ -7,7 +7,7 @@ ghost use Rattle.clr_view.specs.SlotValues.{StandsAt};
 ghost use Rattle.clr_view.specs.View.{IsHeld};
 ghost use Rattle.clr_mark.specs.Markings.{references_at};
 ghost use Rattle.clr_bgmark.specs.Lending.{HasMetNear, StaysLawful};
-ghost use Rattle.clr_bgmark.specs.Shades.{BackgroundView, IsBackground, met_all};
+ghost use Rattle.clr_bgmark.specs.Shades.{BackgroundView, IsBackground, met_all, ShadeView};
 
 use crate::shade::Shade;
 use clr_heap::Heap;
@@ -32,6 +32,8 @@ pub(crate) fn meet_near(
     requires segment { k ≡ memory_index heap.now.memories obj }
     requires run { references_at types.now heap.now obj ≡ offsets_from run.offset run.count }
     requires from { from ≤ run.count }
+    ensures length { length shades.new.items ≡ length shades.old.items }
+    ensures others { (k : ℕ) (d : ShadeView) → k ≢ near → get_or shades.new.items k d ≡ get_or shades.old.items k d }
     ensures low { from ≤ result.0 }
     ensures high { result.0 ≤ run.count }
     ensures background { IsBackground shades.old.items → IsBackground shades.new.items }
@@ -48,7 +50,8 @@ pub(crate) fn meet_near(
     }
 }
 
-// The same with the bits of the segment lent, so that the loop keeps what it needs in registers.
+// The references of a run are followed with the bits of the segment lent, so that the loop keeps what it needs in
+// registers.
 #[inline(always)]
 fn meet_lent(
     shade: &mut Shade,

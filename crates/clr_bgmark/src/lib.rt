@@ -10,6 +10,7 @@ mod kind;
 mod last_pause;
 mod lending;
 mod part;
+mod pending;
 mod shade;
 mod shades;
 

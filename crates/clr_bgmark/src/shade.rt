@@ -1,17 +1,22 @@
 // The bits of one segment.
 ghost use Rattle.std.specs.Prelude.{◌≡◌, ℕ, ◌+◌, ◌*◌, ◌/◌, ◌%◌, ◌<◌, ◌≤◌, ◌^◌, ◌&&◌, not, true, false, IfOk, IfSome};
-ghost use Rattle.std.specs.Prelude.{get_or, IfNone};
+ghost use Rattle.std.specs.Prelude.{get_or, IfNone, length};
 ghost use Rattle.clr_bgmark.specs.Bits.{count_below, has_bit};
 ghost use Rattle.clr_bgmark.specs.Lending.{found_near, IsNear, met_near};
 ghost use Rattle.clr_bgmark.specs.Pauses.{IsUnlogged, PassesCell};
 ghost use Rattle.clr_bgmark.specs.Settling.{IsTakenIn};
-ghost use Rattle.clr_bgmark.specs.Shades.{card_of, cell_colour, cell_of, covers, is_gray_cell, is_outside, is_white};
+ghost use Rattle.clr_bgmark.specs.Shades.{card_of, cell_colour, cell_of, covers, HasNoGray, is_gray_cell};
+ghost use Rattle.clr_bgmark.specs.Shades.{is_gray_number, is_outside, is_white};
 ghost use Rattle.clr_bgmark.specs.Shades.{with_scanned, with_set};
 
 use crate::background::Colour;
 use crate::bits::Bits;
+use crate::pending::Pending;
 use std::alloc::{AllocError, Global};
 use std::marker::Model;
+
+// How many places of eight bytes a card has.
+const CARD_CELLS: u64 = 2048 / 8;
 
 /// What a bit says: of a place that its object was taken, is marked or was scanned, or of a card that it is logged.
 #[derive(Clone, Copy, Debug, PartialEq, Eq)]
@@ -41,8 +46,8 @@ pub(crate) struct Shade {
     marked: Bits,
     scanned: Bits,
     logged: Bits,
-    // No gray place has a lower number.
-    lowest: u64,
+    // Which words of bits may have a gray place.
+    pending: Pending,
 }
 
 impl Model for Shade {
@@ -68,7 +73,7 @@ impl Model for Shade {
       marked = s.marked;
       scanned = s.scanned;
       logged = s.logged;
-    }) s.lowest };
+    }) s.pending.numbers };
 }
 
 impl Shade {
@@ -91,6 +96,7 @@ impl Shade {
         let marked = Bits::new(alloc, size / 8)?;
         let scanned = Bits::new(alloc, size / 8)?;
         let logged = Bits::new(alloc, size / 2048)?;
+        let pending = Pending::new(alloc, size / 512)?;
         Ok(Shade {
             base,
             size,
@@ -98,7 +104,7 @@ impl Shade {
             marked,
             scanned,
             logged,
-            lowest: 0,
+            pending,
         })
     }
 
@@ -209,8 +215,7 @@ impl Shade {
         self.logged.has((a - self.base) / 2048)
     }
 
-    /// The first gray place, one that is marked and wasn't scanned: it is scanned then. It is looked for from the last
-    /// one on, or from a lower one that was marked since.
+    /// The first gray place, one that is marked and wasn't scanned: it is scanned then.
     #[inline(always)]
     pub(crate) fn take_gray(&mut self) -> Option<u64>
         ensures taken { IfSome result (λ a. self.new ≡ with_scanned a self.old) }
@@ -218,22 +223,16 @@ impl Shade {
         ensures covered { IfSome result (λ a. covers self.old a ≡ true) }
         ensures aligned { IfSome result (λ a. a % 8 ≡ 0) }
         ensures gray { IfSome result (λ a. is_gray_cell self.old (cell_of self.old a) ≡ true) }
-        ensures none { IfNone result ((a : ℕ) → covers self.old a ≡ true
-            → is_gray_cell self.old (cell_of self.old a) ≡ false) }
+        ensures lowest { IfSome result (λ a. (n : ℕ) → n < cell_of self.old a → is_gray_cell self.old n ≡ false) }
+        ensures none { IfNone result (HasNoGray self.old) }
     {
-        match self
-            .marked
-            .next_beside(&self.scanned, self.lowest, self.size / 8)
-        {
+        let past = self.size / 512;
+        match first_gray(&mut self.pending, &self.marked, &self.scanned, past) {
             Some(n) => {
-                self.lowest = n;
                 self.scanned.add(n);
                 Some(self.base + 8 * n)
             }
-            None => {
-                self.lowest = self.size / 8;
-                None
-            }
+            None => None,
         }
     }
 
@@ -254,7 +253,7 @@ impl Shade {
         Some(self.base + 8 * n)
     }
 
-    // The same by the numbers of cells.
+    // The first marked one from a cell on, by the numbers of cells. It passes over none that is looked for.
     fn first_cell(&self, search: Search, start: u64) -> Option<u64>
         ensures low { IfSome result (λ n. start ≤ n) }
         ensures high { IfSome result (λ n. n < self.now.size / 8) }
@@ -278,8 +277,14 @@ impl Shade {
         ensures first { IfSome result (λ n. (i : ℕ) → start ≤ i → i < n → is_gray_cell self.now i ≡ false) }
         ensures none { IfNone result ((i : ℕ) → start ≤ i → i < self.now.size / 8 → is_gray_cell self.now i ≡ false) }
     {
-        self.marked
-            .first_beside(&self.scanned, start.max(self.lowest), self.size / 8)
+        let low = self.pending.lowest().min(self.size / 512);
+        match self
+            .marked
+            .first_beside(&self.scanned, start.max(64 * low), self.size / 8)
+        {
+            Some(n) => Some(n),
+            None => None,
+        }
     }
 
     // The last marked one before the next logged card, whose object may reach into it, or else the first one from that
@@ -293,7 +298,7 @@ impl Shade {
         ensures none { IfNone result ((i : ℕ) → start ≤ i → i < self.now.size / 8
             → has_bit self.now.marked i ≡ false) }
     {
-        let edge = 256 * self.next_logged(start / 256);
+        let edge = CARD_CELLS * self.next_logged(start / CARD_CELLS);
         match self.marked.last(start, edge) {
             Some(n) => Some(n),
             None => self.marked.first(start.max(edge), self.size / 8),
@@ -320,8 +325,8 @@ impl Shade {
         match bit {
             Bit::Taken => self.taken.add((a - self.base) / 8),
             Bit::Marked => {
-                self.lowest = self.lowest.min((a - self.base) / 8);
                 self.marked.add((a - self.base) / 8);
+                self.pending.add((a - self.base) / 512);
             }
             Bit::Scanned => self.scanned.add((a - self.base) / 8),
             Bit::Logged => self.logged.add((a - self.base) / 2048),
@@ -383,4 +388,32 @@ impl Shade {
         let n = self.taken.last(0, 64 * words)?;
         Some(self.base + 8 * n)
     }
+}
+
+// The lowest number that is marked and wasn't scanned, below 64 times `past`. What is pending are words that may have
+// some: those that are passed have none, and aren't pending any more.
+#[inline(always)]
+fn first_gray(pending: &mut Pending, marked: &Bits, scanned: &Bits, past: u64) -> Option<u64>
+    requires room { past ≤ 64 * length pending.old.numbers }
+    requires marked_room { past ≤ length marked.now }
+    requires scanned_room { past ≤ length scanned.now }
+    requires few { past < 2 ^ 57 }
+    requires pending { (n : ℕ) → n < 64 * past → is_gray_number marked.now scanned.now n ≡ true
+        → has_bit pending.old.numbers (n / 64) ≡ true }
+    ensures length { length pending.new.numbers ≡ length pending.old.numbers }
+    ensures pending { (n : ℕ) → n < 64 * past → is_gray_number marked.now scanned.now n ≡ true
+        → has_bit pending.new.numbers (n / 64) ≡ true }
+    ensures high { IfSome result (λ n. n < 64 * past) }
+    ensures gray { IfSome result (λ n. is_gray_number marked.now scanned.now n ≡ true) }
+    ensures lowest { IfSome result (λ n. (i : ℕ) → i < n → is_gray_number marked.now scanned.now i ≡ false) }
+    ensures none { IfNone result ((i : ℕ) → i < 64 * past → is_gray_number marked.now scanned.now i ≡ false) }
+{
+    let mut k = pending.lowest();
+    while k < past {
+        if let Some(n) = marked.lowest_beside(scanned, k) {
+            return Some(n);
+        }
+        k = pending.pass(past);
+    }
+    None
 }

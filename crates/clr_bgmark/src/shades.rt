@@ -1,23 +1,36 @@
 // The bits of all segments that there were at the first pause.
-ghost use Rattle.std.specs.Prelude.{◌≡◌, ℕ, ◌%◌, ◌<◌, true, false, length, get_or, if◌then◌else◌, IfSome, IfNone};
-ghost use Rattle.clr_bgmark.specs.Shades.{AreApart, changed_at, colour_at, is_covered, is_gray, is_logged, IsAt};
-ghost use Rattle.clr_bgmark.specs.Shades.{covers, is_outside, is_white, IsBackground, with_marked, with_scanned};
-ghost use Rattle.clr_bgmark.specs.Shades.{with_set};
+ghost use Rattle.std.specs.Prelude.{◌≡◌, ℕ, ◌%◌, ◌<◌, ◌≤◌, true, false, length, get_or, if◌then◌else◌, IfSome, IfNone};
+ghost use Rattle.clr_bgmark.specs.Shades.{changed_at, colour_at, covers, is_covered, is_gray, is_logged, is_outside};
+ghost use Rattle.clr_bgmark.specs.Shades.{is_white, IsAt, IsBackground, IsWatched, with_marked, with_scanned, with_set};
 ghost use Rattle.clr_bgmark.specs.Shades as shades;
 
 use crate::background::Colour;
+use crate::pending::Pending;
 use crate::shade::{Bit, Shade};
 
-/// The number of the segment that has the address.
+/// The number of the segment that has the address, by halving.
 pub(crate) fn find(shades: &Vec<Shade>, a: u64) -> Option<usize>
+    requires { IsBackground shades.now.items }
     ensures within { IfSome result (λ k. k < length shades.now.items) }
     ensures at { IfSome result (λ k. IsAt shades.now.items k a) }
     ensures none { IfNone result (is_covered shades.now.items a ≡ false) }
 {
-    for k in 0..shades.len() {
-        if shades[k].covers(a) {
-            return Some(k);
+    let count = shades.len();
+    if count == 0 {
+        return None;
+    }
+    let mut low = 0;
+    let mut high = count;
+    while low + 1 < high {
+        let middle = low + (high - low) / 2;
+        if shades[middle].base() <= a {
+            low = middle;
+        } else {
+            high = middle;
         }
+    }
+    if shades[low].covers(a) {
+        return Some(low);
     }
     None
 }
@@ -25,7 +38,7 @@ pub(crate) fn find(shades: &Vec<Shade>, a: u64) -> Option<usize>
 /// The number of the segment that has the address, at once where that is `near`, a guess.
 #[inline(always)]
 pub(crate) fn find_near(shades: &Vec<Shade>, near: usize, a: u64) -> Option<usize>
-    requires { AreApart shades.now.items }
+    requires { IsBackground shades.now.items }
     ensures within { IfSome result (λ k. k < length shades.now.items) }
     ensures at { IfSome result (λ k. IsAt shades.now.items k a) }
     ensures none { IfNone result (is_covered shades.now.items a ≡ false) }
@@ -110,49 +123,34 @@ pub(crate) fn logged_in(shades: &Vec<Shade>, k: usize, a: u64) -> bool
     shades[k].is_logged(a)
 }
 
-/// A gray place, the first one of its segment, which is scanned then, and the number of the segment, a guess.
+/// The lowest gray place, which is scanned then, and the number of its segment, a guess. What is pending are segments
+/// that may have some.
 #[inline(always)]
-pub(crate) fn take_gray(shades: &mut Vec<Shade>) -> Option<(usize, u64)>
-    requires { AreApart shades.old.items }
+pub(crate) fn take_gray(shades: &mut Vec<Shade>, pending: &mut Pending) -> Option<(usize, u64)>
+    requires { IsWatched shades.old.items pending.old.numbers }
     ensures taken { IfSome result (λ f. shades.new.items ≡ changed_at f.1 (with_scanned f.1) shades.old.items) }
     ensures same { IfNone result (shades.new.items ≡ shades.old.items) }
-    ensures background { IsBackground shades.old.items → IsBackground shades.new.items }
+    ensures watched { IsWatched shades.new.items pending.new.numbers }
     ensures gray { IfSome result (λ f. is_gray shades.old.items f.1 ≡ true) }
+    ensures lowest { IfSome result (λ f. (a : ℕ) → is_gray shades.old.items a ≡ true → f.1 ≤ a) }
     ensures aligned { IfSome result (λ f. f.1 % 8 ≡ 0) }
     ensures none { IfNone result ((a : ℕ) → is_gray shades.old.items a ≡ false) }
 {
-    for k in 0..shades.len() {
-        let shade = &mut shades[k];
+    let past = shades.len() as u64;
+    let mut k = pending.lowest();
+    while k < past {
+        let shade = &mut shades[k as usize];
         if let Some(a) = shade.take_gray() {
-            return Some((k, a));
+            return Some((k as usize, a));
         }
+        k = pending.pass(past);
     }
     None
 }
 
-/// Sets a bit of an address, where its segment is there: at once where that is `near`, a guess.
-#[inline(always)]
-pub(crate) fn set_bit_near(shades: &mut Vec<Shade>, near: usize, bit: Bit, a: u64)
-    requires { AreApart shades.old.items }
-    ensures { shades.new.items ≡ changed_at a (with_set bit a) shades.old.items }
-{
-    if is_in(shades, near, a) {
-        set_bit_in(shades, near, bit, a);
-    } else {
-        set_bit_far(shades, bit, a);
-    }
-}
-
-// The same, where the address lies in another segment than the guess, most likely.
-#[inline(never)]
-fn set_bit_far(shades: &mut Vec<Shade>, bit: Bit, a: u64)
-    ensures { shades.new.items ≡ changed_at a (with_set bit a) shades.old.items }
-{
-    set_bit_at(shades, bit, a);
-}
-
 /// Sets a bit of an address, where its segment is there.
 pub(crate) fn set_bit_at(shades: &mut Vec<Shade>, bit: Bit, a: u64)
+    requires { IsBackground shades.old.items }
     ensures { shades.new.items ≡ changed_at a (with_set bit a) shades.old.items }
 {
     if let Some(k) = find(shades, a) {

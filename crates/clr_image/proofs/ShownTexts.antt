@@ -40,7 +40,7 @@ tables-shown early m handles queue second is same =
     ap₂ (λ (a b : List ℕ). a ++ b) (is ∙ ap (λ (b : Bool). handles_text b m) second) same
     ∙ ap (λ (b : Bool). tables_text b m) (sym second)
 
--- an image of the first version has nothing for them
+-- an image of the first version has nothing for `gchandles` and `finalizequeue`
 pub tables-none : (early : Bool) (m : Machine) → early ≡ true → [] ≡ tables_text early m
 tables-none early m is = ap (λ (b : Bool). tables_text b m) (sym is)
 
@@ -73,7 +73,7 @@ put_flushed w0 w1 w2 f0 f1 f2 held left last text one other none empty =
       counted = other.counted ∙ one.counted;
     }
 
--- or a part of it
+-- a write of what the buffer held behind a text failed
 pub cut_flushed : (w0 w1 w2 : Option (List ℕ)) (f0 f1 f2 : ℕ) (held left text : List ℕ)
     → IsPut w0 w1 f0 f1 (held ++ text) left → IsCut w1 w2 f1 f2 left → held ≡ [] → IsCut w0 w2 f0 f2 text
 cut_flushed w0 w1 w2 f0 f1 f2 held left text one other empty = record {
@@ -85,7 +85,7 @@ cut_flushed w0 w1 w2 f0 f1 f2 held left text one other empty = record {
   rose = subst (λ (before : ℕ). Rose before f2) one.counted other.rose;
 }
 
--- a text behind an empty buffer
+-- a write of a text behind an empty buffer failed
 pub cut_alone : (w0 w1 : Option (List ℕ)) (f0 f1 : ℕ) (held text : List ℕ) → IsCut w0 w1 f0 f1 (held ++ text)
     → held ≡ [] → IsCut w0 w1 f0 f1 text
 cut_alone w0 w1 f0 f1 held text cut empty = subst (λ (h : List ℕ). IsCut w0 w1 f0 f1 (h ++ text)) empty cut

@@ -60,7 +60,7 @@ all_text m = dumpheap_text m (λ place. true) (plain_options all_options)
 abbrev pub tables_text : Bool → Machine → List ℕ
 tables_text first m = if first then [] else gchandles_text m ++ finalizequeue_text m
 
--- the first of them
+-- the reply to `gchandles`, which an image of the first version has nothing for
 abbrev pub handles_text : Bool → Machine → List ℕ
 handles_text first m = if first then [] else gchandles_text m
 

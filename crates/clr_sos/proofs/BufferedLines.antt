@@ -17,7 +17,7 @@ listing_all rows xs items t all is =
     ap (λ (u : Totals). flat_map (item_line rows) xs ++ totals_line u) is
     ∙ ap (λ (is : List Item). dump_by_mode Full rows is) all
 
--- the lines of a queue's lists, by lists that are those
+-- lists that are those of a queue have its lines
 pub queue_is : (rows : List TypeRow) (objects : List Object) (some more entries ready : List ℕ) → some ≡ entries
     → more ≡ ready → queue_text rows objects some more ≡ queue_text rows objects entries ready
 queue_is rows objects some more entries ready e f = λ k. queue_text rows objects (e k) (f k)

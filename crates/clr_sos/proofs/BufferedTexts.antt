@@ -51,7 +51,7 @@ module _ (w0 w1 w2 : Option (List ℕ)) (f0 f1 f2 : ℕ) (held left : List ℕ) 
         counted = counted ∙ put.counted;
       }
 
-  -- or a part of the text
+  -- all that was held was written, and then a part of a text behind it
   pub cut_past : (text : List ℕ) (n : ℕ) → IsPut w0 w1 f0 f1 held left → left ≡ [] → Appended w1 w2 (take n text)
       → Rose f1 f2 → IsCut w0 w2 f0 f2 (held ++ text)
   cut_past text n put none appended rose =
@@ -67,7 +67,7 @@ module _ (w0 w1 w2 : Option (List ℕ)) (f0 f1 f2 : ℕ) (held left : List ℕ) 
         rose = subst (λ (before : ℕ). Rose before f2) put.counted rose;
       }
 
-  -- two texts
+  -- a text was put, and another behind it
   pub put_more : (last a b text : List ℕ) → IsPut w0 w1 f0 f1 (held ++ a) left → IsPut w1 w2 f1 f2 (left ++ b) last
       → a ++ b ≡ text → IsPut w0 w2 f0 f2 (held ++ text) last
   put_more last a b text one other e = record {
@@ -79,7 +79,7 @@ module _ (w0 w1 w2 : Option (List ℕ)) (f0 f1 f2 : ℕ) (held left : List ℕ) 
     counted = other.counted ∙ one.counted;
   }
 
-  -- a write of the second failed
+  -- a text was put, and a write of the one behind it failed
   pub cut_more : (a b text : List ℕ) → IsPut w0 w1 f0 f1 (held ++ a) left → IsCut w1 w2 f1 f2 (left ++ b)
       → a ++ b ≡ text → IsCut w0 w2 f0 f2 (held ++ text)
   cut_more a b text one other e = record {
@@ -92,7 +92,7 @@ module _ (w0 w1 w2 : Option (List ℕ)) (f0 f1 f2 : ℕ) (held left : List ℕ) 
     rose = subst (λ (before : ℕ). Rose before f2) one.counted other.rose;
   }
 
-  -- a write of the second failed, and others would have come behind it
+  -- a text was put, a write of the one behind it failed, and a third would have come
   pub cut_within : (a b c text : List ℕ) → IsPut w0 w1 f0 f1 (held ++ a) left → IsCut w1 w2 f1 f2 (left ++ b)
       → (a ++ b) ++ c ≡ text → IsCut w0 w2 f0 f2 (held ++ text)
   cut_within a b c text one other e =
@@ -101,11 +101,12 @@ module _ (w0 w1 w2 : Option (List ℕ)) (f0 f1 f2 : ℕ) (held left : List ℕ) 
 -- ---- lines
 
 module _ {X : Type 0} (says : X → List ℕ) where
-  -- the lines of elements, with one more behind them, and what comes behind that
+  -- the lines of elements, with one more behind them
   pub lines_one : (xs : List X) (x : X) → flat_map says xs ++ says x ≡ flat_map says (xs ++ x ∷ [])
   lines_one xs x = ap (λ (l : List ℕ). flat_map says xs ++ l) (sym (append-nil (says x)))
       ∙ sym (flat_map-append says xs (x ∷ []))
 
+  -- the lines up to an element, those of the elements behind it, and what comes behind them all
   pub lines_cut : (xs left all : List X) (x : X) (end : List ℕ) → xs ++ (x ∷ left) ≡ all
       → (flat_map says xs ++ says x) ++ (flat_map says left ++ end) ≡ flat_map says all ++ end
   lines_cut xs left all x end e =
@@ -115,12 +116,13 @@ module _ {X : Type 0} (says : X → List ℕ) where
       ∙ ap (λ (l : List ℕ). l ++ end) (sym (flat_map-append says xs (x ∷ left)))
       ∙ ap (λ (ys : List X). flat_map says ys ++ end) e
 
-  -- by index
+  -- the lines of elements up to an index, with the next one
   pub lines_next : (xs : List X) (k : ℕ) (d : X) → k < length xs
       → flat_map says (take k xs) ++ says (get_or xs k d) ≡ flat_map says (take (k + 1) xs)
   lines_next xs k d within =
       lines_one (take k xs) (get_or xs k d) ∙ ap (λ (ys : List X). flat_map says ys) (sym (take_more xs k d within))
 
+  -- the lines of elements up to an index, with the next one and all behind it
   pub lines_stop : (xs : List X) (k : ℕ) (d : X) → k < length xs
       → (flat_map says (take k xs) ++ says (get_or xs k d)) ++ flat_map says (drop (k + 1) xs) ≡ flat_map says xs
   lines_stop xs k d within =

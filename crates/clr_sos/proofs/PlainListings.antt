@@ -34,11 +34,11 @@ filter-all test (x ∷ xs) on =
     let e = on x first in
     let r = filter-all test xs (λ i is. on i (later is)) in λ k. if e k then x ∷ r k else r k
 
--- no option
+-- the options of a `dumpheap` without words
 abbrev pub no_options : DumpOptions
 no_options = record { mode = Full; life = Any; mt = None; name = None; least = None; greatest = None }
 
--- what it asks for
+-- what a `dumpheap` without words wants
 abbrev all_wanted : Wanted
 all_wanted = record { life = Any; by_mt = None; by_name = None; least = 0; greatest = 2 ^ 64 - 1 }
 

@@ -6,7 +6,7 @@ use Rattle.clr_bgmark.specs.Pauses.{IsBare, used_of, used_size}
 use Rattle.std.proofs.lemmas.List.{map-append, take_all, take_more}
 use Rattle.clr_types.specs.declared.segment.SegInfo.{SegInfo}
 use Rattle.clr_bgmark.specs.Shades.{IsShade, ShadeView}
-use Rattle.clr_bgmark.proofs.FirstPause.{apart_shapes}
+use Rattle.clr_bgmark.proofs.FirstPause.{apart_shapes, rising_shapes}
 use Rattle.clr_bgmark.proofs.first_pause.shades_of.Goals as goal
 
 pub loop-k-preserved : goal.loop-k-preserved
@@ -49,5 +49,15 @@ returns-clause-apart c =
     let count = c.segments-k-end.ensures.count in
     let all : length segs ≤ c.loop-k.k = omega (arith, low, count) in
     apart_shapes c.loop-k.shades.items segs
+    (c.loop-k.invariant.shapes ∙ ap (map used_of) (take_all c.loop-k.k segs all))
+    c.segments-k-end.ensures.heap.segments c.segments-k-end.ensures.heap.disjoint
+
+pub returns-clause-rising : goal.returns-clause-rising
+returns-clause-rising c =
+    let segs = c.args.heap.now.segments in
+    let low = c.loop-k-test.false in
+    let count = c.segments-k-end.ensures.count in
+    let all : length segs ≤ c.loop-k.k = omega (arith, low, count) in
+    rising_shapes c.loop-k.shades.items segs
     (c.loop-k.invariant.shapes ∙ ap (map used_of) (take_all c.loop-k.k segs all))
     c.segments-k-end.ensures.heap.segments c.segments-k-end.ensures.heap.disjoint

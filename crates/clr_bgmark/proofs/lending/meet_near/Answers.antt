@@ -1,4 +1,5 @@
-use Rattle.std.proofs.Common.{◌<◌, length, arith}
+use Rattle.std.proofs.Common.{◌<◌, length, arith, get_or-set_other}
+use Rattle.std.proofs.lemmas.List.{length-set}
 use Rattle.clr_types.specs.Descriptors.{offsets_from}
 use Rattle.clr_heap.specs.View.{word_of}
 use Rattle.clr_bgmark.specs.Shades.{met_all}
@@ -28,3 +29,10 @@ pub returns-else-near-len-clause-met : goal.returns-else-near-len-clause-met
 returns-else-near-len-clause-met c first v same lawful fits e =
     nothing_lent c.args.shades.now.items v
     (met_all (word_of c.args.heap.now) first c.args.obj (offsets_from c.args.run.offset c.args.from)) same fits e
+
+pub returns-then-near-len-clause-length : goal.returns-then-near-len-clause-length
+returns-then-near-len-clause-length c = length-set c.args.shades.now.items c.args.near c.meet_lent.new.shade
+
+pub returns-then-near-len-clause-others : goal.returns-then-near-len-clause-others
+returns-then-near-len-clause-others c =
+    λ k d ne. get_or-set_other c.args.shades.now.items c.args.near k c.meet_lent.new.shade d ne

@@ -12,4 +12,4 @@ returns-then-is_in-clause-within c = (c.is_in.ensures c.if-is_in.true none).0
 pub returns-then-is_in-clause-at : goal.returns-then-is_in-clause-at
 returns-then-is_in-clause-at c =
     let there = c.is_in.ensures c.if-is_in.true none in
-    apart_at c.args.shades.now.items c.args.near c.args.a none c.requires there.0 there.1
+    apart_at c.args.shades.now.items c.args.near c.args.a none c.requires.apart there.0 there.1

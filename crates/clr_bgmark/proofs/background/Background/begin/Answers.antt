@@ -6,19 +6,21 @@ use Rattle.clr_sweep.specs.declared.behind.Front.{Front}
 use Rattle.clr_bgmark.specs.Closing.{without_colours}
 use Rattle.clr_bgmark.specs.Pauses.{all_taken}
 use Rattle.clr_bgmark.specs.Scanning.{IsCounted}
-use Rattle.clr_bgmark.specs.Shades.{BackgroundView, is_marked, is_taken, PartView, ShadeView}
+use Rattle.clr_bgmark.specs.Shades.{AreRising, BackgroundView, is_marked, is_taken, PartView, ShadeView}
 use Rattle.clr_bgmark.specs.Tiles.{AreParts, AreTiled}
 use Rattle.clr_bgmark.proofs.AllParts.{shade_count}
 use Rattle.clr_bgmark.proofs.FirstBegun.{first_begun, items_covered, taking_found, taking_marks}
 use Rattle.clr_bgmark.proofs.FirstColours.{bare_marks, first_bare, first_objects, first_whole, IsInFirstPause}
 use Rattle.clr_bgmark.proofs.FirstColours.{roots_first, roots_running, take_all_first, targets_first, targets_running}
 use Rattle.clr_bgmark.proofs.FirstCounted.{none_counted, roots_counted, targets_counted}
+use Rattle.clr_bgmark.proofs.FirstPause.{taken_rising}
 use Rattle.clr_bgmark.proofs.FirstTaken.{all_shapes, shape}
 use Rattle.clr_bgmark.proofs.FirstTiles.{beside_colours, first_tiled, roots_beside, targets_beside}
 use Rattle.clr_bgmark.proofs.FirstRoots.{IsMemberBelow, IsNamed, IsTargetBelow, named_root, root_named, roots_met}
 use Rattle.clr_bgmark.proofs.FirstRoots.{targets_met}
 use Rattle.clr_bgmark.proofs.Meeting.{HasMet, met_after}
 use Rattle.clr_bgmark.proofs.SameTiles.{same_count, same_parts}
+use Rattle.clr_bgmark.proofs.Watched.{unmarked_quiet}
 use Rattle.clr_bgmark.proofs.background.Background.begin.Goals.{After-gray_targets}
 use Rattle.clr_bgmark.proofs.background.Background.begin.Goals as goal
 
@@ -89,7 +91,24 @@ invariant_of-self c =
     (take_all_first h items bare bare items
     (first_bare h items bare c.in_ok-shades.ensures.lawful c.in_ok-shades.ensures.apart c.in_ok-shades.ensures.none)
     (λ i k. k)) in
-    record { shades = f.shades; apart = f.apart }
+    let count = shade_count h bare c.in_ok-shades.ensures.shades in
+    record {
+      background = record {
+        shades = f.shades;
+        apart = f.apart;
+        rising = subst AreRising (sym c.take_oldest.ensures.taken) (taken_rising h items bare c.in_ok-shades.ensures.rising);
+      };
+      room =
+          let made = c.in_ok-pending.ensures.room in
+          let segments = c.segments.ensures.count in
+          let same =
+          ap length c.take_oldest.ensures.taken ∙ sym (length-map (all_taken h bare items) shape)
+          ∙ ap length (all_shapes h items bare) ∙ length-map bare shape in
+          omega (arith, made, segments, count, same);
+      pending = λ k d l off. unmarked_quiet c.take_oldest.new.shades.items f.apart (λ b.
+          ap (λ (now : List ShadeView). is_marked now b) c.take_oldest.ensures.taken
+          ∙ taking_marks h items bare bare items b ∙ bare_marks bare c.in_ok-shades.ensures.none b) k d l;
+    }
 
 pub returns-clause-running : goal.returns-clause-running
 returns-clause-running c =

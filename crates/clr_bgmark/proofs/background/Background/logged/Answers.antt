@@ -9,3 +9,6 @@ returns-in-None c =
     sym (none_told (λ s a. has_bit s.logged (card_of s a)) c.self.inside.shades.items c.args.slot
     c.in-None.ensures.none)
     ∙ ap (λ (v : BackgroundView). is_logged v.shades c.args.slot) c.self.view_is
+
+pub find-requires : goal.find-requires
+find-requires c = c.self.invariant.background

@@ -27,5 +27,5 @@ returns-clause-fronts c =
     let bases = subst (λ (b : BackgroundView). HaveSameBases h b.shades) is c.requires.bases in
     let fronts = subst (λ (b : BackgroundView). AreFronts rows h b.shades b.fronts) is c.requires.fronts in
     λ v. subst (λ (b : BackgroundView). HasFoundMarks rows h v b.shades → HasFronts rows new v b.fronts) c.self.view_is
-    (fronts_marked rows h new v ss fs c.requires.heap c.requires.held c.requires.unmarked c.self.invariant.apart bases
+    (fronts_marked rows h new v ss fs c.requires.heap c.requires.held c.requires.unmarked c.self.invariant.background.apart bases
     (part_size ss c.self.inside.parts.items parts) fronts c.mark_behind.ensures)

@@ -15,4 +15,4 @@ pub meet_within-requires-clause-at : goal.meet_within-requires-clause-at
 meet_within-requires-clause-at c =
     let there = c.is_in.ensures c.if-is_in.true none in
     subst (λ (v : BackgroundView). IsAt v.shades c.args.near c.args.target) c.self.view_is
-    (apart_at c.self.inside.shades.items c.args.near c.args.target none c.self.invariant.apart there.0 there.1)
+    (apart_at c.self.inside.shades.items c.args.near c.args.target none c.self.invariant.background.apart there.0 there.1)

@@ -26,3 +26,6 @@ returns-in-None c =
     c.wrote.ensures.value
     ∙ sym (met_outside c.args.self.now c.args.target c.args.slot c.requires.object
     (ap (λ (v : BackgroundView). is_covered v.shades c.args.target) (sym c.self.view_is) ∙ c.in-None.ensures.none))
+
+pub find-requires : goal.find-requires
+find-requires c = c.self.invariant.background

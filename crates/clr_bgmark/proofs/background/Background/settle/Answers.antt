@@ -9,5 +9,5 @@ returns-clause-fronts c =
     let bases = subst (λ (v : BackgroundView). HaveSameBases c.args.heap.now v.shades) (sym c.self.view_is)
     c.requires.bases in
     are_fronts c.args.types.now c.args.heap.now c.requires.heap c.requires.held c.requires.unmarked
-    c.requires.free_heads c.self.inside.shades.items c.self.invariant.apart c.put_fronts.new.fronts.items
+    c.requires.free_heads c.self.inside.shades.items c.self.invariant.background.apart c.put_fronts.new.fronts.items
     c.put_fronts.ensures.room bases c.put_fronts.ensures.fronts

@@ -12,8 +12,7 @@ use Rattle.clr_view.specs.View.{IsHeld}
 use Rattle.clr_view.specs.Marks.{Marked}
 use Rattle.clr_mark.specs.Marks.{is_condemned_place, IsClosed, IsRemarked, LeadsTo}
 use Rattle.clr_mark.specs.Waiting.{IsFollowedBy, IsGrayBy, IsIdle, IsSettledBy, IsWithin, lowest_of, MarkerView, Waits}
-use Rattle.clr_mark.specs.Markings.{HasGrayed, HasGrayedBy, HasReached, IsRescannedBy, LeavesWaiting}
-use Rattle.clr_mark.specs.Markings.{unmarked_count, weight}
+use Rattle.clr_mark.specs.Markings.{HasGrayed, HasGrayedBy, HasReached, IsRescannedBy, LeavesWaiting, weight}
 use Rattle.clr_mark.proofs.Held.{keeps_closed, remarked-trans}
 use Rattle.clr_mark.proofs.Graying.{AfterMark, leads_back, leads_on, reach_in, reach_on, reached-refl, reached-trans}
 use Rattle.clr_mark.proofs.OneMark.{AfterGray, known_on}

@@ -1,5 +1,5 @@
 -- A marking over a list of ties, told by the handles that the list is of.
-use Rattle.std.proofs.Common.{◌≡◌, ◌⊎◌, ◌↔◌, inl, inr, ℕ, true, false, not, List, [], None, arith, sym, ◌∙◌, subst}
+use Rattle.std.proofs.Common.{◌≡◌, ◌⊎◌, ◌↔◌, inl, inr, ℕ, true, List, [], None, arith, sym, ◌∙◌, subst}
 use Rattle.std.proofs.lemmas.Bool.{both_ways, cases_Bool}
 use Rattle.clr_types.specs.Types.{TypeRow}
 use Rattle.clr_handles.specs.Tables.{Table}
@@ -12,7 +12,7 @@ use Rattle.clr_view.specs.World.{HandlesStand}
 use Rattle.clr_mark.specs.Marks.{is_condemned_place, is_new, IsRemarked, LeadsTo}
 use Rattle.clr_mark.specs.Markings.{HasGrayed, HasGrayedBy, HasReached}
 use Rattle.clr_mark.specs.TieLists.{IsTied, IsTiedToOldBy, LeadsBy, ListsOpen}
-use Rattle.clr_mark.specs.Ties.{AreTiesFollowed, Draws, IsTiedToOld}
+use Rattle.clr_mark.specs.Ties.{AreTiesFollowed, Draws}
 use Rattle.clr_mark.specs.Waiting.{IsGray, IsGrayBy, IsIdle, MarkerView}
 use Rattle.clr_mark.specs.declared.marker.listed.Tie.{Tie}
 use Rattle.clr_mark.proofs.EdgeLaws.{gray_by_same, grayed_by_same, settled_by_marked}

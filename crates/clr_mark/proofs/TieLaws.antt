@@ -1,20 +1,16 @@
 -- Ties of a list, beside slots, as what leads from one object to another.
-use Rattle.std.proofs.Common.{◌≡◌, ◌⊎◌, ◌↔◌, inl, inr, ℕ, ◌<◌, ◌≤◌, true, false, List, [], length, get_or, ap, sym, ◌∙◌}
+use Rattle.std.proofs.Common.{◌≡◌, ◌↔◌, inl, inr, ℕ, ◌<◌, List, [], length, get_or, sym, ◌∙◌}
 use Rattle.std.proofs.Common.{subst, arith}
-use Rattle.std.specs.List.{All, Contains}
 use Rattle.clr_types.specs.Types.{TypeRow}
-use Rattle.clr_types.specs.declared.handle.Handle.{Handle}
-use Rattle.clr_handles.specs.Tables.{Table}
 use Rattle.clr_heap.specs.View.{HeapView, IsHeap}
 use Rattle.clr_model.specs.Machine.{Object}
-use Rattle.clr_model.specs.Reach.{SecondOf, SlotNames}
+use Rattle.clr_model.specs.Reach.{SlotNames}
 use Rattle.clr_view.specs.View.{IsHeld}
 use Rattle.clr_mark.specs.Marks.{IsRemarked, LeadsTo}
 use Rattle.clr_mark.specs.TieLists.{AreTies, IsTied, LeadsBy}
 use Rattle.clr_mark.specs.declared.marker.listed.Tie.{Tie}
 use Rattle.clr_mark.proofs.EdgeLaws.{AreStable}
 use Rattle.clr_mark.proofs.Graying.{same_condemned}
-use Rattle.clr_mark.proofs.Held.{remarked_back}
 use Rattle.clr_mark.proofs.Remarking.{keeps_objects, keeps_stands}
 
 -- what slots and ties lead to stays under other marks
@@ -37,7 +33,7 @@ ties_stable rows ties = record {
   };
 }
 
--- and what ties name stands
+-- what ties name still stands under other marks
 pub ties_on : (rows : List TypeRow) (old new : HeapView) → IsHeap old → IsHeld rows old → IsRemarked rows old new
     → (ties : List Tie) → AreTies rows old ties → AreTies rows new ties
 ties_on rows old new heap held r ties a = record {

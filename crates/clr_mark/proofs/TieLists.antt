@@ -1,5 +1,5 @@
 -- The list of what dependent handles tie, made by a pass over them.
-use Rattle.std.proofs.Common.{◌≡◌, inl, inr, ℕ, ◌<◌, ◌≤◌, ◌&&◌, true, false, not, List, [], ◌∷◌, ◌++◌, length, Some}
+use Rattle.std.proofs.Common.{◌≡◌, inl, inr, ℕ, ◌<◌, ◌≤◌, true, false, not, List, [], ◌∷◌, ◌++◌, Some}
 use Rattle.std.proofs.Common.{refl}
 use Rattle.std.proofs.Common.{sym, ◌∙◌, subst, arith, get_or, IsTrue, ltb, nat_eq, ap, ◌⊎◌}
 use Rattle.std.specs.FinMap as finmap
@@ -19,7 +19,7 @@ use Rattle.clr_view.specs.SlotValues.{StandsAt}
 use Rattle.clr_view.specs.World.{HandlesStand}
 use Rattle.clr_mark.specs.HandlePasses.{AllArePassed, HasTaken, IsBehind, NoneIsBehind}
 use Rattle.clr_mark.specs.Marks.{is_condemned_place, is_new}
-use Rattle.clr_mark.specs.TieLists.{AreTies, is_open, IsTied, ListsOpen, tie_of, with_open}
+use Rattle.clr_mark.specs.TieLists.{is_open, IsTied, ListsOpen, tie_of, with_open}
 use Rattle.clr_mark.specs.declared.marker.ahead.Ahead.{Ahead}
 use Rattle.clr_mark.specs.declared.marker.listed.Tie.{Tie}
 use Rattle.clr_mark.proofs.NewParts.{new_parts}
@@ -139,7 +139,7 @@ listed_only handles ties only x y t =
     let P : Tie → Type 0 = λ u. SecondOf handles u.primary u.second in
     subst P t.2 (only t.0 (record { primary = x; second = y }) t.1)
 
--- and stands
+-- what these ties name stands
 pub listed_stand : (rows : List TypeRow) (h : HeapView) (handles : Table) (ties : List Tie)
     → HandlesStand rows h handles
     → All (λ (t : Tie). SecondOf handles t.primary t.second) ties → (x y : ℕ) → IsTied ties x y

@@ -1,17 +1,17 @@
 -- Marking what ties name: that of one primary, and that of each primary that stays.
-use Rattle.std.proofs.Common.{◌≡◌, ◌≢◌, ◌⊎◌, inl, inr, ℕ, ◌+◌, ◌<◌, ◌≤◌, Bool, true, false, not, List, [], length}
+use Rattle.std.proofs.Common.{◌≡◌, ◌≢◌, ◌⊎◌, inl, inr, ℕ, ◌+◌, ◌<◌, ◌≤◌, true, false, not, List, length}
 use Rattle.std.proofs.Common.{get_or}
-use Rattle.std.proofs.Common.{refl, ap, sym, ◌∙◌, subst, arith, None}
-use Rattle.std.proofs.lemmas.Bool.{and_left, and_right, both_ways, cases_eq, cases_lt, true≢false}
+use Rattle.std.proofs.Common.{refl, ap, sym, ◌∙◌, subst, arith}
+use Rattle.std.proofs.lemmas.Bool.{and_left, and_right, both_ways, cases_eq, cases_lt}
 use Rattle.std.proofs.lemmas.List.{get_or_default}
 use Rattle.std.specs.List.Sorted.{IsNonDecreasingBy}
 use Rattle.clr_types.specs.Types.{TypeRow}
 use Rattle.clr_heap.specs.Memories.{HasWord}
-use Rattle.clr_heap.specs.View.{HeapView, IsHeap, word_of}
+use Rattle.clr_heap.specs.View.{HeapView, IsHeap}
 use Rattle.clr_heap.proofs.Rewrite.{shaped_heap}
 use Rattle.clr_model.specs.Reach.{follows, Reach, starts}
 use Rattle.clr_view.specs.View.{IsHeld}
-use Rattle.clr_view.specs.Marks.{has_mark, Marked}
+use Rattle.clr_view.specs.Marks.{Marked}
 use Rattle.clr_view.specs.SlotValues.{StandsAt}
 use Rattle.clr_mark.specs.Marks.{is_condemned_place, is_new, IsClosed, IsRemarked, with_mark}
 use Rattle.clr_mark.specs.Markings.{HasGrayedBy, HasReached, LeavesWaiting}

@@ -11,11 +11,11 @@ use Rattle.clr_types.specs.declared.handle.Kind.TheVariants.{Dependent, Pinned, 
 use Rattle.clr_handles.specs.Places.{names_from}
 use Rattle.clr_handles.specs.Tables.{Table}
 use Rattle.clr_handles.specs.Tops.{HasNone}
-use Rattle.clr_heap.specs.View.{HeapView, IsHeap, word_of}
+use Rattle.clr_heap.specs.View.{HeapView, IsHeap}
 use Rattle.clr_heap.proofs.Rewrite.{shaped_heap}
 use Rattle.clr_types.specs.Kinds.{is_dependent}
 use Rattle.clr_model.specs.Reach.{follows, Reach, SecondOf, starts}
-use Rattle.clr_view.specs.Marks.{has_mark, Marked}
+use Rattle.clr_view.specs.Marks.{Marked}
 use Rattle.clr_view.specs.SlotValues.{StandsAt}
 use Rattle.clr_view.specs.View.{IsHeld}
 use Rattle.clr_view.specs.World.{HandlesStand, HandleStands}

@@ -26,8 +26,8 @@ pub struct Total {
 ///
 /// `NoObject` comes exactly where no object has the place, and `NoMemory` only where there is no memory for the search.
 /// The search leaves the heap as it is, and follows each slot of what is reached once. It reserves a bit for each word
-/// of the heap's used ranges, clears of these the pages where it finds an object, and takes 24 bytes for each object
-/// that it finds.
+/// of the heap's used ranges, and takes 24 bytes for each object that it finds. Where these ranges have more than 8 MiB,
+/// no more bits are cleared than those of the pages in which it finds objects.
 pub fn objsize(alloc: Global, view: &View<'_>, a: u64) -> Result<Total, SosFault>
     requires lawful { IsLawfulView view.now }
     ensures size { IfOk result (λ total. (m : Machine) → IsViewOf view.now m → IsSizeOf m a total) }

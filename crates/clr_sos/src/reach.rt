@@ -76,7 +76,7 @@ pub(crate) fn reach(alloc: Global, view: &View<'_>) -> Result<Reached, AllocErro
 }
 
 /// The search of `reach` up to where the object with the place `a` is found: all that the roots reach where it isn't.
-/// Its bits are cleared page by page, as they are set.
+/// Of a large heap its bits are cleared page by page, as they are set.
 pub(crate) fn reach_to(alloc: Global, view: &View<'_>, a: u64) -> Result<Reached, AllocError>
     requires sound { IsSound view.now }
     requires stands { IsObjectOf view.now a }
@@ -121,16 +121,17 @@ impl Reached {
         Ok(reached)
     }
 
-    // Nothing, with room for marks of all objects. Marks for `all` are cleared at once.
+    // Nothing, with room for marks of all objects. It is told whether all that roots reach is looked for.
     fn new(alloc: Global, heap: &Heap, all: bool) -> Result<Reached, AllocError>
         ensures entries { IfOk result (λ r. r.entries.items ≡ []) }
         ensures room { IfOk result (λ r. HasRoom heap.now r.seen.items) }
         ensures clear { IfOk result (λ r. (x : ℕ) → is_seen heap.now r.seen.items x ≡ false) }
     {
+        let at_once = clears_at_once(heap, all);
         let mut seen = Vec::new(alloc);
         for k in 0..heap.segments() {
             let segment = heap.info(k);
-            let bits = Bits::new(alloc, (segment.end - segment.base) / 8, all)?;
+            let bits = Bits::new(alloc, (segment.end - segment.base) / 8, at_once)?;
             seen.push(bits)?;
         }
         let entries = Vec::new(alloc);
@@ -423,3 +424,20 @@ fn item_in(view: &View<'_>, k: usize, place: u64) -> Item
     let mt = view.heap.word_at(k, place);
     view.heap.item_of_word(view.types, k, place, mt)
 }
+
+// Whether a search clears all its bits at once: one for `all` that is reached, or over a heap of which the used ranges
+// are so small that to clear their bits takes a few microseconds. Others look up pages, and cost what they meet.
+fn clears_at_once(heap: &Heap, all: bool) -> bool {
+    if all {
+        return true;
+    }
+    let mut used = 0_u64;
+    for k in 0..heap.segments() {
+        let segment = heap.info(k);
+        used = used.saturating_add(segment.end.saturating_sub(segment.base));
+    }
+    used <= SMALL_HEAP
+}
+
+// The bytes of a heap whose bits are cleared at once: those take 128 KiB.
+const SMALL_HEAP: u64 = 8_388_608;

@@ -1,10 +1,10 @@
 // A list of what dependent handles tie, by their primaries.
-ghost use Rattle.std.specs.Prelude.{◌≡◌, ◌≢◌, ℕ, ◌<◌, ◌≤◌, true, get_or, length};
+ghost use Rattle.std.specs.Prelude.{◌≡◌, ℕ, ◌<◌, ◌≤◌, true, get_or, length};
 ghost use Rattle.std.specs.List.Sorted.{IsNonDecreasingBy};
 ghost use Rattle.clr_heap.specs.Memories.{HasWord};
-ghost use Rattle.clr_view.specs.World.{HandlesStand};
-ghost use Rattle.clr_view.specs.View.{IsHeld};
 ghost use Rattle.clr_heap.specs.View.{IsHeap};
+ghost use Rattle.clr_view.specs.View.{IsHeld};
+ghost use Rattle.clr_view.specs.World.{HandlesStand};
 ghost use Rattle.clr_mark.specs.TieLists.{ListsOpen, with_open};
 ghost use Rattle.clr_mark.specs.TieLists as lists;
 ghost use Rattle.clr_mark.specs.declared.marker.listed.Tie.{Tie as Row};
@@ -61,7 +61,8 @@ impl Marker {
         true
     }
 
-    // The same, by the numbers of the handles.
+    // Lists what dependent handles tie and isn't marked yet, by the numbers of the handles. It answers whether there was
+    // room for it.
     fn list_open(&self, heap: &Heap, types: &Types, handles: &Handles, ties: &mut Vec<Tie>) -> bool
         requires heap { IsHeap heap.now }
         requires held { IsHeld types.now heap.now }

@@ -38,7 +38,8 @@ impl Marker {
         listed
     }
 
-    // The same with room for as many ties as the list has.
+    // Marks all that is reached by slots and by dependent handles, where this list has room for what these tie. It
+    // answers whether it had.
     fn drain_with(
         &mut self,
         heap: &mut Heap,
@@ -130,7 +131,7 @@ impl Marker {
         }
     }
 
-    // The same where there are ties.
+    // Follows what is on the stack by slots and by ties, of which there are some, until nothing is.
     fn empty_tied(&mut self, heap: &mut Heap, types: &Types, ties: &[Tie])
         requires closed { IsClosed types.now heap.old }
         requires stacked { (x : ℕ) → IsIn x self.old.stack → Marked types.now heap.old x }
@@ -160,8 +161,8 @@ impl Marker {
         }
     }
 
-    // The same where there are ties. Whatever is newly marked waits, as it may be a primary: so the slots are followed
-    // without a stop, however many they are.
+    // Marks what the slots of the object at `obj` and ties to it name, where there are ties. Whatever is newly marked
+    // waits, as it may be a primary: so the slots are followed without a stop, however many they are.
     fn follow_tied(&mut self, heap: &mut Heap, types: &Types, ties: &[Tie], obj: u64)
         requires closed { IsClosed types.now heap.old }
         requires marked { Marked types.now heap.old obj }

@@ -1,5 +1,5 @@
 -- What is listed is what the handles tie.
-use Rattle.std.proofs.Common.{inl, sym, ap, ◌∙◌, subst, List}
+use Rattle.std.proofs.Common.{inl, sym, ap, subst, List}
 use Rattle.clr_mark.specs.Ties.{Draws}
 use Rattle.clr_mark.specs.TieLists.{ListsOpen}
 use Rattle.clr_mark.specs.Waiting.{IsIdle, MarkerView}

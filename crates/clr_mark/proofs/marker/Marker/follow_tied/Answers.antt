@@ -1,8 +1,7 @@
 -- Ties first, then slots.
-use Rattle.std.proofs.Common.{inl, inr, ap, sym, subst, ℕ}
+use Rattle.std.proofs.Common.{inl, inr, sym, subst, ℕ}
 use Rattle.clr_mark.specs.Marks.{LeadsTo}
 use Rattle.clr_mark.specs.TieLists.{LeadsBy}
-use Rattle.clr_view.specs.Marks.{Marked}
 use Rattle.clr_mark.proofs.EdgeLaws.{grayed_by-trans, grayed_by_waiting}
 use Rattle.clr_mark.proofs.Graying.{leads_on}
 use Rattle.clr_mark.proofs.Held.{keeps_closed}

@@ -1,6 +1,6 @@
 -- The ties of one primary are followed one by one.
-use Rattle.std.proofs.Common.{◌≡◌, ◌≤◌, ◌<◌, ℕ, arith, length}
-use Rattle.clr_mark.proofs.TieMarks.{none_behind, tie_in, tied_ends, tied_more, tied_starts, tied_word}
+use Rattle.std.proofs.Common.{arith}
+use Rattle.clr_mark.proofs.TieMarks.{none_behind, tied_ends, tied_more, tied_starts, tied_word}
 use Rattle.clr_mark.proofs.marker.Marker.mark_tied.Goals as goal
 
 pub loop-i-init : goal.loop-i-init

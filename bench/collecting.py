@@ -17,9 +17,10 @@ import shutil
 import sys
 import tempfile
 
-from programs import Program
+from programs import Program, command_line
 
-PROGRAM = Program(str(pathlib.Path(sys.argv[1]).resolve()), sys.argv[2] if len(sys.argv) > 2 else "2")
+WORDS = command_line(__doc__, 2)
+PROGRAM = Program(str(pathlib.Path(WORDS[0]).resolve()), WORDS[1] if len(WORDS) > 1 else "2")
 TURNS = 7
 FEW, MANY = 2, 42
 # Nanoseconds an object that are allowed.

@@ -20,6 +20,8 @@ import subprocess
 import sys
 import tempfile
 
+from programs import command_line
+
 ROW, TURNS = 10_000, 7
 OBJECTS = 240_000
 COLLECTED = re.compile(rb"collected \d \w+ kept (\d+) freed (\d+)")
@@ -143,9 +145,10 @@ def timed(name, script, programs, folder):
 
 
 def main():
-    programs = [[str(pathlib.Path(sys.argv[1]).resolve()), "run"]]
-    if len(sys.argv) > 2:
-        programs.append([str(pathlib.Path(sys.argv[2]).resolve()), "run", *sys.argv[3:]])
+    words = command_line(__doc__)
+    programs = [[str(pathlib.Path(words[0]).resolve()), "run"]]
+    if len(words) > 1:
+        programs.append([str(pathlib.Path(words[1]).resolve()), "run", *words[2:]])
     with tempfile.TemporaryDirectory() as name:
         folder = pathlib.Path(name)
         timed("compact", compact(200_000), programs, folder)

@@ -16,10 +16,9 @@ least times is the time of these lines.
 Usage: features.py PROGRAM [OTHER]
 """
 import pathlib
-import sys
 import tempfile
 
-from programs import Program
+from programs import Program, command_line
 
 TURNS, OBJECTS, ROW, STORES = 7, 200_000, 10_000, 1_000_000
 # Free items and plugs of the fittings.
@@ -100,9 +99,8 @@ def show(name, times, unit, count):
 
 
 def main():
-    if not 2 <= len(sys.argv) <= 3:
-        sys.exit(f"usage: {sys.argv[0]} PROGRAM [OTHER]")
-    programs = [Program(path, "3") for path in sys.argv[1:]]
+    words = command_line(__doc__, 2)
+    programs = [Program(path, "3") for path in words]
     with tempfile.TemporaryDirectory() as name:
         folder = pathlib.Path(name)
         swept = timed(programs, folder, arrays(), ["t1 collect 2 sweeping"])
@@ -121,7 +119,7 @@ def main():
         stores = ["t1 get l1 l0 3", "t1 get l2 l1 7"] + ["t1 set l1 9 l2"] * STORES
         show("a store", timed(programs, folder, old, stores), "ns", STORES)
         show("a store while one runs", timed(programs, folder, old + begun, stores), "ns", STORES)
-        ample = [Program(path, "3", BUDGETS) for path in sys.argv[1:]]
+        ample = [Program(path, "3", BUDGETS) for path in words]
         for items, plugs in FITS:
             fitted = timed(ample, folder, gaps(items, plugs), ["t1 collect 1 fitting"])
             show(f"a fitting of {plugs:,} plugs over {items:,} free items", fitted, "ms", 1)

@@ -20,6 +20,8 @@ import subprocess
 import sys
 import tempfile
 
+from programs import command_line
+
 OBJECTS, ROW = 200_000, 10_000
 BUDGETS = ["--b0", "1073741824", "--bl", "1073741824"]
 LARGE = ["--limit", "1073741824", "--segment", "67108864"]
@@ -121,9 +123,7 @@ def timed(name, script, options, programs, turns, folder):
 
 
 def main():
-    if len(sys.argv) not in (2, 3):
-        sys.exit(__doc__)
-    programs = [str(pathlib.Path(program).resolve()) for program in sys.argv[1:]]
+    programs = [str(pathlib.Path(program).resolve()) for program in command_line(__doc__, 2)]
     with tempfile.TemporaryDirectory() as name:
         folder = pathlib.Path(name)
         timed("objects", objects(), BUDGETS, programs, 9, folder)

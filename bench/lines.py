@@ -15,11 +15,10 @@ import shutil
 import sys
 import tempfile
 
-from programs import Program
+from programs import Program, command_line
 
-if sys.argv[1:2] in ([], ["-h"], ["--help"]):
-    sys.exit(print(__doc__.strip()) if sys.argv[1:] else "lines: the words are PROGRAM [CORE]; --help tells more")
-PROGRAM = Program(str(pathlib.Path(sys.argv[1]).resolve()), sys.argv[2] if len(sys.argv) > 2 else "2")
+WORDS = command_line(__doc__, 2)
+PROGRAM = Program(str(pathlib.Path(WORDS[0]).resolve()), WORDS[1] if len(WORDS) > 1 else "2")
 TURNS = 7
 # Lines a second that are wanted.
 WANTED = {"parse": 10_000_000, "alloc": 6_000_000}

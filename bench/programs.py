@@ -1,7 +1,28 @@
 """How long a built program takes over a script, and in which functions."""
 import re
+import shutil
 import subprocess
+import sys
 import time
+
+
+def command_line(page, most=None):
+    """The words of the command line: one program at least, and so many words at most. Where the page is asked for it is
+    printed, and where a word is wrong one line says so, with status 2; where a program isn't there, with status 1."""
+    words = sys.argv[1:]
+    if words in (["-h"], ["--help"]):
+        sys.exit(print(page.strip()))
+    if not words or most and len(words) > most:
+        usage = next(line for line in page.splitlines() if line.startswith("Usage: "))
+        stop(2, f"{usage.lower().split('.py')[0]}.py {usage.partition('.py ')[2]}; --help tells more")
+    if not shutil.which(words[0]):
+        stop(1, f"{words[0]}: there is no such program; one in this folder is named as ./{words[0]}")
+    return words
+
+
+def stop(status, line):
+    print(line, file=sys.stderr)
+    sys.exit(status)
 
 
 class Program:

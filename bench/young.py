@@ -19,6 +19,8 @@ import subprocess
 import sys
 import tempfile
 
+from programs import command_line
+
 ROUNDS, STORES, ROW, TURNS = 10_000, 100, 10_000, 5
 
 
@@ -65,9 +67,10 @@ def least(programs, path):
 
 
 def main():
-    programs = [[str(pathlib.Path(sys.argv[1]).resolve()), "run"]]
-    if len(sys.argv) > 2:
-        programs.append([str(pathlib.Path(sys.argv[2]).resolve()), "run", *sys.argv[3:]])
+    words = command_line(__doc__)
+    programs = [[str(pathlib.Path(words[0]).resolve()), "run"]]
+    if len(words) > 1:
+        programs.append([str(pathlib.Path(words[1]).resolve()), "run", *words[2:]])
     with tempfile.TemporaryDirectory() as folder:
         path = pathlib.Path(folder) / "script"
         for name, near in (("near", True), ("far", False)):

@@ -47,7 +47,8 @@ class Debugger:
     def told(self, *options):
         """The lines of image-words."""
         command = [sys.executable, "-B", TOOLS / "image-words", "-", *options]
-        return subprocess.run(command, input=self.image, stdout=subprocess.PIPE, check=True).stdout.decode().splitlines()
+        ran = subprocess.run(command, input=self.image, stdout=subprocess.PIPE, check=True)
+        return ran.stdout.decode().splitlines()
 
     def agree(self, command, lines):
         """Asks. The answer has to be these lines, and one of sums behind them."""

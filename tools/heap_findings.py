@@ -10,17 +10,18 @@ from heapq import heappop, heappush, nsmallest
 from itertools import repeat
 
 from heap_graph import (
-    NONE, Graph, children_of, dominators, is_static, is_table, retained_by_kind, sums_below,
+    NONE, Graph, Nearest, children_of, dominators, is_static, is_table, retained_by_kind, sums_below,
 )
 
 # A suspect retains such a share of the heap, alone or with others of its type that are held side by side.
 SUSPECT = 0.1
-# Where one of the objects that an object holds retains such a share of what that retains, the way goes on to it.
+# Where one of the objects that an object immediately dominates retains such a share of what that retains, the way
+# down goes on to it.
 GOES_ON = 0.8
 # Where one retains such a share and has the same type, both are parts of one list or tree.
 SAME_AGAIN = 0.1
 MOST_SUSPECTS = 12
-# So many objects of another image are looked at, to find the one that is kept in the same way.
+# So many objects of another image are looked at, to find the one at the end of the same chain.
 MOST_COMPARED = 2000
 
 
@@ -31,7 +32,7 @@ def without_addresses(name):
 
 @dataclass
 class Step:
-    """An object on a chain, and how it names the next one: nothing for the last."""
+    """An object on a chain, and how it refers to the next one: nothing for the last."""
 
     vertex: int
     way: str = ""
@@ -39,9 +40,9 @@ class Step:
 
 @dataclass
 class Suspect:
-    """Where much is kept: an object, or, with a kind, all of it that an object holds side by side. `held` are the types
-    of what it holds, each with a count and the bytes that they retain, and `inside` those of all that it retains, each
-    with a count and their own bytes."""
+    """An accumulation point: an object, or, with a kind, all of it that an object dominates side by side. `held` are
+    the types of what it dominates, each with a count and the bytes that they retain, and `inside` those of all that it
+    retains, each with a count and their own bytes."""
 
     vertex: int
     bytes: int
@@ -54,7 +55,7 @@ class Suspect:
 
 @dataclass
 class Node:
-    """A vertex in a cut tree of dominators, with the number of the node above, and what was cut of what it holds:
+    """A vertex in a cut dominator tree, with the number of the node above, and what was cut of what it dominates:
     names, with a count, the objects and the bytes that they retain."""
 
     vertex: int
@@ -91,7 +92,7 @@ class Findings:
         return self.heap.text(self.graph.order[vertex])
 
     def way(self, vertex, held):
-        """How an object names another, or nothing where it doesn't."""
+        """How an object refers to another, or nothing where it doesn't."""
         return self.heap.way(self.graph.order[vertex], self.graph.order[held]) if vertex else ""
 
     def percent(self, size):
@@ -126,14 +127,11 @@ class Findings:
 
     @cached_property
     def _nearest(self):
-        return self.graph.nearest()
+        return Nearest(self.graph)
 
     def chain(self, vertex):
         """A shortest chain from a root to a vertex."""
-        found = [vertex]
-        while self._nearest[found[-1]]:
-            found.append(self._nearest[found[-1]])
-        found.reverse()
+        found = self._nearest.path(vertex)
         return [*(Step(one, self.way(one, held)) for one, held in zip(found, found[1:])), Step(vertex)]
 
     def short_chain(self, vertex):
@@ -147,16 +145,16 @@ class Findings:
         return is_static(self.name(step.vertex)) and step.way not in ("superclass", "loader", "signers", "domain")
 
     def roots_by_vertex(self):
-        """The names of the roots that name each vertex."""
+        """The names of the roots that refer to each vertex."""
         found = {}
         for name, one in self.heap.roots:
             found.setdefault(self.graph.rank[one], []).append(name)
         return found
 
-    # ---- who names an object
+    # ---- incoming references
 
     def incoming(self, one):
-        """The objects that name an object, as pairs of an object and how it names it."""
+        """The objects that refer to an object, as pairs of an object and how it does."""
         found, starts, targets = [], self.heap.starts, self.heap.targets
         at = -1
         while True:
@@ -212,8 +210,8 @@ class Findings:
     # ---- suspects
 
     def suspects(self, share=SUSPECT):
-        """Where much is kept: down the tree of dominators, until it is spread over many. What is kept beside such a way
-        is looked at, too."""
+        """The accumulation points: down the dominator tree, until what is retained is spread over many. What is
+        retained beside such a way is looked at, too."""
         least, found, waiting = max(share * self.bytes[0], 1), [], [0]
         while waiting:
             path, is_list = self._way_down(waiting.pop())
@@ -241,8 +239,8 @@ class Findings:
         return 2 * of_classes > sum(map(self.bytes.__getitem__, held))
 
     def _way_down(self, vertex):
-        """The way down from a vertex, as long as one that it holds retains nearly all of what it does, and whether what
-        the last one holds is a list or a tree of objects of one type."""
+        """The way down from a vertex, as long as one that it dominates retains nearly all of what it does, and whether
+        what the last one dominates is a list or a tree of objects of one type."""
         path, best = [vertex], 0
         while True:
             best = max(self.held(path[-1]), key=self.bytes.__getitem__, default=0)
@@ -266,7 +264,7 @@ class Findings:
         return Suspect(vertex, size, count, held=self.grouped(held), inside=self.inside(held))
 
     def _groups(self, above, light, least):
-        """Those of one type that a table of roots holds side by side: each could go, but all together are many."""
+        """Those of one type that a table of roots dominates side by side: all together they retain much."""
         for kind, count, objects, size in self.grouped(light):
             if size >= least and count > 1:
                 some = [one for one in light if self.kinds[one] == kind]
@@ -326,8 +324,8 @@ class Findings:
         return found
 
     def compared(self, older, share=SUSPECT):
-        """The suspects, each with the bytes that the same chain kept in another image, or nothing where there was no
-        such chain."""
+        """The suspects, each with the bytes that the same chain retained in another image, or nothing where there was
+        no such chain."""
         found = []
         for one in self.suspects(share):
             name = self.kind_names_of(one)

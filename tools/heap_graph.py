@@ -6,7 +6,7 @@ known of objects and vertices stands in arrays and lists by their numbers, as th
 """
 from array import array
 from collections import Counter, defaultdict
-from itertools import islice
+from itertools import accumulate, islice
 
 from heap_image import FREE_WORD, BadImage
 from heap_names import Names
@@ -16,7 +16,7 @@ MOST_KINDS = 65_536
 
 
 class Heap:
-    """The objects of an image by their numbers, and whom they name: object N names `targets[starts[N]:starts[N +
+    """The objects of an image by their numbers, and their references: object N refers to `targets[starts[N]:starts[N +
     1]]`. A kind is a type of the image, or, behind these, a class that shares a type with others. `sizes` are the bytes
     of the image, or with `own` those that the dumped program's runtime gave the objects, where `names` tell them."""
 
@@ -104,8 +104,8 @@ class Heap:
                     if at + offset < behind:
                         kind = kinds.get(words[at + offset], kind)
                 if has_own and own[kind]:
-                    base, element = own[kind]
-                    size = base + (element * words[at + 2] if element else 0) + 7 & ~7
+                    base, own_element = own[kind]
+                    size = base + (own_element * words[at + 2] if element else 0) + 7 & ~7
                 address_of(address)
                 kind_of(kind)
                 size_of(size)
@@ -154,7 +154,7 @@ class Heap:
         return self.names.slot(self.name(one), slot) or (f"[{slot}]" if of.shape == "refs" else f"slot {slot}")
 
     def way(self, one, held):
-        """How an object names another, or nothing where it doesn't, but by a dependent handle."""
+        """How an object refers to another, or nothing where it doesn't, but by a dependent handle."""
         for slot, target in self.slots(one):
             if target == held:
                 return self.slot_name(one, slot)
@@ -170,9 +170,10 @@ class Heap:
             return ""
         (words, at), fields = self.words_of(held), self.names.fields.get(of, ())
         wide = self.name(held) == "char[]"
-        if "coder" in fields:
+        coder = fields.index("coder") if "coder" in fields else len(self.type_of(one).pattern)
+        if coder < len(self.type_of(one).pattern):
             own, first = self.words_of(one)
-            wide = own[first + 2 + fields.index("coder")] == 1
+            wide = own[first + 2 + coder] == 1
         length = words[at + 2]
         raw = words[at + 3:at + 3 + (min(length, 2 * most) + 7) // 8].tobytes()[:length]
         letters = raw.decode("utf-16-le" if wide else "latin-1", "replace").rstrip("\0")
@@ -213,9 +214,9 @@ def is_static(name):
 
 class Graph:
     """What the roots reach. Vertices are numbered in the order in which a depth first search meets them, and vertex 0
-    names what the roots name. `order` has the object of each vertex, and `rank` the vertex of each object, or none;
-    `parent` is the tree of the search, `left` the order in which it left the vertices, and `others` has the vertices
-    that name a vertex beside its parent: most have none."""
+    refers to what the roots refer to. `order` has the object of each vertex, and `rank` the vertex of each object, or
+    none; `parent` is the tree of the search, `left` the order in which it left the vertices, and `others` has the
+    vertices that name a vertex beside its parent: most have none."""
 
     def __init__(self, starts, targets, roots):
         self.starts, self.targets, self.roots = starts, targets, roots
@@ -282,25 +283,40 @@ class Graph:
                         waiting.append(one)
         return seen
 
-    def nearest(self):
-        """For each vertex, the one before it on a shortest chain from a root."""
-        starts, targets, rank, order = self.starts, self.targets, self.rank, self.order
-        before = [NONE] * len(order)
-        before[0] = 0
-        front = self.forwards(0)
-        for vertex in front:
-            before[vertex] = 0
-        while front:
-            reached = []
-            for vertex in front:
-                one = order[vertex]
-                for held in targets[starts[one]:starts[one + 1]]:
-                    below = rank[held]
-                    if before[below] < 0:
-                        before[below] = vertex
-                        reached.append(below)
-            front = reached
-        return before
+
+class Nearest:
+    """Shortest paths from the roots of a graph. They are looked for as far as they are asked for: most questions are
+    about vertices near the roots."""
+
+    def __init__(self, graph):
+        self.graph, self.front = graph, graph.forwards(0)
+        self.before = [NONE] * len(graph.order)
+        self.before[0] = 0
+        for vertex in self.front:
+            self.before[vertex] = 0
+
+    def path(self, vertex):
+        """The vertices of a shortest path from a root to a vertex."""
+        before = self.before
+        while before[vertex] < 0:
+            self._step()
+        found = [vertex]
+        while before[found[-1]]:
+            found.append(before[found[-1]])
+        return found[::-1]
+
+    def _step(self):
+        """Reaches all vertices that are one reference further away."""
+        graph, before, reached = self.graph, self.before, []
+        starts, targets, rank, order = graph.starts, graph.targets, graph.rank, graph.order
+        for vertex in self.front:
+            one = order[vertex]
+            for held in targets[starts[one]:starts[one + 1]]:
+                below = rank[held]
+                if before[below] < 0:
+                    before[below] = vertex
+                    reached.append(below)
+        self.front = reached
 
 
 def forest(ancestor, semi, label):
@@ -329,7 +345,7 @@ def forest(ancestor, semi, label):
 
 def dominators(graph):
     """The immediate dominator of each vertex, by the algorithm of Lengauer and Tarjan with path compression. A vertex
-    that its parent alone names has it as its dominator, and as its semidominator. Of the others, those that have a
+    to which its parent alone refers has it as its dominator, and as its semidominator. Of the others, those that have a
     semidominator wait for their dominator in a list of it."""
     count = len(graph.order)
     semi, dominator, waiting = list(graph.parent), list(graph.parent), {}
@@ -452,10 +468,7 @@ def children_of(dominator):
     first = [0] * (count + 2)
     for above in islice(dominator, 1, None):
         first[above + 2] += 1
-    total = 0
-    for vertex, many in enumerate(first):
-        total += many
-        first[vertex] = total
+    first = list(accumulate(first))
     children = [0] * (count - 1 if count else 0)
     for vertex in range(1, count):
         above = dominator[vertex] + 1

@@ -104,7 +104,7 @@ class Answers(Findings):
             if root == one:
                 yield f"root {name} refers to it, too"
 
-    # ---- where much is kept
+    # ---- leak suspects
 
     def suspect_lines(self, share=100 * SUSPECT, older=None):
         found = self.compared(older, share / 100) if older else [(one, None) for one in self.suspects(share / 100)]
@@ -131,7 +131,7 @@ class Answers(Findings):
             yield f"    of all that it retains, {many} {self.heap.kind_names[kind]} have {size} bytes"
 
     def tree_lines(self, share, top):
-        """So many lines of objects at most, each below the one that holds it."""
+        """So many lines of objects at most, each below its immediate dominator."""
         nodes = self.tree(share / 100, top + 1, 60)
         below = {}
         for number, node in enumerate(nodes[1:], 1):

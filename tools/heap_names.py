@@ -14,6 +14,7 @@ from pathlib import Path
 UNKNOWN = "?"
 # The name of a slot that stands for no field.
 UNUSED = "-"
+MOST_SIZE = 1 << 31
 
 
 class BadNames(Exception):
@@ -86,7 +87,10 @@ def take_line(found, words):
         of, number, name = rest
         found.shared.setdefault(of, {})[int(number)] = name
     elif kind == "size":
-        name, base, element = rest
-        found.sizes[name] = int(base), int(element)
+        name, *both = rest
+        base, element = map(int, both)
+        if not 0 <= base < MOST_SIZE or not 0 <= element < MOST_SIZE:
+            raise ValueError(rest)
+        found.sizes[name] = base, element
     else:
         raise ValueError(kind)

@@ -381,9 +381,9 @@ def write_file(path, texts):
 def report(lines, room, texts, path):
     """What was written, for people: a first line and further ones of the tool's own, and how to run the script."""
     first, *more = lines
-    collects = f"up to {room.collections} times" if room.collections else "never"
+    collects = f"up to {room.collections} collections" if room.collections else "no collection"
     size = f"{sum(text.count(LINE_FEED) for text in texts):,} lines, {sum(map(len, texts)):,} bytes"
-    end = [f"making them collects {collects} with the words of", f"clrheap {WORDS} < {path or 'SCRIPT'}"]
+    end = [f"{collects} while it is made, with these options:", f"clrheap {WORDS} < {path or 'SCRIPT'}"]
     print("\n".join([first, size, *more, *end]), file=sys.stderr)
 
 

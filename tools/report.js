@@ -357,6 +357,26 @@
 
   // ---- #selftest: what a reader does, done by the page itself
 
+  // How bright a colour is, and how much the letters of an element differ from what is behind them: 4.5 reads well.
+  function luminance(parts) {
+    const [red, green, blue] = parts.map((part) => {
+      const share = part / 255;
+      return share <= 0.04045 ? share / 12.92 : ((share + 0.055) / 1.055) ** 2.4;
+    });
+    return 0.2126 * red + 0.7152 * green + 0.0722 * blue;
+  }
+
+  const parts = (colour) => (colour.match(/[\d.]+/g) || []).map(Number);
+
+  function contrast(element) {
+    let behind = element;
+    const paperOf = (one) => parts(getComputedStyle(one).backgroundColor);
+    while (behind.parentElement && paperOf(behind)[3] === 0) behind = behind.parentElement;
+    const paper = paperOf(behind);
+    const pair = [parts(getComputedStyle(element).color), paper].map((one) => luminance(one.slice(0, 3)));
+    return (Math.max(...pair) + 0.05) / (Math.min(...pair) + 0.05);
+  }
+
   function selftest() {
     let done = 0;
     const is = (condition, words) => {
@@ -432,13 +452,20 @@
       }
     }
     is(document.documentElement.scrollWidth <= window.innerWidth, "nothing sticks out of the page");
+    const kinds = "h1, h2, h3, h4, p, td, th, a, button, dt, dd, .dim, .way, q, .badge";
+    const shown = [...document.querySelectorAll(kinds)].filter((one) => !one.closest(".drawn, :disabled"));
+    for (const one of shown.filter((each) => each.textContent.trim()).slice(0, 4000)) {
+      if (contrast(one) < 4.5) throw new Error(`too pale: ${one.className || one.tagName} ${contrast(one).toFixed(1)}`);
+    }
+    is(shown.length > 10, "words stand out from what is behind them");
     return done;
   }
 
   if (location.hash === "#selftest") {
     let words;
     try {
-      words = `selftest passed ${selftest()}`;
+      const scheme = window.matchMedia("(prefers-color-scheme: dark)").matches ? "dark" : "light";
+      words = `selftest passed ${selftest()} ${scheme}`;
     } catch (fault) {
       words = `selftest failed: ${fault.message}`;
     }

@@ -200,15 +200,16 @@ class Page:
         bar = f'<div class="meter"><i style="width:{percent:.1f}%"></i></div>'
         return element("article", "\n".join([
             f"<h3>{at}. {self.owner(one)} <span class=\"big-share\">{share(percent)}</span>{change}</h3>", bar,
-            f"<p>{words}.</p>", "<h4>What keeps it</h4>", self.chain(self.findings.short_chain(one.vertex)), shows,
+            f"<p>{words}.</p>", "<h4>Path from a root</h4>", self.chain(self.findings.short_chain(one.vertex)), shows,
             '<div class="pair">',
-            table("It holds directly", [*heads, ("Retained", True), ("Share", True)], held) if held else "",
+            table("Immediately dominated", [*heads, ("Retained", True), ("Share", True)], held) if held else "",
             table("Everything that it retains", [*heads, ("Own bytes", True), ("Share", True)], inside),
             "</div>",
         ]), class_="suspect")
 
     def owner(self, suspect):
-        """The field that keeps it: of the last object on the way that isn't one of the runtime's own collections."""
+        """The field that retains it: of the last object on the chain that isn't one of the runtime's own
+        collections."""
         for step in reversed(self.findings.short_chain(suspect.vertex)[:-1]):
             name = self.findings.name(step.vertex)
             if not name.startswith(LIBRARIES) and not is_table(name) and not step.way.startswith("[") and step.way:
@@ -253,7 +254,7 @@ class Page:
         return head + gone + shown + cut_note(len(rows), MOST_GROWTH, "types that changed")
 
     def gone(self):
-        """The suspects of the older image that keep much less now."""
+        """The suspects of the older image that retain much less now."""
         lines = []
         for one in self.older.suspects():
             now = self.findings.bytes_of(self.older.signature(one), self.older.kind_names_of(one), bool(one.kind))
@@ -262,18 +263,22 @@ class Page:
         if not lines:
             return ""
         told_ones = "".join(f"<li>{named(self.older.name(one.vertex))}, {size_text(one.bytes)}</li>" for one in lines)
-        return f"<p>What kept much in the older image, and keeps less than half of it now:</p><ul>{told_ones}</ul>"
+        head = "What retained much in the older image, and retains less than half of it now:"
+        return f"<p>{head}</p><ul>{told_ones}</ul>"
 
     # ---- the tree
 
     def tree(self):
         least = self.least * self.findings.bytes[0]
         return "\n".join([
-            "<p>Each object stands below the one without which it would be free. <b>Retained</b> is what would be "
-            "freed with it, <b>own</b> is its shallow size. Click a block to look into it, or use the arrow keys.</p>",
+            "<p>Each object stands below its immediate dominator: without that it would be free. <b>Retained</b> is "
+            "what would be freed with it, <b>own</b> is its shallow size. Click a block to look into it, or use the "
+            "arrow keys.</p>",
+            '<h3>Map of retained bytes</h3>'
             '<div class="tools"><button type="button" id="up" disabled>Up one level</button>'
             '<span id="crumbs" aria-live="polite"></span></div>',
             '<div id="icicle" role="group" aria-label="Retained bytes as an icicle: wide blocks retain much"></div>',
+            '<h3>Tree</h3>'
             '<div class="wide" tabindex="-1"><table id="dominators" role="treegrid" aria-label="Dominator tree">'
             '<caption>Dominator tree</caption>'
             '<thead><tr><th scope="col" class="text">Object</th><th scope="col" class="num">Share</th>'
@@ -314,7 +319,7 @@ class Page:
         return text.replace("&", "\\u0026").replace("<", "\\u003c").replace(">", "\\u003e")
 
     def _way(self, vertex, slots):
-        """How the dominator of a vertex names it. The slots of one are looked at once, as there may be many."""
+        """How the dominator of a vertex refers to it. The slots of one are looked at once, as there may be many."""
         above = self.findings.dominator[vertex]
         if not vertex or not above:
             return ""

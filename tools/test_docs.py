@@ -209,6 +209,18 @@ class Names(unittest.TestCase):
                 with self.subTest(page=page.name, line=line):
                     self.assertTrue(len(line) <= 120 or line.startswith("    "))
 
+    def test_the_page_on_embedding_shows_a_program(self):
+        page = (TOP / "docs/EMBEDDING.md").read_text(encoding="utf-8")
+        program = (CRATES / "clr_embed/src/main.rt").read_text(encoding="utf-8")
+        program = re.sub(r"^#\[.*\]\n", "", program, flags=re.MULTILINE)
+        parts = re.search(r"^```rust\n(.*?)^```$", page, re.MULTILINE | re.DOTALL)[1].strip().split("\n\n")
+        self.assertGreater(len(parts), 3)
+        for part in parts:
+            with self.subTest(part=part):
+                self.assertIn(part, program)
+        printed = "".join(line[4:] for line in re.findall(r"^    kept .*\n", page, re.MULTILINE))
+        self.assertEqual(printed, (CRATES / "clr_embed/stdout").read_text(encoding="utf-8"))
+
     def test_the_rules_of_the_heap_name_definitions(self):
         named = re.findall(r"[(]`(\w+)`(?: in `(\w+\.antt)`)?[)]", re.sub(r"\s+", " ", PAGES["HEAP.md"]))
         self.assertGreater(len(named), 15)

@@ -2,8 +2,8 @@
 
 Compared are scripts with replies (`> ` stands before a line), sessions of a shell (`$ ` stands before a command), and
 the bytes and words of IMAGES.md. Other commands of a page are run: those of a hunt for a leak on a tiny dump of Java
-and a stored one of Mono, as they need neither then. The first command of README.md builds the program, where the kit is
-there; what `.ci/run` of that page is, runs this file.
+and a stored one of Mono, as they need neither then. The first command of README.md builds the program: that one is run
+by bench/test_unproved.py.
 """
 import os
 import re
@@ -28,8 +28,6 @@ PATHS = (
 PAGES = {path: (TOP / path).read_text(encoding="utf-8") for path in PATHS}
 # How commands of the pages begin that need no Java, and what forms of commands have, or those that need Mono.
 RUN = ("clrheap ", "crates/", "tools/", "python3 tools/", "sed ", "echo ", "printf ")
-# The first page's first command builds the program, and stands alone.
-FIRST = "python3 bench/unproved.py "
 FORM = re.compile(r"\b[A-Z]{4,}\b|\[|--limit|/dev/tcp|--field-names")
 
 
@@ -64,6 +62,18 @@ def replies(script):
     return ran.stdout.splitlines()
 
 
+class Embedding(unittest.TestCase):
+    def test_the_program_is_that_of_the_crate(self):
+        page = (TOP / "docs/EMBEDDING.md").read_text(encoding="utf-8")
+        crate = TOP / "crates/clr_embed"
+        lines = (crate / "src/main.rt").read_text(encoding="utf-8").splitlines()
+        shown = re.search(r"^```rust\n(.*?)^```$", page, re.DOTALL | re.MULTILINE)[1].splitlines()
+        self.assertGreater(len(shown), 30)
+        self.assertEqual([line for line in shown if line not in lines], [])
+        told = re.findall(r"^    (kept .*)$", page, re.MULTILINE)
+        self.assertEqual(told, (crate / "stdout").read_text(encoding="utf-8").splitlines())
+
+
 class Scripts(unittest.TestCase):
     def test_each_heading_of_a_line_has_an_example(self):
         page = PAGES["docs/LINES.md"]
@@ -84,36 +94,6 @@ class Scripts(unittest.TestCase):
         whole = (TOP / f"{name}.session").read_text(encoding="utf-8")
         self.assertEqual(len(shown), 1)
         self.assertIn("".join(f"\n{line}" for line in shown[0]) + "\n", whole)
-
-
-class First(unittest.TestCase):
-    """The first command of the first page, in a folder that has all that stands at the top of the repository."""
-
-    def run_first(self, path):
-        with tempfile.TemporaryDirectory() as name:
-            for part in TOP.iterdir():
-                if part.name not in ("tools", "unproved"):
-                    (Path(name) / part.name).symlink_to(part)
-            shutil.copytree(TOP / "tools", Path(name) / "tools")
-            command = next(line for block in blocks("README.md") for line in block if line.startswith(FIRST))
-            env = {**os.environ, "PATH": path, "PYTHONDONTWRITEBYTECODE": "1"}
-            env.pop("CLRHEAP", None)
-            words = ["bash", "-c", command]
-            return subprocess.run(words, cwd=name, env=env, capture_output=True, text=True, check=False)
-
-    @unittest.skipUnless(shutil.which("rt"), "the kit isn't on the path")
-    def test_it_builds_the_program_and_shows_a_session(self):
-        ran = self.run_first(os.environ["PATH"])
-        self.assertEqual(ran.returncode, 0, ran.stderr)
-        self.assertEqual(ran.stdout, (TOP / "examples/cycle.session").read_text(encoding="utf-8"))
-
-    def test_without_the_kit_it_says_so(self):
-        with tempfile.TemporaryDirectory() as bare:
-            for name in ("bash", "python3"):
-                (Path(bare) / name).symlink_to(shutil.which(name))
-            ran = self.run_first(bare)
-        self.assertEqual(ran.returncode, 1)
-        self.assertRegex(ran.stderr, r"\Aunproved: the kit isn't here: .*\n\Z")
 
 
 @unittest.skipUnless(PROGRAM, "CLRHEAP names no program")
@@ -179,6 +159,23 @@ class Commands(unittest.TestCase):
             (self.folder / "bad.image").write_bytes(image[:offset] + word.to_bytes(8, "little") + image[offset + 8:])
             self.assertEqual(self.run_line("clrheap inspect < bad.image")[1], f"bad image at {offset}\n")
             self.assertIn(f"`bad image at {offset}`", page)
+
+
+class Reasons(unittest.TestCase):
+    """A page with a command that the gate can't run says why."""
+
+    NEEDS = {"jcmd ": "Java", "javac ": "Java", "java ": "Java", "mono ": "Mono", "echo heapshot ": "Mono"}
+
+    def test_commands_that_need_what_the_gate_may_not_have(self):
+        pages = set()
+        for page in PAGES:
+            for line in (line for block in blocks(page) for line in block):
+                need = next((self.NEEDS[command] for command in self.NEEDS if line.startswith(command)), None)
+                if need:
+                    pages.add(page)
+                    words = " ".join(PAGES[page].split())
+                    self.assertRegex(words, rf"The gate[^.]*\b{need}\b|{need}, where that is there", (page, line))
+        self.assertIn("docs/LEAKS.md", pages)
 
 
 def padded(cell):

@@ -6,6 +6,7 @@ import subprocess
 import sys
 import tempfile
 import unittest
+from concurrent.futures import ThreadPoolExecutor
 from html.parser import HTMLParser
 from pathlib import Path
 
@@ -23,6 +24,7 @@ from test_from_hprof import tiny_dump  # noqa: E402
 from test_retained import NAMES, address, shop  # noqa: E402
 
 BROWSER = shutil.which("chromium") or shutil.which("chromium-browser") or shutil.which("google-chrome")
+SCHEMES = {"dark": 0, "light": 1}
 HOSTILE = "</script><script>alert(1)</script><img src=x onerror=alert(2)>\"'&<b>"
 VOID = {"meta", "link", "br", "wbr", "hr", "img", "input"}
 
@@ -191,6 +193,19 @@ class Commands(unittest.TestCase):
                              cwd=self.folder, capture_output=True, text=True, check=False)
         self.assertIn("shop.Node+Of", ran.stdout)
 
+    @unittest.skipUnless(writer.program_with_images(), "CLRHEAP names no program that writes images")
+    def test_a_hunt_that_begins_with_a_script(self):
+        env = {**os.environ, "CLRHEAP": str(Path(writer.program_with_images()).resolve())}
+        script = self.write("a.script", b"type Node class rn\nt1 new l0 Node\n")
+        ran = self.run_tool("hunt", script, env=env)
+        self.assertEqual(ran.returncode, 0, ran.stderr)
+        self.assertIn("Node", (self.folder / "a.html").read_text(encoding="utf-8"))
+        for name, text in (("b.script", b"type Node class rn\r\n"), ("c.txt", b"This is no script.\n")):
+            ran = self.run_tool("hunt", self.write(name, text), env=env)
+            self.assertEqual((ran.returncode, ran.stdout), (1, ""))
+            self.assertIn("no line of it was done, so it is no script\n", ran.stderr)
+            self.assertFalse((self.folder / name).with_suffix(".html").exists())
+
     def test_a_hunt_that_finds_nothing(self):
         env = {**os.environ, "CLRHEAP": "/none/clrheap"}
         dump = self.write("app.hprof", tiny_dump())
@@ -206,20 +221,38 @@ class Commands(unittest.TestCase):
 
 @unittest.skipUnless(BROWSER, "there is no browser")
 class InABrowser(unittest.TestCase):
+    """Each page tests itself: its sums, the keys and clicks of a reader, that nothing sticks out, and that all words
+    stand out from what is behind them."""
+
+    def told(self, path, width, scheme):
+        """What the page tells of itself, in a window of some width, where the reader likes it light or dark."""
+        with tempfile.TemporaryDirectory() as profile:
+            command = [BROWSER, "--headless", "--no-sandbox", "--disable-gpu", f"--user-data-dir={profile}",
+                       f"--window-size={width},900", f"--blink-settings=preferredColorScheme={SCHEMES[scheme]}",
+                       "--dump-dom", f"{path.as_uri()}#selftest"]
+            ran = subprocess.run(command, capture_output=True, text=True, check=False, timeout=120)
+        found = re.search(r"selftest (?:passed \d+ (?:light|dark)|failed: [^<]*)", ran.stdout.rpartition("-result")[2])
+        return found[0] if found else ran.stdout[-300:] + ran.stderr[-300:]
+
     def test_the_page_tests_itself(self):
         data, names = hostile_image()
-        pages = [page(shop(200, 150)[0], NAMES, shop(20)[0]), page(data, names), page(list_image(3000)), page(writer.image([], []))]
-        with tempfile.TemporaryDirectory() as folder:
-            for number, text in enumerate(pages):
-                path = Path(folder) / f"{number}.html"
+        pages = [page(shop(200, 150)[0], NAMES, shop(20)[0]), page(data, names), page(list_image(3000)),
+                 page(writer.image([], []))]
+        views = [(0, 1280, "light"), (0, 500, "dark"), (1, 500, "light"), (1, 1280, "dark"), (2, 500, "dark"),
+                 (3, 1280, "light")]
+        with tempfile.TemporaryDirectory() as folder, ThreadPoolExecutor(4) as several:
+            paths = [Path(folder) / f"{number}.html" for number in range(len(pages))]
+            for path, text in zip(paths, pages):
                 path.write_text(text, encoding="utf-8")
-                for width in (1280, 500):
-                    command = [BROWSER, "--headless", "--no-sandbox", "--disable-gpu", f"--user-data-dir={folder}/of",
-                               f"--window-size={width},900", "--dump-dom", f"{path.as_uri()}#selftest"]
-                    ran = subprocess.run(command, capture_output=True, text=True, check=False, timeout=120)
-                    behind = ran.stdout.rpartition("selftest-result")[2]
-                    told = re.search(r"selftest (?:passed \d+|failed: [^<]*)", behind)
-                    self.assertRegex(told[0] if told else ran.stdout[-300:], r"^selftest passed \d+$", (number, width))
+            found = list(several.map(lambda view: self.told(paths[view[0]], *view[1:]), views))
+        for view, told in zip(views, found):
+            with self.subTest(view=view):
+                self.assertRegex(told, rf"^selftest passed \d+ {view[2]}$")
+
+
+def setUpModule():
+    if not BROWSER:
+        print("test_report: there is no Chromium here, so the page isn't tested in a browser", file=sys.stderr)
 
 
 if __name__ == "__main__":

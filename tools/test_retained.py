@@ -134,7 +134,8 @@ class Images(unittest.TestCase):
         ])
 
     def test_all_roots_that_reach_an_object(self):
-        answers = self.answers(nodes(address(2), address(2), 0), [address(0), 0, address(1)], handles=[(3, 1, address(2), 0)])
+        words, handles = nodes(address(2), address(2), 0), [(3, 1, address(2), 0)]
+        answers = self.answers(words, [address(0), 0, address(1)], handles=handles)
         lines = list(answers.of_object(address(2), 20))
         self.assertEqual([line.split()[:3] for line in lines if line.startswith("root")], [
             ["root", "t1", "l0"], ["root", "t1", "l2"], ["root", "h3", f"{address(2):016x}"],
@@ -181,8 +182,8 @@ class Images(unittest.TestCase):
 
 def shop(sessions, cache=0):
     """The bytes of an image: a table of roots names a bus, which names an array of sessions, each with an array of
-    numbers; and a class with a static field that names a cache of nodes, which share a type. Behind it the address of the
-    bus, and of the first session."""
+    numbers; and a class with a static field that refers to a cache of nodes, which share a type. Behind it the address
+    of the bus, and of the first session."""
     types = [
         ("Roots", 1, 0, ""), ("Roots.thread.main", 1, 0, ""), ("Bus", 0, 0, "nr"), ("Session[]", 1, 0, ""),
         ("Session", 0, 0, "r"), ("byte[]", 2, 0, ""), ("static.Cache", 1, 0, ""), ("shared.1.0", 0, 0, "nr"),
@@ -295,6 +296,21 @@ class Hunting(unittest.TestCase):
         answers = Answers(Heap(parse(shop(2)[0]), NAMES, True))
         rows = {line.split()[-1]: line.split()[3] for line in list(answers.types(20))[1:-1]}
         self.assertEqual((rows["Session"], rows["byte[]"], rows["Roots"], rows["Bus"]), ("32", "240", "0", "32"))
+
+    def test_files_that_say_what_can_not_be(self):
+        """Sizes of elements are for arrays alone, and slots of fields are looked for among those that an object has."""
+        types = [("Node", 0, 0, "nr"), ("java.lang.String", 0, 0, "r"), ("byte[]", 2, 0, "")]
+        words = [0, writer.table_word(1), (1 << 64) - 1, 0, 0, writer.table_word(2), writer.FIRST + 56]
+        words += [0, writer.table_word(3), 2, 0x6968]
+        names = heap_names.Names({"java.lang.String": ["value", *"abcdefgh", "coder"]}, sizes={"Node": (24, 8)})
+        answers = Answers(Heap(parse(writer.image(types, words, [writer.FIRST, writer.FIRST + 32])), names, True))
+        self.assertEqual((answers.sizes[1:], answers.text(2)), ([24, 24, 32], "hi"))
+        with tempfile.TemporaryDirectory() as folder:
+            path = Path(folder) / "a.names"
+            for line in ("size A 1", "size A -1 0", f"size A 0 {1 << 40}", "name A x B", "name A 1"):
+                path.write_text(line + "\n", encoding="ascii")
+                with self.assertRaises(heap_names.BadNames):
+                    heap_names.beside(Path(folder) / "a.image")
 
     def test_command_lines(self):
         with tempfile.TemporaryDirectory() as folder:

@@ -2,9 +2,13 @@
 that, it is asked, too."""
 import io
 import os
+import pty
+import select
+import signal
 import subprocess
 import sys
 import tempfile
+import time
 import unittest
 from pathlib import Path
 
@@ -21,7 +25,7 @@ ask = load_tool("ask")
 
 # It answers some lines as `clrheap` does, and ends at `end`.
 STAND_IN = '''#!/usr/bin/env python3
-import sys
+import sys, time
 replies = {
     "": "refused syntax", "t0 step": "refused unknown-thread", "gcwhere 0000000000000000": "refused no-object",
     "two": "one\\ntwo", "full": "refused oom", "blocked": "refused blocked 3", "options": " ".join(sys.argv[1:]),
@@ -31,6 +35,9 @@ replies = {
 for line in sys.stdin:
     if line.strip() == "end":
         sys.exit(3)
+    if line.strip() == "wait":
+        open(sys.argv[0] + ".waits", "w").close()
+        time.sleep(1)
     print(replies.get(line.rstrip("\\n"), "refused syntax"), flush=True)
 '''
 
@@ -109,6 +116,42 @@ class Asking(WithProgram):
         ran = self.run_tool("ask", "end\ntwo\n", self.write("a.script", ""))
         self.assertEqual((ran.returncode, ran.stdout), (1, ""))
         self.assertIn("the program ended with status 3", ran.stderr)
+
+    def test_quit(self):
+        ran = self.run_tool("ask", "two\nexit\ntwo\n", self.write("a.script", ""))
+        self.assertEqual((ran.returncode, ran.stdout), (0, "one\ntwo\n\n"))
+
+    def test_control_c_on_a_terminal(self):
+        """It gives up a question or a line that is typed, and the next question is answered."""
+        control, terminal = pty.openpty()
+        self.addCleanup(os.close, control)
+        command = [sys.executable, "-B", str(TOOLS / "ask"), "--program", str(self.program), self.write("a.script", "")]
+        env = {**os.environ, "HOME": str(self.folder), "TERM": "dumb"}
+        run = subprocess.Popen(command, stdin=terminal, stdout=terminal, stderr=terminal, env=env,
+                               start_new_session=True)
+        self.addCleanup(run.wait)
+        self.addCleanup(run.kill)
+        os.close(terminal)
+        self.read_until(control, b"> ")
+        # One that comes just before Python waits for a key is seen with the next key alone, so there are several.
+        self.read_until(control, b"> ", lambda: run.send_signal(signal.SIGINT))
+        os.write(control, b"wait\n")
+        end = time.monotonic() + 30
+        while not self.program.with_name("program.waits").exists() and time.monotonic() < end:
+            time.sleep(0.05)
+        run.send_signal(signal.SIGINT)
+        self.read_until(control, b"given up")
+        os.write(control, b"two\nquit\n")
+        self.read_until(control, b"one\r\ntwo\r\n")
+        self.assertEqual(run.wait(30), 0)
+
+    def read_until(self, file, words, nudge=lambda: None):
+        text, end = b"", time.monotonic() + 30
+        while words not in text:
+            self.assertLess(time.monotonic(), end, text)
+            nudge()
+            while select.select([file], [], [], 0.5)[0] and words not in text:
+                text += os.read(file, 1000)
 
     def test_words_that_are_wrong(self):
         script, none = self.write("a.script", ""), str(self.folder / "none")
@@ -208,6 +251,9 @@ class Names(unittest.TestCase):
             said = "dumpobj 0000000000000010" if "0x" in question else "dumpobj 10"
             self.assertEqual(ask.forgive(question), said)
         self.assertEqual(ask.forgive("dumpheap -live -short"), "dumpheap -short -live")
+        self.assertEqual(ask.forgive("!DumpHeap -Stat -MIN 0x20"), "dumpheap -stat -min 32")
+        self.assertEqual(ask.forgive("eeheap"), "eeheap -gc")
+        self.assertEqual(ask.forgive("fq"), "finalizequeue")
         self.assertEqual(ask.forgive("dumpheap -min 0x20 -mt 7ff000000040"), "dumpheap -mt 00007ff000000040 -min 32")
         self.assertEqual(ask.forgive("dumpheap -min"), "dumpheap -min")
         self.assertEqual(ask.forgive("t1 collect 2"), "t1 collect 2")

@@ -88,7 +88,7 @@ def beside(path):
     return str(offsets) if offsets.is_file() and not offsets.samefile(path) else None
 
 
-def shot_number(text):
+def number(text):
     if not (text.isascii() and text.isdecimal()):
         raise ValueError(text)
     return int(text)
@@ -98,7 +98,7 @@ def main():
     parser = Parser("from-mono", __doc__)
     parser.add_argument("dump", metavar="DUMP", help="what Mono's log profiler wrote")
     parser.add_argument("script", nargs="?", metavar="SCRIPT", help="where the script goes, else standard output")
-    parser.add_argument("--shot", type=shot_number, metavar="N", help="the number of a shot, from 0, else the last one")
+    parser.add_argument("--shot", type=number, metavar="N", help="the number of a shot, from 0, else the last one")
     parser.add_argument("--offsets", metavar="FILE", help="names of fields by offset, as FieldOffsets.exe writes them")
     parser.add_argument("--field-names", action="store_true", help="ask Mono for an OFFSETS file, and write no script")
     parser.add_argument("--classes", action="store_true", help="write the input of FieldOffsets.exe, and no script")

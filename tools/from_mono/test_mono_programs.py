@@ -1,5 +1,6 @@
 """Tests of from-mono on Mono itself, where that is there: programs of `programs` run, and what is read of their shots
 is what Mono's own report tells. Then the answers on the page about leaks are those of the stored dumps."""
+import gzip
 import os
 import re
 import shutil
@@ -103,17 +104,19 @@ class Hunts(unittest.TestCase):
         self.assertIn("class System.", (self.folder / "more/shop.offsets").read_text(encoding="utf-8"))
 
     def test_nothing_that_is_read_is_written_over(self):
-        self.copy("shop.mlpd")
-        dump = (self.folder / "shop.mlpd").read_bytes()
+        dump = gzip.decompress((FOLDER / "samples" / "shop.mlpd").read_bytes())
+        (self.folder / "shop.mlpd").write_bytes(dump)
         for ending in (".image", ".html", ".script", ".names"):
             path = (self.folder / "shop.mlpd").rename(self.folder / f"shop{ending}")
             ran = self.hunt(path.name)
             self.assertEqual((ran.returncode, ran.stderr.count("\n")), (1, 1), ran.stderr)
+            self.assertIn("would be written over", ran.stderr)
             self.assertEqual(path.read_bytes(), dump)
             path.rename(self.folder / "shop.mlpd")
         (self.folder / "shop.image").write_bytes(b"CLRHEAP an older one")
         ran = self.hunt("shop.mlpd", "--against", "shop.image")
         self.assertEqual((ran.returncode, ran.stderr.count("\n")), (1, 1), ran.stderr)
+        self.assertIn("would be written over", ran.stderr)
         self.assertEqual((self.folder / "shop.image").read_bytes(), b"CLRHEAP an older one")
 
 

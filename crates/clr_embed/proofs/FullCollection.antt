@@ -1,6 +1,6 @@
 -- What is seen after a full collection is reached from the roots.
-use Rattle.std.proofs.Common.{◌≡◌, ℕ, ◌<◌, inl, inr, map, sym, ap, subst, lt_irrefl}
-use Rattle.clr_types.specs.Rising.{IsIn}
+use Rattle.std.proofs.Common.{◌≡◌, ℕ, ◌<◌, inl, inr, map, sym, ap, subst, lt_irrefl, Result, Ok, Err}
+use Rattle.std.specs.Prelude.{IfOk}
 use Rattle.clr_types.proofs.ListMembers.{from-map}
 use Rattle.clr_types.proofs.SortedLists.{out_of_sorted_by}
 use Rattle.clr_model.specs.declared.How.{How}
@@ -17,7 +17,7 @@ use Rattle.clr_model.specs.Collection.{Collects}
 use Rattle.clr_model.specs.Lawful.{IsLawful, IsPlaceNamed}
 use Rattle.clr_model.specs.Instructions.{collect_heap}
 use Rattle.clr_model.specs.Checks.{refusal as first_refusal}
-use Rattle.clr_model.specs.Outcomes.{answered, Outcome, refused}
+use Rattle.clr_model.specs.Outcomes.{answered, refused}
 use Rattle.clr_model.specs.Run.{Follows}
 use Rattle.clr_model.specs.Step.{Does, Obeys}
 use Rattle.clr_model.proofs.Joined.{edge-picture, IsNullOrNamed}
@@ -26,6 +26,7 @@ use Rattle.clr_model.proofs.Reaching.{reach_renamed}
 use Rattle.clr_model.proofs.SeenStands.{sound_stands}
 use Rattle.clr_model.proofs.SmallLadder.{either_option}
 use Rattle.clr_laws.proofs.FullCollections.{left_live, none_older}
+use Rattle.clr_runtime.specs.Outcomes.{collected_outcome}
 use Rattle.clr_embed.specs.Live.{IsAllLive}
 
 not_refused : (r : Reply) (why : Refusal) → answered r ≡ refused why → ⊥
@@ -91,3 +92,10 @@ all_live old t how answer new sound follows =
     let (next, obeys, seen) = follows m stands in
     subst IsAllLive seen.seen_is
     (seen_live next seen.lawful.lawful (left_by_line m t how answer next stands.lawful.lawful obeys))
+
+-- so it is where the call answers
+pub live_if_ok : (old : Machine) (t : ℕ) (how : How) (result : Result Collected Refusal) (new : Machine)
+    → IsPlaceNamed old → Follows old (collect_heap t 2 how) (collected_outcome result) new
+    → IfOk result (λ _. IsAllLive new)
+live_if_ok old t how (Ok answer) new sound follows = all_live old t how answer new sound follows
+live_if_ok old t how (Err why) new sound follows = tt

@@ -1,1 +1,2 @@
+pub mod DefaultOptions
 pub mod FullCollection

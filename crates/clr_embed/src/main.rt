@@ -23,6 +23,7 @@ fn make_list(runtime: &mut Runtime, count: u64) -> Result<(), Refusal> {
 }
 
 /// Collects all generations. Each object that is left is reached from the roots: what nothing reaches is freed.
+#[tactic(auto, using(crate::proofs::FullCollection::live_if_ok))]
 fn collect_all(runtime: &mut Runtime) -> Result<Collected, Refusal>
     ensures { IfOk result (λ _. IsAllLive runtime.new.machine) }
 {
@@ -45,12 +46,20 @@ fn tell_collection(rt: &HostRuntime, runtime: &mut Runtime, weak: u64) -> Result
     Ok(())
 }
 
+/// Makes a list, and collects while a local holds it, and after.
+fn run(rt: &HostRuntime, runtime: &mut Runtime) -> Result<(), Fault> {
+    let _ = runtime.define(b"Node", Shape::Class(b"rn"), false)?;
+    make_list(runtime, 1000)?;
+    let weak = runtime.handle(1, Kind::Weak, 0, None)?;
+    tell_collection(rt, runtime, weak)?;
+    runtime.clear(1, 0)?;
+    tell_collection(rt, runtime, weak)
+}
+
+#[tactic(auto, using(crate::proofs::DefaultOptions::lawful_defaults))]
 fn main(rt: HostRuntime) -> Result<(), Fault> {
     let mut runtime = Runtime::new(rt.alloc(), Options::defaults())?;
-    let _ = runtime.define(b"Node", Shape::Class(b"rn"), false)?;
-    make_list(&mut runtime, 1000)?;
-    let weak = runtime.handle(1, Kind::Weak, 0, None)?;
-    tell_collection(&rt, &mut runtime, weak)?;
-    runtime.clear(1, 0)?;
-    tell_collection(&rt, &mut runtime, weak)
+    let told = run(&rt, &mut runtime);
+    drop(runtime);
+    told
 }

@@ -127,8 +127,10 @@ class Asking(WithProgram):
         self.addCleanup(os.close, control)
         command = [sys.executable, "-B", str(TOOLS / "ask"), "--program", str(self.program), self.write("a.script", "")]
         env = {**os.environ, "HOME": str(self.folder), "TERM": "dumb"}
+        # What runs behind a shell's `&` ignores SIGINT, and so does what it starts.
         run = subprocess.Popen(command, stdin=terminal, stdout=terminal, stderr=terminal, env=env,
-                               start_new_session=True)
+                               start_new_session=True,
+                               preexec_fn=lambda: signal.signal(signal.SIGINT, signal.SIG_DFL))
         self.addCleanup(run.wait)
         self.addCleanup(run.kill)
         os.close(terminal)

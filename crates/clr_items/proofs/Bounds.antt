@@ -191,7 +191,7 @@ between-both front back from to l o =
     ∙ ap (λ (ps : List Piece). ps ++ take (to - length front) back)
     (sym (take_all (length front - from) (drop from front) (omega (arith, long, l))))
 
--- the open stretch has no more pieces than there are
+-- the last stretch has no more pieces than there are
 pub open-within : (ss : List Stretch) (o : Stretch) (ps : List Piece) → AreBounded (ss ++ o ∷ []) ps
     → o.count ≤ length ps
 open-within [] o ps (xs, ys, e, n, all, b) =
@@ -255,7 +255,7 @@ get-last : (ss : List Stretch) (o : Stretch) (d : Stretch) → get_or (ss ++ o �
 get-last [] o d = refl
 get-last (s ∷ ss) o d = get-last ss o d
 
--- a piece of a closed stretch, and one of the open one
+-- a piece of a closed stretch, and one of the last one
 pub spot-closed : (ss : List Stretch) (o : Stretch) (at k before : ℕ) → k < length ss → total (take k ss) ≡ before
     → before ≤ at → at - before < (get_or ss k (record { count = 0; most = 0 })).count
     → IsSpot (ss ++ o ∷ []) at k before

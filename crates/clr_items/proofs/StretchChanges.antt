@@ -78,7 +78,7 @@ bounded-forgotten (s ∷ ss) zero ps l none (xs, ys, e, c, all, rest) =
 bounded-forgotten (s ∷ ss) (suc k) ps l none (xs, ys, e, c, all, rest) =
     (xs, ys, e, c, all, bounded-forgotten ss k ys (omega (arith, l)) none rest)
 
--- in what the closed ones became, and the open one
+-- in what the closed ones became, and the last one
 pub split-closed : (closed new : List Stretch) (o s : Stretch) (k half : ℕ) (ps : List Piece) → k ≤ length closed
     → s ≡ get_or (closed ++ o ∷ []) k (record { count = 0; most = 0 }) → half ≤ s.count
     → new ≡ insert closed k (record { count = half; most = s.most }) → AreBounded (closed ++ o ∷ []) ps

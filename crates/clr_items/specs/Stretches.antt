@@ -5,9 +5,9 @@ use Rattle.clr_types.specs.Ranges.{Piece}
 use Rattle.clr_items.specs.declared.stretches.Stretch.{Stretch}
 use Rattle.clr_items.specs.declared.stretches.Stretches.{Stretches}
 
--- all stretches, the open one last
+-- all stretches, the last one last
 abbrev pub all_of : Stretches → List Stretch
-all_of s = s.closed.items ++ s.open ∷ []
+all_of s = s.closed.items ++ s.last ∷ []
 
 -- none of the pieces has more bytes
 abbrev pub HaveAtMost : ℕ → List Piece → Type 0

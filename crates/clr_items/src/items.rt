@@ -108,7 +108,7 @@ fn first_by_stretches(items: &FreeItems, front: &[Span], back: &[Span], size: u6
         }
         from += stretch.count;
     }
-    if size <= items.stretches.open.most {
+    if size <= items.stretches.last.most {
         first_between(front, back, from, items.items.len(), size)
     } else {
         None

@@ -23,7 +23,7 @@ pub(crate) struct Stretch {
 #[derive(Drop)]
 pub(crate) struct Stretches {
     pub(crate) closed: Vec<Stretch>,
-    pub(crate) open: Stretch,
+    pub(crate) last: Stretch,
 }
 
 impl Stretches {
@@ -33,7 +33,7 @@ impl Stretches {
     {
         Stretches {
             closed: Vec::new(alloc),
-            open: Stretch { count: 0, most: 0 },
+            last: Stretch { count: 0, most: 0 },
         }
     }
 
@@ -42,32 +42,32 @@ impl Stretches {
         ensures { AreBounded (all_of self.new) [] }
     {
         self.closed.clear();
-        self.open = Stretch { count: 0, most: 0 };
+        self.last = Stretch { count: 0, most: 0 };
     }
 
     // Counts an item of so many bytes behind all others.
     #[inline(always)]
     pub(crate) fn add_last(&mut self, size: u64)
-        requires { self.old.open.count + 1 < 2 ^ 64 }
+        requires { self.old.last.count + 1 < 2 ^ 64 }
         ensures { (ps : List Piece) (p : Piece) → AreBounded (all_of self.old) ps → p.size ≡ size
             → AreBounded (all_of self.new) (ps ++ p ∷ []) }
     {
-        if self.open.count >= USUAL {
+        if self.last.count >= USUAL {
             self.close();
         }
-        self.open.count += 1;
-        self.open.most = self.open.most.max(size);
+        self.last.count += 1;
+        self.last.most = self.last.most.max(size);
     }
 
     // Begins a new stretch behind all items, where there is memory for it.
     #[inline(never)]
     fn close(&mut self)
         ensures bounded { (ps : List Piece) → AreBounded (all_of self.old) ps → AreBounded (all_of self.new) ps }
-        ensures less { self.new.open.count ≤ self.old.open.count }
+        ensures less { self.new.last.count ≤ self.old.last.count }
     {
-        let open = self.open;
-        if self.closed.push(open).is_ok() {
-            self.open = Stretch { count: 0, most: 0 };
+        let last = self.last;
+        if self.closed.push(last).is_ok() {
+            self.last = Stretch { count: 0, most: 0 };
         }
     }
 
@@ -95,7 +95,7 @@ impl Stretches {
         if k < self.closed.len() {
             self.closed[k]
         } else {
-            self.open
+            self.last
         }
     }
 
@@ -106,7 +106,7 @@ impl Stretches {
         if k < self.closed.len() {
             self.closed[k] = stretch;
         } else {
-            self.open = stretch;
+            self.last = stretch;
         }
     }
 
@@ -161,7 +161,7 @@ impl Stretches {
         self.forget(k);
     }
 
-    // Forgets stretch number `k` where it has no items. The open one stays.
+    // Forgets stretch number `k` where it has no items. The last one stays.
     fn forget(&mut self, k: usize)
         ensures { (ps : List Piece) → AreBounded (all_of self.old) ps → AreBounded (all_of self.new) ps }
     {

@@ -15,7 +15,7 @@ ghost use Rattle.clr_reloc.specs.Scanning.{AreEntriesSound, AreInRow, AreQuietWh
 
 use crate::entries::nearest;
 use crate::relocation::{Met, Relocation};
-use crate::stretches::relocate_items;
+use crate::stretches::{ItemRange, relocate_items};
 use clr_cards::Cards;
 use clr_heap::Heap;
 use clr_pinq::PinQueue;
@@ -61,7 +61,13 @@ pub(crate) fn relocate_carded(
     let mut cursor = first;
     while let Some((lo, hi)) = next_run(cards, cursor, end) {
         let from = nearest(work.bricks, &work.planned, border, first, cursor, lo);
-        cursor = relocate_items(heap, work, cards, pins, met, from, hi, 0, true);
+        let range = ItemRange {
+            from,
+            hi,
+            down: 0,
+            carded: true,
+        };
+        cursor = relocate_items(heap, work, cards, pins, met, range);
     }
 }
 

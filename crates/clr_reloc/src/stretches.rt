@@ -27,6 +27,25 @@ use clr_moves::Condemned;
 use clr_pinq::PinQueue;
 use clr_types::{SegKind, mark};
 
+// Items that a walk goes over: those from the address `from` on that begin below `hi`. They all move `down` bytes down.
+// Where they are `carded`, cards tell which of their references are to be relocated.
+#[derive(Clone, Copy)]
+pub(crate) struct ItemRange {
+    pub(crate) from: u64,
+    pub(crate) hi: u64,
+    pub(crate) down: u64,
+    pub(crate) carded: bool,
+}
+
+// The item at an address and the address that it moves to. Where it is `carded`, cards tell which of its references are
+// to be relocated.
+#[derive(Clone, Copy)]
+struct DueItem {
+    place: u64,
+    to: u64,
+    carded: bool,
+}
+
 // Relocates the references of what is left among the items from the place `from` up to `end`, which all go `down` bytes
 // down. The cards of the new addresses of those that name an object of a lower generation then are set.
 pub(crate) fn relocate_stretch(
@@ -54,95 +73,102 @@ pub(crate) fn relocate_stretch(
     ensures beside { KeepsBeside cards.old cards.new pins.old pins.new }
     ensures kind { IsRunKind work.now.types.now met.new.kind }
 {
-    relocate_items(heap, work, cards, pins, met, from, end, down, false);
+    let range = ItemRange {
+        from,
+        hi: end,
+        down,
+        carded: false,
+    };
+    relocate_items(heap, work, cards, pins, met, range);
 }
 
-// The same for those of the items from the place `from` on, up to any end above, that begin below `hi`. Where they are
-// `carded`, cards tell which of their references count. It answers the place where they end.
+// Relocates the references of what is left among the items of a range, and sets the cards of those that then refer to
+// objects of a lower generation. It answers the address at which the last item ends: `hi`, or one above it.
 pub(crate) fn relocate_items(
     heap: &mut Heap,
     work: &Relocation<'_>,
     cards: &mut Cards,
     pins: &mut PinQueue,
     met: &mut Met,
-    from: u64,
-    hi: u64,
-    down: u64,
-    carded: bool,
+    range: ItemRange,
 ) -> u64
     requires least { age_of work.now.g ≤ 2 }
     requires kind { IsRunKind work.now.types.now met.old.kind }
     requires can { (view : HeapView) × (now : HeapView) × (vs : List Move) × (is : List Item) × (end : ℕ)
         × IsRelocatingBy work.now view now heap.old pins.old.entries vs met.old.stretch
-        × Tracks work.now.types.now view is from end × IsAhead view now work.now.g vs from end
-        × GoesDown vs from end down × HaveCardsDown cards.old from end down × (hi ≤ end)
-        × (carded ≡ true → CanSkip work.now view vs cards.old from end) }
-    ensures from { from ≤ result }
-    ensures past { hi ≤ result }
+        × Tracks work.now.types.now view is range.from end × IsAhead view now work.now.g vs range.from end
+        × GoesDown vs range.from end range.down × HaveCardsDown cards.old range.from end range.down × (range.hi ≤ end)
+        × (range.carded ≡ true → CanSkip work.now view vs cards.old range.from end) }
+    ensures from { range.from ≤ result }
+    ensures past { range.hi ≤ result }
     ensures gone { (view now : HeapView) (vs : List Move) (is : List Item) (end : ℕ)
         → IsRelocatingBy work.now view now heap.old pins.old.entries vs met.old.stretch
-        → Tracks work.now.types.now view is from end → IsAhead view now work.now.g vs from end
-        → GoesDown vs from end down → HaveCardsDown cards.old from end down → hi ≤ end
-        → (carded ≡ true → CanSkip work.now view vs cards.old from end)
+        → Tracks work.now.types.now view is range.from end → IsAhead view now work.now.g vs range.from end
+        → GoesDown vs range.from end range.down → HaveCardsDown cards.old range.from end range.down → range.hi ≤ end
+        → (range.carded ≡ true → CanSkip work.now view vs cards.old range.from end)
         → ((rest : List Item) × Tracks work.now.types.now view rest result end)
-        × AreRelocated work.now view now vs heap.old heap.new pins.old pins.new cards.new met.new.stretch from
+        × AreRelocated work.now view now vs heap.old heap.new pins.old pins.new cards.new met.new.stretch range.from
         result }
     ensures beside { KeepsBeside cards.old cards.new pins.old pins.new }
     ensures kind { IsRunKind work.now.types.now met.new.kind }
 {
-    let mut place = from;
-    while place < hi {
+    let mut place = range.from;
+    while place < range.hi {
         met.near = pins.near(met.near, place);
         met.segment = heap.segment_near(met.segment, place);
-        place += relocate_item(heap, work, cards, pins, met, place, place - down, carded);
+        let item = DueItem {
+            place,
+            to: place - range.down,
+            carded: range.carded,
+        };
+        place += relocate_item(heap, work, cards, pins, met, item);
     }
     place
 }
 
-// Relocates the references of the item at `place`, which goes to the place `to`, if it is left. It stands in the
-// segment that was met last. It answers the item's size.
+// Relocates the references of an item, if the collection leaves it. It stands in the segment that was met last. It
+// answers the item's size.
 fn relocate_item(
     heap: &mut Heap,
     work: &Relocation<'_>,
     cards: &mut Cards,
     pins: &mut PinQueue,
     met: &mut Met,
-    place: u64,
-    to: u64,
-    carded: bool,
+    item: DueItem,
 ) -> u64
     requires least { age_of work.now.g ≤ 2 }
     requires can { (view : HeapView) × (now : HeapView) × (vs : List Move) × (i : Item)
         × IsRelocatingBy work.now view now heap.old pins.old.entries vs met.old.stretch
-        × IsItemAhead work.now.types.now view now work.now.g vs i place to cards.old
-        × (carded ≡ true → CanSkip work.now view vs cards.old place (place + i.size)) }
-    requires segment { met.old.segment ≡ memory_index heap.old.memories place }
+        × IsItemAhead work.now.types.now view now work.now.g vs i item.place item.to cards.old
+        × (item.carded ≡ true → CanSkip work.now view vs cards.old item.place (item.place + i.size)) }
+    requires segment { met.old.segment ≡ memory_index heap.old.memories item.place }
     requires kind { IsRunKind work.now.types.now met.old.kind }
     ensures gone { (view now : HeapView) (vs : List Move) (i : Item)
         → IsRelocatingBy work.now view now heap.old pins.old.entries vs met.old.stretch
-        → IsItemAhead work.now.types.now view now work.now.g vs i place to cards.old
-        → (carded ≡ true → CanSkip work.now view vs cards.old place (place + i.size))
+        → IsItemAhead work.now.types.now view now work.now.g vs i item.place item.to cards.old
+        → (item.carded ≡ true → CanSkip work.now view vs cards.old item.place (item.place + i.size))
         → (result ≡ i.size)
-        × AreRelocated work.now view now vs heap.old heap.new pins.old pins.new cards.new met.new.stretch place
-        (place + i.size) }
+        × AreRelocated work.now view now vs heap.old heap.new pins.old pins.new cards.new met.new.stretch item.place
+        (item.place + i.size) }
     ensures beside { KeepsBeside cards.old cards.new pins.old pins.new }
     ensures kind { IsRunKind work.now.types.now met.new.kind }
 {
-    let mt = pins.logical_word_at(heap, met.segment, met.near, place);
+    let mt = pins.logical_word_at(heap, met.segment, met.near, item.place);
     if let Some(size) = met.kind.object.size_with(mt) {
         let found = Item {
-            place,
+            place: item.place,
             size,
             type_id: work.types.of_mt(mark::unmarked(mt)),
             len: 0,
         };
-        relocate_known(heap, work, cards, pins, met, found, to, mt);
+        relocate_known(heap, work, cards, pins, met, found, item.to, mt);
         return size;
     }
-    relocate_read(heap, work, cards, pins, met, place, to, mt, carded)
+    relocate_read(heap, work, cards, pins, met, item, mt)
 }
 
-// The same for an object of the kind that was met last, with the method table word `mt`. No table is waited for.
+// Relocates the references of an object of the kind that was met last, with the method table word `mt`, if the
+// collection leaves it. The kind tells where they are, so no table is read.
 #[inline(always)]
 fn relocate_known(
     heap: &mut Heap,
@@ -187,8 +213,8 @@ fn relocate_known(
     }
 }
 
-// The same for an item of another kind, with the method table word `mt`. One of a type without references is passed
-// over at once, and of another the kind is met.
+// Relocates the references of an item of any kind, with the method table word `mt`, if the collection leaves it, and
+// answers its size. One of a type without references is passed over at once; another's kind is then the one met last.
 #[inline(never)]
 fn relocate_read(
     heap: &mut Heap,
@@ -196,44 +222,42 @@ fn relocate_read(
     cards: &mut Cards,
     pins: &mut PinQueue,
     met: &mut Met,
-    place: u64,
-    to: u64,
+    item: DueItem,
     mt: u64,
-    carded: bool,
 ) -> u64
     requires least { age_of work.now.g ≤ 2 }
     requires can { (view : HeapView) × (now : HeapView) × (vs : List Move) × (i : Item)
         × IsRelocatingBy work.now view now heap.old pins.old.entries vs met.old.stretch
-        × IsItemAhead work.now.types.now view now work.now.g vs i place to cards.old
-        × (carded ≡ true → CanSkip work.now view vs cards.old place (place + i.size)) }
-    requires segment { met.old.segment ≡ memory_index heap.old.memories place }
-    requires word { mt ≡ logical pins.old.entries (word_of heap.old) place }
+        × IsItemAhead work.now.types.now view now work.now.g vs i item.place item.to cards.old
+        × (item.carded ≡ true → CanSkip work.now view vs cards.old item.place (item.place + i.size)) }
+    requires segment { met.old.segment ≡ memory_index heap.old.memories item.place }
+    requires word { mt ≡ logical pins.old.entries (word_of heap.old) item.place }
     requires kind { IsRunKind work.now.types.now met.old.kind }
     ensures gone { (view now : HeapView) (vs : List Move) (i : Item)
         → IsRelocatingBy work.now view now heap.old pins.old.entries vs met.old.stretch
-        → IsItemAhead work.now.types.now view now work.now.g vs i place to cards.old
-        → (carded ≡ true → CanSkip work.now view vs cards.old place (place + i.size))
+        → IsItemAhead work.now.types.now view now work.now.g vs i item.place item.to cards.old
+        → (item.carded ≡ true → CanSkip work.now view vs cards.old item.place (item.place + i.size))
         → (result ≡ i.size)
-        × AreRelocated work.now view now vs heap.old heap.new pins.old pins.new cards.new met.new.stretch place
-        (place + i.size) }
+        × AreRelocated work.now view now vs heap.old heap.new pins.old pins.new cards.new met.new.stretch item.place
+        (item.place + i.size) }
     ensures beside { KeepsBeside cards.old cards.new pins.old pins.new }
     ensures kind { IsRunKind work.now.types.now met.new.kind }
 {
     let (segment, near) = (met.segment, met.near);
-    let found = logical_item(heap, work.types, pins, segment, near, place, mt);
+    let found = logical_item(heap, work.types, pins, segment, near, item.place, mt);
     if work.types.series(found.type_id).is_empty() {
         return found.size;
     }
     met.kind = kind_behind(work.types, found, mt, met.kind);
     if is_left(heap, work.g, segment, found, mt) {
-        let age = planned_gen(heap, &work.planned, to);
+        let age = planned_gen(heap, &work.planned, item.to);
         let object = LeftObject {
             segment,
             near,
             found,
-            to,
+            to: item.to,
             age,
-            carded,
+            carded: item.carded,
         };
         relocate_object(heap, work, cards, pins, &mut met.stretch, &object);
         return found.size;

@@ -18,9 +18,9 @@ returns-then-is_some c =
     let items = c.items.inside.items.items in
     let seen = ap (λ (l : Listed). l.items) c.items.view_is in
     let here = subst (λ (ss : List Stretch). IsSoFar c.args.size ss items c.loop-stretch.from)
-    (next-stretch stretches k c.items.inside.stretches.open c.loop-stretch-test.true) c.loop-stretch.invariant in
+    (next-stretch stretches k c.items.inside.stretches.last c.loop-stretch-test.true) c.loop-stretch.invariant in
     so-far-found c.args.size c.loop-stretch.from (c.loop-stretch.from + (get_or stretches k none).count)
-    (get_or stretches k none) (drop (k + 1) stretches ++ c.items.inside.stretches.open ∷ []) items
+    (get_or stretches k none) (drop (k + 1) stretches ++ c.items.inside.stretches.last ∷ []) items
     c.first_between-found.result refl here (sym c.is_some.ensures ∙ c.if-is_some.true)
     (c.first_between-found.ensures ∙ ap (λ (ps : List Piece). find (λ (p : Piece). fits c.args.size p.size)
     (take ((c.loop-stretch.from + (get_or stretches k none).count) - c.loop-stretch.from)
@@ -36,9 +36,9 @@ loop-stretch-preserved c =
     let items = c.items.inside.items.items in
     let seen = ap (λ (l : Listed). l.items) c.items.view_is in
     let here = subst (λ (ss : List Stretch). IsSoFar c.args.size ss items c.loop-stretch.from)
-    (next-stretch stretches k c.items.inside.stretches.open c.loop-stretch-test.true) c.loop-stretch.invariant in
+    (next-stretch stretches k c.items.inside.stretches.last c.loop-stretch-test.true) c.loop-stretch.invariant in
     so-far-next c.args.size c.loop-stretch.from (c.loop-stretch.from + (get_or stretches k none).count)
-    (get_or stretches k none) (drop (k + 1) stretches ++ c.items.inside.stretches.open ∷ []) items refl here
+    (get_or stretches k none) (drop (k + 1) stretches ++ c.items.inside.stretches.last ∷ []) items refl here
     (elim c.if-size-stretch.branch [
       | then-size-stretch+else-is_some w ↦ inr
           (ap (λ (ps : List Piece). find (λ (p : Piece). fits c.args.size p.size)
@@ -57,7 +57,7 @@ returns-then-size-items c =
     let past = c.loop-stretch-test.false in
     let ok = c.items.inside.items.ok in
     let len = c.len.ensures in
-    let here = subst (λ (ss : List Stretch). IsSoFar c.args.size (ss ++ c.items.inside.stretches.open ∷ []) items
+    let here = subst (λ (ss : List Stretch). IsSoFar c.args.size (ss ++ c.items.inside.stretches.last ∷ []) items
     c.loop-stretch.from) (drop_all c.loop-stretch.stretch-index stretches (omega (arith, past)))
     c.loop-stretch.invariant in
     c.first_between.ensures
@@ -65,7 +65,7 @@ returns-then-size-items c =
     (take (c.len.result - c.loop-stretch.from) (drop c.loop-stretch.from ps))) (c.requires.slices ∙ sym seen)
     ∙ ap (λ (n : ℕ). find (λ (p : Piece). fits c.args.size p.size)
     (take (n - c.loop-stretch.from) (drop c.loop-stretch.from items))) (omega (arith, len, ok))
-    ∙ so-far-last c.args.size c.loop-stretch.from c.items.inside.stretches.open items here
+    ∙ so-far-last c.args.size c.loop-stretch.from c.items.inside.stretches.last items here
     ∙ ap (find (λ (p : Piece). fits c.args.size p.size)) seen
 
 pub returns-else-size-items : goal.returns-else-size-items
@@ -74,8 +74,8 @@ returns-else-size-items c =
     let seen = ap (λ (l : Listed). l.items) c.items.view_is in
     let stretches = c.as_slice-stretch-items.result.now in
     let past = c.loop-stretch-test.false in
-    let last = c.items.inside.stretches.open in
-    let here = subst (λ (ss : List Stretch). IsSoFar c.args.size (ss ++ c.items.inside.stretches.open ∷ []) items
+    let last = c.items.inside.stretches.last in
+    let here = subst (λ (ss : List Stretch). IsSoFar c.args.size (ss ++ c.items.inside.stretches.last ∷ []) items
     c.loop-stretch.from) (drop_all c.loop-stretch.stretch-index stretches (omega (arith, past)))
     c.loop-stretch.invariant in
     sym (so-far-none c.args.size (c.loop-stretch.from + last.count) items

@@ -9,18 +9,18 @@ use Rattle.clr_reloc.proofs.stretches.relocate_items.Given as goal
 
 abbrev pub invariant-loop-place : goal.invariant-loop-place
 invariant-loop-place l = record {
-  low : l.from ≤ l.place;
+  low : l.range.from ≤ l.place;
   gone : (view now : HeapView) (vs : List Move) (is : List Item) (end : ℕ)
       → IsRelocatingBy l.work view now l.initial.heap l.initial.pins.entries vs l.initial.met.stretch
-      → Tracks l.work.types.now view is l.from end → IsAhead view now l.work.g vs l.from end
-      → GoesDown vs l.from end l.down → HaveCardsDown l.initial.cards l.from end l.down → l.hi ≤ end
-      → (l.carded ≡ true → CanSkip l.work view vs l.initial.cards l.from end)
+      → Tracks l.work.types.now view is l.range.from end → IsAhead view now l.work.g vs l.range.from end
+      → GoesDown vs l.range.from end l.range.down → HaveCardsDown l.initial.cards l.range.from end l.range.down → l.range.hi ≤ end
+      → (l.range.carded ≡ true → CanSkip l.work view vs l.initial.cards l.range.from end)
       → ((rest : List Item) × Tracks l.work.types.now view rest l.place end)
-      × AreRelocated l.work view now vs l.initial.heap l.heap l.initial.pins l.pins l.cards l.met.stretch l.from
+      × AreRelocated l.work view now vs l.initial.heap l.heap l.initial.pins l.pins l.cards l.met.stretch l.range.from
       l.place;
   beside : KeepsBeside l.initial.cards l.cards l.initial.pins l.pins;
   kind : IsRunKind l.work.types.now l.met.kind;
 }
 
 abbrev pub decreases-loop-place : goal.decreases-loop-place
-decreases-loop-place l = l.hi - l.place
+decreases-loop-place l = l.range.hi - l.place

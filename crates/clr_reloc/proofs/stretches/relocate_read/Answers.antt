@@ -17,47 +17,47 @@ use Rattle.clr_reloc.proofs.stretches.relocate_read.Goals as goal
 pub logical_item-found-requires-clause-names : goal.logical_item-found-requires-clause-names
 logical_item-found-requires-clause-names c =
     let (view, now, vs, i, r, q, skip) = c.requires.can in
-    item_named c.args.work.now view now c.args.heap.now c.args.pins.now vs c.args.met.now.stretch r i c.args.place
-    c.args.to
+    item_named c.args.work.now view now c.args.heap.now c.args.pins.now vs c.args.met.now.stretch r i c.args.item.place
+    c.args.item.to
     c.args.cards.now q
 
 pub logical_item-found-requires-clause-len : goal.logical_item-found-requires-clause-len
 logical_item-found-requires-clause-len c =
     let (view, now, vs, i, r, q, skip) = c.requires.can in
-    len_has c.args.work.now view now c.args.heap.now c.args.pins.now vs c.args.met.now.stretch r i c.args.place
-    c.args.to
+    len_has c.args.work.now view now c.args.heap.now c.args.pins.now vs c.args.met.now.stretch r i c.args.item.place
+    c.args.item.to
     c.args.cards.now q
 
 pub logical_item-found-requires-clause-segment : goal.logical_item-found-requires-clause-segment
 logical_item-found-requires-clause-segment c =
     let (view, now, vs, i, r, q, skip) = c.requires.can in
-    len_segment c.args.work.now view now c.args.heap.now c.args.pins.now vs c.args.met.now.stretch r i c.args.place
-    c.args.to
+    len_segment c.args.work.now view now c.args.heap.now c.args.pins.now vs c.args.met.now.stretch r i c.args.item.place
+    c.args.item.to
     c.args.cards.now q c.args.met.now.segment c.requires.segment
 
 pub logical_item-found-requires-clause-room : goal.logical_item-found-requires-clause-room
 logical_item-found-requires-clause-room c =
     let (view, now, vs, i, r, q, skip) = c.requires.can in
-    fits_len c.args.work.now view now c.args.heap.now c.args.pins.now vs c.args.met.now.stretch r i c.args.place
-    c.args.to
+    fits_len c.args.work.now view now c.args.heap.now c.args.pins.now vs c.args.met.now.stretch r i c.args.item.place
+    c.args.item.to
     c.args.cards.now q
 
 pub series-requires : goal.series-requires
 series-requires c =
     let (view, now, vs, i, r, q, skip) = c.requires.can in
     let named = item_named c.args.work.now view now c.args.heap.now c.args.pins.now vs c.args.met.now.stretch r i
-    c.args.place c.args.to c.args.cards.now q in
+    c.args.item.place c.args.item.to c.args.cards.now q in
     let number = ap (λ (x : Item). x.type_id.0) c.logical_item-found.ensures
-    ∙ item-number c.args.work.now.types.now (logical c.args.pins.now.entries (word_of c.args.heap.now)) c.args.place in
+    ∙ item-number c.args.work.now.types.now (logical c.args.pins.now.entries (word_of c.args.heap.now)) c.args.item.place in
     subst (λ (n : ℕ). n ≤ length c.args.work.now.types.now) (sym number) named.known
 
 pub kind_behind-met-requires-clause-number : goal.kind_behind-met-requires-clause-number
 kind_behind-met-requires-clause-number c =
     let (view, now, vs, i, r, q, skip) = c.requires.can in
     let named = item_named c.args.work.now view now c.args.heap.now c.args.pins.now vs c.args.met.now.stretch r i
-    c.args.place c.args.to c.args.cards.now q in
+    c.args.item.place c.args.item.to c.args.cards.now q in
     let number = ap (λ (x : Item). x.type_id.0) c.logical_item-found.ensures
-    ∙ item-number c.args.work.now.types.now (logical c.args.pins.now.entries (word_of c.args.heap.now)) c.args.place in
+    ∙ item-number c.args.work.now.types.now (logical c.args.pins.now.entries (word_of c.args.heap.now)) c.args.item.place in
     subst (λ (n : ℕ). n ≤ length c.args.work.now.types.now) (sym number) named.known
 
 pub returns-then-is_empty-clause-gone : goal.returns-then-is_empty-clause-gone
@@ -65,13 +65,13 @@ returns-then-is_empty-clause-gone c view now vs i r q skip =
     let rows = c.args.work.now.types.now in
     let found = c.logical_item-found.result in
     let same = c.logical_item-found.ensures ∙ item_is c.args.work.now view now c.args.heap.now c.args.pins.now vs
-    c.args.met.now.stretch r i c.args.place c.args.to c.args.cards.now q in
+    c.args.met.now.stretch r i c.args.item.place c.args.item.to c.args.cards.now q in
     let series = sym c.series.ensures ∙ none_left c.series.result.now
     (eqb-true (length c.series.result.now) 0 (sym c.is_empty.ensures ∙ c.if-is_empty.true)) in
     let none = no_references (form_at rows found.type_id.0) found.len series in (
       ap (λ (x : Item). x.size) same,
-      bare_stays c.args.work.now view now c.args.heap.now c.args.pins.now vs c.args.met.now.stretch r i c.args.place
-          c.args.to c.args.cards.now q (ap (references_of rows) (sym same) ∙ none),
+      bare_stays c.args.work.now view now c.args.heap.now c.args.pins.now vs c.args.met.now.stretch r i c.args.item.place
+          c.args.item.to c.args.cards.now q (ap (references_of rows) (sym same) ∙ none),
     )
 
 pub returns-then-is_empty-clause-beside : goal.returns-then-is_empty-clause-beside
@@ -81,7 +81,7 @@ returns-then-is_empty-clause-beside c =
 pub kind_behind-met-requires-clause-item : goal.kind_behind-met-requires-clause-item
 kind_behind-met-requires-clause-item c = (
   logical c.args.pins.now.entries (word_of c.args.heap.now),
-  c.args.place,
+  c.args.item.place,
   c.logical_item-found.ensures,
   c.requires.word,
 )
@@ -89,8 +89,8 @@ kind_behind-met-requires-clause-item c = (
 pub is_left-requires : goal.is_left-requires
 is_left-requires c =
     let (view, now, vs, i, r, q, skip) = c.requires.can in
-    segment_inside c.args.work.now view now c.args.heap.now c.args.pins.now vs c.args.met.now.stretch r i c.args.place
-    c.args.to
+    segment_inside c.args.work.now view now c.args.heap.now c.args.pins.now vs c.args.met.now.stretch r i c.args.item.place
+    c.args.item.to
     c.args.cards.now q c.args.met.now.segment c.requires.segment
 
 pub relocate_object-requires-clause-can : goal.relocate_object-requires-clause-can
@@ -100,56 +100,56 @@ relocate_object-requires-clause-can c =
       now,
       vs,
       r,
-      found_ahead c.args.work.now view now c.args.heap.now c.args.pins.now vs c.args.met.now.stretch r i c.args.place
-          c.args.to
+      found_ahead c.args.work.now view now c.args.heap.now c.args.pins.now vs c.args.met.now.stretch r i c.args.item.place
+          c.args.item.to
           c.args.cards.now q c.args.met.now.segment c.requires.segment c.logical_item-found.result
           c.logical_item-found.ensures
           c.args.mt c.requires.word c.is_left.result c.is_left.ensures
           c.args.met.now.near
-          c.planned_gen-age.result c.if-is_left.true c.args.carded skip,
+          c.planned_gen-age.result c.if-is_left.true c.args.item.carded skip,
     )
 
 pub relocate_object-requires-clause-placed : goal.relocate_object-requires-clause-placed
 relocate_object-requires-clause-placed c =
     let (view, now, vs, i, r, q, skip) = c.requires.can in
-    found_placed c.args.work.now view now c.args.heap.now c.args.pins.now vs c.args.met.now.stretch r i c.args.place
-    c.args.to
+    found_placed c.args.work.now view now c.args.heap.now c.args.pins.now vs c.args.met.now.stretch r i c.args.item.place
+    c.args.item.to
     c.args.cards.now q c.args.met.now.segment c.requires.segment c.logical_item-found.result
     c.logical_item-found.ensures
     c.args.mt c.requires.word c.is_left.result c.is_left.ensures c.args.met.now.near
-    c.planned_gen-age.result c.planned_gen-age.ensures c.args.carded
+    c.planned_gen-age.result c.planned_gen-age.ensures c.args.item.carded
 
 pub returns-then-is_left-clause-gone : goal.returns-then-is_left-clause-gone
 returns-then-is_left-clause-gone c view now vs i r q skip =
     let done = c.relocate_object in (
       ap (λ (x : Item). x.size) (found_is c.args.work.now view now c.args.heap.now c.args.pins.now vs
-          c.args.met.now.stretch r i c.args.place c.args.to
+          c.args.met.now.stretch r i c.args.item.place c.args.item.to
           c.args.cards.now q c.args.met.now.segment c.requires.segment c.logical_item-found.result
           c.logical_item-found.ensures
           c.args.mt c.requires.word c.is_left.result c.is_left.ensures),
-      found_done c.args.work.now view now c.args.heap.now c.args.pins.now vs c.args.met.now.stretch r i c.args.place
-          c.args.to
+      found_done c.args.work.now view now c.args.heap.now c.args.pins.now vs c.args.met.now.stretch r i c.args.item.place
+          c.args.item.to
           c.args.cards.now q c.args.met.now.segment c.requires.segment c.logical_item-found.result
           c.logical_item-found.ensures
           c.args.mt c.requires.word c.is_left.result c.is_left.ensures
           done.new.heap done.new.pins done.new.cards done.new.last
           (done.ensures.gone view now vs r (found_ahead c.args.work.now view now c.args.heap.now c.args.pins.now vs
-          c.args.met.now.stretch r i c.args.place c.args.to
+          c.args.met.now.stretch r i c.args.item.place c.args.item.to
           c.args.cards.now q c.args.met.now.segment c.requires.segment c.logical_item-found.result
           c.logical_item-found.ensures
           c.args.mt c.requires.word c.is_left.result c.is_left.ensures
-          c.args.met.now.near c.planned_gen-age.result c.if-is_left.true c.args.carded skip)),
+          c.args.met.now.near c.planned_gen-age.result c.if-is_left.true c.args.item.carded skip)),
     )
 
 pub returns-clause-gone : goal.returns-clause-gone
 returns-clause-gone c view now vs i r q skip = (
   ap (λ (x : Item). x.size) (found_is c.args.work.now view now c.args.heap.now c.args.pins.now vs
-      c.args.met.now.stretch r i c.args.place c.args.to
+      c.args.met.now.stretch r i c.args.item.place c.args.item.to
       c.args.cards.now q c.args.met.now.segment c.requires.segment c.logical_item-found.result
       c.logical_item-found.ensures
       c.args.mt c.requires.word c.is_left.result c.is_left.ensures),
-  found_stays c.args.work.now view now c.args.heap.now c.args.pins.now vs c.args.met.now.stretch r i c.args.place
-      c.args.to
+  found_stays c.args.work.now view now c.args.heap.now c.args.pins.now vs c.args.met.now.stretch r i c.args.item.place
+      c.args.item.to
       c.args.cards.now q c.args.met.now.segment c.requires.segment c.logical_item-found.result
       c.logical_item-found.ensures
       c.args.mt c.requires.word c.is_left.result c.is_left.ensures c.if-is_left.false,

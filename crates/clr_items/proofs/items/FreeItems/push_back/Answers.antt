@@ -4,7 +4,7 @@ use Rattle.clr_items.proofs.items.FreeItems.push_back.Goals as goal
 
 pub add_last-requires : goal.add_last-requires
 add_last-requires c =
-    let most = open-within c.self.inside.stretches.closed.items c.self.inside.stretches.open
+    let most = open-within c.self.inside.stretches.closed.items c.self.inside.stretches.last
     c.self.inside.items.items c.self.invariant in
     let ok = c.self.inside.items.ok in
     let small = c.self.inside.items.small in

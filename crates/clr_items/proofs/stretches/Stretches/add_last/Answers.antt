@@ -14,4 +14,4 @@ returns c = λ ps p is size.
       | else-self-ge-USUAL w ↦ subst (λ (s : Stretches). AreBounded (all_of s) ps) (sym w.self-is) is
     ] in
     let max = c.max-self.ensures in
-    bounded-last now.closed.items now.open ps p c.max-self.result (omega (arith, max)) (omega (arith, max, size)) here
+    bounded-last now.closed.items now.last ps p c.max-self.result (omega (arith, max)) (omega (arith, max, size)) here

@@ -7,7 +7,7 @@ use Rattle.clr_items.proofs.stretches.Stretches.close.Goals as goal
 pub returns-then-is_ok-clause-bounded : goal.returns-then-is_ok-clause-bounded
 returns-then-is_ok-clause-bounded c = λ ps is.
     let old = c.args.self.now in
-    let all = old.closed.items ++ old.open ∷ [] in
+    let all = old.closed.items ++ old.last ∷ [] in
     subst (λ (ss : List Stretch). AreBounded (ss ++ record { count = 0; most = 0 } ∷ []) ps)
     (sym (c.push.ensures.items ∙ ap (λ (b : Bool). if b then all else old.closed.items)
     (sym c.is_ok.ensures.value ∙ c.if-is_ok.true))) (bounded-closed all ps is)

@@ -19,12 +19,12 @@ loop-stretch-preserved c =
 pub returns-then-at-before : goal.returns-then-at-before
 returns-then-at-before c =
     let inv = c.loop-stretch.invariant in
-    subst (λ (k : ℕ). IsSpot (c.args.self.now.closed.items ++ c.args.self.now.open ∷ [])
+    subst (λ (k : ℕ). IsSpot (c.args.self.now.closed.items ++ c.args.self.now.last ∷ [])
     c.args.at k c.loop-stretch.before)
     (sym inv.0)
-    (subst (λ (ss : List Stretch). IsSpot (ss ++ c.args.self.now.open ∷ []) c.args.at c.loop-stretch.stretch-index
+    (subst (λ (ss : List Stretch). IsSpot (ss ++ c.args.self.now.last ∷ []) c.args.at c.loop-stretch.stretch-index
     c.loop-stretch.before) c.as_slice-stretch-items.ensures.value
-    (spot-closed c.as_slice-stretch-items.result.now c.args.self.now.open c.args.at c.loop-stretch.stretch-index
+    (spot-closed c.as_slice-stretch-items.result.now c.args.self.now.last c.args.at c.loop-stretch.stretch-index
     c.loop-stretch.before c.loop-stretch-test.true inv.1 inv.2 c.if-at-before.true))
 
 pub returns : goal.returns
@@ -33,12 +33,12 @@ returns c =
     let past = c.loop-stretch-test.false in
     let end = c.loop-stretch.auto.stretch-index-end in
     let within = c.requires in
-    let all = subst (λ (ss : List Stretch). c.args.at < total (ss ++ c.args.self.now.open ∷ []))
+    let all = subst (λ (ss : List Stretch). c.args.at < total (ss ++ c.args.self.now.last ∷ []))
     (sym c.as_slice-stretch-items.ensures.value) within in
-    subst (λ (k : ℕ). IsSpot (c.args.self.now.closed.items ++ c.args.self.now.open ∷ [])
+    subst (λ (k : ℕ). IsSpot (c.args.self.now.closed.items ++ c.args.self.now.last ∷ [])
     c.args.at k c.loop-stretch.before)
     (sym inv.0)
-    (subst (λ (ss : List Stretch). IsSpot (ss ++ c.args.self.now.open ∷ []) c.args.at c.loop-stretch.stretch-index
+    (subst (λ (ss : List Stretch). IsSpot (ss ++ c.args.self.now.last ∷ []) c.args.at c.loop-stretch.stretch-index
     c.loop-stretch.before) c.as_slice-stretch-items.ensures.value
-    (spot-open c.as_slice-stretch-items.result.now c.args.self.now.open c.args.at c.loop-stretch.stretch-index
+    (spot-open c.as_slice-stretch-items.result.now c.args.self.now.last c.args.at c.loop-stretch.stretch-index
     c.loop-stretch.before (omega (arith, past, end)) inv.1 inv.2 all))

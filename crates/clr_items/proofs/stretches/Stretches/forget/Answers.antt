@@ -10,7 +10,7 @@ returns-then-at-eq0 c = λ ps are.
     let len = c.len.ensures in
     let test = c.if-k-len.true in
     let low : c.args.k < length closed.items = omega (arith, ok, len, test) in
-    let all = length-append closed.items (c.args.self.now.open ∷ []) in
-    let within : c.args.k < length (closed.items ++ c.args.self.now.open ∷ []) = omega (arith, all, low) in
-    forgotten-closed closed.items c.remove.new.self.items c.args.self.now.open c.at.result c.args.k ps low
+    let all = length-append closed.items (c.args.self.now.last ∷ []) in
+    let within : c.args.k < length (closed.items ++ c.args.self.now.last ∷ []) = omega (arith, all, low) in
+    forgotten-closed closed.items c.remove.new.self.items c.args.self.now.last c.at.result c.args.k ps low
     (c.at.ensures (record { count = 0; most = 0 }) within) c.if-at-eq0.true c.remove.ensures.items are

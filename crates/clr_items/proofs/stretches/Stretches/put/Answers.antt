@@ -8,13 +8,13 @@ returns-then-k-len c = λ within.
     let len = c.len.ensures in
     let ok = closed.ok.0 in
     let test = c.if-k-len.true in
-    sym (set-append_left closed.items (c.args.self.now.open ∷ []) c.args.k c.args.stretch
+    sym (set-append_left closed.items (c.args.self.now.last ∷ []) c.args.k c.args.stretch
     (omega (arith, len, ok, test)))
 
 pub returns-else-k-len : goal.returns-else-k-len
 returns-else-k-len c = λ within.
     let closed = c.args.self.now.closed in
-    let last = c.args.self.now.open ∷ [] in
+    let last = c.args.self.now.last ∷ [] in
     let len = c.len.ensures in
     let ok = closed.ok.0 in
     let test = c.if-k-len.false in

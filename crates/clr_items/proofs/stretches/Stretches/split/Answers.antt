@@ -11,7 +11,7 @@ use Rattle.clr_items.proofs.stretches.Stretches.split.Goals as goal
 pub insert-requires : goal.insert-requires
 insert-requires c =
     let closed = c.args.self.now.closed in
-    let all = length-append closed.items (c.args.self.now.open ∷ []) in
+    let all = length-append closed.items (c.args.self.now.last ∷ []) in
     let ok = closed.ok.0 in
     let within = c.requires in
     omega (arith, all, ok, within)
@@ -19,7 +19,7 @@ insert-requires c =
 pub overflow_add-k : goal.overflow_add-k
 overflow_add-k c =
     let closed = c.args.self.now.closed in
-    let all = length-append closed.items (c.args.self.now.open ∷ []) in
+    let all = length-append closed.items (c.args.self.now.last ∷ []) in
     let ok = closed.ok in
     let within = c.requires in
     omega (arith, all, ok, within)
@@ -27,7 +27,7 @@ overflow_add-k c =
 pub returns-then-is_ok : goal.returns-then-is_ok
 returns-then-is_ok c = λ ps are.
     let closed = c.args.self.now.closed.items in
-    let last = c.args.self.now.open in
+    let last = c.args.self.now.last in
     let k = c.args.k in
     let s = c.at-stretch.result in
     let half = s.count / 2 in
@@ -50,4 +50,4 @@ returns-else-is_ok c = λ ps are.
     let new = c.insert.ensures.items
     ∙ ap (λ (b : Bool). if b then insert closed c.args.k (record { count = s.count / 2; most = s.most }) else closed)
     (sym c.is_ok.ensures.value ∙ c.if-is_ok.false) in
-    subst (λ (ss : List Stretch). AreBounded (ss ++ c.args.self.now.open ∷ []) ps) (sym new) are
+    subst (λ (ss : List Stretch). AreBounded (ss ++ c.args.self.now.last ∷ []) ps) (sym new) are

@@ -38,7 +38,7 @@ use Rattle.clr_model.specs.Instructions.{collect_heap, suspend_others, resume_ot
 use Rattle.clr_model.specs.Instructions.{create_handle, fetch_target, fetch_second, free_handle, take_ready, dump_heap}
 use Rattle.clr_model.specs.Instructions.{dump_object, show_root, show_segments, verify_heap, show_handles, show_queues}
 use Rattle.clr_model.specs.Instructions.{where_is, compact_large_once, new_pinned, begin_background, step_background}
-use Rattle.clr_model.specs.Instructions.{end_background, show_size}
+use Rattle.clr_model.specs.Instructions.{end_background, show_size, look_at}
 use Rattle.clr_model.specs.Checks.{refusal as first_refusal, blocked, first_of_all, made_size, mid_step, not_mid_step}
 use Rattle.clr_model.specs.Checks.{refuse_if, unknown_thread}
 use Rattle.clr_model.specs.Outcomes.{Outcome, answered, refused}
@@ -444,6 +444,8 @@ does m show_queues outcome new e d = shows m _ outcome new (finalizequeue_text (
 does m (where_is a) outcome new e (replied, same) = still m _ outcome new same
 does m (show_size a) outcome new e (inl (reached, tests, (replied, same))) = still m _ outcome new same
 does m (show_size a) outcome new e (inr (wants, same)) = still m _ outcome new same
+does m (look_at look) outcome new e (inl (text, tells, shown, same)) = still m _ outcome new same
+does m (look_at look) outcome new e (inr (wants, same)) = still m _ outcome new same
 
 -- A line that is refused does nothing, and another does one of these.
 pub line_changes : (m : Machine) (i : Instruction) (outcome : Outcome) (new : Machine) → Obeys m i outcome new

@@ -30,8 +30,8 @@ pub fn object_at(heap: &Heap, types: &Types, bricks: &Bricks, a: u64) -> Option<
     }
 }
 
-// The number of the segment in which an item may have the place `a`.
-fn segment_with(heap: &Heap, a: u64) -> Option<usize>
+/// The number of the segment in which an item may have the place `a`.
+pub fn segment_with(heap: &Heap, a: u64) -> Option<usize>
     ensures heap { IsHeap heap.now }
     ensures in_range { IfSome result (λ k. k < length heap.now.segments) }
     ensures low { IfSome result (λ k. first_of heap.now k ≤ a) }
@@ -48,9 +48,9 @@ fn segment_with(heap: &Heap, a: u64) -> Option<usize>
     None
 }
 
-// Where a walk to the place `a` of segment `k` may start: at the nearest object that bricks name, else at the segment's
-// first place.
-fn walk_start(heap: &Heap, types: &Types, bricks: &Bricks, k: usize, a: u64) -> u64
+/// Where a walk to the place `a` of segment `k` may start: at the nearest object that bricks name, else at the segment's
+/// first place.
+pub fn walk_start(heap: &Heap, types: &Types, bricks: &Bricks, k: usize, a: u64) -> u64
     requires held { IsHeld types.now heap.now }
     requires in_range { k < length heap.now.segments }
     requires low { first_of heap.now k ≤ a }

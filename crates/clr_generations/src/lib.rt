@@ -20,7 +20,7 @@ pub use crate::all_bricks::renew_all_bricks;
 pub use crate::barrier::set_reference;
 pub use crate::births::bear;
 pub use crate::covering::cover_segments;
-pub use crate::finding::object_at;
+pub use crate::finding::{object_at, segment_with, walk_start};
 pub use crate::old_births::enter_old_newborn;
 pub use crate::renewing::{renew_aged_bricks, renew_bricks};
 pub use crate::space::Space;

@@ -17,6 +17,10 @@ use Rattle.clr_model.proofs.Readers.{IsReader, bound, mapped, none_told, one_rea
 use Rattle.clr_model.proofs.Readers.{IsTold, nothing_told, choice_told, value_told}
 use Rattle.std.proofs.lemmas.Bool.{eq-eqb, eqb-true}
 use Rattle.clr_model.proofs.WordReaders.{number_reader, address_reader, local_reader, handle_reader, name_reader}
+use Rattle.clr_model.proofs.WordReaders.{kind_reader}
+use Rattle.clr_model.specs.LineGrammar.{unrooted_words}
+use Rattle.clr_model.specs.ReplyText.{kind_word}
+use Rattle.clr_model.specs.Parsing.{addresses_in, one_kind_in, unrooted_in}
 
 -- a local alone
 pub one_local_reader : IsReader one_local_in (λ k. local_word k ∷ []) IsWord
@@ -37,6 +41,17 @@ one_number_reader = let r = one_reader _ _ _ number_reader in record { found = r
 pub address_after_reader : IsReader address_after_in (λ a. hex16 a ∷ []) IsWord
 unfolding address_after_in
 address_after_reader = let r = one_reader _ _ _ address_reader in record { found = r.found; told = r.told }
+
+-- a kind alone
+pub one_kind_reader : IsReader one_kind_in (λ kind. kind_word kind ∷ []) (λ kind. Unit {0})
+unfolding one_kind_in
+one_kind_reader = let r = one_reader _ _ _ kind_reader in record { found = r.found; told = r.told }
+
+-- two addresses
+pub addresses_reader : IsReader addresses_in (λ p. hex16 p.0 ∷ hex16 p.1 ∷ []) (λ p. IsWord p.0 × IsWord p.1)
+unfolding addresses_in
+addresses_reader = let r = both_reader _ _ _ _ _ _ address_reader address_reader in
+    record { found = r.found; told = r.told }
 
 -- two locals
 pub locals_reader : IsReader locals_in (λ p. local_word p.0 ∷ local_word p.1 ∷ []) (λ p. IsWord p.0 × IsWord p.1)
@@ -240,3 +255,24 @@ final_found true h = refl
 -- whether `final` is written
 pub final_reader : IsReader final_in final_words (λ final. Unit {0})
 final_reader = record { found = final_found; told = final_told }
+
+-- ---- `-inclUnrooted`
+
+-- what is read of it is spelled so
+unrooted_told : (ws : List (List ℕ)) (u : Bool) → unrooted_in ws ≡ Some u → (ws ≡ unrooted_words u) × Unit {0}
+unfolding unrooted_in
+unrooted_told [] u e = value_told unrooted_words (λ f. Unit {0}) [] false refl tt u e
+unrooted_told (word ∷ []) u e =
+    choice_told unrooted_words (λ f. Unit {0}) (λ w. w ∷ []) word (codes "-inclUnrooted") _ _
+    (value_told unrooted_words (λ f. Unit {0}) _ true refl tt) (nothing_told _ _ _) u e
+unrooted_told (word ∷ other ∷ more) u e = absurd cc
+
+-- and each is read
+unrooted_found : (u : Bool) → Unit {0} → unrooted_in (unrooted_words u) ≡ Some u
+unfolding unrooted_in
+unrooted_found false h = refl
+unrooted_found true h = refl
+
+-- whether `-inclUnrooted` is written
+pub unrooted_reader : IsReader unrooted_in unrooted_words (λ u. Unit {0})
+unrooted_reader = record { found = unrooted_found; told = unrooted_told }

@@ -10,7 +10,10 @@ use Rattle.clr_model.specs.Instructions.{collect_heap, suspend_others, resume_ot
 use Rattle.clr_model.specs.Instructions.{create_handle, fetch_target, fetch_second, free_handle, take_ready, dump_heap}
 use Rattle.clr_model.specs.Instructions.{dump_object, show_root, show_segments, verify_heap, show_handles, show_queues}
 use Rattle.clr_model.specs.Instructions.{where_is, compact_large_once, new_pinned, begin_background, step_background}
-use Rattle.clr_model.specs.Instructions.{end_background, show_size}
+use Rattle.clr_model.specs.Instructions.{end_background, show_size, look_at}
+use Rattle.clr_model.specs.declared.look.Look.{Look}
+use Rattle.clr_model.specs.declared.look.Look.TheVariants.{DumpArray, DumpMt, GcRoots, PathTo, Retained, GcHeapStat}
+use Rattle.clr_model.specs.declared.look.Look.TheVariants.{ListNearObj, EphRefs, HandleStat, HandlesOf}
 use Rattle.clr_model.specs.LineGrammar.{IsWord, IsForm, IsFinal, IsWellFormed, is_name, words_of, thread_word}
 use Rattle.clr_model.specs.LineGrammar.{local_word, pattern_word, form_words, final_words}
 use Rattle.clr_model.specs.ReplyText.{kind_word}
@@ -18,16 +21,17 @@ use Rattle.clr_model.specs.Parsing.{number_in, thread_in, local_in, name_in, pat
 use Rattle.clr_model.specs.Parsing.{none_in, one_in, how_in, collect_in, second_in, create_in, begin_in, rooted_in}
 use Rattle.clr_model.specs.Parsing.{rarely_in, verb_in, threaded_in, final_in, class_in, structs_in, shape_in}
 use Rattle.clr_model.specs.Parsing.{define_in, heaps_in, other_in, line_in, instruction_in, one_number_in, seldom_in}
-use Rattle.clr_model.specs.Parsing.{pinned_in, pause_in, once_in, marking_in}
+use Rattle.clr_model.specs.Parsing.{pinned_in, pause_in, once_in, marking_in, roots_in, handles_in, look_in}
 use Rattle.clr_model.proofs.Readers.{IsReader, IsTold, bound, mapped, one_told, nothing_told, choice_told, value_told}
 use Rattle.clr_model.proofs.Readers.{made_told, made_none_told}
 use Rattle.clr_model.proofs.WordReaders.{thread_reader, local_reader, name_reader, pattern_reader, kind_reader}
-use Rattle.clr_model.proofs.WordReaders.{generation_reader}
+use Rattle.clr_model.proofs.WordReaders.{generation_reader, no_hex_word}
 use Rattle.clr_model.proofs.ArgumentReaders.{one_local_reader, one_handle_reader, address_after_reader, locals_reader}
 use Rattle.clr_model.proofs.ArgumentReaders.{local_and_number_reader, local_and_handle_reader, load_reader}
 use Rattle.clr_model.proofs.ArgumentReaders.{store_reader, number_store_reader, birth_reader, how_reader, second_reader}
-use Rattle.clr_model.proofs.ArgumentReaders.{final_reader, how_least, one_number_reader}
-use Rattle.clr_model.proofs.OptionReaders.{options_reader}
+use Rattle.clr_model.proofs.ArgumentReaders.{final_reader, how_least, one_number_reader, addresses_reader}
+use Rattle.clr_model.proofs.ArgumentReaders.{one_kind_reader, unrooted_reader}
+use Rattle.clr_model.proofs.OptionReaders.{options_reader, slots_reader}
 
 -- what is read from these words is what they spell
 abbrev Spells : List (List ℕ) → Option Instruction → Type 0
@@ -312,6 +316,51 @@ marking_spelled (word ∷ ws) =
     (λ n v. (refl, v)) ws)
     (none_spelled _)
 
+-- an object, and the roots that lead to it
+roots_spelled : (ws : List (List ℕ)) → Spells (codes "gcroot" ∷ ws) (roots_in ws)
+unfolding roots_in
+roots_spelled [] = none_spelled _
+roots_spelled (word ∷ ws) =
+    either_spelled (λ v. codes "gcroot" ∷ v ∷ ws) word (codes "-all") _ _
+    (made_spelled _ _ _ address_after_reader (λ v. codes "gcroot" ∷ codes "-all" ∷ v) (λ a. look_at (GcRoots a))
+    (λ a v. (refl, v)) ws)
+    (made_spelled _ _ _ address_after_reader (λ v. codes "gcroot" ∷ v) show_root (λ a v. (refl, v)) (word ∷ ws))
+
+-- handles
+handles_spelled : (ws : List (List ℕ)) → Spells (codes "gchandles" ∷ ws) (handles_in ws)
+unfolding handles_in
+handles_spelled [] = value_told words_of IsWellFormed (codes "gchandles" ∷ []) show_handles refl tt
+handles_spelled (word ∷ ws) =
+    either_spelled (λ v. codes "gchandles" ∷ v ∷ ws) word (codes "-stat") _ _
+    (alone_spelled (λ v. codes "gchandles" ∷ codes "-stat" ∷ v) (look_at HandleStat) refl tt ws)
+    (either_spelled (λ v. codes "gchandles" ∷ v ∷ ws) word (codes "-type") _ _
+    (made_spelled _ _ _ one_kind_reader (λ v. codes "gchandles" ∷ codes "-type" ∷ v) (λ kind. look_at (HandlesOf kind))
+    (λ kind v. (refl, tt)) ws)
+    (none_spelled _))
+
+-- a line that looks
+look_spelled : (word : List ℕ) (ws : List (List ℕ)) → Spells (word ∷ ws) (look_in word ws)
+unfolding look_in
+look_spelled word ws =
+    or (codes "dumparray") _ _ (made_spelled _ _ _ slots_reader (λ v. codes "dumparray" ∷ v)
+    (λ s. look_at (DumpArray s.0 s.1 s.2)) (λ s v. (refl, v)) ws)
+    (or (codes "dumpmt") _ _ (made_spelled _ _ _ address_after_reader (λ v. codes "dumpmt" ∷ v)
+    (λ a. look_at (DumpMt a)) (λ a v. (refl, v)) ws)
+    (or (codes "pathto") _ _ (made_spelled _ _ _ addresses_reader (λ v. codes "pathto" ∷ v)
+    (λ p. look_at (PathTo p.0 p.1)) (λ p v. (refl, v)) ws)
+    (or (codes "retained") _ _ (made_spelled _ _ _ address_after_reader (λ v. codes "retained" ∷ v)
+    (λ a. look_at (Retained a)) (λ a v. (refl, v)) ws)
+    (or (codes "gcheapstat") _ _ (made_spelled _ _ _ unrooted_reader (λ v. codes "gcheapstat" ∷ v)
+    (λ u. look_at (GcHeapStat u)) (λ u v. (refl, v)) ws)
+    (or (codes "listnearobj") _ _ (made_spelled _ _ _ address_after_reader (λ v. codes "listnearobj" ∷ v)
+    (λ a. look_at (ListNearObj a)) (λ a v. (refl, v)) ws)
+    (or (codes "ephrefs") _ _ (alone_spelled (λ v. codes "ephrefs" ∷ v) (look_at EphRefs) refl tt ws)
+    (none_spelled _)))))))
+  where
+    or : (k : List ℕ) (x y : Option Instruction) → Spells (k ∷ ws) x → Spells (word ∷ ws) y
+        → Spells (word ∷ ws) (if bytes_eq word k then x else y)
+    or k x y = either_spelled (λ v. v ∷ ws) word k x y
+
 -- a line that is no thread's
 other_spelled : (word : List ℕ) (ws : List (List ℕ)) → Spells (word ∷ ws) (other_in word ws)
 unfolding other_in
@@ -321,18 +370,17 @@ other_spelled word ws =
     (λ a v. (refl, v)) ws)
     (or (codes "dumpobj") _ _ (made_spelled _ _ _ address_after_reader (λ v. codes "dumpobj" ∷ v) dump_object
     (λ a v. (refl, v)) ws)
-    (or (codes "gcroot") _ _ (made_spelled _ _ _ address_after_reader (λ v. codes "gcroot" ∷ v) show_root
-    (λ a v. (refl, v)) ws)
+    (or (codes "gcroot") _ _ (roots_spelled ws)
     (or (codes "dumpheap") _ _ (made_spelled _ _ _ options_reader (λ v. codes "dumpheap" ∷ v) dump_heap
     (λ o v. (refl, v)) ws)
     (or (codes "eeheap") _ _ (heaps_spelled ws)
     (or (codes "verifyheap") _ _ (alone_spelled (λ v. codes "verifyheap" ∷ v) verify_heap refl tt ws)
-    (or (codes "gchandles") _ _ (alone_spelled (λ v. codes "gchandles" ∷ v) show_handles refl tt ws)
+    (or (codes "gchandles") _ _ (handles_spelled ws)
     (or (codes "finalizequeue") _ _ (alone_spelled (λ v. codes "finalizequeue" ∷ v) show_queues refl tt ws)
     (or (codes "objsize") _ _ (made_spelled _ _ _ address_after_reader (λ v. codes "objsize" ∷ v) show_size
     (λ a v. (refl, v)) ws)
     (or (codes "background") _ _ (marking_spelled ws)
-    (none_spelled _)))))))))))
+    (look_spelled word ws)))))))))))
   where
     or : (k : List ℕ) (x y : Option Instruction) → Spells (k ∷ ws) x → Spells (word ∷ ws) y
         → Spells (word ∷ ws) (if bytes_eq word k then x else y)
@@ -388,10 +436,40 @@ shaped name references_form final f g = rw g refl
 shaped name bytes_form final f g = rw g refl
 shaped name (structs_form pattern) final f g = rw (g, pattern_reader.found pattern f) refl
 
+-- a line that looks is read from its words
+look_found : (look : Look) → IsWellFormed (look_at look) → instruction_in (words_of (look_at look)) ≡ Some (look_at look)
+unfolding other_in look_in roots_in handles_in
+look_found (DumpArray start count a) v =
+    unthreaded (codes "dumparray") _ _ (unlettered _ _ refl)
+    (ap (option_map (λ s. look_at (DumpArray s.0 s.1 s.2))) (slots_reader.found (start, count, a) v))
+look_found (DumpMt mt) v =
+    unthreaded (codes "dumpmt") _ _ (unlettered _ _ refl)
+    (ap (option_map (λ a. look_at (DumpMt a))) (address_after_reader.found mt v))
+look_found (GcRoots a) v =
+    unthreaded (codes "gcroot") _ _ (unlettered _ _ refl)
+    (ap (option_map (λ b. look_at (GcRoots b))) (address_after_reader.found a v))
+look_found (PathTo a b) v =
+    unthreaded (codes "pathto") _ _ (unlettered _ _ refl)
+    (ap (option_map (λ p. look_at (PathTo p.0 p.1))) (addresses_reader.found (a, b) v))
+look_found (Retained a) v =
+    unthreaded (codes "retained") _ _ (unlettered _ _ refl)
+    (ap (option_map (λ b. look_at (Retained b))) (address_after_reader.found a v))
+look_found (GcHeapStat unrooted) v =
+    unthreaded (codes "gcheapstat") _ _ (unlettered _ _ refl)
+    (ap (option_map (λ u. look_at (GcHeapStat u))) (unrooted_reader.found unrooted tt))
+look_found (ListNearObj a) v =
+    unthreaded (codes "listnearobj") _ _ (unlettered _ _ refl)
+    (ap (option_map (λ b. look_at (ListNearObj b))) (address_after_reader.found a v))
+look_found EphRefs v = unthreaded (codes "ephrefs") _ _ (unlettered _ _ refl) refl
+look_found HandleStat v = unthreaded (codes "gchandles") _ _ (unlettered _ _ refl) refl
+look_found (HandlesOf kind) v =
+    unthreaded (codes "gchandles") _ _ (unlettered _ _ refl)
+    (ap (option_map (λ k. look_at (HandlesOf k))) (one_kind_reader.found kind tt))
+
 -- each instruction is read from its words
 pub instruction_found : (i : Instruction) → IsWellFormed i → instruction_in (words_of i) ≡ Some i
 unfolding verb_in rarely_in rooted_in begin_in collect_in create_in other_in heaps_in seldom_in pinned_in pause_in
-    once_in marking_in
+    once_in marking_in roots_in handles_in
 instruction_found (define_type name form final) v =
     unthreaded (codes "type") _ _ no_thread
     (shaped name form final v.1 v.2
@@ -460,7 +538,8 @@ instruction_found (dump_object a) v =
     unthreaded (codes "dumpobj") _ _ (unlettered _ _ refl)
     (ap (option_map dump_object) (address_after_reader.found a v))
 instruction_found (show_root a) v =
-    unthreaded (codes "gcroot") _ _ (unlettered _ _ refl) (ap (option_map show_root) (address_after_reader.found a v))
+    unthreaded (codes "gcroot") _ _ (unlettered _ _ refl)
+    (rw (no_hex_word a (codes "-all") refl) (ap (option_map show_root) (address_after_reader.found a v)))
 instruction_found show_segments v = unthreaded (codes "eeheap") _ _ (unlettered _ _ refl) refl
 instruction_found verify_heap v = unthreaded (codes "verifyheap") _ _ (unlettered _ _ refl) refl
 instruction_found show_handles v = unthreaded (codes "gchandles") _ _ (unlettered _ _ refl) refl
@@ -469,3 +548,4 @@ instruction_found (where_is a) v =
     unthreaded (codes "gcwhere") _ _ (unlettered _ _ refl) (ap (option_map where_is) (address_after_reader.found a v))
 instruction_found (show_size a) v =
     unthreaded (codes "objsize") _ _ (unlettered _ _ refl) (ap (option_map show_size) (address_after_reader.found a v))
+instruction_found (look_at look) v = look_found look v

@@ -23,7 +23,7 @@ use Rattle.clr_model.specs.Instructions.{collect_heap, suspend_others, resume_ot
 use Rattle.clr_model.specs.Instructions.{create_handle, fetch_target, fetch_second, free_handle, take_ready, dump_heap}
 use Rattle.clr_model.specs.Instructions.{dump_object, show_root, show_segments, verify_heap, show_handles, show_queues}
 use Rattle.clr_model.specs.Instructions.{where_is, compact_large_once, new_pinned, begin_background, step_background}
-use Rattle.clr_model.specs.Instructions.{end_background, show_size}
+use Rattle.clr_model.specs.Instructions.{end_background, show_size, look_at}
 use Rattle.clr_model.specs.Background.{IsBegun}
 use Rattle.clr_model.specs.Step.{BeginsBackground, EndsByLine, MakesPinned, StepsBackground}
 use Rattle.clr_model.proofs.CollectionKeeps.{last_pause_keeps}
@@ -233,6 +233,8 @@ does m show_queues outcome new h = shows m outcome new (finalizequeue_text (pict
 does m (where_is a) outcome new (replied, same) = still m new same
 does m (show_size a) outcome new (inl (reached, tests, (replied, same))) = still m new same
 does m (show_size a) outcome new (inr (wants, same)) = still m new same
+does m (look_at look) outcome new (inl (text, tells, shown, same)) = still m new same
+does m (look_at look) outcome new (inr (wants, same)) = still m new same
 
 -- A line reserves at most 2^30 bytes, which is the greatest limit.
 pub line_reserves : LineReservesLaw

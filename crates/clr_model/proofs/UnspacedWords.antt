@@ -33,7 +33,12 @@ use Rattle.clr_model.proofs.Spelling.{IsUnspaced, words-spaced, spaced-words}
 use Rattle.clr_model.proofs.LineReaders.{instruction_found, instruction_told}
 use Rattle.clr_model.specs.declared.How.TheVariants.{Fit}
 use Rattle.clr_model.specs.Instructions.{compact_large_once, new_pinned, begin_background, step_background}
-use Rattle.clr_model.specs.Instructions.{end_background, show_size}
+use Rattle.clr_model.specs.Instructions.{end_background, show_size, look_at}
+use Rattle.clr_model.specs.declared.look.Look.{Look}
+use Rattle.clr_model.specs.declared.look.Look.TheVariants.{DumpArray, DumpMt, GcRoots, PathTo, Retained, GcHeapStat}
+use Rattle.clr_model.specs.declared.look.Look.TheVariants.{ListNearObj, EphRefs, HandleStat, HandlesOf}
+use Rattle.clr_model.specs.LineGrammar.{segment_words, slots_words, unrooted_words}
+use Rattle.std.proofs.Common.{◌≤◌}
 use Rattle.clr_model.proofs.ArgumentReaders.{how_least}
 
 -- ---- bytes other than a space
@@ -192,18 +197,66 @@ size_free : (option : List ℕ) (n : Option ℕ) → IsUnspaced option → IfSom
 size_free option None o h = tt
 size_free option (Some n) o h = (o, (number_free n h, tt))
 
+-- of a generation
+generation_free : (g : Option ℕ) → IfSome g (λ n. n ≤ 2) → AreFree (size_words (codes "-gen") g)
+generation_free None h = tt
+generation_free (Some g) h = (text_free (codes "-gen") refl, (number_free g (omega (arith, h)), tt))
+
+-- of a segment
+segment_free : (base : Option ℕ) → AreFree (segment_words base)
+segment_free None = tt
+segment_free (Some base) = (text_free (codes "-segment") refl, (hex_free base, tt))
+
 -- of all options
 options_free : (o : DumpOptions) → AreOptions o → AreFree (option_words o)
 options_free o v =
-    both_free _ (size_words (codes "-max") o.greatest)
+    both_free _ (segment_words o.segment)
+    (both_free _ (size_words (codes "-gen") o.generation)
+    (both_free _ (size_words (codes "-max") o.greatest)
     (both_free _ (size_words (codes "-min") o.least)
     (both_free _ (name_words o.name)
     (both_free _ (mt_words o.mt) (both_free (mode_words o.mode) (life_words o.life) (mode_free o.mode)
     (life_free o.life)) (mt_free o.mt)) (type_free o.name v.name))
     (size_free (codes "-min") o.least (text_free (codes "-min") refl) v.least))
-    (size_free (codes "-max") o.greatest (text_free (codes "-max") refl) v.greatest)
+    (size_free (codes "-max") o.greatest (text_free (codes "-max") refl) v.greatest))
+    (generation_free o.generation v.generation)) (segment_free o.segment)
+
+-- of the slots of an object
+slots_free : (start count : Option ℕ) (a : ℕ) → IfSome start IsWord → IfSome count IsWord
+    → AreFree (slots_words (start, count, a))
+slots_free start count a v w =
+    both_free (size_words (codes "-start") start) _ (size_free (codes "-start") start (text_free (codes "-start") refl) v)
+    (both_free (size_words (codes "-length") count) _
+    (size_free (codes "-length") count (text_free (codes "-length") refl) w) (hex_free a, tt))
+
+-- of `-inclUnrooted`
+unrooted_free : (u : Bool) → AreFree (unrooted_words u)
+unrooted_free true = (text_free (codes "-inclUnrooted") refl, tt)
+unrooted_free false = tt
 
 -- ---- a line gives its words back
+
+-- the words of a line that looks are those of its line
+look_words_back : (look : Look) → IsWellFormed (look_at look)
+    → words (spelling (look_at look)) ≡ words_of (look_at look)
+look_words_back (DumpArray start count a) v =
+    words-spaced (codes "dumparray") _ (text_free (codes "dumparray") refl, slots_free start count a v.0 v.1)
+look_words_back (DumpMt mt) v = words-spaced (codes "dumpmt") _ (text_free (codes "dumpmt") refl, (hex_free mt, tt))
+look_words_back (GcRoots a) v =
+    words-spaced (codes "gcroot") _ (text_free (codes "gcroot") refl, (text_free (codes "-all") refl, (hex_free a, tt)))
+look_words_back (PathTo a b) v =
+    words-spaced (codes "pathto") _ (text_free (codes "pathto") refl, (hex_free a, (hex_free b, tt)))
+look_words_back (Retained a) v = words-spaced (codes "retained") _ (text_free (codes "retained") refl, (hex_free a, tt))
+look_words_back (GcHeapStat unrooted) v =
+    words-spaced (codes "gcheapstat") _ (text_free (codes "gcheapstat") refl, unrooted_free unrooted)
+look_words_back (ListNearObj a) v =
+    words-spaced (codes "listnearobj") _ (text_free (codes "listnearobj") refl, (hex_free a, tt))
+look_words_back EphRefs v = words-spaced (codes "ephrefs") [] (text_free (codes "ephrefs") refl, tt)
+look_words_back HandleStat v =
+    words-spaced (codes "gchandles") _ (text_free (codes "gchandles") refl, (text_free (codes "-stat") refl, tt))
+look_words_back (HandlesOf kind) v =
+    words-spaced (codes "gchandles") _
+    (text_free (codes "gchandles") refl, (text_free (codes "-type") refl, (kind_free kind, tt)))
 
 -- the words of an instruction are the words of its line
 pub words_back : (i : Instruction) → IsWellFormed i → words (spelling i) ≡ words_of i
@@ -323,6 +376,7 @@ words_back show_handles v = words-spaced (codes "gchandles") [] (text_free (code
 words_back show_queues v = words-spaced (codes "finalizequeue") [] (text_free (codes "finalizequeue") refl, tt)
 words_back (where_is a) v = words-spaced (codes "gcwhere") _ (text_free (codes "gcwhere") refl, (hex_free a, tt))
 words_back (show_size a) v = words-spaced (codes "objsize") _ (text_free (codes "objsize") refl, (hex_free a, tt))
+words_back (look_at look) v = look_words_back look v
 
 -- the instruction of a line is the one that is read from its words
 pub line_read : (bytes : List ℕ) (i : Instruction) → IsLine bytes i → instruction_in (words bytes) ≡ Some i

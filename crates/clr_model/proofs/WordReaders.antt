@@ -9,7 +9,8 @@ use Rattle.std.proofs.lemmas.Bool.Decides.{nat_tests}
 use Rattle.std.proofs.lemmas.List.{take_all}
 use Rattle.std.proofs.lemmas.Option.{cond_some}
 use Rattle.std.proofs.lemmas.Bool.{agree_below_at, and_parts, eqb-true, eq-eqb, ltb-true, lt-ltb, leb-true, le-leb}
-use Rattle.std.proofs.lemmas.Bool.{ne_eqb}
+use Rattle.std.proofs.lemmas.Bool.{ne_eqb, both_ways}
+use Rattle.std.proofs.lemmas.Slice.Eq.{bytes_eq-Decides}
 use Rattle.clr_nums.specs.Numbers.{is_decimal_form, is_hex_form, is_hex_digit, hex_digit, hex_onto, hex16}
 use Rattle.clr_nums.proofs.DecimalText.{is_decimal_form-decimal, value-decimal, decimal-value}
 use Rattle.clr_nums.proofs.HexText.{hex_onto-read, hex16-read, hex16_injective, is_hex_form-hex16, hex_bound}
@@ -93,6 +94,17 @@ address_reader = record {
       rw form (ap Some (sym (hex16_injective a (hex_value_after 0 (hex16 a)) small t.1 t.0)));
   told = address_told;
 }
+
+-- an address is no word of another form
+pub no_hex_word : (a : ℕ) (word : List ℕ) → is_hex_form word ≡ false → bytes_eq (hex16 a) word ≡ false
+no_hex_word a word other = go (bytes_eq (hex16 a) word) refl
+  where
+    go : (b : Bool) → bytes_eq (hex16 a) word ≡ b → b ≡ false
+    go false e = refl
+    go true e =
+        let same : hex16 a ≡ word = (bytes_eq-Decides (hex16 a) word).0 e in
+        let form : is_hex_form word ≡ true = subst (λ (w : List ℕ). is_hex_form w ≡ true) same (is_hex_form-hex16 a) in
+        absurd (both_ways (is_hex_form word) other form)
 
 -- ---- numbers behind a letter
 

@@ -13,7 +13,7 @@ use Rattle.clr_model.specs.declared.Refusal.TheVariants.{NotReference, IsReferen
 use Rattle.clr_model.specs.declared.Refusal.TheVariants.{TooManyHandles, TooBig, NoObject, Empty, HasReferences}
 use Rattle.clr_model.specs.declared.Refusal.TheVariants.{BackgroundRunning, NoBackground}
 use Rattle.clr_types.specs.declared.handle.Handle.{Handle}
-use Rattle.clr_model.specs.Machine.{Value, ref, num, Machine}
+use Rattle.clr_model.specs.Machine.{Value, ref, num, Object, Machine}
 use Rattle.clr_model.specs.Lookups.{object_at, slots_of_named, is_thread, local_of, step_of, is_step}
 use Rattle.clr_types.specs.Kinds.{is_dependent}
 use Rattle.clr_model.specs.Instructions.{Instruction, define_type, new_object, get_slot, set_slot, put_number}
@@ -21,7 +21,9 @@ use Rattle.clr_model.specs.Instructions.{read_number, copy_local, clear_local, s
 use Rattle.clr_model.specs.Instructions.{collect_heap, suspend_others, resume_others, begin_set, begin_new, finish_step}
 use Rattle.clr_model.specs.Instructions.{create_handle, fetch_target, fetch_second, free_handle, take_ready, dump_heap}
 use Rattle.clr_model.specs.Instructions.{dump_object, show_root, where_is, compact_large_once, new_pinned}
-use Rattle.clr_model.specs.Instructions.{begin_background, step_background, end_background, show_size}
+use Rattle.clr_model.specs.Instructions.{begin_background, step_background, end_background, show_size, look_at}
+use Rattle.clr_model.specs.declared.look.Look.{Look}
+use Rattle.clr_model.specs.declared.look.Look.TheVariants.{DumpArray, DumpMt, GcRoots, PathTo, Retained}
 
 -- ---- what a line speaks of
 
@@ -156,11 +158,21 @@ has_mt_from n (row ∷ rows) mt = (mt_of n == mt) || has_mt_from (n + 1) rows mt
 abbrev pub has_mt : List TypeRow → ℕ → Bool
 has_mt rows mt = (mt_of 0 == mt) || has_mt_from 1 rows mt
 
--- the type isn't there: of a new object a defined one, of `dumpheap` also `Free`
+-- the method table word that a line that looks asks for
+abbrev pub looked_mt : Look → Option ℕ
+looked_mt (DumpMt mt) = Some mt
+looked_mt _ = None
+
+abbrev pub knows_mt : List TypeRow → Option ℕ → Bool
+knows_mt rows None = true
+knows_mt rows (Some mt) = has_mt rows mt
+
+-- the type isn't there: of a new object a defined one, of `dumpheap` and `dumpmt` also `Free`
 abbrev pub unknown_type : Machine → Instruction → Option Refusal
 unknown_type m (dump_heap o) =
     refuse_if (not (list_all (has_mt m.types) (list_of o.mt)) || not
     (list_all (λ n. is_some (number_with_free m.types n)) (list_of o.name))) UnknownType
+unknown_type m (look_at look) = refuse_if (not (knows_mt m.types (looked_mt look))) UnknownType
 unknown_type m i = with_some (made_by i) (λ made. refuse_if (is_none (number_of m.types made.0)) UnknownType)
 
 abbrev pub duplicate_type : Machine → Instruction → Option Refusal
@@ -251,7 +263,22 @@ address_of (where_is a) = Some a
 address_of (show_size a) = Some a
 address_of _ = None
 
+-- the objects that a line that looks asks for
+abbrev pub looked_objects : Look → List ℕ
+looked_objects (DumpArray start length a) = a ∷ []
+looked_objects (GcRoots a) = a ∷ []
+looked_objects (PathTo a b) = a ∷ b ∷ []
+looked_objects (Retained a) = a ∷ []
+looked_objects _ = []
+
+-- one of the objects isn't there
+abbrev pub is_missing : List Object → List ℕ → Bool
+is_missing objects [] = false
+is_missing objects (a ∷ []) = is_none (object_at objects a)
+is_missing objects (a ∷ b ∷ more) = is_none (object_at objects a) || is_missing objects (b ∷ more)
+
 abbrev pub no_object : Machine → Instruction → Option Refusal
+no_object m (look_at look) = refuse_if (is_missing m.objects (looked_objects look)) NoObject
 no_object m i = with_some (address_of i) (λ a. refuse_if (is_none (object_at m.objects a)) NoObject)
 
 abbrev pub empty : Machine → Instruction → Option Refusal

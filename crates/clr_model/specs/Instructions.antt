@@ -6,6 +6,7 @@ use Rattle.clr_types.specs.declared.handle.Kind.{Kind}
 use Rattle.clr_model.specs.declared.How.{How}
 use Rattle.clr_model.specs.declared.Mode.{Mode}
 use Rattle.clr_model.specs.declared.Life.{Life}
+use Rattle.clr_model.specs.declared.look.Look.{Look as LookLine}
 use Rattle.clr_model.specs.declared.command.Filter.{Filter}
 use Rattle.clr_model.specs.declared.command.Command.{Command}
 use Rattle.clr_model.specs.declared.command.Command.TheVariants.{Define, New, Get, Set, Put, Read, Copy, Clear}
@@ -14,7 +15,7 @@ use Rattle.clr_model.specs.declared.command.Command.TheVariants.{BeginSet, Begin
 use Rattle.clr_model.specs.declared.command.Command.TheVariants.{Finalizer, DumpHeap, DumpObj, GcRoot, EeHeap}
 use Rattle.clr_model.specs.declared.command.Command.TheVariants.{VerifyHeap, GcHandles, FinalizeQueue, GcWhere}
 use Rattle.clr_model.specs.declared.command.Command.TheVariants.{CompactLarge, NewPinned, BackgroundBegin}
-use Rattle.clr_model.specs.declared.command.Command.TheVariants.{BackgroundStep, BackgroundEnd, ObjSize}
+use Rattle.clr_model.specs.declared.command.Command.TheVariants.{BackgroundStep, BackgroundEnd, Look, ObjSize}
 
 -- the options of `dumpheap` as they are written
 pub record DumpOptions : Type 0 where
@@ -24,6 +25,8 @@ pub record DumpOptions : Type 0 where
   pub name : Option (List ℕ)
   pub least : Option ℕ
   pub greatest : Option ℕ
+  pub generation : Option ℕ
+  pub segment : Option ℕ
 
 pub data Instruction : Type 0 where
   define_type : (name : List ℕ) (form : Form) (finalizer : Bool) → Instruction
@@ -61,6 +64,7 @@ pub data Instruction : Type 0 where
   show_queues : Instruction
   where_is : (a : ℕ) → Instruction
   show_size : (a : ℕ) → Instruction
+  look_at : (look : LookLine) → Instruction
 
 abbrev pub least_of : DumpOptions → ℕ
 least_of o = unwrap_or o.least 0
@@ -84,6 +88,8 @@ options_of f = record {
   name = option_map (λ n. n.now) f.name;
   least = Some f.min;
   greatest = Some f.max;
+  generation = f.generation;
+  segment = f.segment;
 }
 
 -- the instruction that a command stands for
@@ -123,3 +129,4 @@ instruction_of GcHandles = show_handles
 instruction_of FinalizeQueue = show_queues
 instruction_of (GcWhere a) = where_is a
 instruction_of (ObjSize a) = show_size a
+instruction_of (Look look) = look_at look

@@ -19,6 +19,7 @@ pub mod LineGrammar
 pub mod Parsing
 pub mod Checks
 pub mod Sos
+pub mod Looks
 pub mod Outcomes
 pub mod Step
 pub mod Run

@@ -11,13 +11,16 @@ use Rattle.clr_model.specs.declared.Mode.{Mode}
 use Rattle.clr_model.specs.declared.Mode.TheVariants.{Full, Stat, Short}
 use Rattle.clr_model.specs.declared.Life.{Life}
 use Rattle.clr_model.specs.declared.Life.TheVariants.{Any, Live, Dead}
+use Rattle.clr_model.specs.declared.look.Look.{Look}
+use Rattle.clr_model.specs.declared.look.Look.TheVariants.{DumpArray, DumpMt, GcRoots, PathTo, Retained, GcHeapStat}
+use Rattle.clr_model.specs.declared.look.Look.TheVariants.{ListNearObj, EphRefs, HandleStat, HandlesOf}
 use Rattle.clr_model.specs.Instructions.{Instruction, DumpOptions, define_type, new_object, get_slot, set_slot}
 use Rattle.clr_model.specs.Instructions.{put_number, read_number, copy_local, clear_local, suppress_object}
 use Rattle.clr_model.specs.Instructions.{reregister_object, collect_heap, suspend_others, resume_others, begin_set}
 use Rattle.clr_model.specs.Instructions.{begin_new, finish_step, create_handle, fetch_target, fetch_second, free_handle}
 use Rattle.clr_model.specs.Instructions.{take_ready, dump_heap, dump_object, show_root, show_segments, verify_heap}
 use Rattle.clr_model.specs.Instructions.{show_handles, show_queues, where_is, compact_large_once, new_pinned}
-use Rattle.clr_model.specs.Instructions.{begin_background, step_background, end_background, show_size}
+use Rattle.clr_model.specs.Instructions.{begin_background, step_background, end_background, show_size, look_at}
 use Rattle.clr_nums.specs.Numbers.{hex16}
 use Rattle.clr_model.specs.ReplyText.{spaced, kind_word}
 
@@ -84,9 +87,36 @@ abbrev pub size_words : List ℕ → Option ℕ → List (List ℕ)
 size_words option None = []
 size_words option (Some n) = option ∷ decimal n ∷ []
 
+abbrev pub segment_words : Option ℕ → List (List ℕ)
+segment_words None = []
+segment_words (Some base) = codes "-segment" ∷ hex16 base ∷ []
+
 abbrev pub option_words : DumpOptions → List (List ℕ)
-option_words o = ((((mode_words o.mode ++ life_words o.life) ++ mt_words o.mt) ++ name_words o.name)
-    ++ size_words (codes "-min") o.least) ++ size_words (codes "-max") o.greatest
+option_words o = ((((((mode_words o.mode ++ life_words o.life) ++ mt_words o.mt) ++ name_words o.name)
+    ++ size_words (codes "-min") o.least) ++ size_words (codes "-max") o.greatest)
+    ++ size_words (codes "-gen") o.generation) ++ segment_words o.segment
+
+abbrev pub unrooted_words : Bool → List (List ℕ)
+unrooted_words true = codes "-inclUnrooted" ∷ []
+unrooted_words false = []
+
+-- which slots of an object
+abbrev pub slots_words : Option ℕ × Option ℕ × ℕ → List (List ℕ)
+slots_words (start, count, a) =
+    size_words (codes "-start") start ++ (size_words (codes "-length") count ++ (hex16 a ∷ []))
+
+-- the words of a line that looks
+abbrev pub look_words : Look → List (List ℕ)
+look_words (DumpArray start count a) = codes "dumparray" ∷ slots_words (start, count, a)
+look_words (DumpMt mt) = codes "dumpmt" ∷ hex16 mt ∷ []
+look_words (GcRoots a) = codes "gcroot" ∷ codes "-all" ∷ hex16 a ∷ []
+look_words (PathTo a b) = codes "pathto" ∷ hex16 a ∷ hex16 b ∷ []
+look_words (Retained a) = codes "retained" ∷ hex16 a ∷ []
+look_words (GcHeapStat unrooted) = codes "gcheapstat" ∷ unrooted_words unrooted
+look_words (ListNearObj a) = codes "listnearobj" ∷ hex16 a ∷ []
+look_words EphRefs = codes "ephrefs" ∷ []
+look_words HandleStat = codes "gchandles" ∷ codes "-stat" ∷ []
+look_words (HandlesOf kind) = codes "gchandles" ∷ codes "-type" ∷ kind_word kind ∷ []
 
 -- the words of a line, in order
 abbrev pub words_of : Instruction → List (List ℕ)
@@ -130,6 +160,7 @@ words_of show_handles = codes "gchandles" ∷ []
 words_of show_queues = codes "finalizequeue" ∷ []
 words_of (where_is a) = codes "gcwhere" ∷ hex16 a ∷ []
 words_of (show_size a) = codes "objsize" ∷ hex16 a ∷ []
+words_of (look_at look) = look_words look
 
 abbrev pub spelling : Instruction → List ℕ
 spelling i = spaced (words_of i)
@@ -178,6 +209,8 @@ pub record AreOptions (o : DumpOptions) : Type 0 where
   pub one_type : IsOneType o.mt o.name
   pub least : IfSome o.least IsWord
   pub greatest : IfSome o.greatest IsWord
+  pub generation : IfSome o.generation (λ g. g ≤ 2)
+  pub segment : IfSome o.segment IsWord
 
 -- a dependent handle is written with a second local, and no other is
 abbrev pub IsHandleForm : Kind → Option ℕ → Type 0
@@ -194,6 +227,18 @@ IsHowForm g Decide = g ≤ 2
 IsHowForm g Compact = g ≤ 2
 IsHowForm g Sweep = g ≤ 2
 IsHowForm g Fit = g ≡ 1
+
+abbrev pub IsLookForm : Look → Type 0
+IsLookForm (DumpArray start count a) = IfSome start IsWord × IfSome count IsWord × IsWord a
+IsLookForm (DumpMt mt) = IsWord mt
+IsLookForm (GcRoots a) = IsWord a
+IsLookForm (PathTo a b) = IsWord a × IsWord b
+IsLookForm (Retained a) = IsWord a
+IsLookForm (GcHeapStat unrooted) = Unit {0}
+IsLookForm (ListNearObj a) = IsWord a
+IsLookForm EphRefs = Unit {0}
+IsLookForm HandleStat = Unit {0}
+IsLookForm (HandlesOf kind) = Unit {0}
 
 -- the numbers fit 64 bits, and names and patterns have their form
 abbrev pub IsWellFormed : Instruction → Type 0
@@ -232,6 +277,7 @@ IsWellFormed show_handles = Unit {0}
 IsWellFormed show_queues = Unit {0}
 IsWellFormed (where_is a) = IsWord a
 IsWellFormed (show_size a) = IsWord a
+IsWellFormed (look_at look) = IsLookForm look
 
 -- the bytes are the line of this instruction
 pub record IsLine (bytes : List ℕ) (i : Instruction) : Type 0 where

@@ -16,13 +16,15 @@ use Rattle.clr_model.specs.declared.Mode.{Mode}
 use Rattle.clr_model.specs.declared.Mode.TheVariants.{Full, Stat, Short}
 use Rattle.clr_model.specs.declared.Life.{Life}
 use Rattle.clr_model.specs.declared.Life.TheVariants.{Any, Live, Dead}
+use Rattle.clr_model.specs.declared.look.Look.TheVariants.{DumpArray, DumpMt, GcRoots, PathTo, Retained, GcHeapStat}
+use Rattle.clr_model.specs.declared.look.Look.TheVariants.{ListNearObj, EphRefs, HandleStat, HandlesOf}
 use Rattle.clr_model.specs.Instructions.{Instruction, DumpOptions, define_type, new_object, get_slot, set_slot}
 use Rattle.clr_model.specs.Instructions.{put_number, read_number, copy_local, clear_local, suppress_object}
 use Rattle.clr_model.specs.Instructions.{reregister_object, collect_heap, suspend_others, resume_others, begin_set}
 use Rattle.clr_model.specs.Instructions.{begin_new, finish_step, create_handle, fetch_target, fetch_second, free_handle}
 use Rattle.clr_model.specs.Instructions.{take_ready, dump_heap, dump_object, show_root, show_segments, verify_heap}
 use Rattle.clr_model.specs.Instructions.{show_handles, show_queues, where_is, compact_large_once, new_pinned}
-use Rattle.clr_model.specs.Instructions.{begin_background, step_background, end_background, show_size}
+use Rattle.clr_model.specs.Instructions.{begin_background, step_background, end_background, show_size, look_at}
 use Rattle.clr_model.specs.LineGrammar.{is_name}
 
 -- ---- one word
@@ -368,18 +370,47 @@ unfoldable pub size_in : List ℕ → List (List ℕ) → Option (Option ℕ × 
 size_in option [] = Some (None, [])
 size_in option (word ∷ ws) = if bytes_eq word option then number_then_in ws else Some (None, word ∷ ws)
 
+-- the generation that is due behind an option
+abbrev pub generation_then_in : List (List ℕ) → Option (Option ℕ × List (List ℕ))
+generation_then_in [] = None
+generation_then_in (word ∷ ws) = option_map (λ g. (Some g, ws)) (generation_in word)
+
+-- the generation behind `-gen`, if that stands here
+unfoldable pub generation_choice_in : List (List ℕ) → Option (Option ℕ × List (List ℕ))
+generation_choice_in [] = Some (None, [])
+generation_choice_in (word ∷ ws) =
+    if bytes_eq word (codes "-gen") then generation_then_in ws else Some (None, word ∷ ws)
+
+-- the address that is due behind an option
+abbrev pub address_then_in : List (List ℕ) → Option (Option ℕ × List (List ℕ))
+address_then_in [] = None
+address_then_in (word ∷ ws) = option_map (λ a. (Some a, ws)) (address_in word)
+
+-- the base behind `-segment`, if that stands here
+unfoldable pub segment_choice_in : List (List ℕ) → Option (Option ℕ × List (List ℕ))
+segment_choice_in [] = Some (None, [])
+segment_choice_in (word ∷ ws) =
+    if bytes_eq word (codes "-segment") then address_then_in ws else Some (None, word ∷ ws)
+
+-- the options that say where items stand, both in their order, and no word more
+unfoldable pub places_in : List (List ℕ) → Option (Option ℕ × Option ℕ)
+places_in ws = option_and_then (λ g. option_and_then (λ s. option_map (λ none. (g.0, s.0)) (none_in s.1))
+    (segment_choice_in g.1)) (generation_choice_in ws)
+
 -- all options, in their order, and no word more
 unfoldable pub options_in : List (List ℕ) → Option DumpOptions
 options_in ws =
     option_and_then (λ c. option_and_then (λ l. option_and_then (λ g.
-    option_map (λ none. record {
+    option_map (λ p. record {
       mode = (mode_in ws).0;
       life = (life_in (mode_in ws).1).0;
       mt = c.0.mt;
       name = c.0.name;
       least = l.0;
       greatest = g.0;
-    }) (none_in g.1)) (size_in (codes "-max") l.1)) (size_in (codes "-min") c.1)) (choice_in (life_in (mode_in ws).1).1)
+      generation = p.0;
+      segment = p.1;
+    }) (places_in g.1)) (size_in (codes "-max") l.1)) (size_in (codes "-min") c.1)) (choice_in (life_in (mode_in ws).1).1)
 
 -- ---- a whole line
 
@@ -397,20 +428,65 @@ marking_in [] = None
 marking_in (word ∷ ws) =
     if bytes_eq word (codes "step") then option_map step_background (one_number_in ws) else None
 
+-- two addresses
+unfoldable pub addresses_in : List (List ℕ) → Option (ℕ × ℕ)
+addresses_in ws = both_in address_in address_in ws
+
+-- an object, and the roots that lead to it: one or all
+unfoldable pub roots_in : List (List ℕ) → Option Instruction
+roots_in [] = None
+roots_in (word ∷ ws) =
+    if bytes_eq word (codes "-all") then option_map (λ a. look_at (GcRoots a)) (address_after_in ws)
+    else option_map show_root (address_after_in (word ∷ ws))
+
+-- a kind alone
+unfoldable pub one_kind_in : List (List ℕ) → Option Kind
+one_kind_in ws = option_and_then kind_in (one_in ws)
+
+-- which handles: all, how many of each kind, or those of one
+unfoldable pub handles_in : List (List ℕ) → Option Instruction
+handles_in [] = Some show_handles
+handles_in (word ∷ ws) =
+    if bytes_eq word (codes "-stat") then option_map (λ none. look_at HandleStat) (none_in ws)
+    else (if bytes_eq word (codes "-type")
+    then option_map (λ kind. look_at (HandlesOf kind)) (one_kind_in ws) else None)
+
+-- which slots of an object: from where on, how many, and of which
+unfoldable pub slots_in : List (List ℕ) → Option (Option ℕ × Option ℕ × ℕ)
+slots_in ws = option_and_then (λ s. option_and_then (λ n. option_map (λ a. (s.0, n.0, a)) (address_after_in n.1))
+    (size_in (codes "-length") s.1)) (size_in (codes "-start") ws)
+
+-- whether `-inclUnrooted` is written
+unfoldable pub unrooted_in : List (List ℕ) → Option Bool
+unrooted_in [] = Some false
+unrooted_in (word ∷ []) = if bytes_eq word (codes "-inclUnrooted") then Some true else None
+unrooted_in (word ∷ other ∷ more) = None
+
+-- the lines that look
+unfoldable pub look_in : List ℕ → List (List ℕ) → Option Instruction
+look_in word ws =
+    if bytes_eq word (codes "dumparray") then option_map (λ s. look_at (DumpArray s.0 s.1 s.2)) (slots_in ws)
+    else (if bytes_eq word (codes "dumpmt") then option_map (λ a. look_at (DumpMt a)) (address_after_in ws)
+    else (if bytes_eq word (codes "pathto") then option_map (λ p. look_at (PathTo p.0 p.1)) (addresses_in ws)
+    else (if bytes_eq word (codes "retained") then option_map (λ a. look_at (Retained a)) (address_after_in ws)
+    else (if bytes_eq word (codes "gcheapstat") then option_map (λ u. look_at (GcHeapStat u)) (unrooted_in ws)
+    else (if bytes_eq word (codes "listnearobj") then option_map (λ a. look_at (ListNearObj a)) (address_after_in ws)
+    else (if bytes_eq word (codes "ephrefs") then option_map (λ none. look_at EphRefs) (none_in ws) else None))))))
+
 -- the lines that are no thread's
 unfoldable pub other_in : List ℕ → List (List ℕ) → Option Instruction
 other_in word ws =
     if bytes_eq word (codes "type") then define_in ws
     else (if bytes_eq word (codes "gcwhere") then option_map where_is (address_after_in ws)
     else (if bytes_eq word (codes "dumpobj") then option_map dump_object (address_after_in ws)
-    else (if bytes_eq word (codes "gcroot") then option_map show_root (address_after_in ws)
+    else (if bytes_eq word (codes "gcroot") then roots_in ws
     else (if bytes_eq word (codes "dumpheap") then option_map dump_heap (options_in ws)
     else (if bytes_eq word (codes "eeheap") then heaps_in ws
     else (if bytes_eq word (codes "verifyheap") then option_map (λ none. verify_heap) (none_in ws)
-    else (if bytes_eq word (codes "gchandles") then option_map (λ none. show_handles) (none_in ws)
+    else (if bytes_eq word (codes "gchandles") then handles_in ws
     else (if bytes_eq word (codes "finalizequeue") then option_map (λ none. show_queues) (none_in ws)
     else (if bytes_eq word (codes "objsize") then option_map show_size (address_after_in ws)
-    else (if bytes_eq word (codes "background") then marking_in ws else None))))))))))
+    else (if bytes_eq word (codes "background") then marking_in ws else look_in word ws))))))))))
 
 -- the line of this thread, or of none
 abbrev pub line_in : Option ℕ → List ℕ → List (List ℕ) → Option Instruction

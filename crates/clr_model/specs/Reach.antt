@@ -1,5 +1,5 @@
 -- What is reached: the least set that holds its start and what each member names.
-use Rattle.std.specs.Prelude.{◌≡◌, ℕ, ◌<◌, List, Option, Some, None, Bool, false, ◌⊎◌, ◌&&◌, not, filter, IsTrue}
+use Rattle.std.specs.Prelude.{◌≡◌, ◌≢◌, ℕ, ◌<◌, List, Option, Some, None, Bool, false, ◌⊎◌, ◌&&◌, not, filter, IsTrue}
 use Rattle.std.specs.FinMap as finmap
 use Rattle.std.specs.Ordering.{nat_cmp}
 use Rattle.clr_types.specs.Rising.{IsIn}
@@ -90,6 +90,14 @@ Kept m start first = Reach (Edge m) (λ x. start x ⊎ IsIn x (woken m first))
 -- what is reached from the roots alone
 abbrev pub Live : Machine → ℕ → Type 0
 Live m = Reach (Edge m) (Roots m)
+
+-- what would be live were one object not there: no root, slot or dependent handle leads to that one
+abbrev pub Without : Machine → ℕ → ℕ → Type 0
+Without m a = Reach (λ x y. Edge m x y × (y ≢ a)) (λ x. Roots m x × (x ≢ a))
+
+-- what is reached from one object by slots and dependent handles
+abbrev pub ReachFrom : Machine → ℕ → ℕ → Type 0
+ReachFrom m a = Reach (Edge m) (λ x. x ≡ a)
 
 -- what is reached from one object by slots alone
 abbrev pub SlotReach : Machine → ℕ → ℕ → Type 0

@@ -1,6 +1,6 @@
 -- The texts of the commands that show the heap. They speak of places, so they are texts of a picture.
-use Rattle.std.specs.Prelude.{◌≡◌, ℕ, zero, suc, ◌+◌, ◌-◌, ◌<◌, List, [], ◌∷◌, ◌++◌, length, if◌then◌else◌, ◌==◌}
-use Rattle.std.specs.Prelude.{nat_le, Bool, true, false, ◌&&◌, not, ◌≢◌, filter, sum_by, take, codes, decimal, Option}
+use Rattle.std.specs.Prelude.{◌≡◌, ℕ, zero, suc, ◌+◌, ◌-◌, ◌<◌, ◌≤◌, List, [], ◌∷◌, ◌++◌, length, if◌then◌else◌, ◌==◌}
+use Rattle.std.specs.Prelude.{nat_le, Bool, true, false, ◌&&◌, not, ◌≢◌, filter, find, sum_by, take, codes, decimal, Option}
 use Rattle.std.specs.Prelude.{Some, None, IsTrue, slice_get}
 use Rattle.std.specs.List.{flat_map, enumerate_from, AllByRecursion}
 use Rattle.std.specs.FinMap as finmap
@@ -49,7 +49,25 @@ abbrev pub passes_name : List TypeRow → Option (List ℕ) → Item → Bool
 passes_name rows None i = true
 passes_name rows (Some name) i = is_number (number_with_free rows name) i.type_id.0
 
--- the item passes every option; `live` says which places hold objects that the roots reach
+abbrev pub stands_in_some : Option SegInfo → ℕ → Bool
+stands_in_some None place = false
+stands_in_some (Some s) place = stands_in s place
+
+-- the place is of the generation that is asked for, if one is
+abbrev pub passes_generation : Layout → Option ℕ → ℕ → Bool
+passes_generation layout None place = true
+passes_generation layout (Some g) place = generation layout place == g
+
+-- the place is of the segment with the base that is asked for, if one is; where no segment has the base, none is
+abbrev pub passes_segment : Layout → Option ℕ → ℕ → Bool
+passes_segment layout None place = true
+passes_segment layout (Some base) place = stands_in_some (find (λ s. s.base == base) layout.segments) place
+
+-- the item stands where it is asked for
+abbrev pub passes_place : Layout → DumpOptions → Item → Bool
+passes_place layout o i = passes_generation layout o.generation i.place && passes_segment layout o.segment i.place
+
+-- the item passes every option but those on places; `live` says which places hold objects that the roots reach
 abbrev pub passes : List TypeRow → (ℕ → Bool) → DumpOptions → Item → Bool
 passes rows live o i =
     (passes_life o.life live i && (passes_mt o.mt i && passes_name rows o.name i))
@@ -92,7 +110,8 @@ dump_by_mode Short rows shown = none_or shown (flat_map (λ i. line (hex16 i.pla
 dump_by_mode Stat rows shown = stat_lines (length rows + 1) 0 rows shown ++ total_line shown
 
 abbrev pub dumpheap_text : Machine → (ℕ → Bool) → DumpOptions → List ℕ
-dumpheap_text m live o = dump_by_mode o.mode m.types (filter (passes m.types live o) (listing m))
+dumpheap_text m live o =
+    dump_by_mode o.mode m.types (filter (λ i. passes m.types live o i && passes_place m.layout o i) (listing m))
 
 -- ---- dumpobj
 
@@ -107,10 +126,15 @@ length_words false len = []
 abbrev pub more_line : ℕ → List ℕ
 more_line n = if nat_le n 16 then [] else line (codes "more" ∷ decimal (n - 16) ∷ [])
 
+-- the line of an object itself
+abbrev pub object_line : Machine → Object → List ℕ
+object_line m o =
+    line (codes "object" ∷ hex16 o.place ∷ name_of m.types o.type ∷ codes "size" ∷ decimal (object_size m.types o)
+    ∷ codes "gen" ∷ decimal (generation m.layout o.place) ∷ length_words (is_array (form_at m.types o.type)) o.len)
+
 abbrev pub object_text : Machine → Object → List ℕ
 object_text m o =
-    (line (codes "object" ∷ hex16 o.place ∷ name_of m.types o.type ∷ codes "size" ∷ decimal (object_size m.types o)
-    ∷ codes "gen" ∷ decimal (generation m.layout o.place) ∷ length_words (is_array (form_at m.types o.type)) o.len)
+    (object_line m o
     ++ flat_map (λ s. line (slot_words s)) (take 16 (enumerate_from 0 o.slots)))
     ++ more_line (length o.slots)
 
@@ -154,7 +178,7 @@ type_of_place (Some o) = o.type
 abbrev pub chain_line : Machine → ℕ → List ℕ
 chain_line m place = line (hex16 place ∷ name_of m.types (type_of_place (object_at m.objects place)) ∷ [])
 
--- any chain from a root to the object
+-- any chain from a root to the object that is a shortest one of all roots
 pub record IsRootText (m : Machine) (a : ℕ) (text : List ℕ) : Type 0 where
   pub words : List (List ℕ)
   pub chain : List ℕ
@@ -163,6 +187,8 @@ pub record IsRootText (m : Machine) (a : ℕ) (text : List ℕ) : Type 0 where
   pub rooted : RootWords m words root
   pub starts : StartsAt chain root
   pub linked : IsChain m chain a
+  pub least : (other_words : List (List ℕ)) (start : ℕ) (other : List ℕ) → 0 < start → RootWords m other_words start
+      → StartsAt other start → IsChain m other a → length chain ≤ length other
   pub distinct : IsWithoutRepeats chain
   pub shown : text ≡ line words ++ flat_map (chain_line m) chain
 

@@ -32,10 +32,11 @@ use Rattle.clr_model.specs.Instructions.{collect_heap, suspend_others, resume_ot
 use Rattle.clr_model.specs.Instructions.{create_handle, fetch_target, fetch_second, free_handle, take_ready, dump_heap}
 use Rattle.clr_model.specs.Instructions.{dump_object, show_root, show_segments, verify_heap, show_handles, show_queues}
 use Rattle.clr_model.specs.Instructions.{where_is, compact_large_once, new_pinned, begin_background, step_background}
-use Rattle.clr_model.specs.Instructions.{end_background, show_size}
+use Rattle.clr_model.specs.Instructions.{end_background, show_size, look_at}
 use Rattle.clr_model.specs.Checks.{refusal as first_refusal, made_size}
 use Rattle.clr_model.specs.Sos.{dumpheap_text, dumpobj_text, IsRootText, eeheap_text, gchandles_text}
 use Rattle.clr_model.specs.Sos.{finalizequeue_text, where_of, line}
+use Rattle.clr_model.specs.Looks.{IsLookText}
 use Rattle.clr_model.specs.Outcomes.{Outcome, answered, shown, refused}
 
 -- ---- outcomes
@@ -295,6 +296,9 @@ Does m (show_size a) outcome new =
     ((reached : ℕ → Bool) × Tests reached (SlotReach (picture m) a)
     × Replies outcome (reply.Size a (count_by (λ o. reached o.name) (picture m).objects)
     (bytes_where (picture m) (λ o. reached o.name))) new m)
+    ⊎ WantsMemory m outcome new
+Does m (look_at look) outcome new =
+    ((text : List ℕ) × IsLookText (picture m) look text × (outcome ≡ shown text) × (new ≡ m))
     ⊎ WantsMemory m outcome new
 
 -- one line that is an instruction: the first check that fails, or what it does

@@ -1,5 +1,5 @@
 //! The commands of a script, one for each form of line.
-use crate::{How, Life, Mode};
+use crate::{How, Life, Look, Mode};
 use clr_types::{Kind, Shape};
 
 /// The options of `dumpheap`. With no least size `min` is 0, with no greatest `max` is the greatest number.
@@ -11,6 +11,10 @@ pub struct Filter<'a> {
     pub name: Option<&'a [u8]>,
     pub min: u64,
     pub max: u64,
+    /// The generation in which an item has to stand.
+    pub generation: Option<u8>,
+    /// The base of the segment in which an item has to stand.
+    pub segment: Option<u64>,
 }
 
 /// A line that was read.
@@ -153,5 +157,8 @@ pub enum Command<'a> {
     },
     ObjSize {
         a: u64,
+    },
+    Look {
+        look: Look,
     },
 }

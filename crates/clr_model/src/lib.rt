@@ -6,8 +6,10 @@ ghost use Rattle.clr_model.specs.Refusals.{number_of_refusal};
 
 pub mod command;
 pub mod laws;
+pub mod look;
 
 pub use command::{Command, Filter};
+pub use look::Look;
 
 /// How a collection is to leave the small heap.
 #[derive(Clone, Copy, Debug, PartialEq, Eq)]

@@ -4,6 +4,7 @@
 mod arguments;
 mod cut;
 mod fields;
+mod looks;
 mod made;
 mod options;
 mod quick;

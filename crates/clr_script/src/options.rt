@@ -3,12 +3,13 @@ ghost use Rattle.std.specs.Prelude.{◌≡◌, ℕ};
 ghost use Rattle.std.specs.Option.{option_map};
 ghost use Rattle.clr_model.specs.Instructions.{options_of, plain_options};
 ghost use Rattle.clr_model.specs.Parsing.{mode_in, life_in, mt_choice_in, name_choice_in, choice_in, number_then_in};
-ghost use Rattle.clr_model.specs.Parsing.{size_in, options_in};
+ghost use Rattle.clr_model.specs.Parsing.{size_in, options_in, generation_choice_in, generation_then_in, places_in};
+ghost use Rattle.clr_model.specs.Parsing.{address_then_in, segment_choice_in};
 ghost use Rattle.clr_script.specs.Cuts.{words_left};
 ghost use Rattle.clr_script.specs.Choices.{choice_of};
 
 use crate::cut::{Rest, is_word, no_word, take_word};
-use crate::fields::{read_address, read_name, read_number};
+use crate::fields::{read_address, read_generation, read_name, read_number};
 use crate::table::by_row;
 use clr_model::{Filter, Life, Mode};
 
@@ -92,9 +93,9 @@ fn read_number_then<'a>(rest: Rest<'a>) -> Option<(Option<u64>, Rest<'a>)>
     Some((Some(number), rest))
 }
 
-// The number behind this option, if it is written, and what is left.
+/// The number behind this option, if it is written, and what is left.
 #[tactic(auto, unfolding(clr_model::specs::Parsing::size_in))]
-fn read_size<'a>(option: &[u8], rest: Rest<'a>) -> Option<(Option<u64>, Rest<'a>)>
+pub fn read_size<'a>(option: &[u8], rest: Rest<'a>) -> Option<(Option<u64>, Rest<'a>)>
     ensures { option_map (λ p. (p.0, words_left p.1)) result ≡ size_in option.now (words_left rest.entry) }
 {
     let Some((word, behind)) = take_word(rest) else {
@@ -107,6 +108,61 @@ fn read_size<'a>(option: &[u8], rest: Rest<'a>) -> Option<(Option<u64>, Rest<'a>
     }
 }
 
+// The generation that is due, and what is left behind it.
+fn read_generation_then<'a>(rest: Rest<'a>) -> Option<(Option<u8>, Rest<'a>)>
+    ensures { option_map (λ p. (p.0, words_left p.1)) result ≡ generation_then_in (words_left rest.entry) }
+{
+    let (word, rest) = take_word(rest)?;
+    let g = read_generation(word)?;
+    Some((Some(g), rest))
+}
+
+// The generation behind `-gen`, if it is written, and what is left.
+#[tactic(auto, unfolding(clr_model::specs::Parsing::generation_choice_in))]
+fn read_generation_choice<'a>(rest: Rest<'a>) -> Option<(Option<u8>, Rest<'a>)>
+    ensures { option_map (λ p. (p.0, words_left p.1)) result ≡ generation_choice_in (words_left rest.entry) }
+{
+    let Some((word, behind)) = take_word(rest) else {
+        return Some((None, rest));
+    };
+    by_row! { word, Some((None, rest));
+        b"-gen" => read_generation_then(behind),
+    }
+}
+
+// The address that is due, and what is left behind it.
+fn read_address_then<'a>(rest: Rest<'a>) -> Option<(Option<u64>, Rest<'a>)>
+    ensures { option_map (λ p. (p.0, words_left p.1)) result ≡ address_then_in (words_left rest.entry) }
+{
+    let (word, rest) = take_word(rest)?;
+    let a = read_address(word)?;
+    Some((Some(a), rest))
+}
+
+// The base behind `-segment`, if it is written, and what is left.
+#[tactic(auto, unfolding(clr_model::specs::Parsing::segment_choice_in))]
+fn read_segment_choice<'a>(rest: Rest<'a>) -> Option<(Option<u64>, Rest<'a>)>
+    ensures { option_map (λ p. (p.0, words_left p.1)) result ≡ segment_choice_in (words_left rest.entry) }
+{
+    let Some((word, behind)) = take_word(rest) else {
+        return Some((None, rest));
+    };
+    by_row! { word, Some((None, rest));
+        b"-segment" => read_address_then(behind),
+    }
+}
+
+// The options that say where items stand.
+#[tactic(auto, unfolding(clr_model::specs::Parsing::places_in))]
+fn read_places(rest: Rest<'_>) -> Option<(Option<u8>, Option<u64>)>
+    ensures { result ≡ places_in (words_left rest.entry) }
+{
+    let (generation, rest) = read_generation_choice(rest)?;
+    let (segment, rest) = read_segment_choice(rest)?;
+    no_word(rest)?;
+    Some((generation, segment))
+}
+
 /// What stands behind `dumpheap`.
 #[tactic(auto, unfolding(clr_model::specs::Parsing::options_in))]
 pub fn read_filter<'a>(rest: Rest<'a>) -> Option<Filter<'a>>
@@ -117,7 +173,7 @@ pub fn read_filter<'a>(rest: Rest<'a>) -> Option<Filter<'a>>
     let (choice, rest) = read_choice(rest)?;
     let (least, rest) = read_size(b"-min", rest)?;
     let (greatest, rest) = read_size(b"-max", rest)?;
-    no_word(rest)?;
+    let (generation, segment) = read_places(rest)?;
     Some(Filter {
         mode,
         life,
@@ -125,5 +181,7 @@ pub fn read_filter<'a>(rest: Rest<'a>) -> Option<Filter<'a>>
         name: choice.name,
         min: least.unwrap_or(0),
         max: greatest.unwrap_or(u64::MAX),
+        generation,
+        segment,
     })
 }

@@ -9,6 +9,7 @@ ghost use Rattle.clr_script.specs.Readings.{Reads, IsReadAs, IsNoLine};
 use crate::arguments::{read_one_address, read_one_number};
 use crate::cut::{Rest, is_word, next_word, no_word, one_word, take_word};
 use crate::fields::read_thread;
+use crate::looks::{read_handles, read_look, read_roots};
 use crate::options::read_filter;
 use crate::shapes::read_define;
 use crate::table::{by_row, other_rows};

@@ -32,18 +32,35 @@ macro_rules! by_row {
 // The lines that are no thread's.
 macro_rules! other_rows {
     ($word:ident, $rest:ident) => {
-        by_row! { $word;
+        by_row! { $word, read_look($word, $rest);
             b"type" => read_define($rest),
             b"gcwhere": a = read_one_address($rest) => Command::GcWhere { a },
             b"dumpobj": a = read_one_address($rest) => Command::DumpObj { a },
-            b"gcroot": a = read_one_address($rest) => Command::GcRoot { a },
+            b"gcroot" => read_roots($rest),
             b"dumpheap": filter = read_filter($rest) => Command::DumpHeap { filter },
             b"eeheap": () = read_gc($rest) => Command::EeHeap,
             b"verifyheap": () = no_word($rest) => Command::VerifyHeap,
-            b"gchandles": () = no_word($rest) => Command::GcHandles,
+            b"gchandles" => read_handles($rest),
             b"finalizequeue": () = no_word($rest) => Command::FinalizeQueue,
             b"objsize": a = read_one_address($rest) => Command::ObjSize { a },
             b"background" => read_marking($rest),
+        }
+    };
+}
+
+// The lines that look at objects, types and generations.
+macro_rules! look_rows {
+    ($word:ident, $rest:ident) => {
+        by_row! { $word;
+            b"dumparray": (start, length, a) = read_slots($rest) => Command::Look {
+                look: Look::DumpArray { start, length, a },
+            },
+            b"dumpmt": mt = read_one_address($rest) => Command::Look { look: Look::DumpMt { mt } },
+            b"pathto": (a, b) = read_addresses($rest) => Command::Look { look: Look::PathTo { a, b } },
+            b"retained": a = read_one_address($rest) => Command::Look { look: Look::Retained { a } },
+            b"gcheapstat": unrooted = read_unrooted($rest) => Command::Look { look: Look::GcHeapStat { unrooted } },
+            b"listnearobj": a = read_one_address($rest) => Command::Look { look: Look::ListNearObj { a } },
+            b"ephrefs": () = no_word($rest) => Command::Look { look: Look::EphRefs },
         }
     };
 }
@@ -114,6 +131,7 @@ macro_rules! begin_rows {
 
 pub(crate) use begin_rows;
 pub(crate) use by_row;
+pub(crate) use look_rows;
 pub(crate) use other_rows;
 pub(crate) use rare_rows;
 pub(crate) use rooted_rows;

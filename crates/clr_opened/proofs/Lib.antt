@@ -4,3 +4,8 @@ pub mod ReadWords
 pub mod ReadObjects
 pub mod ReadBack
 pub mod SavedObjects
+pub mod OpenedParts
+pub mod FreeListed
+pub mod OpenedRests
+pub mod Reopened
+pub mod ReopenedLawful

@@ -1,6 +1,7 @@
 -- The objects of a heap are read back.
-use Rattle.std.proofs.Common.{◌≡◌, ℕ, zero, suc, ◌+◌, ◌-◌, ◌*◌, ◌%◌, ◌<◌, ◌≤◌, ◌^◌, ◌==◌, Bool, true, false, not, if◌then◌else◌}
-use Rattle.std.proofs.Common.{List, [], ◌∷◌, ◌++◌, filter, length, map, refl, arith, ap, ap₂, sym, ◌∙◌, subst}
+use Rattle.std.proofs.Common.{◌≡◌, ℕ, zero, suc, ◌+◌, ◌-◌, ◌*◌, ◌<◌, ◌≤◌, ◌^◌, ◌==◌, Bool, true, false}
+use Rattle.std.proofs.Common.{not, if◌then◌else◌, List, [], ◌∷◌, ◌++◌, filter, length, map, refl}
+use Rattle.std.proofs.Common.{arith, ap, ap₂, sym, ◌∙◌}
 use Rattle.std.proofs.lemmas.List.Elements.{filter-append}
 use Rattle.clr_types.specs.Rising.{IsIn}
 use Rattle.clr_types.specs.Types.{TypeRow}
@@ -13,7 +14,7 @@ use Rattle.clr_format.specs.declared.head.Head.{Head}
 use Rattle.clr_view.specs.View.{IsHeld, is_object, object_in, objects_among, objects_in}
 use Rattle.clr_view.proofs.Items.{CellsStay, object-stays}
 use Rattle.clr_view.proofs.Listed.{listed-above, listed-item}
-use Rattle.clr_view.proofs.Standing.{Standing, standing}
+use Rattle.clr_view.proofs.Standing.{standing}
 use Rattle.clr_save.proofs.LowBytes.{put_as-same}
 use Rattle.clr_save.proofs.SavedFills.{written_from, written_segment}
 use Rattle.clr_save.proofs.SavedItems.{saved_from, saved_item, saved_items}
@@ -41,7 +42,8 @@ none-free false e = refl
 
 module _ (rows : List TypeRow) (h : HeapView) (heap : IsHeap h) (held : IsHeld rows h) (head : Head)
     (few : length rows ≤ 1000)
-    (counts : (j : ℕ) → j < length h.segments → 8 * length (written_segment rows h j).words ≡ last_of h j - first_of h j)
+    (counts : (j : ℕ) → j < length h.segments
+    → 8 * length (written_segment rows h j).words ≡ last_of h j - first_of h j)
     (fit : (a : ℕ) → word_of h a < 2 ^ 64) (limit : ℕ) where
   abbrev read : HeapView
   read = heap_after (empty_heap limit) (written_from rows h 0 (length h.segments))
@@ -57,8 +59,8 @@ module _ (rows : List TypeRow) (h : HeapView) (heap : IsHeap h) (held : IsHeld r
       read-word rows h heap head few held.walkable counts limit there.segment there.in_range i there.listed object b
       aligned low (omega (arith, high))
       ∙ put_as-same (word_of h b) (fit b) in
-      object-stays rows (word_of h) (word_of read) i.place (i.place + i.size) i (listed-above rows h i heap held passed.1)
-      cells (listed-item rows h i heap held passed.1)
+      object-stays rows (word_of h) (word_of read) i.place (i.place + i.size) i
+      (listed-above rows h i heap held passed.1) cells (listed-item rows h i heap held passed.1)
 
   -- THE OBJECTS are those that were written
   pub objects-read : objects_among rows (word_of read) (saved_from rows h 0 (length h.segments)) ≡ objects_in rows h

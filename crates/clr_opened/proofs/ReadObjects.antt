@@ -1,11 +1,11 @@
 -- The words of objects are read back.
-use Rattle.std.proofs.Common.{◌≡◌, ℕ, zero, suc, ◌+◌, ◌-◌, ◌*◌, ◌/◌, ◌%◌, ◌<◌, ◌≤◌, ◌==◌, Bool, true, false, ◌&&◌, List, [], ◌∷◌, ◌++◌}
-use Rattle.std.proofs.Common.{arith, ap, length, map, refl, sym, ◌∙◌, subst, leb, ltb, length-append}
+use Rattle.std.proofs.Common.{◌≡◌, ℕ, zero, suc, ◌+◌, ◌-◌, ◌*◌, ◌/◌, ◌%◌, ◌<◌, ◌≤◌, ◌==◌, Bool, true, false}
+use Rattle.std.proofs.Common.{◌&&◌, List, ◌∷◌, ◌++◌, arith, ap, length, map, refl, ◌∙◌, leb, length-append}
 use Rattle.std.proofs.lemmas.Bool.{le-leb, le-ltb, lt-ltb}
 use Rattle.std.specs.List.{AllByRecursion}
-use Rattle.clr_mem.specs.Words.{end_of, Memory}
+use Rattle.clr_mem.specs.Words.{end_of}
 use Rattle.clr_types.specs.Rising.{IsIn}
-use Rattle.clr_types.specs.Segments.{first_place, reserved_end}
+use Rattle.clr_types.specs.Segments.{reserved_end}
 use Rattle.clr_types.specs.Types.{TypeRow}
 use Rattle.clr_types.specs.declared.item.Item.{Item}
 use Rattle.clr_types.proofs.RisingLists.{all_at}
@@ -19,15 +19,17 @@ use Rattle.clr_view.proofs.Items.{IsItem}
 use Rattle.clr_view.proofs.Listings.{listing-are}
 use Rattle.clr_save.proofs.LowBytes.{put_as}
 use Rattle.clr_save.proofs.SavedFills.{segment-words, written_from, written_segment}
-use Rattle.clr_save.specs.WrittenHeap.{heap_after, memory_of_segment, word_among, WrittenSegment}
+use Rattle.clr_save.specs.WrittenHeap.{heap_after, memory_of_segment, WrittenSegment}
 use Rattle.clr_mem.specs.Words.{zeros}
 use Rattle.clr_opened.proofs.ReadWords.{memories-after, word-found, word-own, written-cut, zeros-count}
 
 all-written : (P : WrittenSegment → Type 0) (rows : List TypeRow) (h : HeapView) (s n : ℕ)
     → ((j : ℕ) → s ≤ j → j < s + n → P (written_segment rows h j)) → AllByRecursion P (written_from rows h s n)
 all-written P rows h s zero each = tt
-all-written P rows h s (suc n) each =
-    (each s (omega arith) (omega arith), all-written P rows h (s + 1) n (λ j low high. each j (omega arith) (omega arith)))
+all-written P rows h s (suc n) each = (
+  each s (omega arith) (omega arith),
+  all-written P rows h (s + 1) n (λ j low high. each j (omega arith) (omega arith)),
+)
 
 none-and : (b : Bool) → (b && false) ≡ false
 none-and true = refl
@@ -35,7 +37,8 @@ none-and false = refl
 
 module _ (rows : List TypeRow) (h : HeapView) (heap : IsHeap h) (head : Head) (few : length rows ≤ 1000)
     (walkable : AreWalkable rows h)
-    (counts : (j : ℕ) → j < length h.segments → 8 * length (written_segment rows h j).words ≡ last_of h j - first_of h j)
+    (counts : (j : ℕ) → j < length h.segments
+    → 8 * length (written_segment rows h j).words ≡ last_of h j - first_of h j)
   where
     -- the memory of a segment is as long as the segment reserves
     ends : (j : ℕ) → j < length h.segments → end_of (memory_of_segment (written_segment rows h j))
@@ -91,6 +94,8 @@ module _ (rows : List TypeRow) (h : HeapView) (heap : IsHeap h) (head : Head) (f
         ++ written_segment rows h (at j) ∷ written_from rows h (at j + 1) (length h.segments - (k + 1))) in
         ap (λ ms. word_in ms a) (memories-after (empty_heap limit) (written_from rows h 0 (length h.segments)))
         ∙ ap (λ (segs : List WrittenSegment). word_in (map memory_of_segment segs) a) cut
-        ∙ word-found (written_from rows h 0 k) seg (written_from rows h (k + 1) (length h.segments - (k + 1))) a before own
-        ∙ word-own seg a (omega (arith, base)) aligned (omega (arith, above, low)) (omega (arith, count, below, high, above, low))
+        ∙ word-found (written_from rows h 0 k) seg (written_from rows h (k + 1) (length h.segments - (k + 1))) a
+        before own
+        ∙ word-own seg a (omega (arith, base)) aligned (omega (arith, above, low))
+        (omega (arith, count, below, high, above, low))
         ∙ segment-words rows h heap head few k l (walkable k l) i listed object a aligned low high

@@ -1,11 +1,12 @@
 -- The words of the heap that is read back: those that were written.
-use Rattle.std.proofs.Common.{◌≡◌, ℕ, ◌+◌, ◌-◌, ◌*◌, ◌/◌, ◌%◌, ◌<◌, ◌≤◌, Bool, true, false, if◌then◌else◌, List, [], ◌∷◌, ◌++◌}
-use Rattle.std.proofs.Common.{append-nil, append_assoc, arith, ap, get_or, length, map, refl, sym, ◌∙◌, subst, replicate, zero, suc}
+use Rattle.std.proofs.Common.{◌≡◌, ℕ, ◌+◌, ◌-◌, ◌*◌, ◌/◌, ◌%◌, ◌<◌, ◌≤◌, Bool, true, false, if◌then◌else◌}
+use Rattle.std.proofs.Common.{List, [], ◌∷◌, ◌++◌, append-nil, append_assoc, arith, ap, get_or, length}
+use Rattle.std.proofs.Common.{map, sym, ◌∙◌, zero, suc}
 use Rattle.std.proofs.lemmas.List.{length-replicate}
 use Rattle.std.proofs.Math.ListN.{get_or-append}
 use Rattle.std.proofs.Math.Seq.{get_or-append_right}
 use Rattle.std.specs.List.{AllByRecursion}
-use Rattle.clr_mem.specs.Words.{Memory, word_at, zeros}
+use Rattle.clr_mem.specs.Words.{word_at, zeros}
 use Rattle.clr_types.specs.Segments.{reserved_end}
 use Rattle.clr_heap.specs.Memories.{contains, word_in}
 use Rattle.clr_heap.specs.View.{HeapView}

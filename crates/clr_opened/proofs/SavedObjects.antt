@@ -1,8 +1,7 @@
 -- The objects of a machine are those of what is loaded of its image.
-use Rattle.std.proofs.Common.{◌≡◌, ℕ, ◌^◌, ◌<◌, ◌≤◌, List, length, refl, ap, ap₂, sym, ◌∙◌, subst, Option, None, Some}
+use Rattle.std.proofs.Common.{◌≡◌, ℕ, ◌<◌, ◌≤◌, ◌^◌, List, length, refl, ap₂, sym, ◌∙◌, subst, Option, None, Some}
 use Rattle.clr_types.specs.Types.{TypeRow}
-use Rattle.clr_types.specs.declared.item.Item.{Item}
-use Rattle.clr_heap.specs.View.{heap_items, HeapView, word_of}
+use Rattle.clr_heap.specs.View.{heap_items, IsHeap, word_of}
 use Rattle.clr_fields.specs.Fields.{fault, Found, found}
 use Rattle.clr_format.specs.Images.{fields_of, image_of, IsImage, judged, Parts, tests_in, unless_failed}
 use Rattle.clr_format.specs.NameTests.{first_failed}
@@ -13,6 +12,13 @@ use Rattle.clr_load.proofs.SoundImages.{all_pass, items_is}
 use Rattle.clr_save.proofs.SavedFills.{items-from}
 use Rattle.clr_save.proofs.SavedImages.{bytes-are, filled, w, written}
 use Rattle.clr_save.proofs.WrittenImage.{image_law}
+use Rattle.clr_load.specs.Shown.{ShowsParts}
+use Rattle.clr_load.specs.declared.image.Image.{Image}
+use Rattle.clr_model.specs.Lawful.{IsPlaceNamed}
+use Rattle.clr_model.specs.Machine.{Machine}
+use Rattle.clr_save.specs.Snapshots.{Shows}
+use Rattle.clr_save.specs.WrittenImage.{ArePartsOf}
+use Rattle.clr_save.specs.declared.snapshot.Snapshot.{Snapshot}
 use Rattle.clr_opened.specs.Laws.{SavedObjectsLaw}
 use Rattle.clr_opened.proofs.ReadBack.{objects-read}
 
@@ -39,22 +45,35 @@ image-read : (bytes : List ℕ) (p : Parts) → IsImage bytes p → IsRead bytes
 unfolding image_of
 image-read bytes p is = read_of bytes p (length bytes) is.is
 
+-- the items of the heap that an image says are those that it says
+pub items-read : (bytes : List ℕ) (image : Image) (p : Parts) → IsImage bytes p → ShowsParts image p → IsHeap image.heap
+    → heap_items p.types p.body.heap ≡ p.body.items
+items-read bytes image p is parts image_heap =
+    let read = image-read bytes p is in
+    items_is bytes p (length bytes) read.fields image parts image_heap (all_pass p read.tests)
+
+module _ (s : Snapshot) (m : Machine) (heap : IsHeap s.heap.now) (shows : Shows s m) (sound : IsPlaceNamed m)
+    (few_entries : length s.finals.now.entries < 2 ^ 64) (few_ready : length s.finals.now.ready < 2 ^ 64) where
+  -- the parts of a machine's image are what was written of it
+  pub parts-written : (p : Parts) → IsImage (image_bytes m) p
+      → ArePartsOf (w s m heap shows sound few_entries few_ready) p
+  parts-written p is =
+      let ww = w s m heap shows sound few_entries few_ready in
+      let (q, image_q, are) = image_law ww (written s m heap shows sound few_entries few_ready) in
+      let is_q : IsImage (image_bytes m) q =
+      subst (λ (bytes : List ℕ). IsImage bytes q) (bytes-are s m heap shows sound few_entries few_ready) image_q in
+      subst (ArePartsOf ww) (one_image (image_bytes m) q p is_q is) are
+
+-- the objects of what is loaded of a machine's image are the machine's
 pub saved-objects : SavedObjectsLaw
 saved-objects s m heap shows sound few_entries few_ready fit image p is parts image_heap =
     let rows = s.types.now in
     let h = s.heap.now in
-    let ww = w s m heap shows sound few_entries few_ready in
-    let (q, image_q, are) = image_law ww (written s m heap shows sound few_entries few_ready) in
-    let is_q : IsImage (image_bytes m) q =
-    subst (λ (bytes : List ℕ). IsImage bytes q) (bytes-are s m heap shows sound few_entries few_ready) image_q in
-    let same : p ≡ q = one_image (image_bytes m) p q is is_q in
-    let read = image-read (image_bytes m) p is in
-    let listed = items_is (image_bytes m) p (length (image_bytes m)) read.fields image parts image_heap
-    (all_pass p read.tests) in
-    let types : image.types ≡ rows = parts.types ∙ ap (λ (r : Parts). r.types) same ∙ are.types in
-    let heap_is = parts.heap ∙ ap (λ (r : Parts). r.body.heap) same ∙ are.body.heap in
-    let items = ap₂ heap_items parts.types parts.heap ∙ listed ∙ ap (λ (r : Parts). r.body.items) same ∙ are.body.items
-    ∙ items-from rows h 0 (length h.segments) in
+    let are = parts-written s m heap shows sound few_entries few_ready p is in
+    let types : image.types ≡ rows = parts.types ∙ are.types in
+    let heap_is = parts.heap ∙ are.body.heap in
+    let items = ap₂ heap_items parts.types parts.heap ∙ items-read (image_bytes m) image p is parts image_heap
+    ∙ are.body.items ∙ items-from rows h 0 (length h.segments) in
     let count = sound.lawful.type_count in
     let few : length rows ≤ 1000 = subst (λ (ts : List TypeRow). length ts ≤ 1000) shows.seen.types count in
     (λ i. objects_among (types i) (word_of (heap_is i)) (items i))

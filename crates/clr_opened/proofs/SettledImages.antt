@@ -1,9 +1,8 @@
 -- The image of what is kept is the image.
-use Rattle.std.proofs.Common.{◌≡◌, ℕ, suc, ◌+◌, ◌-◌, List, [], ◌∷◌, ◌++◌, refl, sym, ap, ap₂, ◌∙◌, arith, Option, Some, codes}
-use Rattle.std.specs.Prelude.{slice_get}
+use Rattle.std.proofs.Common.{◌≡◌, ℕ, suc, ◌+◌, ◌-◌, List, [], ◌∷◌, ◌++◌, refl, sym, ap, ap₂, ◌∙◌, arith, Option, Some}
+use Rattle.std.specs.Prelude.{codes, slice_get}
 use Rattle.clr_types.specs.Ranges.{Piece}
 use Rattle.clr_types.specs.Segments.{flat_option}
-use Rattle.clr_model.specs.Lawful.{IsLaid}
 use Rattle.clr_model.specs.Machine.{begun_new, begun_store, Machine, no_step, ThreadStep}
 use Rattle.clr_format.specs.Saved.{bit, common_bytes, front_or_zero, image_bytes, steps_words, step_words, tables_bytes}
 use Rattle.clr_format.specs.Saved.{handle_bytes, number_or_zero, queue_bytes, without_rests, word_bytes, words_bytes}

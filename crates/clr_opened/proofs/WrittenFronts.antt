@@ -1,5 +1,5 @@
 -- An image that was written is read back, whatever stands behind it.
-use Rattle.std.proofs.Common.{◌≡◌, ℕ, ◌+◌, ◌^◌, ◌<◌, false, List, ◌++◌, length, refl, arith, ap, sym, ◌∙◌, subst, if◌then◌else◌}
+use Rattle.std.proofs.Common.{◌≡◌, ℕ, ◌+◌, false, List, ◌++◌, length, refl, arith, ap, ◌∙◌, subst, if◌then◌else◌}
 use Rattle.std.specs.List.{flat_map}
 use Rattle.clr_types.specs.Types.{TypeRow}
 use Rattle.clr_fields.specs.Fields.{found, gives}

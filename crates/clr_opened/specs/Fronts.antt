@@ -1,10 +1,10 @@
 -- An image in front of other bytes.
-use Rattle.std.specs.Prelude.{◌≡◌, ℕ, ◌++◌, List, drop, length, Bool}
+use Rattle.std.specs.Prelude.{ℕ, List, Bool}
 use Rattle.clr_types.specs.Types.{TypeRow}
-use Rattle.clr_fields.specs.Fields.{fault, Fields, Found, found, gives, ◌>>=◌}
+use Rattle.clr_fields.specs.Fields.{Fields, Found, gives, ◌>>=◌}
 use Rattle.clr_fields.specs.TypeFields.{types_fields}
 use Rattle.clr_format.specs.HeapFields.{heap_fields}
-use Rattle.clr_format.specs.Images.{head_fields, here, IsImage, is_first, judged, locals_field, Parts, Rest, version_tables}
+use Rattle.clr_format.specs.Images.{head_fields, here, is_first, judged, locals_field, Parts, Rest, version_tables}
 use Rattle.clr_format.specs.declared.head.Head.{Head}
 
 -- all fields, whatever stands behind them
@@ -30,17 +30,3 @@ parts_front first = do
 -- the parts of the image in front, and the offset behind it, or the first fault
 unfoldable pub image_front : List ℕ → Found Parts
 image_front bytes = judged (parts_front (is_first bytes) bytes 0)
-
--- bytes are an image with these parts, and these bytes behind it
-pub record HasImage (bytes : List ℕ) (parts : Parts) (behind : List ℕ) : Type 0 where
-  pub at : ℕ
-  pub is : image_front bytes ≡ found parts at
-  pub behind_is : drop at bytes ≡ behind
-
--- no image stands in front, and this is the offset of the first fault
-pub record HasFrontFault (bytes : List ℕ) (offset : ℕ) : Type 0 where
-  pub is : image_front bytes ≡ fault offset
-
--- AN IMAGE DELIMITS ITSELF
-abbrev pub FrontLaw : Type 0
-FrontLaw = (bytes behind : List ℕ) (p : Parts) → IsImage bytes p → image_front (bytes ++ behind) ≡ found p (length bytes)

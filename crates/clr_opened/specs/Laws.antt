@@ -1,6 +1,7 @@
 -- Laws on images that are opened.
 use Rattle.std.specs.Prelude.{◌≡◌, ℕ, ◌+◌, ◌-◌, ◌*◌, ◌%◌, ◌==◌, ◌++◌, ◌^◌, ◌<◌, ◌≤◌, false, length, List}
 use Rattle.clr_types.specs.Rising.{IsIn}
+use Rattle.clr_types.specs.Segments.{ephemeral}
 use Rattle.clr_types.specs.Types.{TypeRow}
 use Rattle.clr_types.specs.declared.item.Item.{Item}
 use Rattle.clr_heap.specs.Drafts.{empty_heap}
@@ -19,18 +20,15 @@ use Rattle.clr_save.specs.SavedImages.{AreMachineParts}
 use Rattle.clr_save.specs.Snapshots.{Shows}
 use Rattle.clr_save.specs.declared.snapshot.Snapshot.{Snapshot}
 use Rattle.clr_opened.specs.Fronts.{image_front}
-use Rattle.clr_model.specs.Lawful.{IsLaid, IsPlaceNamed}
+use Rattle.clr_model.specs.Lawful.{AreLawfulOptions, IsLaid, IsPlaceNamed}
 use Rattle.clr_model.specs.Machine.{Machine, Options}
 use Rattle.clr_format.specs.Saved.{image_bytes}
 use Rattle.clr_settled.specs.Settled.{settled}
-use Rattle.clr_opened.specs.Opened.{Budgets}
+use Rattle.clr_opened.specs.Opened.{Budgets, opened}
 
 -- WHAT IS KEPT IS ALL THAT AN IMAGE SAYS: the image of what is kept is the image
 abbrev pub SettledImageLaw : Type 0
 SettledImageLaw = (m : Machine) → IsLaid m → image_bytes (settled m) ≡ image_bytes m
-
-abbrev pub budgets_of : Options → Budgets
-budgets_of o = record { b0 = o.b0; b1 = o.b1; b2 = o.b2; bl = o.bl; compact = o.compact }
 
 -- AN IMAGE THAT WAS SAVED DELIMITS ITSELF: whatever stands behind it, it is read back, and says what the machine is.
 abbrev pub SavedFrontLaw : Type 0
@@ -61,3 +59,63 @@ SavedObjectsLaw = (s : Snapshot) (m : Machine) → IsHeap s.heap.now → Shows s
     → length s.finals.now.entries < 2 ^ 64 → length s.finals.now.ready < 2 ^ 64
     → ((a : ℕ) → word_of s.heap.now a < 2 ^ 64) → (image : Image) (p : Parts) → IsImage (image_bytes m) p
     → ShowsParts image p → IsHeap image.heap → objects_in image.types image.heap ≡ m.objects
+
+-- an opened machine has what was saved of m: all but free items, contexts, budgets and where the next segment begins
+pub record IsOpenedFrom (m new : Machine) : Type 0 where
+  pub types : new.types ≡ m.types
+  pub objects : new.objects ≡ m.objects
+  pub locals : new.locals ≡ m.locals
+  pub handles : new.handles ≡ m.handles
+  pub entries : new.entries ≡ m.entries
+  pub ready : new.ready ≡ m.ready
+  pub steps : new.steps ≡ m.steps
+  pub holder : new.holder ≡ m.holder
+  pub segments : new.layout.segments ≡ m.layout.segments
+  pub start1 : new.layout.start1 ≡ m.layout.start1
+  pub start0 : new.layout.start0 ≡ m.layout.start0
+  pub limit : new.options.limit ≡ m.options.limit
+  pub large : new.options.large ≡ m.options.large
+  pub compacts_large : new.compacts_large ≡ m.compacts_large
+
+-- A MACHINE THAT WAS SAVED IS OPENED, whatever the budgets
+abbrev pub OpenedLaw : Type 0
+OpenedLaw = (s : Snapshot) (m : Machine) → IsHeap s.heap.now → Shows s m → IsPlaceNamed m
+    → length s.finals.now.entries < 2 ^ 64 → length s.finals.now.ready < 2 ^ 64
+    → ((a : ℕ) → word_of s.heap.now a < 2 ^ 64) → (image : Image) (p : Parts) → IsImage (image_bytes m) p
+    → ShowsParts image p → IsHeap image.heap → (b : Budgets) → IsOpenedFrom m (opened p b)
+
+-- what an image keeps of a machine, with the budgets that it is opened with; new segments are as long as the ephemeral
+-- one
+abbrev pub reopened : Machine → Budgets → Machine
+reopened m b = record (settled m) {
+  options = record {
+    limit = m.options.limit;
+    segment = (ephemeral m.layout).reserved;
+    b0 = b.b0;
+    b1 = b.b1;
+    b2 = b.b2;
+    bl = b.bl;
+    compact = b.compact;
+    large = m.options.large;
+  };
+}
+
+-- TO SAVE AND OPEN IS TO SETTLE: what is opened of a machine's image is what an image keeps of it, and nothing else
+abbrev pub ReopenedLaw : Type 0
+ReopenedLaw = (s : Snapshot) (m : Machine) → IsHeap s.heap.now → Shows s m → IsPlaceNamed m
+    → length s.finals.now.entries < 2 ^ 64 → length s.finals.now.ready < 2 ^ 64
+    → ((a : ℕ) → word_of s.heap.now a < 2 ^ 64) → (image : Image) (p : Parts) → IsImage (image_bytes m) p
+    → ShowsParts image p → IsHeap image.heap → (b : Budgets) → opened p b ≡ reopened m b
+
+abbrev pub budgets_of : Options → Budgets
+budgets_of o = record { b0 = o.b0; b1 = o.b1; b2 = o.b2; bl = o.bl; compact = o.compact }
+
+-- so with the machine's own budgets it is what an image keeps, where its ephemeral segment is as long as its options say
+abbrev pub OwnReopenedLaw : Type 0
+OwnReopenedLaw = (m : Machine) → (ephemeral m.layout).reserved ≡ m.options.segment
+    → reopened m (budgets_of m.options) ≡ settled m
+
+-- WHAT IS OPENED IS LAWFUL, where the length of the ephemeral segment and the budgets are lawful options
+abbrev pub ReopenedLawfulLaw : Type 0
+ReopenedLawfulLaw = (m : Machine) (b : Budgets) → IsPlaceNamed m → AreLawfulOptions (reopened m b).options
+    → IsPlaceNamed (reopened m b)

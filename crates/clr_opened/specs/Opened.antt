@@ -1,15 +1,10 @@
 -- The state that an image says, to go on from.
-use Rattle.std.specs.Prelude.{◌≡◌, ℕ, ◌+◌, ◌*◌, ◌^◌, ◌≤◌, List, [], ◌∷◌, find, filter, map, nat_eq, not, None, Option}
-use Rattle.std.specs.List.{AllByRecursion, flat_map}
+use Rattle.std.specs.Prelude.{ℕ, List, find, filter, map, nat_eq, not, None, Option}
+use Rattle.std.specs.List.{flat_map}
 use Rattle.std.specs.FinMap as finmap
-use Rattle.std.specs.FinMap.{FinMap}
-use Rattle.std.specs.Ordering.{nat_cmp}
-use Rattle.clr_types.specs.LawfulLayout.{AreBounded}
 use Rattle.clr_types.specs.Ranges.{Piece}
 use Rattle.clr_types.specs.Segments.{ephemeral, Layout}
 use Rattle.clr_types.specs.Types.{TypeRow}
-use Rattle.clr_types.specs.declared.handle.Handle.{Handle}
-use Rattle.clr_types.specs.declared.segment.SegInfo.{SegInfo}
 use Rattle.clr_heap.specs.View.{frame, HeapView}
 use Rattle.clr_view.specs.View.{free_in, objects_in}
 use Rattle.clr_model.specs.Machine.{begun_new, begun_store, Machine, no_step, Options, ThreadStep}
@@ -26,13 +21,6 @@ pub record Budgets : Type 0 where
   pub b2 : ℕ
   pub bl : ℕ
   pub compact : ℕ
-
-pub record AreLawfulBudgets (b : Budgets) : Type 0 where
-  pub b0 : b.b0 ≤ 1073741824
-  pub b1 : b.b1 ≤ 1073741824
-  pub b2 : b.b2 ≤ 1073741824
-  pub bl : b.bl ≤ 1073741824
-  pub compact : b.compact ≤ 100
 
 -- limit and least size of large objects as the image says, and segments as long as its ephemeral one
 abbrev pub options_with : Parts → Budgets → Options
@@ -66,10 +54,6 @@ opened_layout rows h steps = record (frame h) {
   rests = map (front_rest (free_in rows h)) steps;
 }
 
-abbrev pub handles_with : List (ℕ × Handle) → FinMap nat_cmp Handle
-handles_with [] = finmap.empty
-handles_with ((h, row) ∷ rows) = finmap.insert (handles_with rows) h row
-
 -- ---- the whole
 
 -- THE STATE THAT AN IMAGE SAYS, each object named by its place
@@ -79,7 +63,7 @@ opened p b = record {
   born = 0;
   objects = objects_in p.types p.body.heap;
   locals = p.rest.locals;
-  handles = handles_with p.rest.tables.handles;
+  handles = finmap.from_entries p.rest.tables.handles;
   entries = p.rest.tables.entries;
   ready = p.rest.tables.ready;
   steps = map thread_step p.rest.tables.steps;
@@ -90,10 +74,3 @@ opened p b = record {
   compacts_large = p.head.compact_large;
   background = None;
 }
-
--- an image that a run goes on from, as each is that a run leaves
-pub record IsFit (p : Parts) : Type 0 where
-  pub limit : 2 * (ephemeral (frame p.body.heap)).reserved ≤ p.head.limit
-  pub large : p.head.large + 4096 ≤ (ephemeral (frame p.body.heap)).reserved
-  pub low : AllByRecursion (λ (s : SegInfo). s.base ≤ 2 ^ 60) p.body.heap.segments
-  pub bounded : AreBounded p.body.heap.segments

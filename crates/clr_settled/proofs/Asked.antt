@@ -1,67 +1,41 @@
 -- Questions that no free item answers have the same answers before and after.
-use Rattle.std.proofs.Common.{◌≡◌, ℕ, List, [], ◌∷◌, ◌++◌, refl, sym, None}
+use Rattle.std.proofs.Common.{ℕ, List, ◌++◌, refl, sym, None}
 use Rattle.clr_types.specs.Ranges.{by_place}
 use Rattle.clr_model.specs.Machine.{Machine}
 use Rattle.clr_model.specs.Picture.{picture}
-use Rattle.clr_model.specs.Sos.{handle_root, IsChain, IsRootText, local_root, ready_root, RootWords}
+use Rattle.clr_model.specs.declared.look.Look.{Look}
+use Rattle.clr_model.specs.Looks.{IsLookText}
+use Rattle.clr_model.specs.Sos.{IsRootText}
 use Rattle.clr_model.specs.Lookups.{place_of}
-use Rattle.clr_settled.specs.Laws.{AskedLaw, IsAskedAlike, SettledPictureLaw, SettledTwiceLaw}
-use Rattle.clr_settled.specs.Settled.{kept_rests, left_rests, settled}
+use Rattle.clr_settled.specs.Laws.{AskedLaw, LooksAtObjects, SettledForgetsLaw, SettledPictureLaw}
+use Rattle.clr_settled.specs.Laws.{SettledTwiceLaw}
+use Rattle.clr_settled.specs.Settled.{kept_rests, left_rests, no_sums, settled, settled_layout}
+use Rattle.clr_settled.proofs.LooksAlike.{look-alike, root-alike}
 use Rattle.clr_settled.proofs.KeptRests.{by_place-twice, kept-renamed, kept-twice, left-renamed, none-left}
 
-root-alike : (m : Machine) {words : List (List ℕ)} {place : ℕ} → RootWords (settled m) words place
-    → RootWords m words place
-root-alike m (local_root t k thread low got) = local_root t k thread low got
-root-alike m (handle_root h row got kind target) = handle_root h row got kind target
-root-alike m (ready_root i got) = ready_root i got
+-- the machine of which an image keeps all, again with what it gave up
+roots-back : (m : Machine) (a : ℕ) (text : List ℕ) → IsRootText (settled m) a text → IsRootText m a text
+roots-back m = root-alike (settled m) m.layout.free m.layout.rests m.layout.top m.sums m.options m.background
 
-root-back : (m : Machine) {words : List (List ℕ)} {place : ℕ} → RootWords m words place
-    → RootWords (settled m) words place
-root-back m (local_root t k thread low got) = local_root t k thread low got
-root-back m (handle_root h row got kind target) = handle_root h row got kind target
-root-back m (ready_root i got) = ready_root i got
-
-chain-alike : (m : Machine) (chain : List ℕ) (last : ℕ) → IsChain (settled m) chain last → IsChain m chain last
-chain-alike m [] last none = none
-chain-alike m (x ∷ []) last is = is
-chain-alike m (x ∷ y ∷ ys) last is = (is.0, chain-alike m (y ∷ ys) last is.1)
-
-chain-back : (m : Machine) (chain : List ℕ) (last : ℕ) → IsChain m chain last → IsChain (settled m) chain last
-chain-back m [] last none = none
-chain-back m (x ∷ []) last is = is
-chain-back m (x ∷ y ∷ ys) last is = (is.0, chain-back m (y ∷ ys) last is.1)
+looks-back : (m : Machine) (look : Look) (text : List ℕ) → LooksAtObjects look → IsLookText (settled m) look text
+    → IsLookText m look text
+looks-back m = look-alike (settled m) m.layout.free m.layout.rests m.layout.top m.sums m.options m.background
 
 pub asked : AskedLaw
-asked m = record {
-  objects = λ a. refl;
-  handles = refl;
-  queue = refl;
-  where_is = λ a. refl;
-  live = λ x. (λ is. is, λ is. is);
-  sizes = λ x y. (λ is. is, λ is. is);
-  roots = λ a text is. record {
-    words = is.words;
-    chain = is.chain;
-    root = is.root;
-    not_null = is.not_null;
-    rooted = root-alike m is.rooted;
-    starts = is.starts;
-    linked = chain-alike m is.chain a is.linked;
-    distinct = is.distinct;
-    shown = is.shown;
-  };
-  roots_back = λ a text is. record {
-    words = is.words;
-    chain = is.chain;
-    root = is.root;
-    not_null = is.not_null;
-    rooted = root-back m is.rooted;
-    starts = is.starts;
-    linked = chain-back m is.chain a is.linked;
-    distinct = is.distinct;
-    shown = is.shown;
-  };
-}
+asked m =
+    let layout = settled_layout m.steps m.layout in
+    record {
+      objects = λ a. refl;
+      handles = refl;
+      queue = refl;
+      where_is = λ a. refl;
+      live = λ x. (λ is. is, λ is. is);
+      sizes = λ x y. (λ is. is, λ is. is);
+      roots = roots-back m;
+      roots_back = root-alike m layout.free layout.rests layout.top no_sums m.options None;
+      looks = looks-back m;
+      looks_back = look-alike m layout.free layout.rests layout.top no_sums m.options None;
+    }
 
 pub twice : SettledTwiceLaw
 twice m =
@@ -81,3 +55,7 @@ pictured m =
         rests = kept i;
       };
     }
+
+-- what is not kept plays no part
+pub forgotten : SettledForgetsLaw
+forgotten m top sums background = refl

@@ -1,7 +1,7 @@
 -- What `dumpheap` shows of objects alone is the same before and after.
-use Rattle.std.proofs.Common.{◌≡◌, ℕ, ◌+◌, ◌<◌, ◌≤◌, Bool, true, false, if◌then◌else◌, List, [], ◌∷◌, ◌++◌, filter, map, refl, ap, sym, ◌∙◌, subst}
-use Rattle.std.proofs.Common.{arith, nat_le}
-use Rattle.std.proofs.lemmas.Bool.{cases_Bool, le-leb, leb-false, leb-true}
+use Rattle.std.proofs.Common.{◌≡◌, ℕ, ◌≤◌, Bool, true, false, ◌&&◌, if◌then◌else◌, List, [], ◌∷◌, ◌++◌, filter, map}
+use Rattle.std.proofs.Common.{refl, ap, sym, ◌∙◌, arith, nat_le}
+use Rattle.std.proofs.lemmas.Bool.{le-leb, leb-true}
 use Rattle.std.proofs.lemmas.List.{append-nil}
 use Rattle.std.proofs.lemmas.List.Elements.{filter-append}
 use Rattle.std.specs.List.{AllByRecursion}
@@ -9,10 +9,9 @@ use Rattle.clr_types.specs.Ranges.{Piece}
 use Rattle.clr_types.specs.Rising.{insert_by, sorted_by}
 use Rattle.clr_types.specs.declared.item.Item.{Item}
 use Rattle.clr_types.proofs.ChangedLists.{all_imply, IsSortedBy, sorted_by-sorted}
-use Rattle.clr_model.specs.Instructions.{DumpOptions}
 use Rattle.clr_model.specs.Listing.{free_item, items, listing, object_item}
 use Rattle.clr_model.specs.Machine.{Machine}
-use Rattle.clr_model.specs.Sos.{dump_by_mode, dumpheap_text, is_free_item, passes}
+use Rattle.clr_model.specs.Sos.{dump_by_mode, is_free_item, passes, passes_place}
 use Rattle.clr_settled.specs.Laws.{DumpedLaw}
 use Rattle.clr_settled.specs.Settled.{settled}
 
@@ -67,7 +66,7 @@ module _ {X : Type 0} (key : X → ℕ) (test : X → Bool) where
       go false e rest = behind (test x) (test y) e rest
 
   -- sorting and leaving out may change places
-  filter-sorted : (xs : List X) → filter test (sorted_by key xs) ≡ sorted_by key (filter test xs)
+  pub filter-sorted : (xs : List X) → filter test (sorted_by key xs) ≡ sorted_by key (filter test xs)
   filter-sorted [] = refl
   filter-sorted (x ∷ xs) =
       filter-insert x (sorted_by key xs) (sorted_by-sorted key xs) ∙ go (test x) (filter-sorted xs)
@@ -99,5 +98,5 @@ objects-pass m test none =
 
 pub dumped : DumpedLaw
 dumped m live o none =
-    ap (dump_by_mode o.mode m.types)
-    (objects-pass (settled m) (passes m.types live o) none ∙ sym (objects-pass m (passes m.types live o) none))
+    let test : Item → Bool = λ i. passes m.types live o i && passes_place m.layout o i in
+    ap (dump_by_mode o.mode m.types) (objects-pass (settled m) test none ∙ sym (objects-pass m test none))

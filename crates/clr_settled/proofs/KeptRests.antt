@@ -1,17 +1,16 @@
 -- What is left of contexts, as it is kept and given up.
-use Rattle.std.proofs.Common.{◌≡◌, ℕ, zero, suc, ◌+◌, ◌-◌, ◌%◌, ◌<◌, ◌≤◌, List, [], ◌∷◌, ◌++◌, length, map, refl, ap, sym, ◌∙◌}
-use Rattle.std.proofs.Common.{subst, arith, Option, None, Some, append-nil, append_assoc}
-use Rattle.std.specs.Prelude.{slice_get}
+use Rattle.std.proofs.Common.{◌≡◌, ℕ, suc, ◌%◌, ◌≤◌, List, [], ◌∷◌, ◌++◌, length, map, refl, ap, ◌∙◌}
+use Rattle.std.proofs.Common.{arith, Option, None, Some, append-nil}
 use Rattle.std.specs.List.{AllByRecursion}
 use Rattle.clr_types.specs.LawfulLayout.{AreDisjoint, IsLawfulSegment}
 use Rattle.clr_types.specs.Ranges.{by_place, Piece}
-use Rattle.clr_types.specs.Segments.{flat_option, reserved_end, rest_pieces}
+use Rattle.clr_types.specs.Segments.{reserved_end, rest_pieces}
 use Rattle.clr_types.specs.declared.segment.SegInfo.{SegInfo}
 use Rattle.clr_types.proofs.ChangedLists.{sorted_by-done, sorted_by-sorted}
 use Rattle.clr_types.proofs.Shuffles.{followed, IsShuffled, nothing, shuffled-same, swapped, under}
 use Rattle.clr_model.specs.Machine.{begun_new, begun_store, no_step, ThreadStep}
 use Rattle.clr_model.specs.Picture.{renamed_step}
-use Rattle.clr_settled.specs.Settled.{highest_end, kept_rest, kept_rests, left_rest, left_rests}
+use Rattle.clr_settled.specs.Settled.{highest_end, kept_rests, left_rests}
 
 -- ---- twice
 
@@ -82,7 +81,8 @@ rests-shuffled (begun_new type len local ∷ ss) (None ∷ rs) = rests-shuffled 
 rests-shuffled (begun_new type len local ∷ ss) (Some p ∷ rs) =
     followed (under (rests-shuffled ss rs)) (behind p (left_rests ss rs) (rest_pieces (kept_rests ss rs)))
 
-pub kept-count : (steps : List ThreadStep) (rests : List (Option Piece)) → length (kept_rests steps rests) ≡ length rests
+pub kept-count : (steps : List ThreadStep) (rests : List (Option Piece))
+    → length (kept_rests steps rests) ≡ length rests
 kept-count steps [] = refl
 kept-count [] (r ∷ rs) = ap suc (kept-count [] rs)
 kept-count (s ∷ ss) (r ∷ rs) = ap suc (kept-count ss rs)
@@ -103,7 +103,8 @@ kept-all P (begun_new type len local ∷ ss) (Some p ∷ rs) all = (all.0, kept-
 -- ---- segments
 
 -- each segment ends below where the last one does
-pub below-highest : (ss : List SegInfo) → AreDisjoint ss → AllByRecursion (λ (s : SegInfo). reserved_end s ≤ highest_end ss) ss
+pub below-highest : (ss : List SegInfo) → AreDisjoint ss
+    → AllByRecursion (λ (s : SegInfo). reserved_end s ≤ highest_end ss) ss
 below-highest [] d = tt
 below-highest (s ∷ []) d = (omega arith, tt)
 below-highest (s ∷ t ∷ ss) d =

@@ -1,7 +1,6 @@
 -- What is kept of a lawful state is a lawful one.
-use Rattle.std.proofs.Common.{◌≡◌, ℕ, zero, suc, ◌+◌, ◌-◌, ◌≤◌, List, [], ◌∷◌, refl, sym, ap, ◌∙◌, arith, Option, None, Some}
+use Rattle.std.proofs.Common.{◌≡◌, ℕ, zero, suc, ◌+◌, ◌-◌, ◌≤◌, List, [], ◌∷◌, refl, sym, ap, ◌∙◌, arith, Option, Some}
 use Rattle.std.specs.Prelude.{slice_get}
-use Rattle.std.specs.List.{AllByRecursion}
 use Rattle.clr_types.specs.Ranges.{Piece}
 use Rattle.clr_types.specs.Segments.{flat_option, generation}
 use Rattle.clr_types.proofs.ChangedLists.{all_imply}
@@ -69,7 +68,8 @@ module _ (m : Machine) where
       type_names = h.type_names;
       type_words = h.type_words;
       names_rise = h.names_rise;
-      shapes = all_imply (IsShaped m) (IsShaped (settled m)) m.objects (λ o. shaped_alike m (settled m) o refl) h.shapes;
+      shapes = all_imply (IsShaped m) (IsShaped (settled m)) m.objects
+          (λ o. shaped_alike m (settled m) o refl) h.shapes;
       laid = settled-laid m h.laid;
       rests_young = kept-all (λ (p : Piece). generation m.layout p.place ≡ 0) m.steps m.layout.rests h.rests_young;
       suited = h.suited;

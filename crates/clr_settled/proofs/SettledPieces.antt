@@ -1,12 +1,12 @@
 -- What is kept of a layout is a lawful one with the same pieces.
-use Rattle.std.proofs.Common.{◌≡◌, ℕ, ◌++◌, List, map, refl, sym, subst, ◌∙◌, append_assoc, IsSome, Option}
+use Rattle.std.proofs.Common.{◌≡◌, ℕ, ◌++◌, List, map, sym, subst, ◌∙◌, append_assoc, IsSome}
 use Rattle.std.specs.List.{AllByRecursion}
 use Rattle.clr_types.specs.LawfulLayout.{DoesNotCross, IsTiled}
 use Rattle.clr_types.specs.Ranges.{by_place, Piece}
 use Rattle.clr_types.specs.Segments.{rest_pieces, segment_of}
 use Rattle.clr_types.proofs.ListMembers.{distinct_of_sorted, distinct_left, distinct_right}
-use Rattle.clr_types.proofs.Shuffles.{followed, IsShuffled, shuffled-distinct, shuffled-left, shuffled-right, shuffled-sorted}
-use Rattle.clr_types.proofs.Shuffles.{shuffled-sorts}
+use Rattle.clr_types.proofs.Shuffles.{followed, IsShuffled, shuffled-distinct, shuffled-left, shuffled-right}
+use Rattle.clr_types.proofs.Shuffles.{shuffled-sorted, shuffled-sorts}
 use Rattle.clr_types.proofs.SortedLists.{IsDistinctBy, sorted_by-rises}
 use Rattle.clr_model.specs.Lawful.{IsLaid}
 use Rattle.clr_model.specs.Lookups.{object_piece, pieces}

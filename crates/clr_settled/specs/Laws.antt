@@ -1,11 +1,14 @@
 -- Laws on what an image keeps.
-use Rattle.std.specs.Prelude.{◌≡◌, ◌↔◌, ℕ, List, Some, slice_get, Bool, false, true}
+use Rattle.std.specs.Prelude.{◌≡◌, ◌↔◌, ℕ, List, Option, Some, slice_get, Bool, false, true, ◌&&◌}
 use Rattle.clr_types.specs.declared.item.Item.{Item}
 use Rattle.clr_model.specs.Instructions.{DumpOptions}
-use Rattle.clr_model.specs.Sos.{dumpheap_text, is_free_item, passes}
+use Rattle.clr_model.specs.declared.look.Look.{Look}
+use Rattle.clr_model.specs.declared.look.Look.TheVariants.{GcHeapStat, ListNearObj}
+use Rattle.clr_model.specs.Looks.{IsLookText}
+use Rattle.clr_model.specs.Sos.{dumpheap_text, is_free_item, passes, passes_place}
 use Rattle.clr_model.specs.Lawful.{IsBirthNamed, IsLaid, IsPlaceNamed}
 use Rattle.clr_model.specs.Lookups.{pieces}
-use Rattle.clr_model.specs.Machine.{begun_new, Machine}
+use Rattle.clr_model.specs.Machine.{begun_new, Machine, Marking, Sums}
 use Rattle.clr_model.specs.Picture.{picture}
 use Rattle.clr_model.specs.Reach.{Live, SlotReach}
 use Rattle.clr_model.specs.Sos.{dumpobj_text, finalizequeue_text, gchandles_text}
@@ -40,6 +43,17 @@ SettledFrontLaw = (m : Machine) (n type len local : ℕ) → slice_get m.steps n
 abbrev pub SettledPictureLaw : Type 0
 SettledPictureLaw = (m : Machine) → picture (settled m) ≡ settled (picture m)
 
+-- WHAT IS NOT KEPT DOES NOT MATTER: sums, where the next segment was to begin, and a background collection that runs
+abbrev pub SettledForgetsLaw : Type 0
+SettledForgetsLaw = (m : Machine) (top : ℕ) (sums : Sums) (background : Option Marking)
+    → settled (record m { layout = record m.layout { top = top }; sums = sums; background = background }) ≡ settled m
+
+-- a line that looks, and neither at free items nor at contexts
+abbrev pub LooksAtObjects : Look → Type 0
+LooksAtObjects (GcHeapStat unrooted) = ⊥
+LooksAtObjects (ListNearObj a) = ⊥
+LooksAtObjects _ = Unit {0}
+
 -- a question that no free item answers has the same answer in two states
 pub record IsAskedAlike (s m : Machine) : Type 0 where
   pub objects : (a : ℕ) → dumpobj_text s a ≡ dumpobj_text m a
@@ -50,6 +64,8 @@ pub record IsAskedAlike (s m : Machine) : Type 0 where
   pub sizes : (x y : ℕ) → SlotReach s x y ↔ SlotReach m x y
   pub roots : (a : ℕ) (text : List ℕ) → IsRootText s a text → IsRootText m a text
   pub roots_back : (a : ℕ) (text : List ℕ) → IsRootText m a text → IsRootText s a text
+  pub looks : (look : Look) (text : List ℕ) → LooksAtObjects look → IsLookText s look text → IsLookText m look text
+  pub looks_back : (look : Look) (text : List ℕ) → LooksAtObjects look → IsLookText m look text → IsLookText s look text
 
 -- ASKING IS ALIKE before saving and after opening
 abbrev pub AskedLaw : Type 0
@@ -58,5 +74,5 @@ AskedLaw = (m : Machine) → IsAskedAlike (settled m) m
 -- and so is `dumpheap` with options that no free item passes
 abbrev pub DumpedLaw : Type 0
 DumpedLaw = (m : Machine) (live : ℕ → Bool) (o : DumpOptions)
-    → ((i : Item) → is_free_item i ≡ true → passes m.types live o i ≡ false)
+    → ((i : Item) → is_free_item i ≡ true → (passes m.types live o i && passes_place m.layout o i) ≡ false)
     → dumpheap_text (settled m) live o ≡ dumpheap_text m live o

@@ -1,0 +1,3 @@
+pub mod AlikeTexts
+pub mod ShownStates
+pub mod NoContexts

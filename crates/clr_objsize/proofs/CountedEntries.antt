@@ -85,7 +85,7 @@ module _ (es : List FoundObject) where
       ∙ ne_eqb (place_at es j) (place_at es n) (distinct j n low l))
 
 -- the first n entries are the same ones, when some are added
-among-grown : (old new : List FoundObject) → HasGrown old new → (n : ℕ) → n ≤ length old → take n new ≡ take n old
+pub among-grown : (old new : List FoundObject) → HasGrown old new → (n : ℕ) → n ≤ length old → take n new ≡ take n old
 among-grown old new g n l =
     let longer = g.longer in
     take-same new old n (omega (arith, l, longer)) l (λ i low. g.same i (omega (arith, low, l)))
@@ -137,7 +137,7 @@ module _ (v : View) (sound : IsSound v) (seen : List (List ℕ)) (es : List Foun
       omega (arith, same, below, most, within, small)
 
   -- as many objects were counted as there are entries
-  counts : (n : ℕ) → n ≤ length es → sum_among v es n (λ (o : Object). 1) ≡ n
+  pub counts : (n : ℕ) → n ≤ length es → sum_among v es n (λ (o : Object). 1) ≡ n
   counts zero l = sum-none (λ (o : Object). 1) (objects_in v.types.now v.heap.now)
   counts (suc n) l =
       let more : n + 1 ≡ suc n = omega arith in

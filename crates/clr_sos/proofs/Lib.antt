@@ -36,6 +36,8 @@ pub mod Bits
 pub mod ViewNames
 pub mod Seen
 pub mod Searching
+pub mod BreadthFirst
+pub mod ShortestTrails
 pub mod ReachedAll
 pub mod Adding
 pub mod Ties
@@ -48,3 +50,4 @@ pub mod FreshMarks
 pub mod BufferedTexts
 pub mod BufferedLines
 pub mod PlainListings
+pub mod FoundSegments

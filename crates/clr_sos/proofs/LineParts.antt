@@ -14,17 +14,17 @@ spaced-cons word [] = sym (append-nil word)
 spaced-cons word (next ∷ words) = ap (λ rest. word ++ (32 ∷ rest)) (spaced-cons next words)
 
 -- words behind a first one, each behind a space, and a line feed
-abbrev ended : List (List ℕ) → List ℕ
+abbrev pub ended : List (List ℕ) → List ℕ
 ended [] = 10 ∷ []
 ended (word ∷ words) = 32 ∷ (word ++ ended words)
 
-ended-is : (words : List (List ℕ)) → ended words ≡ each_spaced words ++ (10 ∷ [])
+pub ended-is : (words : List (List ℕ)) → ended words ≡ each_spaced words ++ (10 ∷ [])
 ended-is [] = refl
 ended-is (word ∷ words) =
     ap (λ rest. 32 ∷ (word ++ rest)) (ended-is words)
     ∙ ap (λ rest. 32 ∷ rest) (sym (append_assoc word (each_spaced words) (10 ∷ [])))
 
-line-cons : (word : List ℕ) (words : List (List ℕ)) → line (word ∷ words) ≡ word ++ ended words
+pub line-cons : (word : List ℕ) (words : List (List ℕ)) → line (word ∷ words) ≡ word ++ ended words
 line-cons word words =
     ap (λ text. text ++ (10 ∷ [])) (spaced-cons word words) ∙ append_assoc word (each_spaced words) (10 ∷ [])
     ∙ ap (λ rest. word ++ rest) (sym (ended-is words))

@@ -19,26 +19,28 @@ use Rattle.clr_model.specs.declared.Life.TheVariants.{Any, Live, Dead}
 use Rattle.clr_model.specs.Instructions.{DumpOptions}
 use Rattle.clr_model.specs.Listing.{free_item, object_item}
 use Rattle.clr_model.specs.Machine.{Machine, Object}
-use Rattle.clr_model.specs.Sos.{dump_by_mode, dumpheap_text, passes, passes_life}
+use Rattle.clr_model.specs.Sos.{dump_by_mode, dumpheap_text, passes, passes_life, passes_place}
 use Rattle.clr_model.specs.Step.{TestsLife}
 use Rattle.clr_model.proofs.Reaching.{one_test_of}
-use Rattle.clr_sos.specs.Wants.{is_chosen, is_wanted}
+use Rattle.clr_sos.specs.Wants.{is_chosen, is_in_region, is_wanted}
 use Rattle.clr_sos.specs.declared.wanted.Wanted.{Wanted}
 
 -- what `dumpheap` shows of these types, objects and layout
 abbrev shown : DumpOptions → (ℕ → Bool) → List TypeRow → List Object → Layout → List ℕ
-shown o live rows objects layout = dump_by_mode o.mode rows (filter (passes rows live o)
+shown o live rows objects layout = dump_by_mode o.mode rows (filter (λ i. passes rows live o i && passes_place layout o i)
     (sorted_by (λ i. i.place) (map (object_item rows) objects ++ map free_item layout.free)))
 
 -- what is wanted of a heap's items is what `dumpheap` shows of a machine with its types, objects and layout
 pub listing-text : (m : Machine) (rows : List TypeRow) (h : HeapView) (o : DumpOptions) (w : Wanted) (live : ℕ → Bool)
     (text : List ℕ) → IsHeap h → IsHeld rows h → m.types ≡ rows → m.objects ≡ objects_in rows h
-    → m.layout ≡ layout_in rows h → ((i : Item) → is_wanted w live i ≡ passes rows live o i)
+    → m.layout ≡ layout_in rows h
+    → ((i : Item) → is_wanted w live i ≡ (passes rows live o i && passes_place (layout_in rows h) o i))
     → text ≡ dump_by_mode o.mode rows (filter (is_wanted w live) (heap_items rows h)) → text ≡ dumpheap_text m live o
 listing-text m rows h o w live text heap held types objects layout tests put =
+    let test : Item → Bool = λ i. passes rows live o i && passes_place (layout_in rows h) o i in
     put
-    ∙ ap (dump_by_mode o.mode rows) (filter-on (is_wanted w live) (passes rows live o) (heap_items rows h)
-    (λ i is. tests i) ∙ ap (filter (passes rows live o)) (sym (listing_shown rows h heap held)))
+    ∙ ap (dump_by_mode o.mode rows) (filter-on (is_wanted w live) test (heap_items rows h)
+    (λ i is. tests i) ∙ ap (filter test) (sym (listing_shown rows h heap held)))
     ∙ λ k. shown o live (sym types k) (sym objects k) (sym layout k)
 
 -- where every item passes by its life, it doesn't matter what the roots reach
@@ -47,8 +49,9 @@ any-wanted : (w : Wanted) (one other : ℕ → Bool) → w.life ≡ Any → (i :
 any-wanted w one other any i =
     let same : passes_life w.life one i ≡ passes_life w.life other i =
     ap (λ (life : Life). passes_life life one i) any ∙ ap (λ (life : Life). passes_life life other i) (sym any) in
-    ap (λ (b : Bool). (b && (is_chosen w.by_mt i && is_chosen w.by_name i))
-    && (nat_le w.least i.size && nat_le i.size w.greatest)) same
+    ap (λ (b : Bool). ((b && (is_chosen w.by_mt i && is_chosen w.by_name i))
+    && (nat_le w.least i.size && nat_le i.size w.greatest))
+    && is_in_region w.region i.place) same
 
 pub any-text : (mode : Mode) (rows : List TypeRow) (w : Wanted) (one other : ℕ → Bool) (items : List Item)
     (text : List ℕ) → w.life ≡ Any → text ≡ dump_by_mode mode rows (filter (is_wanted w one) items)

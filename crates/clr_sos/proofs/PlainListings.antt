@@ -16,6 +16,7 @@ use Rattle.clr_model.specs.Instructions.{DumpOptions, plain_options}
 use Rattle.clr_model.specs.Machine.{Machine}
 use Rattle.clr_model.specs.Sos.{bytes_in, dump_by_mode, dumpheap_text}
 use Rattle.clr_sos.specs.Wants.{is_wanted}
+use Rattle.clr_sos.specs.declared.places.Places.{Places}
 use Rattle.clr_sos.specs.declared.wanted.Wanted.{Wanted}
 use Rattle.clr_sos.proofs.HeapListed.{heap-listed}
 use Rattle.clr_sos.proofs.ListingTexts.{listing-text}
@@ -36,11 +37,31 @@ filter-all test (x ∷ xs) on =
 
 -- the options of a `dumpheap` without words
 abbrev pub no_options : DumpOptions
-no_options = record { mode = Full; life = Any; mt = None; name = None; least = None; greatest = None }
+no_options = record {
+  mode = Full;
+  life = Any;
+  mt = None;
+  name = None;
+  least = None;
+  greatest = None;
+  generation = None;
+  segment = None;
+}
+
+-- all addresses
+abbrev everywhere : Places
+everywhere = record { low = 0; high = 0; outside = true }
 
 -- what a `dumpheap` without words wants
 abbrev all_wanted : Wanted
-all_wanted = record { life = Any; by_mt = None; by_name = None; least = 0; greatest = 2 ^ 64 - 1 }
+all_wanted = record {
+  life = Any;
+  by_mt = None;
+  by_name = None;
+  least = 0;
+  greatest = 2 ^ 64 - 1;
+  region = record { anywhere = true; in_generation = everywhere; in_segment = everywhere };
+}
 
 passed : (i : Item) → i.size < 2 ^ 62 → is_wanted all_wanted (λ place. true) i ≡ true
 passed i small = rw (le-leb 0 i.size (omega arith), le-leb i.size (2 ^ 64 - 1) (omega (arith, small))) refl

@@ -11,7 +11,8 @@ use Rattle.std.proofs.lemmas.List.Folds.{Any-from_list_any, list_any_at, list_an
 use Rattle.clr_types.specs.Rising.{first, IsIn, later, Tests}
 use Rattle.clr_types.specs.declared.handle.Handle.{Handle as Row}
 use Rattle.clr_model.specs.Machine.{Machine, Object}
-use Rattle.clr_model.specs.Reach.{Edge, follows, HeldBy, Live, Reach, SecondOf, SlotNames, starts}
+use Rattle.clr_model.specs.Reach.{Edge, follows, HeldBy, Live, Reach, Roots, SecondOf, SlotNames}
+use Rattle.clr_model.specs.Reach.{starts}
 use Rattle.clr_view.specs.View.{objects_in}
 use Rattle.clr_view.proofs.Standing.{high_up}
 use Rattle.clr_view.proofs.ObjectItems.{stands-item}
@@ -31,7 +32,7 @@ use Rattle.clr_sos.specs.declared.reach.Origin.TheVariants.{Local, Handle, Ready
 use Rattle.clr_sos.specs.declared.view.View.{View}
 
 -- what stands at an index is in the list
-in_slice : (xs : List ℕ) (i x : ℕ) → slice_get xs i ≡ Some x → IsIn x xs
+pub in_slice : (xs : List ℕ) (i x : ℕ) → slice_get xs i ≡ Some x → IsIn x xs
 in_slice [] i x e = absurd cc
 in_slice (y ∷ ys) zero x e = let same : y ≡ x = cc in subst (λ (z : ℕ). IsIn z (y ∷ ys)) same first
 in_slice (y ∷ ys) (suc i) x e = later (in_slice ys i x e)
@@ -149,6 +150,13 @@ module _ (v : View) (m : Machine) (is : IsViewOf v m) where
 
   pub edge-shown : (x y : ℕ) → Leads v x y → Edge m x y
   edge-shown x y = to_machine (λ os ls hs rs. edges os hs x y)
+
+  -- edges and roots of the machine are those of the view
+  pub edge-seen : (x y : ℕ) → Edge m x y → Leads v x y
+  edge-seen x y = to_view (λ os ls hs rs. edges os hs x y)
+
+  pub root-seen : (x : ℕ) → Roots m x → IsRootOf v x
+  root-seen x = to_view (λ os ls hs rs. roots ls hs rs x)
 
   -- what is alive in the machine
   pub live-shown : (x : ℕ) → Reach (Leads v) (IsRootOf v) x ↔ Live m x

@@ -3,8 +3,9 @@ use Rattle.std.proofs.Common.{◌≡◌, ◌≢◌, ◌⊎◌, inl, inr, ℕ, �
 use Rattle.std.proofs.Common.{◌++◌, length, eqb, eq-eqb, nat_eq, refl, ap, sym, ◌∙◌, subst, arith}
 use Rattle.std.proofs.lemmas.Bool.{cases_Bool, cases_lt, eqb-true, false≢true}
 use Rattle.std.proofs.lemmas.List.{get_or_append_left, get_or_at, length-append}
-use Rattle.clr_sos.specs.Reaching.{entry_of, HasGrown, HasRoom, is_seen, IsEntry, IsListed, IsObjectOf, IsOrigin}
-use Rattle.clr_sos.specs.Reaching.{IsSearch, Leads, no_entry, place_at}
+use Rattle.clr_sos.specs.Reaching.{AllCame, AllCameBy, entry_of, HasGrown, HasRoom, is_seen, IsEntry, IsListed}
+use Rattle.clr_sos.specs.Reaching.{IsObjectOf, IsOrigin, IsSearch, Leads, no_entry, place_at}
+use Rattle.clr_sos.specs.RootTexts.{IsLocalOrigin, IsRootOrigin}
 use Rattle.clr_sos.specs.declared.reach.FoundObject.{FoundObject}
 use Rattle.clr_sos.specs.declared.reach.Origin.{Origin}
 use Rattle.clr_sos.specs.declared.reach.Origin.TheVariants.{Local, Handle, Ready, Through}
@@ -35,6 +36,44 @@ grown-push es e = record {
 
 last-push : (es : List FoundObject) (e : FoundObject) → entry_of (es ++ e ∷ []) (length es) ≡ e
 last-push es e = get_or_at es e [] no_entry (length es) refl
+
+-- ---- what led to the new ones
+
+-- none was added
+pub came-none : (es : List FoundObject) (By : Origin → Type 0) → AllCameBy es By es
+came-none es By j late l = absurd (omega (arith, late, l))
+
+-- WHAT HOLDS OF TWO STEPS holds of both together
+pub came-trans : (a b c : List FoundObject) (By : Origin → Type 0) → HasGrown b c → AllCameBy a By b → AllCameBy b By c
+    → AllCameBy a By c
+came-trans a b c By g p q j late l = elim (cases_lt j (length b)) [
+  | inl early ↦ subst (λ (e : FoundObject). By e.origin) (sym (g.same j early)) (p j late early)
+  | inr last ↦ q j last l
+]
+
+-- one entry was added
+pub came-push : (es : List FoundObject) (e : FoundObject) → AllCame es e.origin (es ++ e ∷ [])
+came-push es e j late l =
+    let n = longer-push es e in
+    let here : j ≡ length es = omega (arith, late, l, n) in
+    ap (λ (i : ℕ). (entry_of (es ++ e ∷ []) i).origin) here ∙ ap (λ (x : FoundObject). x.origin) (last-push es e)
+
+-- what holds of an origin holds of whatever came from it
+pub came-by : (old new : List FoundObject) (o : Origin) (By : Origin → Type 0) → By o → AllCame old o new
+    → AllCameBy old By new
+came-by old new o By own all j late l = subst By (sym (all j late l)) own
+
+-- what came from a local came from a root
+pub local-root : (o : Origin) → IsLocalOrigin o → IsRootOrigin o
+local-root (Local i) local = tt
+local-root (Handle h) local = tt
+local-root (Ready i) local = tt
+local-root (Through i) local = local
+
+pub came-root : (old new : List FoundObject) → AllCameBy old IsLocalOrigin new → AllCameBy old IsRootOrigin new
+came-root old new all j late l = local-root (entry_of new j).origin (all j late l)
+
+-- ---- what is listed
 
 pub listed-on : (old new : List FoundObject) (x : ℕ) → HasGrown old new → IsListed old x → IsListed new x
 listed-on old new x g l =

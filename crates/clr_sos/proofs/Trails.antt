@@ -1,5 +1,5 @@
 -- The chain of objects by which an entry was found, and the root that it starts at.
-use Rattle.std.proofs.Common.{◌≡◌, ◌≢◌, ℕ, ◌+◌, ◌/◌, ◌%◌, ◌<◌, ◌≤◌, true, List, [], ◌∷◌, ◌++◌, length}
+use Rattle.std.proofs.Common.{◌≡◌, ◌≢◌, inl, inr, ℕ, ◌+◌, ◌/◌, ◌%◌, ◌<◌, ◌≤◌, true, List, [], ◌∷◌, ◌++◌, length}
 use Rattle.std.proofs.Common.{leb, refl, ap, ap₂, sym, ◌∙◌, subst, arith, Some, codes, decimal}
 use Rattle.std.specs.Prelude.{slice_get}
 use Rattle.std.specs.List.{AllByRecursion, flat_map}
@@ -16,16 +16,19 @@ use Rattle.clr_types.proofs.RisingLists.{all_at}
 use Rattle.clr_nums.specs.Numbers.{hex16}
 use Rattle.clr_model.specs.Lookups.{is_thread, local_index, object_at}
 use Rattle.clr_model.specs.Machine.{Machine, Object}
+use Rattle.clr_model.specs.Reach.{Roots}
 use Rattle.clr_model.specs.Sos.{chain_line, handle_root, IsChain, IsRootText, IsWithoutRepeats, line, local_root}
 use Rattle.clr_model.specs.Sos.{ready_root, RootWords, StartsAt, type_of_place}
-use Rattle.clr_sos.specs.Reaching.{entry_of, IsObjectOf, IsOrigin, IsSearch, IsSound, Leads, place_at}
+use Rattle.clr_sos.specs.BreadthFirst.{AreNearest}
+use Rattle.clr_sos.specs.Reaching.{entry_of, IsObjectOf, IsOrigin, IsRootOf, IsSearch, IsSound, Leads, place_at, via_at}
 use Rattle.clr_sos.specs.RootTexts.{ends, IsRootOrigin, IsTrail, leads, origin_line, place_line}
 use Rattle.clr_sos.specs.Views.{IsViewOf}
 use Rattle.clr_sos.specs.declared.reach.FoundObject.{FoundObject}
 use Rattle.clr_sos.specs.declared.reach.Origin.{Origin}
 use Rattle.clr_sos.specs.declared.reach.Origin.TheVariants.{Local, Handle, Ready, Through}
 use Rattle.clr_sos.specs.declared.view.View.{View}
-use Rattle.clr_sos.proofs.ReachedAll.{edge-shown, object-not_null}
+use Rattle.clr_sos.proofs.ReachedAll.{edge-shown, in_slice, object-not_null, root-seen}
+use Rattle.clr_sos.proofs.ShortestTrails.{trail-least}
 
 -- ---- the chain
 
@@ -129,12 +132,21 @@ module _ (v : View) (m : Machine) (shown : IsViewOf v m) (count : length v.local
   }
   rooted-by es n place (Through q) root is = absurd root
 
-  -- THE TEXT OF A ROOT AND A CHAIN
-  pub root-told : (seen : List (List ℕ)) (es : List FoundObject) → IsSound v → IsSearch v seen es → (a last i : ℕ)
+  -- what the words of a root name is a root
+  words-root : (words : List (List ℕ)) (place : ℕ) → 0 < place → RootWords m words place → Roots m place
+  words-root _ place some (local_root t k thread low e) =
+      (some, inl (inl (in_slice m.locals (local_index t k) place e)))
+  words-root _ place some (handle_root h row in_use holds target) =
+      (some, inl (inr (record { handle = h; row = row; in_use = in_use; holds = holds; target = target })))
+  words-root _ place some (ready_root i e) = (some, inr (in_slice m.ready i place e))
+
+  -- THE TEXT OF A ROOT AND A SHORTEST CHAIN
+  pub root-told : (seen : List (List ℕ)) (es : List FoundObject) → IsSound v → IsSearch v seen es
+      → AreNearest (Leads v) (IsRootOf v) (place_at es) (via_at es) (length es) → (a last i : ℕ)
       (places : List ℕ) (root : Origin) (text : List ℕ) → place_at es last ≡ a
       → IsTrail es (place_at es last) i places → root ≡ (entry_of es i).origin → IsRootOrigin root
       → text ≡ origin_line root ++ flat_map (place_line v) places → IsRootText m a text
-  root-told seen es sound s a last i places root text at t led is put =
+  root-told seen es sound s near a last i places root text at t led is put =
       let c = chain-told v m shown seen es s (place_at es last) i places t in
       let own = s.sound i c.inside in
       let r = rooted-by es i (place_at es i) root is
@@ -151,6 +163,10 @@ module _ (v : View) (m : Machine) (shown : IsViewOf v m) (count : length v.local
         rooted = r.rooted;
         starts = c.starts;
         linked = subst (IsChain m places) at c.linked;
+        least = λ other_words start other some rooted at_start chained.
+            trail-least v m shown (IsRootOf v) es a i places near (subst (λ (p : ℕ). IsTrail es p i places) at t)
+            (subst IsRootOrigin led is) start other
+            (root-seen v m shown start (words-root other_words start some rooted)) at_start chained;
         distinct = c.distinct;
         shown = put ∙ ap₂ (λ (x y : List ℕ). x ++ y) r.told lines;
       }

@@ -12,6 +12,7 @@ pub mod CleanStates
 pub mod Bits
 pub mod Dumping
 pub mod Reaching
+pub mod BreadthFirst
 pub mod Walks
 pub mod Wants
 pub mod RootTexts

@@ -1,6 +1,6 @@
 -- What a search from the roots has found.
 use Rattle.std.specs.Prelude.{◌≡◌, ◌≢◌, ℕ, ◌-◌, ◌*◌, ◌/◌, ◌<◌, ◌≤◌, ◌⊎◌, Bool, true, List, [], length, get_or}
-use Rattle.std.specs.Prelude.{IsTrue, ◌==◌, Some, slice_get}
+use Rattle.std.specs.Prelude.{IsTrue, ◌==◌, Some, slice_get, suc}
 use Rattle.std.specs.List.{All, Contains, list_any}
 use Rattle.std.specs.List.Sorted.{IsNonDecreasingBy}
 use Rattle.std.specs.FinMap as finmap
@@ -127,6 +127,25 @@ pub record IsSearch (v : View) (seen : List (List ℕ)) (es : List FoundObject) 
 pub record HasGrown (old new : List FoundObject) : Type 0 where
   pub longer : length old ≤ length new
   pub same : (i : ℕ) → i < length old → entry_of new i ≡ entry_of old i
+
+-- what led to each entry that was added is of this sort
+abbrev pub AllCameBy : List FoundObject → (Origin → Type 0) → List FoundObject → Type 0
+AllCameBy old By new = (j : ℕ) → length old ≤ j → j < length new → By (entry_of new j).origin
+
+-- each entry that was added has this origin
+abbrev pub AllCame : List FoundObject → Origin → List FoundObject → Type 0
+AllCame old o new = AllCameBy old (λ (x : Origin). x ≡ o) new
+
+-- 1 more than the index of the entry that led to an entry, or 0 for a root
+abbrev pub via_of : Origin → ℕ
+via_of (Local i) = 0
+via_of (Handle h) = 0
+via_of (Ready i) = 0
+via_of (Through q) = suc q
+
+-- that number of entry i
+abbrev pub via_at : List FoundObject → ℕ → ℕ
+via_at es i = via_of (entry_of es i).origin
 
 -- whatever the places of the first n entries lead to was found
 abbrev pub IsFollowed : View → List FoundObject → ℕ → Type 0

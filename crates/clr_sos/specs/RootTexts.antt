@@ -13,7 +13,7 @@ use Rattle.clr_sos.specs.declared.reach.Origin.{Origin}
 use Rattle.clr_sos.specs.declared.reach.Origin.TheVariants.{Local, Handle, Ready, Through}
 use Rattle.clr_sos.specs.declared.view.View.{View}
 
--- a chain from a root to the object, or `none` where the roots don't reach it
+-- a shortest chain from a root to the object, or `none` where the roots don't reach it
 abbrev pub TellsRoot : Machine → ℕ → List ℕ → Type 0
 TellsRoot m a text = IsRootText m a text ⊎ ((Live m a → ⊥) × (text ≡ line (codes "none" ∷ [])))
 
@@ -35,6 +35,13 @@ IsRootOrigin (Local i) = Unit {0}
 IsRootOrigin (Handle h) = Unit {0}
 IsRootOrigin (Ready i) = Unit {0}
 IsRootOrigin (Through i) = ⊥
+
+-- it is a local
+abbrev pub IsLocalOrigin : Origin → Type 0
+IsLocalOrigin (Local i) = Unit {0}
+IsLocalOrigin (Handle h) = ⊥
+IsLocalOrigin (Ready i) = ⊥
+IsLocalOrigin (Through i) = ⊥
 
 -- what led to entry n stands before it
 abbrev pub IsBefore : ℕ → Origin → Type 0

@@ -50,8 +50,8 @@ fn put_handles(text: &mut Vec<u8>, handles: &Handles) -> Result<u64, AllocError>
     Ok(count)
 }
 
-// Puts the line of a handle at the end.
-fn put_handle(text: &mut Vec<u8>, number: u64, handle: &Handle) -> Result<(), AllocError>
+/// Puts the line of a handle at the end.
+pub fn put_handle(text: &mut Vec<u8>, number: u64, handle: &Handle) -> Result<(), AllocError>
     ensures { OnOk result (text.new.items ≡ text.old.items ++ handle_line (number, handle.now)) }
 {
     put_name(text, number, handle.kind)?;
@@ -72,8 +72,8 @@ fn put_name(text: &mut Vec<u8>, number: u64, kind: Kind) -> Result<(), AllocErro
     Ok(())
 }
 
-// The word of a kind of handles.
-fn kind_text(kind: Kind) -> &'static [u8]
+/// The word of a kind of handles.
+pub fn kind_text(kind: Kind) -> &'static [u8]
     ensures { result.now ≡ kind_word kind }
 {
     match kind {
@@ -97,8 +97,8 @@ fn put_second(text: &mut Vec<u8>, handle: &Handle) -> Result<(), AllocError>
     put_place(text, handle.second)
 }
 
-// Puts the line of how many handles there are at the end.
-fn put_count(text: &mut Vec<u8>, count: u64) -> Result<(), AllocError>
+/// Puts the line of how many handles there are at the end.
+pub fn put_count(text: &mut Vec<u8>, count: u64) -> Result<(), AllocError>
     ensures { OnOk result (text.new.items ≡ text.old.items ++ line (codes "handles" ∷ decimal count ∷ [])) }
 {
     put_word_number(text, b"handles ", count)?;

@@ -8,7 +8,7 @@ use std::marker::Model;
 
 /// The items of all segments that are left of a walk over a heap, by rising place. Clauses see it as their list.
 #[derive(Drop)]
-pub(crate) struct HeapItems<'a> {
+pub struct HeapItems<'a> {
     heap: &'a Heap,
     types: &'a Types,
     walk: Walk<'a>,
@@ -53,7 +53,7 @@ impl<'a> Iterator for HeapItems<'a> {
 }
 
 /// The items of a heap.
-pub(crate) fn items_of<'a>(types: &'a Types, heap: &'a Heap) -> HeapItems<'a>
+pub fn items_of<'a>(types: &'a Types, heap: &'a Heap) -> HeapItems<'a>
     requires { AreWalkable types.now heap.now }
     ensures items { result ≡ heap_items types.now heap.now }
     ensures heap { IsHeap heap.now }

@@ -17,7 +17,7 @@ ghost use Rattle.clr_sos.specs.Wants.{is_wanted};
 use crate::View;
 use crate::fault::SosFault;
 use crate::listing_text::listing_where;
-use crate::reach::reach;
+use crate::reach::reach_all;
 use crate::wanted::{Wanted, wanted_by};
 use clr_model::{Filter, Life, Mode};
 use std::alloc::{AllocError, Global};
@@ -49,7 +49,7 @@ pub fn dumpheap(alloc: Global, view: &View<'_>, filter: &Filter<'_>) -> Result<V
     ensures text { IfOk result (λ text. (m : Machine) → IsViewOf view.now m → (live : ℕ → Bool)
         → TestsLife filter.now.life live (Live m) → text.items ≡ dumpheap_text m live (options_of filter.now)) }
 {
-    let Some(wanted) = wanted_by(view.types, filter) else {
+    let Some(wanted) = wanted_by(view.types, view.heap, filter) else {
         return Err(SosFault::UnknownType);
     };
     match filter.life {
@@ -92,7 +92,7 @@ fn listing_by_life(
         → text.items ≡ dump_by_mode mode view.now.types.now
         (filter (is_wanted wanted.now live) (heap_items view.now.types.now view.now.heap.now))) }
 {
-    let reached = reach(alloc, view)?;
+    let reached = reach_all(alloc, view)?;
     listing_where(
         alloc,
         view.types,

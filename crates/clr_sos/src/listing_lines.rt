@@ -110,7 +110,7 @@ pub(crate) fn put_totals(text: &mut Vec<u8>, totals: Totals) -> Result<(), Alloc
 }
 
 /// Puts the line of an item at the end.
-pub(crate) fn put_item(text: &mut Vec<u8>, types: &Types, item: &Item) -> Result<(), AllocError>
+pub fn put_item(text: &mut Vec<u8>, types: &Types, item: &Item) -> Result<(), AllocError>
     requires { item.now.type_id.0 ≤ length types.now }
     ensures { OnOk result (text.new.items ≡ text.old.items ++ item_line types.now item.now) }
 {

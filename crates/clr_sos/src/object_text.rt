@@ -1,16 +1,17 @@
 //! `dumpobj`: one object with its slots.
-ghost use Rattle.std.specs.Prelude.{◌≡◌, ◌≢◌, ◌≤◌, ◌↔◌, ◌∷◌, ◌++◌, length, IfOk, OnOk, None, decimal};
+ghost use Rattle.std.specs.Prelude.{◌≡◌, ◌≢◌, ◌≤◌, ◌↔◌, ◌∷◌, ◌++◌, ◌-◌, length, IfOk, OnOk, None, decimal};
 ghost use Rattle.clr_types.specs.Rising.{IsIn};
 ghost use Rattle.clr_types.specs.Types.{form_at, slot_kinds};
 ghost use Rattle.clr_bricks.specs.Bricks.{entry_at};
 ghost use Rattle.clr_heap.specs.View.{frame, heap_items, IsHeap};
 ghost use Rattle.clr_model.specs.Lookups.{object_at as object_of};
 ghost use Rattle.clr_model.specs.Machine.{Machine};
-ghost use Rattle.clr_model.specs.Sos.{dumpobj_text, length_words, line, more_line, slot_words};
+ghost use Rattle.clr_model.specs.Looks.{dumparray_text, rest_line};
+ghost use Rattle.clr_model.specs.Sos.{dumpobj_text, length_words, line, slot_words};
 ghost use Rattle.clr_view.specs.View.{IsHeld, objects_in, word_value};
 ghost use Rattle.clr_generations.specs.Laws.{BrickLaw};
 ghost use Rattle.clr_generations.specs.Tables.{AreBricksOf};
-ghost use Rattle.clr_sos.specs.ObjectTexts.{head_line, item_text, slot_lines, slots_in};
+ghost use Rattle.clr_sos.specs.ObjectTexts.{array_item_text, head_line, item_text, slot_lines, slots_in};
 ghost use Rattle.clr_sos.specs.Views.{IsViewOf};
 
 use crate::text::{put_number, put_place, put_word_address, put_word_number, put_words};
@@ -63,6 +64,61 @@ pub fn dumpobj(alloc: Global, view: &View<'_>, a: u64) -> Result<Vec<u8>, SosFau
     Ok(text)
 }
 
+/// What `dumparray` shows of the object at the address `a`, whatever its type: the first line as `dumpobj` has it, and
+/// a line for each slot from number `start` on, at most `length` of them, as that has them. Where nothing is said, these
+/// are 0 and all. The last line tells how many slots come behind those, and comes only where there are any.
+///
+/// `NoObject` comes exactly where no object stands there, and `NoMemory` only where there is no memory for the text.
+/// Slots before and behind those that are shown aren't read.
+pub fn dumparray(
+    alloc: Global,
+    view: &View<'_>,
+    start: Option<u64>,
+    length: Option<u64>,
+    a: u64,
+) -> Result<Vec<u8>, SosFault>
+    requires held { IsHeld view.now.types.now view.now.heap.now }
+    requires bricks { AreBricksOf (frame view.now.heap.now) view.now.bricks.now }
+    requires law { BrickLaw view.now.types.now (frame view.now.heap.now)
+        (objects_in view.now.types.now view.now.heap.now) (entry_at view.now.bricks.now) }
+    ensures text { IfOk result (λ text. (m : Machine) → IsViewOf view.now m
+        → text.items ≡ dumparray_text m start length (object_of m.objects a)) }
+    ensures no_object { (m : Machine) → IsViewOf view.now m
+        → ((result ≡ Err SosFault.NoObject) ↔ (object_of m.objects a ≡ None)) }
+    ensures no_type { result ≢ Err SosFault.UnknownType }
+{
+    view.heap.lawful();
+    let Some(item) = object_at(view.heap, view.types, view.bricks, a) else {
+        return Err(SosFault::NoObject);
+    };
+    let text = array_text(alloc, view.types, view.heap, &item, start, length)?;
+    Ok(text)
+}
+
+// The text of the slots of an object.
+fn array_text(
+    alloc: Global,
+    types: &Types,
+    heap: &Heap,
+    item: &Item,
+    start: Option<u64>,
+    length: Option<u64>,
+) -> Result<Vec<u8>, AllocError>
+    requires heap { IsHeap heap.now }
+    requires held { IsHeld types.now heap.now }
+    requires listed { IsIn item.now (heap_items types.now heap.now) }
+    ensures { IfOk result (λ text. text.items ≡ array_item_text types.now heap.now start length item.now) }
+{
+    let mut text = Vec::with_capacity(alloc, ROOM)?;
+    put_head(&mut text, types, item, heap.gen_of(item.place))?;
+    let count = types.slot_count(item.type_id, item.len);
+    let first = start.unwrap_or(0).min(count);
+    let shown = length.unwrap_or(count).min(count - first);
+    put_slots(&mut text, types, heap, item, first, first + shown)?;
+    put_more(&mut text, count - first - shown)?;
+    Ok(text)
+}
+
 // The text of an object.
 fn text_of(alloc: Global, types: &Types, heap: &Heap, item: &Item) -> Result<Vec<u8>, AllocError>
     requires heap { IsHeap heap.now }
@@ -73,8 +129,9 @@ fn text_of(alloc: Global, types: &Types, heap: &Heap, item: &Item) -> Result<Vec
     let mut text = Vec::with_capacity(alloc, ROOM)?;
     put_head(&mut text, types, item, heap.gen_of(item.place))?;
     let count = types.slot_count(item.type_id, item.len);
-    put_slots(&mut text, types, heap, item, count)?;
-    put_more(&mut text, count)?;
+    let shown = count.min(SHOWN_SLOTS);
+    put_slots(&mut text, types, heap, item, 0, shown)?;
+    put_more(&mut text, count - shown)?;
     Ok(text)
 }
 
@@ -117,22 +174,24 @@ fn put_line_end(
     Ok(())
 }
 
-// Puts the lines of the first slots of an object at the end, of which there are `count`.
+// Puts the lines of the slots of an object from `from` on and below `to` at the end.
 fn put_slots(
     text: &mut Vec<u8>,
     types: &Types,
     heap: &Heap,
     item: &Item,
-    count: u64,
+    from: u64,
+    to: u64,
 ) -> Result<(), AllocError>
     requires heap { IsHeap heap.now }
     requires held { IsHeld types.now heap.now }
     requires listed { IsIn item.now (heap_items types.now heap.now) }
-    requires count { count ≡ length (slot_kinds (form_at types.now item.now.type_id.0) item.now.len) }
+    requires order { from ≤ to }
+    requires below { to ≤ length (slot_kinds (form_at types.now item.now.type_id.0) item.now.len) }
     ensures { OnOk result (text.new.items
-        ≡ text.old.items ++ slot_lines 16 (slots_in types.now heap.now item.now)) }
+        ≡ text.old.items ++ slot_lines from (to - from) (slots_in types.now heap.now item.now)) }
 {
-    for i in 0..count.min(SHOWN_SLOTS) {
+    for i in from..to {
         let slot = types.slot(item.type_id, item.len, i);
         let value = slot_value(heap, types, item, slot);
         put_slot(text, i, slot.reference, value)?;
@@ -155,14 +214,14 @@ fn put_slot(text: &mut Vec<u8>, i: u64, reference: bool, value: u64) -> Result<(
     Ok(())
 }
 
-// Puts the line that tells how many of `count` slots aren't shown at the end, where there are any.
+// Puts the line that tells how many slots come behind those that are shown at the end, where there are any.
 fn put_more(text: &mut Vec<u8>, count: u64) -> Result<(), AllocError>
-    ensures { OnOk result (text.new.items ≡ text.old.items ++ more_line count) }
+    ensures { OnOk result (text.new.items ≡ text.old.items ++ rest_line count) }
 {
-    if count <= SHOWN_SLOTS {
+    if count == 0 {
         return Ok(());
     }
-    put_word_number(text, b"more ", count - SHOWN_SLOTS)?;
+    put_word_number(text, b"more ", count)?;
     text.extend_from_slice(b"\n")?;
     Ok(())
 }

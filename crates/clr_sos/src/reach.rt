@@ -10,14 +10,16 @@ ghost use Rattle.clr_view.specs.SlotValues.{IsObjectAt};
 ghost use Rattle.clr_mark.specs.Markings.{item_references};
 ghost use Rattle.clr_mark.specs.Roots.{IsRoot};
 ghost use Rattle.clr_mark.specs.Ties.{IsTarget};
-ghost use Rattle.clr_sos.specs.Reaching.{AreTies, HasAdded, HasFollowed, HasGrown, HasRoom, is_listed, is_seen};
-ghost use Rattle.clr_sos.specs.Reaching.{IsFollowed, IsRootOf};
-ghost use Rattle.clr_sos.specs.Reaching.{IsItemOf, IsListed, IsObjectOf, IsOrigin, IsSearch, IsSound, place_at};
+ghost use Rattle.clr_sos.specs.BreadthFirst.{AreNearest};
+ghost use Rattle.clr_sos.specs.Reaching.{AllCame, AllCameBy, AreTies, HasAdded, HasFollowed, HasGrown, HasRoom};
+ghost use Rattle.clr_sos.specs.Reaching.{is_listed, is_seen, IsFollowed, IsItemOf, IsListed, IsObjectOf, IsOrigin};
+ghost use Rattle.clr_sos.specs.Reaching.{IsRootOf, IsSearch, IsSound, Leads, place_at, via_at};
+ghost use Rattle.clr_sos.specs.RootTexts.{IsLocalOrigin, IsRootOrigin};
 ghost use Rattle.clr_sos.specs.Views.{IsViewOf};
 
 use crate::View;
 use crate::reach::bits::Bits;
-use crate::reach::ties::{Tie, first_tie, ties_of};
+use crate::reach::ties::first_tie;
 use clr_heap::{Heap, Item};
 use clr_types::ReferenceRun;
 use std::alloc::{AllocError, Global};
@@ -25,9 +27,11 @@ use std::alloc::{AllocError, Global};
 mod bits;
 mod ties;
 
+pub use crate::reach::ties::{Tie, ties_of};
+
 /// What led to an object: a root, or an object that was found before it.
 #[derive(Clone, Copy)]
-pub(crate) enum Origin {
+pub enum Origin {
     /// A local, 64 for each thread.
     Local(usize),
     /// A strong or pinned handle, by its number.
@@ -42,7 +46,7 @@ pub(crate) enum Origin {
 #[derive(Clone, Copy)]
 pub struct FoundObject {
     pub place: u64,
-    pub(crate) origin: Origin,
+    pub origin: Origin,
 }
 
 /// The objects that roots reach, in the order in which a search breadth first finds them. The search touches no mark of
@@ -57,7 +61,7 @@ pub struct Reached {
 /// pinned handles hold by their numbers, and the f-reachable queue. Each slot of what is reached is followed once, and
 /// a bit tells whether its object was found before. It takes such a bit for each word of the heap's used ranges, and 24
 /// bytes for each object that it finds. Bits are cleared at once. `find` then goes over all that was found.
-pub(crate) fn reach(alloc: Global, view: &View<'_>) -> Result<Reached, AllocError>
+pub fn reach_all(alloc: Global, view: &View<'_>) -> Result<Reached, AllocError>
     requires sound { IsSound view.now }
     ensures search { IfOk result (λ r. IsSearch view.now r.seen.items r.entries.items) }
     ensures exact { IfOk result (λ r. (m : Machine) → IsViewOf view.now m
@@ -69,20 +73,23 @@ pub(crate) fn reach(alloc: Global, view: &View<'_>) -> Result<Reached, AllocErro
     let mut reached = Reached::from_roots(alloc, view, true)?;
     let mut next = 0;
     while next < reached.entries.len() {
-        reached.follow(view, &ties, next)?;
+        let _ = reached.follow(view, &ties, next)?;
         next += 1;
     }
     Ok(reached)
 }
 
-/// The search of `reach` up to where the object with the place `a` is found: all that the roots reach where it isn't.
-/// Of a large heap its bits are cleared page by page, as they are set.
+/// The search of `reach_all` up to where the object at the address `a` is found: all that the roots reach where it
+/// isn't. What it finds, it finds on a shortest way from the roots. Of a large heap its bits are cleared page by page,
+/// as they are set.
 pub(crate) fn reach_to(alloc: Global, view: &View<'_>, a: u64) -> Result<Reached, AllocError>
     requires sound { IsSound view.now }
     requires stands { IsObjectOf view.now a }
     ensures search { IfOk result (λ r. IsSearch view.now r.seen.items r.entries.items) }
     ensures exact { IfOk result (λ r. is_listed r.entries.items a ≡ false → (m : Machine) → IsViewOf view.now m
         → Tests (is_listed r.entries.items) (Live m)) }
+    ensures nearest { IfOk result (λ r. AreNearest (Leads view.now) (IsRootOf view.now) (place_at r.entries.items)
+        (via_at r.entries.items) (length r.entries.items)) }
 {
     let ties = ties_of(alloc, view.handles)?;
     let mut reached = Reached::from_roots(alloc, view, false)?;
@@ -91,28 +98,32 @@ pub(crate) fn reach_to(alloc: Global, view: &View<'_>, a: u64) -> Result<Reached
         if reached.has(view.heap, a) {
             return Ok(reached);
         }
-        reached.follow(view, &ties, next)?;
+        let _ = reached.follow(view, &ties, next)?;
         next += 1;
     }
     Ok(reached)
 }
 
 impl Reached {
-    /// What locals name, and nothing else yet.
+    /// What locals refer to, and nothing else yet. Each entry has a root as its origin.
     pub fn from_locals(alloc: Global, view: &View<'_>) -> Result<Reached, AllocError>
         requires { IsSound view.now }
-        ensures { IfOk result (λ r. HasAdded view.now [] r.seen.items r.entries.items (IsRoot view.now.locals.now)) }
+        ensures added { IfOk result (λ r. HasAdded view.now [] r.seen.items r.entries.items
+            (IsRoot view.now.locals.now)) }
+        ensures came { IfOk result (λ r. AllCameBy [] IsLocalOrigin r.entries.items) }
     {
         let mut reached = Reached::new(alloc, view.heap, false)?;
         reached.add_locals(view)?;
         Ok(reached)
     }
 
-    // What the roots name, and nothing else yet. It is told whether all that they reach is looked for.
-    fn from_roots(alloc: Global, view: &View<'_>, all: bool) -> Result<Reached, AllocError>
+    /// What the roots refer to, and nothing else yet: each entry has a root as its origin. It is told whether all that they
+    /// reach is looked for.
+    pub fn from_roots(alloc: Global, view: &View<'_>, all: bool) -> Result<Reached, AllocError>
         requires { IsSound view.now }
         ensures search { IfOk result (λ r. IsSearch view.now r.seen.items r.entries.items) }
         ensures roots { IfOk result (λ r. (x : ℕ) → IsRootOf view.now x → IsListed r.entries.items x) }
+        ensures came { IfOk result (λ r. AllCameBy [] IsRootOrigin r.entries.items) }
     {
         let mut reached = Reached::new(alloc, view.heap, all)?;
         reached.add_locals(view)?;
@@ -139,7 +150,7 @@ impl Reached {
     }
 
     /// Whether an object was found.
-    pub(crate) fn has(&self, heap: &Heap, place: u64) -> bool
+    pub fn has(&self, heap: &Heap, place: u64) -> bool
         requires heap { IsHeap heap.now }
         requires word { HasWord heap.now.memories place }
         ensures { result ≡ is_seen heap.now self.now.seen.items place }
@@ -153,7 +164,7 @@ impl Reached {
     }
 
     /// The index of the entry with the place.
-    pub(crate) fn find(&self, place: u64) -> Option<usize>
+    pub fn find(&self, place: u64) -> Option<usize>
         ensures some { IfSome result (λ i. (i < length self.now.entries.items)
             × (place_at self.now.entries.items i ≡ place)) }
         ensures none { IfNone result (is_listed self.now.entries.items place ≡ false) }
@@ -175,6 +186,7 @@ impl Reached {
         ensures search { OnOk result (IsSearch view.now self.new.seen.items self.new.entries.items) }
         ensures grown { OnOk result (HasGrown self.old.entries.items self.new.entries.items) }
         ensures met { OnOk result (IsListed self.new.entries.items place) }
+        ensures came { OnOk result (AllCame self.old.entries.items origin self.new.entries.items) }
     {
         let k = view.heap.segment_of(place);
         self.meet_in(view, k, place, origin)
@@ -197,6 +209,7 @@ impl Reached {
         ensures search { OnOk result (IsSearch view.now self.new.seen.items self.new.entries.items) }
         ensures grown { OnOk result (HasGrown self.old.entries.items self.new.entries.items) }
         ensures met { OnOk result (IsListed self.new.entries.items place) }
+        ensures came { OnOk result (AllCame self.old.entries.items origin self.new.entries.items) }
     {
         let number = (place - view.heap.info(k).base) / 8;
         let bits = &mut self.seen[k];
@@ -224,6 +237,7 @@ impl Reached {
         ensures search { OnOk result (IsSearch view.now self.new.seen.items self.new.entries.items) }
         ensures grown { OnOk result (HasGrown self.old.entries.items self.new.entries.items) }
         ensures met { OnOk result (target ≢ 0 → IsListed self.new.entries.items target) }
+        ensures came { OnOk result (AllCame self.old.entries.items (Origin.Through i) self.new.entries.items) }
     {
         if target == 0 {
             return Ok(());
@@ -237,8 +251,9 @@ impl Reached {
     fn add_locals(&mut self, view: &View<'_>) -> Result<(), AllocError>
         requires sound { IsSound view.now }
         requires search { IsSearch view.now self.old.seen.items self.old.entries.items }
-        ensures { OnOk result (HasAdded view.now self.old.entries.items self.new.seen.items self.new.entries.items
+        ensures added { OnOk result (HasAdded view.now self.old.entries.items self.new.seen.items self.new.entries.items
             (IsRoot view.now.locals.now)) }
+        ensures came { OnOk result (AllCameBy self.old.entries.items IsLocalOrigin self.new.entries.items) }
     {
         for i in 0..view.locals.len() {
             let place = view.locals[i];
@@ -253,8 +268,9 @@ impl Reached {
     fn add_targets(&mut self, view: &View<'_>) -> Result<(), AllocError>
         requires sound { IsSound view.now }
         requires search { IsSearch view.now self.old.seen.items self.old.entries.items }
-        ensures { OnOk result (HasAdded view.now self.old.entries.items self.new.seen.items self.new.entries.items
+        ensures added { OnOk result (HasAdded view.now self.old.entries.items self.new.seen.items self.new.entries.items
             (IsTarget view.now.handles.now)) }
+        ensures came { OnOk result (AllCameBy self.old.entries.items IsRootOrigin self.new.entries.items) }
     {
         let mut from = 0;
         while let Some((number, handle)) = view.handles.next_from(from, 0) {
@@ -270,8 +286,9 @@ impl Reached {
     fn add_ready(&mut self, view: &View<'_>) -> Result<(), AllocError>
         requires sound { IsSound view.now }
         requires search { IsSearch view.now self.old.seen.items self.old.entries.items }
-        ensures { OnOk result (HasAdded view.now self.old.entries.items self.new.seen.items self.new.entries.items
+        ensures added { OnOk result (HasAdded view.now self.old.entries.items self.new.seen.items self.new.entries.items
             (IsRoot view.now.finals.now.ready)) }
+        ensures came { OnOk result (AllCameBy self.old.entries.items IsRootOrigin self.new.entries.items) }
     {
         let ready = view.finals.ready();
         for i in 0..ready.len() {
@@ -283,9 +300,10 @@ impl Reached {
         Ok(())
     }
 
-    // Adds what the slots of entry `i` name, and what dependent handles tie to it.
+    /// Adds what the slots of entry `i` refer to, and what dependent handles tie to it, as found through that entry, and
+    /// answers the item of its object.
     #[inline(always)]
-    fn follow(&mut self, view: &View<'_>, ties: &[Tie], i: usize) -> Result<(), AllocError>
+    pub fn follow(&mut self, view: &View<'_>, ties: &[Tie], i: usize) -> Result<Item, AllocError>
         requires sound { IsSound view.now }
         requires search { IsSearch view.now self.old.seen.items self.old.entries.items }
         requires ties { AreTies view.now.handles.now ties.now }
@@ -294,13 +312,14 @@ impl Reached {
         ensures search { OnOk result (IsSearch view.now self.new.seen.items self.new.entries.items) }
         ensures grown { OnOk result (HasGrown self.old.entries.items self.new.entries.items) }
         ensures followed { OnOk result (IsFollowed view.now self.new.entries.items (i + 1)) }
+        ensures came { OnOk result (AllCame self.old.entries.items (Origin.Through i) self.new.entries.items) }
     {
-        let _ = self.follow_slots(view, i)?;
+        let item = self.follow_slots(view, i)?;
         self.follow_ties(view, ties, i)?;
-        Ok(())
+        Ok(item)
     }
 
-    /// Adds what the slots of entry `i` name, and answers the item of its object.
+    /// Adds what the slots of entry `i` refer to, as found through that entry, and answers the item of its object.
     #[inline(always)]
     pub fn follow_slots(&mut self, view: &View<'_>, i: usize) -> Result<Item, AllocError>
         requires sound { IsSound view.now }
@@ -308,6 +327,7 @@ impl Reached {
         requires below { i < length self.old.entries.items }
         ensures added { OnOk result
             (HasFollowed view.now self.old.entries.items i self.new.seen.items self.new.entries.items) }
+        ensures came { OnOk result (AllCame self.old.entries.items (Origin.Through i) self.new.entries.items) }
         ensures item { IfOk result
             (IsObjectAt view.now.types.now view.now.heap.now (place_at self.old.entries.items i)) }
     {
@@ -331,8 +351,9 @@ impl Reached {
         requires search { IsSearch view.now self.old.seen.items self.old.entries.items }
         requires entry { IsItemOf view.now self.old.entries.items i item }
         requires segment { k ≡ memory_index view.now.heap.now.memories item.place }
-        ensures { OnOk result
+        ensures added { OnOk result
             (HasFollowed view.now self.old.entries.items i self.new.seen.items self.new.entries.items) }
+        ensures came { OnOk result (AllCame self.old.entries.items (Origin.Through i) self.new.entries.items) }
     {
         match view.types.reference_run(item.type_id, item.len) {
             Some(run) => self.follow_run(view, k, i, item, run),
@@ -355,8 +376,9 @@ impl Reached {
         requires entry { IsItemOf view.now self.old.entries.items i item }
         requires segment { k ≡ memory_index view.now.heap.now.memories item.place }
         requires run { item_references view.now.types.now item ≡ offsets_from run.offset run.count }
-        ensures { OnOk result
+        ensures added { OnOk result
             (HasFollowed view.now self.old.entries.items i self.new.seen.items self.new.entries.items) }
+        ensures came { OnOk result (AllCame self.old.entries.items (Origin.Through i) self.new.entries.items) }
     {
         for j in 0..run.count {
             let target = view.heap.word_at(k, item.place + (run.offset + 8 * j));
@@ -378,8 +400,9 @@ impl Reached {
         requires search { IsSearch view.now self.old.seen.items self.old.entries.items }
         requires entry { IsItemOf view.now self.old.entries.items i item }
         requires segment { k ≡ memory_index view.now.heap.now.memories item.place }
-        ensures { OnOk result
+        ensures added { OnOk result
             (HasFollowed view.now self.old.entries.items i self.new.seen.items self.new.entries.items) }
+        ensures came { OnOk result (AllCame self.old.entries.items (Origin.Through i) self.new.entries.items) }
     {
         if view.types.series(item.type_id).is_empty() {
             return Ok(());
@@ -391,14 +414,15 @@ impl Reached {
         Ok(())
     }
 
-    // Adds what dependent handles tie to entry `i`.
-    fn follow_ties(&mut self, view: &View<'_>, ties: &[Tie], i: usize) -> Result<(), AllocError>
+    /// Adds what dependent handles tie to entry `i`.
+    pub fn follow_ties(&mut self, view: &View<'_>, ties: &[Tie], i: usize) -> Result<(), AllocError>
         requires sound { IsSound view.now }
         requires search { IsSearch view.now self.old.seen.items self.old.entries.items }
         requires ties { AreTies view.now.handles.now ties.now }
         requires below { i < length self.old.entries.items }
-        ensures { OnOk result (HasAdded view.now self.old.entries.items self.new.seen.items self.new.entries.items
-            (SecondOf view.now.handles.now (place_at self.old.entries.items i))) }
+        ensures added { OnOk result (HasAdded view.now self.old.entries.items self.new.seen.items
+            self.new.entries.items (SecondOf view.now.handles.now (place_at self.old.entries.items i))) }
+        ensures came { OnOk result (AllCame self.old.entries.items (Origin.Through i) self.new.entries.items) }
     {
         let place = self.entries[i].place;
         let start = first_tie(ties, place);

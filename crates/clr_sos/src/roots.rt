@@ -16,8 +16,8 @@ use clr_generations::object_at;
 use clr_view::object_item;
 use std::alloc::{AllocError, Global};
 
-/// What `gcroot` shows of the object with the place `a`: a root, and a chain of objects from there to it, as a search
-/// breadth first finds it.
+/// What `gcroot` shows of the object at the address `a`: a root, and a chain of objects from there to it. No chain from
+/// any root to the object has fewer objects.
 ///
 /// ```text
 /// root t1 l0
@@ -27,11 +27,11 @@ use std::alloc::{AllocError, Global};
 ///
 /// The first line has the root: a thread and a local (`root t1 l0`), a strong or pinned handle (`root h7`), or an
 /// object of the f-reachable queue, counted from 0 (`root ready 0`). A line for each object of the chain follows, from
-/// the one that the root names to the one that was asked for, with its place in 16 hexadecimal digits and the name of
-/// its type. Each leads to the next by a slot, or as the primary of a dependent handle to its second object. Where the
+/// the root's object to the one that was asked for, with its address in 16 hexadecimal digits and the name of its
+/// type. Each leads to the next by a slot, or as the primary of a dependent handle to its second object. Where the
 /// roots don't reach the object, the only line is `none`.
 ///
-/// `NoObject` comes exactly where no object has the place, and `NoMemory` only where there is no memory for the search
+/// `NoObject` comes exactly where no object stands there, and `NoMemory` only where there is no memory for the search
 /// or for the text. The search leaves the heap as it is. It follows what the roots reach once, up to where it has found
 /// the object.
 pub fn gcroot(alloc: Global, view: &View<'_>, a: u64) -> Result<Vec<u8>, SosFault>
@@ -66,15 +66,15 @@ fn text_of(alloc: Global, view: &View<'_>, a: u64) -> Result<Vec<u8>, AllocError
     Ok(text)
 }
 
-// A root and the places of a chain of objects from there.
+/// A root and the addresses of a chain of objects from there.
 #[derive(Drop)]
-struct Trail {
-    root: Origin,
-    places: Vec<u64>,
+pub struct Trail {
+    pub root: Origin,
+    pub places: Vec<u64>,
 }
 
-// The root and the chain by which entry `last` was found.
-fn trail_to(alloc: Global, entries: &[FoundObject], last: usize) -> Result<Trail, AllocError>
+/// The root and the chain by which entry `last` was found.
+pub fn trail_to(alloc: Global, entries: &[FoundObject], last: usize) -> Result<Trail, AllocError>
     requires below { last < length entries.now }
     requires back { AreBehind entries.now }
     ensures { IfOk result (λ trail. (i : ℕ) × IsTrail entries.now (place_at entries.now last) i trail.places.items
@@ -94,8 +94,8 @@ fn trail_to(alloc: Global, entries: &[FoundObject], last: usize) -> Result<Trail
     })
 }
 
-// Puts the line of a root at the end.
-fn put_origin(text: &mut Vec<u8>, root: Origin) -> Result<(), AllocError>
+/// Puts the line of a root at the end.
+pub fn put_origin(text: &mut Vec<u8>, root: Origin) -> Result<(), AllocError>
     ensures { OnOk result (text.new.items ≡ text.old.items ++ origin_line root) }
 {
     match root {
@@ -115,8 +115,8 @@ fn put_origin(text: &mut Vec<u8>, root: Origin) -> Result<(), AllocError>
     Ok(())
 }
 
-// Puts a line for each place of an object at the end.
-fn put_places(text: &mut Vec<u8>, view: &View<'_>, places: &[u64]) -> Result<(), AllocError>
+/// Puts a line for each address of an object at the end.
+pub fn put_places(text: &mut Vec<u8>, view: &View<'_>, places: &[u64]) -> Result<(), AllocError>
     requires held { IsHeld view.now.types.now view.now.heap.now }
     requires stand { (x : ℕ) → IsIn x places.now → IsObjectOf view.now x }
     ensures { OnOk result (text.new.items ≡ text.old.items ++ flat_map (place_line view.now) places.now) }
@@ -127,8 +127,8 @@ fn put_places(text: &mut Vec<u8>, view: &View<'_>, places: &[u64]) -> Result<(),
     Ok(())
 }
 
-// Puts the line of an object at the end.
-fn put_place_line(text: &mut Vec<u8>, view: &View<'_>, place: u64) -> Result<(), AllocError>
+/// Puts the line of an object at the end.
+pub fn put_place_line(text: &mut Vec<u8>, view: &View<'_>, place: u64) -> Result<(), AllocError>
     requires held { IsHeld view.now.types.now view.now.heap.now }
     requires stands { IsObjectOf view.now place }
     ensures { OnOk result (text.new.items ≡ text.old.items ++ place_line view.now place) }

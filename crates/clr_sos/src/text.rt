@@ -8,7 +8,7 @@ use clr_nums::{put_dec, put_hex16};
 use std::alloc::AllocError;
 
 /// Puts 16 hexadecimal digits at the end.
-pub(crate) fn put_address(text: &mut Vec<u8>, v: u64) -> Result<(), AllocError>
+pub fn put_address(text: &mut Vec<u8>, v: u64) -> Result<(), AllocError>
     ensures { OnOk result (text.new.items ≡ text.old.items ++ hex16 v) }
 {
     let mut digits = [0; 16];
@@ -18,7 +18,7 @@ pub(crate) fn put_address(text: &mut Vec<u8>, v: u64) -> Result<(), AllocError>
 }
 
 /// Puts a decimal number at the end.
-pub(crate) fn put_number(text: &mut Vec<u8>, v: u64) -> Result<(), AllocError>
+pub fn put_number(text: &mut Vec<u8>, v: u64) -> Result<(), AllocError>
     ensures { OnOk result (text.new.items ≡ text.old.items ++ decimal v) }
 {
     let mut digits = [0; 20];
@@ -29,7 +29,7 @@ pub(crate) fn put_number(text: &mut Vec<u8>, v: u64) -> Result<(), AllocError>
 
 /// Puts a text and a decimal number behind it at the end.
 #[inline(always)]
-pub(crate) fn put_word_number(text: &mut Vec<u8>, word: &[u8], v: u64) -> Result<(), AllocError>
+pub fn put_word_number(text: &mut Vec<u8>, word: &[u8], v: u64) -> Result<(), AllocError>
     ensures { OnOk result (text.new.items ≡ (text.old.items ++ word.now) ++ decimal v) }
 {
     text.extend_from_slice(word)?;
@@ -38,7 +38,7 @@ pub(crate) fn put_word_number(text: &mut Vec<u8>, word: &[u8], v: u64) -> Result
 
 /// Puts a text and 16 hexadecimal digits behind it at the end.
 #[inline(always)]
-pub(crate) fn put_word_address(text: &mut Vec<u8>, word: &[u8], v: u64) -> Result<(), AllocError>
+pub fn put_word_address(text: &mut Vec<u8>, word: &[u8], v: u64) -> Result<(), AllocError>
     ensures { OnOk result (text.new.items ≡ (text.old.items ++ word.now) ++ hex16 v) }
 {
     text.extend_from_slice(word)?;
@@ -47,7 +47,7 @@ pub(crate) fn put_word_address(text: &mut Vec<u8>, word: &[u8], v: u64) -> Resul
 
 /// Puts two texts at the end.
 #[inline(always)]
-pub(crate) fn put_words(text: &mut Vec<u8>, first: &[u8], second: &[u8]) -> Result<(), AllocError>
+pub fn put_words(text: &mut Vec<u8>, first: &[u8], second: &[u8]) -> Result<(), AllocError>
     ensures { OnOk result (text.new.items ≡ (text.old.items ++ first.now) ++ second.now) }
 {
     text.extend_from_slice(first)?;
@@ -56,7 +56,7 @@ pub(crate) fn put_words(text: &mut Vec<u8>, first: &[u8], second: &[u8]) -> Resu
 }
 
 /// Puts a place at the end: `null` for 0, else 16 hexadecimal digits.
-pub(crate) fn put_place(text: &mut Vec<u8>, place: u64) -> Result<(), AllocError>
+pub fn put_place(text: &mut Vec<u8>, place: u64) -> Result<(), AllocError>
     ensures { OnOk result (text.new.items ≡ text.old.items ++ place_text place) }
 {
     if place == 0 {

@@ -1,12 +1,15 @@
 // Which items `dumpheap` shows.
-ghost use Rattle.std.specs.Prelude.{◌≡◌, ◌<◌, ℕ, Bool, IfSome, MatchOption, false, option_map, true};
+ghost use Rattle.std.specs.Prelude.{◌≡◌, ◌<◌, ℕ, Bool, IfSome, MatchOption, false, option_map, true, ◌&&◌};
 ghost use Rattle.std.specs.List.{list_all};
 ghost use Rattle.clr_types.specs.declared.item.Item.{Item};
+ghost use Rattle.clr_heap.specs.View.{frame};
 ghost use Rattle.clr_model.specs.Checks.{has_mt, list_of};
 ghost use Rattle.clr_model.specs.Instructions.{options_of};
-ghost use Rattle.clr_model.specs.Sos.{passes, passes_life, passes_mt, passes_name};
+ghost use Rattle.clr_model.specs.Sos.{passes, passes_life, passes_mt, passes_name, passes_place};
 ghost use Rattle.clr_sos.specs.Wants.{AnswersAt, all_named, is_chosen, is_fitting, is_unknown, is_wanted};
 
+use crate::places::{Region, region_of};
+use clr_heap::Heap;
 use clr_model::{Filter, Life};
 use clr_types::{Item, TypeId, Types};
 
@@ -18,16 +21,18 @@ pub(crate) struct Wanted {
     pub(crate) by_name: Option<TypeId>,
     pub(crate) least: u64,
     pub(crate) greatest: u64,
+    pub(crate) region: Region,
 }
 
 /// The options with their types by number. `None` comes exactly where no type has the name or the method table word
 /// that is asked for.
-pub(crate) fn wanted_by(types: &Types, filter: &Filter<'_>) -> Option<Wanted>
+pub(crate) fn wanted_by(types: &Types, heap: &Heap, filter: &Filter<'_>) -> Option<Wanted>
     ensures known { MatchOption result (is_unknown types.now (options_of filter.now) ≡ true)
         (λ wanted. is_unknown types.now (options_of filter.now) ≡ false) }
     ensures life { IfSome result (λ wanted. wanted.life ≡ filter.now.life) }
     ensures tests { IfSome result (λ wanted. (live : ℕ → Bool) → (item : Item)
-        → is_wanted wanted live item ≡ passes types.now live (options_of filter.now) item) }
+        → is_wanted wanted live item ≡ (passes types.now live (options_of filter.now) item
+        && passes_place (frame heap.now) (options_of filter.now) item)) }
 {
     let by_mt = type_by_mt(types, filter.mt)?;
     let by_name = type_by_name(types, filter.name)?;
@@ -37,6 +42,7 @@ pub(crate) fn wanted_by(types: &Types, filter: &Filter<'_>) -> Option<Wanted>
         by_name,
         least: filter.min,
         greatest: filter.max,
+        region: region_of(heap, filter.generation, filter.segment),
     })
 }
 
@@ -94,6 +100,7 @@ impl Wanted {
             && is_chosen(self.by_name, item)
             && item.size >= self.least
             && item.size <= self.greatest
+            && self.region.has(item.place)
     }
 }
 

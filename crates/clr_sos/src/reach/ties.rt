@@ -9,13 +9,13 @@ use std::alloc::{AllocError, Global};
 
 /// What a dependent handle ties: the place of its second object to that of its primary.
 #[derive(Clone, Copy)]
-pub(crate) struct Tie {
-    pub(crate) primary: u64,
-    pub(crate) second: u64,
+pub struct Tie {
+    pub primary: u64,
+    pub second: u64,
 }
 
 /// The second objects of all dependent handles, by rising places of their primaries.
-pub(crate) fn ties_of(alloc: Global, handles: &Handles) -> Result<Vec<Tie>, AllocError>
+pub fn ties_of(alloc: Global, handles: &Handles) -> Result<Vec<Tie>, AllocError>
     ensures { IfOk result (λ ties. AreTies handles.now ties.items) }
 {
     let mut ties = list_ties(alloc, handles)?;

@@ -9,8 +9,8 @@ use Rattle.clr_objsize.proofs.sizes.total_of_locals.Goals as goal
 
 pub loop-next-init : goal.loop-next-init
 loop-next-init c = record {
-  search = c.in_ok-reached.ensures.search;
-  roots = c.in_ok-reached.ensures.added;
+  search = c.in_ok-reached.ensures.added.search;
+  roots = c.in_ok-reached.ensures.added.added;
   followed = λ i y low. absurd (omega (arith, low));
   within = omega arith;
   bytes = none-among c.args.view.now c.in_ok-reached.reached.entries.items (object_size c.args.view.now.types.now);

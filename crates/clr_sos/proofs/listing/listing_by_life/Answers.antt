@@ -7,8 +7,8 @@ use Rattle.clr_sos.proofs.ListingTexts.{answer-told, item-stands, item-word}
 use Rattle.clr_sos.proofs.ViewNames.{sound_shown}
 use Rattle.clr_sos.proofs.listing.listing_by_life.Goals as goal
 
-pub reach-requires : goal.reach-requires
-reach-requires c = record { sound = sound_shown c.args.view.now c.requires.shown }
+pub reach_all-requires : goal.reach_all-requires
+reach_all-requires c = record { sound = sound_shown c.args.view.now c.requires.shown }
 
 pub listing_where-requires-clause-ask : goal.listing_where-requires-clause-ask
 listing_where-requires-clause-ask c = λ i is some κs p e a l. (

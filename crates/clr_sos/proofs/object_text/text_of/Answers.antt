@@ -19,5 +19,5 @@ pub returns : goal.returns
 returns c =
     item_text-parts c.args.types.now c.args.heap.now c.args.item.now c.in_ok-text.text.items c.put_head.new.text.items
     c.put_slots.new.text.items c.put_more.new.text.items c.gen_of.result c.slot_count-count.result c.gen_of.ensures
-    c.slot_count-count.ensures c.in_ok-text.ensures.items c.in_ok-put_head.ensures c.in_ok-put_slots.ensures
+    c.min-shown.result c.slot_count-count.ensures c.min-shown.ensures c.in_ok-text.ensures.items c.in_ok-put_head.ensures c.in_ok-put_slots.ensures
     c.in_ok-put_more.ensures

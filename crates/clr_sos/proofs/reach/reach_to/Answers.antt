@@ -1,8 +1,11 @@
 -- The search ends where the object is found, or where all entries were followed.
-use Rattle.std.proofs.Common.{arith, sym, ◌∙◌}
+use Rattle.std.proofs.Common.{arith, length, sym, ◌∙◌}
 use Rattle.std.proofs.lemmas.Bool.{false≢true}
+use Rattle.clr_sos.specs.Reaching.{IsRootOf, Leads, place_at, via_at}
+use Rattle.clr_sos.proofs.BreadthFirst.{nearest}
 use Rattle.clr_sos.proofs.ReachedAll.{reached-exactly, seen-told, tests-live}
 use Rattle.clr_sos.proofs.Searching.{listed-on}
+use Rattle.clr_sos.proofs.ShortestTrails.{search-begins, search-goes_on}
 use Rattle.clr_sos.proofs.Seen.{numbered}
 use Rattle.clr_sos.proofs.reach.reach_to.Goals as goal
 
@@ -10,6 +13,9 @@ pub loop-next-init : goal.loop-next-init
 loop-next-init c = record {
   search = c.in_ok-reached.ensures.search;
   roots = c.in_ok-reached.ensures.roots;
+  breadth = search-begins c.args.view.now (IsRootOf c.args.view.now) c.in_ok-reached.reached.seen.items
+      c.in_ok-reached.reached.entries.items c.in_ok-reached.ensures.search c.in_ok-reached.ensures.came
+      c.in_ok-reached.ensures.roots;
   followed = λ i y low. absurd (omega (arith, low));
 }
 
@@ -29,6 +35,14 @@ loop-next-preserved c = record {
   search = c.in_ok-follow.ensures.search;
   roots = λ x root. listed-on c.loop-next.reached.entries.items c.follow.new.self.entries.items x
       c.in_ok-follow.ensures.grown (c.loop-next.invariant.roots x root);
+  breadth =
+      let low = c.loop-next-test.true in
+      let count = c.len.ensures in
+      let whole = c.loop-next.reached.entries.ok.0 in
+      search-goes_on c.args.view.now (IsRootOf c.args.view.now) c.follow.new.self.seen.items
+      c.loop-next.reached.entries.items c.follow.new.self.entries.items c.loop-next.next c.in_ok-follow.ensures.search
+      c.in_ok-follow.ensures.grown (omega (arith, low, count, whole)) c.in_ok-follow.ensures.came
+      c.in_ok-follow.ensures.followed c.loop-next.invariant.breadth;
   followed = c.in_ok-follow.ensures.followed;
 }
 
@@ -43,3 +57,15 @@ returns-clause-exact c = λ none.
     tests-live v es
     (reached-exactly v c.requires.sound c.loop-next.reached.seen.items es s.search s.roots c.loop-next.next
     (omega (arith, past, count, whole)) s.followed)
+
+pub returns-then-has-clause-nearest : goal.returns-then-has-clause-nearest
+returns-then-has-clause-nearest c =
+    let es = c.loop-next.reached.entries.items in
+    nearest (Leads c.args.view.now) (IsRootOf c.args.view.now) (place_at es) (via_at es) (length es) c.loop-next.next
+    c.loop-next.invariant.breadth
+
+pub returns-clause-nearest : goal.returns-clause-nearest
+returns-clause-nearest c =
+    let es = c.loop-next.reached.entries.items in
+    nearest (Leads c.args.view.now) (IsRootOf c.args.view.now) (place_at es) (via_at es) (length es) c.loop-next.next
+    c.loop-next.invariant.breadth

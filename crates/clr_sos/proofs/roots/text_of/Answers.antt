@@ -44,5 +44,5 @@ returns c =
     (c.in_ok-put_origin.ensures ∙ ap (λ (text : List ℕ). text ++ origin_line root) c.new-text.ensures.items)
     ∙ ap (λ (xs : List ℕ). origin_line root ++ flat_map (place_line v) xs) c.deref-2.ensures.value in
     λ m shown. inl (root-told v m shown (count_locals v c.requires.lawful) seen es
-    (sound_view v c.requires.lawful) c.in_ok-reached.ensures.search c.args.a last trail.0 places root
-    c.put_places.new.text.items c.in-Some.ensures.some.1 trail.1 trail.2 trail.3 put)
+    (sound_view v c.requires.lawful) c.in_ok-reached.ensures.search c.in_ok-reached.ensures.nearest c.args.a
+    last trail.0 places root c.put_places.new.text.items c.in-Some.ensures.some.1 trail.1 trail.2 trail.3 put)

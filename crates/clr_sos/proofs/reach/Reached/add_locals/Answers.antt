@@ -1,10 +1,13 @@
 -- Locals are met one by one.
 use Rattle.std.proofs.Common.{◌+◌, get_or, arith, sym, subst}
 use Rattle.std.proofs.lemmas.Option.{slice_get-get_or}
-use Rattle.clr_sos.specs.Reaching.{HasAdded}
+use Rattle.clr_sos.specs.Reaching.{AllCameBy, HasAdded}
+use Rattle.clr_sos.specs.RootTexts.{IsLocalOrigin}
+use Rattle.clr_sos.specs.declared.reach.Origin.TheVariants.{Local}
 use Rattle.clr_mark.proofs.Rooting.{at_in}
 use Rattle.clr_mark.specs.Roots.{IsRoot}
 use Rattle.clr_sos.proofs.Adding.{added-more, added-on, IsNamedBelow, named-all, named-back, named-null}
+use Rattle.clr_sos.proofs.Searching.{came-by, came-trans}
 use Rattle.clr_sos.proofs.reach.Reached.add_locals.Goals.{then-place-ne0+in_ok-meet, else-place-ne0}
 use Rattle.clr_sos.proofs.reach.Reached.add_locals.Goals as goal
 
@@ -27,21 +30,32 @@ loop-i-preserved c =
     let n = c.loop-i.i in
     let now = c.loop-i.self.entries.items in
     let seen = c.loop-i.self.seen.items in
-    elim c.if-place-ne0.branch [
-      | then-place-ne0+in_ok-meet w ↦
-          subst (λ s. HasAdded v old s.seen.items s.entries.items (IsNamedBelow places (n + 1))) (sym w.self-is)
-          (added-more v old now seen (IsNamedBelow places n) c.loop-i.invariant (IsNamedBelow places (n + 1))
-          (get_or places n 0) w.meet.new.self.seen.items w.meet.new.self.entries.items w.in_ok-meet.ensures.search
-          w.in_ok-meet.ensures.grown w.in_ok-meet.ensures.met (λ x is. named-back places n x is))
-      | else-place-ne0 w ↦
-          subst (λ s. HasAdded v old s.seen.items s.entries.items (IsNamedBelow places (n + 1))) (sym w.self-is)
-          (added-on v old now seen (IsNamedBelow places n) c.loop-i.invariant (IsNamedBelow places (n + 1))
-          (λ x is. named-null places n x w.if-place-ne0.false is))
-    ]
+    record {
+      added = elim c.if-place-ne0.branch [
+        | then-place-ne0+in_ok-meet w ↦
+            subst (λ s. HasAdded v old s.seen.items s.entries.items (IsNamedBelow places (n + 1))) (sym w.self-is)
+            (added-more v old now seen (IsNamedBelow places n) c.loop-i.invariant.added (IsNamedBelow places (n + 1))
+            (get_or places n 0) w.meet.new.self.seen.items w.meet.new.self.entries.items w.in_ok-meet.ensures.search
+            w.in_ok-meet.ensures.grown w.in_ok-meet.ensures.met (λ x is. named-back places n x is))
+        | else-place-ne0 w ↦
+            subst (λ s. HasAdded v old s.seen.items s.entries.items (IsNamedBelow places (n + 1))) (sym w.self-is)
+            (added-on v old now seen (IsNamedBelow places n) c.loop-i.invariant.added (IsNamedBelow places (n + 1))
+            (λ x is. named-null places n x w.if-place-ne0.false is))
+      ];
+      came = elim c.if-place-ne0.branch [
+        | then-place-ne0+in_ok-meet w ↦
+            subst (λ s. AllCameBy old IsLocalOrigin s.entries.items) (sym w.self-is)
+            (came-trans old now w.meet.new.self.entries.items IsLocalOrigin w.in_ok-meet.ensures.grown
+            c.loop-i.invariant.came
+            (came-by now w.meet.new.self.entries.items (Local n) IsLocalOrigin tt w.in_ok-meet.ensures.came))
+        | else-place-ne0 w ↦
+            subst (λ s. AllCameBy old IsLocalOrigin s.entries.items) (sym w.self-is) c.loop-i.invariant.came
+      ];
+    }
 
-pub returns : goal.returns
-returns c =
+pub returns-clause-added : goal.returns-clause-added
+returns-clause-added c =
     let past = c.loop-i-test.false in
     added-on c.args.view.now c.args.self.now.entries.items c.loop-i.self.entries.items c.loop-i.self.seen.items
-    (IsNamedBelow c.args.view.now.locals.now c.loop-i.i) c.loop-i.invariant (IsRoot c.args.view.now.locals.now)
+    (IsNamedBelow c.args.view.now.locals.now c.loop-i.i) c.loop-i.invariant.added (IsRoot c.args.view.now.locals.now)
     (λ x r. named-all c.args.view.now.locals.now c.loop-i.i x past r)

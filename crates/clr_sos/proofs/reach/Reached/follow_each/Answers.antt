@@ -7,17 +7,23 @@ use Rattle.clr_heap.specs.View.{word_of}
 use Rattle.clr_mark.specs.Markings.{item_references}
 use Rattle.clr_mark.proofs.Following.{next_listed, none_left}
 use Rattle.clr_sos.specs.Reaching.{IsObjectOf, IsOrigin}
+use Rattle.clr_sos.specs.declared.reach.Origin.{Origin}
 use Rattle.clr_sos.specs.declared.reach.Origin.TheVariants.{Through}
 use Rattle.clr_sos.proofs.Adding.{added-word}
 use Rattle.clr_sos.proofs.FollowedSlots.{can_meet, CanMeet, slots-all, slots-none, slots-start}
+use Rattle.clr_sos.proofs.Searching.{came-none, came-trans}
 use Rattle.clr_sos.proofs.reach.Reached.follow_each.Goals.{In-Some}
 use Rattle.clr_sos.proofs.reach.Reached.follow_each.Goals as goal
 
 pub series-requires : goal.series-requires
 series-requires c = c.requires.entry.stands.known
 
-pub returns-then-is_empty : goal.returns-then-is_empty
-returns-then-is_empty c =
+pub returns-then-is_empty-clause-came : goal.returns-then-is_empty-clause-came
+returns-then-is_empty-clause-came c =
+    came-none c.args.self.now.entries.items (λ (o : Origin). o ≡ Through c.args.i)
+
+pub returns-then-is_empty-clause-added : goal.returns-then-is_empty-clause-added
+returns-then-is_empty-clause-added c =
     let empty = none_left c.series.result.now (eqb-true (length c.series.result.now) 0
     (sym c.is_empty.ensures ∙ c.if-is_empty.true)) in
     slots-none c.args.view.now c.requires.sound c.args.self.now.entries.items c.args.i c.args.item c.requires.entry
@@ -28,6 +34,7 @@ loop-offset-init c = record {
   walked = refl;
   added = slots-start c.args.view.now c.requires.sound c.args.self.now.entries.items c.args.i c.args.item
       c.requires.entry c.args.self.now.seen.items c.requires.search;
+  came = came-none c.args.self.now.entries.items (λ (o : Origin). o ≡ Through c.args.i);
 }
 
 -- the next offset is one of a reference
@@ -78,10 +85,13 @@ loop-offset-preserved c =
           c.loop-offset.invariant.added offset c.word_at-target.result c.word_at-target.ensures
           c.meet_named.new.self.entries.items c.meet_named.new.self.seen.items c.in_ok-meet_named.ensures.search
           c.in_ok-meet_named.ensures.grown c.in_ok-meet_named.ensures.met;
+      came = came-trans c.args.self.now.entries.items c.loop-offset.self.entries.items
+          c.meet_named.new.self.entries.items (λ (o : Origin). o ≡ Through c.args.i)
+          c.in_ok-meet_named.ensures.grown c.loop-offset.invariant.came c.in_ok-meet_named.ensures.came;
     }
 
-pub returns : goal.returns
-returns c =
+pub returns-clause-added : goal.returns-clause-added
+returns-clause-added c =
     let yielded = c.loop-offset.yielded in
     let all : yielded ≡ item_references c.args.view.now.types.now c.args.item =
     sym (append-nil yielded) ∙ ap (λ (rest : List ℕ). yielded ++ rest) (sym c.in-None.ensures.steps.0)

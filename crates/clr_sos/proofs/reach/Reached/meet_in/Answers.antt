@@ -1,7 +1,8 @@
 -- An object gets its bit and an entry, where it has none.
-use Rattle.std.proofs.Common.{set, sym, ◌∙◌}
+use Rattle.std.proofs.Common.{◌≡◌, set, sym, ◌∙◌}
+use Rattle.clr_sos.specs.declared.reach.Origin.{Origin}
 use Rattle.clr_sos.proofs.Seen.{met_law, met_room, met_rooms, met_seen, numbered}
-use Rattle.clr_sos.proofs.Searching.{grown-push, grown-refl, listed-push, search_more}
+use Rattle.clr_sos.proofs.Searching.{came-none, came-push, grown-push, grown-refl, listed-push, search_more}
 use Rattle.clr_sos.proofs.reach.Reached.meet_in.Goals as goal
 
 pub info-requires : goal.info-requires
@@ -64,3 +65,11 @@ returns-in_ok-push-clause-grown c =
 
 pub returns-else-not-has-clause-grown : goal.returns-else-not-has-clause-grown
 returns-else-not-has-clause-grown c = grown-refl c.args.self.now.entries.items
+
+pub returns-in_ok-push-clause-came : goal.returns-in_ok-push-clause-came
+returns-in_ok-push-clause-came c =
+    rw c.in_ok-push.ensures.items
+    (came-push c.args.self.now.entries.items (record { place = c.args.place; origin = c.args.origin }))
+
+pub returns-else-not-has-clause-came : goal.returns-else-not-has-clause-came
+returns-else-not-has-clause-came c = came-none c.args.self.now.entries.items (λ (o : Origin). o ≡ c.args.origin)

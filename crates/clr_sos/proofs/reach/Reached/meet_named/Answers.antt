@@ -1,5 +1,8 @@
 -- Null names nothing.
-use Rattle.clr_sos.proofs.Searching.{grown-refl}
+use Rattle.std.proofs.Common.{◌≡◌}
+use Rattle.clr_sos.specs.declared.reach.Origin.{Origin}
+use Rattle.clr_sos.specs.declared.reach.Origin.TheVariants.{Through}
+use Rattle.clr_sos.proofs.Searching.{came-none, grown-refl}
 use Rattle.clr_sos.proofs.Seen.{numbered}
 use Rattle.clr_sos.proofs.reach.Reached.meet_named.Goals as goal
 
@@ -8,6 +11,10 @@ returns-then-target-eq0-clause-grown c = grown-refl c.args.self.now.entries.item
 
 pub returns-then-target-eq0-clause-met : goal.returns-then-target-eq0-clause-met
 returns-then-target-eq0-clause-met c = λ some. absurd (some c.if-target-eq0.true)
+
+pub returns-then-target-eq0-clause-came : goal.returns-then-target-eq0-clause-came
+returns-then-target-eq0-clause-came c =
+    came-none c.args.self.now.entries.items (λ (o : Origin). o ≡ Through c.args.i)
 
 pub segment_near-k-requires : goal.segment_near-k-requires
 segment_near-k-requires c =

@@ -2,7 +2,7 @@
 use Rattle.std.proofs.Common.{arith}
 use Rattle.clr_sos.proofs.ReachedAll.{reached-exactly, seen-told, tests-live}
 use Rattle.clr_sos.proofs.Searching.{listed-on}
-use Rattle.clr_sos.proofs.reach.reach.Goals as goal
+use Rattle.clr_sos.proofs.reach.reach_all.Goals as goal
 
 pub loop-next-init : goal.loop-next-init
 loop-next-init c = record {

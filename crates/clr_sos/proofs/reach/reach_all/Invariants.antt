@@ -1,6 +1,6 @@
 use Rattle.std.proofs.Common.{ℕ, ◌-◌}
 use Rattle.clr_sos.specs.Reaching.{IsFollowed, IsListed, IsRootOf, IsSearch}
-use Rattle.clr_sos.proofs.reach.reach.Given as goal
+use Rattle.clr_sos.proofs.reach.reach_all.Given as goal
 
 abbrev pub invariant-loop-next : goal.invariant-loop-next
 invariant-loop-next l = record {

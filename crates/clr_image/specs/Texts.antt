@@ -50,7 +50,16 @@ pub record IsMachineOf (p : Parts) (m : Machine) : Type 0 where
 
 -- the options of a plain `dumpheap`
 abbrev pub all_options : DumpOptions
-all_options = record { mode = Full; life = Any; mt = None; name = None; least = None; greatest = None }
+all_options = record {
+  mode = Full;
+  life = Any;
+  mt = None;
+  name = None;
+  least = None;
+  greatest = None;
+  generation = None;
+  segment = None;
+}
 
 -- the reply to `dumpheap`, for which it plays no part what is reached
 abbrev pub all_text : Machine → List ℕ

@@ -4,4 +4,5 @@ pub mod TopGrows
 pub mod LookChecks
 pub mod LookLines
 pub mod SizeLines
+pub mod MoreLooks
 pub mod RuntimeViews

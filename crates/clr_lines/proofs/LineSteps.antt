@@ -53,6 +53,8 @@ plain_formed (dump_heap o) formed = record {
   one_type = formed.one_type;
   least = size_is_word o.least 0 (omega arith) formed.least;
   greatest = size_is_word o.greatest (2 ^ 64 - 1) (omega arith) formed.greatest;
+  generation = formed.generation;
+  segment = formed.segment;
 }
 plain_formed i formed = formed
 

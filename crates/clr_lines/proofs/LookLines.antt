@@ -73,12 +73,12 @@ module _ (Sees : Machine → Type 0) (old : Machine) (sees : Sees old) where
   -- ---- texts of one object
 
   -- what is told is a fault just where no object has the place, and the types play no part in that
-  abbrev FindsObject : {X : Type 0} → Result X SosFault → ℕ → Type 0
+  abbrev pub FindsObject : {X : Type 0} → Result X SosFault → ℕ → Type 0
   FindsObject told a =
       ((m : Machine) → Sees m → (told ≡ Err fault.NoObject) ↔ (object_at m.objects a ≡ None))
       × (told ≢ Err fault.UnknownType)
 
-  found_follows : (i : Instruction) (a : ℕ) → IsPlaceLine i a → (told : Result (Vec ℕ Global) SosFault)
+  pub found_follows : (i : Instruction) (a : ℕ) → IsPlaceLine i a → (told : Result (Vec ℕ Global) SosFault)
       → FindsObject told a
       → IfOk told (λ text. (m : Machine) → StandsFor old m → Does m i (shown text.items) m)
       → ((m : Machine) → Does m i (refused refusal.NoMemory) m) → Follows old i (found_outcome told) old

@@ -7,7 +7,7 @@ use Rattle.clr_model.specs.declared.command.Command.TheVariants.{Fetch, Finalize
 use Rattle.clr_model.specs.declared.command.Command.TheVariants.{DumpHeap, DumpObj, EeHeap, FinalizeQueue, GcHandles}
 use Rattle.clr_model.specs.declared.command.Command.TheVariants.{GcRoot, GcWhere, Suppress, VerifyHeap}
 use Rattle.clr_model.specs.declared.command.Command.TheVariants.{BackgroundBegin, BackgroundEnd, BackgroundStep}
-use Rattle.clr_model.specs.declared.command.Command.TheVariants.{Collect, CompactLarge, Define, New, NewPinned, ObjSize}
+use Rattle.clr_model.specs.declared.command.Command.TheVariants.{Collect, CompactLarge, Define, New, NewPinned, Look, ObjSize}
 
 -- slots of objects, and locals
 abbrev pub is_on_slots : Command → Bool
@@ -66,4 +66,5 @@ is_look GcHandles = true
 is_look FinalizeQueue = true
 is_look (GcWhere a) = true
 is_look (ObjSize a) = true
+is_look (Look look) = true
 is_look _ = false

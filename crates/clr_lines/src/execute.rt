@@ -82,7 +82,8 @@ fn obey(runtime: &mut Runtime, alloc: Global, line: &[u8], command: Command<'_>)
         | Command::GcHandles
         | Command::FinalizeQueue
         | Command::GcWhere { .. }
-        | Command::ObjSize { .. } => obey_look(runtime, alloc, command),
+        | Command::ObjSize { .. }
+        | Command::Look { .. } => obey_look(runtime, alloc, command),
         Command::Suspend { .. }
         | Command::Resume { .. }
         | Command::BeginSet { .. }

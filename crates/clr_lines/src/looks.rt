@@ -1,6 +1,7 @@
 //! What a line that shows the heap does: one command over what the runtime shows.
 ghost use Rattle.std.specs.Prelude.{◌≡◌, true};
-ghost use Rattle.clr_model.specs.Instructions.{instruction_of, verify_heap};
+ghost use Rattle.clr_model.specs.Instructions.{instruction_of, look_at, verify_heap};
+ghost use Rattle.clr_model.specs.Machine.{Machine};
 ghost use Rattle.clr_model.specs.Run.{Follows};
 ghost use Rattle.clr_sos.specs.CleanStates.{IsCleanState};
 ghost use Rattle.clr_sos.specs.Views.{IsLawfulView, IsViewOf};
@@ -8,12 +9,14 @@ ghost use Rattle.clr_lines.specs.CommandKinds.{is_look};
 ghost use Rattle.clr_lines.specs.Outcomes.{outcome_of, CanShow};
 
 use crate::outcome::{Outcome, told_found, told_size, told_text, told_where};
-use clr_model::{Command, Reply};
+use clr_model::{Command, Look, Reply};
 use clr_objsize::objsize;
+use clr_paths::{gcroots, pathto, retained};
 use clr_runtime::Runtime;
+use clr_shows::{dumpmt, ephrefs, gcheapstat, handle_counts, handles_of_kind, listnearobj};
 use clr_sos::{
-    View, clean_states_are_lawful, dumpheap, dumpobj, eeheap, finalizequeue, gchandles, gcroot,
-    gcwhere, verifyheap_at_once,
+    View, clean_states_are_lawful, dumparray, dumpheap, dumpobj, eeheap, finalizequeue, gchandles,
+    gcroot, gcwhere, verifyheap_at_once,
 };
 use std::alloc::Global;
 
@@ -36,7 +39,30 @@ pub fn obey_look(runtime: &Runtime, alloc: Global, command: Command<'_>) -> Outc
         Command::FinalizeQueue => told_text(finalizequeue(alloc, &view)),
         Command::GcWhere { a } => told_where(gcwhere(&view, a)),
         Command::ObjSize { a } => told_size(a, objsize(alloc, &view, a)),
+        Command::Look { look } => obey_more(&view, alloc, look),
         _ => unreachable!(),
+    }
+}
+
+// What such a line tells that has no command of its own.
+fn obey_more(view: &View<'_>, alloc: Global, look: Look) -> Outcome
+    requires lawful { IsLawfulView view.now }
+    ensures follows { (m : Machine) → IsViewOf view.now m → Follows m (look_at look) (outcome_of result) m }
+    ensures shows { CanShow result }
+{
+    match look {
+        Look::DumpArray { start, length, a } => {
+            told_found(dumparray(alloc, view, start, length, a))
+        }
+        Look::DumpMt { mt } => told_found(dumpmt(alloc, view, mt)),
+        Look::GcRoots { a } => told_found(gcroots(alloc, view, a)),
+        Look::PathTo { a, b } => told_found(pathto(alloc, view, a, b)),
+        Look::Retained { a } => told_found(retained(alloc, view, a)),
+        Look::GcHeapStat { unrooted } => told_text(gcheapstat(alloc, view, unrooted)),
+        Look::ListNearObj { a } => told_text(listnearobj(alloc, view, a)),
+        Look::EphRefs => told_text(ephrefs(alloc, view)),
+        Look::HandleStat => told_text(handle_counts(alloc, view)),
+        Look::HandlesOf { kind } => told_text(handles_of_kind(alloc, view, kind)),
     }
 }
 

@@ -8,7 +8,7 @@ use clr_script::{
 use std::test::Fail;
 
 // Each form of line, and the command that it is. The name `N` is the byte 78, and `rn` the bytes 114 and 110.
-const LINES: [(&str, &str); 39] = [
+const LINES: [(&str, &str); 51] = [
     (
         "type N class -",
         "Define { name: [78], shape: Class([]), finalizer: false }",
@@ -83,16 +83,17 @@ const LINES: [(&str, &str); 39] = [
     (
         "dumpheap",
         "DumpHeap { filter: Filter { mode: Full, life: Any, mt: None, name: None, min: 0, \
-         max: 18446744073709551615 } }",
+         max: 18446744073709551615, generation: None, segment: None } }",
     ),
     (
-        "dumpheap -stat -live -type N -min 2 -max 3",
-        "DumpHeap { filter: Filter { mode: Stat, life: Live, mt: None, name: Some([78]), min: 2, max: 3 } }",
+        "dumpheap -stat -live -type N -min 2 -max 3 -gen 1 -segment 00000000000000ff",
+        "DumpHeap { filter: Filter { mode: Stat, life: Live, mt: None, name: Some([78]), min: 2, max: 3, \
+         generation: Some(1), segment: Some(255) } }",
     ),
     (
         "dumpheap -short -dead -mt 00000000000000ff",
         "DumpHeap { filter: Filter { mode: Short, life: Dead, mt: Some(255), name: None, min: 0, \
-         max: 18446744073709551615 } }",
+         max: 18446744073709551615, generation: None, segment: None } }",
     ),
     ("dumpobj 00000000000000ff", "DumpObj { a: 255 }"),
     ("gcroot 00000000000000ff", "GcRoot { a: 255 }"),
@@ -101,6 +102,48 @@ const LINES: [(&str, &str); 39] = [
     ("gchandles", "GcHandles"),
     ("finalizequeue", "FinalizeQueue"),
     ("gcwhere 00000000000000ff", "GcWhere { a: 255 }"),
+    (
+        "dumparray 00000000000000ff",
+        "Look { look: DumpArray { start: None, length: None, a: 255 } }",
+    ),
+    (
+        "dumparray -start 2 -length 3 00000000000000ff",
+        "Look { look: DumpArray { start: Some(2), length: Some(3), a: 255 } }",
+    ),
+    (
+        "dumpmt 00000000000000ff",
+        "Look { look: DumpMt { mt: 255 } }",
+    ),
+    (
+        "gcroot -all 00000000000000ff",
+        "Look { look: GcRoots { a: 255 } }",
+    ),
+    (
+        "pathto 00000000000000ff 00000000000000fe",
+        "Look { look: PathTo { a: 255, b: 254 } }",
+    ),
+    (
+        "retained 00000000000000ff",
+        "Look { look: Retained { a: 255 } }",
+    ),
+    (
+        "gcheapstat",
+        "Look { look: GcHeapStat { unrooted: false } }",
+    ),
+    (
+        "gcheapstat -inclUnrooted",
+        "Look { look: GcHeapStat { unrooted: true } }",
+    ),
+    (
+        "listnearobj 00000000000000ff",
+        "Look { look: ListNearObj { a: 255 } }",
+    ),
+    ("ephrefs", "Look { look: EphRefs }"),
+    ("gchandles -stat", "Look { look: HandleStat }"),
+    (
+        "gchandles -type weaklong",
+        "Look { look: HandlesOf { kind: WeakLong } }",
+    ),
 ];
 
 #[test]

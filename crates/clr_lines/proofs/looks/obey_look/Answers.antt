@@ -90,3 +90,7 @@ returns-in-ObjSize-clause-follows c =
     rw (c.in-ObjSize.is, c.told_size.ensures.is)
     (size_follows (IsViewOf c.view_of-view.result) c.args.runtime.now.machine c.view_of-view.ensures.seen c.in-ObjSize.a
     c.objsize.result told.no_object told.no_type told.size)
+
+pub returns-in-Look-clause-follows : goal.returns-in-Look-clause-follows
+returns-in-Look-clause-follows c =
+    rw c.in-Look.is (c.obey_more.ensures.follows c.args.runtime.now.machine c.view_of-view.ensures.seen)

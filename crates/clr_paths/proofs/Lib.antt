@@ -1,0 +1,12 @@
+pub mod EdgeLists
+pub mod EdgesByItem
+pub mod HeapNumbers
+pub mod HeldReach
+pub mod HeldSums
+pub mod HeldTexts
+pub mod LeadingObjects
+pub mod PathSearches
+pub mod PathTexts
+pub mod RootBlocks
+pub mod WayChains
+pub mod WaysBack

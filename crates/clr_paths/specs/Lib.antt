@@ -1,0 +1,5 @@
+pub mod AllRoots
+pub mod Held
+pub mod Incoming
+pub mod Numbers
+pub mod Paths

@@ -1,0 +1,10 @@
+pub mod KindEntries
+pub mod NearItems
+pub mod NearTexts
+pub mod NearWalks
+pub mod SegmentItems
+pub mod StatCounts
+pub mod StatLines
+pub mod TypeLines
+pub mod YoungerObjects
+pub mod YoungerSlots

@@ -1,0 +1,35 @@
+-- Each handle of the kind is counted.
+use Rattle.std.proofs.Common.{◌∙◌, ℕ, List, ap, arith, filter, length, sym}
+use Rattle.clr_types.specs.declared.handle.Handle.{Handle}
+use Rattle.clr_sos.proofs.NumberedEntries.{entries-all}
+use Rattle.clr_shows.specs.Kinds.{has_kind}
+use Rattle.clr_shows.proofs.KindEntries.{kind-counted, no-kind}
+use Rattle.clr_shows.proofs.kinds.count_of.Goals as goal
+
+pub loop-number-init : goal.loop-number-init
+loop-number-init c = record {
+  count = sym (ap length (no-kind c.args.kind c.args.handles.now));
+  few = omega arith;
+  within = omega arith;
+}
+
+pub loop-number-preserved : goal.loop-number-preserved
+loop-number-preserved c =
+    let next = c.in-Some.ensures.found in
+    let below = c.in-Some.ensures.below c.in-Some.number c.in-Some.handle next.in_use in
+    let above = next.above in
+    let few = c.loop-number.invariant.few in
+    let one = c.one_of-count.ensures.few in
+    record {
+      count = kind-counted c.args.kind c.args.handles.now c.loop-number.from c.in-Some.number c.in-Some.handle next
+          c.loop-number.count c.one_of-count.result c.loop-number.invariant.count
+          (c.one_of-count.ensures.count c.in-Some.number);
+      few = omega (arith, few, above, one);
+      within = omega (arith, below);
+    }
+
+pub returns : goal.returns
+returns c =
+    c.loop-number.invariant.count
+    ∙ ap (λ (entries : List (ℕ × Handle)). length (filter (has_kind c.args.kind) entries))
+    (entries-all c.args.handles.now c.loop-number.from c.in_default.ensures.below c.in_default.ensures.none)

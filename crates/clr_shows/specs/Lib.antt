@@ -1,0 +1,5 @@
+pub mod Kinds
+pub mod Near
+pub mod StatBounds
+pub mod Stats
+pub mod Younger

@@ -15,6 +15,10 @@ use Rattle.clr_streams.specs.declared.status.Status.TheVariants.{BadImage, Done,
 abbrev pub bad_image_text : ℕ → List ℕ
 bad_image_text offset = line (codes "bad" ∷ codes "image" ∷ codes "at" ∷ decimal offset ∷ [])
 
+-- the line that is written of an image from which no run goes on, by the offset of the first field that no run has
+abbrev pub unfit_image_text : ℕ → List ℕ
+unfit_image_text offset = line (codes "unfit" ∷ codes "image" ∷ codes "at" ∷ decimal offset ∷ [])
+
 -- the bytes of the source are an image, whose text was written
 pub record Showed (IsText : TextOf) (limit : ℕ) (held held_after written written_after : Option (List ℕ)) : Type 0
   where

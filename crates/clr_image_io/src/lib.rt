@@ -4,5 +4,5 @@
 mod reading;
 mod showing;
 
-pub use reading::IMAGE_LIMIT;
-pub use showing::{inspect_source, migrate_source};
+pub use reading::{IMAGE_LIMIT, read_image};
+pub use showing::{inspect_source, migrate_source, write_fault, write_unfit};

@@ -4,6 +4,7 @@ ghost use Rattle.clr_format.specs.Images.{HasFault, IsImage, Parts};
 ghost use Rattle.clr_image.specs.Texts.{Inspected, Migrated};
 ghost use Rattle.clr_streams.specs.Faults.{Appended, Rose};
 ghost use Rattle.clr_image_io.specs.Images.{bad_image_text, IsAnswerOf, IsFaultAt, IsMade, IsTextOf, ShowsImage};
+ghost use Rattle.clr_image_io.specs.Images.{unfit_image_text};
 
 use crate::reading::{IMAGE_LIMIT, read_image};
 use clr_image::{LoadFault, Written, inspect_to, migrate};
@@ -104,8 +105,11 @@ fn write_answer<K: Sink>(alloc: Global, made: Result<Vec<u8>, LoadFault>, sink: 
     }
 }
 
-// Writes the line for bytes that are no image.
-fn write_fault<K: Sink>(alloc: Global, offset: u64, sink: &mut K) -> Status
+/// Writes the line for bytes that are no image, by the offset of their first fault: `bad image at OFFSET`.
+///
+/// `BadImage` comes where it was written, `WriteFault` where a write failed and a part from its front was written, and
+/// `Memory` where there was none for the line.
+pub fn write_fault<K: Sink>(alloc: Global, offset: u64, sink: &mut K) -> Status
     ensures written { result ≡ Status.BadImage → Appended
         (K.written sink.old) (K.written sink.new) (bad_image_text offset) }
     ensures part { result ≡ Status.WriteFault → (count : ℕ) × Appended
@@ -118,7 +122,37 @@ fn write_fault<K: Sink>(alloc: Global, offset: u64, sink: &mut K) -> Status
     let Ok(text) = fault_text(alloc, offset) else {
         return Status::Memory;
     };
-    match write_all(sink, &text) {
+    write_refusal(&text, sink)
+}
+
+/// Writes the line for an image from which no run goes on, by the offset of the first field that no run has: `unfit
+/// image at OFFSET`. It answers as `write_fault`.
+pub fn write_unfit<K: Sink>(alloc: Global, offset: u64, sink: &mut K) -> Status
+    ensures written { result ≡ Status.BadImage → Appended
+        (K.written sink.old) (K.written sink.new) (unfit_image_text offset) }
+    ensures part { result ≡ Status.WriteFault → (count : ℕ) × Appended
+        (K.written sink.old) (K.written sink.new) (take count (unfit_image_text offset)) }
+    ensures write_fault { result ≡ Status.WriteFault → Rose (K.faults sink.old) (K.faults sink.new) }
+    ensures sink_counted { result ≢ Status.WriteFault → K.faults sink.new ≡ K.faults sink.old }
+    ensures memory { result ≡ Status.Memory → sink.new ≡ sink.old }
+    ensures complete { (result ≡ Status.BadImage) ⊎ ((result ≡ Status.WriteFault) ⊎ (result ≡ Status.Memory)) }
+{
+    let Ok(text) = unfit_text(alloc, offset) else {
+        return Status::Memory;
+    };
+    write_refusal(&text, sink)
+}
+
+// Writes the one line that is written in the place of an answer.
+fn write_refusal<K: Sink>(text: &[u8], sink: &mut K) -> Status
+    ensures written { result ≡ Status.BadImage → Appended (K.written sink.old) (K.written sink.new) text.now }
+    ensures part { result ≡ Status.WriteFault → (count : ℕ) × Appended
+        (K.written sink.old) (K.written sink.new) (take count text.now) }
+    ensures write_fault { result ≡ Status.WriteFault → Rose (K.faults sink.old) (K.faults sink.new) }
+    ensures sink_counted { result ≢ Status.WriteFault → K.faults sink.new ≡ K.faults sink.old }
+    ensures complete { (result ≡ Status.BadImage) ⊎ (result ≡ Status.WriteFault) }
+{
+    match write_all(sink, text) {
         Ok(()) => Status::BadImage,
         Err(_) => Status::WriteFault,
     }
@@ -129,4 +163,11 @@ fn fault_text(alloc: Global, offset: u64) -> Result<Vec<u8>, AllocError>
     ensures { IfOk result (λ text. text.items ≡ bad_image_text offset) }
 {
     Ok(format!(in alloc; "bad image at {offset}\n")?.into_bytes())
+}
+
+// The line for an image from which no run goes on.
+fn unfit_text(alloc: Global, offset: u64) -> Result<Vec<u8>, AllocError>
+    ensures { IfOk result (λ text. text.items ≡ unfit_image_text offset) }
+{
+    Ok(format!(in alloc; "unfit image at {offset}\n")?.into_bytes())
 }

@@ -1,7 +1,7 @@
 -- What is known of the tables that were found: how many bytes each takes, that numbers rise and that types are known.
 use Rattle.std.proofs.Common.{◌≡◌, ℕ, suc, zero, ◌+◌, ◌-◌, ◌*◌, ◌<◌, ◌≤◌, ◌==◌, nat_lt, Bool, true}
 use Rattle.std.proofs.Common.{List, [], ◌∷◌, ◌++◌, length, replicate, refl, sym, ◌∙◌, ap}
-use Rattle.std.proofs.Common.{subst, arith, slice_get, length-append, inl, inr}
+use Rattle.std.proofs.Common.{subst, arith, slice_get, length-append, inl, inr, false, if◌then◌else◌, IfSome, None, Some}
 use Rattle.std.proofs.lemmas.Bool.{and_parts, cases_Bool}
 use Rattle.std.proofs.lemmas.Bool.Decides.{nat_tests}
 use Rattle.std.specs.List.{AllByRecursion}
@@ -11,6 +11,7 @@ use Rattle.clr_types.specs.Types.{TypeRow}
 use Rattle.clr_types.specs.declared.handle.Handle.{Handle}
 use Rattle.clr_types.proofs.ChangedLists.{rising-push}
 use Rattle.clr_model.specs.Lawful.{HasItsSecond}
+use Rattle.clr_model.specs.Lookups.{is_thread}
 use Rattle.clr_heap.proofs.Framing.{all_push}
 use Rattle.clr_fields.specs.Fields.{anything, field, found, Found, gives, is_from_to, is_up_to, is_zero, times, word_at}
 use Rattle.clr_fields.specs.Fields.{◌>>=◌}
@@ -21,7 +22,7 @@ use Rattle.clr_format.specs.TableFields.{tables_fields, thread_or_none}
 use Rattle.clr_format.specs.declared.head.Head.{Head}
 use Rattle.clr_format.specs.declared.step.Step.{Step}
 use Rattle.clr_format.specs.declared.step.Step.TheVariants.{Begun, Idle, Store}
-use Rattle.clr_load.specs.StepTests.{IsKnownStep}
+use Rattle.clr_load.specs.StepTests.{IsKnownStep, IsNewStep}
 use Rattle.clr_load.proofs.FoundFields.{both_found, field_found, gave, times_keep}
 
 module _ (bytes : List ℕ) (head : Head) (rows : List TypeRow) where
@@ -35,6 +36,7 @@ module _ (bytes : List ℕ) (head : Head) (rows : List TypeRow) where
 
   record IsStepFound (o : ℕ) (s : Step) (n : ℕ) : Type 0 where
     known : IsKnownStep rows s
+    new : IsNewStep rows head.large s
     next : n ≡ o + 32
 
   idle_found : (o : ℕ) (s : Step) (n : ℕ) → idle_fields bytes o ≡ found s n → IsStepFound o s n
@@ -53,7 +55,11 @@ module _ (bytes : List ℕ) (head : Head) (rows : List TypeRow) where
       let b1 = word_next is_zero a.m b.x b.m b.one in
       let c1 = word_next is_zero b.m c.x c.m c.one in
       let d1 = word_next is_zero c.m d.x d.m d.one in
-      record { known = subst (IsKnownStep rows) same tt; next = omega arith }
+      record {
+        known = subst (IsKnownStep rows) same tt;
+        new = subst (IsNewStep rows head.large) same tt;
+        next = omega arith;
+      }
 
   store_found : (o : ℕ) (s : Step) (n : ℕ) → store_fields bytes o ≡ found s n → IsStepFound o s n
   unfolding store_fields
@@ -71,7 +77,11 @@ module _ (bytes : List ℕ) (head : Head) (rows : List TypeRow) where
       let b1 = word_next anything a.m b.x b.m b.one in
       let c1 = word_next is_zero b.m c.x c.m c.one in
       let d1 = word_next is_zero c.m d.x d.m d.one in
-      record { known = subst (IsKnownStep rows) same tt; next = omega arith }
+      record {
+        known = subst (IsKnownStep rows) same tt;
+        new = subst (IsNewStep rows head.large) same tt;
+        next = omega arith;
+      }
 
   begun_found : (o : ℕ) (s : Step) (n : ℕ) → begun_fields head rows bytes o ≡ found s n → IsStepFound o s n
   unfolding begun_fields
@@ -91,15 +101,23 @@ module _ (bytes : List ℕ) (head : Head) (rows : List TypeRow) where
       (gave (Begun (record { 0 = a.x }) b.x c.x d.x) d.m s n d.two).0 in
       let at : d.m ≡ n = (gave _ d.m _ n d.two).1 in
       let good = word_good (is_from_to 1 (length rows)) o a.x a.m a.one in
+      let low : 1 ≤ a.x = grind (arith, nat_tests, good) in
       let known : a.x ≤ length rows = grind (arith, nat_tests, good) in
+      let suited = word_good (is_new_length rows head.large a.x) a.m b.x b.m b.one in
+      let thread = word_good (is_up_to 63) b.m c.x c.m c.one in
+      let local : c.x ≤ 63 = grind (arith, nat_tests, thread) in
       let a1 = word_next (is_from_to 1 (length rows)) o a.x a.m a.one in
       let b1 = word_next (is_new_length rows head.large a.x) a.m b.x b.m b.one in
       let c1 = word_next (is_up_to 63) b.m c.x c.m c.one in
       let d1 = word_next anything c.m d.x d.m d.one in
-      record { known = subst (IsKnownStep rows) same known; next = omega arith }
+      record {
+        known = subst (IsKnownStep rows) same known;
+        new = subst (IsNewStep rows head.large) same (low, known, suited, local);
+        next = omega arith;
+      }
 
   step_found : (o : ℕ) (s : Step) (n : ℕ) → step_fields head rows bytes o ≡ found s n
-      → IsKnownStep rows s × (n ≡ o + 40)
+      → IsKnownStep rows s × (n ≡ o + 40) × IsNewStep rows head.large s
   unfolding step_fields
   step_found o s n e =
       let a = both_found bytes (λ kind. step_with head rows kind) (field (is_up_to 2) bytes o) s n e in
@@ -112,10 +130,11 @@ module _ (bytes : List ℕ) (head : Head) (rows : List TypeRow) where
         ]
       ] in
       let next = f.next in
-      (f.known, omega arith)
+      (f.known, omega arith, f.new)
 
   record AreStepsFound (o k : ℕ) (steps : List Step) (n : ℕ) : Type 0 where
     known : AllByRecursion (IsKnownStep rows) steps
+    new : AllByRecursion (IsNewStep rows head.large) steps
     count : length steps ≡ k
     next : n ≡ o + 40 * k
 
@@ -135,6 +154,8 @@ module _ (bytes : List ℕ) (head : Head) (rows : List TypeRow) where
       record {
         known = subst (AllByRecursion (IsKnownStep rows)) same
             (all_push (IsKnownStep rows) steps f.x before.known step.0);
+        new = subst (AllByRecursion (IsNewStep rows head.large)) same
+            (all_push (IsNewStep rows head.large) steps f.x before.new step.2);
         count = omega arith;
         next = omega arith;
       }
@@ -143,11 +164,11 @@ module _ (bytes : List ℕ) (head : Head) (rows : List TypeRow) where
       → AreStepsFound o 16 steps n
   steps_found o steps n e =
       let all = times_keep (more_steps head rows) bytes (AreStepsFound o) (λ k s m t j p f. one_step o k s m t j p f)
-      16 0 [] o steps n (record { known = tt; count = refl; next = omega arith }) e in
+      16 0 [] o steps n (record { known = tt; new = tt; count = refl; next = omega arith }) e in
       let known = all.known in
       let many = all.count in
       let next = all.next in
-      record { known = known; count = omega arith; next = omega arith }
+      record { known = known; new = all.new; count = omega arith; next = omega arith }
 
   -- ---- handles
 
@@ -245,7 +266,7 @@ module _ (bytes : List ℕ) (head : Head) (rows : List TypeRow) where
       }
 
   handles_found : (o : ℕ) (handles : List (ℕ × Handle)) (n : ℕ) → all_handles bytes o ≡ found handles n
-      → AreHandlesFound (o + 8) (length handles) handles n
+      → AreHandlesFound (o + 8) (length handles) handles n × (length handles ≤ 65536)
   unfolding all_handles
   handles_found o handles n e =
       let f = both_found bytes (λ k. times k more_handles []) (field (is_up_to 65536) bytes o) handles n e in
@@ -254,7 +275,11 @@ module _ (bytes : List ℕ) (head : Head) (rows : List TypeRow) where
       f.x 0 [] f.m handles n (record { rising = tt; below = tt; owned = tt; count = refl; next = omega arith }) f.two in
       let many = all.count in
       let next = all.next in
-      record { rising = all.rising; below = all.below; owned = all.owned; count = refl; next = omega arith }
+      let good = word_good (is_up_to 65536) o f.x f.m f.one in
+      let most : f.x ≤ 65536 = grind (arith, nat_tests, good) in (
+        record { rising = all.rising; below = all.below; owned = all.owned; count = refl; next = omega arith },
+        omega arith,
+      )
 
   -- ---- queues
 
@@ -293,11 +318,21 @@ module _ (bytes : List ℕ) (head : Head) (rows : List TypeRow) where
   -- what is known of the tables: their steps and handles, and that they take so many bytes at least, if any
   pub record AreTablesFound (o : ℕ) (t : Tables) (n : ℕ) : Type 0 where
     pub steps : length t.steps ≡ 16
+    pub holder : IfSome t.holder (λ h. is_thread h ≡ true)
     pub known : AllByRecursion (IsKnownStep rows) t.steps
+    pub new : AllByRecursion (IsNewStep rows head.large) t.steps
+    pub few : length t.handles ≤ 65536
     pub rising : IsRisingBy number_of t.handles
     pub below : AllByRecursion (λ (e : ℕ × Handle). e.0 < 65536) t.handles
     pub owned : AllByRecursion (λ (e : ℕ × Handle). HasItsSecond e.1) t.handles
     pub room : o + (32 * length t.handles + 8 * length t.entries + 8 * length t.ready) ≤ n
+
+  thread_found : (t : ℕ) → is_up_to 16 t ≡ true → IfSome (thread_or_none t) (λ h. is_thread h ≡ true)
+  thread_found t most = go (t == 0) refl
+    where
+      go : (b : Bool) → (t == 0) ≡ b → IfSome (if b then None else Some t) (λ h. is_thread h ≡ true)
+      go true e = tt
+      go false e = grind (arith, nat_tests, most, e)
 
   pub tables_found : (o : ℕ) (t : Tables) (n : ℕ) → tables_fields head rows bytes o ≡ found t n → AreTablesFound o t n
   unfolding tables_fields
@@ -311,14 +346,17 @@ module _ (bytes : List ℕ) (head : Head) (rows : List TypeRow) where
       let at : f.m ≡ n = (gave _ f.m _ n f.two).1 in
       let a1 = word_next (is_up_to 16) o a.x a.m a.one in
       let steps = steps_found a.m b.x b.m b.one in
-      let handles = handles_found b.m c.x c.m c.one in
+      let (handles, few) = handles_found b.m c.x c.m c.one in
       let entries = queue_found c.m d.x d.m d.one in
       let ready = queue_found d.m f.x f.m f.one in
       let steps_next = steps.next in
       let handles_next = handles.next in
       subst (λ (u : Tables). AreTablesFound o u n) same (record {
         steps = steps.count;
+        holder = thread_found a.x (word_good (is_up_to 16) o a.x a.m a.one);
         known = steps.known;
+        new = steps.new;
+        few = few;
         rising = handles.rising;
         below = handles.below;
         owned = handles.owned;
@@ -351,6 +389,10 @@ module _ (bytes : List ℕ) (head : Head) (rows : List TypeRow) where
   all_idle zero = tt
   all_idle (suc n) = (tt, all_idle n)
 
+  all_new : (n : ℕ) → AllByRecursion (IsNewStep rows head.large) (replicate n Idle)
+  all_new zero = tt
+  all_new (suc n) = (tt, all_new n)
+
   -- an image of the first version has none
   pub none_found : (o : ℕ) (t : Tables) (n : ℕ) → gives no_tables bytes o ≡ found t n → AreTablesFound o t n
   none_found o t n e =
@@ -358,7 +400,10 @@ module _ (bytes : List ℕ) (head : Head) (rows : List TypeRow) where
       let at : o ≡ n = cc in
       subst (λ (u : Tables). AreTablesFound o u n) same (record {
         steps = refl;
+        holder = tt;
         known = all_idle 16;
+        new = all_new 16;
+        few = omega arith;
         rising = tt;
         below = tt;
         owned = tt;

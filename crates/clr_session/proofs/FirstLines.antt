@@ -5,7 +5,7 @@ use Rattle.std.specs.Prelude.{Result, Ok, Err, IfOk, IfSome, OnErr}
 use Rattle.std.proofs.Common.{arith, append_assoc, append-nil, subst, length-append, length-drop, drop, take-add, ◌-◌}
 use Rattle.std.proofs.Math.Seq.{take-append-add}
 use Rattle.std.proofs.lemmas.List.{take-append-drop, take-take, take_rest}
-use Rattle.clr_model.specs.Machine.{Machine, Options}
+use Rattle.clr_model.specs.Machine.{Machine}
 use Rattle.clr_model.specs.Outcomes.{Outcome}
 use Rattle.clr_lines.specs.Fronts.{IsAnswered}
 use Rattle.clr_session.specs.LineStretch.{IsFirstFeed}
@@ -52,14 +52,14 @@ over_line : (old new : Machine) (text reply : List ℕ) (read : ℕ) → IsAnswe
     → (0 < read) × (read ≤ length text) × GoesOver old (take read text) reply new
 unfolding GoesOver
 over_line old new text reply read answered =
-    let first = is_first text answered.line answered.rest read answered.cut answered.read_is in (
-      first.some,
-      first.within,
-      λ options taken outcomes at.
-          let next = answered_line options old new [] taken answered.line outcomes answered.outcome at answered.unfed
+    let front = is_first text answered.line answered.rest read answered.cut answered.read_is in (
+      front.some,
+      front.within,
+      λ first taken outcomes at.
+          let next = answered_line first old new [] taken answered.line outcomes answered.outcome at answered.unfed
           (follows_rest old new [] answered.line (begun taken) answered.outcome refl at.kept answered.follows) in (
             answered.outcome ∷ [],
-            subst (λ (l : List ℕ). Progress options new [] (taken ++ l) (outcomes ++ answered.outcome ∷ [])) first.taken
+            subst (λ (l : List ℕ). Progress first new [] (taken ++ l) (outcomes ++ answered.outcome ∷ [])) front.taken
                 next,
             answered.told ∙ sym (run_text-one answered.outcome),
           ),
@@ -69,9 +69,9 @@ over_line old new text reply read answered =
 over_on : (old mid new : Machine) (bytes more front reply : List ℕ) → GoesOver old bytes front mid
     → GoesOver mid more reply new → GoesOver old (bytes ++ more) (front ++ reply) new
 unfolding GoesOver
-over_on old mid new bytes more front reply first second = λ options taken outcomes at.
-    let a = first options taken outcomes at in
-    let b = second options (taken ++ bytes) (outcomes ++ a.0) a.1 in (
+over_on old mid new bytes more front reply goes goes_more = λ first taken outcomes at.
+    let a = goes first taken outcomes at in
+    let b = goes_more first (taken ++ bytes) (outcomes ++ a.0) a.1 in (
       a.0 ++ b.0,
       rw (← append_assoc, ← append_assoc) b.1,
       ap (λ (l : List ℕ). l ++ reply) a.2
@@ -81,7 +81,7 @@ over_on old mid new bytes more front reply first second = λ options taken outco
 -- no bytes
 pub over_none : (m : Machine) → GoesOver m [] [] m
 unfolding GoesOver
-over_none m = λ options taken outcomes at. ([], rw (append-nil, append-nil) at, refl)
+over_none m = λ first taken outcomes at. ([], rw (append-nil, append-nil) at, refl)
 
 -- a line more of a text
 pub over_more : (old mid new : Machine) (text front reply : List ℕ) (from read : ℕ) → from ≤ length text
@@ -109,16 +109,16 @@ front_stays new old low high le kept =
 pub goes_front : (old : Session) (new : Machine) (left bytes reply : List ℕ) (before after : Option (List ℕ))
     → length old.line.items ≡ 0 → GoesOver old.runtime.machine bytes reply new
     → Wrote before after old.pending left reply
-    → (options : Options) (taken : List ℕ) (outcomes : List Outcome) → IsAt options old taken outcomes
-    → (more : List Outcome) × Progress options new old.line.items (taken ++ bytes) (outcomes ++ more)
+    → (first : Machine) (taken : List ℕ) (outcomes : List Outcome) → IsAt first old taken outcomes
+    → (more : List Outcome) × Progress first new old.line.items (taken ++ bytes) (outcomes ++ more)
     × Wrote before after old.pending left (run_text more)
 unfolding GoesOver
-goes_front old new left bytes reply before after none over wrote options taken outcomes at =
+goes_front old new left bytes reply before after none over wrote first taken outcomes at =
     let empty = none_left old.line.items none in
-    let goes = over options taken outcomes
-    (subst (λ (l : List ℕ). Progress options old.runtime.machine l taken outcomes) empty at) in (
+    let goes = over first taken outcomes
+    (subst (λ (l : List ℕ). Progress first old.runtime.machine l taken outcomes) empty at) in (
       goes.0,
-      subst (λ (l : List ℕ). Progress options new l (taken ++ bytes) (outcomes ++ goes.0)) (sym empty) goes.1,
+      subst (λ (l : List ℕ). Progress first new l (taken ++ bytes) (outcomes ++ goes.0)) (sym empty) goes.1,
       subst (λ (l : List ℕ). Wrote before after old.pending left l) goes.2 wrote,
     )
 
@@ -127,9 +127,9 @@ pub stops_front : (old : Session) (new : Machine) (text : List ℕ) (before afte
     → length old.line.items ≡ 0 → StopsFront old.runtime.machine new text before after old.pending
     → Stops old text before after
 unfolding GoesOver
-stops_front old new text before after none stopped = λ options taken outcomes at.
-    let goes = stopped.goes options taken outcomes
-    (subst (λ (l : List ℕ). Progress options old.runtime.machine l taken outcomes) (none_left old.line.items none) at)
+stops_front old new text before after none stopped = λ first taken outcomes at.
+    let goes = stopped.goes first taken outcomes
+    (subst (λ (l : List ℕ). Progress first old.runtime.machine l taken outcomes) (none_left old.line.items none) at)
     in
     record {
       part = take stopped.read text;
@@ -166,16 +166,16 @@ pub goes_same : (one two new : Session) (bytes : List ℕ) (before mid after : O
     → mid ≡ before
     → Goes two new bytes mid after
     → Goes one new bytes before after
-goes_same one two new bytes before mid after r l p w goes options taken outcomes at =
-    let g = goes options taken outcomes (rw (r, l) at) in
+goes_same one two new bytes before mid after r l p w goes first taken outcomes at =
+    let g = goes first taken outcomes (rw (r, l) at) in
     (g.0, g.1, rw (← w, ← p) g.2)
 
 pub stops_same : (one two : Session) (bytes : List ℕ) (before mid after : Option (List ℕ))
     → two.runtime.machine ≡ one.runtime.machine
     → two.line.items ≡ one.line.items → two.pending ≡ one.pending → mid ≡ before → Stops two bytes mid after
     → Stops one bytes before after
-stops_same one two bytes before mid after r l p w stops options taken outcomes at =
-    rw (← w, ← p) (stops options taken outcomes (rw (r, l) at))
+stops_same one two bytes before mid after r l p w stops first taken outcomes at =
+    rw (← w, ← p) (stops first taken outcomes (rw (r, l) at))
 
 goes_line_same : (one two new : Session) (text : List ℕ) (before mid after : Option (List ℕ))
     → two.runtime.machine ≡ one.runtime.machine → two.line.items ≡ one.line.items → two.pending ≡ one.pending
@@ -243,8 +243,8 @@ pub piece_ends : (one two new : Session) (piece kept : List ℕ) (from : ℕ) (f
     (before mid after : Option (List ℕ)) → found ≡ None → Goes one two (take from piece) before mid
     → GoesLine two new (take (length piece - from) (drop from piece)) mid after found
     → kept ≡ take 4097 (new.line.items ++ take (length piece - from) (drop from piece))
-    → (options : Options) (taken : List ℕ) (outcomes : List Outcome) → IsAt options one taken outcomes
-    → (x : List Outcome) × Progress options new.runtime.machine kept (taken ++ piece) (outcomes ++ x)
+    → (first : Machine) (taken : List ℕ) (outcomes : List Outcome) → IsAt first one taken outcomes
+    → (x : List Outcome) × Progress first new.runtime.machine kept (taken ++ piece) (outcomes ++ x)
     × Wrote before after one.pending new.pending (run_text x)
 piece_ends one two new piece kept from found before mid after is goes line left =
     let rest = take (length piece - from) (drop from piece) in

@@ -3,14 +3,15 @@ use Rattle.std.proofs.Common.{◌≡◌, ℕ, ◌+◌, ◌-◌, ◌≤◌, List,
 use Rattle.std.proofs.Common.{IfSome, refl, ap, sym, subst, ◌∙◌, arith, append_assoc}
 use Rattle.std.proofs.Common.{append-nil, length-append}
 use Rattle.std.proofs.Math.Seq.{take-append-add}
-use Rattle.clr_model.specs.Machine.{Machine, Options}
+use Rattle.clr_model.specs.Machine.{Machine}
 use Rattle.clr_model.specs.LineGrammar.{script_lines, ended_lines}
 use Rattle.clr_model.specs.Outcomes.{Outcome}
-use Rattle.clr_session.specs.Runs.{IsRunOf, run_text}
+use Rattle.clr_session.specs.Runs.{IsRunFrom, Run, run_text}
 use Rattle.clr_model.specs.Run.{StandsFor}
+use Rattle.clr_runtime.specs.RuntimeView.{RuntimeView}
 use Rattle.clr_streams.specs.Faults.{Appended, Taken}
 use Rattle.clr_session.specs.Output.{Wrote, WroteSome}
-use Rattle.clr_session.specs.Progress.{RunOver, Answered, CutShort, begun}
+use Rattle.clr_session.specs.Progress.{Answered, CutShort, begun}
 use Rattle.clr_session.specs.Sessions.{IsAt, GoesWritten, EndsWritten, Stops, StopsLast}
 use Rattle.clr_session.specs.declared.session.Session.{Session}
 use Rattle.clr_streams.proofs.ByteStreams.{appended_more, taken_more}
@@ -18,11 +19,11 @@ use Rattle.clr_session.proofs.Outputs.{appended_none}
 use Rattle.clr_session.proofs.LineLists.{run_text-append, script_lines-append}
 
 -- so many bytes may still be taken, and those that were are answered in writing
-pub record Running (options : Options) (session : Session) (held held_now written written_now : Option (List ℕ))
+pub record Running (first : Machine) (session : Session) (held held_now written written_now : Option (List ℕ))
     (limit left : ℕ) : Type 0 where
   pub taken : List ℕ
   pub outcomes : List Outcome
-  pub at : IsAt options session taken outcomes
+  pub at : IsAt first session taken outcomes
   pub read : Taken held held_now taken
   pub wrote : Appended written written_now (run_text outcomes)
   pub counted : length taken + left ≡ limit
@@ -32,17 +33,33 @@ taken_none : (held : Option (List ℕ)) → Taken held held []
 taken_none None = refl
 taken_none (Some bytes) = refl
 
-pub started : (options : Options) (session : Session) (held written : Option (List ℕ)) (limit : ℕ)
-    → IsAt options session [] [] → session.pending ≡ [] → Running options session held held written written limit limit
-started options session held written limit at none = record {
-  taken = [];
-  outcomes = [];
-  at = at;
-  read = taken_none held;
-  wrote = appended_none written;
-  counted = omega arith;
-  none_waits = none;
+-- In a run from each state for which this stands, so many bytes may still be taken, and those that were are answered in
+-- writing.
+pub record RunningFromEach (seen : Machine) (session : Session) (held held_now written written_now : Option (List ℕ))
+    (limit left : ℕ) : Type 0 where
+  pub from : (first : Machine) → StandsFor seen first
+      → Running first session held held_now written written_now limit left
+
+-- no byte was taken yet
+pub started : (session : Session) (held written : Option (List ℕ)) (limit : ℕ) → session.line.items ≡ []
+    → session.pending ≡ []
+    → RunningFromEach session.runtime.machine session held held written written limit limit
+started session held written limit no_line none = record {
+  from = λ first stands. record {
+    taken = [];
+    outcomes = [];
+    at = record { state = first; run = refl; shown = stands; kept = no_line };
+    read = taken_none held;
+    wrote = appended_none written;
+    counted = omega arith;
+    none_waits = none;
+  };
 }
+
+-- a runtime that stays stands for what it stood for
+pub still_stands : {one two : RuntimeView} {first : Machine} → two ≡ one → StandsFor one.machine first
+    → StandsFor two.machine first
+still_stands {first = first} same stands = subst (λ (r : RuntimeView). StandsFor r.machine first) (sym same) stands
 
 -- where nothing waits before or after, the text was written
 all_written : (before after : Option (List ℕ)) (waiting text : List ℕ) → waiting ≡ []
@@ -52,13 +69,13 @@ all_written before after waiting text none wrote =
     subst (λ (out : List ℕ). Appended before after out) same wrote.appended
 
 -- a piece was taken
-pub went_on : (options : Options) (one two : Session) (held held1 held2 written written1 written2 : Option (List ℕ))
+pub went_on : (first : Machine) (one two : Session) (held held1 held2 written written1 written2 : Option (List ℕ))
     (limit left n : ℕ) (bytes : List ℕ) →
-    Running options one held held1 written written1 limit left → Taken held1 held2 bytes
+    Running first one held held1 written written1 limit left → Taken held1 held2 bytes
     → GoesWritten one two bytes written1 written2 → length bytes ≡ n → n ≤ left →
-    Running options two held held2 written written2 limit (left - n)
-went_on options one two held held1 held2 written written1 written2 limit left n bytes running read goes count within =
-    let more = goes options running.taken running.outcomes running.at in
+    Running first two held held2 written written2 limit (left - n)
+went_on first one two held held1 held2 written written1 written2 limit left n bytes running read goes count within =
+    let more = goes first running.taken running.outcomes running.at in
     record {
       taken = running.taken ++ bytes;
       outcomes = running.outcomes ++ more.0;
@@ -72,14 +89,14 @@ went_on options one two held held1 held2 written written1 written2 limit left n 
     }
 
 -- the end of the input came
-pub finished : (options : Options) (session new : Session)
+pub finished : (first : Machine) (session new : Session)
     (held held1 held2 written written1 written2 : Option (List ℕ)) (limit left : ℕ) →
-    Running options session held held1 written written1 limit left → Taken held1 held2 []
+    Running first session held held1 written written1 limit left → Taken held1 held2 []
     → EndsWritten session new written1 written2 →
-    (taken : List ℕ) × (answered : Answered options script_lines held held2 written written2 taken)
+    (taken : List ℕ) × (answered : Answered first script_lines held held2 written written2 taken)
     × StandsFor new.runtime.machine answered.last × (length taken ≤ limit)
-finished options session new held held1 held2 written written1 written2 limit left running read ends =
-    let more = ends options running.taken running.outcomes running.at in (
+finished first session new held held1 held2 written written1 written2 limit left running read ends =
+    let more = ends first running.taken running.outcomes running.at in (
       running.taken,
       record {
         outcomes = running.outcomes ++ more.0;
@@ -95,10 +112,10 @@ finished options session new held held1 held2 written written1 written2 limit le
     )
 
 -- what was answered so far
-pub so_far : (options : Options) (session : Session) (held held1 written written1 : Option (List ℕ)) (limit left : ℕ) →
-    (running : Running options session held held1 written written1 limit left)
-    → Answered options ended_lines held held1 written written1 running.taken
-so_far options session held held1 written written1 limit left running =
+pub so_far : (first : Machine) (session : Session) (held held1 written written1 : Option (List ℕ)) (limit left : ℕ) →
+    (running : Running first session held held1 written written1 limit left)
+    → Answered first ended_lines held held1 written written1 running.taken
+so_far first session held held1 written written1 limit left running =
     record {
       outcomes = running.outcomes;
       last = running.at.state;
@@ -119,18 +136,18 @@ one_byte (b ∷ []) e = (b, refl)
 one_byte (b ∷ c ∷ bytes) e = absurd (omega arith)
 
 -- a byte came that is one too many
-pub past_limit : (options : Options) (session : Session) (held held1 held2 written written1 : Option (List ℕ))
+pub past_limit : (first : Machine) (session : Session) (held held1 held2 written written1 : Option (List ℕ))
     (limit left : ℕ) (bytes : List ℕ) →
-    Running options session held held1 written written1 limit left → left ≡ 0 → Taken held1 held2 bytes
+    Running first session held held1 written written1 limit left → left ≡ 0 → Taken held1 held2 bytes
     → length bytes ≡ 1 →
-    (taken : List ℕ) × (byte : ℕ) × Answered options ended_lines held
+    (taken : List ℕ) × (byte : ℕ) × Answered first ended_lines held
     (option_map (λ rest. byte ∷ rest) held2) written written1 taken × (length taken ≡ limit)
-past_limit options session held held1 held2 written written1 limit left bytes running none read single =
+past_limit first session held held1 held2 written written1 limit left bytes running none read single =
     let one = one_byte bytes single in
     let last : held1 ≡ option_map (λ rest. one.0 ∷ rest) held2 = rw one.1 at read in (
       running.taken,
       one.0,
-      rw (← last) (so_far options session held held1 written written1 limit left running),
+      rw (← last) (so_far first session held held1 written written1 limit left running),
       let c = running.counted in omega (arith, c),
     )
 
@@ -148,19 +165,19 @@ some_written before mid after waiting some more none front wrote =
     ∙ take-append-add (run_text some) (run_text more) wrote.count))
 
 -- a script whose writing stopped
-pub cut_short : (options : Options) (session : Session) (held held1 held2 written written1 written2 : Option (List ℕ))
+pub cut_short : (first : Machine) (session : Session) (held held1 held2 written written1 written2 : Option (List ℕ))
     (limit left : ℕ) (bytes : List ℕ) →
-    Running options session held held1 written written1 limit left → Taken held1 held2 bytes → length bytes ≤ left
+    Running first session held held1 written written1 limit left → Taken held1 held2 bytes → length bytes ≤ left
     → Stops session bytes written1 written2 →
-    CutShort options limit held held2 written written2
-cut_short options session held held1 held2 written written1 written2 limit left bytes running read few stops =
-    let s = stops options running.taken running.outcomes running.at in
+    CutShort first limit held held2 written written2
+cut_short first session held held1 held2 written written1 written2 limit left bytes running read few stops =
+    let s = stops first running.taken running.outcomes running.at in
     record {
       taken = running.taken ++ bytes;
       short = let l = length-append running.taken bytes in let c = running.counted in omega (arith, l, c, few);
       done = ended_lines (running.taken ++ s.part);
       undone = script_lines (begun (running.taken ++ s.part) ++ s.rest);
-      first = rw (s.cut, ← append_assoc) (script_lines-append (running.taken ++ s.part) s.rest);
+      cut = rw (s.cut, ← append_assoc) (script_lines-append (running.taken ++ s.part) s.rest);
       outcomes = running.outcomes ++ s.more;
       last = s.last;
       run = s.run;
@@ -170,19 +187,19 @@ cut_short options session held held1 held2 written written1 written2 limit left 
           running.wrote s.wrote;
     }
 
-pub cut_short_last : (options : Options) (session : Session)
+pub cut_short_last : (first : Machine) (session : Session)
     (held held1 held2 written written1 written2 : Option (List ℕ)) (limit left : ℕ) →
-    Running options session held held1 written written1 limit left → Taken held1 held2 []
+    Running first session held held1 written written1 limit left → Taken held1 held2 []
     → StopsLast session written1 written2 →
-    CutShort options limit held held2 written written2
-cut_short_last options session held held1 held2 written written1 written2 limit left running read stops =
-    let s = stops options running.taken running.outcomes running.at in
+    CutShort first limit held held2 written written2
+cut_short_last first session held held1 held2 written written1 written2 limit left running read stops =
+    let s = stops first running.taken running.outcomes running.at in
     record {
       taken = running.taken;
       short = let c = running.counted in omega (arith, c);
       done = script_lines running.taken;
       undone = [];
-      first = sym (append-nil (script_lines running.taken));
+      cut = sym (append-nil (script_lines running.taken));
       outcomes = running.outcomes ++ s.more;
       last = s.last;
       run = s.run;
@@ -203,18 +220,18 @@ some_of A None h = tt
 some_of A (Some script) h = h script refl
 
 -- a source that tells its bytes was read to its end, and all its lines were answered
-pub headline : (options : Options) (held held_after written written_after : Option (List ℕ)) (taken : List ℕ)
-    (answered : Answered options script_lines held held_after written written_after taken)
+pub headline : (first : Machine) (held held_after written written_after : Option (List ℕ)) (taken : List ℕ)
+    (answered : Answered first script_lines held held_after written written_after taken)
     → IfSome held_after (λ rest. rest ≡ [])
     → (Q : Machine → Type 0) → Q answered.last
-    → IfSome held (λ script. (text : List ℕ) × (last : Machine) × IsRunOf options script text last
+    → IfSome held (λ script. (text : List ℕ) × (last : Machine) × IsRunFrom first script text last
     × Appended written written_after text × (held_after ≡ Some []) × Q last)
-headline options held held_after written written_after taken answered ended Q stands =
+headline first held held_after written written_after taken answered ended Q stands =
     some_of _ held (λ script e. go script held_after (sym e ∙ answered.read) ended)
   where
     go : (script : List ℕ) (after : Option (List ℕ)) → Some script ≡ option_map (λ rest. taken ++ rest) after
         → IfSome after (λ rest. rest ≡ [])
-        → (text : List ℕ) × (last : Machine) × IsRunOf options script text last × Appended written written_after text
+        → (text : List ℕ) × (last : Machine) × IsRunFrom first script text last × Appended written written_after text
         × (after ≡ Some []) × Q last
     go script None read end = cc
     go script (Some rest) read end =
@@ -224,8 +241,8 @@ headline options held held_after written written_after taken answered ended Q st
           answered.last,
           record {
             outcomes = answered.outcomes;
-            run = subst (λ (bytes : List ℕ). RunOver options
-                (script_lines bytes) answered.outcomes answered.last) (sym same) answered.run;
+            run = subst (λ (bytes : List ℕ). Run first (script_lines bytes) answered.outcomes answered.last) (sym same)
+                answered.run;
             text_is = refl;
           },
           answered.wrote,

@@ -10,11 +10,11 @@ use Rattle.clr_model.specs.LineGrammar.{script_lines, ended_lines}
 use Rattle.clr_model.specs.Outcomes.{Outcome, outcome_text}
 use Rattle.clr_lines.specs.Lines.{Step, FollowsLine}
 use Rattle.clr_lines.proofs.FrontSteps.{take-min}
-use Rattle.clr_session.specs.Runs.{run_text}
+use Rattle.clr_session.specs.Runs.{Run, run_text}
 use Rattle.clr_model.specs.Run.{StandsFor, opening}
 use Rattle.clr_session.specs.Output.{Wrote, WroteSome}
 use Rattle.clr_script.specs.Fronts.{IsUnfed}
-use Rattle.clr_session.specs.Progress.{RunOver, Progress, begun}
+use Rattle.clr_session.specs.Progress.{Progress, begun}
 use Rattle.clr_streams.specs.Faults.{Appended}
 use Rattle.clr_session.specs.Sessions.{IsAt, Goes, Ends, EndsWritten, Stops, StopsLast}
 use Rattle.clr_session.specs.declared.session.Session.{Session}
@@ -31,10 +31,10 @@ take-kept (suc n) [] ys = refl
 take-kept (suc n) (x ∷ xs) ys = ap (λ more. x ∷ more) (take-kept n xs ys)
 
 -- a stretch without a line feed goes on the begun line
-pub kept_on : (options : Options) (seen : Machine) (line kept taken more : List ℕ) (outcomes : List Outcome)
-    → Progress options seen line taken outcomes → IsUnfed more → kept ≡ take 4097 (line ++ more)
-    → Progress options seen kept (taken ++ more) (outcomes ++ [])
-kept_on options seen line kept taken more outcomes at unfed e = record {
+pub kept_on : (first seen : Machine) (line kept taken more : List ℕ) (outcomes : List Outcome)
+    → Progress first seen line taken outcomes → IsUnfed more → kept ≡ take 4097 (line ++ more)
+    → Progress first seen kept (taken ++ more) (outcomes ++ [])
+kept_on first seen line kept taken more outcomes at unfed e = record {
   state = at.state;
   run = rw (ended_lines-unfed taken more unfed, append-nil) at.run;
   shown = at.shown;
@@ -43,16 +43,16 @@ kept_on options seen line kept taken more outcomes at unfed e = record {
 }
 
 -- a line that ended was answered
-pub answered_line : (options : Options) (seen new : Machine) (line taken rest : List ℕ) (outcomes : List Outcome)
-    (outcome : Outcome) → Progress options seen line taken outcomes → IsUnfed rest
+pub answered_line : (first seen new : Machine) (line taken rest : List ℕ) (outcomes : List Outcome)
+    (outcome : Outcome) → Progress first seen line taken outcomes → IsUnfed rest
     → FollowsLine seen (begun taken ++ rest) outcome new
-    → Progress options new [] (taken ++ (rest ++ 10 ∷ [])) (outcomes ++ outcome ∷ [])
+    → Progress first new [] (taken ++ (rest ++ 10 ∷ [])) (outcomes ++ outcome ∷ [])
 unfolding FollowsLine
-answered_line options seen new line taken rest outcomes outcome at unfed follows =
+answered_line first seen new line taken rest outcomes outcome at unfed follows =
     let next = follows at.state at.shown in
     record {
       state = next.0;
-      run = rw (ended_lines-line taken rest unfed) (run-more (opening options) at.state next.0
+      run = rw (ended_lines-line taken rest unfed) (run-more first at.state next.0
           (ended_lines taken) outcomes (begun taken ++ rest) outcome at.run next.1);
       shown = next.2;
       kept = ap (take 4097) (sym (begun-line taken rest));
@@ -67,27 +67,27 @@ kept_none line [] e none = refl
 kept_none line (b ∷ bytes) e none = let h = ap length e in absurd (omega (arith, h))
 
 -- the last line, that no line feed ends, was answered
-pub answered_last : (options : Options) (seen new : Machine) (line taken : List ℕ) (outcomes : List Outcome)
-    (outcome : Outcome) → Progress options seen line taken outcomes → 0 < length line
+pub answered_last : (first seen new : Machine) (line taken : List ℕ) (outcomes : List Outcome)
+    (outcome : Outcome) → Progress first seen line taken outcomes → 0 < length line
     → FollowsLine seen (begun taken ++ []) outcome new
-    → (last : Machine) × RunOver options (script_lines taken) (outcomes ++ outcome ∷ []) last × StandsFor new last
+    → (last : Machine) × Run first (script_lines taken) (outcomes ++ outcome ∷ []) last × StandsFor new last
 unfolding FollowsLine
-answered_last options seen new line taken outcomes outcome at some follows =
+answered_last first seen new line taken outcomes outcome at some follows =
     let next = follows at.state at.shown in
     let step : Step at.state (begun taken) outcome next.0 = rw append-nil at next.1 in
     let whole : script_lines taken ≡ ended_lines taken ++ begun taken ∷ [] =
     script_lines-split taken ∙ ap (λ rest. ended_lines taken ++ rest) (kept_some line (begun taken) at.kept some) in (
       next.0,
-      rw whole (run-more (opening options) at.state next.0 (ended_lines taken) outcomes
+      rw whole (run-more first at.state next.0 (ended_lines taken) outcomes
           (begun taken) outcome at.run step),
       next.2,
     )
 
 -- no line is begun
-pub all_ended : (options : Options) (seen : Machine) (line taken : List ℕ) (outcomes : List Outcome)
-    → Progress options seen line taken outcomes → length line ≡ 0
-    → (last : Machine) × RunOver options (script_lines taken) outcomes last × StandsFor seen last
-all_ended options seen line taken outcomes at none =
+pub all_ended : (first seen : Machine) (line taken : List ℕ) (outcomes : List Outcome)
+    → Progress first seen line taken outcomes → length line ≡ 0
+    → (last : Machine) × Run first (script_lines taken) outcomes last × StandsFor seen last
+all_ended first seen line taken outcomes at none =
     let whole : script_lines taken ≡ ended_lines taken =
     script_lines-split taken ∙ rw (kept_none line (begun taken) at.kept none) (append-nil (ended_lines taken)) in
     (at.state, rw whole at.run, at.shown)
@@ -97,16 +97,16 @@ run_text-one outcome = append-nil (outcome_text outcome)
 
 -- no bytes are taken
 pub goes_none : (session : Session) (written : Option (List ℕ)) → Goes session session [] written written
-goes_none session written = λ options taken outcomes at.
+goes_none session written = λ first taken outcomes at.
     ([], rw (append-nil, append-nil) at, wrote_none written session.pending)
 
 -- bytes are taken after others
 pub goes_on : (one two three : Session) (bytes more all : List ℕ) (before mid after : Option (List ℕ))
     → all ≡ bytes ++ more
     → Goes one two bytes before mid → Goes two three more mid after → Goes one three all before after
-goes_on one two three bytes more all before mid after e first second = λ options taken outcomes at.
-    let a = first options taken outcomes at in
-    let b = second options (taken ++ bytes) (outcomes ++ a.0) a.1 in (
+goes_on one two three bytes more all before mid after e goes goes_more = λ first taken outcomes at.
+    let a = goes first taken outcomes at in
+    let b = goes_more first (taken ++ bytes) (outcomes ++ a.0) a.1 in (
       a.0 ++ b.0,
       rw (e, ← append_assoc, ← append_assoc) b.1,
       rw (run_text-append a.0 b.0) (wrote_more before mid after one.pending two.pending three.pending (run_text a.0)
@@ -117,12 +117,12 @@ goes_on one two three bytes more all before mid after e first second = λ option
 pub goes_kept : (one two : Session) (bytes more all kept : List ℕ) (before after : Option (List ℕ))
     → all ≡ bytes ++ more → Goes one two bytes before after
     → IsUnfed more → kept ≡ take 4097 (two.line.items ++ more)
-    → (options : Options) (taken : List ℕ) (outcomes : List Outcome) → IsAt options one taken outcomes
-    → (x : List Outcome) × Progress options two.runtime.machine kept (taken ++ all) (outcomes ++ x)
+    → (first : Machine) (taken : List ℕ) (outcomes : List Outcome) → IsAt first one taken outcomes
+    → (x : List Outcome) × Progress first two.runtime.machine kept (taken ++ all) (outcomes ++ x)
     × Wrote before after one.pending two.pending (run_text x)
-goes_kept one two bytes more all kept before after e goes unfed line options taken outcomes at =
-    let a = goes options taken outcomes at in
-    let last = kept_on options two.runtime.machine two.line.items kept (taken ++ bytes) more (outcomes ++ a.0) a.1 unfed
+goes_kept one two bytes more all kept before after e goes unfed line first taken outcomes at =
+    let a = goes first taken outcomes at in
+    let last = kept_on first two.runtime.machine two.line.items kept (taken ++ bytes) more (outcomes ++ a.0) a.1 unfed
     line in
     (a.0, rw (e, ← append_assoc) (rw append-nil at last), a.2)
 
@@ -133,12 +133,12 @@ pub goes_line : (old : Session) (new : Machine) (line left rest : List ℕ) (out
     → FollowsLine old.runtime.machine (begun ++ rest) outcome new)
     → line ≡ []
     → Wrote before after old.pending left (outcome_text outcome)
-    → (options : Options) (taken : List ℕ) (outcomes : List Outcome) → IsAt options old taken outcomes
-    → (more : List Outcome) × Progress options new line (taken ++ (rest ++ 10 ∷ [])) (outcomes ++ more)
+    → (first : Machine) (taken : List ℕ) (outcomes : List Outcome) → IsAt first old taken outcomes
+    → (more : List Outcome) × Progress first new line (taken ++ (rest ++ 10 ∷ [])) (outcomes ++ more)
     × Wrote before after old.pending left (run_text more)
-goes_line old new line left rest outcome before after unfed follows none wrote options taken outcomes at = (
+goes_line old new line left rest outcome before after unfed follows none wrote first taken outcomes at = (
   outcome ∷ [],
-  rw none (answered_line options old.runtime.machine new old.line.items taken rest outcomes outcome at unfed
+  rw none (answered_line first old.runtime.machine new old.line.items taken rest outcomes outcome at unfed
       (follows (begun taken) at.kept)),
   rw (run_text-one outcome) wrote,
 )
@@ -147,9 +147,9 @@ goes_line old new line left rest outcome before after unfed follows none wrote o
 pub stops_on : (one two : Session) (bytes next rest piece : List ℕ) (before mid after : Option (List ℕ))
     → piece ≡ bytes ++ (next ++ rest)
     → Goes one two bytes before mid → Stops two next mid after → Stops one piece before after
-stops_on one two bytes next rest piece before mid after e goes stops = λ options taken outcomes at.
-    let a = goes options taken outcomes at in
-    let s = stops options (taken ++ bytes) (outcomes ++ a.0) a.1 in
+stops_on one two bytes next rest piece before mid after e goes stops = λ first taken outcomes at.
+    let a = goes first taken outcomes at in
+    let s = stops first (taken ++ bytes) (outcomes ++ a.0) a.1 in
     record {
       part = bytes ++ s.part;
       rest = s.rest ++ rest;
@@ -167,8 +167,8 @@ pub stops_line : (old : Session) (new : Machine) (rest : List ℕ) (outcome : Ou
     → ((begun : List ℕ) → old.line.items ≡ take 4097 begun
     → FollowsLine old.runtime.machine (begun ++ rest) outcome new)
     → WroteSome before after (old.pending ++ outcome_text outcome) → Stops old (rest ++ 10 ∷ []) before after
-stops_line old new rest outcome before after unfed follows wrote = λ options taken outcomes at.
-    let next = answered_line options old.runtime.machine new old.line.items taken rest outcomes outcome at unfed
+stops_line old new rest outcome before after unfed follows wrote = λ first taken outcomes at.
+    let next = answered_line first old.runtime.machine new old.line.items taken rest outcomes outcome at unfed
     (follows (begun taken) at.kept) in
     record {
       part = rest ++ 10 ∷ [];
@@ -185,19 +185,19 @@ pub ends_line : (old : Session) (new : Machine) (left : List ℕ) (outcome : Out
     → 0 < length old.line.items
     → ((begun : List ℕ) → old.line.items ≡ take 4097 begun → FollowsLine old.runtime.machine (begun ++ []) outcome new)
     → Wrote before after old.pending left (outcome_text outcome)
-    → (options : Options) (taken : List ℕ) (outcomes : List Outcome) → IsAt options old taken outcomes
-    → (more : List Outcome) × (last : Machine) × RunOver options (script_lines taken) (outcomes ++ more) last
+    → (first : Machine) (taken : List ℕ) (outcomes : List Outcome) → IsAt first old taken outcomes
+    → (more : List Outcome) × (last : Machine) × Run first (script_lines taken) (outcomes ++ more) last
     × StandsFor new last × Wrote before after old.pending left (run_text more)
-ends_line old new left outcome before after some follows wrote options taken outcomes at =
-    let last = answered_last options old.runtime.machine new old.line.items taken outcomes outcome at some
+ends_line old new left outcome before after some follows wrote first taken outcomes at =
+    let last = answered_last first old.runtime.machine new old.line.items taken outcomes outcome at some
     (follows (begun taken) at.kept) in
     (outcome ∷ [], last.0, last.1, last.2, rw (run_text-one outcome) wrote)
 
 -- and with none
 pub ends_none : (session : Session) (written : Option (List ℕ)) → length session.line.items ≡ 0
     → Ends session session written written
-ends_none session written none = λ options taken outcomes at.
-    let last = all_ended options session.runtime.machine session.line.items taken outcomes at none in
+ends_none session written none = λ first taken outcomes at.
+    let last = all_ended first session.runtime.machine session.line.items taken outcomes at none in
     ([], last.0, rw append-nil last.1, last.2, wrote_none written session.pending)
 
 -- the reply to the last line was written in part
@@ -205,8 +205,8 @@ pub stops_last : (old : Session) (new : Machine) (outcome : Outcome) (before aft
     → 0 < length old.line.items
     → ((begun : List ℕ) → old.line.items ≡ take 4097 begun → FollowsLine old.runtime.machine (begun ++ []) outcome new)
     → WroteSome before after (old.pending ++ outcome_text outcome) → StopsLast old before after
-stops_last old new outcome before after some follows wrote = λ options taken outcomes at.
-    let last = answered_last options old.runtime.machine new old.line.items taken outcomes outcome at some
+stops_last old new outcome before after some follows wrote = λ first taken outcomes at.
+    let last = answered_last first old.runtime.machine new old.line.items taken outcomes outcome at some
     (follows (begun taken) at.kept) in
     record { more = outcome ∷ []; last = last.0; run = last.1; wrote = rw (run_text-one outcome) wrote }
 
@@ -262,17 +262,17 @@ some_flushed before mid after waiting left text a b = record {
 
 pub goes_flushed : (one two : Session) (bytes : List ℕ) (before mid after : Option (List ℕ))
     → Goes one two bytes before mid → Appended mid after two.pending
-    → (options : Options) (taken : List ℕ) (outcomes : List Outcome) → IsAt options one taken outcomes
-    → (more : List Outcome) × IsAt options two (taken ++ bytes) (outcomes ++ more)
+    → (first : Machine) (taken : List ℕ) (outcomes : List Outcome) → IsAt first one taken outcomes
+    → (more : List Outcome) × IsAt first two (taken ++ bytes) (outcomes ++ more)
     × Wrote before after one.pending [] (run_text more)
-goes_flushed one two bytes before mid after goes flushed options taken outcomes at =
-    let a = goes options taken outcomes at in
+goes_flushed one two bytes before mid after goes flushed first taken outcomes at =
+    let a = goes first taken outcomes at in
     (a.0, a.1, wrote_flushed before mid after one.pending two.pending (run_text a.0) a.2 flushed)
 
 pub stops_flushed : (one two : Session) (bytes : List ℕ) (before mid after : Option (List ℕ))
     → Goes one two bytes before mid → WroteSome mid after two.pending → Stops one bytes before after
-stops_flushed one two bytes before mid after goes some = λ options taken outcomes at.
-    let a = goes options taken outcomes at in
+stops_flushed one two bytes before mid after goes some = λ first taken outcomes at.
+    let a = goes first taken outcomes at in
     record {
       part = bytes;
       rest = [];
@@ -285,14 +285,14 @@ stops_flushed one two bytes before mid after goes some = λ options taken outcom
 
 pub ends_flushed : (one two : Session) (before mid after : Option (List ℕ)) → Ends one two before mid
     → Appended mid after two.pending → EndsWritten one two before after
-ends_flushed one two before mid after ends flushed = λ options taken outcomes at.
-    let a = ends options taken outcomes at in
+ends_flushed one two before mid after ends flushed = λ first taken outcomes at.
+    let a = ends first taken outcomes at in
     (a.0, a.1, a.2, a.3, wrote_flushed before mid after one.pending two.pending (run_text a.0) a.4 flushed)
 
 pub stops_last_flushed : (one two : Session) (before mid after : Option (List ℕ)) → Ends one two before mid
     → WroteSome mid after two.pending → StopsLast one before after
-stops_last_flushed one two before mid after ends some = λ options taken outcomes at.
-    let a = ends options taken outcomes at in
+stops_last_flushed one two before mid after ends some = λ first taken outcomes at.
+    let a = ends first taken outcomes at in
     record {
       more = a.0;
       last = a.1;
@@ -301,17 +301,7 @@ stops_last_flushed one two before mid after ends some = λ options taken outcome
           (run_text a.0) a.4 some;
     }
 
--- nothing was read yet
-pub started : (options : Options) (seen : Machine) (line : List ℕ) → StandsFor seen (opening options) → line ≡ []
-    → Progress options seen line [] []
-started options seen line stands none = record { state = opening options; run = refl; shown = stands; kept = none }
-
--- what is seen first has the options of the opening state
-pub opening_options : (options : Options) (seen : Machine) → StandsFor seen (opening options) → seen.options ≡ options
-unfolding opening
-opening_options options seen stands = sym (ap (λ (m : Machine). m.options) stands.seen_is)
-
--- and its highest end of a reservation
+-- the highest end of a reservation in the opening state
 pub opening_top : (options : Options) (seen : Machine) → StandsFor seen (opening options)
     → seen.layout.top ≡ 0x10000000 + 2 * options.segment
 unfolding opening

@@ -11,7 +11,7 @@ use Rattle.clr_model.specs.Run.{StandsFor, opening}
 use Rattle.clr_script.specs.Made.{made_lines}
 use Rattle.clr_lines.specs.Lines.{FollowsLine}
 use Rattle.clr_streams.specs.Faults.{Appended}
-use Rattle.clr_session.specs.Progress.{RunOver}
+use Rattle.clr_session.specs.Runs.{Run}
 use Rattle.clr_session.specs.Soak.{is_refused, refused_count, soak_text, summary_text}
 use Rattle.clr_session.specs.Soak.{FollowsLines, Soaked, SoakCutShort}
 use Rattle.clr_session.proofs.LineLists.{run-more}
@@ -120,7 +120,7 @@ module _ (options : Options) (seen new : Machine) (seed count lines refusals : �
     (opens : StandsFor seen (opening options))
     (were_run : WereRun seen seed count lines refusals new) where
   -- the run over these lines
-  run_over : (last : Machine) × RunOver options (made_lines seed count) were_run.0 last × StandsFor new last
+  run_over : (last : Machine) × Run (opening options) (made_lines seed count) were_run.0 last × StandsFor new last
   unfolding FollowsLines
   run_over = were_run.1 (opening options) opens
 

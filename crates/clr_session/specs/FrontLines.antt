@@ -1,6 +1,6 @@
 -- Lines in front of a text that are done at once, one after another.
 use Rattle.std.specs.Prelude.{◌≡◌, ◌<◌, ◌≤◌, ℕ, List, [], ◌++◌, length, take, Option, Some, None}
-use Rattle.clr_model.specs.Machine.{Machine, Options}
+use Rattle.clr_model.specs.Machine.{Machine}
 use Rattle.clr_model.specs.Outcomes.{Outcome}
 use Rattle.clr_session.specs.Output.{Wrote, WroteSome}
 use Rattle.clr_session.specs.Progress.{Progress}
@@ -9,9 +9,9 @@ use Rattle.clr_session.specs.Runs.{run_text}
 -- A script of which no line is begun goes on by these bytes to where none is begun again, and this is the text of its
 -- answers to them.
 unfoldable pub GoesOver : Machine → List ℕ → List ℕ → Machine → Type 0
-GoesOver old bytes reply new = (options : Options) (taken : List ℕ) (outcomes : List Outcome)
-    → Progress options old [] taken outcomes
-    → (more : List Outcome) × Progress options new [] (taken ++ bytes) (outcomes ++ more) × (reply ≡ run_text more)
+GoesOver old bytes reply new = (first : Machine) (taken : List ℕ) (outcomes : List Outcome)
+    → Progress first old [] taken outcomes
+    → (more : List Outcome) × Progress first new [] (taken ++ bytes) (outcomes ++ more) × (reply ≡ run_text more)
 
 -- lines, so much of the text, were answered, and their replies put behind what was waiting; or nothing was done
 abbrev pub AnswersFront : Machine → Machine → List ℕ → Option (List ℕ) → Option (List ℕ) → List ℕ → List ℕ → Option ℕ

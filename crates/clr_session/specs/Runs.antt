@@ -19,8 +19,12 @@ Run m (line ∷ lines) (outcome ∷ outcomes) last = (next : Machine) × Step m 
 abbrev pub run_text : List Outcome → List ℕ
 run_text = flat_map outcome_text
 
--- a run of a whole script from the opening state, its text and its last state
-pub record IsRunOf (options : Options) (script : List ℕ) (text : List ℕ) (last : Machine) : Type 0 where
+-- a run of a whole script from a first state, its text and its last state
+pub record IsRunFrom (first : Machine) (script : List ℕ) (text : List ℕ) (last : Machine) : Type 0 where
   pub outcomes : List Outcome
-  pub run : Run (opening options) (script_lines script) outcomes last
+  pub run : Run first (script_lines script) outcomes last
   pub text_is : text ≡ run_text outcomes
+
+-- one from the opening state
+abbrev pub IsRunOf : Options → List ℕ → List ℕ → Machine → Type 0
+IsRunOf options = IsRunFrom (opening options)

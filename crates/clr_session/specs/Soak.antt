@@ -8,11 +8,10 @@ use Rattle.clr_model.specs.Instructions.{DumpOptions}
 use Rattle.clr_model.specs.Machine.{Machine, Options}
 use Rattle.clr_model.specs.Outcomes.{Outcome, answered, shown, refused, outcome_text}
 use Rattle.clr_model.specs.Picture.{picture}
-use Rattle.clr_model.specs.Run.{StandsFor}
+use Rattle.clr_model.specs.Run.{StandsFor, opening}
 use Rattle.clr_model.specs.Sos.{dumpheap_text, line}
 use Rattle.clr_script.specs.Made.{made_lines}
 use Rattle.clr_streams.specs.Faults.{Appended}
-use Rattle.clr_session.specs.Progress.{RunOver}
 use Rattle.clr_session.specs.Runs.{Run}
 
 -- ---- lines that are refused
@@ -29,7 +28,16 @@ refused_count = count_by is_refused
 
 -- the options of `dumpheap -stat`
 abbrev pub stat_options : DumpOptions
-stat_options = record { mode = Stat; life = Any; mt = None; name = None; least = None; greatest = None }
+stat_options = record {
+  mode = Stat;
+  life = Any;
+  mt = None;
+  name = None;
+  least = None;
+  greatest = None;
+  generation = None;
+  segment = None;
+}
 
 -- the reply to `dumpheap -stat`, for which it plays no part what is reached
 abbrev pub stat_text : Machine → List ℕ
@@ -59,13 +67,13 @@ FollowsLines old lines outcomes new = (m : Machine) → StandsFor old m
 pub record Soaked (options : Options) (seed count : ℕ) (written written_after : Option (List ℕ)) : Type 0 where
   pub outcomes : List Outcome
   pub last : Machine
-  pub run : RunOver options (made_lines seed count) outcomes last
+  pub run : Run (opening options) (made_lines seed count) outcomes last
   pub wrote : Appended written written_after (soak_text outcomes last)
 
 -- the generated script of a seed was run, and a part from the front of the summary was written
 pub record SoakCutShort (options : Options) (seed count : ℕ) (written written_after : Option (List ℕ)) : Type 0 where
   pub outcomes : List Outcome
   pub last : Machine
-  pub run : RunOver options (made_lines seed count) outcomes last
+  pub run : Run (opening options) (made_lines seed count) outcomes last
   pub part : ℕ
   pub wrote : Appended written written_after (take part (soak_text outcomes last))

@@ -7,5 +7,5 @@ mod script;
 mod session;
 mod soaking;
 
-pub use script::{SCRIPT_LIMIT, run_source};
+pub use script::{SCRIPT_LIMIT, run_over, run_source};
 pub use soaking::soak;

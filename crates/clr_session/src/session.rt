@@ -8,7 +8,7 @@ use crate::outcome::put_outcome;
 use crate::pending::Pending;
 use clr_lines::Outcome;
 use clr_lines::execute::execute;
-use clr_runtime::{NoMemory, Options, Runtime};
+use clr_runtime::{NoMemory, Runtime};
 use clr_streams::{Failed, Sink, push_all};
 use memchr::memchr;
 use std::alloc::Global;
@@ -47,26 +47,23 @@ pub struct Session {
 }
 
 impl Session {
-    ghost use Rattle.clr_session.specs.Sessions.{IsAt, Goes, GoesLine, GoesWritten, Ends, EndsWritten};
+    ghost use Rattle.clr_session.specs.Sessions.{Goes, GoesLine, GoesWritten, Ends, EndsWritten};
     ghost use Rattle.clr_session.specs.Sessions.{Stops, StopsLast};
     ghost use Rattle.clr_lines.specs.Outcomes.{outcome_of, CanShow};
-    ghost use Rattle.clr_model.specs.Lawful.{AreLawfulOptions};
     ghost use Rattle.clr_lines.specs.Lines.{FollowsLine};
-    ghost use Rattle.clr_runtime.specs.Options.{options_of};
 
-    /// A script of which nothing was read yet, over a runtime with these options. Takes the memory of its buffers here.
-    pub fn new(alloc: Global, options: Options) -> Result<Session, NoMemory>
-        requires { AreLawfulOptions (options_of options) }
-        ensures at { IfOk result (λ session. IsAt (options_of options) session [] []) }
-        ensures made_with { IfOk result (λ session. session.runtime.machine.options ≡ options_of options) }
-        ensures top { IfOk result (λ session. session.runtime.machine.layout.top ≡ 0x10000000 + 2 * options.segment) }
+    /// A script of which nothing was read yet, over a runtime. Takes the memory of its buffers here.
+    pub fn over(alloc: Global, runtime: Runtime) -> Result<Session, NoMemory>
+        ensures runtime { IfOk result (λ session. session.runtime ≡ runtime) }
+        ensures line { IfOk result (λ session. session.line.items ≡ []) }
         ensures empty { IfOk result (λ session. session.pending ≡ []) }
     {
-        let pending = Pending::new(alloc)?;
-        let Ok(line) = Vec::with_capacity(alloc, KEPT) else {
+        let Ok(pending) = Pending::new(alloc) else {
+            drop(runtime);
             return Err(NoMemory);
         };
-        let Ok(runtime) = Runtime::new(alloc, options) else {
+        let Ok(line) = Vec::with_capacity(alloc, KEPT) else {
+            drop(runtime);
             return Err(NoMemory);
         };
         Ok(Session {

@@ -131,6 +131,8 @@ fn show_types(runtime: &Runtime, alloc: Global) -> Result<Vec<u8>, NoMemory>
         name: None,
         min: 0,
         max: u64::MAX,
+        generation: None,
+        segment: None,
     };
     match obey_look(runtime, alloc, Command::DumpHeap { filter }) {
         Outcome::Text(text) => Ok(text),

@@ -11,7 +11,7 @@ use std::marker::Model;
 /// A reader of std as a source. Contracts see the count of its faults, which stays at the last value of a u64.
 #[derive(Drop)]
 pub struct ReadAdapter<R> {
-    inner: R,
+    inner: Option<R>,
     faults: u64,
 }
 
@@ -26,6 +26,13 @@ impl<R> Model for ReadAdapter<R> {
 impl<R> ReadAdapter<R> {
     /// A source over this reader, with no fault yet.
     pub fn new(inner: R) -> ReadAdapter<R>
+        ensures { result ≡ 0 }
+    {
+        ReadAdapter::opened(Some(inner))
+    }
+
+    /// A source over what was to be opened, as a file, with no fault yet. Where there is none, each read fails.
+    pub fn opened(inner: Option<R>) -> ReadAdapter<R>
         ensures { result ≡ 0 }
     {
         ReadAdapter { inner, faults: 0 }
@@ -43,13 +50,13 @@ impl<R: Read> Source for ReadAdapter<R> {
         ensures cause { OnErr result (Rose self.old self.new) }
         ensures one_more { OnErr result (self.new ≡ min (self.old + 1) (2 ^ 64 - 1)) }
     {
-        match self.inner.read(into) {
-            Ok(count) => Ok(count),
-            Err(_) => {
-                self.faults = self.faults.saturating_add(1);
-                Err(Failed)
+        if let Some(inner) = &mut self.inner {
+            if let Ok(count) = inner.read(into) {
+                return Ok(count);
             }
         }
+        self.faults = self.faults.saturating_add(1);
+        Err(Failed)
     }
 }
 

@@ -33,6 +33,8 @@ fn adapts_a_reader(rt: HostRuntime) -> Result<(), Fail> {
     assert_eq!(rt; into, [b'c', b'b']);
     assert_eq!(rt; source.read(&mut into), Ok(0));
     assert_eq!(rt; ReadAdapter::new(Broken).read(&mut into), Err(Failed));
+    let none: Option<&[u8]> = None;
+    assert_eq!(rt; ReadAdapter::opened(none).read(&mut into), Err(Failed));
     Ok(())
 }
 

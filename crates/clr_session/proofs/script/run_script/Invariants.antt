@@ -1,10 +1,10 @@
 use Rattle.std.proofs.Common.{◌≡◌, ◌+◌, ◌*◌, ◌^◌, ◌≤◌}
-use Rattle.clr_session.proofs.ScriptLoop.{Running}
+use Rattle.clr_session.proofs.ScriptLoop.{RunningFromEach}
 use Rattle.clr_session.proofs.script.run_script.Given as goal
 
 abbrev pub invariant-loop-count : goal.invariant-loop-count
 invariant-loop-count g l = record {
-  running : Running l.initial.session.runtime.machine.options l.session (g.S.Source.held l.initial.source)
+  running : RunningFromEach l.initial.session.runtime.machine l.session (g.S.Source.held l.initial.source)
       (g.S.Source.held l.source) (g.K.Sink.written l.initial.sink) (g.K.Sink.written l.sink) l.limit l.left;
   room : l.session.runtime.machine.layout.top + 2 ^ 30 * (l.left + 1) ≤ 2 ^ 61;
   source_counted : g.S.Source.faults l.source ≡ g.S.Source.faults l.initial.source;

@@ -1,0 +1,14 @@
+pub mod ReadPieces
+pub mod ReadWords
+pub mod ReadShapes
+pub mod ReadFields
+pub mod ReadNames
+pub mod FrontLayouts
+pub mod FrontMachines
+pub mod BegunHeaps
+pub mod OpenedLawful
+pub mod StandingImages
+pub mod BegunThreads
+pub mod FitFields
+pub mod ImageSteps
+pub mod OpenedRuntimes

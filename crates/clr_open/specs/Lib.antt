@@ -1,0 +1,4 @@
+pub mod Begun
+pub mod Fit
+pub mod Offsets
+pub mod Read

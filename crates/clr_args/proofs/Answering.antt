@@ -8,22 +8,27 @@ use Rattle.clap.specs.Simple.{subcommand_of}
 use Rattle.clap.specs.Faults.{fault_of}
 use Rattle.clr_model.specs.Machine.{Options}
 use Rattle.clr_model.specs.Run.{defaults}
-use Rattle.clr_args.specs.CommandLines.{AreSettingsRead, AreSoakNumbers, HasOptions, IsReadWith, IsSaid, IsSoakRead}
+use Rattle.clr_args.specs.Budgets.{AreLawfulBudgets, budgets_of}
+use Rattle.clr_args.specs.CommandLines.{AreSettingsRead, AreSoakNumbers, HasOptions, IsOpenRead, IsPathSaid, IsReadWith}
+use Rattle.clr_args.specs.CommandLines.{IsSaid, IsSoakRead}
 use Rattle.clr_args.specs.Grammar.{IsLine, Line, Says, SaysAlone, SaysImage, SaysInspect, SaysMigrate, SaysNothing}
-use Rattle.clr_args.specs.Grammar.{SaysRun, SaysSoak, Text, is_among, number_of, said, soak_places}
+use Rattle.clr_args.specs.Grammar.{SaysOpen, SaysRun, SaysSoak, Text, is_among, number_of, option_names, options_in}
+use Rattle.clr_args.specs.Grammar.{said, soak_places}
 use Rattle.clr_args.specs.Parser.{program}
-use Rattle.clr_args.specs.Reading.{AreRead, number_in, number_or}
+use Rattle.clr_args.specs.Reading.{AreBudgetsRead, AreRead, number_in, number_or}
 use Rattle.clr_args.specs.Settings.{options_of}
+use Rattle.clr_args.specs.declared.budgets.Budgets.{Budgets}
 use Rattle.clr_args.specs.declared.command_line.CommandLine.{CommandLine}
-use Rattle.clr_args.specs.declared.command_line.CommandLine.TheVariants.{Image, Inspect, Migrate, Run, Soak}
+use Rattle.clr_args.specs.declared.command_line.CommandLine.TheVariants.{Image, Inspect, Migrate, Open, Run, Soak}
 use Rattle.clr_args.specs.declared.settings.Settings.{Settings}
 use Rattle.clr_args.proofs.Pass.{Items}
 use Rattle.clr_args.proofs.Rules.{rows_at}
 use Rattle.clr_args.proofs.Levels.{is_in, line_taken}
 use Rattle.clr_args.proofs.Commands.{Command, GivesCommand, Verb, images, inspects, migrates, name_of, named, parsed}
-use Rattle.clr_args.proofs.Commands.{parsed_at, parsed_by, parser_gives, runs, soaks, taken, verb_of}
+use Rattle.clr_args.proofs.Commands.{opens, parsed_at, parsed_by, parser_gives, runs, soaks, taken, verb_of}
 use Rattle.clr_args.proofs.Lines.{alone_said_by, dashes_taken, nothing_taken, options_said_by, soak_said_by}
-use Rattle.clr_args.proofs.Meaning.{are_read, options_found, place_is_in, read_said, soak_found}
+use Rattle.clr_args.proofs.Meaning.{are_read, budgets_are_read, options_found, place_is_in, read_said, soak_found}
+use Rattle.clr_args.proofs.Opens.{open_budgets_found, open_found, open_path_found, open_said_by, texts_found}
 use Rattle.clr_args.proofs.Spelled.{texts_of}
 use Rattle.clr_args.proofs.Taken.{text_by}
 
@@ -87,7 +92,7 @@ there_is (x ∷ xs) name e = go (bytes_eq x.0 name) e (there_is xs name)
     go true e rest = refl
     go false e rest = rest e
 
-place_found : (line : Line) (name : Text) → IsLine soak_places line → is_among name soak_places ≡ true
+place_found : (line : Line) (name : Text) → IsLine option_names soak_places line → is_among name soak_places ≡ true
     → option_and_then number_in (first_of name (rows_at (texts_of (said line)))) ≡ Some (number_of name 0 (said line))
 place_found line name is among =
     there_is (texts_of (said line)) name
@@ -143,6 +148,21 @@ soak_is_found arguments options seed count (line, says, seed_is, seed_fits, coun
   },
 )
 
+open_is_found : (arguments : List Text) (budgets : Budgets) (path : Text) → SaysOpen arguments budgets path
+    → (items : Items) × (parsed arguments ≡ Some (opens, items)) × AreBudgetsRead (rows_at items) budgets
+    × AreLawfulBudgets budgets × (first_of (codes "IMAGE") (rows_at items) ≡ Some path)
+open_is_found arguments budgets path (line, says) =
+    let numbers = said (options_in line) in (
+      texts_found line.before line.ending,
+      parsed_at opens arguments _ says.arguments_are
+          ∙ ap (option_map (λ items. (opens, items))) (open_found line says.is_line says.is_path),
+      open_budgets_found line budgets says.is_line
+          (subst (AreBudgetsRead (rows_at (texts_of numbers))) (sym says.budgets_are)
+          (budgets_are_read numbers says.is_line.small)),
+      says.lawful,
+      open_path_found line says.is_line ∙ ap (λ (p : Text). Some p) (sym says.path_is),
+    )
+
 alone_is_found : (v : Verb) → ((rest : List Text) → taken v rest ≡ line_taken [] [] rest) → (arguments : List Text)
     → SaysAlone (name_of v) arguments → parsed arguments ≡ Some (v, [])
 alone_is_found v like arguments (inl is) =
@@ -160,6 +180,7 @@ SaysVerb soaks arguments = (options : Options) × (seed : ℕ) × (count : ℕ) 
 SaysVerb images arguments = (options : Options) × SaysImage arguments options
 SaysVerb inspects arguments = SaysInspect arguments
 SaysVerb migrates arguments = SaysMigrate arguments
+SaysVerb opens arguments = (budgets : Budgets) × (path : Text) × SaysOpen arguments budgets path
 
 verb_is_found : (v : Verb) (arguments : List Text) → SaysVerb v arguments
     → (items : Items) × (parsed arguments ≡ Some (v, items))
@@ -169,6 +190,8 @@ verb_is_found soaks arguments (options, seed, count, says) =
 verb_is_found images arguments (options, says) = let found = image_is_found arguments options says in (found.0, found.1)
 verb_is_found inspects arguments says = ([], alone_is_found inspects (λ rest. refl) arguments says)
 verb_is_found migrates arguments says = ([], alone_is_found migrates (λ rest. refl) arguments says)
+verb_is_found opens arguments (budgets, path, says) =
+    let found = open_is_found arguments budgets path says in (found.0, found.1)
 
 says_nothing : (arguments : List Text) → ((v : Verb) → SaysVerb v arguments → ⊥) → SaysNothing arguments
 says_nothing arguments none = record {
@@ -177,6 +200,7 @@ says_nothing arguments none = record {
   no_image = λ options says. none images (options, says);
   no_inspect = none inspects;
   no_migrate = none migrates;
+  no_open = λ budgets path says. none opens (budgets, path, says);
 }
 
 -- no arguments say another command than the one that is found
@@ -200,6 +224,7 @@ IsVerbRead soaks rows line = IsSoakRead rows line
 IsVerbRead images rows line = IsReadWith Image rows line
 IsVerbRead inspects rows line = line ≡ Some Inspect
 IsVerbRead migrates rows line = line ≡ Some Migrate
+IsVerbRead opens rows line = IsOpenRead rows line
 
 verb_answer : (arguments rest : List Text) (v : Verb) (items : Items) → arguments ≡ name_of v ∷ rest
     → taken v rest ≡ Some items → parsed arguments ≡ Some (v, items)
@@ -231,6 +256,14 @@ verb_answer arguments rest inspects items are takes is line line_is =
     subst (IsSaid arguments) (sym line_is) (alone_said_by (codes "inspect") arguments rest items are takes)
 verb_answer arguments rest migrates items are takes is line line_is =
     subst (IsSaid arguments) (sym line_is) (alone_said_by (codes "migrate") arguments rest items are takes)
+verb_answer arguments rest opens items are takes is (Some line) (budgets, line_is, read, lawful) =
+    subst (λ (l : CommandLine). IsSaid arguments (Some l)) (sym line_is)
+    (open_said_by arguments rest items budgets are takes read lawful)
+verb_answer arguments rest opens items are takes is None read =
+    none_said arguments opens items is (λ (budgets, path, says).
+    let found = open_is_found arguments budgets path says in
+    let same = same_items arguments (opens, found.0) (opens, items) found.1 is in
+    read budgets (subst (λ (c : Command). AreBudgetsRead (rows_at c.1) budgets) same found.2) found.3)
 
 pub said_by_matches : (arguments : List Text) (found : Option (Text × List Row)) → fault_of program arguments ≡ []
     → found ≡ subcommand_of program arguments
@@ -254,51 +287,77 @@ pub each_read : (found : Option (Text × List Row)) (line : Option CommandLine)
     → ((rows : List Row) → found ≡ Some (codes "image", rows) → IsReadWith Image rows line)
     → ((rows : List Row) → found ≡ Some (codes "inspect", rows) → line ≡ Some Inspect)
     → ((rows : List Row) → found ≡ Some (codes "migrate", rows) → line ≡ Some Migrate)
+    → ((rows : List Row) → found ≡ Some (codes "open", rows) → IsOpenRead rows line)
     → (v : Verb) (rows : List Row) → found ≡ Some (name_of v, rows) → IsVerbRead v rows line
-each_read found line run soak image inspect migrate runs = run
-each_read found line run soak image inspect migrate soaks = soak
-each_read found line run soak image inspect migrate images = image
-each_read found line run soak image inspect migrate inspects = inspect
-each_read found line run soak image inspect migrate migrates = migrate
+each_read found line run soak image inspect migrate opened runs = run
+each_read found line run soak image inspect migrate opened soaks = soak
+each_read found line run soak image inspect migrate opened images = image
+each_read found line run soak image inspect migrate opened inspects = inspect
+each_read found line run soak image inspect migrate opened migrates = migrate
+each_read found line run soak image inspect migrate opened opens = opened
 
 -- ---- arguments say one thing
 
 number_at : Text → ℕ → List Row → ℕ
 number_at name default rows = unwrap_or (number_or default (first_of name rows)) 0
 
--- the settings that rows say
-settings_at : List Row → Settings
-settings_at rows = record {
-  limit = number_at (codes "limit") defaults.limit rows;
-  segment = number_at (codes "segment") defaults.segment rows;
+number_is : (o : Option ℕ) (n : ℕ) → o ≡ Some n → n ≡ unwrap_or o 0
+number_is o n e = ap (λ (x : Option ℕ). unwrap_or x 0) (sym e)
+
+-- the budgets that rows say
+budgets_at : List Row → Budgets
+budgets_at rows = record {
   b0 = number_at (codes "b0") defaults.b0 rows;
   b1 = number_at (codes "b1") defaults.b1 rows;
   b2 = number_at (codes "b2") defaults.b2 rows;
   bl = number_at (codes "bl") defaults.bl rows;
   compact = number_at (codes "compact") defaults.compact rows;
+}
+
+budgets_are : (rows : List Row) (budgets : Budgets) → AreBudgetsRead rows budgets → budgets ≡ budgets_at rows
+unfolding budgets_at number_at
+budgets_are rows budgets read =
+    let b0 = number_is _ budgets.b0 read.b0 in
+    let b1 = number_is _ budgets.b1 read.b1 in
+    let b2 = number_is _ budgets.b2 read.b2 in
+    let bl = number_is _ budgets.bl read.bl in
+    let compact = number_is _ budgets.compact read.compact in
+    λ i. record {
+      b0 = b0 i;
+      b1 = b1 i;
+      b2 = b2 i;
+      bl = bl i;
+      compact = compact i;
+    }
+
+-- the settings that rows say
+settings_at : List Row → Settings
+settings_at rows = record {
+  limit = number_at (codes "limit") defaults.limit rows;
+  segment = number_at (codes "segment") defaults.segment rows;
+  b0 = (budgets_at rows).b0;
+  b1 = (budgets_at rows).b1;
+  b2 = (budgets_at rows).b2;
+  bl = (budgets_at rows).bl;
+  compact = (budgets_at rows).compact;
   large = number_at (codes "large") defaults.large rows;
 }
 
 settings_are : (rows : List Row) (settings : Settings) → AreSettingsRead rows settings → settings ≡ settings_at rows
 unfolding settings_at number_at
 settings_are rows settings are =
-    let number = λ (o : Option ℕ) (n : ℕ) (e : o ≡ Some n). ap (λ (x : Option ℕ). unwrap_or x 0) (sym e) in
-    let limit = number _ settings.limit are.read.limit in
-    let segment = number _ settings.segment are.read.segment in
-    let b0 = number _ settings.b0 are.read.b0 in
-    let b1 = number _ settings.b1 are.read.b1 in
-    let b2 = number _ settings.b2 are.read.b2 in
-    let bl = number _ settings.bl are.read.bl in
-    let compact = number _ settings.compact are.read.compact in
-    let large = number _ settings.large are.read.large in
+    let limit = number_is _ settings.limit are.read.limit in
+    let segment = number_is _ settings.segment are.read.segment in
+    let budgets = budgets_are rows (budgets_of (options_of settings)) are.read.budgets in
+    let large = number_is _ settings.large are.read.large in
     λ i. record {
       limit = limit i;
       segment = segment i;
-      b0 = b0 i;
-      b1 = b1 i;
-      b2 = b2 i;
-      bl = bl i;
-      compact = compact i;
+      b0 = (budgets i).b0;
+      b1 = (budgets i).b1;
+      b2 = (budgets i).b2;
+      bl = (budgets i).bl;
+      compact = (budgets i).compact;
       large = large i;
     }
 
@@ -312,6 +371,7 @@ line_of soaks rows = Soak (settings_at rows) (place_at (codes "SEED") rows) (pla
 line_of images rows = Image (settings_at rows)
 line_of inspects rows = Inspect
 line_of migrates rows = Migrate
+line_of opens rows = Open (budgets_at rows)
 
 soak_is : (rows : List Row) (settings : Settings) (seed count : ℕ) → AreSettingsRead rows settings
     → AreSoakNumbers rows seed count → Soak settings seed count ≡ line_of soaks rows
@@ -337,6 +397,9 @@ said_is arguments (Image settings) says =
     (images, found.0, found.1, ap (λ (s : Settings). Image s) (settings_are (rows_at found.0) settings found.2))
 said_is arguments Inspect says = (inspects, [], alone_is_found inspects (λ rest. refl) arguments says, refl)
 said_is arguments Migrate says = (migrates, [], alone_is_found migrates (λ rest. refl) arguments says, refl)
+said_is arguments (Open budgets) (path, says) =
+    let found = open_is_found arguments budgets path says in
+    (opens, found.0, found.1, ap (λ (b : Budgets). Open b) (budgets_are (rows_at found.0) budgets found.2))
 
 said_once : (arguments : List Text) (a b : CommandLine) → IsSaid arguments (Some a) → IsSaid arguments (Some b) → a ≡ b
 said_once arguments a b first second =
@@ -354,6 +417,7 @@ said_or_nothing arguments (Soak settings seed count) says nothing =
 said_or_nothing arguments (Image settings) says nothing = nothing.no_image (options_of settings) says
 said_or_nothing arguments Inspect says nothing = nothing.no_inspect says
 said_or_nothing arguments Migrate says nothing = nothing.no_migrate says
+said_or_nothing arguments (Open budgets) (path, says) nothing = nothing.no_open budgets path says
 
 pub one_thing : (arguments : List Text) (a b : Option CommandLine) → IsSaid arguments a → IsSaid arguments b → a ≡ b
 one_thing arguments (Some a) (Some b) first second =
@@ -380,3 +444,48 @@ pub image_answered : (arguments : List Text) (options : Options) → SaysImage a
     → IsSaid arguments line → HasOptions Image options line
 image_answered arguments options says line is =
     (settings_with options, one_thing arguments line (Some (Image (settings_with options))) is says, refl)
+
+-- ---- the path
+
+pub one_path : (arguments : List Text) (a b : Budgets) (one other : Text) → SaysOpen arguments a one
+    → SaysOpen arguments b other → one ≡ other
+one_path arguments a b one other first second =
+    let found = open_is_found arguments a one first in
+    let again = open_is_found arguments b other second in
+    let same = same_items arguments (opens, found.0) (opens, again.0) found.1 again.1 in
+    ap (λ (o : Option Text). unwrap_or o [])
+    (sym found.4 ∙ (ap (λ (c : Command). first_of (codes "IMAGE") (rows_at c.1)) same ∙ again.4))
+
+-- where `open` is said, the text that is found for the place is the path
+pub path_by_matches : (arguments : List Text) (found : Option (Text × List Row))
+    → found ≡ subcommand_of program arguments
+    → (line : Option CommandLine) (budgets : Budgets) → IsSaid arguments line → line ≡ Some (Open budgets)
+    → (path : Option Text)
+    → ((name : Text) (rows : List Row) → found ≡ Some (name, rows) → path ≡ first_of (codes "IMAGE") rows)
+    → IsPathSaid arguments path
+path_by_matches arguments found is line budgets answer opened path read =
+    let says = subst (IsSaid arguments) opened answer in
+    let at = open_is_found arguments budgets says.0 says.1 in
+    subst (IsPathSaid arguments)
+    (sym (read (codes "open") (rows_at at.0) (is ∙ (gives arguments (opens, at.0) at.1).1) ∙ at.4)) (budgets, says.1)
+
+-- an answer that is none or another command isn't `open`
+pub none_opened : (line : Option CommandLine) → line ≡ None → (budgets : Budgets) → line ≡ Some (Open budgets) → ⊥
+none_opened line none budgets opened = let e : None ≡ Some (Open budgets) = sym none ∙ opened in absurd cc
+
+pub other_opened : (line : Option CommandLine) (other : CommandLine) → line ≡ Some other
+    → ((budgets : Budgets) → other ≡ Open budgets → ⊥) → (budgets : Budgets) → line ≡ Some (Open budgets) → ⊥
+other_opened line other is apart budgets opened =
+    apart budgets (ap (λ (l : Option CommandLine). unwrap_or l other) (sym is ∙ opened))
+
+-- where another command is said or none, there is no path
+pub no_path : (arguments : List Text) (line : Option CommandLine) → IsSaid arguments line
+    → ((budgets : Budgets) → line ≡ Some (Open budgets) → ⊥) → IsPathSaid arguments None
+no_path arguments line is other budgets path says =
+    other budgets (one_thing arguments line (Some (Open budgets)) is (path, says))
+
+pub path_is : (arguments : List Text) (found : Option Text) → IsPathSaid arguments found
+    → (budgets : Budgets) (path : Text) → SaysOpen arguments budgets path → found ≡ Some path
+path_is arguments (Some other) (others, said) budgets path says =
+    ap (λ (p : Text). Some p) (one_path arguments others budgets other path said says)
+path_is arguments None none budgets path says = absurd (none budgets path says)

@@ -12,12 +12,13 @@ use Rattle.clap.specs.Kinds.{Kinds, or_else}
 use Rattle.clap.specs.Faults.{check_fault, defaults_fault, entered_fault, fault_of, level_fault, settle_fault}
 use Rattle.clap.specs.Faults.{turn_fault, walk_fault}
 use Rattle.clap.specs.declared.error.kind.ErrorKind.TheVariants as kind
-use Rattle.clr_args.specs.Grammar.{option_names, soak_places}
+use Rattle.clr_args.specs.Grammar.{budget_names, open_places, option_names, soak_places}
 use Rattle.clr_args.specs.Parser.{program}
 use Rattle.clr_args.proofs.Pass.{Items, Kind, dashes, flag, joint, kind_of, other, whole}
 use Rattle.clr_args.proofs.Turns.{fault_by, leaf, level, turn_is, walk_by, walk_from, walked_is}
 use Rattle.clr_args.proofs.Rules.{first_faults, rows_at, some_kind}
-use Rattle.clr_args.proofs.Levels.{Gives, alone_gives, line_taken, options_give, run_rules, soak_gives, soak_rules}
+use Rattle.clr_args.proofs.Levels.{Gives, alone_gives, line_taken, open_gives, open_rules, options_give, run_rules}
+use Rattle.clr_args.proofs.Levels.{soak_gives, soak_rules}
 
 -- ---- the commands
 
@@ -28,9 +29,10 @@ pub data Verb : Type 0 where
   images : Verb
   inspects : Verb
   migrates : Verb
+  opens : Verb
 
 abbrev pub verbs : List Verb
-verbs = runs ∷ soaks ∷ images ∷ inspects ∷ migrates ∷ []
+verbs = runs ∷ soaks ∷ images ∷ inspects ∷ migrates ∷ opens ∷ []
 
 abbrev pub name_of : Verb → Text
 name_of runs = codes "run"
@@ -38,6 +40,7 @@ name_of soaks = codes "soak"
 name_of images = codes "image"
 name_of inspects = codes "inspect"
 name_of migrates = codes "migrate"
+name_of opens = codes "open"
 
 -- the texts of the arguments behind its name
 abbrev pub taken : Verb → List Text → Option Items
@@ -46,6 +49,7 @@ taken soaks arguments = line_taken option_names soak_places arguments
 taken images arguments = line_taken option_names [] arguments
 taken inspects arguments = line_taken [] [] arguments
 taken migrates arguments = line_taken [] [] arguments
+taken opens arguments = line_taken budget_names open_places arguments
 
 -- the command that an argument names
 abbrev pub verb_in : List Verb → Text → Option Verb
@@ -73,6 +77,7 @@ verb_named soaks = refl
 verb_named images = refl
 verb_named inspects = refl
 verb_named migrates = refl
+verb_named opens = refl
 
 -- ---- all arguments
 
@@ -110,7 +115,7 @@ app = record {
   top = level (codes "clrheap") false [];
   subs =
       leaf (codes "run") run_rules ∷ leaf (codes "soak") soak_rules ∷ leaf (codes "image") run_rules
-      ∷ leaf (codes "inspect") [] ∷ leaf (codes "migrate") [] ∷ [];
+      ∷ leaf (codes "inspect") [] ∷ leaf (codes "migrate") [] ∷ leaf (codes "open") open_rules ∷ [];
 }
 
 abbrev begun : Walk
@@ -271,6 +276,10 @@ verb_gives migrates rest =
     command_gives (codes "migrate") (codes "migrate") rest [] (λ arguments. refl) (λ arguments. refl)
     refl refl migrates refl
     (line_taken [] [] rest) (alone_gives (codes "migrate") rest)
+verb_gives opens rest =
+    command_gives (codes "open") (codes "open") rest open_rules (λ arguments. refl) (λ arguments. refl)
+    refl refl opens refl
+    (line_taken budget_names open_places rest) (open_gives rest)
 
 pub parser_gives : (arguments : List Text)
     → GivesCommand (fault_of program arguments) (subcommand_of program arguments) (parsed arguments)

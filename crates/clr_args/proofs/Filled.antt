@@ -9,7 +9,7 @@ use Rattle.clap.specs.Simple.{App, Shape, built, entered, filled, filled_from, i
 use Rattle.clap.specs.Simple.{is_ready_leaf, is_simple, names_of, new_shape, subcommand_of, with_index, with_rule}
 use Rattle.clap.specs.Simple.{with_subcommand}
 use Rattle.clap.specs.Faults.{built_fault, fault_of, is_free_app, is_simple_and_free}
-use Rattle.clr_args.specs.Grammar.{option_names, soak_places}
+use Rattle.clr_args.specs.Grammar.{budget_names, open_places, option_names, soak_places}
 use Rattle.clr_args.specs.Parser.{filled_app, filled_shape, option_rule, place_rule, program, top_shape}
 use Rattle.clr_args.proofs.Turns.{leaf, level}
 
@@ -131,12 +131,12 @@ abbrev command_with : Text → List Rule → Shape
 command_with name rules = record (new_shape name) { rules = rules }
 
 -- the program with these rules
-abbrev program_with : List Rule → List Rule → List Rule → App
-program_with run soak image = record {
+abbrev program_with : List Rule → List Rule → List Rule → List Rule → App
+program_with run soak image opened = record {
   top = record top_shape { is_leaf = false };
   subs =
       command_with (codes "run") run ∷ command_with (codes "soak") soak ∷ command_with (codes "image") image
-      ∷ command_with (codes "inspect") [] ∷ command_with (codes "migrate") [] ∷ [];
+      ∷ command_with (codes "inspect") [] ∷ command_with (codes "migrate") [] ∷ command_with (codes "open") opened ∷ [];
 }
 
 abbrev options : List Rule
@@ -145,14 +145,19 @@ options = map option_rule option_names
 abbrev options_and_places : List Rule
 options_and_places = map option_rule option_names ++ map place_rule soak_places
 
+abbrev budgets_and_path : List Rule
+budgets_and_path = map option_rule budget_names ++ map place_rule open_places
+
 record IsProgram (a : App) : Type 0 where
   run : List Rule
   soak : List Rule
   image : List Rule
-  is : a ≡ program_with run soak image
+  opened : List Rule
+  is : a ≡ program_with run soak image opened
   run_filled : map filled run ≡ options
   soak_filled : map filled soak ≡ options_and_places
   image_filled : map filled image ≡ options
+  opened_filled : map filled opened ≡ budgets_and_path
 
 is_program : (a : App) → filled_app a ≡ program → IsProgram a
 is_program a e =
@@ -162,47 +167,53 @@ is_program a e =
     let image = first_of soak.more _ _ soak.rest_are in
     let inspect = first_of image.more _ _ image.rest_are in
     let migrate = first_of inspect.more _ _ inspect.rest_are in
+    let opened = first_of migrate.more _ _ migrate.rest_are in
     let runs = shape_is run.shape _ run.first_is in
     let soaks = shape_is soak.shape _ soak.first_is in
     let images = shape_is image.shape _ image.first_is in
     let inspects = bare_is inspect.shape _ inspect.first_is refl in
     let migrates = bare_is migrate.shape _ migrate.first_is refl in
-    let none = none_left migrate.more migrate.rest_are in
+    let opens = shape_is opened.shape _ opened.first_is in
+    let none = none_left opened.more opened.rest_are in
     let subs =
     run.are ∙ ap₂ (λ (s : Shape) (ss : List Shape). s ∷ ss) runs
     (soak.are ∙ ap₂ (λ (s : Shape) (ss : List Shape). s ∷ ss) soaks
     (image.are ∙ ap₂ (λ (s : Shape) (ss : List Shape). s ∷ ss) images
     (inspect.are ∙ ap₂ (λ (s : Shape) (ss : List Shape). s ∷ ss) inspects
-    (migrate.are ∙ ap₂ (λ (s : Shape) (ss : List Shape). s ∷ ss) migrates none)))) in
+    (migrate.are ∙ ap₂ (λ (s : Shape) (ss : List Shape). s ∷ ss) migrates
+    (opened.are ∙ ap₂ (λ (s : Shape) (ss : List Shape). s ∷ ss) opens none))))) in
     record {
       run = run.shape.rules;
       soak = soak.shape.rules;
       image = image.shape.rules;
+      opened = opened.shape.rules;
       is = λ i. record { top = top i; subs = subs i };
       run_filled = rules_are run.shape _ run.first_is;
       soak_filled = rules_are soak.shape _ soak.first_is;
       image_filled = rules_are image.shape _ image.first_is;
+      opened_filled = rules_are opened.shape _ opened.first_is;
     }
 
-abbrev built_with : List Rule → List Rule → List Rule → App
-built_with run soak image = record {
+abbrev built_with : List Rule → List Rule → List Rule → List Rule → App
+built_with run soak image opened = record {
   top = level (codes "clrheap") false [];
   subs =
       leaf (codes "run") run ∷ leaf (codes "soak") soak ∷ leaf (codes "image") image ∷ leaf (codes "inspect") []
-      ∷ leaf (codes "migrate") [] ∷ [];
+      ∷ leaf (codes "migrate") [] ∷ leaf (codes "open") opened ∷ [];
 }
 
-built_is : (run soak image : List Rule)
-    → built (program_with run soak image) ≡ built_with (filled_from 1 run) (filled_from 1 soak) (filled_from 1 image)
-built_is run soak image = refl
+built_is : (run soak image opened : List Rule)
+    → built (program_with run soak image opened)
+    ≡ built_with (filled_from 1 run) (filled_from 1 soak) (filled_from 1 image) (filled_from 1 opened)
+built_is run soak image opened = refl
 
-abbrev buildable_by : Bool → Bool → Bool → Bool
-buildable_by run soak image = run && (soak && (image && true))
+abbrev buildable_by : Bool → Bool → Bool → Bool → Bool
+buildable_by run soak image opened = run && (soak && (image && (opened && true)))
 
-buildable_is : (run soak image : List Rule)
-    → is_buildable (program_with run soak image)
-    ≡ buildable_by (are_simple run) (are_simple soak) (are_simple image)
-buildable_is run soak image = refl
+buildable_is : (run soak image opened : List Rule)
+    → is_buildable (program_with run soak image opened)
+    ≡ buildable_by (are_simple run) (are_simple soak) (are_simple image) (are_simple opened)
+buildable_is run soak image opened = refl
 
 -- a command whose rules are filled in to the program's
 module _ (a : App) (alike : filled_app a ≡ program) where
@@ -214,15 +225,20 @@ module _ (a : App) (alike : filled_app a ≡ program) where
       let run = filled_is 1 parts.run ∙ ap (indexed_from 1) parts.run_filled in
       let soak = filled_is 1 parts.soak ∙ ap (indexed_from 1) parts.soak_filled in
       let image = filled_is 1 parts.image ∙ ap (indexed_from 1) parts.image_filled in
-      ap built parts.is ∙ (built_is parts.run parts.soak parts.image ∙ (λ i. built_with (run i) (soak i) (image i)))
+      let opened = filled_is 1 parts.opened ∙ ap (indexed_from 1) parts.opened_filled in
+      ap built parts.is
+      ∙ (built_is parts.run parts.soak parts.image parts.opened
+      ∙ (λ i. built_with (run i) (soak i) (image i) (opened i)))
 
   buildable : is_buildable a ≡ true
   buildable =
       let run : are_simple parts.run ≡ true = simple_is parts.run ∙ ap are_simple parts.run_filled in
       let soak : are_simple parts.soak ≡ true = simple_is parts.soak ∙ ap are_simple parts.soak_filled in
       let image : are_simple parts.image ≡ true = simple_is parts.image ∙ ap are_simple parts.image_filled in
+      let opened : are_simple parts.opened ≡ true = simple_is parts.opened ∙ ap are_simple parts.opened_filled in
       ap is_buildable parts.is
-      ∙ (buildable_is parts.run parts.soak parts.image ∙ (λ i. buildable_by (run i) (soak i) (image i)))
+      ∙ (buildable_is parts.run parts.soak parts.image parts.opened
+      ∙ (λ i. buildable_by (run i) (soak i) (image i) (opened i)))
 
   pub simple : is_simple a ≡ true
   simple =

@@ -15,7 +15,7 @@ use Rattle.clap.specs.Takes.{is_given}
 use Rattle.clap.specs.Faults.{check_fault, defaults_fault}
 use Rattle.clap.specs.Faults.{level_fault, settle_fault, walk_fault, given_default_fault}
 use Rattle.clap.specs.declared.error.kind.ErrorKind.TheVariants as kind
-use Rattle.clr_args.specs.Grammar.{is_among, option_names, soak_places}
+use Rattle.clr_args.specs.Grammar.{budget_names, is_among, open_places, option_names, soak_places}
 use Rattle.clr_args.proofs.Pass.{Items, pass, ready}
 use Rattle.clr_args.proofs.Turns.{held, leaf, walk_from}
 use Rattle.clr_args.proofs.Rules.{AreRules, HavePlaces, built_option, built_place, first_faults, row_at, rows_at}
@@ -29,6 +29,9 @@ run_rules = map built_option option_names
 
 abbrev pub soak_rules : List Rule
 soak_rules = map built_option option_names ++ built_place 1 (codes "SEED") ∷ built_place 2 (codes "N") ∷ []
+
+abbrev pub open_rules : List Rule
+open_rules = map built_option budget_names ++ built_place 1 (codes "IMAGE") ∷ []
 
 -- options before rules of which none is found by a name
 module _ (after : List Rule) (by_long : (name : Text) → arg_by_long after name ≡ None) where
@@ -83,6 +86,14 @@ soak_are_rules = record {
   unknown = long_missing (built_place 1 (codes "SEED") ∷ built_place 2 (codes "N") ∷ []) (λ name. refl) option_names;
 }
 
+open_are_rules : AreRules budget_names open_rules
+open_are_rules = record {
+  no_short = λ x. refl;
+  by_long = long_found (built_place 1 (codes "IMAGE") ∷ []) (λ name. refl) budget_names;
+  by_id = id_found (built_place 1 (codes "IMAGE") ∷ []) budget_names;
+  unknown = long_missing (built_place 1 (codes "IMAGE") ∷ []) (λ name. refl) budget_names;
+}
+
 no_rules : AreRules [] []
 no_rules = record {
   no_short = λ x. refl;
@@ -96,6 +107,9 @@ run_places = refl
 
 soak_have_places : HavePlaces soak_rules 1 soak_places
 soak_have_places = (refl, refl, (refl, refl, refl))
+
+open_have_places : HavePlaces open_rules 1 open_places
+open_have_places = (refl, refl, refl)
 
 -- ---- one command
 
@@ -241,3 +255,22 @@ soak_gives arguments =
     (refl, (refl, (refl, (refl, (refl, (refl, (refl, (refl, (refl, (refl, tt)))))))))) soak_wants arguments
     (pass option_names ready soak_places [] arguments)
     (walk_comes (codes "soak") soak_rules option_names soak_are_rules arguments soak_places soak_have_places)
+
+open_wants : (items : Items)
+    → list_any (λ (a : Rule). a.required && not (is_given a.id (rows_at items))) open_rules ≡ not
+    (list_all (λ place. is_in place items) open_places)
+open_wants items =
+    ap (λ a. not a || false) (given_is_in items (codes "IMAGE")) ∙ go (is_in (codes "IMAGE") items)
+  where
+    go : (a : Bool) → (not a || false) ≡ not (a && true)
+    go true = refl
+    go false = refl
+
+pub open_gives : (arguments : List Text)
+    → Gives (level_fault (leaf (codes "open") open_rules) [] nothing_held arguments false [])
+    (rows_after open_rules [] arguments) (line_taken budget_names open_places arguments)
+open_gives arguments =
+    level_gives (codes "open") open_rules open_places
+    (refl, (refl, (refl, (refl, (refl, (refl, tt)))))) open_wants arguments
+    (pass budget_names ready open_places [] arguments)
+    (walk_comes (codes "open") open_rules budget_names open_are_rules arguments open_places open_have_places)

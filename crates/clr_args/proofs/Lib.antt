@@ -11,4 +11,5 @@ pub mod Numbers
 pub mod Taken
 pub mod Meaning
 pub mod Lines
+pub mod Opens
 pub mod Answering

@@ -10,20 +10,23 @@ use Rattle.clap.specs.Walk.{first_of}
 use Rattle.clr_model.specs.Lawful.{AreLawfulOptions}
 use Rattle.clr_model.specs.Machine.{Options}
 use Rattle.clr_model.specs.Run.{defaults}
+use Rattle.clr_args.specs.Budgets.{budgets_of}
 use Rattle.clr_args.specs.CommandLines.{AreSoakNumbers}
 use Rattle.clr_args.specs.Grammar.{IsLine, Line, Part, Said, Says, SaysAlone, SaysSoak, Text, is_among, is_option_part}
-use Rattle.clr_args.specs.Grammar.{joined, number_of, option_names, placed, places_of, said, soak_places, spaced}
-use Rattle.clr_args.specs.Grammar.{spelled}
-use Rattle.clr_args.specs.Reading.{AreRead, number_in, number_or}
+use Rattle.clr_args.specs.Grammar.{budget_names, joined, number_of, option_names, placed, places_of, said, soak_places}
+use Rattle.clr_args.specs.Grammar.{spaced, spelled}
+use Rattle.clr_args.specs.Reading.{AreBudgetsRead, AreRead, number_in, number_or}
+use Rattle.clr_args.specs.declared.budgets.Budgets.{Budgets}
 use Rattle.clr_args.proofs.Pass.{Items, Kind, behind, dashes, flag, joint, kind_of, other, pass, ready, turn, whole}
 use Rattle.clr_args.proofs.Looks.{Looks, looks}
 use Rattle.clr_args.proofs.Rules.{rows_at}
 use Rattle.clr_args.proofs.Levels.{complete, is_in, line_taken}
 use Rattle.clr_args.proofs.Meaning.{are_said, read_said}
-use Rattle.clr_args.proofs.Spelled.{texts_of, arguments_spell}
-use Rattle.clr_args.proofs.Taken.{EachName, IsNumberAt, all_numbers, of_each, option_number, place_number, taken_once}
+use Rattle.clr_args.proofs.Spelled.{IsNumber, arguments_spell, texts_of}
+use Rattle.clr_args.proofs.Taken.{EachName, IsNumberAt, all_texts, of_each, option_number, place_number, taken_once}
 
-completed : (places : List Text) (o : Option Items) (items : Items) → option_and_then (complete places) o ≡ Some items
+pub completed : (places : List Text) (o : Option Items) (items : Items)
+    → option_and_then (complete places) o ≡ Some items
     → (o ≡ Some items) × (list_all (λ place. is_in place items) places ≡ true)
 completed places None items e = absurd cc
 completed places (Some found) items e = go (list_all (λ place. is_in place found) places) refl e
@@ -40,51 +43,59 @@ completed places (Some found) items e = go (list_all (λ place. is_in place foun
 
 -- ---- the line of a run
 
-run_numbers : (items : Items) (options : Options) → AreRead (rows_at items) options
-    → EachName (IsNumberAt items) option_names
-run_numbers items options read = (
-  λ text is. option_number defaults.limit options.limit (first_of (codes "limit") (rows_at items)) text read.limit is,
-  (
-    λ text is. option_number defaults.segment options.segment
-        (first_of (codes "segment") (rows_at items)) text read.segment is,
-    (
-      λ text is. option_number defaults.b0 options.b0 (first_of (codes "b0") (rows_at items)) text read.b0 is,
+-- the texts of budgets that are read are numbers
+pub budget_numbers : (items : Items) (budgets : Budgets) → AreBudgetsRead (rows_at items) budgets
+    → EachName (IsNumberAt items) budget_names
+budget_numbers items budgets read =
+    let at = λ (name : Text). first_of name (rows_at items) in (
+      λ text is. option_number defaults.b0 budgets.b0 (at (codes "b0")) text read.b0 is,
       (
-        λ text is. option_number defaults.b1 options.b1 (first_of (codes "b1") (rows_at items)) text read.b1 is,
+        λ text is. option_number defaults.b1 budgets.b1 (at (codes "b1")) text read.b1 is,
         (
-          λ text is. option_number defaults.b2 options.b2 (first_of (codes "b2") (rows_at items)) text read.b2 is,
+          λ text is. option_number defaults.b2 budgets.b2 (at (codes "b2")) text read.b2 is,
           (
-            λ text is. option_number defaults.bl options.bl (first_of (codes "bl") (rows_at items)) text read.bl is,
+            λ text is. option_number defaults.bl budgets.bl (at (codes "bl")) text read.bl is,
             (
-              λ text is. option_number defaults.compact options.compact
-                  (first_of (codes "compact") (rows_at items)) text read.compact is,
-              (
-                λ text is. option_number defaults.large options.large
-                    (first_of (codes "large") (rows_at items)) text read.large is,
-                tt,
-              ),
+              λ text is. option_number defaults.compact budgets.compact (at (codes "compact")) text read.compact is,
+              tt,
             ),
           ),
         ),
       ),
-    ),
-  ),
-)
+    )
 
-no_more : (xs left : List Text) → xs ++ left ≡ [] → xs ≡ []
+each_more : (P : Text → Type 0) (names more : List Text) → EachName P names → EachName P more
+    → EachName P (names ++ more)
+each_more P [] more each next = next
+each_more P (name ∷ names) more each next = (each.0, each_more P names more each.1 next)
+
+run_numbers : (items : Items) (options : Options) → AreRead (rows_at items) options
+    → EachName (IsNumberAt items) option_names
+run_numbers items options read =
+    let at = λ (name : Text). first_of name (rows_at items) in (
+      λ text is. option_number defaults.limit options.limit (at (codes "limit")) text read.limit is,
+      (
+        λ text is. option_number defaults.segment options.segment (at (codes "segment")) text read.segment is,
+        each_more (IsNumberAt items) budget_names (codes "large" ∷ [])
+            (budget_numbers items (budgets_of options) read.budgets)
+            (λ text is. option_number defaults.large options.large (at (codes "large")) text read.large is, tt),
+      ),
+    )
+
+pub no_more : (xs left : List Text) → xs ++ left ≡ [] → xs ≡ []
 no_more [] left e = refl
 no_more (x ∷ xs) left e = absurd cc
 
 options_line : (rest : List Text) (items : Items) (options : Options) → line_taken option_names [] rest ≡ Some items
     → AreRead (rows_at items) options
-    → (line : Line) × (rest ≡ spelled line) × IsLine [] line × (texts_of (said line) ≡ items)
+    → (line : Line) × (rest ≡ spelled line) × IsLine option_names [] line × (texts_of (said line) ≡ items)
 options_line rest items options taken read =
     let passed = (completed [] (pass option_names ready [] [] rest) items taken).0 in
-    let once = taken_once option_names (λ name e. e) rest [] items refl passed in
+    let once = taken_once option_names option_names (λ name e. e) rest [] [] items refl passed in
     let numbers =
-    all_numbers option_names [] items once
+    all_texts (λ name text. IsNumber text) option_names [] items once
     (λ name. of_each (IsNumberAt items) option_names name (run_numbers items options read)) in
-    let found = arguments_spell rest [] items numbers passed in (
+    let found = arguments_spell option_names rest [] [] items numbers passed in (
       found.0,
       found.1,
       record {
@@ -119,7 +130,8 @@ options_said_by name arguments rest items options are taken read lawful =
 abbrev soak_names : List Text
 soak_names = option_names ++ soak_places
 
-among_more : (names more : List Text) (name : Text) → is_among name names ≡ true → is_among name (names ++ more) ≡ true
+pub among_more : (names more : List Text) (name : Text) → is_among name names ≡ true
+    → is_among name (names ++ more) ≡ true
 among_more [] more name e = absurd (true≢false (sym e))
 among_more (n ∷ ns) more name e = go (bytes_eq n name) e (among_more ns more name)
   where
@@ -132,33 +144,9 @@ soak_numbers : (items : Items) (options : Options) (seed count : ℕ) → AreRea
     → AreSoakNumbers (rows_at items) seed count
     → EachName (IsNumberAt items) soak_names
 soak_numbers items options seed count read soak =
-    let each = run_numbers items options read in (
-      each.0,
-      (
-        each.1.0,
-        (
-          each.1.1.0,
-          (
-            each.1.1.1.0,
-            (
-              each.1.1.1.1.0,
-              (
-                each.1.1.1.1.1.0,
-                (
-                  each.1.1.1.1.1.1.0,
-                  (
-                    each.1.1.1.1.1.1.1.0,
-                    (
-                      λ text is. place_number seed (first_of (codes "SEED") (rows_at items)) text soak.seed_is is,
-                      (λ text is. place_number count (first_of (codes "N") (rows_at items)) text soak.count_is is, tt),
-                    ),
-                  ),
-                ),
-              ),
-            ),
-          ),
-        ),
-      ),
+    each_more (IsNumberAt items) option_names soak_places (run_numbers items options read) (
+      λ text is. place_number seed (first_of (codes "SEED") (rows_at items)) text soak.seed_is is,
+      (λ text is. place_number count (first_of (codes "N") (rows_at items)) text soak.count_is is, tt),
     )
 
 -- a name that is said is that of an option or of a place
@@ -234,14 +222,15 @@ all_placed (x ∷ y ∷ z ∷ zs) left e among = absurd cc
 soak_line : (rest : List Text) (items : Items) (options : Options) (seed count : ℕ)
     → line_taken option_names soak_places rest ≡ Some items → AreRead (rows_at items) options
     → AreSoakNumbers (rows_at items) seed count
-    → (line : Line) × (rest ≡ spelled line) × IsLine soak_places line × (texts_of (said line) ≡ items)
+    → (line : Line) × (rest ≡ spelled line) × IsLine option_names soak_places line × (texts_of (said line) ≡ items)
 soak_line rest items options seed count taken read soak =
     let done = completed soak_places (pass option_names ready soak_places [] rest) items taken in
-    let once = taken_once soak_names (among_more option_names soak_places) rest soak_places items refl done.0 in
+    let once =
+    taken_once option_names soak_names (among_more option_names soak_places) rest soak_places [] items refl done.0 in
     let numbers =
-    all_numbers soak_names [] items once
+    all_texts (λ name text. IsNumber text) soak_names [] items once
     (λ name. of_each (IsNumberAt items) soak_names name (soak_numbers items options seed count read soak)) in
-    let found = arguments_spell rest soak_places items numbers done.0 in
+    let found = arguments_spell option_names rest soak_places [] items numbers done.0 in
     let last =
     (and_parts (is_in (codes "N") items) true
     (and_parts (is_in (codes "SEED") items) (is_in (codes "N") items && true) done.1).1).0 in
@@ -263,7 +252,7 @@ given_or : (o : Option Text) (n : ℕ) → option_and_then number_in o ≡ Some 
 given_or None n e = absurd cc
 given_or (Some text) n e = e
 
-place_said : (line : Line) (items : Items) (places : List Text) (name : Text) (n : ℕ) → IsLine places line
+place_said : (line : Line) (items : Items) (places : List Text) (name : Text) (n : ℕ) → IsLine option_names places line
     → texts_of (said line) ≡ items
     → option_and_then number_in (first_of name (rows_at items)) ≡ Some n → number_of name 0 (said line) ≡ n
 place_said line items places name n is texts e =

@@ -1,18 +1,19 @@
 -- What arguments of each kind are, and of which kind the arguments of a line are.
 use Rattle.std.specs.Prelude.{◌≡◌, ◌≢◌, ◌++◌, ◌==◌, ◌&&◌, ◌||◌, ◌<◌, ◌^◌, ℕ, zero, suc, Bool, true, false, not}
-use Rattle.std.specs.Prelude.{List, [], ◌∷◌, Option, Some, None, codes, decimal, if◌then◌else◌, option_and_then}
-use Rattle.std.specs.Prelude.{slice_get}
+use Rattle.std.specs.Prelude.{List, [], ◌∷◌, Option, Some, None, codes, decimal, if◌then◌else◌, is_some}
+use Rattle.std.specs.Prelude.{option_and_then, slice_get}
 use Rattle.std.specs.List.{list_all}
 use Rattle.std.specs.Char.{is_ascii_digit}
 use Rattle.std.specs.Str.{bytes_eq, chars}
 use Rattle.std.proofs.Common.{refl, sym, ap, ap₂, ◌∙◌, subst, arith, true≢false, ◌⊎◌, inl, inr}
 use Rattle.std.proofs.lemmas.Bool.{and_parts, cases_eq, eqb-true, eqb-false, or_parts}
 use Rattle.std.proofs.lemmas.Slice.Eq.{bytes_eq-Decides}
+use Rattle.std.proofs.lemmas.Str.{chars-nil}
 use Rattle.clap.specs.Lexer.{has_byte, long_of_rest, name_and_value, short_of_rest, strip_byte}
 use Rattle.clap.proofs.CutLemmas.{Lacks}
 use Rattle.clap.proofs.LexerLemmas.{name_and_value-at, name_and_value-without}
 use Rattle.clr_nums.proofs.DecimalText.{list_all-decimal}
-use Rattle.clr_args.specs.Grammar.{Text, dashed, is_among, option_names}
+use Rattle.clr_args.specs.Grammar.{Text, dashed, is_among, is_dashed}
 use Rattle.clr_args.proofs.Pass.{Kind, dashes, flag, joint, kind_by, kind_of, kind_of_first, kind_of_long, other}
 use Rattle.clr_args.proofs.Pass.{whole}
 
@@ -97,7 +98,7 @@ looks (x ∷ y ∷ zs) = go (x == 45) refl
 -- ---- the arguments of a line
 
 -- a name that can stand in an option's argument
-abbrev is_name : Text → Bool
+abbrev pub is_name : Text → Bool
 is_name [] = false
 is_name (x ∷ xs) = not (has_byte 61 (x ∷ xs))
 
@@ -128,12 +129,13 @@ joint_by_name (x ∷ xs) text e =
     ap (λ (p : Text × Option Text). kind_of_long p.0 p.1)
     (name_and_value-at (x ∷ xs) text (lacks_from (x ∷ xs) (not_from _ e)))
 
-pub kind_whole : (name : Text) → is_among name option_names ≡ true → kind_of (dashed name) ≡ whole name
-kind_whole name among = whole_by_name name (name_among option_names name refl among)
+module _ (names : List Text) (are_names : list_all is_name names ≡ true) where
+  pub kind_whole : (name : Text) → is_among name names ≡ true → kind_of (dashed name) ≡ whole name
+  kind_whole name among = whole_by_name name (name_among names name are_names among)
 
-pub kind_joint : (name text : Text) → is_among name option_names ≡ true
-    → kind_of (dashed name ++ (codes "=" ++ text)) ≡ joint name text
-kind_joint name text among = joint_by_name name text (name_among option_names name refl among)
+  pub kind_joint : (name text : Text) → is_among name names ≡ true
+      → kind_of (dashed name ++ (codes "=" ++ text)) ≡ joint name text
+  kind_joint name text among = joint_by_name name text (name_among names name are_names among)
 
 digits_other : (text : Text) → list_all is_ascii_digit text ≡ true → kind_of text ≡ other
 digits_other [] all = refl
@@ -149,3 +151,76 @@ digits_other (x ∷ xs) all = go (x == 45) refl
 
 pub kind_number : (number : ℕ) → number < 2 ^ 64 → kind_of (decimal number) ≡ other
 kind_number number small = digits_other (decimal number) (list_all-decimal number small)
+
+-- ---- words that may be paths
+
+no_other : (name : Text) (text : Option Text) → kind_of_long name text ≡ other → ⊥
+no_other name None e = absurd cc
+no_other name (Some text) e = absurd cc
+
+-- a word that looks like no option begins with no `-` behind which a character stands
+pub other_plain : (word : Text) → kind_of word ≡ other → is_dashed word ≡ false
+other_plain [] e = refl
+other_plain (x ∷ []) e = go (x == 45)
+  where
+    go : (b : Bool) → (b && is_some (slice_get (chars []) 0)) ≡ false
+    go true = ap (λ (cs : List ℕ). is_some (slice_get cs 0)) chars-nil
+    go false = refl
+other_plain (x ∷ y ∷ zs) e = go (x == 45) e
+  where
+    third : (zs : List ℕ) → kind_by (bytes_eq zs []) (long_of_rest zs) None ≡ other → ⊥
+    third [] e = absurd cc
+    third (z ∷ zs) e = no_other (name_and_value (z ∷ zs)).0 (name_and_value (z ∷ zs)).1 e
+
+    none : (first : Option ℕ) → kind_of_first first ≡ other → is_some first ≡ false
+    none None e = refl
+    none (Some x) e = absurd cc
+
+    second : (b : Bool) → kind_by (b && bytes_eq zs []) (option_and_then long_of_rest (if b then Some zs else None))
+        (if b then None else Some (y ∷ zs)) ≡ other
+        → is_some (slice_get (chars (y ∷ zs)) 0) ≡ false
+    second true e = absurd (third zs e)
+    second false e = none (slice_get (chars (y ∷ zs)) 0) e
+
+    go : (b : Bool) → kind_by (b && ((y == 45) && bytes_eq zs []))
+        (option_and_then long_of_rest (option_and_then (strip_byte 45) (if b then Some (y ∷ zs) else None)))
+        (option_and_then short_of_rest (if b then Some (y ∷ zs) else None)) ≡ other
+        → (b && is_some (slice_get (chars (y ∷ zs)) 0)) ≡ false
+    go true e = second (y == 45) e
+    go false e = refl
+
+-- a `-` is a character
+minus_first : (zs : List ℕ) → is_some (slice_get (chars (45 ∷ zs)) 0) ≡ true
+unfolding chars
+minus_first [] = refl
+minus_first (z ∷ zs) = refl
+
+-- a word that begins with no `-` behind which a character stands looks like no option
+pub plain_other : (word : Text) → is_dashed word ≡ false → kind_of word ≡ other
+plain_other [] e = refl
+plain_other (x ∷ []) e = go (x == 45)
+  where
+    go : (b : Bool) → kind_by (b && false)
+        (option_and_then long_of_rest (option_and_then (strip_byte 45) (if b then Some [] else None)))
+        (option_and_then short_of_rest (if b then Some [] else None)) ≡ other
+    go true = refl
+    go false = refl
+plain_other (x ∷ y ∷ zs) e = go (x == 45) e
+  where
+    none : (first : Option ℕ) → is_some first ≡ false → kind_of_first first ≡ other
+    none None e = refl
+    none (Some x) e = absurd (true≢false e)
+
+    second : (b : Bool) → (y == 45) ≡ b → is_some (slice_get (chars (y ∷ zs)) 0) ≡ false
+        → kind_by (b && bytes_eq zs []) (option_and_then long_of_rest (if b then Some zs else None))
+        (if b then None else Some (y ∷ zs)) ≡ other
+    second true is e = absurd (true≢false (sym (minus_first zs)
+        ∙ (ap (λ (z : ℕ). is_some (slice_get (chars (z ∷ zs)) 0)) (sym (eqb-true y 45 is)) ∙ e)))
+    second false isnt e = none (slice_get (chars (y ∷ zs)) 0) e
+
+    go : (b : Bool) → (b && is_some (slice_get (chars (y ∷ zs)) 0)) ≡ false
+        → kind_by (b && ((y == 45) && bytes_eq zs []))
+        (option_and_then long_of_rest (option_and_then (strip_byte 45) (if b then Some (y ∷ zs) else None)))
+        (option_and_then short_of_rest (if b then Some (y ∷ zs) else None)) ≡ other
+    go true e = second (y == 45) refl e
+    go false e = refl

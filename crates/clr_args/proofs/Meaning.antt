@@ -9,8 +9,11 @@ use Rattle.clap.specs.Walk.{Row, first_of}
 use Rattle.clr_model.specs.Machine.{Options}
 use Rattle.clr_model.specs.Run.{defaults}
 use Rattle.clr_args.specs.Grammar.{AreSmall, IsLine, Line, Part, Said, Text, is_among, number_of, option_names}
-use Rattle.clr_args.specs.Grammar.{options_said, places_of, said, soak_places, spelled, spaced, joined, placed}
-use Rattle.clr_args.specs.Reading.{AreRead, number_or}
+use Rattle.clr_args.specs.Grammar.{budgets_said, joined, options_said, placed, places_of, said, soak_places, spaced}
+use Rattle.clr_args.specs.Grammar.{spelled}
+use Rattle.clr_args.specs.Budgets.{budgets_of}
+use Rattle.clr_args.specs.Reading.{AreBudgetsRead, AreRead, number_or}
+use Rattle.clr_args.specs.declared.budgets.Budgets.{Budgets}
 use Rattle.clr_args.proofs.Rules.{row_at, rows_at}
 use Rattle.clr_args.proofs.Levels.{complete, is_in, line_taken}
 use Rattle.clr_args.proofs.Numbers.{number_decimal}
@@ -38,26 +41,49 @@ read_said (x ∷ xs) name default small = go (bytes_eq x.0 name) (read_said xs n
 some_is : (a b : ℕ) → Some a ≡ Some b → a ≡ b
 some_is a b e = ap (λ (o : Option ℕ). unwrap_or o 0) e
 
+-- budgets that are read are those said, and the other way round
+pub budgets_are_said : (numbers : List Said) (budgets : Budgets) → AreSmall numbers
+    → AreBudgetsRead (rows_at (texts_of numbers)) budgets → budgets ≡ budgets_said numbers
+budgets_are_said numbers budgets small read =
+    let b0 = some_is _ _ (sym read.b0 ∙ read_said numbers (codes "b0") defaults.b0 small) in
+    let b1 = some_is _ _ (sym read.b1 ∙ read_said numbers (codes "b1") defaults.b1 small) in
+    let b2 = some_is _ _ (sym read.b2 ∙ read_said numbers (codes "b2") defaults.b2 small) in
+    let bl = some_is _ _ (sym read.bl ∙ read_said numbers (codes "bl") defaults.bl small) in
+    let compact = some_is _ _ (sym read.compact ∙ read_said numbers (codes "compact") defaults.compact small) in
+    λ i. record {
+      b0 = b0 i;
+      b1 = b1 i;
+      b2 = b2 i;
+      bl = bl i;
+      compact = compact i;
+    }
+
+pub budgets_are_read : (numbers : List Said) → AreSmall numbers
+    → AreBudgetsRead (rows_at (texts_of numbers)) (budgets_said numbers)
+budgets_are_read numbers small = record {
+  b0 = read_said numbers (codes "b0") defaults.b0 small;
+  b1 = read_said numbers (codes "b1") defaults.b1 small;
+  b2 = read_said numbers (codes "b2") defaults.b2 small;
+  bl = read_said numbers (codes "bl") defaults.bl small;
+  compact = read_said numbers (codes "compact") defaults.compact small;
+}
+
 -- options that are read are those said, and the other way round
 pub are_said : (numbers : List Said) (options : Options) → AreSmall numbers
     → AreRead (rows_at (texts_of numbers)) options → options ≡ options_said numbers
 are_said numbers options small read =
     let limit = some_is _ _ (sym read.limit ∙ read_said numbers (codes "limit") defaults.limit small) in
     let segment = some_is _ _ (sym read.segment ∙ read_said numbers (codes "segment") defaults.segment small) in
-    let b0 = some_is _ _ (sym read.b0 ∙ read_said numbers (codes "b0") defaults.b0 small) in
-    let b1 = some_is _ _ (sym read.b1 ∙ read_said numbers (codes "b1") defaults.b1 small) in
-    let b2 = some_is _ _ (sym read.b2 ∙ read_said numbers (codes "b2") defaults.b2 small) in
-    let bl = some_is _ _ (sym read.bl ∙ read_said numbers (codes "bl") defaults.bl small) in
-    let compact = some_is _ _ (sym read.compact ∙ read_said numbers (codes "compact") defaults.compact small) in
+    let budgets = budgets_are_said numbers (budgets_of options) small read.budgets in
     let large = some_is _ _ (sym read.large ∙ read_said numbers (codes "large") defaults.large small) in
     λ i. record {
       limit = limit i;
       segment = segment i;
-      b0 = b0 i;
-      b1 = b1 i;
-      b2 = b2 i;
-      bl = bl i;
-      compact = compact i;
+      b0 = (budgets i).b0;
+      b1 = (budgets i).b1;
+      b2 = (budgets i).b2;
+      bl = (budgets i).bl;
+      compact = (budgets i).compact;
       large = large i;
     }
 
@@ -65,11 +91,7 @@ pub are_read : (numbers : List Said) → AreSmall numbers → AreRead (rows_at (
 are_read numbers small = record {
   limit = read_said numbers (codes "limit") defaults.limit small;
   segment = read_said numbers (codes "segment") defaults.segment small;
-  b0 = read_said numbers (codes "b0") defaults.b0 small;
-  b1 = read_said numbers (codes "b1") defaults.b1 small;
-  b2 = read_said numbers (codes "b2") defaults.b2 small;
-  bl = read_said numbers (codes "bl") defaults.bl small;
-  compact = read_said numbers (codes "compact") defaults.compact small;
+  budgets = budgets_are_read numbers small;
   large = read_said numbers (codes "large") defaults.large small;
 }
 
@@ -113,20 +135,21 @@ place_is_in (placed place n ∷ parts) more name e = by (bytes_eq place name) e 
     by true e rest = refl
     by false e rest = rest e
 
-line_found : (places : List Text) (line : Line) → IsLine places line
+line_found : (places : List Text) (line : Line) → IsLine option_names places line
     → list_all (λ place. is_in place (texts_of (said line))) places ≡ true
     → line_taken option_names places (spelled line) ≡ Some (texts_of (said line))
 line_found places line is all =
-    ap (option_and_then (complete places)) (line_goes line places is.options is.places is.once is.small)
+    ap (option_and_then (complete places))
+    (line_goes option_names refl line places [] is.options is.places is.once is.small)
     ∙ ap (λ b. if b then Some (texts_of (said line)) else None) all
 
 -- options alone
-pub options_found : (line : Line) → IsLine [] line
+pub options_found : (line : Line) → IsLine option_names [] line
     → line_taken option_names [] (spelled line) ≡ Some (texts_of (said line))
 options_found line is = line_found [] line is refl
 
 -- options and the places of a generated script
-pub soak_found : (line : Line) → IsLine soak_places line
+pub soak_found : (line : Line) → IsLine option_names soak_places line
     → line_taken option_names soak_places (spelled line) ≡ Some (texts_of (said line))
 soak_found line is =
     let seed = place_is_in line.parts line.behind (codes "SEED") (ap (is_among (codes "SEED")) is.places) in

@@ -3,11 +3,13 @@ use Rattle.std.specs.Prelude.{◌≡◌, ◌<◌, ◌≤◌, ◌^◌, ℕ, List,
 use Rattle.clap.specs.Walk.{Row, first_of}
 use Rattle.clr_model.specs.Lawful.{AreLawfulOptions}
 use Rattle.clr_model.specs.Machine.{Options}
-use Rattle.clr_args.specs.Reading.{AreRead, number_in}
-use Rattle.clr_args.specs.Grammar.{SaysImage, SaysInspect, SaysMigrate, SaysNothing, SaysRun, SaysSoak, Text}
+use Rattle.clr_args.specs.Budgets.{AreLawfulBudgets}
+use Rattle.clr_args.specs.Reading.{AreBudgetsRead, AreRead, number_in}
+use Rattle.clr_args.specs.Grammar.{SaysImage, SaysInspect, SaysMigrate, SaysNothing, SaysOpen, SaysRun, SaysSoak, Text}
 use Rattle.clr_args.specs.Settings.{options_of}
+use Rattle.clr_args.specs.declared.budgets.Budgets.{Budgets}
 use Rattle.clr_args.specs.declared.command_line.CommandLine.{CommandLine}
-use Rattle.clr_args.specs.declared.command_line.CommandLine.TheVariants.{Image, Inspect, Migrate, Run, Soak}
+use Rattle.clr_args.specs.declared.command_line.CommandLine.TheVariants.{Image, Inspect, Migrate, Open, Run, Soak}
 use Rattle.clr_args.specs.declared.settings.Settings.{Settings}
 
 -- the arguments say this command, or none
@@ -17,7 +19,13 @@ IsSaid arguments (Some (Soak settings seed count)) = SaysSoak arguments (options
 IsSaid arguments (Some (Image settings)) = SaysImage arguments (options_of settings)
 IsSaid arguments (Some Inspect) = SaysInspect arguments
 IsSaid arguments (Some Migrate) = SaysMigrate arguments
+IsSaid arguments (Some (Open budgets)) = (path : Text) × SaysOpen arguments budgets path
 IsSaid arguments None = SaysNothing arguments
+
+-- the arguments say `open` with this path, or don't say `open`
+abbrev pub IsPathSaid : List Text → Option Text → Type 0
+IsPathSaid arguments (Some path) = (budgets : Budgets) × SaysOpen arguments budgets path
+IsPathSaid arguments None = (budgets : Budgets) (path : Text) → SaysOpen arguments budgets path → ⊥
 
 -- ---- what is read of the rows behind a command's name
 
@@ -43,6 +51,12 @@ IsSoakRead rows (Some line) = (settings : Settings) × (seed : ℕ) × (count : 
     × AreSettingsRead rows settings × AreSoakNumbers rows seed count
 IsSoakRead rows None = (options : Options) (seed count : ℕ) → AreRead rows options → AreLawfulOptions options
     → AreSoakNumbers rows seed count → ⊥
+
+-- the rows are of `open` with these budgets, or of no `open`
+abbrev pub IsOpenRead : List Row → Option CommandLine → Type 0
+IsOpenRead rows (Some line) =
+    (budgets : Budgets) × (line ≡ Open budgets) × AreBudgetsRead rows budgets × AreLawfulBudgets budgets
+IsOpenRead rows None = (budgets : Budgets) → AreBudgetsRead rows budgets → AreLawfulBudgets budgets → ⊥
 
 -- ---- what is answered
 

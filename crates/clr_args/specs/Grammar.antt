@@ -1,12 +1,13 @@
 -- What the arguments of a command line say.
-use Rattle.std.specs.Prelude.{◌≡◌, ◌^◌, ◌<◌, ◌≤◌, ◌++◌, ◌⊎◌, ℕ, Bool, true, false, List, [], ◌∷◌, Option, Some}
-use Rattle.std.specs.Prelude.{None}
-use Rattle.std.specs.Prelude.{codes, decimal, map, if◌then◌else◌}
+use Rattle.std.specs.Prelude.{◌≡◌, ◌==◌, ◌&&◌, ◌^◌, ◌<◌, ◌≤◌, ◌++◌, ◌⊎◌, ℕ, Bool, true, false, List, [], ◌∷◌}
+use Rattle.std.specs.Prelude.{Option, None, Some, codes, decimal, if◌then◌else◌, is_some, map, slice_get}
 use Rattle.std.specs.List.{list_all, list_any}
-use Rattle.std.specs.Str.{bytes_eq}
+use Rattle.std.specs.Str.{bytes_eq, chars}
 use Rattle.clr_model.specs.Machine.{Options}
 use Rattle.clr_model.specs.Lawful.{AreLawfulOptions}
 use Rattle.clr_model.specs.Run.{defaults}
+use Rattle.clr_args.specs.Budgets.{AreLawfulBudgets}
+use Rattle.clr_args.specs.declared.budgets.Budgets.{Budgets}
 
 abbrev pub Text : Type 0
 Text = List ℕ
@@ -94,17 +95,20 @@ abbrev pub AreSmall : List Said → Type 0
 AreSmall [] = Unit {0}
 AreSmall (first ∷ rest) = (first.1 < 2 ^ 64) × AreSmall rest
 
+-- the options for what an image doesn't say
+abbrev pub budget_names : List Text
+budget_names = codes "b0" ∷ codes "b1" ∷ codes "b2" ∷ codes "bl" ∷ codes "compact" ∷ []
+
+-- the options of a command that begins with an empty heap
 abbrev pub option_names : List Text
-option_names =
-    codes "limit" ∷ codes "segment" ∷ codes "b0" ∷ codes "b1" ∷ codes "b2" ∷ codes "bl" ∷ codes "compact"
-    ∷ codes "large" ∷ []
+option_names = codes "limit" ∷ codes "segment" ∷ (budget_names ++ codes "large" ∷ [])
 
 abbrev pub soak_places : List Text
 soak_places = codes "SEED" ∷ codes "N" ∷ []
 
--- the line of a command with these places: all of them and no other, in order, and options, each at most once
-pub record IsLine (wanted : List Text) (line : Line) : Type 0 where
-  pub options : list_all (is_option_part option_names) line.parts ≡ true
+-- the line of a command with these options and places: all of the places, in order, and options, each at most once
+pub record IsLine (names wanted : List Text) (line : Line) : Type 0 where
+  pub options : list_all (is_option_part names) line.parts ≡ true
   pub places : places_of line ≡ wanted
   pub once : IsSaidOnce [] (said line)
   pub small : AreSmall (said line)
@@ -127,12 +131,81 @@ options_said said = record {
   large = number_of (codes "large") defaults.large said;
 }
 
+-- the budgets with what a line says, and the defaults for the others
+abbrev pub budgets_said : List Said → Budgets
+budgets_said said = record {
+  b0 = number_of (codes "b0") defaults.b0 said;
+  b1 = number_of (codes "b1") defaults.b1 said;
+  b2 = number_of (codes "b2") defaults.b2 said;
+  bl = number_of (codes "bl") defaults.bl said;
+  compact = number_of (codes "compact") defaults.compact said;
+}
+
 -- the arguments are the command's name and this line, which says these options
 pub record Says (name : Text) (places arguments : List Text) (options : Options) (line : Line) : Type 0 where
   pub arguments_are : arguments ≡ name ∷ spelled line
-  pub is_line : IsLine places line
+  pub is_line : IsLine option_names places line
   pub options_are : options ≡ options_said (said line)
   pub lawful : AreLawfulOptions options
+
+-- ---- a line with a path
+
+-- the place of the path
+abbrev pub open_places : List Text
+open_places = codes "IMAGE" ∷ []
+
+-- a path, with the options that follow it, or with an argument `--` before it
+pub data Ending : Type 0 where
+  bare : (path : Text) (after : Line) → Ending
+  guarded : (path : Text) → Ending
+
+-- what stands behind `open`: options, then a path, with what follows it or stands before it
+pub record OpenLine : Type 0 where
+  pub before : List Part
+  pub ending : Ending
+
+abbrev pub spelled_ending : Ending → List Text
+spelled_ending (bare path after) = path ∷ spelled after
+spelled_ending (guarded path) = codes "--" ∷ path ∷ []
+
+-- the arguments of a line of `open`
+abbrev pub spelled_open : OpenLine → List Text
+spelled_open line = spelled_parts line.before ++ spelled_ending line.ending
+
+abbrev pub path_of : Ending → Text
+path_of (bare path after) = path
+path_of (guarded path) = path
+
+-- what follows the path
+abbrev pub behind_path : Ending → Line
+behind_path (bare path after) = after
+behind_path (guarded path) = record { parts = []; behind = None }
+
+-- a line of `open` without its path
+abbrev pub options_in : OpenLine → Line
+options_in line = record {
+  parts = line.before ++ (behind_path line.ending).parts;
+  behind = (behind_path line.ending).behind;
+}
+
+-- a word that begins with `-`, behind which a character stands
+abbrev pub is_dashed : Text → Bool
+is_dashed [] = false
+is_dashed (x ∷ rest) = (x == 45) && is_some (slice_get (chars rest) 0)
+
+-- any word may be a path behind `--`; else a word that begins with `-` may be one only where it is `-` alone
+abbrev pub MayBePath : Ending → Type 0
+MayBePath (bare path after) = is_dashed path ≡ false
+MayBePath (guarded path) = Unit {0}
+
+-- the arguments are `open` and this line, which says these budgets and this path
+pub record Opens (arguments : List Text) (budgets : Budgets) (path : Text) (line : OpenLine) : Type 0 where
+  pub arguments_are : arguments ≡ codes "open" ∷ spelled_open line
+  pub is_line : IsLine budget_names [] (options_in line)
+  pub is_path : MayBePath line.ending
+  pub path_is : path ≡ path_of line.ending
+  pub budgets_are : budgets ≡ budgets_said (said (options_in line))
+  pub lawful : AreLawfulBudgets budgets
 
 -- ---- the commands
 
@@ -162,6 +235,10 @@ SaysInspect arguments = SaysAlone (codes "inspect") arguments
 abbrev pub SaysMigrate : List Text → Type 0
 SaysMigrate arguments = SaysAlone (codes "migrate") arguments
 
+-- these arguments run a script from the state on that the image at this path says, with these budgets
+abbrev pub SaysOpen : List Text → Budgets → Text → Type 0
+SaysOpen arguments budgets path = (line : OpenLine) × Opens arguments budgets path line
+
 -- these arguments say no command
 pub record SaysNothing (arguments : List Text) : Type 0 where
   pub no_run : (options : Options) → SaysRun arguments options → ⊥
@@ -169,3 +246,4 @@ pub record SaysNothing (arguments : List Text) : Type 0 where
   pub no_image : (options : Options) → SaysImage arguments options → ⊥
   pub no_inspect : SaysInspect arguments → ⊥
   pub no_migrate : SaysMigrate arguments → ⊥
+  pub no_open : (budgets : Budgets) (path : Text) → SaysOpen arguments budgets path → ⊥

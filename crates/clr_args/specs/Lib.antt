@@ -1,3 +1,4 @@
+pub mod Budgets
 pub mod Grammar
 pub mod Parser
 pub mod Reading

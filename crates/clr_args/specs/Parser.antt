@@ -4,7 +4,7 @@ use Rattle.clap.specs.Walk.{Rule, Text}
 use Rattle.clap.specs.Simple.{App, Shape, filled, new_rule, new_shape, with_rule, with_subcommand}
 use Rattle.clap.specs.declared.builder.action.ArgAction.TheVariants.{Set}
 use Rattle.clap.specs.declared.builder.value_parser.ValueParser.TheVariants as vp
-use Rattle.clr_args.specs.Grammar.{option_names, soak_places}
+use Rattle.clr_args.specs.Grammar.{budget_names, open_places, option_names, soak_places}
 
 -- a rule that takes one text, once
 abbrev pub text_rule : Text → Rule
@@ -25,6 +25,10 @@ place_rule name = record (text_rule name) { required = true }
 -- a command with two options more
 abbrev pub with_two : Text → Text → App → App
 with_two first second app = with_rule (with_rule app (option_rule first)) (option_rule second)
+
+-- a command with the options for budgets more
+abbrev pub with_budgets : App → App
+with_budgets app = fold with_rule app (map option_rule budget_names)
 
 -- a command with the options more
 abbrev pub with_options : App → App
@@ -49,7 +53,7 @@ abbrev pub command_shapes : List Shape
 command_shapes =
     command_shape (codes "run") option_names [] ∷ command_shape (codes "soak") option_names soak_places
     ∷ command_shape (codes "image") option_names [] ∷ command_shape (codes "inspect") [] []
-    ∷ command_shape (codes "migrate") [] [] ∷ []
+    ∷ command_shape (codes "migrate") [] [] ∷ command_shape (codes "open") budget_names open_places ∷ []
 
 -- the program without commands
 abbrev pub bare_program : App

@@ -1,9 +1,12 @@
 ghost use Rattle.std.specs.Prelude.{◌≡◌, ◌<◌, ◌∷◌, ◌++◌, [], List, ℕ, length, map, OnOk, OnErr, IfOk, slice_get, None};
-ghost use Rattle.std.specs.Prelude.{Some};
+ghost use Rattle.std.specs.Prelude.{Some, option_map};
 ghost use Rattle.clr_model.specs.Machine.{Options};
-ghost use Rattle.clr_args.specs.CommandLines.{HasOptions, IsSaid};
-ghost use Rattle.clr_args.specs.Grammar.{SaysImage, SaysInspect, SaysMigrate, SaysNothing, SaysRun, SaysSoak};
-ghost use Rattle.clr_args.specs.declared.command_line.CommandLine.TheVariants.{Image, Inspect, Migrate, Run, Soak};
+ghost use Rattle.clr_args.specs.CommandLines.{HasOptions, IsPathSaid, IsSaid};
+ghost use Rattle.clr_args.specs.Grammar.{SaysImage, SaysInspect, SaysMigrate, SaysNothing, SaysOpen, SaysRun, SaysSoak};
+ghost use Rattle.clr_args.specs.Grammar.{Text};
+ghost use Rattle.clr_args.specs.declared.budgets.Budgets.{Budgets};
+ghost use Rattle.clr_args.specs.declared.command_line.CommandLine.TheVariants.{Image, Inspect, Migrate, Open, Run};
+ghost use Rattle.clr_args.specs.declared.command_line.CommandLine.TheVariants.{Soak};
 
 use crate::NoMemory;
 use crate::command_line::{self, CommandLine};
@@ -77,8 +80,23 @@ impl Arguments {
             → IfOk result (λ line. HasOptions Image options line) }
         ensures inspect { SaysInspect self.now → IfOk result (λ line. line ≡ Some Inspect) }
         ensures migrate { SaysMigrate self.now → IfOk result (λ line. line ≡ Some Migrate) }
+        ensures opens { (budgets : Budgets) (path : Text) → SaysOpen self.now budgets path
+            → IfOk result (λ line. line ≡ Some (Open budgets)) }
         ensures nothing { SaysNothing self.now → IfOk result (λ line. line ≡ None) }
     {
         command_line::read(self.alloc, self.texts.as_slice())
+    }
+
+    /// The path of the image that `open` goes on from. There is one exactly where the arguments say `open`. The error is
+    /// that there was no memory to read them.
+    pub fn image_path(&self) -> Result<Option<&str>, NoMemory>
+        // What is answered is said, and `open` isn't where nothing is answered.
+        ensures said { IfOk result (λ path. IsPathSaid self.now (option_map (λ text. text.now) path)) }
+
+        // What is said is answered.
+        ensures opens { (budgets : Budgets) (path : Text) → SaysOpen self.now budgets path
+            → IfOk result (λ found. option_map (λ text. text.now) found ≡ Some path) }
+    {
+        command_line::image_path(self.alloc, self.texts.as_slice())
     }
 }

@@ -1,12 +1,13 @@
 //! The commands that arguments say.
-ghost use Rattle.std.specs.Prelude.{◌≡◌, IfOk, List, Some, codes, map, string_bytes};
+ghost use Rattle.std.specs.Prelude.{◌≡◌, IfOk, List, Some, codes, map, option_map, string_bytes};
 ghost use Rattle.clap.specs.Matches.{found_of};
 ghost use Rattle.clap.specs.Simple.{subcommand_rows_of};
-ghost use Rattle.clap.specs.Walk.{Row, rows_of};
-ghost use Rattle.clr_args.specs.CommandLines.{IsReadWith, IsSaid, IsSoakRead};
+ghost use Rattle.clap.specs.Walk.{Row, Text, first_of, rows_of};
+ghost use Rattle.clr_args.specs.CommandLines.{IsOpenRead, IsPathSaid, IsReadWith, IsSaid, IsSoakRead};
 ghost use Rattle.clr_args.specs.declared.command_line.CommandLine.TheVariants.{Image, Inspect, Migrate, Run};
 
 use crate::NoMemory;
+use crate::budgets::Budgets;
 use crate::parser::parse;
 use crate::settings::{Settings, place};
 use clap::ArgMatches;
@@ -35,6 +36,8 @@ pub enum CommandLine {
     Inspect,
     /// An image is written in the newest form.
     Migrate,
+    /// A script is run with these budgets from the state on that an image says. `Arguments::image_path` gives its path.
+    Open(Budgets),
 }
 
 /// The command that the arguments say. There is none where they say no command.
@@ -45,6 +48,35 @@ pub(crate) fn read(alloc: Global, arguments: &[String]) -> Result<Option<Command
         return Ok(None);
     };
     Ok(read_matches(&matches))
+}
+
+/// The path that the arguments say. There is none where they don't say `open`.
+pub(crate) fn image_path<'a>(
+    alloc: Global,
+    arguments: &'a [String],
+) -> Result<Option<&'a str>, NoMemory>
+    ensures { IfOk result (λ path. IsPathSaid (map string_bytes arguments.entry.now)
+        (option_map (λ text. text.now) path)) }
+{
+    let Some(matches) = parse(alloc, arguments)? else {
+        return Ok(None);
+    };
+    let Some(line) = read_matches(&matches) else {
+        return Ok(None);
+    };
+    match line {
+        CommandLine::Open(_) => Ok(read_path(&matches)),
+        _ => Ok(None),
+    }
+}
+
+// The text of the place of a path, behind whatever command.
+fn read_path<'a>(matches: &ArgMatches<'a>) -> Option<&'a str>
+    ensures { (name : Text) (rows : List Row) → subcommand_rows_of matches.now ≡ Some (name, rows)
+        → option_map (λ text. text.now) result ≡ first_of (codes "IMAGE") rows }
+{
+    let (_, found) = matches.subcommand()?;
+    found.get_str("IMAGE")
 }
 
 // What is said, where the arguments are taken.
@@ -59,6 +91,8 @@ fn read_matches(matches: &ArgMatches<'_>) -> Option<CommandLine>
         → result ≡ Some Inspect }
     ensures migrate { (rows : List Row) → subcommand_rows_of matches.now ≡ Some (codes "migrate", rows)
         → result ≡ Some Migrate }
+    ensures opens { (rows : List Row) → subcommand_rows_of matches.now ≡ Some (codes "open", rows)
+        → IsOpenRead rows result }
 {
     let (name, found) = matches.subcommand()?;
     match name {
@@ -66,6 +100,7 @@ fn read_matches(matches: &ArgMatches<'_>) -> Option<CommandLine>
         "soak" => read_soak(found),
         "image" => read_image(found),
         "inspect" => Some(CommandLine::Inspect),
+        "open" => read_open(found),
         _ => Some(CommandLine::Migrate),
     }
 }
@@ -82,6 +117,13 @@ fn read_image(found: &ArgMatches<'_>) -> Option<CommandLine>
     ensures { IsReadWith Image (rows_of (found_of found.now)) result }
 {
     Some(CommandLine::Image(Settings::read(found)?))
+}
+
+// What is said behind `open`.
+fn read_open(found: &ArgMatches<'_>) -> Option<CommandLine>
+    ensures { IsOpenRead (rows_of (found_of found.now)) result }
+{
+    Some(CommandLine::Open(Budgets::read(found)?))
 }
 
 // What is said behind `soak`.

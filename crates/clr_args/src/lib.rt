@@ -2,6 +2,7 @@
 #![tactic(auto)]
 
 mod arguments;
+mod budgets;
 mod command_line;
 pub mod laws;
 mod no_memory;
@@ -9,6 +10,7 @@ mod parser;
 mod settings;
 
 pub use arguments::Arguments;
+pub use budgets::Budgets;
 pub use command_line::CommandLine;
 pub use no_memory::NoMemory;
 pub use settings::Settings;

@@ -4,9 +4,9 @@ ghost use Rattle.clap.specs.Faults.{fault_of};
 ghost use Rattle.clap.specs.Simple.{app_of, filled, subcommand_of, subcommand_rows_of, with_subcommand};
 ghost use Rattle.clap.specs.Walk.{rule_of};
 ghost use Rattle.clap.specs.declared.builder.command.Command.TheViews.{out-Command};
-ghost use Rattle.clr_args.specs.Grammar.{option_names, soak_places};
+ghost use Rattle.clr_args.specs.Grammar.{budget_names, open_places, option_names, soak_places};
 ghost use Rattle.clr_args.specs.Parser.{bare_program, command_shape, filled_app, option_rule, place_rule, program};
-ghost use Rattle.clr_args.specs.Parser.{with_options, with_two};
+ghost use Rattle.clr_args.specs.Parser.{with_budgets, with_options, with_two};
 
 use crate::NoMemory;
 use clap::error::ErrorKind;
@@ -42,7 +42,8 @@ fn make_program<'a>(alloc: Global) -> Result<Command<'a>, AllocError>
     let with_run = add_command(alloc, make_bare(alloc), "run")?;
     let with_soak = add_soak(alloc, with_run)?;
     let with_image = add_command(alloc, with_soak, "image")?;
-    add_looks(alloc, with_image)
+    let with_looks = add_looks(alloc, with_image)?;
+    add_open(alloc, with_looks)
 }
 
 // The program without commands.
@@ -101,6 +102,25 @@ fn add_looks<'a>(alloc: Global, program: Command<'a>) -> Result<Command<'a>, All
         .subcommand(Command::new(alloc, "migrate"))
 }
 
+// Adds `open`.
+fn add_open<'a>(alloc: Global, program: Command<'a>) -> Result<Command<'a>, AllocError>
+    ensures { IfOk result (λ made. filled_app (app_of made)
+        ≡ with_subcommand (filled_app (app_of program.entry)) (command_shape (codes "open") budget_names open_places)) }
+{
+    let command = make_open(alloc)?;
+    program.subcommand(command)
+}
+
+// The command `open`, with its options and the place of a path.
+fn make_open<'a>(alloc: Global) -> Result<Command<'a>, AllocError>
+    ensures shape { IfOk result (λ made. (filled_app (app_of made)).top
+        ≡ command_shape (codes "open") budget_names open_places) }
+    ensures local { IfOk result (λ made. (out-Command made).has_globals ≡ false) }
+{
+    let optional = add_budgets(alloc, Command::new(alloc, "open"))?;
+    optional.arg(make_place(alloc, "IMAGE"))
+}
+
 // Adds the options of a command.
 fn add_options<'a>(alloc: Global, command: Command<'a>) -> Result<Command<'a>, AllocError>
     ensures shape { IfOk result (λ made. filled_app (app_of made) ≡ with_options (filled_app (app_of command.entry))) }
@@ -108,9 +128,19 @@ fn add_options<'a>(alloc: Global, command: Command<'a>) -> Result<Command<'a>, A
         → IfOk result (λ made. (out-Command made).has_globals ≡ false) }
 {
     let sized = add_two(alloc, command, "limit", "segment")?;
-    let younger = add_two(alloc, sized, "b0", "b1")?;
-    let budgeted = add_two(alloc, younger, "b2", "bl")?;
-    add_two(alloc, budgeted, "compact", "large")
+    let budgeted = add_budgets(alloc, sized)?;
+    budgeted.arg(make_option(alloc, "large"))
+}
+
+// Adds the options for budgets.
+fn add_budgets<'a>(alloc: Global, command: Command<'a>) -> Result<Command<'a>, AllocError>
+    ensures shape { IfOk result (λ made. filled_app (app_of made) ≡ with_budgets (filled_app (app_of command.entry))) }
+    ensures local { (out-Command command.entry).has_globals ≡ false
+        → IfOk result (λ made. (out-Command made).has_globals ≡ false) }
+{
+    let younger = add_two(alloc, command, "b0", "b1")?;
+    let older = add_two(alloc, younger, "b2", "bl")?;
+    older.arg(make_option(alloc, "compact"))
 }
 
 // Adds two options.
@@ -138,7 +168,7 @@ fn make_option<'a>(alloc: Global, name: &'a str) -> Arg<'a>
     Arg::new(alloc, name).long(name)
 }
 
-// A place that has to have a number.
+// A place that has to have a text.
 fn make_place<'a>(alloc: Global, name: &'a str) -> Arg<'a>
     ensures rule { filled (rule_of result) ≡ place_rule name.entry.now }
     ensures local { result.global ≡ false }

@@ -4,14 +4,16 @@ ghost use Rattle.clap.specs.Matches.{found_of};
 ghost use Rattle.clap.specs.Walk.{first_of, rows_of};
 ghost use Rattle.clr_model.specs.Lawful.{AreLawfulOptions};
 ghost use Rattle.clr_model.specs.Machine.{Options};
+ghost use Rattle.clr_args.specs.Budgets.{budgets_of};
 ghost use Rattle.clr_args.specs.Reading.{AreRead, number_in, number_or};
 ghost use Rattle.clr_args.specs.Settings.{options_of};
 
+use crate::budgets::Budgets;
 use clap::ArgMatches;
 use clr_nums::read_dec;
 
 /// The most bytes that a limit or a budget may have.
-const GIBIBYTE: u64 = 1_073_741_824;
+pub(crate) const GIBIBYTE: u64 = 1_073_741_824;
 
 /// What a script runs with: sizes and budgets in bytes, and a percentage.
 #[derive(Clone, Copy, Debug, PartialEq, Eq)]
@@ -57,20 +59,16 @@ impl Settings {
     {
         let limit = option(found, "limit", 268_435_456)?;
         let segment = option(found, "segment", 16_777_216)?;
-        let b0 = option(found, "b0", 262_144)?;
-        let b1 = option(found, "b1", 1_048_576)?;
-        let b2 = option(found, "b2", 4_194_304)?;
-        let bl = option(found, "bl", 4_194_304)?;
-        let compact = option(found, "compact", 50)?;
+        let budgets = Budgets::read_numbers(found)?;
         let large = option(found, "large", 85_000)?;
         Some(Settings {
             limit,
             segment,
-            b0,
-            b1,
-            b2,
-            bl,
-            compact,
+            b0: budgets.b0,
+            b1: budgets.b1,
+            b2: budgets.b2,
+            bl: budgets.bl,
+            compact: budgets.compact,
             large,
         })
     }
@@ -85,13 +83,22 @@ impl Settings {
             && self.segment % 4096 == 0
             && 2 * self.segment <= self.limit
             && self.limit <= GIBIBYTE
-            && self.b0 <= GIBIBYTE
-            && self.b1 <= GIBIBYTE
-            && self.b2 <= GIBIBYTE
-            && self.bl <= GIBIBYTE
-            && self.compact <= 100
+            && self.budgets().are_lawful()
             && 85_000 <= self.large
             && self.large <= self.segment - 4096
+    }
+
+    // Those of its numbers that an image doesn't say.
+    fn budgets(&self) -> Budgets
+        ensures { result ≡ budgets_of (options_of self.now) }
+    {
+        Budgets {
+            b0: self.b0,
+            b1: self.b1,
+            b2: self.b2,
+            bl: self.bl,
+            compact: self.compact,
+        }
     }
 }
 
@@ -102,8 +109,8 @@ pub(crate) fn place(found: &ArgMatches<'_>, name: &str) -> Option<u64>
     number(found.get_str(name)?)
 }
 
-// The number of an option, or its default where the arguments don't say it.
-fn option(found: &ArgMatches<'_>, name: &str, default: u64) -> Option<u64>
+/// The number of an option, or its default where the arguments don't say it.
+pub(crate) fn option(found: &ArgMatches<'_>, name: &str, default: u64) -> Option<u64>
     ensures { result ≡ number_or default (first_of name.now (rows_of (found_of found.now))) }
 {
     match found.get_str(name) {

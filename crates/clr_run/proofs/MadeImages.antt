@@ -5,6 +5,7 @@ use Rattle.clr_format.specs.Saved.{image_bytes}
 use Rattle.clr_model.specs.LineGrammar.{ended_lines, script_lines}
 use Rattle.clr_model.specs.Machine.{Machine, Options}
 use Rattle.clr_model.specs.Picture.{picture}
+use Rattle.clr_model.specs.Run.{opening}
 use Rattle.clr_runtime.specs.RuntimeView.{RuntimeView, StandsFor}
 use Rattle.clr_save.specs.SavedImages.{IsImageOf}
 use Rattle.clr_streams.specs.Faults.{Appended, Taken}
@@ -46,7 +47,7 @@ ended (Some script) held_after taken A read told at_end = rw (at_end script told
 
 -- all lines of a source that was read to its end were run
 pub ran_whole : (options : Options) (limit : ℕ) (held held_after written written_after : Option (List ℕ))
-    (taken : List ℕ) (answered : Answered options script_lines held held_after written written_after taken)
+    (taken : List ℕ) (answered : Answered (opening options) script_lines held held_after written written_after taken)
     → length taken ≤ limit → IfSome held_after (λ rest. rest ≡ [])
     → RanWhole options limit held held_after answered.last
 ran_whole options limit held held_after written written_after taken answered short end = record {
@@ -57,11 +58,11 @@ ran_whole options limit held held_after written written_after taken answered sho
 }
 
 -- a byte more than the limit came
-pub read_too_much : (options : Options) (limit : ℕ) (held held_after written written_after : Option (List ℕ))
+pub read_too_much : (first : Machine) (limit : ℕ) (held held_after written written_after : Option (List ℕ))
     (taken : List ℕ) (byte : ℕ)
-    → Answered options ended_lines held (option_map (λ rest. byte ∷ rest) held_after) written written_after taken
+    → Answered first ended_lines held (option_map (λ rest. byte ∷ rest) held_after) written written_after taken
     → length taken ≡ limit → ReadTooMuch limit held held_after
-read_too_much options limit held held_after written written_after taken byte answered full = record {
+read_too_much first limit held held_after written written_after taken byte answered full = record {
   bytes = taken;
   more = byte ∷ [];
   taken = taken_more held (option_map (λ rest. byte ∷ rest) held_after) held_after taken (byte ∷ []) _ answered.read

@@ -1,14 +1,22 @@
 -- What arguments say, from the command that they were read as.
-use Rattle.std.proofs.Common.{◌≡◌, ◌≢◌, ◌∙◌, ℕ, List, Option, Some, None, sym, ap, inl, inr}
+use Rattle.std.proofs.Common.{◌≡◌, ◌≢◌, ◌∙◌, ◌⊎◌, ℕ, List, Option, Some, None, sym, ap, inl, inr, subst}
 use Rattle.clr_model.specs.Machine.{Options}
 use Rattle.clr_runtime.specs.Options.{options_of as made_with}
 use Rattle.clr_runtime.specs.declared.options.Options as runtime
-use Rattle.clr_args.specs.Grammar.{SaysInspect, SaysMigrate}
+use Rattle.clr_args.specs.Budgets as said
+use Rattle.clr_args.specs.CommandLines.{IsSaid}
+use Rattle.clr_args.specs.Grammar.{SaysInspect, SaysMigrate, SaysOpen, Text}
 use Rattle.clr_args.specs.Settings.{options_of}
+use Rattle.clr_args.specs.declared.budgets.Budgets.{Budgets}
 use Rattle.clr_args.specs.declared.command_line.CommandLine.{CommandLine}
-use Rattle.clr_args.specs.declared.command_line.CommandLine.TheVariants.{Image, Inspect, Migrate, Run, Soak}
+use Rattle.clr_args.specs.declared.command_line.CommandLine.TheVariants.{Image, Inspect, Migrate, Open, Run}
+use Rattle.clr_args.specs.declared.command_line.CommandLine.TheVariants.{Soak}
 use Rattle.clr_args.specs.declared.settings.Settings.{Settings}
-use Rattle.clr_run.specs.Images.{LooksAtImage}
+use Rattle.clr_open.specs.Fit.{AreLawfulBudgets, budgets_of}
+use Rattle.clr_open.specs.declared.budgets.Budgets as opening
+use Rattle.clr_opened.specs.Opened as machine
+use Rattle.clr_run.specs.Images.{LooksAtImage, OpensImage}
+use Rattle.clr_run.specs.Opens.{budgets_with}
 
 -- a command that runs a script, with these options
 abbrev pub IsRunWith : Options → Option CommandLine → Type 0
@@ -98,3 +106,57 @@ no_look arguments line command one here is inspects migrates a b (inl says) =
     no_other line command one Inspect here is (inspects says) a
 no_look arguments line command one here is inspects migrates a b (inr says) =
     no_other line command one Migrate here is (migrates says) b
+
+-- ---- an image that is opened
+
+same_open : (a b : Budgets) → Some (Open a) ≡ Some (Open b) → a ≡ b
+same_open a b e = cc
+
+-- a run goes on from an image with the budgets that the arguments say
+pub open_budgets : (budgets settings : Budgets) (line : Option CommandLine) (made : opening.Budgets)
+    → line ≡ Some (Open settings) → budgets_of made ≡ budgets_with settings → line ≡ Some (Open budgets)
+    → budgets_with budgets ≡ budgets_of made
+open_budgets budgets settings line made is made_is says =
+    sym (made_is ∙ ap budgets_with (same_open settings budgets (sym is ∙ says)))
+
+-- what is said of budgets is lawful of those with which a run goes on
+pub lawful_with : (budgets : Budgets) (made : machine.Budgets) → made ≡ budgets_with budgets
+    → said.AreLawfulBudgets budgets → AreLawfulBudgets made
+lawful_with budgets made same lawful = subst (λ (b : machine.Budgets). AreLawfulBudgets b) (sym same) (record {
+  b0 = lawful.b0;
+  b1 = lawful.b1;
+  b2 = lawful.b2;
+  bl = lawful.bl;
+  compact = lawful.compact;
+})
+
+-- arguments that are read as `open` say it
+pub said_open : (arguments : List Text) (line : Option CommandLine) (command : CommandLine) (budgets : Budgets)
+    → line ≡ Some command → command ≡ Open budgets → IsSaid arguments line
+    → (path : Text) × SaysOpen arguments budgets path
+said_open arguments line command budgets here is says = subst (λ (l : Option CommandLine). IsSaid arguments l)
+    (here ∙ ap Some is) says
+
+pub opens_image : (arguments : List Text) (line : Option CommandLine) (command : CommandLine) (budgets : Budgets)
+    → line ≡ Some command → command ≡ Open budgets → IsSaid arguments line → OpensImage arguments
+opens_image arguments line command budgets here is says =
+    let (path, opens) = said_open arguments line command budgets here is says in
+    (budgets, path, opens)
+
+-- arguments that say another command open no image
+pub no_open : {A : Type 0} (arguments : List Text) (line : Option CommandLine) (command one : CommandLine)
+    → line ≡ Some command → command ≡ one
+    → ((budgets : Budgets) (path : Text) → SaysOpen arguments budgets path → line ≡ Some (Open budgets))
+    → ((budgets : Budgets) → one ≢ Open budgets) → OpensImage arguments → A
+no_open arguments line command one here is opens other (budgets, path, says) =
+    no_other line command one (Open budgets) here is (opens budgets path says) (other budgets)
+
+-- a read that failed was one of the script, or of the image
+pub failed_read {ℓ κ} : {A D E : Type 0} {B : Type ℓ} {C : Type κ} → (A × B × C) ⊎ D → E → D ⊎ (E × A)
+failed_read (inl (image, unread, unwritten)) opens = inr (opens, image)
+failed_read (inr script) opens = inl script
+
+-- no read failed, of either source
+pub no_read {ℓ κ} : {A D E : Type 0} {B : Type ℓ} {C : Type κ} → (A × B × C) ⊎ D → (A → ⊥) → (D → ⊥) → E
+no_read (inl (image, unread, unwritten)) no_image no_script = absurd (no_image image)
+no_read (inr script) no_image no_script = absurd (no_script script)

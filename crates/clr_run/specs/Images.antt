@@ -4,15 +4,17 @@ use Rattle.clr_model.specs.LineGrammar.{script_lines}
 use Rattle.clr_model.specs.Machine.{Machine, Options}
 use Rattle.clr_model.specs.Outcomes.{Outcome}
 use Rattle.clr_model.specs.Picture.{picture}
+use Rattle.clr_model.specs.Run.{opening}
 use Rattle.clr_format.specs.Saved.{image_bytes}
 use Rattle.clr_runtime.specs.RuntimeView.{RuntimeView, StandsFor}
 use Rattle.clr_save.specs.SavedImages.{IsImageOf}
-use Rattle.clr_args.specs.Grammar.{SaysImage, SaysInspect, SaysMigrate}
+use Rattle.clr_args.specs.Grammar.{SaysImage, SaysInspect, SaysMigrate, SaysOpen, Text}
+use Rattle.clr_args.specs.declared.budgets.Budgets.{Budgets}
 use Rattle.clr_streams.specs.Faults.{Appended}
 use Rattle.clr_streams.specs.Reading.{ReadTooMuch, ReadWhole}
 use Rattle.clr_streams.specs.declared.status.Status.{Status}
 use Rattle.clr_streams.specs.declared.status.Status.TheVariants.{Done, TooMuch, WriteFault}
-use Rattle.clr_session.specs.Progress.{RunOver}
+use Rattle.clr_session.specs.Runs.{Run}
 
 -- the image of a machine, each object named by its place
 abbrev pub image_of : Machine → List ℕ
@@ -23,7 +25,7 @@ pub record RanWhole (options : Options) (limit : ℕ) (held held_after : Option 
   pub taken : List ℕ
   pub read : ReadWhole limit held held_after taken
   pub outcomes : List Outcome
-  pub run : RunOver options (script_lines taken) outcomes last
+  pub run : Run (opening options) (script_lines taken) outcomes last
 
 -- and the image of the last state was written, which is one, and says what that state is
 pub record MadeImage (options : Options) (limit : ℕ) (held held_after written written_after : Option (List ℕ)) : Type 0
@@ -54,6 +56,10 @@ pub record MakesImage (options : Options) (limit : ℕ) (held held_after written
 -- an image is read
 abbrev pub LooksAtImage : List (List ℕ) → Type 0
 LooksAtImage arguments = SaysInspect arguments ⊎ SaysMigrate arguments
+
+-- a script is run from the state that an image says
+abbrev pub OpensImage : List (List ℕ) → Type 0
+OpensImage arguments = (budgets : Budgets) × (path : Text) × SaysOpen arguments budgets path
 
 -- nothing is written before all is read
 abbrev pub WritesAtEnd : List (List ℕ) → Type 0

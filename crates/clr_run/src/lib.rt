@@ -3,6 +3,7 @@
 
 mod command;
 mod making;
+mod opening;
 
 pub use clr_args::Arguments;
 pub use clr_image_io::IMAGE_LIMIT;

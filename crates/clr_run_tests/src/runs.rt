@@ -7,9 +7,10 @@ mod faults;
 mod images;
 mod lines;
 mod looks;
+mod opens;
 mod scripts;
 
-use clr_run::{Arguments, MemorySink, MemorySource, Sink, Source, Status, run};
+use clr_run::{Arguments, MemorySink, MemorySource, PlainSource, Sink, Source, Status, run};
 use std::alloc::Global;
 use std::process::Abort;
 use std::test::Fail;
@@ -31,17 +32,29 @@ fn arguments_of(alloc: Global, texts: &[&str]) -> Result<Arguments, Fail> {
     Ok(arguments)
 }
 
-/// How the command of these arguments ends. It promises nothing, so that what `run` ensures doesn't stand in the goals
-/// of each test.
+/// How the command of these arguments ends, where no image is read from a source of its own.
 fn status_of<S: Source, K: Sink>(
     alloc: Global,
     texts: &[&str],
     source: &mut S,
     sink: &mut K,
 ) -> Result<Status, Fail> {
+    let mut image = PlainSource::new(Vec::new(alloc));
+    status_with(alloc, texts, &mut image, source, sink)
+}
+
+/// How the command of these arguments ends, with this source of an image. It promises nothing, so that what `run`
+/// ensures doesn't stand in the goals of each test.
+fn status_with<I: Source, S: Source, K: Sink>(
+    alloc: Global,
+    texts: &[&str],
+    image: &mut I,
+    source: &mut S,
+    sink: &mut K,
+) -> Result<Status, Fail> {
     let arguments = arguments_of(alloc, texts)?;
     let mut end_state = None;
-    let status = run(alloc, &arguments, source, sink, &mut end_state);
+    let status = run(alloc, &arguments, image, source, sink, &mut end_state);
     drop(end_state);
     Ok(status)
 }

@@ -17,7 +17,7 @@ fn ended(alloc: Global, texts: &[&str]) -> Result<(Status, Vec<u8>), Fail> {
 
 #[test]
 fn ends_as_the_arguments_say(rt: HostRuntime) -> Result<(), Fail> {
-    let cases: [(&[&str], Status); 19] = [
+    let cases: [(&[&str], Status); 24] = [
         (&[], Status::Usage),
         (&["images"], Status::Usage),
         (&["image", "x"], Status::Usage),
@@ -25,6 +25,11 @@ fn ends_as_the_arguments_say(rt: HostRuntime) -> Result<(), Fail> {
         (&["image", "--b0", "1", "--b0", "2"], Status::Usage),
         (&["inspect", "x"], Status::Usage),
         (&["migrate", "x"], Status::Usage),
+        (&["open"], Status::Usage),
+        (&["open", "--b0", "5"], Status::Usage),
+        (&["open", "x", "y"], Status::Usage),
+        (&["open", "--limit", "1000000", "x"], Status::Usage),
+        (&["open", "--compact", "101", "x"], Status::Usage),
         (&["run", "--help"], Status::Usage),
         (&["run", "--b0", "1", "--b0", "2"], Status::Usage),
         (&["run", "--compact", "101"], Status::Usage),

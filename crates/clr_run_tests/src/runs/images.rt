@@ -50,11 +50,11 @@ fn put_words(bytes: &mut Vec<u8>, words: &[u64]) -> Result<(), Fail> {
     Ok(())
 }
 
-/// The image of the heap that the script leaves: the limit, what large objects are, that large segments are swept, one
-/// type, the segments, locals of which the first names the object, and empty tables.
-fn built(alloc: Global) -> Result<Vec<u8>, Fail> {
+/// The image of the heap that the script leaves, where objects are large from so many bytes on: the limit, this size,
+/// that large segments are swept, one type, the segments, locals of which the first names the object, and empty tables.
+pub(super) fn built(alloc: Global, large: u64) -> Result<Vec<u8>, Fail> {
     let mut bytes = bytes_of(alloc, b"CLRHEAP2")?;
-    put_words(&mut bytes, &[268_435_456, 85_000, 0, 1, 1])?;
+    put_words(&mut bytes, &[268_435_456, large, 0, 1, 1])?;
     bytes.push(b'N')?;
     put_words(&mut bytes, &[0, 0, 1])?;
     bytes.push(b'r')?;
@@ -69,7 +69,7 @@ fn saves_the_last_state(rt: HostRuntime) -> Result<(), Fail> {
     let (status, image) = whole_outcome(rt.alloc(), "image", SCRIPT.as_bytes())?;
     assert_eq!(rt; status, Status::Done);
     assert_eq!(rt; image.len(), 9_066);
-    assert!(rt; image.as_slice() == built(rt.alloc())?.as_slice());
+    assert!(rt; image.as_slice() == built(rt.alloc(), 85_000)?.as_slice());
     Ok(())
 }
 

@@ -14,4 +14,5 @@ returns c =
     let rows = subcommand_rows_of c.in-Some.matches in
     let read = c.read_matches.ensures in
     said_by_matches (map (λ w. string_bytes w) c.args.arguments.now) rows found.0 found.1 c.read_matches.result
-    (each_read rows c.read_matches.result read.run read.soak read.image read.inspect read.migrate)
+    (each_read rows c.read_matches.result read.run read.soak read.image read.inspect read.migrate
+    read.opens)

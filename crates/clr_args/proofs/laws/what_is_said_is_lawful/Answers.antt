@@ -6,4 +6,5 @@ returns c = λ arguments options. record {
   run = λ (line, says). says.lawful;
   soak = λ seed count said. said.1.lawful;
   image = λ (line, says). says.lawful;
+  budgets = λ budgets path said. said.1.lawful;
 }

@@ -3,7 +3,7 @@ use Rattle.std.proofs.Common.{◌≡◌, ◌∙◌, ap, subst, IfOk, List, None,
 use Rattle.std.proofs.lemmas.Result.{IfOk-weaker}
 use Rattle.clr_args.specs.CommandLines.{IsSaid}
 use Rattle.clr_args.specs.Grammar.{Text}
-use Rattle.clr_args.specs.declared.command_line.CommandLine.TheVariants.{Inspect, Migrate}
+use Rattle.clr_args.specs.declared.command_line.CommandLine.TheVariants.{Inspect, Migrate, Open}
 use Rattle.clr_args.proofs.Answering.{image_answered, one_thing, run_answered, soak_answered}
 use Rattle.clr_args.proofs.arguments.Arguments.command.Goals as goal
 
@@ -23,5 +23,7 @@ returns c =
           (λ line is. one_thing arguments line (Some Inspect) is says) said;
       migrate = λ says. IfOk-weaker c.read.result _ _
           (λ line is. one_thing arguments line (Some Migrate) is says) said;
+      opens = λ budgets path says. IfOk-weaker c.read.result _ _
+          (λ line is. one_thing arguments line (Some (Open budgets)) is (path, says)) said;
       nothing = λ nothing. IfOk-weaker c.read.result _ _ (λ line is. one_thing arguments line None is nothing) said;
     }

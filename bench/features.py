@@ -1,5 +1,6 @@
 #!/usr/bin/env python3
-"""Times lines beside another program that takes the same scripts: slides, sizes, background collections.
+"""Times lines beside another program that takes the same scripts: slides, sizes, commands that look, background
+collections.
 
 Each case is a script that is run with and without the lines that it times, the programs in turn; the difference of the
 least times is the time of these lines.
@@ -7,6 +8,8 @@ least times is the time of these lines.
 - `slide`: 1,000 large arrays of 85,000 bytes, of which every second is dropped: a full sweep that slides the others,
   beside one that doesn't.
 - `objsize`: 20 sizes of 200,000 objects, for each object.
+- `looks`: commands that look, over 200,000 and over 1,000,000 objects. Below a search stands its ratio to the slower
+  one of `gcroot` and `objsize`; 1.5 is wanted at most.
 - `background`: a background collection of 200,000 old objects by steps of 1,000, and by its last pause alone beside its
   other parts; and a blocking sweep of them.
 - `stores`: 1,000,000 stores into old objects while no background collection runs, and while one does.
@@ -18,9 +21,13 @@ Usage: features.py PROGRAM [OTHER]
 import pathlib
 import tempfile
 
+from growth import Run
 from programs import Program, command_line
 
 TURNS, OBJECTS, ROW, STORES = 7, 200_000, 10_000, 1_000_000
+# How many objects commands look at, how often each is asked, the first object, and options for so many objects.
+LOOKED_AT, ASKED, LOWEST = (200_000, 1_000_000), 3, "0000000010001000"
+AMPLE = "--limit", "1073741824", "--segment", "67108864", "--b0", "1073741824", "--b1", "1073741824"
 # Free items and plugs of the fittings.
 FITS = (50_000, 5_000), (100_000, 5_000), (100_000, 10_000), (100_000, 20_000)
 BUDGETS = "--b0", "134217728", "--b1", "268435456"
@@ -36,9 +43,9 @@ def arrays():
     return script
 
 
-def graph():
-    """The script of objects in tables, each of which names the one before, all of generation 2."""
-    tables = OBJECTS // ROW
+def graph(objects=OBJECTS):
+    """The script of objects in tables, each of which refers to the one before, all of generation 2."""
+    tables = objects // ROW
     script = ["type Table refs", "type Node class rrn", f"t1 new l0 Table {tables}"]
     for table in range(tables):
         script += [f"t1 new l1 Table {ROW}", f"t1 set l0 {table} l1"]
@@ -91,6 +98,40 @@ def timed(programs, folder, before, lines):
     return [long - short for long, short in least]
 
 
+def show_looks(words, folder, objects):
+    """Times the commands that look over a heap of so many objects: the program's own time between two replies of one
+    run. Of all objects a search finds the last one last."""
+    old = graph(objects)
+    heap = Program(words[0], "3", AMPLE).replies(write(folder, old + ["dumpheap -short"]))[-objects:]
+    first, middle, last = LOWEST, heap[objects // 2], heap[-1]
+    runs = [Run(path, list(AMPLE), "3") for path in words]
+    for run in runs:
+        run.timer.cancel()
+        run.answer("".join(line + "\n" for line in old).encode())
+    nearest = [0]
+    for line in (
+        f"gcroot {last}", f"objsize {first}", f"pathto {first} {last}", f"retained {first}", f"retained {last}",
+        f"gcroot -all {last}", "gcheapstat -inclUnrooted", "dumpheap -stat -live", "gcheapstat", "ephrefs",
+        "dumpheap -stat", "dumpheap -stat -gen 1", f"listnearobj {middle}", f"dumparray -length 10 {first}",
+        "gchandles -stat",
+    ):
+        times = [min(seconds_of(run, line) for _ in range(TURNS)) for run in runs]
+        show(f"{line}, {objects:,} objects", times, "ms", ASKED)
+        if line.startswith(("gcroot 0", "objsize")):
+            nearest.append(times[0])
+        if line.startswith(("gcroot -all", "pathto", "retained")):
+            print(f"  {times[0] / max(nearest):.2f} times the slower of gcroot and objsize")
+    for run in runs:
+        run.end()
+
+
+def seconds_of(run, line):
+    """How long the program takes over a line that is asked several times."""
+    before = run.seconds()
+    run.answer(f"{line}\n".encode() * ASKED)
+    return run.seconds() - before
+
+
 def show(name, times, unit, count):
     """A row: the time of each program, and the ratio of the first to the second."""
     shown = ", ".join(f"{spent * 1e9 / count / (1e6 if unit == 'ms' else 1):.1f} {unit}" for spent in times)
@@ -108,9 +149,10 @@ def main():
         slid = timed(programs, folder, arrays(), ["t1 compact-large once", "t1 collect 2 sweeping"])
         show("with a slide", slid, "ms", 1)
         old = graph()
-        place = "0000000010001000"
-        first = programs[0].replies(write(folder, old))[2] or place
+        first = programs[0].replies(write(folder, old))[2] or LOWEST
         show("objsize, an object", timed(programs, folder, old, [f"objsize {first}"] * 20), "ns", 20 * OBJECTS)
+        for objects in LOOKED_AT:
+            show_looks(words, folder, objects)
         show("a blocking sweep", timed(programs, folder, old, ["t1 collect 2 sweeping"]), "ms", 1)
         begun = ["t1 background begin"]
         marked = begun + ["background step 1000"] * (OBJECTS // 1000 + 1)

@@ -12,6 +12,8 @@ WIDE = ["--limit", "1073741824", "--segment", "67108864", "--b0", "1073741824", 
         "--b2", "1073741824", "--bl", "1073741824"]
 NARROW = ["262144" if word == "67108864" else word for word in WIDE]
 LEAF = "0000000010001000"
+# The first large object, and an address in the middle of the small heap, of a heap that `leaf_and_heap` builds.
+TABLE, MIDDLE = "0000000014001000", "0000000010100004"
 
 
 @dataclasses.dataclass(frozen=True)
@@ -426,6 +428,61 @@ def dumpobj_of_a_leaf(n):
 @case(125_000, 0.2)
 def gcwhere_of_a_leaf(n):
     yield from leaf_and_heap(n, f"gcwhere {LEAF}", 10_000)
+
+
+@case(125_000, 0.2)
+def dumparray_within_a_table(n):
+    yield from leaf_and_heap(n, f"dumparray -start 100000 -length 20 {TABLE}", 10_000)
+
+
+@case(125_000, 0.2)
+def listnearobj_in_the_middle(n):
+    yield from leaf_and_heap(n, f"listnearobj {MIDDLE}", 10_000)
+
+
+@case(125_000, 0.2)
+def pathto_of_a_leaf(n):
+    yield from leaf_and_heap(n, f"pathto {LEAF} {LEAF}", 10_000)
+
+
+@case(125_000)
+def pathto_without_a_chain(n):
+    yield from leaf_and_heap(n, f"pathto {TABLE} {LEAF}", 10)
+
+
+@case(125_000)
+def retained_of_a_leaf(n):
+    yield from leaf_and_heap(n, f"retained {LEAF}", 10)
+
+
+@case(125_000)
+def gcroot_all_of_a_leaf(n):
+    yield from leaf_and_heap(n, f"gcroot -all {LEAF}", 10)
+
+
+@case(8_191)
+def gcroot_all_of_handles(n):
+    """Each of n handles refers to an object of its own, and these to one leaf."""
+    yield from ["type Node class r", "t1 new l0 Node"]
+    for _ in range(n):
+        yield from ["t1 new l1 Node", "t1 set l1 0 l0", "t1 handle strong l1"]
+    yield MEASURED
+    yield from [f"gcroot -all {LEAF}"] * 10
+
+
+@case(125_000)
+def gcheapstat_of_objects(n):
+    yield from leaf_and_heap(n, "gcheapstat", 10)
+
+
+@case(125_000)
+def gcheapstat_unrooted(n):
+    yield from leaf_and_heap(n, "gcheapstat -inclUnrooted", 10)
+
+
+@case(125_000)
+def ephrefs_of_objects(n):
+    yield from leaf_and_heap(n, "ephrefs", 10)
 
 
 @case(125_000)

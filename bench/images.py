@@ -8,7 +8,8 @@ references as large, all null.
 Of each heap `image` runs a script and writes an image, and `inspect` and `migrate` read it. `run` is the same script
 with no image, so what `image` takes more is what making and writing the image takes. Shown are the least processor
 seconds of each command, interleaved, with the ratio to the other program, and where GNU time is on the machine the
-greatest memory as a multiple of the image. What both programs write must agree.
+greatest memory as a multiple of the image. What both programs write must agree. Then the first program opens the image
+and answers one question, with the ratio to its own `migrate`.
 
 Usage: images.py PROGRAM [OTHER]
 """
@@ -101,6 +102,18 @@ def least(programs, words, given, turns):
     return [min(column) for column in zip(*times)]
 
 
+def opened(program, image, turns, folder, migrated):
+    """What it takes to open an image and to answer a line."""
+    question = folder / "question"
+    question.write_text("gcwhere 0000000010001000\n")
+    words = ["open", str(image)]
+    spent = least([program], words, question, turns)[0]
+    text = f"    open    {columns([spent])}, {spent / migrated:.2f} times migrate"
+    if shutil.which("time"):
+        text += f", memory {memory(program, words, question, folder) / image.stat().st_size:.2f} images"
+    print(text, flush=True)
+
+
 def timed(name, script, options, programs, turns, folder):
     path = folder / "script"
     path.write_text("".join(line + "\n" for line in script))
@@ -118,6 +131,7 @@ def timed(name, script, options, programs, turns, folder):
             taken = [memory(program, words, given, folder) / length for program in programs]
             text += ", memory" + "".join(f" {images:.2f}" for images in taken) + " images"
         print(text, flush=True)
+    opened(programs[0], image, turns, folder, told["migrate"][0])
     more = [whole - run for whole, run in zip(told["image"], told["run"])]
     print(f"    image, less the run{columns(more)}", flush=True)
 

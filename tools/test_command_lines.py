@@ -7,6 +7,7 @@ import os
 import struct
 import subprocess
 import sys
+import tempfile
 import unittest
 
 sys.dont_write_bytecode = True
@@ -35,7 +36,11 @@ SILENT = [
     "inspect x", "inspect inspect", "inspect migrate", "inspect -- --", "inspect -- 5", "inspect --b0 5",
     "inspect --b0=5", "inspect --help", "inspect -h", "inspect ", "-- inspect", "migrate 5",
     "migrate --limit 1073741824", "migrate --b0=5", "migrate -- x", "migrate --version", "migrate -V",
-    "migrate inspect", "--b0 5 migrate",
+    "migrate inspect", "--b0 5 migrate", "open", "open --", "open --b0 5", "open --b0=5 --", "open a b", "open -- a b",
+    "open a -- b", "open a ", "open --limit 33554432 a", "open --limit=33554432 a", "open --segment 262144 a",
+    "open --large 85000 a", "open --b0 5 --b0 5 a", "open --b0=05 a", "open --b0 1073741825 a", "open --compact 101 a",
+    "open a --b0", "open --b0 a", "open -x", "open --help", "open -h", "open --version", "open -- a --b0 5",
+    "-- open a", "--b0 5 open a", "OPEN a", "opens a",
 ]
 SAID = [
     "run", "run --", "run --b0 0", "run --b0=0 --", "run --b0=1073741824", "run --b1 0", "run --b1 1073741824",
@@ -49,6 +54,8 @@ SAID = [
     "image --large 90000 --compact 7 --bl=6 --b2 5 --b1=4 --b0 3 --segment=266240 --limit 532480", "inspect",
     "inspect --", "migrate", "migrate --", "soak 1 2", "soak 0 1", "soak -- 1 2", "soak 1 -- 2", "soak 1 2 --",
     "soak --b0 5 1 2", "soak 1 --b0=5 2", "soak 1 2 --b0 5", "soak --b0 5 1 -- 2", "soak --large 258048 1 2",
+    "open a", "open ", "open -", "open run", "open -- a", "open a --", "open -- --b0", "open -- --",
+    "open --b0 5 -- --b0", "open --b0 0 a", "open a --b0=1073741824", "open --compact=100 --bl 6 a --b2=5 --b1 4",
 ]
 
 
@@ -77,6 +84,22 @@ class CommandLines(unittest.TestCase):
                 image = self.ran(["image", *options.split()]).stdout
                 words = struct.unpack("<7Q", image[8:64])
                 self.assertEqual((words[0], words[1], words[6]), (limit, large, reserved))
+
+    def test_options_of_an_opened_image(self):
+        """Limit, segments and the size of large objects are the image's, and budgets those that are said."""
+        script = "type A bytes\nt1 new l0 A 80000\nt1 new l1 A 80000\neeheap -gc\n"
+        script += "t1 null l0\nt1 null l1\nt1 collect 1\n"
+        with tempfile.NamedTemporaryFile() as image:
+            image.write(self.ran(["image", *OPTIONS.split()]).stdout)
+            image.flush()
+            told = []
+            for options in ("", "--b0=0", "--b0 0 --compact=100"):
+                words = [PROGRAM, "open", *options.split(), image.name]
+                ran = subprocess.run(words, input=script, capture_output=True, text=True, check=True)
+                told.append(ran.stdout)
+        self.assertIn(" reserved 266240 gen1", told[0])
+        self.assertIn(" limit 532480\n", told[0])
+        self.assertEqual(len(set(told)), 3)
 
     def test_options_of_a_script(self):
         told = [self.ran(f"soak 7 20000 {option}".split()).stdout

@@ -2,6 +2,7 @@
 import resource
 import subprocess
 import sys
+import tempfile
 import unittest
 from pathlib import Path
 
@@ -44,23 +45,26 @@ def claims():
 def reserving():
     """An image whose two segments, without items, reserve 1 GiB."""
     data = b"CLRHEAP2" + writer.numbers(1 << 30, 85_000, 0, 0, 2)
-    for kind, base in ((1, writer.BASE), (2, writer.BASE + (1 << 29))):
+    for kind, base, reserved in ((1, writer.BASE, 1 << 26), (2, writer.BASE + (1 << 26), (1 << 30) - (1 << 26))):
         first = base + 0x1000
-        data += writer.numbers(base, 1 << 29, kind, first, *([first] * 2 if kind == 1 else [0, 0]))
+        data += writer.numbers(base, reserved, kind, first, *([first] * 2 if kind == 1 else [0, 0]))
     return data + bytes(8192 + 84 * 8)
 
 
 @unittest.skipUnless(writer.program_with_images(), "CLRHEAP names no program that knows images")
 class Counts(unittest.TestCase):
     def check(self, data, status, text=None):
-        """What both commands answer, and that they take no memory for it."""
+        """What the commands answer, and that they take no memory for it."""
         program = writer.program_with_images()
-        for command in ("inspect", "migrate"):
-            with self.subTest(command=command):
-                ran = subprocess.run([program, command], input=data, capture_output=True, check=False)
-                self.assertEqual(ran.returncode, status)
-                self.assertIn(ran.stdout, [text] if text else [ran.stdout])
-                self.assertLess(resource.getrusage(resource.RUSAGE_CHILDREN).ru_maxrss, MOST)
+        with tempfile.NamedTemporaryFile() as image:
+            image.write(data)
+            image.flush()
+            for words, read in ((["inspect"], data), (["migrate"], data), (["open", image.name], b"")):
+                with self.subTest(command=words[0]):
+                    ran = subprocess.run([program, *words], input=read, capture_output=True, check=False)
+                    self.assertEqual(ran.returncode, status)
+                    self.assertIn(ran.stdout, [text] if text else [ran.stdout])
+                    self.assertLess(resource.getrusage(resource.RUSAGE_CHILDREN).ru_maxrss, MOST)
 
     def test_claims_take_no_memory(self):
         for claim, (data, fault) in claims().items():

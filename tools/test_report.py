@@ -188,10 +188,12 @@ class Commands(unittest.TestCase):
                               self.folder / "app.image", env={**os.environ, "CLRHEAP": ""})
         self.assertEqual(again.returncode, 0, again.stderr)
         self.assertTrue((self.folder / "more/app.html").exists())
-        ask = next(line for line in ran.stdout.splitlines() if line.startswith("questions: "))
-        ran = subprocess.run(["bash", "-c", f"echo dumpheap -stat | {ask.removeprefix('questions: ')}"],
-                             cwd=self.folder, capture_output=True, text=True, check=False)
-        self.assertIn("shop.Node+Of", ran.stdout)
+        for told in (ran, again):
+            ask = next(line for line in told.stdout.splitlines() if line.startswith("questions: "))
+            asked = subprocess.run(["bash", "-c", f"echo dumpheap -stat | {ask.removeprefix('questions: ')}"],
+                                   cwd=self.folder, capture_output=True, text=True, check=False,
+                                   env={**os.environ, "CLRHEAP": str(program)})
+            self.assertIn("shop.Node+Of", asked.stdout)
 
     @unittest.skipUnless(writer.program_with_images(), "CLRHEAP names no program that writes images")
     def test_a_hunt_that_begins_with_a_script(self):

@@ -32,6 +32,11 @@ replies = {
     "dumpheap -stat": "00 1 24 A\\n01 2 999 B\\n02 3 72 C\\ntotal 6 bytes 1095 free 0",
     "dumpheap -stat -live": "00 1 24 A\\ntotal 1 bytes 24 free 0",
 }
+if sys.argv[1] == "open":
+    told = open(sys.argv[-1]).read()
+    if told != "an image":
+        print(told[1:], end="")
+        sys.exit(int(told[0]))
 for line in sys.stdin:
     if line.strip() == "end":
         sys.exit(3)
@@ -121,6 +126,18 @@ class Asking(WithProgram):
         ran = self.run_tool("ask", "two\nexit\ntwo\n", self.write("a.script", ""))
         self.assertEqual((ran.returncode, ran.stdout), (0, "one\ntwo\n\n"))
 
+    def test_refusals_are_explained_once(self):
+        asked = "full\nfull\nblocked\nwhat\nephrefs 3\n\ngcwhere 0000000000000000\n"
+        ran = self.run_tool("ask", asked, self.write("a.script", ""))
+        told = [line for line in ran.stderr.splitlines() if "the program is" not in line and "runs" not in line]
+        self.assertEqual(told[-5:], [
+            "ask: the heap is full: it needs a larger --limit",
+            "ask: thread 3 suspends all others, until its `resume`",
+            "ask: `what` is no line of clrheap; `help` has the commands",
+            "ask: it is written: ephrefs",
+            "ask: no object has this address; `listnearobj` shows what is near it",
+        ])
+
     def test_control_c_on_a_terminal(self):
         """It gives up a question or a line that is typed, and the next question is answered."""
         control, terminal = pty.openpty()
@@ -171,6 +188,52 @@ class Asking(WithProgram):
         self.assertNotIn("no script", self.run_tool("ask", "", self.write("a.script", "full\ntwo\n")).stderr)
 
 
+class OfImages(WithProgram):
+    def test_it_is_opened_with_the_options_that_are_said(self):
+        image = self.write("a.image", "an image")
+        self.write("a.words", "run --limit 7\n")
+        self.assertEqual(self.run_tool("ask", "options\n", "--image", image).stdout, f"open -- {image}\n\n")
+        ran = self.run_tool("ask", "options\ntwo\n", "--image", image, "--b0", "8")
+        self.assertEqual((ran.returncode, ran.stdout), (0, f"open --b0 8 -- {image}\n\none\ntwo\n\n"))
+
+    def test_what_is_not_opened(self):
+        for text, why in {
+            "7bad image at 98\n": "bad image at 98",
+            "7unfit image at 16\n": "unfit image at 16",
+            "2": "the program doesn't open it: it has no `open`, or no such option",
+            "3": "it can't be read",
+            "5": "there is not enough memory for it",
+            "6": "it is longer than an image may be",
+            "8": "the program ended with status 8",
+        }.items():
+            with self.subTest(text=text):
+                image = self.write("a.image", text)
+                ran = self.run_tool("ask", "two\n", "--image", image)
+                self.assertEqual((ran.returncode, ran.stdout, ran.stderr), (1, "", f"ask: {image}: {why}\n"))
+
+    @unittest.skipUnless("CLRHEAP" in os.environ, "CLRHEAP names no program")
+    def test_questions_about_an_image(self):
+        program, image = os.environ["CLRHEAP"], self.folder / "a.image"
+        script = b"type A class r\ntype B class n\nt1 new l0 A\nt1 new l1 B\nt1 set l0 0 l1\nt1 null l1\n"
+        image.write_bytes(subprocess.run([program, "image"], input=script, capture_output=True, check=True).stdout)
+        self.write("a.fields", "A next\n")
+        asked = ["gcroot 0x10001018", "retained 1", "dumpobj 0x10001000", "what", "tree 1", "t1 null l0", "retained 1",
+                 "suspects", "t1 collect 2 compacting"]
+        ran = self.run_tool("ask", "\n".join(asked), "--image", str(image), program=program)
+        root, most, shown, what, tree, null, again, suspects, collected, _ = ran.stdout.split("\n\n")
+        self.assertEqual(root, "root t1 l0\n0000000010001000 A next\n0000000010001018 B")
+        self.assertEqual(most.splitlines()[1:], ["      48       2   24 0000000010001000 A", "total 2 bytes 48"])
+        self.assertEqual(shown.splitlines()[1:], ["slot 0 ref 0000000010001018 next"])
+        self.assertEqual((what, null, collected), ("refused syntax", "ok", "collected 2 compact kept 0 freed 2"))
+        self.assertIn("0000000010001000 A", tree)
+        changed = "no answer: the heap has changed since its image was opened"
+        self.assertEqual((again, suspects), (changed, changed))
+        image.write_bytes(image.read_bytes()[:-1])
+        ran = self.run_tool("ask", "", "--image", str(image), program=program)
+        self.assertEqual((ran.returncode, ran.stdout), (1, ""))
+        self.assertRegex(ran.stderr, r"^ask: \S+: bad image at \d+\n$")
+
+
 class Told:
     """Stands in for a session: it answers from a table."""
 
@@ -203,6 +266,15 @@ class Told:
             "slot 2 num 97",
         ],
         "gcroot 0000000000000080": ["root t1 l1", "0000000000000080 java.lang.String"],
+        "dumparray -start 1 0000000000000070": [
+            "object 0000000000000070 shared.1.0 size 32 gen 2", "slot 1 ref 0000000000000010",
+        ],
+        "gcroot -all 0000000000000030": [
+            "root t1 l0", "0000000000000010 Shop", "0000000000000020 Bus[]", "0000000000000030 Bus", "root h0",
+            "0000000000000020 Bus[]", "0000000000000030 Bus", "roots 2",
+        ],
+        "pathto 0000000000000010 0000000000000020": ["0000000000000010 Shop", "0000000000000020 Bus[]"],
+        "pathto 0000000000000020 0000000000000010": ["none"],
     }
 
     def ask(self, line):
@@ -225,6 +297,16 @@ class Names(unittest.TestCase):
         ])
         self.assertEqual(self.answer("gcroot 0000000000000050"), ["none"])
 
+    def test_on_all_ways(self):
+        self.assertEqual(self.answer("gcroot -all 0000000000000030"), [
+            "root t1 l0", "0000000000000010 Shop bus", "0000000000000020 Bus[] slot 0", "0000000000000030 Bus",
+            "root h0", "0000000000000020 Bus[] slot 0", "0000000000000030 Bus", "roots 2",
+        ])
+        self.assertEqual(self.answer("pathto 0000000000000010 0000000000000020"), [
+            "0000000000000010 Shop bus", "0000000000000020 Bus[]",
+        ])
+        self.assertEqual(self.answer("pathto 0000000000000020 0000000000000010"), ["none"])
+
     def test_without_them_replies_stay(self):
         for question, reply in Told.REPLIES.items():
             self.assertEqual(self.answer(question, Beside()), reply)
@@ -242,6 +324,9 @@ class Names(unittest.TestCase):
             "object 0000000000000070 Order size 32 gen 2", "slot 0 num 7 class", "slot 1 ref 0000000000000010 bus",
         ])
         self.assertEqual(self.answer("gcroot 0000000000000070", names), ["root t1 l1", "0000000000000070 Order"])
+        self.assertEqual(self.answer("dumparray -start 1 0000000000000070", names), [
+            "object 0000000000000070 Order size 32 gen 2", "slot 1 ref 0000000000000010 bus",
+        ])
 
     def test_texts(self):
         names = Beside({"java.lang.String": ["value", "coder"]})
@@ -249,16 +334,43 @@ class Names(unittest.TestCase):
         self.assertEqual(self.answer("gcroot 0000000000000080", names)[-1], '0000000000000080 java.lang.String "tea"')
 
     def test_spellings(self):
-        for question in ("!DumpObj 10", "sos do 0x10", "DUMPARRAY 0x0010", " dumpobj  0x10 "):
+        for question in ("!DumpObj 10", "sos do 0x10", "DO 0x0010", " dumpobj  0x10 "):
             said = "dumpobj 0000000000000010" if "0x" in question else "dumpobj 10"
             self.assertEqual(ask.forgive(question), said)
-        self.assertEqual(ask.forgive("dumpheap -live -short"), "dumpheap -short -live")
-        self.assertEqual(ask.forgive("!DumpHeap -Stat -MIN 0x20"), "dumpheap -stat -min 32")
-        self.assertEqual(ask.forgive("eeheap"), "eeheap -gc")
-        self.assertEqual(ask.forgive("fq"), "finalizequeue")
-        self.assertEqual(ask.forgive("dumpheap -min 0x20 -mt 7ff000000040"), "dumpheap -mt 00007ff000000040 -min 32")
-        self.assertEqual(ask.forgive("dumpheap -min"), "dumpheap -min")
-        self.assertEqual(ask.forgive("t1 collect 2"), "t1 collect 2")
+        for question, said in {
+            "dumpheap -live -short": "dumpheap -short -live",
+            "!DumpHeap -Stat -MIN 0x20": "dumpheap -stat -min 32",
+            "dumpheap -min 0x20 -mt 7ff000000040": "dumpheap -mt 00007ff000000040 -min 32",
+            "dumpheap -segment 0x10000000 -gen gen1": "dumpheap -gen 1 -segment 0000000010000000",
+            "dumpheap -min": "dumpheap -min",
+            "dumpheap -strings": "dumpheap -strings",
+            "eeheap": "eeheap -gc",
+            "fq": "finalizequeue",
+            "da 0x10 -Length 0x2 -start 3": "dumparray -start 3 -length 2 0000000000000010",
+            "DumpMT 7ff000000040": "dumpmt 00007ff000000040",
+            "gcroot 0x10 -ALL": "gcroot -all 0000000000000010",
+            "PathTo 0x10 0X20": "pathto 0000000000000010 0000000000000020",
+            "Retained 0x1A": "retained 000000000000001a",
+            "retained Node": "retained Node",
+            "retained 10": "retained 10",
+            "heapstat -iu": "gcheapstat -inclUnrooted",
+            "GCHeapStat -inclunrooted": "gcheapstat -inclUnrooted",
+            "lno 10001004": "listnearobj 0000000010001004",
+            "EphRefs": "ephrefs",
+            "gchandles -Stat": "gchandles -stat",
+            "GCHandles -type WeakShort": "gchandles -type weak",
+            "gchandles -type WeakLong": "gchandles -type weaklong",
+            "help DA": "help dumparray",
+            "t1 collect 2": "t1 collect 2",
+        }.items():
+            with self.subTest(question=question):
+                self.assertEqual(ask.forgive(question), said)
+
+    def test_help_tells_of_each_command(self):
+        told = "\n".join(self.answer("help"))
+        for verb in ask.FORMS:
+            self.assertRegex(told, rf"(?m)^{verb}\b")
+        self.assertEqual(self.answer("help lno"), ["listnearobj A".ljust(36) + "what is at and near an address"])
 
 
 class Transcripts(WithProgram):
@@ -285,6 +397,35 @@ class Transcripts(WithProgram):
         self.assertEqual(of_type.splitlines()[1:], ["      24       1         1   24 B"])
         self.assertIn("root t1 l0 0000000010001000 A", of_object)
         self.assertEqual(rest, "")
+
+    @unittest.skipUnless("CLRHEAP" in os.environ, "CLRHEAP names no program")
+    def test_questions_of_debuggers(self):
+        """Each form of `help` is one of the program, and slips of spelling are forgiven."""
+        script = self.write("a.script", "type A class r\ntype B class n\nt1 new l0 A\nt1 new l1 B\nt1 set l0 0 l1")
+        asked = {
+            "dumpheap -gen gen0 -short": "0000000010001000\n0000000010001018",
+            "dumpheap -SEGMENT 0x11000000": "total 0 bytes 0 free 0",
+            "heapstat": "gen 0 objects 2 bytes 48 free 0",
+            "HeapStat -iu": "gen 0 objects 2 bytes 48 free 0 dead 0",
+            "da 0x10001000 -Length 1": "object 0000000010001000 A size 24 gen 0\nslot 0 ref 0000000010001018",
+            "DumpMT 7ff000000040": "mt 00007ff000000040 A class r",
+            "gcroot 10001018 -all": "root t1 l0\n0000000010001000 A\n0000000010001018 B\nroot t1 l1",
+            "pathto 0x10001018 0x10001000": "none",
+            "retained 0x10001000": "retained 0000000010001000 objects 1 bytes 24\nits dominators, from a root down",
+            "retained 0x10001001": "refused no-object",
+            "lno 0x10001019": "before 0000000010001000 00007ff000000040 24 A\nat 0000000010001018",
+            "ephrefs": "refs 0",
+            "GCHandles -stat": "strong 0\npinned 0\nweak 0",
+            "gchandles -type WeakShort": "handles 0",
+        }
+        ran = self.run_tool("ask", "\n".join(asked), script, program=os.environ["CLRHEAP"])
+        replies = ran.stdout.split("\n\n")
+        self.assertEqual(len(replies), len(asked) + 1)
+        for reply, (question, front) in zip(replies, asked.items()):
+            with self.subTest(question=question):
+                self.assertEqual(reply[:len(front)], front)
+        self.assertIn("ask: no object has this address", ran.stderr)
+        self.assertNotIn("it is written", ran.stderr)
 
     @unittest.skipUnless("CLRHEAP" in os.environ, "CLRHEAP names no program")
     def test_the_program_itself(self):

@@ -21,6 +21,7 @@ READS = {
     "image-words": ["FILE"], "refuse-memory": ["FILE"], "report": ["FILE"], "retained": ["FILE"],
     "transcript": ["FILE"], "../examples/debugger.py": ["FILE"],
 }
+OPEN_IMAGES = ("ask", "../examples/debugger.py")
 RUN_PROGRAMS = ("ask", "refuse-memory", "transcript", "../examples/debugger.py")
 OTHERS = {"fuzz-images": ["FILE", "1"], "over-holes": ["no_such_crate", "FILE"]}
 FAULT, USAGE = 1, 2
@@ -67,6 +68,21 @@ class Tools(unittest.TestCase):
                     ran = self.run_tool(name, *(word.replace("FILE", path) for word in words))
                     self.check_fault(ran, FAULT)
                     self.assertIn(f": {path}: ", ran.stderr)
+        for name in OPEN_IMAGES:
+            for path in ("none", "folder"):
+                with self.subTest(tool=name, image=path):
+                    ran = self.run_tool(name, "--image", path)
+                    self.check_fault(ran, FAULT)
+                    self.assertIn(f": {path}: ", ran.stderr)
+
+    def test_an_image_that_is_taken_for_a_script(self):
+        (self.folder / "a.image").write_bytes(writer.image([], []))
+        for name in OPEN_IMAGES:
+            with self.subTest(tool=name):
+                ran = self.run_tool(name, "a.image")
+                self.check_fault(ran, USAGE)
+                self.assertIn("a.image is an image: --image stands before it", ran.stderr)
+                self.check_fault(self.run_tool(name, "--image", "-"), USAGE)
 
     def test_a_program_that_is_missing(self):
         (self.folder / "a.script").write_text("verifyheap\n", encoding="ascii")

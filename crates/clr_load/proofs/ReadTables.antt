@@ -1,7 +1,8 @@
 -- What is known of the tables that were found: how many bytes each takes, that numbers rise and that types are known.
 use Rattle.std.proofs.Common.{◌≡◌, ℕ, suc, zero, ◌+◌, ◌-◌, ◌*◌, ◌<◌, ◌≤◌, ◌==◌, nat_lt, Bool, true}
 use Rattle.std.proofs.Common.{List, [], ◌∷◌, ◌++◌, length, replicate, refl, sym, ◌∙◌, ap}
-use Rattle.std.proofs.Common.{subst, arith, slice_get, length-append, inl, inr, false, if◌then◌else◌, IfSome, None, Some}
+use Rattle.std.proofs.Common.{subst, arith, slice_get, length-append, inl, inr, false, if◌then◌else◌, IfSome, None}
+use Rattle.std.proofs.Common.{Some}
 use Rattle.std.proofs.lemmas.Bool.{and_parts, cases_Bool}
 use Rattle.std.proofs.lemmas.Bool.Decides.{nat_tests}
 use Rattle.std.specs.List.{AllByRecursion}
@@ -315,7 +316,8 @@ module _ (bytes : List ℕ) (head : Head) (rows : List TypeRow) where
 
   -- ---- all tables
 
-  -- what is known of the tables: their steps and handles, and that they take so many bytes at least, if any
+  -- what is known of the tables: who holds all others, their steps and handles, and that they take so many bytes at
+  -- least, if any
   pub record AreTablesFound (o : ℕ) (t : Tables) (n : ℕ) : Type 0 where
     pub steps : length t.steps ≡ 16
     pub holder : IfSome t.holder (λ h. is_thread h ≡ true)
@@ -327,6 +329,7 @@ module _ (bytes : List ℕ) (head : Head) (rows : List TypeRow) where
     pub owned : AllByRecursion (λ (e : ℕ × Handle). HasItsSecond e.1) t.handles
     pub room : o + (32 * length t.handles + 8 * length t.entries + 8 * length t.ready) ≤ n
 
+  -- a number up to 16 is none or that of a thread
   thread_found : (t : ℕ) → is_up_to 16 t ≡ true → IfSome (thread_or_none t) (λ h. is_thread h ≡ true)
   thread_found t most = go (t == 0) refl
     where

@@ -13,7 +13,8 @@ IsKnownStep rows Idle = Unit {0}
 IsKnownStep rows (Store object slot) = Unit {0}
 IsKnownStep rows (Begun t len local front) = t.0 ≤ length rows
 
--- and it is no large one, has no length where its type has none, and goes into a local of its thread
+-- An object that is begun is of a type of the table, and no large one. It has no length where its type has none, and a
+-- local of its thread is to take it.
 abbrev pub IsNewStep : List TypeRow → ℕ → Step → Type 0
 IsNewStep rows large Idle = Unit {0}
 IsNewStep rows large (Store object slot) = Unit {0}

@@ -22,15 +22,16 @@ struct Near {
     after: Option<Item>,
 }
 
-/// Nothing.
+// No item.
 const NONE: Near = Near {
     before: None,
     at: None,
     after: None,
 };
 
-/// What stands at the address `a`, and next to it in the same segment: of its items, objects and free ones, the last
-/// one that ends at or below the address, or at or below the item over it, that item, and the first one above.
+/// What stands at the address `a`, and next to it in the same segment, objects and free items: the last item that ends
+/// at or below the address, or where an item is over the address, at or below that one; the item over the address; and
+/// the first item above.
 ///
 /// ```text
 /// before 0000000010001000 00007ff000000040 56 A

@@ -20,8 +20,8 @@ use clr_sos::{View, put_word_number, reach_all};
 use clr_types::{Item, SegKind};
 use std::alloc::{AllocError, Global};
 
-/// What a line counts: objects and their bytes, the bytes of free items, and of the objects' bytes those of objects
-/// that no root reaches.
+// What a line counts: objects and their bytes, the bytes of free items, and of the objects' bytes those of objects that
+// no root reaches.
 #[derive(Clone, Copy)]
 struct Stat {
     objects: u64,
@@ -30,10 +30,10 @@ struct Stat {
     dead: u64,
 }
 
-/// How many lines there are: one for each generation, one for large and one for pinned segments, and one for all.
+// How many lines there are: one for each generation, one for large and one for pinned segments, and one for all.
 const LINES: usize = 6;
 
-/// The number of the line that counts everything.
+// The number of the line that counts everything.
 const TOTAL: usize = 5;
 
 /// What stands in each generation: a line for each of the small heap, 0 to 2, one for large and one for pinned

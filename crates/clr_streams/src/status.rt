@@ -9,11 +9,12 @@ pub enum Status {
     ReadFault,
     /// A write failed.
     WriteFault,
-    /// There was no memory for the command. Nothing was written, and `run` and `soak` have read nothing.
+    /// There was no memory for the command. Nothing was written, and `run` and `soak` have read nothing. `open` has read
+    /// nothing of its script.
     Memory,
     /// The script or the image has more bytes than its command reads.
     TooMuch,
-    /// The bytes that `inspect` or `migrate` read are no image of a heap.
+    /// The bytes that `inspect`, `migrate` or `open` read are no image of a heap, or `open` can't go on from it.
     BadImage,
 }
 

@@ -1,5 +1,5 @@
 -- Names do not matter for the first pause and for steps of the marker.
-use Rattle.std.proofs.Common.{◌≡◌, ℕ, zero, suc, ◌<◌, inl, inr, List, [], ◌∷◌, map, refl, sym, ap, subst, ◌∙◌}
+use Rattle.std.proofs.Common.{◌≡◌, ℕ, zero, suc, ◌<◌, ◌≤◌, inl, inr, List, [], ◌∷◌, map, refl, sym, ap, subst, ◌∙◌}
 use Rattle.std.proofs.Common.{arith}
 use Rattle.clr_types.specs.Rising.{IsIn}
 use Rattle.clr_types.specs.Segments.{generation}
@@ -14,8 +14,8 @@ use Rattle.clr_model.specs.Background.{IsBegun, IsLawfulMarking, Scans, ScansUpT
 use Rattle.clr_model.specs.Picture.{picture, renamed_marking, renamed_object, renamed_value}
 use Rattle.clr_model.proofs.Joined.{edge-from_picture}
 use Rattle.clr_model.proofs.LawfulSurvivors.{generation-least}
-use Rattle.clr_model.proofs.NamedWell.{AreNamed, HasObject, lawful-named, place-above, start-comes, start-goes}
-use Rattle.clr_model.proofs.NamedWell.{start-named}
+use Rattle.clr_model.proofs.NamedWell.{AreNamed, HasObject, lawful-named, place-above, place-shown, start-comes}
+use Rattle.clr_model.proofs.NamedWell.{start-goes, start-named}
 use Rattle.clr_background.specs.Laws.{FirstPauseNamesLaw, MarkerNamesLaw}
 use Rattle.clr_background.proofs.Markings.{marked_taken, scan_on, taken_parts, white_taken}
 use Rattle.clr_background.proofs.PlaceNames.{back_in, names_of, one_name, taken_apart}
@@ -174,6 +174,16 @@ module _ (m : Machine) (h : AreNamed m) where
         | inr e ↦ let (x, f, there) = gray_name s.scanned s.was_gray in (x, e ∙ f, there)
       ]
 
+      abbrev shown_place : ℕ → ℕ
+      shown_place = place_of (picture m).objects
+
+      -- an object that is seen at no higher place than another one stands at no higher place
+      lower : (x : ℕ) → HasObject m.objects x → (y : ℕ) → HasObject m.objects y
+          → shown_place (to x) ≤ shown_place (to y) → to x ≤ to y
+      lower x there y there' low =
+          subst (λ p. p ≤ to y) (place-shown m h x there)
+          (subst (λ p. shown_place (to x) ≤ p) (place-shown m h y there') low)
+
       scan_names : (next : Marking) × Scans m k next × (renamed_marking to next ≡ after)
       scan_names =
           let (x, at, x_gray) = from-map to s.scanned k.gray s.was_gray in
@@ -192,6 +202,8 @@ module _ (m : Machine) (h : AreNamed m) where
             record {
               scanned = x;
               was_gray = x_gray;
+              lowest = λ y i. lower x x_there y (gray_there y i)
+                  (subst (λ z. shown_place z ≤ shown_place (to y)) at (s.lowest (to y) (IsIn-map to i)));
               apart = taken_apart to next after shown s.apart;
               black = λ w. (
                 λ i. elim ((s.black (to w)).0 (among after.black black shown_black w i)) [

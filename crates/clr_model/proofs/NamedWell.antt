@@ -8,7 +8,7 @@ use Rattle.std.specs.List.{AllByRecursion}
 use Rattle.std.specs.FinMap as finmap
 use Rattle.clr_types.specs.Rising.{IsIn, first, later, Tests}
 use Rattle.clr_types.proofs.RisingLists.{in_cons, all_at}
-use Rattle.clr_types.proofs.SortedLists.{into_sorted_by, out_of_sorted_by}
+use Rattle.clr_types.proofs.SortedLists.{find_by-member, into_sorted_by, out_of_sorted_by}
 use Rattle.clr_types.specs.declared.handle.Handle.{Handle}
 use Rattle.clr_model.specs.Machine.{ref, Object, Machine}
 use Rattle.clr_model.specs.Lookups.{place_of, place_or_null, object_named, object_piece}
@@ -21,7 +21,7 @@ use Rattle.clr_model.proofs.Reaching.{reach_renamed, reach_from_renamed}
 use Rattle.clr_types.proofs.MapValues.{get-map_values}
 use Rattle.clr_model.proofs.Apart.{AreApart, place_of-member, places_keep_apart, places_keep_null}
 use Rattle.clr_model.proofs.HandleTables.{value_at}
-use Rattle.clr_model.proofs.Naming.{KeepsApart}
+use Rattle.clr_model.proofs.Naming.{KeepsApart, object_named-picture}
 use Rattle.clr_types.proofs.ChangedLists.{IsIn-map, all_members, rising-distinct}
 use Rattle.clr_types.proofs.ListMembers.{from-map}
 use Rattle.clr_model.proofs.Joined.{edge-picture, edge-from_picture, second-from_picture, IsNullOrNamed, before_change}
@@ -151,6 +151,17 @@ module _ (m : Machine) (h : AreNamed m) where
   -- a name at an object's place is the object's
   pub name-of-place : (x : ℕ) (o : Object) → IsIn o m.objects → to x ≡ to o.name → x ≡ o.name
   name-of-place x o i e = eqb-true x o.name (sym (apart-to x o i) ∙ eq-eqb (to x) (to o.name) e)
+
+  -- the place of what is seen at an object's place is that place
+  pub place-shown : (x : ℕ) → HasObject m.objects x → place_of (picture m).objects (to x) ≡ to x
+  place-shown x (o, i, n) =
+      let above : 0 < to x = subst (λ k. 0 < to k) n (place-above o i) in
+      let found : object_named m.objects x ≡ Some o =
+      ap (object_named m.objects) (sym n) ∙ find_by-member (λ (o : Object). o.name) o m.objects h.apart.names i in
+      ap (λ b. if b then 0 else place_or_null (object_named (picture m).objects (to x)))
+      (ne_eqb (to x) 0 (λ e. lt_irrefl 0 (subst (λ k. 0 < k) e above)))
+      ∙ ap place_or_null (object_named-picture m x (keeps_apart x) ∙ ap (option_map (renamed_object to)) found)
+      ∙ sym (ap to (sym n) ∙ place_of-member m.objects h.apart o i)
 
   present-above : (x : ℕ) → IsNullOrNamed m.objects x → 0 < x → HasObject m.objects x
   present-above x (inl e) l = absurd (lt_irrefl 0 (subst (λ n. 0 < n) e l))

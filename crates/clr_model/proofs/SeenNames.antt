@@ -8,7 +8,7 @@ use Rattle.clr_types.specs.Rising.{IsIn}
 use Rattle.clr_types.specs.Types.{has_finalizer, type_row}
 use Rattle.clr_types.proofs.SortedLists.{find_by-member}
 use Rattle.clr_model.specs.Machine.{Value, ref, num, Object, Machine}
-use Rattle.clr_model.specs.Lookups.{place_of, place_or_null, object_named, local_of, local_index, slots_or_none}
+use Rattle.clr_model.specs.Lookups.{place_of, object_named, local_of, local_index, slots_or_none}
 use Rattle.clr_model.specs.Lookups.{slots_of_named}
 use Rattle.clr_model.specs.Picture.{picture, renamed_value, renamed_object}
 use Rattle.clr_model.specs.Checks.{is_reference_slot}
@@ -16,10 +16,9 @@ use Rattle.clr_model.specs.Lookups.{type_of_object, type_of_named, object_has_fi
 use Rattle.clr_model.specs.Reach.{is_suppressed, suppressed_or_none}
 use Rattle.clr_model.specs.Step.{name_in, number_in}
 use Rattle.clr_model.specs.Lawful.{IsBirthNamed, IsNullOrPresent, SlotIsPresent}
-use Rattle.clr_model.proofs.Apart.{place_of-member}
 use Rattle.clr_model.proofs.Naming.{local_of-picture, object_named-picture, slots_of_named-picture}
 use Rattle.clr_model.proofs.NamedWell.{AreNamed, HasObject, lawful-named, keeps_apart, place-above, name-above}
-use Rattle.clr_model.proofs.NamedWell.{found_named}
+use Rattle.clr_model.proofs.NamedWell.{found_named, place-shown}
 
 -- ---- values under other names
 
@@ -118,17 +117,7 @@ module _ (m : Machine) (named : IsBirthNamed m) where
   -- the place of what is seen at a place is that place
   pub place-seen : (x : ℕ) → IsNullOrPresent m x → place_of (picture m).objects (to x) ≡ to x
   place-seen x (inl null) = ap (λ n. place_of (picture m).objects (to n)) null ∙ sym (ap to null)
-  place-seen x (inr there) = go (found_named m.objects x there)
-    where
-      go : HasObject m.objects x → place_of (picture m).objects (to x) ≡ to x
-      go (o, i, n) =
-          let above : 0 < to x = subst (λ k. 0 < to k) n (place-above m names o i) in
-          let found : object_named m.objects x ≡ Some o = ap (object_named m.objects) (sym n) ∙ found-member o i in
-          ap (λ b. if b then 0 else place_or_null (object_named (picture m).objects (to x)))
-          (ne_eqb (to x) 0 (λ e. lt_irrefl 0 (subst (λ k. 0 < k) e above)))
-          ∙ ap place_or_null (object_named-picture m x (keeps_apart m names x)
-          ∙ ap (option_map (renamed_object to)) found)
-          ∙ sym (ap to (sym n) ∙ place_of-member m.objects names.apart o i)
+  place-seen x (inr there) = place-shown m names x (found_named m.objects x there)
 
   -- ---- the object of a local
 

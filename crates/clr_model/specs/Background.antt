@@ -1,8 +1,9 @@
 -- The first pause and the steps of a background collection.
-use Rattle.std.specs.Prelude.{◌≡◌, ℕ, zero, suc, List, [], ◌++◌, ◌↔◌, ◌⊎◌}
+use Rattle.std.specs.Prelude.{◌≡◌, ◌≤◌, ℕ, zero, suc, List, [], ◌++◌, ◌↔◌, ◌⊎◌}
 use Rattle.std.specs.List.{AllByRecursion}
 use Rattle.clr_types.specs.Rising.{IsIn}
 use Rattle.clr_model.specs.Machine.{Machine, Marking}
+use Rattle.clr_model.specs.Lookups.{place_of}
 use Rattle.clr_model.specs.Reach.{Old, Roots, SlotNames}
 use Rattle.clr_model.specs.Sos.{IsWithoutRepeats}
 
@@ -17,10 +18,11 @@ pub record IsBegun (m : Machine) (marking : Marking) : Type 0 where
   pub white : (x : ℕ) → IsIn x marking.white ↔ (Old m 1 x × (Roots m x → ⊥))
   pub black : marking.black ≡ []
 
--- a gray object becomes black, and each white object that its slots name becomes gray
+-- the gray object with the lowest place becomes black, and each white object that its slots name becomes gray
 pub record Scans (m : Machine) (old new : Marking) : Type 0 where
   pub scanned : ℕ
   pub was_gray : IsIn scanned old.gray
+  pub lowest : (y : ℕ) → IsIn y old.gray → place_of m.objects scanned ≤ place_of m.objects y
   pub apart : IsWithoutRepeats (taken new)
   pub black : (x : ℕ) → IsIn x new.black ↔ (IsIn x old.black ⊎ (x ≡ scanned))
   pub gray : (x : ℕ) → IsIn x new.gray

@@ -1,9 +1,10 @@
 // The bricks of all segments.
-ghost use Rattle.std.specs.Prelude.{◌≡◌, ℕ, ◌+◌, ◌/◌, ◌%◌, ◌<◌, ◌≤◌, ◌^◌, ◌==◌, ◌||◌, ◌↔◌, pos, true};
-ghost use Rattle.std.specs.Prelude.{if◌then◌else◌, [], length, get_or, Some, IfSome, IsNone, OnErr, OnOk};
+ghost use Rattle.std.specs.Prelude.{◌≡◌, ℕ, ◌+◌, ◌-◌, ◌/◌, ◌%◌, ◌<◌, ◌≤◌, ◌^◌, ◌==◌, ◌&&◌, ◌||◌, ◌↔◌, pos, true};
+ghost use Rattle.std.specs.Prelude.{if◌then◌else◌, [], length, get_or, nat_le, nat_lt, Some, IfSome, IsNone};
+ghost use Rattle.std.specs.Prelude.{OnErr, OnOk};
 ghost use Rattle.std.specs.List.{remove};
-ghost use Rattle.clr_covers.specs.Covers.{AreApart, begins, has_unit, is_covered, IsFree, spans, with_cover};
-ghost use Rattle.clr_covers.specs.Covers.{with_value, without_cover};
+ghost use Rattle.clr_covers.specs.Covers.{AreApart, begins, has_unit, is_covered, IsFree, share_cover, spans};
+ghost use Rattle.clr_covers.specs.Covers.{with_cover, with_value, without_cover};
 ghost use Rattle.clr_bricks.specs.Bricks.{back_entry, entry_at, LeadsNowhere, LeadsToRoot, new_bricks, root_entry};
 ghost use Rattle.clr_bricks.specs.Bricks.{StopsAt};
 
@@ -120,6 +121,18 @@ impl Bricks {
         ensures spans { spans self.new ≡ spans self.old }
     {
         self.put(brick, 0);
+    }
+
+    /// Takes away the entries of the bricks from `from` to below `past`, if there are any. One cover has them all. All
+    /// other entries stay.
+    pub fn clear(&mut self, from: u64, past: u64)
+        requires { from < past → share_cover self.old from (past - 1) ≡ true }
+        ensures entries { (i : ℕ) → entry_at self.new i
+            ≡ (if nat_le from i && nat_lt i past then pos 0 else entry_at self.old i) }
+        ensures spans { spans self.new ≡ spans self.old }
+    {
+        let near = self.covers.recent();
+        self.covers.fill(near, from, past, 0);
     }
 
     /// The entry of a brick.

@@ -24,6 +24,7 @@ use clr_types::{Types, mark};
 
 // Takes away the entries of the bricks of segment `k` that have a place of [from, end); only an entry that names a
 // place below `from` stays. All others stay.
+#[tactic(auto, using(crate::proofs::Forgetting::forgotten_all, crate::proofs::Forgetting::forgotten_none))]
 pub(crate) fn forget_bricks(heap: &Heap, bricks: &mut Bricks, k: usize, from: u64, end: u64)
     requires heap { IsHeap heap.now }
     requires in_range { k < length heap.now.segments }
@@ -34,10 +35,10 @@ pub(crate) fn forget_bricks(heap: &Heap, bricks: &mut Bricks, k: usize, from: u6
     ensures entries { (i : ℕ) → entry_at bricks.new i ≡ forgotten (entry_at bricks.old) from end i }
     ensures spans { spans bricks.new ≡ spans bricks.old }
 {
-    let mut brick = from / 4096;
-    while 4096 * brick < end {
+    let brick = from / 4096;
+    if 4096 * brick < end {
         forget(bricks, brick, from);
-        brick += 1;
+        bricks.clear(brick + 1, (end + 4095) / 4096);
     }
 }
 

@@ -213,7 +213,8 @@ fn clear_bricks(heap: &Heap, bricks: &mut Bricks, k: usize)
     ensures spans { spans bricks.new ≡ spans bricks.old }
 {
     let segment = heap.info(k);
-    for brick in segment.base / 4096..(segment.base + segment.reserved) / 4096 {
-        bricks.set_none(brick);
-    }
+    bricks.clear(
+        segment.base / 4096,
+        (segment.base + segment.reserved) / 4096,
+    );
 }

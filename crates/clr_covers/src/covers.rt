@@ -1,6 +1,7 @@
 // Covers: what they hold, how a unit is found, and how they come and go.
-ghost use Rattle.std.specs.Prelude.{◌≡◌, ℕ, ◌+◌, ◌-◌, ◌^◌, ◌<◌, ◌≤◌, ◌↔◌, ◌||◌, IsTrue, true, [], length, get_or};
-ghost use Rattle.std.specs.Prelude.{slice_range, vec_len, if◌then◌else◌, ◌==◌, IfOk, OnErr, OnOk};
+ghost use Rattle.std.specs.Prelude.{◌≡◌, ℕ, ◌+◌, ◌-◌, ◌^◌, ◌<◌, ◌≤◌, ◌↔◌, ◌&&◌, ◌||◌, IsTrue, true, [], length};
+ghost use Rattle.std.specs.Prelude.{get_or, nat_le, nat_lt, slice_range, vec_len, if◌then◌else◌, ◌==◌};
+ghost use Rattle.std.specs.Prelude.{IfOk, OnErr, OnOk};
 ghost use Rattle.std.specs.List.{remove};
 ghost use Rattle.clr_covers.specs.Covers.{AreApart, begins, cover_of, cover_with, has_unit, is_covered, IsAt, IsFree};
 ghost use Rattle.clr_covers.specs.Covers.{past_last, same_values, share_cover, spans, value_at, with_cover};
@@ -181,6 +182,22 @@ impl<T: Copy + Drop> Covers<T> {
         let k = self.locate(near, from);
         part_in(&self.covers, k, from, past)
     }
+
+    /// Gives the units from `from` to below `past`, if there are any, the value `v`. One cover has them all. All other
+    /// units stay.
+    #[tactic(auto, using(crate::proofs::Filling::filled_nowhere))]
+    pub fn fill(&mut self, near: usize, from: u64, past: u64, v: T)
+        requires { from < past → share_cover self.old from (past - 1) ≡ true }
+        ensures values { (d : _) (i : ℕ) → value_at d self.new i
+            ≡ (if nat_le from i && nat_lt i past then v else value_at d self.old i) }
+        ensures spans { spans self.new ≡ spans self.old }
+    {
+        if from < past {
+            let k = self.locate(near, from);
+            self.recent = k;
+            fill_in(&mut self.covers, k, from, past, v);
+        }
+    }
 }
 
 // So many values, each of them `v`.
@@ -288,6 +305,35 @@ fn set_value_in<T: Copy + Drop>(covers: &mut Vec<Cover<T>>, k: usize, i: u64, v:
     cover.set(i, v);
 }
 
+// Gives the units from `from` to below `past`, which cover `k` has, the value `v`.
+fn fill_in<T: Copy + Drop>(covers: &mut Vec<Cover<T>>, k: usize, from: u64, past: u64, v: T)
+    requires at { IsAt covers.old.items k from }
+    requires some { from < past }
+    requires shared { share_cover covers.old.items from (past - 1) ≡ true }
+    requires apart { AreApart covers.old.items }
+    ensures values { (d : _) (i : ℕ) → value_at d covers.new.items i
+        ≡ (if nat_le from i && nat_lt i past then v else value_at d covers.old.items i) }
+    ensures spans { spans covers.new.items ≡ spans covers.old.items }
+    ensures apart { AreApart covers.new.items }
+{
+    let cover = &mut covers[k];
+    cover.fill(from, past, v);
+}
+
+// Gives the values at the places from `at` to below `end` the value `v`.
+#[tactic(auto, using(crate::proofs::Filling::filled_more, crate::proofs::Filling::filled_nowhere))]
+fn fill_part<T: Copy + Drop>(values: &mut Vec<T>, at: usize, end: usize, v: T)
+    requires order { at ≤ end }
+    requires within { end ≤ length values.old.items }
+    ensures count { length values.new.items ≡ length values.old.items }
+    ensures values { (d : _) (i : ℕ) → get_or values.new.items i d
+        ≡ (if nat_le at i && nat_lt i end then v else get_or values.old.items i d) }
+{
+    for i in at..end {
+        values[i] = v;
+    }
+}
+
 // The number of the cover that has unit `i`. It isn't inlined, since guesses are mostly right.
 #[cold]
 #[inline(never)]
@@ -346,5 +392,21 @@ impl<T: Copy + Drop> Cover<T> {
     {
         let at = (i - self.first) as usize;
         self.values[at] = v;
+    }
+
+    // Gives the units from `from` to below `past` the value `v`.
+    fn fill(&mut self, from: u64, past: u64, v: T)
+        requires first { self.old.first ≤ from }
+        requires order { from ≤ past }
+        requires last { past ≤ past_last self.old }
+        ensures first { self.new.first ≡ self.old.first }
+        ensures count { length self.new.values ≡ length self.old.values }
+        ensures values { (d : _) (i : ℕ) → get_or self.new.values i d
+            ≡ (if nat_le from (self.old.first + i) && nat_lt (self.old.first + i) past then v
+            else get_or self.old.values i d) }
+    {
+        let at = (from - self.first) as usize;
+        let end = (past - self.first) as usize;
+        fill_part(&mut self.values, at, end, v);
     }
 }

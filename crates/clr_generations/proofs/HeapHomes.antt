@@ -11,8 +11,9 @@ use Rattle.clr_types.specs.declared.item.Item.{Item}
 use Rattle.clr_types.specs.declared.segment.SegInfo.{SegInfo}
 use Rattle.clr_types.proofs.ChangedLists.{out_of_filter}
 use Rattle.clr_types.proofs.SegmentFacts.{between-stands, stands-between}
-use Rattle.clr_covers.specs.Covers.{CoverView, is_covered, span_of, spans}
-use Rattle.clr_covers.proofs.Spans.{HasAll-covered, HasAll-span}
+use Rattle.clr_covers.specs.Covers.{CoverView, is_covered, share_cover, span_of, spans}
+use Rattle.clr_covers.proofs.Finding.{share_covered}
+use Rattle.clr_covers.proofs.Spans.{HasAll-span}
 use Rattle.clr_heap.specs.View.{first_of, frame, heap_items, HeapView, IsHeap, last_of, segment_at, word_of}
 use Rattle.clr_heap.proofs.Framing.{lawful_at}
 use Rattle.clr_heap.proofs.Staying.{segment_order}
@@ -42,11 +43,11 @@ young_bricks h heap =
     let found = young_number h.segments (omega arith) in
     subst HasWholeBricks found.2 (whole_bricks h found.0 heap found.1)
 
--- the bricks of a segment are covered
-pub brick-covered : (h : HeapView) (bricks now : List (CoverView ℤ)) (k brick : ℕ) → IsHeap h
+-- the bricks of a segment share a cover
+pub bricks-shared : (h : HeapView) (bricks now : List (CoverView ℤ)) (k brick other : ℕ) → IsHeap h
     → k < length h.segments → AreBricksOf (frame h) bricks → spans now ≡ spans bricks → IsBrickOf (segment_at h k) brick
-    → is_covered now brick ≡ true
-brick-covered h bricks now k brick heap inside has same of =
+    → IsBrickOf (segment_at h k) other → share_cover now brick other ≡ true
+bricks-shared h bricks now k brick other heap inside has same of of-other =
     let s = segment_at h k in
     let whole = whole_bricks h k heap inside in
     let base = whole.base in
@@ -62,9 +63,16 @@ brick-covered h bricks now k brick heap inside has same of =
     let some : (get_or (spans now) k (0, 0)).1 ≡ s.reserved / 4096 = ap (λ (p : ℕ × ℕ). p.1) span in
     let low = of.0 in
     let high = of.1 in
-    HasAll-covered now (get_or (spans now) k (0, 0)).0
-    ((get_or (spans now) k (0, 0)).0 + (get_or (spans now) k (0, 0)).1) brick
-    (HasAll-span now k (omega arith)) (omega arith) (omega arith)
+    let low-other = of-other.0 in
+    let high-other = of-other.1 in
+    HasAll-span now k (omega arith) brick other (omega arith) (omega arith) (omega arith) (omega arith)
+
+-- each of them is covered
+pub brick-covered : (h : HeapView) (bricks now : List (CoverView ℤ)) (k brick : ℕ) → IsHeap h
+    → k < length h.segments → AreBricksOf (frame h) bricks → spans now ≡ spans bricks → IsBrickOf (segment_at h k) brick
+    → is_covered now brick ≡ true
+brick-covered h bricks now k brick heap inside has same of =
+    share_covered now brick brick (bricks-shared h bricks now k brick brick heap inside has same of of)
 
 module _ (rows : List TypeRow) (h : HeapView) (heap : IsHeap h) (held : IsHeld rows h) where
   -- the item that an object of the heap is

@@ -1,14 +1,15 @@
 // Contexts that are opened one after the other, filled and given up.
-ghost use Rattle.std.specs.Prelude.{◌≡◌, [], IfOk};
+ghost use Rattle.std.specs.Prelude.{◌≡◌, ◌<◌, ◌^◌, [], IfOk};
+ghost use Rattle.clr_types.specs.Rising.{IsRisingBy};
 ghost use Rattle.clr_heap.specs.View.{opening_heap};
 ghost use Rattle.clr_view.specs.View.{IsHeld};
 ghost use Rattle.clr_ctx.specs.Contexts.{IsIndex};
 
 use clr_ctx::YoungItems;
 use clr_heap::Heap;
-use clr_items::{FreeItems, first_in, insert_item};
+use clr_items::{FreeItems, first_in, insert_item, take_front};
 use clr_types::{Span, Types};
-use std::alloc::Global;
+use std::alloc::{AllocError, Global};
 use std::process::Abort;
 use std::test::Fail;
 
@@ -149,4 +150,43 @@ fn an_item_is_put_in(rt: HostRuntime) {
     let found = first_in(&items, 32);
     assert_eq!(rt; found.map(|item| item.place()), Some(0x1000));
     assert!(rt; first_in(&items, 24).is_none());
+}
+
+// 600 items, one each 64 bytes: 300 of 32 bytes, and behind them 300 of 64. Each was put in before all others.
+fn filled(alloc: Global) -> Result<FreeItems, AllocError>
+    ensures { IfOk result (λ items. IsRisingBy (λ p. p.place) items.items) }
+{
+    let mut items = FreeItems::new(alloc);
+    let mut left = 600;
+    while left > 0 {
+        let place = 64 * left;
+        let size = if left > 300 { 64 } else { 32 };
+        if !insert_item(&mut items, Span::between(place, place + size)) {
+            return Err(AllocError);
+        }
+        left -= 1;
+    }
+    Ok(items)
+}
+
+// Takes the first item in which a size fits, whole, and tells where it was.
+fn taken_whole(items: &mut FreeItems, size: u64) -> Option<u64>
+    requires small { size < 2 ^ 62 }
+    requires rising { IsRisingBy (λ p. p.place) items.old.items }
+{
+    let item = first_in(items, size)?;
+    take_front(items, item, item.size());
+    Some(item.place())
+}
+
+#[test]
+fn an_item_is_taken_whole_from_the_middle(rt: HostRuntime) -> Result<(), Fail> {
+    let mut items = filled(rt.alloc())?;
+    assert_eq!(rt; taken_whole(&mut items, 64), Some(64 * 301));
+    let next = first_in(&items, 64);
+    assert_eq!(rt; next.map(|item| item.place()), Some(64 * 302));
+    let small = first_in(&items, 32);
+    assert_eq!(rt; small.map(|item| item.place()), Some(64));
+    assert!(rt; first_in(&items, 72).is_none());
+    Ok(())
 }

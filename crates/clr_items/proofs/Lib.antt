@@ -1,6 +1,6 @@
-pub mod Lists
-pub mod ListedItems
 pub mod FoundItems
+pub mod ListedItems
+pub mod Lists
+pub mod StretchRows
+pub mod Sizes
 pub mod TakenItems
-pub mod Bounds
-pub mod StretchChanges

@@ -7,5 +7,6 @@ pub use crate::searching::first_free;
 
 mod items;
 mod listing;
+mod rows;
 mod searching;
 mod stretches;

@@ -1,209 +1,210 @@
-// Stretches of a list of free items: how many follow each other, and a size that none of them exceeds.
-ghost use Rattle.std.specs.Prelude.{◌≡◌, ℕ, ◌+◌, ◌-◌, ◌<◌, ◌≤◌, ◌^◌, ◌++◌, [], ◌∷◌};
-ghost use Rattle.std.specs.Prelude.{drop, get_or, length, List, set, take};
-ghost use Rattle.std.specs.List.{insert, remove};
-ghost use Rattle.clr_types.specs.Ranges.{Piece};
-ghost use Rattle.clr_items.specs.Stretches.{all_of, AreBounded, HaveAtMost, IsSpot, total};
+// Stretches of a list of free items: a few that follow each other, with a size that none of them exceeds.
+ghost use Rattle.std.specs.Prelude.{◌≡◌, ℕ, ◌+◌, ◌-◌, ◌<◌, ◌≤◌, ◌^◌, ◌++◌, [], ◌∷◌, ◌==◌, if◌then◌else◌};
+ghost use Rattle.std.specs.Prelude.{drop, find, IfSome, length, List, take, true, false};
+ghost use Rattle.std.specs.List.{AllByRecursion};
+ghost use Rattle.clr_types.specs.Rising.{insert_by, IsIn, IsRisingBy};
+ghost use Rattle.clr_types.specs.Ranges.{fits, Piece};
+ghost use Rattle.clr_model.specs.Allocation.{taken_from};
+ghost use Rattle.clr_items.specs.Items.{lower_count};
+ghost use Rattle.clr_items.specs.Stretches.{HaveAtMost};
 
+use crate::items::fits_in;
 use clr_types::Span;
 use std::alloc::Global;
-use std::collections::VecDeque;
+use std::marker::Model;
 
-// How many items a stretch has when the next one begins, and half of what it has at most.
-const USUAL: usize = 64;
+// How many items a stretch has when the next one begins behind it. One that gets more than twice as many is split.
+const USUAL: usize = 128;
 
-// So many items that follow each other, none of which has more bytes.
-#[derive(Clone, Copy)]
-pub(crate) struct Stretch {
-    pub(crate) count: usize,
-    pub(crate) most: u64,
-}
-
-// The stretches of a list. Where there is no memory for one more, the last one grows.
+/// A few free items that follow each other. Clauses see them as the list. No item has more bytes than `most`.
 #[derive(Drop)]
-pub(crate) struct Stretches {
-    pub(crate) closed: Vec<Stretch>,
-    pub(crate) last: Stretch,
+pub(crate) struct Stretch {
+    items: Vec<Span>,
+    most: u64,
 }
 
-impl Stretches {
-    // Those of an empty list. Takes no memory.
-    pub(crate) fn new(alloc: Global) -> Stretches
-        ensures { AreBounded (all_of result) [] }
+impl Model for Stretch {
+    ghost Value = { List Piece };
+
+    ghost view = { λ s. s.items.items };
+
+    ghost invariant = { λ s. HaveAtMost s.most s.items.items };
+}
+
+impl Stretch {
+    // A stretch of one item, with memory for as many as are usual: `None` where there is none.
+    #[inline(never)]
+    pub(crate) fn of(alloc: Global, item: Span) -> Option<Stretch>
+        ensures { IfSome result (λ s. s ≡ item ∷ []) }
     {
-        Stretches {
-            closed: Vec::new(alloc),
-            last: Stretch { count: 0, most: 0 },
+        let Ok(mut items) = Vec::with_capacity(alloc, USUAL) else {
+            return None;
+        };
+        if items.push(item).is_err() {
+            return None;
         }
+        Some(Stretch {
+            items,
+            most: item.size(),
+        })
     }
 
-    // Makes them those of an empty list.
-    pub(crate) fn clear(&mut self)
-        ensures { AreBounded (all_of self.new) [] }
-    {
-        self.closed.clear();
-        self.last = Stretch { count: 0, most: 0 };
-    }
-
-    // Counts an item of so many bytes behind all others.
+    // Whether it has fewer items than are usual.
     #[inline(always)]
-    pub(crate) fn add_last(&mut self, size: u64)
-        requires { self.old.last.count + 1 < 2 ^ 64 }
-        ensures { (ps : List Piece) (p : Piece) → AreBounded (all_of self.old) ps → p.size ≡ size
-            → AreBounded (all_of self.new) (ps ++ p ∷ []) }
+    pub(crate) fn has_room(&self) -> bool {
+        self.items.len() < USUAL
+    }
+
+    // Whether it has to be split.
+    pub(crate) fn is_long(&self) -> bool
+        ensures { result ≡ true → 256 < length self.now }
     {
-        if self.last.count >= USUAL {
-            self.close();
+        self.items.len() > 2 * USUAL
+    }
+
+    // Whether it has no items.
+    pub(crate) fn is_empty(&self) -> bool
+        ensures { result ≡ (length self.now == 0) }
+    {
+        self.items.is_empty()
+    }
+
+    // Whether all items stand below a place.
+    #[inline]
+    pub(crate) fn is_below(&self, place: u64) -> bool
+        requires filled { 0 < length self.now }
+        requires rising { IsRisingBy (λ p. p.place) self.now }
+        ensures below { result ≡ true → AllByRecursion (λ (p : Piece). p.place < place) self.now }
+        ensures reached { result ≡ false → lower_count place self.now < length self.now }
+    {
+        self.items[self.items.len() - 1].place() < place
+    }
+
+    // The first item in which a size fits: `None` where it fits in none.
+    #[inline(always)]
+    pub(crate) fn first_in(&self, size: u64) -> Option<Span>
+        requires { size < 2 ^ 62 }
+        ensures { result ≡ find (λ p. fits size p.size) self.now }
+    {
+        if size > self.most {
+            return None;
         }
-        self.last.count += 1;
-        self.last.most = self.last.most.max(size);
+        first_of(self.items.as_slice(), size)
     }
 
-    // Begins a new stretch behind all items, where there is memory for it.
-    #[inline(never)]
-    fn close(&mut self)
-        ensures bounded { (ps : List Piece) → AreBounded (all_of self.old) ps → AreBounded (all_of self.new) ps }
-        ensures less { self.new.last.count ≤ self.old.last.count }
+    // Puts an item behind all others: `false` where there is no memory for it.
+    #[inline(always)]
+    pub(crate) fn push(&mut self, item: Span) -> bool
+        ensures { self.new ≡ (if result then self.old ++ item ∷ [] else self.old) }
     {
-        let last = self.last;
-        if self.closed.push(last).is_ok() {
-            self.last = Stretch { count: 0, most: 0 };
+        if self.items.push(item).is_err() {
+            return false;
         }
+        self.most = self.most.max(item.size());
+        true
     }
 
-    // The number of the stretch of item `at`, and how many items stand before it.
-    fn find(&self, at: usize) -> (usize, usize)
-        requires { at < total (all_of self.now) }
-        ensures { IsSpot (all_of self.now) at result.0 result.1 }
+    // Puts an item in before those that do not stand below it: `false` where there is no memory for it.
+    pub(crate) fn put(&mut self, item: Span) -> bool
+        requires { IsRisingBy (λ p. p.place) self.old }
+        ensures { self.new ≡ (if result then insert_by (λ p. p.place) item self.old else self.old) }
     {
-        let mut k = 0;
-        let mut before = 0;
-        for stretch in self.closed.as_slice() {
-            if at - before < stretch.count {
-                return (k, before);
-            }
-            before += stretch.count;
-            k += 1;
+        let at = count_below(self.items.as_slice(), item.place());
+        if self.items.insert(at, item).is_err() {
+            return false;
         }
-        (k, before)
+        self.most = self.most.max(item.size());
+        true
     }
 
-    // Stretch number `k`.
-    fn at(&self, k: usize) -> Stretch
-        ensures { (d : Stretch) → k < length (all_of self.now) → result ≡ get_or (all_of self.now) k d }
+    // Takes `taken` bytes from the front of one of the items. What is left of it stays.
+    pub(crate) fn take_front(&mut self, item: Span, taken: u64)
+        requires rising { IsRisingBy (λ p. p.place) self.old }
+        requires listed { IsIn item self.old }
+        requires within { taken ≤ item.size }
+        ensures { self.new ≡ taken_from item.place taken self.old }
     {
-        if k < self.closed.len() {
-            self.closed[k]
-        } else {
-            self.last
-        }
+        take_from(&mut self.items, item, taken);
+        self.most = most_after(self.items.as_slice(), self.most, item.size());
     }
 
-    // Puts a stretch in the place of stretch number `k`.
-    fn put(&mut self, k: usize, stretch: Stretch)
-        ensures { k < length (all_of self.old) → all_of self.new ≡ set (all_of self.old) k stretch }
+    // The items behind the usual ones as a stretch of their own: `None` where there is no memory for it.
+    pub(crate) fn upper(&self, alloc: Global) -> Option<Stretch>
+        requires { 128 ≤ length self.now }
+        ensures { IfSome result (λ s. s ≡ drop 128 self.now) }
     {
-        if k < self.closed.len() {
-            self.closed[k] = stretch;
-        } else {
-            self.last = stretch;
-        }
+        let Ok(items) = Vec::from_slice(alloc, &self.items[USUAL..]) else {
+            return None;
+        };
+        Some(Stretch {
+            items,
+            most: self.most,
+        })
     }
 
-    // Counts an item of so many bytes before item `at`.
-    pub(crate) fn add(&mut self, at: usize, size: u64)
-        requires { (ps : List Piece) × AreBounded (all_of self.old) ps × (length ps < 2 ^ 63) × (at < length ps) }
-        ensures { (ps : List Piece) (p : Piece) → AreBounded (all_of self.old) ps → at < length ps → p.size ≡ size
-            → AreBounded (all_of self.new) (insert ps at p) }
+    // Forgets the items behind the usual ones.
+    pub(crate) fn cut(&mut self)
+        ensures { self.new ≡ take 128 self.old }
     {
-        let (k, _) = self.find(at);
-        let stretch = self.at(k);
-        let count = stretch.count + 1;
-        let most = stretch.most.max(size);
-        self.put(k, Stretch { count, most });
-        if count > 2 * USUAL {
-            self.split(k);
-        }
-    }
-
-    // Makes two of stretch number `k`, where there is memory for one more.
-    #[inline(never)]
-    fn split(&mut self, k: usize)
-        requires { k < length (all_of self.old) }
-        ensures { (ps : List Piece) → AreBounded (all_of self.old) ps → AreBounded (all_of self.new) ps }
-    {
-        let stretch = self.at(k);
-        let most = stretch.most;
-        let half = stretch.count / 2;
-        if self.closed.insert(k, Stretch { count: half, most }).is_ok() {
-            self.put(
-                k + 1,
-                Stretch {
-                    count: stretch.count - half,
-                    most,
-                },
-            );
-        }
-    }
-
-    // Item `at` is gone: it had so many bytes.
-    pub(crate) fn remove(&mut self, items: &VecDeque<Span>, at: usize, size: u64)
-        requires { (ps : List Piece) × AreBounded (all_of self.old) ps × (at < length ps)
-            × (items.now.items ≡ remove ps at) }
-        ensures { (ps : List Piece) → AreBounded (all_of self.old) ps → at < length ps
-            → items.now.items ≡ remove ps at → AreBounded (all_of self.new) items.now.items }
-    {
-        let (k, before) = self.find(at);
-        let stretch = self.at(k);
-        let count = stretch.count - 1;
-        let most = most_after(items, before, before + count, stretch.most, size);
-        self.put(k, Stretch { count, most });
-        self.forget(k);
-    }
-
-    // Forgets stretch number `k` where it has no items. The last one stays.
-    fn forget(&mut self, k: usize)
-        ensures { (ps : List Piece) → AreBounded (all_of self.old) ps → AreBounded (all_of self.new) ps }
-    {
-        if k < self.closed.len() && self.at(k).count == 0 {
-            let _ = self.closed.remove(k);
-        }
-    }
-
-    // Item `at` became smaller: it had so many bytes.
-    pub(crate) fn shrink(&mut self, items: &VecDeque<Span>, at: usize, size: u64)
-        requires { (ps : List Piece) × AreBounded (all_of self.old) ps × (at < length ps)
-            × (length items.now.items ≡ length ps) }
-        ensures { (ps : List Piece) (p : Piece) → AreBounded (all_of self.old) ps → at < length ps
-            → items.now.items ≡ set ps at p → p.size ≤ (get_or ps at p).size
-            → AreBounded (all_of self.new) items.now.items }
-    {
-        let (k, before) = self.find(at);
-        let stretch = self.at(k);
-        let count = stretch.count;
-        let most = most_after(items, before, before + count, stretch.most, size);
-        self.put(k, Stretch { count, most });
+        self.items.truncate(USUAL);
     }
 }
 
-// A size that none of the items from number `from` up to `to` exceeds: `bound` is one, but one of `size` bytes is gone.
-fn most_after(items: &VecDeque<Span>, from: usize, to: usize, bound: u64, size: u64) -> u64
-    requires order { from ≤ to }
-    requires within { to ≤ length items.now.items }
-    ensures { HaveAtMost bound (take (to - from) (drop from items.now.items))
-        → HaveAtMost result (take (to - from) (drop from items.now.items)) }
+// The first item of a slice in which a size fits.
+fn first_of(items: &[Span], size: u64) -> Option<Span>
+    requires { size < 2 ^ 62 }
+    ensures { result ≡ find (λ p. fits size p.size) items.now }
+{
+    for item in items {
+        if fits_in(size, item.size()) {
+            return Some(*item);
+        }
+    }
+    None
+}
+
+// How many items stand below a place.
+fn count_below(items: &[Span], place: u64) -> usize
+    requires { IsRisingBy (λ p. p.place) items.now }
+    ensures { result ≡ lower_count place items.now }
+{
+    let mut low = 0;
+    let mut high = items.len();
+    while low < high {
+        let middle = low + (high - low) / 2;
+        if items[middle].place() < place {
+            low = middle + 1;
+        } else {
+            high = middle;
+        }
+    }
+    low
+}
+
+// Takes `taken` bytes from the front of one of the items. What is left of it stays.
+fn take_from(items: &mut Vec<Span>, item: Span, taken: u64)
+    requires rising { IsRisingBy (λ p. p.place) items.old.items }
+    requires listed { IsIn item items.old.items }
+    requires within { taken ≤ item.size }
+    ensures { items.new.items ≡ taken_from item.place taken items.old.items }
+{
+    let at = count_below(items.as_slice(), item.place());
+    if taken == item.size() {
+        let _ = items.remove(at);
+    } else {
+        items[at] = Span::between(item.place() + taken, item.end());
+    }
+}
+
+// A size that none of the items exceeds: `bound` is one, but one of `size` bytes is gone or became smaller.
+fn most_after(items: &[Span], bound: u64, size: u64) -> u64
+    ensures { HaveAtMost bound items.now → HaveAtMost result items.now }
 {
     if size < bound {
-        return bound;
+        bound
+    } else {
+        most_in(items, bound)
     }
-    let (front, back) = items.as_slices();
-    if to <= front.len() {
-        return most_in(&front[from..to], bound);
-    }
-    if from >= front.len() {
-        return most_in(&back[from - front.len()..to - front.len()], bound);
-    }
-    bound
 }
 
 // The greatest size of these, or `bound` where one has as much.

@@ -175,6 +175,15 @@ impl PinQueue {
         heap.set_word_at(k, a, v);
     }
 
+    /// Whether it is sure that no word is saved for an address in `[from, to)`. It looks at the bounds of all that is
+    /// saved alone, so it may say no where none is.
+    #[inline(always)]
+    pub fn is_plain(&self, from: u64, to: u64) -> bool
+        ensures { result ≡ true → IsPlain self.now.entries from to }
+    {
+        to <= self.low || self.high <= from
+    }
+
     /// The lowest address at or above `a` for which a word is saved, and `u64::MAX` where there is none. The heap's
     /// words from `a` up to it are the logical ones, so a walk reads them as they stand.
     pub fn next_saved(&self, near: usize, a: u64) -> u64

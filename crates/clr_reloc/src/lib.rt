@@ -10,6 +10,7 @@ mod entries;
 mod items;
 mod kinds;
 mod objects;
+mod plain;
 mod relocating;
 mod relocation;
 mod resting;

@@ -175,7 +175,7 @@ fn young_generations(heap: &Heap, g: u8) -> u64
 
 // No place below the answer is of a lower generation than `age` once the plan is carried out.
 #[inline]
-fn lowest_young(planned: &Planned, age: u8) -> u64
+pub(crate) fn lowest_young(planned: &Planned, age: u8) -> u64
     requires { age ≤ 2 }
     ensures { (layout : Layout) (x : ℕ) → generation (rebounded layout planned.now) x < age → result ≤ x }
 {

@@ -1,5 +1,5 @@
-use Rattle.std.proofs.Common.{[]}
-use Rattle.clr_view.proofs.Listed.{listed-known}
+use Rattle.std.proofs.Common.{[], arith}
+use Rattle.clr_view.proofs.Listed.{listed-known, listed-low}
 use Rattle.clr_reloc.proofs.ObjectLoops.{passed_none}
 use Rattle.clr_reloc.proofs.RestingWords.{run_fits, run_has, run_index}
 use Rattle.clr_reloc.proofs.objects.relocate_object.Goals as goal
@@ -36,3 +36,10 @@ is_sparse-requires-clause-segment c j l =
     run_index w object c.args.heap.now c.args.pins.now c.args.cards.now c.args.last.now
     c.args.heap.now c.args.pins.now c.args.cards.now c.args.last.now c.in-Some.run'.offset c.in-Some.run'.count
     c.in-Some.ensures.spelled [] none c.requires.can j l c.requires.placed
+
+pub overflow_add-found : goal.overflow_add-found
+overflow_add-found c =
+    let (view, now, vs, r, ahead) = c.requires.can in
+    let low = listed-low c.args.work.now.types.now view c.args.object.now.found r.0.begun.plan.overlaid.heap
+    r.0.begun.plan.held ahead.left.listed in
+    omega (arith, low)

@@ -1,7 +1,7 @@
 -- The front of a segment, from what the search told.
 use Rattle.std.proofs.Common.{◌≡◌, ◌⊎◌, inl, inr, ℕ, ◌+◌, ◌*◌, ◌^◌, ◌<◌, ◌≤◌, Bool, true, false, List, [], ◌++◌, length}
 use Rattle.std.proofs.Common.{if◌then◌else◌, nat_lt, refl, ap, sym, ◌∙◌, subst, arith, count_by}
-use Rattle.std.proofs.lemmas.Bool.{cases_Bool, cases_eq, cases_lt, le-ltb, lt-ltb}
+use Rattle.std.proofs.lemmas.Bool.{both_ways, cases_Bool, cases_eq, cases_lt, le-ltb, lt-ltb}
 use Rattle.clr_types.specs.LawfulLayout.{DoesNotCross}
 use Rattle.clr_types.specs.Rising.{IsIn}
 use Rattle.clr_types.specs.Segments.{empty_segment, ephemeral, generation, reserved_end, stands_in}
@@ -33,7 +33,8 @@ use Rattle.clr_sweep.proofs.Parting.{IsWalkedAt, walked_at}
 use Rattle.clr_sweep.proofs.SurvivorsSwept.{at-in, item-in-pieces, seen}
 use Rattle.clr_sweep.proofs.WholeSwept.{memory-seen}
 use Rattle.clr_bgmark.specs.Bits.{count_below, has_bit}
-use Rattle.clr_bgmark.specs.Settling.{AreGood, AreOldBelow, HasObject, IsFoundFront, IsTakenIn, IsTiledIn}
+use Rattle.clr_bgmark.specs.Settling.{AreGood, AreOldBelow, HasObject, IsFoundFront, IsFurthestFront, IsOldGroup}
+use Rattle.clr_bgmark.specs.Settling.{IsTakenIn, IsTiledIn}
 use Rattle.clr_bgmark.specs.Shades.{cell_of, IsShade, PartView, ShadeView}
 use Rattle.clr_bgmark.specs.Tiles.{IsEdge, IsPart}
 use Rattle.clr_bgmark.proofs.CellCounts.{count_none}
@@ -139,6 +140,20 @@ module _ (rows : List TypeRow) (h : HeapView) (heap : IsHeap h) (held : IsHeld r
         empty : (i : Item) → IsIn i [] → ⊥
         empty i l = elim l [ ]
 
+    -- it passes all that was taken in groups in which nothing was
+    pub furthest_none : (words : ℕ) → AreGood (word_of h) s p 0 (64 * words)
+        → (IsOldGroup h k s p words → AreGood (word_of h) s p (64 * words) (64 * words + 64) → ⊥)
+        → ((c : ℕ) → c < 64 * words → has_bit s.taken c ≡ false)
+        → IsFurthestFront rows h k s p (record { place = s.base + 4096; count = 0 })
+    furthest_none words good stopped never = record {
+      groups = words;
+      good = good;
+      passed = λ z t below.
+          let low = (covers_inside s z t.inside).low in
+          absurd (both_ways (has_bit s.taken (cell_of s z)) (never (cell_of s z) (omega (arith, below, low))) t.taken);
+      stopped = stopped;
+    }
+
     -- ---- the last one that was found
 
     module _ (x : ℕ) (at : IsTakenIn s x) where
@@ -190,6 +205,9 @@ module _ (rows : List TypeRow) (h : HeapView) (heap : IsHeap h) (held : IsHeld r
           let size = last_size in
           omega (arith, low, size)
 
+      pub last_used : x + 8 ≤ last_of h k
+      last_used = let some = last_some in let high = last_high in omega (arith, some, high)
+
       -- no item reaches over its end
       uncut : (j : Item) → IsIn j (listing rows h k) → (end ≤ j.place) ⊎ (j.place + j.size ≤ end)
       uncut j l = elim (cases_eq j.place x) [
@@ -215,6 +233,35 @@ module _ (rows : List TypeRow) (h : HeapView) (heap : IsHeap h) (held : IsHeld r
           let whole = last_item.names.whole in
           walked_at see h.memories (first_of h k) end (last_of h k) (held.walkable k inside)
           (omega (arith, aligned, whole)) (omega (arith, low, some)) last_high (λ q. no-holes h k q none) uncut
+
+      -- it passes each object that was taken no further above
+      pub furthest_found : (words count : ℕ) → AreGood (word_of h) s p 0 (64 * words)
+          → (IsOldGroup h k s p words → AreGood (word_of h) s p (64 * words) (64 * words + 64) → ⊥)
+          → ((c : ℕ) → cell_of s x < c → c < 64 * words → has_bit s.taken c ≡ false)
+          → IsFurthestFront rows h k s p (record { place = end; count = count })
+      furthest_found words count good stopped last = record {
+        groups = words;
+        good = good;
+        passed = λ z t below.
+            let o = tiled.stands z t in
+            let place = o.at in
+            let size = ap (λ (j : Item). j.size) (listed o.item o.listed)
+            ∙ ap (λ (y : ℕ). (item_at rows (word_of h) y).size) place in
+            elim (uncut o.item o.listed) [
+              | inl up ↦
+                  let some = last_some in
+                  let low = (covers_inside s x at.inside).low in
+                  let whole = at.aligned in
+                  let over = t.aligned in
+                  let base0 = shade.base in
+                  absurd (both_ways (has_bit s.taken (cell_of s z))
+                  (last (cell_of s z) (omega (arith, up, place, some, low, whole, over, base0))
+                  (omega (arith, below, low, up, place, some)))
+                  t.taken)
+              | inr down ↦ omega (arith, down, place, size)
+            ];
+        stopped = stopped;
+      }
 
       module _ (words count : ℕ) (good : AreGood (word_of h) s p 0 (64 * words))
           (counted : count ≡ count_below s.taken (64 * words)) (old : AreOldBelow h k (s.base + 512 * words))

@@ -41,6 +41,8 @@ pub mod FoundMore
 pub mod StartFound
 pub mod ScannedMore
 pub mod AllFound
+pub mod ScanEnds
+pub mod Further
 pub mod CellCounts
 pub mod FrontWalk
 pub mod FrontSearch

@@ -19,7 +19,8 @@ use Rattle.clr_sweep.specs.declared.behind.Front.{Front}
 use Rattle.clr_sweep.proofs.FrontFacts.{below_listing}
 use Rattle.clr_bgmark.specs.Bits.{has_bit}
 use Rattle.clr_bgmark.specs.Scanning.{AreObjects}
-use Rattle.clr_bgmark.specs.Settling.{ArePut, HasObject, IsFoundFront, IsTakenIn, IsTiledIn}
+use Rattle.clr_bgmark.specs.Settling.{AreFurthest, ArePut, HasObject, IsFoundFront, IsFurthestFront, IsTakenIn}
+use Rattle.clr_bgmark.specs.Settling.{IsTiledIn}
 use Rattle.clr_bgmark.specs.Shades.{AreApart, cell_of, IsAt, is_taken, PartView, ShadeView}
 use Rattle.clr_bgmark.specs.Tiles.{AreFronts, AreParts, HasFoundMarks, HaveEdges, HaveSameBases, IsEdge, IsEdgeBy}
 use Rattle.clr_bgmark.specs.Tiles.{IsPart}
@@ -137,6 +138,27 @@ put_more rows h ss fronts k s f within room read before new j t l = elim (cases_
       let front : front_at fronts j ≡ front_at (set fronts k f) j =
       sym (get_or-set_other fronts k j f (record { place = 0; count = 0 }) ne) in
       subst (λ (g : Front). IsFoundFront rows h (get_or ss j t) j g) front (before j t (omega (arith, l, ne)))
+]
+
+pub put_further : (rows : List TypeRow) (h : HeapView) (ss : List ShadeView) (ps : List PartView) (fronts : List Front)
+    (k : ℕ) (s : ShadeView) (p : PartView) (f : Front) → k < length ss → k < length ps → k < length fronts
+    → s ≡ get_or ss k s → p ≡ get_or ps k p → AreFurthest rows h ss ps fronts k → IsFurthestFront rows h k s p f
+    → AreFurthest rows h ss ps (set fronts k f) (k + 1)
+put_further rows h ss ps fronts k s p f within inside room read read_part before new j t q l = elim (cases_eq j k) [
+  | inl e ↦
+      let shade : s ≡ get_or ss k t = read ∙ same_get ss k s t within in
+      let part : p ≡ get_or ps k q = read_part ∙ same_get ps k p q inside in
+      let front : f ≡ front_at (set fronts k f) k =
+      sym (get_or-set_same fronts k f (record { place = 0; count = 0 }) room) in
+      subst (λ (n : ℕ). IsFurthestFront rows h n (get_or ss n t) (get_or ps n q) (front_at (set fronts k f) n)) (sym e)
+      (subst (λ (u : ShadeView). IsFurthestFront rows h k u (get_or ps k q) (front_at (set fronts k f) k)) shade
+      (subst (λ (r : PartView). IsFurthestFront rows h k s r (front_at (set fronts k f) k)) part
+      (subst (λ (g : Front). IsFurthestFront rows h k s p g) front new)))
+  | inr ne ↦
+      let front : front_at fronts j ≡ front_at (set fronts k f) j =
+      sym (get_or-set_other fronts k j f (record { place = 0; count = 0 }) ne) in
+      subst (λ (g : Front). IsFurthestFront rows h j (get_or ss j t) (get_or ps j q) g) front
+      (before j t q (omega (arith, l, ne)))
 ]
 
 -- ---- what they are for a sweep

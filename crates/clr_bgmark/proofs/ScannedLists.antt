@@ -1,17 +1,18 @@
 -- The colours as lists of names, before and after a gray object is scanned.
-use Rattle.std.proofs.Common.{◌≡◌, ◌≢◌, ℕ, ◌+◌, ◌/◌, ◌%◌, ◌⊎◌, inl, inr, List, [], ◌∷◌, ◌++◌, map}
+use Rattle.std.proofs.Common.{◌≡◌, ◌≢◌, ℕ, ◌+◌, ◌/◌, ◌%◌, ◌≤◌, ◌⊎◌, inl, inr, List, [], ◌∷◌, ◌++◌, map}
 use Rattle.std.proofs.Common.{filter, refl, sym, ap, subst, ◌∙◌, arith, Bool, true, false, ◌||◌, ◌&&◌, not}
 use Rattle.std.proofs.Common.{if◌then◌else◌}
 use Rattle.std.specs.List.{AllByRecursion}
-use Rattle.std.proofs.lemmas.Bool.{cases_Bool, both_ways, eqb-true, eq-eqb, ne_eqb}
+use Rattle.std.proofs.lemmas.Bool.{cases_Bool, cases_eq, both_ways, eqb-true, eq-eqb, ne_eqb}
 use Rattle.clr_types.specs.Rising.{IsIn}
 use Rattle.clr_types.specs.Types.{TypeRow}
 use Rattle.clr_types.proofs.ChangedLists.{into_filter, out_of_filter, IsIn-map, rising-distinct}
 use Rattle.clr_types.proofs.ListMembers.{distinct_append, distinct_filter, distinct_map, from-map, in_append}
-use Rattle.clr_types.proofs.SortedLists.{IsDistinctBy}
+use Rattle.clr_types.proofs.SortedLists.{find_by-member, IsDistinctBy}
 use Rattle.clr_heap.specs.Parts.{item_at}
 use Rattle.clr_heap.specs.View.{HeapView, heap_items, IsHeap, word_of}
 use Rattle.clr_model.specs.Background.{Scans, taken}
+use Rattle.clr_model.specs.Lookups.{object_named, place_of, place_or_null}
 use Rattle.clr_model.specs.Machine.{Object, Machine}
 use Rattle.clr_model.specs.Reach.{SlotNames}
 use Rattle.clr_model.specs.Sos.{IsWithoutRepeats}
@@ -115,11 +116,25 @@ module _ (rows : List TypeRow) (h : HeapView) (heap : IsHeap h) (held : IsHeld r
       let same : item.place ≡ x = sym (ap (λ (w : Object). w.place) f) ∙ e in
       subst (λ n. n % 8 ≡ 0) same (listed_room rows h heap held item listed).0
 
+  objects_distinct : IsDistinctBy (λ (o : Object). o.name) objects
+  objects_distinct =
+      rising-distinct (λ (o : Object). o.name) objects
+      (objects-rise rows (word_of h) (heap_items rows h) (heap-rise rows h held.walkable heap))
+
   pub names_distinct : IsDistinctBy (λ n. n) names
-  names_distinct =
-      distinct_map (λ (o : Object). o.name) (λ n. n) objects
-      (rising-distinct (λ (o : Object). o.name) objects
-      (objects-rise rows (word_of h) (heap_items rows h) (heap-rise rows h held.walkable heap)))
+  names_distinct = distinct_map (λ (o : Object). o.name) (λ n. n) objects objects_distinct
+
+  -- the place of the object with a name is that name
+  place_told : (x : ℕ) → StandsAt rows h x → place_of objects x ≡ x
+  place_told x (o, i, e) = elim (cases_eq x 0) [
+    | inl null ↦
+        ap (λ b. if b then 0 else place_or_null (object_named objects x)) (eq-eqb x 0 null) ∙ sym null
+    | inr some ↦
+        ap (λ b. if b then 0 else place_or_null (object_named objects x)) (ne_eqb x 0 some)
+        ∙ ap place_or_null (ap (object_named objects) (sym (object_place o i ∙ e))
+        ∙ find_by-member (λ (o : Object). o.name) o objects objects_distinct i)
+        ∙ e
+  ]
 
   -- no object has two colours
   pub marking_apart : (ss : List ShadeView) → IsWithoutRepeats (taken (marking_in objects ss))
@@ -335,10 +350,20 @@ module _ (rows : List TypeRow) (h : HeapView) (heap : IsHeap h) (held : IsHeld r
               (subst (λ n. is_marked ss n ≡ true) (sym same) x_marked)) w.unscanned;
         })) i
 
-    -- A GRAY OBJECT IS SCANNED, in every machine of these objects.
-    pub scans_one : (m : Machine) → m.objects ≡ objects → Scans m (marking_in objects ss) (marking_in objects now)
-    scans_one m same = record {
+    -- where no gray place is lower, none of the objects that are gray stands lower
+    lowest_place : ((a : ℕ) → is_gray_place ss a ≡ true → x ≤ a) → (y : ℕ)
+        → IsIn y (places_where (is_gray_place ss) objects) → place_of objects x ≤ place_of objects y
+    lowest_place low y j =
+        let (e, i) = out_of_filter (is_gray_place ss) y names j in
+        subst (λ p. p ≤ place_of objects y) (sym (place_told x x_stands))
+        (subst (λ p. x ≤ p) (sym (place_told y (named_stands y i))) (low y e))
+
+    -- THE LOWEST GRAY OBJECT IS SCANNED, in every machine of these objects.
+    pub scans_one : ((a : ℕ) → is_gray_place ss a ≡ true → x ≤ a) → (m : Machine) → m.objects ≡ objects
+        → Scans m (marking_in objects ss) (marking_in objects now)
+    scans_one low m same = record {
       scanned = x;
+      lowest = λ y j. subst (λ os. place_of os x ≤ place_of os y) (sym same) (lowest_place low y j);
       apart = marking_apart now;
       was_gray = into_filter (is_gray_place ss) names gray (stands_named x x_stands);
       black = λ b. (black_forth b, black_back b);

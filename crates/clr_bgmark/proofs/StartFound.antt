@@ -38,7 +38,7 @@ module _ (rows : List TypeRow) (h : HeapView) (heap : IsHeap h) (held : IsHeld r
       (root_on rows h heap held (IsRoot roots) mid y before.shades before.work (λ some. stand y (root some)) root)
       (λ x r. r) (λ x r. r)
 
-  target_on : (handles : finmap.FinMap nat_cmp Handle) → HandlesStand rows h handles → (n : ℕ) (v : BackgroundView)
+  pub target_on : (handles : finmap.FinMap nat_cmp Handle) → HandlesStand rows h handles → (n : ℕ) (v : BackgroundView)
       → AllByRecursion IsShade v.shades → IsAtWork rows h v
       → GoesOn rows h (IsTarget handles) v (target_grayed (finmap.get handles n) v)
   target_on handles stand n v all work = go (finmap.get handles n) refl

@@ -1,8 +1,9 @@
 -- The search for a bit of a word, by the number of its lowest zeros.
-use Rattle.std.proofs.Common.{◌≡◌, ◌⊎◌, inl, inr, ℕ, ◌+◌, ◌-◌, ◌/◌, ◌%◌, ◌^◌, ◌<◌, ◌≤◌, ◌&&◌, not, true, false, Bool}
+use Rattle.std.proofs.Common.{◌≡◌, ◌⊎◌, inl, inr, ℕ, ◌+◌, ◌-◌, ◌*◌, ◌/◌, ◌%◌, ◌^◌, ◌<◌, ◌≤◌, ◌&&◌, not, true}
+use Rattle.std.proofs.Common.{false, Bool}
 use Rattle.std.proofs.Common.{List, get_or, refl, ap, sym, ◌∙◌, arith, bit_and, min, w64, nat_eq}
 use Rattle.std.specs.Int.{bit_at, bit_not, trailing_zeros}
-use Rattle.std.proofs.lemmas.Bool.{cases_eq, cases_lt, eq-eqb, ne_eqb}
+use Rattle.std.proofs.lemmas.Bool.{cases_eq, cases_lt, eq-eqb, eqb-true, ne_eqb}
 use Rattle.std.proofs.lemmas.Nat.{shr-shr, shr_le}
 use Rattle.std.proofs.lemmas.Nat.Bits.{bit_at-lt, bit_at-trailing_zeros, bit_at-zero, bit_at_above, bit_at_and}
 use Rattle.std.proofs.lemmas.Nat.Bits.{bit_at_not}
@@ -72,3 +73,42 @@ module _ (a b i : ℕ) (fits : b < 2 ^ 64) (within : i < 64) where
       go (inr some) =
           let is = both in let low = bit_at-lt a i in let lower = bit_at-lt b i in
           inr (omega (arith, e, is, low, lower, some))
+
+-- `rest` are the bits of word k of a set that the other one lacks: it has none exactly where the other one has all
+module _ (xs ys : List ℕ) (k one other rest : ℕ) (is_one : one ≡ get_or xs k 0) (is_other : other ≡ get_or ys k 0)
+    (fits : rest < 2 ^ 64)
+    (has : (i : ℕ) → i < 64 → bit_at rest i ≡ 1 → (bit_at one i ≡ 1) × (bit_at other i ≡ 0))
+    (lacks : (i : ℕ) → i < 64 → bit_at rest i ≡ 0 → (bit_at one i ≡ 0) ⊎ (bit_at other i ≡ 1)) where
+  pub none_left : rest ≡ 0 → (n : ℕ) → 64 * k ≤ n → n < 64 * k + 64 → has_bit xs n ≡ true → has_bit ys n ≡ true
+  none_left empty n low high on =
+      let number : n / 64 ≡ k = omega (arith, low, high) in
+      let there : bit_at one (n % 64) ≡ 1 =
+      ap (λ (w : ℕ). bit_at w (n % 64)) is_one ∙ (λ j. bit_at (get_or xs (sym number j) 0) (n % 64))
+      ∙ eqb-true (bit_at (get_or xs (n / 64) 0) (n % 64)) 1 on in
+      elim (lacks (n % 64) (omega arith) (ap (λ (w : ℕ). bit_at w (n % 64)) empty ∙ bit_at-zero (n % 64))) [
+        | inl off ↦ absurd (omega (arith, off, there))
+        | inr is ↦ ap (λ (b : ℕ). nat_eq b 1)
+            ((λ j. bit_at (get_or ys (number j) 0) (n % 64))
+            ∙ ap (λ (w : ℕ). bit_at w (n % 64)) (sym is_other) ∙ is)
+      ]
+
+  pub left_none : ((n : ℕ) → 64 * k ≤ n → n < 64 * k + 64 → has_bit xs n ≡ true → has_bit ys n ≡ true) → rest ≡ 0
+  left_none all = elim (cases_eq rest 0) [
+    | inl empty ↦ empty
+    | inr ne ↦
+        let z = bit_at-trailing_zeros w64 rest (omega (arith, ne)) fits in
+        let i : ℕ = trailing_zeros w64 rest in
+        let low : i < 64 = z.0 in
+        let (on, off) = has i low z.1 in
+        let n : ℕ = 64 * k + i in
+        let number : n / 64 ≡ k = omega (arith, low) in
+        let bit : n % 64 ≡ i = omega (arith, low) in
+        let listed : has_bit xs n ≡ true =
+        (λ j. nat_eq (bit_at (get_or xs (number j) 0) (bit j)) 1)
+        ∙ ap (λ (w : ℕ). nat_eq (bit_at w i) 1) (sym is_one) ∙ ap (λ (b : ℕ). nat_eq b 1) on in
+        let too : has_bit ys n ≡ true = all n (omega arith) (omega (arith, low)) listed in
+        let on_too : bit_at other i ≡ 1 =
+        ap (λ (w : ℕ). bit_at w i) is_other ∙ (λ j. bit_at (get_or ys (sym number j) 0) (sym bit j))
+        ∙ eqb-true (bit_at (get_or ys (n / 64) 0) (n % 64)) 1 too in
+        absurd (omega (arith, off, on_too))
+  ]

@@ -11,7 +11,7 @@ use Rattle.clr_view.specs.View.{objects_in}
 use Rattle.clr_bgmark.specs.LastPause.{IsSought, LogHolds}
 use Rattle.clr_bgmark.specs.Pauses.{IsFound}
 use Rattle.clr_bgmark.specs.Scanning.{AreObjects, HaveWholeObjects, IsCounted}
-use Rattle.clr_bgmark.specs.Shades.{BackgroundView, is_marked, is_scanned, rest_of, ShadeView}
+use Rattle.clr_bgmark.specs.Shades.{BackgroundView, is_marked, is_scanned, is_taken, rest_of, ShadeView}
 use Rattle.clr_bgmark.specs.declared.shade.Search.TheVariants.{Logged}
 
 -- the bits of a segment, but for those of colours and the log
@@ -44,6 +44,21 @@ pub record HasFoundMore (rows : List TypeRow) (h : HeapView) (Start : ℕ → Ty
   pub kept : (x : ℕ) → IsFound old.shades x → IsFound new.shades x
   pub reached : (x : ℕ) → IsFound new.shades x
       → Reach (SlotNames (objects_in rows h)) (λ y. Start y ⊎ IsFound old.shades y) x
+
+-- what the slots of an object name is found, of what was taken
+abbrev pub HasFollowed : List TypeRow → HeapView → List ShadeView → ℕ → Type 0
+HasFollowed rows h ss x = (y : ℕ) → SlotNames (objects_in rows h) x y → is_taken ss y ≡ true → IsFound ss y
+
+-- so it is with each black object
+abbrev pub HasFollowedBlack : List TypeRow → HeapView → List ShadeView → Type 0
+HasFollowedBlack rows h ss = (x : ℕ) → IsFound ss x → is_scanned ss x ≡ true → HasFollowed rows h ss x
+
+-- A marking by bits leads no further: of what was taken all is found that it starts at, and that slots of found objects
+-- name.
+pub record LeadsNoFurther (rows : List TypeRow) (h : HeapView) (Start : ℕ → Type 0) (ss : List ShadeView)
+    : Type 0 where
+  pub start : (x : ℕ) → Start x → is_taken ss x ≡ true → IsFound ss x
+  pub slots : (x : ℕ) → IsFound ss x → HasFollowed rows h ss x
 
 -- ---- whether all is found
 

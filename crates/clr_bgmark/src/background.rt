@@ -277,7 +277,8 @@ impl Background {
         self.stop();
     }
 
-    /// Scans gray objects, one after another: so many at most, and all of them unless so many were.
+    /// Scans gray objects, one after another, each the lowest one then: so many at most, and all of them unless so many
+    /// were.
     ///
     /// The objects that were taken stand where they stood.
     #[inline(never)]

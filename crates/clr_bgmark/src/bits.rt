@@ -1,7 +1,7 @@
 // Sets of numbers.
 ghost use Rattle.std.specs.Int.{bit_at};
 ghost use Rattle.std.specs.Prelude.{◌≡◌, ◌⊎◌, ℕ, ◌*◌, ◌/◌, ◌%◌, ◌<◌, ◌≤◌, ◌^◌, ◌&&◌, not, true, false, length, get_or};
-ghost use Rattle.std.specs.Prelude.{IfNone, IfOk, IfSome, nat_eq, []};
+ghost use Rattle.std.specs.Prelude.{IfNone, IfOk, IfSome, nat_eq, [], ◌↔◌};
 ghost use Rattle.clr_bgmark.specs.Bits.{count_below, has_bit, with_bit};
 ghost use Rattle.std.specs.Prelude.{◌+◌, count_ones};
 
@@ -169,8 +169,8 @@ impl Bits {
     /// Whether all of the 64 numbers from 64 times this one on that are in this set are in the other, too.
     #[inline(always)]
     pub(crate) fn is_within(&self, other: &Bits, k: u64) -> bool
-        ensures { result ≡ true → (n : ℕ) → 64 * k ≤ n → n < 64 * k + 64 → has_bit self.now n ≡ true
-            → has_bit other.now n ≡ true }
+        ensures { result ≡ true ↔ ((n : ℕ) → 64 * k ≤ n → n < 64 * k + 64 → has_bit self.now n ≡ true
+            → has_bit other.now n ≡ true) }
     {
         beside(self.word(k), other.word(k)) == 0
     }

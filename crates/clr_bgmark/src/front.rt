@@ -1,5 +1,5 @@
 // Where the front of a segment ends, over which the last pause passes.
-ghost use Rattle.std.specs.Prelude.{◌≡◌, ℕ, ◌+◌, ◌*◌, ◌/◌, ◌%◌, ◌<◌, ◌≤◌, ◌^◌, true, length, IfSome};
+ghost use Rattle.std.specs.Prelude.{◌≡◌, ℕ, ◌+◌, ◌*◌, ◌/◌, ◌%◌, ◌<◌, ◌≤◌, ◌^◌, ◌↔◌, true, length, IfNone, IfSome};
 ghost use Rattle.std.specs.Int.{bit_at};
 ghost use Rattle.std.specs.List.{AllByRecursion};
 ghost use Rattle.clr_types.specs.Types.{mt_of};
@@ -11,7 +11,8 @@ ghost use Rattle.clr_model.specs.Machine.{Machine};
 ghost use Rattle.clr_view.specs.Memory.{IsMemoryOf};
 ghost use Rattle.clr_view.specs.View.{IsHeld};
 ghost use Rattle.clr_bgmark.specs.Bits.{count_below};
-ghost use Rattle.clr_bgmark.specs.Settling.{AreGood, AreOldBelow, ArePut, IsFoundFront, IsFreeGap, IsTiledIn};
+ghost use Rattle.clr_bgmark.specs.Settling.{AreFurthest, AreGood, AreOldBelow, ArePut, AreTakenBelow, IsFoundFront};
+ghost use Rattle.clr_bgmark.specs.Settling.{IsFreeGap, IsFurthestFront, IsOldGroup, IsTiledIn};
 ghost use Rattle.clr_bgmark.specs.Scanning.{AreObjects};
 ghost use Rattle.clr_bgmark.specs.Shades.{AreApart, IsShade};
 ghost use Rattle.clr_bgmark.specs.Tiles.{AreParts, HaveEdges, HaveSameBases, IsPart};
@@ -33,7 +34,7 @@ struct Reached {
 /// Whether there are bits for each segment and for no others.
 pub(crate) fn have_same_bases(shades: &Vec<Shade>, heap: &Heap) -> bool
     requires { IsHeap heap.now }
-    ensures { result ≡ true → HaveSameBases heap.now shades.now.items }
+    ensures { result ≡ true ↔ HaveSameBases heap.now shades.now.items }
 {
     if heap.segments() != shades.len() {
         return false;
@@ -67,6 +68,8 @@ pub(crate) fn put_fronts(
     requires bases { HaveSameBases heap.now shades.now.items }
     ensures room { length fronts.new.items ≡ length shades.now.items }
     ensures fronts { ArePut types.now heap.now shades.now.items fronts.new.items (length shades.now.items) }
+    ensures furthest { AreFurthest types.now heap.now shades.now.items parts.now.items fronts.new.items
+        (length shades.now.items) }
 {
     for k in 0..shades.len() {
         fronts[k] = front_of(&shades[k], &parts[k], heap, types, k);
@@ -87,7 +90,8 @@ fn front_of(shade: &Shade, part: &Part, heap: &Heap, types: &Types, k: usize) ->
     requires base { shade.now.base ≡ (segment_at heap.now k).base }
     requires part { IsPart shade.now part.now }
     requires tiled { IsTiledIn types.now heap.now k shade.now part.now }
-    ensures { IsFoundFront types.now heap.now shade.now k result }
+    ensures front { IsFoundFront types.now heap.now shade.now k result }
+    ensures furthest { IsFurthestFront types.now heap.now k shade.now part.now result }
 {
     let reached = search(shade, part, heap, k);
     match shade.last_taken(reached.words) {
@@ -108,35 +112,38 @@ fn search(shade: &Shade, part: &Part, heap: &Heap, k: usize) -> Reached
     requires in_range { k < length heap.now.segments }
     requires shade { IsShade shade.now }
     requires base { shade.now.base ≡ (segment_at heap.now k).base }
-    requires stop { part.now.stop ≤ shade.now.base + shade.now.size }
+    requires part { IsPart shade.now part.now }
+    requires taken { AreTakenBelow shade.now (segment_at heap.now k).end }
     ensures within { result.words ≤ shade.now.size / 512 }
     ensures good { AreGood (word_of heap.now) shade.now part.now 0 (64 * result.words) }
+    ensures stopped { IsOldGroup heap.now k shade.now part.now result.words
+        → AreGood (word_of heap.now) shade.now part.now (64 * result.words) (64 * result.words + 64) → ⊥ }
     ensures count { result.count ≡ count_below shade.now.taken (64 * result.words) }
     ensures old { AreOldBelow heap.now k (shade.now.base + 512 * result.words) }
 {
     let past = old_words(shade, part, heap, k);
     let mut words = 0;
     let mut count = 0;
-    while words < past {
-        if !is_as_it_was(shade, part, heap, k, words) {
-            break;
-        }
+    while words < past && is_as_it_was(shade, part, heap, k, words) {
         count += shade.taken_count(words);
         words += 1;
     }
     Reached { words, count }
 }
 
-// How many words of bits are those of places of generation 2 in the old part.
+// How many words of bits are those of places of generation 2 in the old part. Nothing stands in the first page of a
+// segment, so its words are always among them.
 fn old_words(shade: &Shade, part: &Part, heap: &Heap, k: usize) -> u64
     requires in_range { k < length heap.now.segments }
     requires base { shade.now.base ≡ (segment_at heap.now k).base }
-    requires stop { part.now.stop ≤ shade.now.base + shade.now.size }
+    requires part { IsPart shade.now part.now }
     ensures within { result ≤ shade.now.size / 512 }
     ensures old { AreOldBelow heap.now k (shade.now.base + 512 * result) }
+    ensures all { (n : ℕ) → result ≤ n → IsOldGroup heap.now k shade.now part.now n → ⊥ }
 {
-    let stop = part.stop().min(end_of_old(heap, k)).min(heap.info(k).end);
-    stop.saturating_sub(shade.base()) / 512
+    let segment = heap.info(k);
+    let stop = part.stop().min(end_of_old(heap, k)).min(segment.end);
+    stop.max(segment.first_place()).saturating_sub(shade.base()) / 512
 }
 
 // Whether all that was taken in the 512 bytes of this number is found, and each gap is one free item before an object.
@@ -146,7 +153,8 @@ fn is_as_it_was(shade: &Shade, part: &Part, heap: &Heap, k: usize, n: u64) -> bo
     requires shade { IsShade shade.now }
     requires base { shade.now.base ≡ (segment_at heap.now k).base }
     requires within { n < shade.now.size / 512 }
-    ensures { result ≡ true → AreGood (word_of heap.now) shade.now part.now (64 * n) (64 * n + 64) }
+    requires taken { AreTakenBelow shade.now (segment_at heap.now k).end }
+    ensures { result ≡ true ↔ AreGood (word_of heap.now) shade.now part.now (64 * n) (64 * n + 64) }
 {
     shade.is_found(n) && are_free(shade, heap, k, shade.base() + 512 * n, part.word(n))
 }
@@ -155,11 +163,13 @@ fn is_as_it_was(shade: &Shade, part: &Part, heap: &Heap, k: usize, n: u64) -> bo
 #[inline(always)]
 fn are_free(shade: &Shade, heap: &Heap, k: usize, place: u64, gaps: u64) -> bool
     requires in_range { k < length heap.now.segments }
+    requires shade { IsShade shade.now }
     requires aligned { place % 8 ≡ 0 }
     requires low { (segment_at heap.now k).base ≤ place }
     requires fits { place + 512 ≤ 2 ^ 63 }
-    ensures { result ≡ true → (i : ℕ) → i < 64 → bit_at gaps i ≡ 1
-        → IsFreeGap (word_of heap.now) shade.now (place + 8 * i) }
+    requires taken { AreTakenBelow shade.now (segment_at heap.now k).end }
+    ensures { result ≡ true ↔ ((i : ℕ) → i < 64 → bit_at gaps i ≡ 1
+        → IsFreeGap (word_of heap.now) shade.now (place + 8 * i)) }
 {
     let mut rest = gaps;
     while rest != 0 {
@@ -174,10 +184,12 @@ fn are_free(shade: &Shade, heap: &Heap, k: usize, place: u64, gaps: u64) -> bool
 // Whether a free item stands at a place, and behind it an object that was taken.
 fn is_free(shade: &Shade, heap: &Heap, k: usize, place: u64) -> bool
     requires in_range { k < length heap.now.segments }
+    requires shade { IsShade shade.now }
     requires aligned { place % 8 ≡ 0 }
     requires low { (segment_at heap.now k).base ≤ place }
     requires fits { place < 2 ^ 63 }
-    ensures { result ≡ true → IsFreeGap (word_of heap.now) shade.now place }
+    requires taken { AreTakenBelow shade.now (segment_at heap.now k).end }
+    ensures { result ≡ true ↔ IsFreeGap (word_of heap.now) shade.now place }
 {
     match free_end(heap, k, place) {
         Some(next) => shade.has_taken(next),
@@ -191,8 +203,10 @@ fn free_end(heap: &Heap, k: usize, place: u64) -> Option<u64>
     requires aligned { place % 8 ≡ 0 }
     requires low { (segment_at heap.now k).base ≤ place }
     requires fits { place < 2 ^ 63 }
-    ensures { IfSome result (λ e. (word_of heap.now place ≡ mt_of 0)
+    ensures free { IfSome result (λ e. (word_of heap.now place ≡ mt_of 0)
         × (e ≡ place + 24 + word_of heap.now (place + 8))) }
+    ensures none { IfNone result (word_of heap.now place ≡ mt_of 0
+        → (segment_at heap.now k).end < place + 24 + word_of heap.now (place + 8)) }
 {
     let end = heap.info(k).end;
     let past = place + 24;

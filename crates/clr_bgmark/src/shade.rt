@@ -1,6 +1,6 @@
 // The bits of one segment.
 ghost use Rattle.std.specs.Prelude.{◌≡◌, ℕ, ◌+◌, ◌*◌, ◌/◌, ◌%◌, ◌<◌, ◌≤◌, ◌^◌, ◌&&◌, not, true, false, IfOk, IfSome};
-ghost use Rattle.std.specs.Prelude.{get_or, IfNone, length};
+ghost use Rattle.std.specs.Prelude.{get_or, IfNone, length, ◌↔◌};
 ghost use Rattle.clr_bgmark.specs.Bits.{count_below, has_bit};
 ghost use Rattle.clr_bgmark.specs.Lending.{found_near, IsNear, met_near};
 ghost use Rattle.clr_bgmark.specs.Pauses.{IsUnlogged, PassesCell};
@@ -354,8 +354,8 @@ impl Shade {
     /// Whether all is marked that was taken in the 512 bytes of this number.
     #[inline(always)]
     pub(crate) fn is_found(&self, n: u64) -> bool
-        ensures { result ≡ true → (c : ℕ) → 64 * n ≤ c → c < 64 * n + 64 → has_bit self.now.taken c ≡ true
-            → has_bit self.now.marked c ≡ true }
+        ensures { result ≡ true ↔ ((c : ℕ) → 64 * n ≤ c → c < 64 * n + 64 → has_bit self.now.taken c ≡ true
+            → has_bit self.now.marked c ≡ true) }
     {
         self.taken.is_within(&self.marked, n)
     }
@@ -370,8 +370,8 @@ impl Shade {
 
     /// Whether the place lies in the segment, and was taken.
     pub(crate) fn has_taken(&self, a: u64) -> bool
-        ensures inside { result ≡ true → covers self.now a ≡ true }
-        ensures taken { result ≡ true → has_bit self.now.taken (cell_of self.now a) ≡ true }
+        ensures { result ≡ true
+            ↔ ((covers self.now a ≡ true) × (has_bit self.now.taken (cell_of self.now a) ≡ true)) }
     {
         self.covers(a) && self.is_taken(a)
     }

@@ -1,6 +1,6 @@
 // What the last pause passes over, where all was found by bits alone.
 
-ghost use Rattle.std.specs.Prelude.{◌≡◌, true, length};
+ghost use Rattle.std.specs.Prelude.{◌≡◌, ◌↔◌, true, length};
 ghost use Rattle.clr_heap.specs.View.{HeapView, IsHeap, no_rests};
 ghost use Rattle.clr_model.specs.Lawful.{IsLaid};
 ghost use Rattle.clr_model.specs.Machine.{Machine};
@@ -10,6 +10,7 @@ ghost use Rattle.clr_view.specs.View.{AreFreeHeads, IsHeld};
 ghost use Rattle.clr_mark.specs.Marks.{IsRemarked};
 ghost use Rattle.clr_sweep.specs.Fronts.{HasFronts};
 ghost use Rattle.clr_bgmark.specs.Scanning.{AreObjects};
+ghost use Rattle.clr_bgmark.specs.Settling.{AreFurthest};
 ghost use Rattle.clr_bgmark.specs.Tiles.{AreFronts, AreParts, HasFoundMarks, HaveEdges, HaveSameBases};
 
 use super::Background;
@@ -23,13 +24,13 @@ impl Background {
     /// Whether the segments are those that were there at the first pause.
     pub fn has_same_segments(&self, heap: &Heap) -> bool
         requires { IsHeap heap.now }
-        ensures { result ≡ true → HaveSameBases heap.now self.now.shades }
+        ensures { result ≡ true ↔ HaveSameBases heap.now self.now.shades }
     {
         have_same_bases(&self.shades, heap)
     }
 
-    /// Looks for the front of each segment: the items of its old part up to the first object that wasn't found, or to
-    /// the first gap that isn't one free item any more. Only `fronts` changes.
+    /// Looks for the front of each segment: the items of its old part up to the last object before the first 512 bytes
+    /// where an object wasn't found, or a gap isn't one free item before an object any more. Only `fronts` changes.
     pub fn settle(&mut self, heap: &Heap, types: &Types)
         requires heap { IsHeap heap.now }
         requires held { IsHeld types.now heap.now }
@@ -44,6 +45,8 @@ impl Background {
         requires bases { HaveSameBases heap.now self.old.shades }
         ensures others { self.new ≡ record self.old { fronts = self.new.fronts } }
         ensures fronts { AreFronts types.now heap.now self.new.shades self.new.fronts }
+        ensures furthest { AreFurthest types.now heap.now self.new.shades self.new.parts self.new.fronts
+            (length self.new.shades) }
     {
         put_fronts(&self.shades, &self.parts, &mut self.fronts, heap, types);
     }

@@ -1,5 +1,8 @@
 // The marking of the last pause by bits alone.
-ghost use Rattle.std.specs.Prelude.{◌≡◌, ℕ, ◌^◌, ◌/◌, ◌<◌, ◌≤◌, ◌⊎◌, [], true, length, map, IfSome, IfNone};
+ghost use Rattle.std.specs.Prelude.{◌≡◌, ℕ, ◌^◌, ◌/◌, ◌<◌, ◌≤◌, ◌⊎◌, ◌↔◌, [], true, length, map, IfSome, IfNone};
+ghost use Rattle.std.specs.Prelude.{Some};
+ghost use Rattle.std.specs.FinMap as finmap;
+ghost use Rattle.clr_types.specs.declared.handle.Handle.{Handle as Row};
 ghost use Rattle.std.specs.List.{AllByRecursion};
 ghost use Rattle.clr_types.specs.Rising.{IsIn};
 ghost use Rattle.clr_heap.specs.View.{IsHeap, word_of};
@@ -11,8 +14,10 @@ ghost use Rattle.clr_mark.specs.Marks.{IsClosed};
 ghost use Rattle.clr_mark.specs.Markings.{references_at};
 ghost use Rattle.clr_mark.specs.Roots as roots;
 ghost use Rattle.clr_mark.specs.Ties.{IsStart, Joins};
-ghost use Rattle.clr_bgmark.specs.Closing.{AreNullOrFound, HasFoundMore, HaveFoundTargets, IsAllFound, IsAtWork};
-ghost use Rattle.clr_bgmark.specs.Closing.{IsBlackFound, IsDueFound, IsNullOrFound, NamesFound, without_colours};
+ghost use Rattle.clr_bgmark.specs.Closing.{AreNullOrFound, HasFollowedBlack, HasFoundMore, HaveFoundTargets};
+ghost use Rattle.clr_bgmark.specs.Closing.{IsAllFound, IsAtWork, IsBlackFound, IsDueFound, IsNullOrFound};
+ghost use Rattle.clr_bgmark.specs.Closing.{LeadsNoFurther, NamesFound};
+ghost use Rattle.clr_bgmark.specs.Closing.{without_colours};
 ghost use Rattle.clr_bgmark.specs.LastPause.{LogHolds};
 ghost use Rattle.clr_bgmark.specs.Pauses.{IsBehind, IsFound, IsNextFound, Passes, roots_grayed, targets_grayed};
 ghost use Rattle.clr_bgmark.specs.Scanning.{AreObjects, HaveWholeObjects, IsCounted, marking_in};
@@ -31,8 +36,9 @@ impl Background {
     /// Goes on with the marking by bits alone, as far as it leads without a look at what wasn't taken: from locals, the
     /// f-reachable queue and strong and pinned handles, and from what is gray, or black on a logged card. It answers
     /// yes only where all is found then that the last pause keeps, and what any handle and any finalisation entry
-    /// names, too: so there is nothing to be cleared or woken. Where it answers no, what is found may be less than
-    /// that.
+    /// names, too: so there is nothing to be cleared or woken. It answers no only where something isn't found that a
+    /// local, the f-reachable queue, a finalisation entry, a handle or a slot of a found object names; all that roots
+    /// and such slots name of what was taken is found then, too.
     ///
     /// It marks nothing in the heap, and takes no memory.
     pub fn close(
@@ -64,13 +70,16 @@ impl Background {
             → IsFound self.new.shades x }
         ensures targets { result ≡ true → HaveFoundTargets handles.now self.new.shades }
         ensures entries { result ≡ true → (x : ℕ) → IsIn x entries.now → 0 < x → IsFound self.new.shades x }
+        ensures further { LeadsNoFurther types.now heap.now (IsStart handles.now locals.now ready.now)
+            self.new.shades }
+        ensures exact { IsAllFound types.now heap.now handles.now locals.now ready.now entries.now self.new.shades
+            → result ≡ true }
     {
-        let scanned = self.find_more(heap, types, handles, locals, ready);
-        scanned && self.is_all_found(heap, types, handles, locals, ready, entries)
+        self.find_more(heap, types, handles, locals, ready);
+        self.is_all_found(heap, types, handles, locals, ready, entries)
     }
 
-    // Grays what is white of where the last pause starts, and follows that and what is due. It answers yes only where
-    // no object is gray then.
+    // Grays what is white of where the last pause starts, and follows that and what is due. No object is gray then.
     fn find_more(
         &mut self,
         heap: &Heap,
@@ -78,7 +87,7 @@ impl Background {
         handles: &Handles,
         locals: &[u64],
         ready: &[u64],
-    ) -> bool
+    )
         requires closed { IsClosed types.now heap.now }
         requires work { IsAtWork types.now heap.now self.old }
         requires handles { HandlesStand types.now heap.now handles.now }
@@ -86,17 +95,20 @@ impl Background {
         requires ready { roots.AreObjects types.now heap.now ready.now }
         ensures work { IsAtWork types.now heap.now self.new }
         ensures more { HasFoundMore types.now heap.now (IsStart handles.now locals.now ready.now) self.old self.new }
-        ensures none { result ≡ true → (marking_in (objects_in types.now heap.now) self.new.shades).gray ≡ [] }
+        ensures further { LeadsNoFurther types.now heap.now (IsStart handles.now locals.now ready.now)
+            self.new.shades }
+        ensures none { (marking_in (objects_in types.now heap.now) self.new.shades).gray ≡ [] }
     {
         self.gray_start(handles, locals, ready);
         self.meet_due(heap, types);
-        self.scan_all(heap, types)
+        self.scan_all(heap, types);
     }
 
     // White roots, and white targets of strong and pinned handles, become gray.
     fn gray_start(&mut self, handles: &Handles, locals: &[u64], ready: &[u64])
         ensures grayed { self.new ≡ targets_grayed handles.now 65536
             (roots_grayed ready.now (length ready.now) (roots_grayed locals.now (length locals.now) self.old)) }
+        ensures below { (h : ℕ) (row : Row) → finmap.get handles.now h ≡ Some row → h < 65536 }
         ensures shades { AllByRecursion IsShade self.old.shades }
     {
         let _ = &self.shades;
@@ -111,6 +123,7 @@ impl Background {
         requires work { IsAtWork types.now heap.now self.old }
         ensures work { IsAtWork types.now heap.now self.new }
         ensures more { HasFoundMore types.now heap.now (λ y. ⊥) self.old self.new }
+        ensures black { HasFollowedBlack types.now heap.now self.new.shades }
     {
         let mut spot = Spot { k: 0, from: 0 };
         while let Some((near, obj)) = self.next_due(spot) {
@@ -148,23 +161,18 @@ impl Background {
         self.meet_references(heap, types, near, k, item);
     }
 
-    // Scans all gray objects. It answers yes where none is gray then, as it always does.
-    fn scan_all(&mut self, heap: &Heap, types: &Types) -> bool
+    // Scans all gray objects.
+    fn scan_all(&mut self, heap: &Heap, types: &Types)
         requires closed { IsClosed types.now heap.now }
         requires work { IsAtWork types.now heap.now self.old }
+        requires black { HasFollowedBlack types.now heap.now self.old.shades }
         ensures work { IsAtWork types.now heap.now self.new }
         ensures more { HasFoundMore types.now heap.now (λ y. ⊥) self.old self.new }
-        ensures none { result ≡ true → (marking_in (objects_in types.now heap.now) self.new.shades).gray ≡ [] }
+        ensures black { HasFollowedBlack types.now heap.now self.new.shades }
+        ensures none { (marking_in (objects_in types.now heap.now) self.new.shades).gray ≡ [] }
     {
         let mut known = RunKind::none();
-        let mut left = u64::MAX;
-        while left > 0 {
-            if !self.scan_next(heap, types, &mut known) {
-                return true;
-            }
-            left -= 1;
-        }
-        false
+        while self.scan_next(heap, types, &mut known) {}
     }
 
     // Whether all is found that these lists and the handles name, and what is due.
@@ -179,8 +187,10 @@ impl Background {
     ) -> bool
         requires closed { IsClosed types.now heap.now }
         requires objects { AreObjects types.now heap.now self.now.shades }
+        requires log { LogHolds types.now (objects_in types.now heap.now) self.now.shades }
+        requires none { (marking_in (objects_in types.now heap.now) self.now.shades).gray ≡ [] }
         ensures { result ≡ true
-            → IsAllFound types.now heap.now handles.now locals.now ready.now entries.now self.now.shades }
+            ↔ IsAllFound types.now heap.now handles.now locals.now ready.now entries.now self.now.shades }
     {
         self.are_found(locals)
             && self.are_found(ready)
@@ -192,7 +202,7 @@ impl Background {
     // Whether all of these are null or found.
     fn are_found(&self, places: &[u64]) -> bool
         requires black { IsBlackFound self.now.shades }
-        ensures { result ≡ true → AreNullOrFound self.now.shades places.now }
+        ensures { result ≡ true ↔ AreNullOrFound self.now.shades places.now }
     {
         for &place in places {
             if !self.is_null_or_found(place) {
@@ -205,7 +215,7 @@ impl Background {
     // Whether what any handle names is null or found.
     fn are_targets_found(&self, handles: &Handles) -> bool
         requires black { IsBlackFound self.now.shades }
-        ensures { result ≡ true → HaveFoundTargets handles.now self.now.shades }
+        ensures { result ≡ true ↔ HaveFoundTargets handles.now self.now.shades }
     {
         let mut from = 0;
         while let Some((h, handle)) = handles.next_from(from, 0) {
@@ -221,7 +231,8 @@ impl Background {
     fn has_found(&self, handle: &Handle) -> bool
         requires black { IsBlackFound self.now.shades }
         ensures { result ≡ true
-            → IsNullOrFound self.now.shades handle.now.target × IsNullOrFound self.now.shades handle.now.second }
+            ↔ (IsNullOrFound self.now.shades handle.now.target
+            × IsNullOrFound self.now.shades handle.now.second) }
     {
         self.is_null_or_found(handle.target) && self.is_null_or_found(handle.second)
     }
@@ -230,7 +241,9 @@ impl Background {
     fn is_due_found(&self, heap: &Heap, types: &Types) -> bool
         requires closed { IsClosed types.now heap.now }
         requires objects { AreObjects types.now heap.now self.now.shades }
-        ensures { result ≡ true → IsDueFound types.now heap.now self.now.shades }
+        requires log { LogHolds types.now (objects_in types.now heap.now) self.now.shades }
+        requires none { (marking_in (objects_in types.now heap.now) self.now.shades).gray ≡ [] }
+        ensures { result ≡ true ↔ IsDueFound types.now heap.now self.now.shades }
     {
         let mut spot = Spot { k: 0, from: 0 };
         while let Some((near, obj)) = self.next_due(spot) {
@@ -251,7 +264,7 @@ impl Background {
         requires held { IsHeld types.now heap.now }
         requires stands { StandsAt types.now heap.now obj }
         requires black { IsBlackFound self.now.shades }
-        ensures { result ≡ true → NamesFound types.now heap.now self.now.shades obj }
+        ensures { result ≡ true ↔ NamesFound types.now heap.now self.now.shades obj }
     {
         let k = heap.segment_near(near, obj);
         let item = heap.item_of_word(types, k, obj, heap.word_at(k, obj));
@@ -266,7 +279,7 @@ impl Background {
     // Whether a place is null, or gray or black.
     fn is_null_or_found(&self, place: u64) -> bool
         requires black { IsBlackFound self.now.shades }
-        ensures { result ≡ true → IsNullOrFound self.now.shades place }
+        ensures { result ≡ true ↔ IsNullOrFound self.now.shades place }
     {
         if place == 0 {
             return true;

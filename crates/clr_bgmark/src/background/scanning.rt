@@ -26,8 +26,8 @@ use clr_mark::RunKind;
 use clr_types::{Item, ReferenceRun, Types};
 
 impl Background {
-    // Scans a gray object. It answers no where none is gray. `known` is what is known of objects before it, and then of
-    // this one, too.
+    // Scans the lowest gray object. It answers no where none is gray. `known` is what is known of objects before it,
+    // and then of this one, too.
     #[inline(always)]
     pub(super) fn scan_next(&mut self, heap: &Heap, types: &Types, known: &mut RunKind) -> bool
         requires closed { IsClosed types.now heap.now }
@@ -57,13 +57,14 @@ impl Background {
         }
     }
 
-    // A gray object, which is scanned then, and where its segment is looked for first.
+    // The lowest gray object, which is scanned then, and where its segment is looked for first.
     #[inline(always)]
     fn next_gray(&mut self) -> Option<(usize, u64)>
         ensures passed { IfSome result (λ f. self.new ≡ passed self.old f.1) }
         ensures same { IfNone result (self.new ≡ self.old) }
         ensures shades { AllByRecursion IsShade self.old.shades }
         ensures gray { IfSome result (λ f. is_gray self.old.shades f.1 ≡ true) }
+        ensures lowest { IfSome result (λ f. (a : ℕ) → is_gray self.old.shades a ≡ true → f.1 ≤ a) }
         ensures aligned { IfSome result (λ f. f.1 % 8 ≡ 0) }
         ensures none { IfNone result ((a : ℕ) → is_gray self.old.shades a ≡ false) }
     {

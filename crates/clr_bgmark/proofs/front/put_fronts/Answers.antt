@@ -1,7 +1,7 @@
 use Rattle.std.proofs.Common.{◌<◌, length, arith, ◌∙◌}
 use Rattle.std.proofs.lemmas.List.{length-set}
 use Rattle.clr_bgmark.proofs.EachFound.{lawful_shade}
-use Rattle.clr_bgmark.proofs.PutFronts.{base_read, part_read, parts_count, put_more, tiled_at}
+use Rattle.clr_bgmark.proofs.PutFronts.{base_read, part_read, parts_count, put_further, put_more, tiled_at}
 use Rattle.clr_bgmark.proofs.front.put_fronts.Goals.{After-index-in-loop-k}
 use Rattle.clr_bgmark.proofs.front.put_fronts.Goals as goal
 
@@ -53,8 +53,13 @@ loop-k-preserved c =
     let room = inv.room in
     let fs = c.loop-k.fronts.items in
     let inside : c.loop-k.k < length c.args.shades.now.items = omega arith in
+    let count = parts_count c.args.shades.now.items c.args.parts.now.items c.requires.parts in
     record {
       room = length-set fs c.loop-k.k c.front_of.result ∙ room;
       fronts = put_more c.args.types.now c.args.heap.now c.args.shades.now.items fs c.loop-k.k c.index.result.now
-          c.front_of.result inside (omega (arith, inside, room)) c.index.ensures inv.fronts c.front_of.ensures;
+          c.front_of.result inside (omega (arith, inside, room)) c.index.ensures inv.fronts c.front_of.ensures.front;
+      furthest = put_further c.args.types.now c.args.heap.now c.args.shades.now.items c.args.parts.now.items fs
+          c.loop-k.k c.index.result.now c.index-in-loop-k.result.now c.front_of.result inside
+          (omega (arith, inside, count)) (omega (arith, inside, room)) c.index.ensures c.index-in-loop-k.ensures
+          inv.furthest c.front_of.ensures.furthest;
     }

@@ -1,4 +1,5 @@
 use Rattle.std.proofs.Common.{◌≡◌, ℕ, ◌+◌, ◌*◌, refl, ap, arith, ◌∙◌, subst}
+use Rattle.std.proofs.lemmas.Bool.{both_ways}
 use Rattle.clr_heap.specs.View.{word_of}
 use Rattle.clr_bgmark.specs.Bits.{count_below}
 use Rattle.clr_bgmark.specs.Settling.{AreGood}
@@ -39,6 +40,15 @@ loop-words-preserved c =
       few = omega (arith, below);
       good = subst (AreGood word s p 0) next
           (good_more word s p (64 * words) (64 * words + 64) inv.good
-          (c.is_as_it_was.ensures c.if-not-is_as_it_was.false));
+          (c.is_as_it_was.ensures.0 c.if-is_as_it_was.true));
       count = ap (λ (n : ℕ). n + c.taken_count-count.result) count ∙ more ∙ ap (count_below s.taken) next;
     }
+
+pub returns-after-loop-words-clause-stopped : goal.returns-after-loop-words-clause-stopped
+returns-after-loop-words-clause-stopped c group good =
+    let past = c.loop-words-test.false in
+    c.old_words-past.ensures.all c.loop-words.words (omega (arith, past)) group
+
+pub returns-else-is_as_it_was-clause-stopped : goal.returns-else-is_as_it_was-clause-stopped
+returns-else-is_as_it_was-clause-stopped c group good =
+    both_ways c.is_as_it_was.result c.if-is_as_it_was.false (c.is_as_it_was.ensures.1 good)

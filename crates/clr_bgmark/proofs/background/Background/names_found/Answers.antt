@@ -1,5 +1,6 @@
 use Rattle.std.proofs.Common.{◌≡◌, ℕ, ◌+◌, ◌≤◌, inl, inr, List, [], ◌∷◌, ◌++◌, length, append-nil}
 use Rattle.std.proofs.Common.{append_assoc, ap, arith, sym, ◌∙◌, subst, refl}
+use Rattle.std.proofs.lemmas.Bool.{both_ways}
 use Rattle.clr_types.specs.Rising.{IsIn}
 use Rattle.clr_types.specs.Types.{form_at, size_of}
 use Rattle.clr_types.specs.declared.item.Item.{Item}
@@ -11,7 +12,7 @@ use Rattle.clr_mark.specs.Markings.{item_references, references_at}
 use Rattle.clr_mark.proofs.Following.{next_listed}
 use Rattle.clr_mark.proofs.References.{refers_from}
 use Rattle.clr_bgmark.specs.Closing.{IsNullOrFound}
-use Rattle.clr_bgmark.proofs.AllFound.{some_found}
+use Rattle.clr_bgmark.proofs.AllFound.{some_found, word_found}
 use Rattle.clr_bgmark.proofs.FollowedSlots.{at, head, near, room, slot_has, slot_index, slot_low}
 use Rattle.clr_bgmark.proofs.background.Background.names_found.Goals.{In-Some}
 use Rattle.clr_bgmark.proofs.background.Background.names_found.Goals as goal
@@ -93,25 +94,40 @@ loop-offset-preserved c =
         | inr last ↦ elim (in_cons last) [
           | inl is ↦ subst (λ (n : ℕ). IsNullOrFound ss (word_of h (c.args.obj + n))) (sym is)
               (subst (IsNullOrFound ss) c.word_at-in-loop-offset.ensures
-              (c.is_null_or_found.ensures c.if-not-is_null_or_found.false))
+              (c.is_null_or_found.ensures.0 c.if-not-is_null_or_found.false))
           | inr none ↦ elim none [ ]
         ]
       ];
     }
 
 pub returns : goal.returns
-returns c sure y e =
-    let rows = c.args.types.now in
-    let h = c.args.heap.now in
-    let x = c.args.obj in
-    let ss = c.args.self.now.shades in
-    let yielded = c.loop-offset.yielded in
-    let all : yielded ≡ references_at rows h x =
-    sym (append-nil yielded) ∙ ap (λ (rest : List ℕ). yielded ++ rest) (sym c.in-None.ensures.steps.0)
-    ∙ c.loop-offset.invariant.walked ∙ c.into_iter-offset-iterator.ensures.into_iter_gives
-    ∙ c.slots-offset-items.ensures ∙ ap (item_references rows) c.item_of_word-item.ensures in
-    let r = refers_from rows h c.requires.heap c.requires.held x (item_at rows (word_of h) x)
-    (at rows h c.requires.heap c.requires.held x c.requires.stands) y e in
-    let listed : IsIn r.offset yielded = subst (λ (os : List ℕ). IsIn r.offset os) (sym all) r.listed in
-    some_found ss y r.not_null
-    (subst (IsNullOrFound ss) r.holds (c.loop-offset.invariant.found r.offset listed))
+returns c = (
+  (λ sure y e.
+      let rows = c.args.types.now in
+      let h = c.args.heap.now in
+      let x = c.args.obj in
+      let ss = c.args.self.now.shades in
+      let yielded = c.loop-offset.yielded in
+      let all : yielded ≡ references_at rows h x =
+      sym (append-nil yielded) ∙ ap (λ (rest : List ℕ). yielded ++ rest) (sym c.in-None.ensures.steps.0)
+      ∙ c.loop-offset.invariant.walked ∙ c.into_iter-offset-iterator.ensures.into_iter_gives
+      ∙ c.slots-offset-items.ensures ∙ ap (item_references rows) c.item_of_word-item.ensures in
+      let r = refers_from rows h c.requires.heap c.requires.held x (item_at rows (word_of h) x)
+      (at rows h c.requires.heap c.requires.held x c.requires.stands) y e in
+      let listed : IsIn r.offset yielded = subst (λ (os : List ℕ). IsIn r.offset os) (sym all) r.listed in
+      some_found ss y r.not_null
+      (subst (IsNullOrFound ss) r.holds (c.loop-offset.invariant.found r.offset listed))),
+  (λ all. refl),
+)
+
+pub returns-then-not-is_null_or_found : goal.returns-then-not-is_null_or_found
+returns-then-not-is_null_or_found c = (
+  (λ sure. absurd cc),
+  (λ all.
+      absurd (both_ways c.is_null_or_found.result c.if-not-is_null_or_found.true
+      (c.is_null_or_found.ensures.1 (subst (IsNullOrFound c.args.self.now.shades)
+      (sym c.word_at-in-loop-offset.ensures)
+      (word_found c.args.types.now c.args.heap.now c.requires.heap c.requires.held c.args.self.now.shades c.args.obj
+      c.requires.stands c.in-Some.offset
+      (next (goal.at.returns-then-not-is_null_or_found c).In-Some) all))))),
+)

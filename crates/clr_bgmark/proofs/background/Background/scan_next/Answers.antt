@@ -54,7 +54,7 @@ returns-in-Some-clause-scans c e =
     subst (λ (v : BackgroundView). HasScannedOne (objects_in rows h) c.args.self.now.shades v.shades)
     (sym (scan_is c))
     (scans_one rows h closed.heap closed.held c.args.self.now found.shades c.requires.objects c.in-Some.obj
-    found.aligned found.gray (closed.named c.in-Some.obj))
+    found.aligned found.gray (closed.named c.in-Some.obj) found.lowest)
 
 -- the references of a gray object lie in the segments
 slots : (rows : List TypeRow) (h : HeapView) (v : BackgroundView) (x : ℕ) → HaveWholeObjects rows h v.shades

@@ -5,7 +5,6 @@ use Rattle.std.specs.List.{flat_map}
 use Rattle.std.specs.FinMap as finmap
 use Rattle.std.specs.Int.{bytes_low_first}
 use Rattle.clr_types.specs.HandleCode.{number_of_kind}
-use Rattle.clr_types.specs.Ranges.{Piece}
 use Rattle.clr_types.specs.Segments.{Layout, rest_of, same_kind, stands_in}
 use Rattle.clr_types.specs.Types.{Form, bytes_form, class_form, form_at, is_array, mt_of, references_form, size_of}
 use Rattle.clr_types.specs.Types.{structs_form, TypeRow}
@@ -18,6 +17,7 @@ use Rattle.clr_model.specs.Lookups.{object_at}
 use Rattle.clr_model.specs.Machine.{Machine, Object, Value, ref, num, ThreadStep, no_step, begun_store, begun_new}
 use Rattle.clr_model.specs.Updates.{all_given_up}
 use Rattle.clr_view.specs.Clean.{slots_end}
+use Rattle.clr_sos.specs.Steps.{front_or_zero}
 use Rattle.clr_fields.specs.TypeFields.{form_number, form_pattern}
 use Rattle.clr_format.specs.HeapFields.{kind_number}
 
@@ -99,10 +99,6 @@ segment_bytes m s =
 
 abbrev pub handle_bytes : ℕ × Handle → List ℕ
 handle_bytes (h, row) = words_bytes (h ∷ number_of_kind row.kind ∷ row.target ∷ row.second ∷ [])
-
-abbrev pub front_or_zero : Option Piece → ℕ
-front_or_zero None = 0
-front_or_zero (Some p) = p.place
 
 -- what thread t has begun; a begun object is to stand at the front of the thread's context
 abbrev pub step_words : Layout → ℕ → ThreadStep → List ℕ

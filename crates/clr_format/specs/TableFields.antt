@@ -6,8 +6,9 @@ use Rattle.clr_types.specs.HandleCode.{kind_of_number}
 use Rattle.clr_types.specs.Kinds.{is_dependent}
 use Rattle.clr_types.specs.Types.{TypeRow, form_at, is_array, size_of}
 use Rattle.clr_types.specs.declared.handle.Handle.{Handle}
-use Rattle.clr_format.specs.declared.step.Step.{Step}
-use Rattle.clr_format.specs.declared.step.Step.TheVariants.{Idle, Store, Begun}
+pub use Rattle.clr_sos.specs.Steps.{is_new_length}
+use Rattle.clr_sos.specs.declared.step.Step.{Step}
+use Rattle.clr_sos.specs.declared.step.Step.TheVariants.{Idle, Store, Begun}
 use Rattle.clr_fields.specs.Fields.{anything, Fields, field, gives, is_from_to, is_up_to, is_zero, times, ◌>>=◌}
 use Rattle.clr_format.specs.declared.head.Head.{Head}
 
@@ -23,11 +24,6 @@ abbrev pub thread_or_none : ℕ → Option ℕ
 thread_or_none t = if t == 0 then None else Some t
 
 -- ---- what threads have begun
-
--- an object of this type and length is no large one, and a class has no length
-abbrev pub is_new_length : List TypeRow → ℕ → ℕ → ℕ → Bool
-is_new_length rows large t len =
-    (is_array (form_at rows t) || (len == 0)) && nat_lt (size_of (form_at rows t) len) large
 
 unfoldable pub idle_fields : Fields Step
 idle_fields = do

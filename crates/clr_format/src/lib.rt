@@ -3,8 +3,7 @@
 
 pub use crate::head::Head;
 pub use crate::laws::{bytes_are_read_in_one_way, new_images_are_of_the_second_version};
-pub use crate::step::Step;
+pub use clr_sos::Step;
 
 mod head;
 mod laws;
-mod step;

@@ -34,7 +34,7 @@ use Rattle.clr_save.specs.Writable.{AreWrittenTables, IsWrittenStep}
 use Rattle.clr_save.specs.Written.{bytes_of_tables}
 use Rattle.clr_save.specs.WrittenImage.{Passes}
 use Rattle.clr_format.specs.declared.head.Head.{Head}
-use Rattle.clr_format.specs.declared.step.Step.TheVariants.{Idle}
+use Rattle.clr_sos.specs.declared.step.Step.TheVariants.{Idle}
 use Rattle.clr_image.proofs.Shifted.{both_found, bytes_again, field_found, Shifted, steady_types, text_found}
 use Rattle.clr_image.proofs.ShiftedHeap.{heap_again, second_head}
 use Rattle.clr_load.proofs.ShortImages.{long_enough}

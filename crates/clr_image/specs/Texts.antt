@@ -19,8 +19,8 @@ use Rattle.clr_fields.specs.declared.fault.LoadFault.{LoadFault}
 use Rattle.clr_fields.specs.declared.fault.LoadFault.TheVariants.{At, NoMemory}
 use Rattle.clr_format.specs.Images.{HasFault, is_first, IsImage, Parts}
 use Rattle.clr_format.specs.Saved.{migrated}
-use Rattle.clr_format.specs.declared.step.Step.{Step}
-use Rattle.clr_format.specs.declared.step.Step.TheVariants.{Idle, Store, Begun}
+use Rattle.clr_sos.specs.declared.step.Step.{Step}
+use Rattle.clr_sos.specs.declared.step.Step.TheVariants.{Idle, Store, Begun}
 
 -- ---- the machine in an image
 

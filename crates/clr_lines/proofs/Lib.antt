@@ -6,3 +6,4 @@ pub mod LookLines
 pub mod SizeLines
 pub mod MoreLooks
 pub mod RuntimeViews
+pub mod BegunSteps

@@ -1,12 +1,11 @@
 -- What a line does, from what its command does.
-use Rattle.std.proofs.Common.{◌≤◌, ◌<◌, ◌-◌, ◌^◌, ℕ, List, length, Option, Some, None, arith}
-use Rattle.std.proofs.Common.{refl, sym, subst}
-use Rattle.std.specs.Prelude.{unwrap_or, IfSome}
+use Rattle.std.proofs.Common.{◌≤◌, ◌<◌, ◌-◌, ℕ, List, length}
+use Rattle.std.proofs.Common.{refl, subst}
 use Rattle.clr_model.specs.declared.command.Command.{Command}
 use Rattle.clr_model.specs.declared.Refusal.TheVariants as refusal
 use Rattle.clr_model.specs.Machine.{Machine}
 use Rattle.clr_model.specs.Instructions.{Instruction, dump_heap, instruction_of, plain}
-use Rattle.clr_model.specs.LineGrammar.{IsLine, IsWellFormed, IsWord}
+use Rattle.clr_model.specs.LineGrammar.{IsLine}
 use Rattle.clr_model.specs.Outcomes.{Outcome, refused}
 use Rattle.clr_model.specs.Run.{Follows}
 use Rattle.clr_script.specs.Readings.{IsNoLine, IsReadAs}
@@ -41,28 +40,7 @@ unfolding Follows
 plain_follows old new (dump_heap options) outcome steps = steps
 plain_follows old new i outcome steps = steps
 
--- a size that isn't written is a number that can be
-size_is_word : (size : Option ℕ) (other : ℕ) → IsWord other → IfSome size IsWord → IsWord (unwrap_or size other)
-size_is_word None other low given = low
-size_is_word (Some n) other low given = given
-
-plain_formed : (i : Instruction) → IsWellFormed i → IsWellFormed (plain i)
-plain_formed (dump_heap o) formed = record {
-  mt = formed.mt;
-  name = formed.name;
-  one_type = formed.one_type;
-  least = size_is_word o.least 0 (omega arith) formed.least;
-  greatest = size_is_word o.greatest (2 ^ 64 - 1) (omega arith) formed.greatest;
-  generation = formed.generation;
-  segment = formed.segment;
-}
-plain_formed i formed = formed
-
 module _ (bytes : List ℕ) (command : Command) (short : length bytes ≤ 4096) (read : IsReadAs bytes command) where
-  -- the command's numbers and names have their form
-  pub command_formed : IsWellFormed (instruction_of command)
-  command_formed = let (i, line, e) = read in subst IsWellFormed (sym e) (plain_formed i line.formed)
-
   -- it is obeyed
   pub command_follows : (old new : Machine) (outcome : Outcome)
       → Follows old (instruction_of command) outcome new → FollowsLine old bytes outcome new

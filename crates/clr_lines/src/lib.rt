@@ -3,6 +3,7 @@
 #![tactic(auto)]
 
 mod background;
+mod begun;
 pub mod execute;
 mod front;
 mod handles;
@@ -12,6 +13,7 @@ mod outcome;
 mod slots;
 mod threads;
 
+pub use begun::begun_steps;
 pub use front::{Answered, answer_front};
 pub use looks::obey_look;
 pub use outcome::Outcome;

@@ -3,11 +3,14 @@ ghost use Rattle.std.specs.Prelude.{◌≡◌, true};
 ghost use Rattle.clr_model.specs.Instructions.{instruction_of, look_at, verify_heap};
 ghost use Rattle.clr_model.specs.Machine.{Machine};
 ghost use Rattle.clr_model.specs.Run.{Follows};
-ghost use Rattle.clr_sos.specs.CleanStates.{IsCleanState};
+ghost use Rattle.clr_heap.specs.View.{IsHeap};
+ghost use Rattle.clr_sos.specs.CleanStates.{HasSteps, IsCleanState};
+ghost use Rattle.clr_sos.specs.Steps.{steps_of};
 ghost use Rattle.clr_sos.specs.Views.{IsLawfulView, IsViewOf};
 ghost use Rattle.clr_lines.specs.CommandKinds.{is_look};
 ghost use Rattle.clr_lines.specs.Outcomes.{outcome_of, CanShow};
 
+use crate::begun::begun_steps;
 use crate::outcome::{Outcome, told_found, told_size, told_text, told_where};
 use clr_model::{Command, Look, Reply};
 use clr_objsize::objsize;
@@ -15,8 +18,8 @@ use clr_paths::{gcroots, pathto, retained};
 use clr_runtime::Runtime;
 use clr_shows::{dumpmt, ephrefs, gcheapstat, handle_counts, handles_of_kind, listnearobj};
 use clr_sos::{
-    View, clean_states_are_lawful, dumparray, dumpheap, dumpobj, eeheap, finalizequeue, gchandles,
-    gcroot, gcwhere, verifyheap_at_once,
+    State, Step, View, clean_states_are_lawful, dumparray, dumpheap, dumpobj, eeheap,
+    finalizequeue, gchandles, gcroot, gcwhere, verifyheap_at_once,
 };
 use std::alloc::Global;
 
@@ -66,17 +69,32 @@ fn obey_more(view: &View<'_>, alloc: Global, look: Look) -> Outcome
     }
 }
 
-// Checks the heap, and finds no fault.
+// Checks the heap and all that refers to it, and finds no fault.
 #[inline(never)]
 fn verify(runtime: &Runtime, alloc: Global) -> Outcome
     ensures follows { Follows runtime.now.machine verify_heap (outcome_of result) runtime.now.machine }
     ensures shows { CanShow result }
 {
     clean_states_are_lawful();
-    let view = view_of(runtime);
-    match verifyheap_at_once(alloc, &view) {
+    let steps = begun_steps(runtime);
+    let state = state_of(runtime, &steps);
+    match verifyheap_at_once(alloc, &state) {
         Ok(()) => Outcome::Reply(Reply::Clean),
         Err(_) => unreachable!(),
+    }
+}
+
+// All that is verified, of a runtime whose threads have begun these steps.
+fn state_of<'a>(runtime: &'a Runtime, steps: &'a [Step]) -> State<'a>
+    requires { steps_of runtime.now.machine.layout 1 runtime.now.machine.steps ≡ steps.now }
+    ensures heap { IsHeap result.view.heap.now }
+    ensures clean { IsCleanState result.view runtime.now.machine }
+    ensures steps { HasSteps result runtime.now.machine }
+{
+    State {
+        view: view_of(runtime),
+        steps,
+        holder: runtime.threads().holder(),
     }
 }
 

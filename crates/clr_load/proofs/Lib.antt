@@ -20,7 +20,6 @@ pub mod ReadSegments
 pub mod ReadTables
 pub mod ReferenceSteps
 pub mod RestoredHandles
-pub mod SeenObjects
 pub mod ShortImages
 pub mod SoundImages
 pub mod StartBits

@@ -21,8 +21,8 @@ use Rattle.clr_format.specs.TableFields.{is_new_length, is_number, is_second, mo
 use Rattle.clr_format.specs.TableFields.{no_tables, queue_fields, step_fields, step_with, store_fields, Tables}
 use Rattle.clr_format.specs.TableFields.{tables_fields, thread_or_none}
 use Rattle.clr_format.specs.declared.head.Head.{Head}
-use Rattle.clr_format.specs.declared.step.Step.{Step}
-use Rattle.clr_format.specs.declared.step.Step.TheVariants.{Begun, Idle, Store}
+use Rattle.clr_sos.specs.declared.step.Step.{Step}
+use Rattle.clr_sos.specs.declared.step.Step.TheVariants.{Begun, Idle, Store}
 use Rattle.clr_load.specs.StepTests.{IsKnownStep, IsNewStep}
 use Rattle.clr_load.proofs.FoundFields.{both_found, field_found, gave, times_keep}
 

@@ -25,8 +25,8 @@ use Rattle.clr_fields.specs.Fields.{found}
 use Rattle.clr_format.specs.Images.{fields_of, Parts, tests_in}
 use Rattle.clr_format.specs.NameTests.{final_tests, first_failed, handle_tests, is_final_object, name_tests, object_at}
 use Rattle.clr_format.specs.NameTests.{is_among, is_front, reference_test, step_tests, tests_of, with_earlier}
-use Rattle.clr_format.specs.declared.step.Step.{Step}
-use Rattle.clr_format.specs.declared.step.Step.TheVariants.{Idle, Store, Begun}
+use Rattle.clr_sos.specs.declared.step.Step.{Step}
+use Rattle.clr_sos.specs.declared.step.Step.TheVariants.{Idle, Store, Begun}
 use Rattle.clr_load.specs.Shown.{ShowsParts}
 use Rattle.clr_load.specs.Sound.{IsFinal, IsSound, StepStands}
 use Rattle.clr_load.specs.TableTests.{first_in_tables}
@@ -36,7 +36,7 @@ use Rattle.clr_load.proofs.LoadedNames.{is_faultless, is_held}
 use Rattle.clr_load.proofs.PassedTests.{each_passed, names_passed, or_both, Passes, tests_are}
 use Rattle.clr_load.proofs.ReadImages.{ArePartsFound, parts_found}
 use Rattle.clr_load.proofs.RestoredHandles.{value_among}
-use Rattle.clr_load.proofs.SeenObjects.{stands_found, stands_there, the_object}
+use Rattle.clr_sos.proofs.PlacedItems.{stands_found, stands_there, the_object}
 
 -- all tests pass
 pub record AllPass (p : Parts) : Type 0 where
@@ -72,9 +72,10 @@ module _ (rows : List TypeRow) (h : HeapView) (heap : IsHeap h) (held : IsHeld r
           → StandsAt rows h place × (is_final_at rows h place ≡ true)
       go None e on = absurd cc
       go (Some i) e on =
-          let stands = stands_there rows h heap held place (stands_found rows h heap held place i e) in
+          let stands =
+          stands_there rows h heap held.walkable place (stands_found rows h heap held.walkable place i e) in
           let at = stands-item rows h heap held place stands in
-          let found = the_object rows h heap held place (item_at rows (word_of h) place) at in
+          let found = the_object rows h heap held.walkable place (item_at rows (word_of h) place) at in
           let same : Some i ≡ Some (item_at rows (word_of h) place) = sym e ∙ found in
           let is : i ≡ item_at rows (word_of h) place = cc in (
             stands,
@@ -140,11 +141,12 @@ module _ (bytes : List ℕ) (p : Parts) (n : ℕ) (fields : fields_of bytes ≡ 
       (p.rest.tables_at + 656 + 32 * length p.rest.tables.handles + 8 + 8 * length p.rest.tables.entries + 8)
       p.rest.tables.ready passes.ready x m).0
 
-  step_in : (e : List ℕ × Step) → AllByRecursion Passes (step_tests p.types (heap_items p.types p.body.heap) p.body.heap e)
+  step_in : (e : List ℕ × Step)
+      → AllByRecursion Passes (step_tests p.types (heap_items p.types p.body.heap) p.body.heap e)
       → StepStands p.types p.body.heap e
   step_in (earlier, Idle) tests = tt
   step_in (earlier, Store object slot) tests =
-      (stands_there p.types p.body.heap heap_is held object tests.0, tests.1.0)
+      (stands_there p.types p.body.heap heap_is held.walkable object tests.0, tests.1.0)
   step_in (earlier, Begun t len local front) tests =
       both (is_front (heap_items p.types p.body.heap) p.body.heap (size_of (form_at p.types t.0) len) front)
       (is_among earlier front) tests.0

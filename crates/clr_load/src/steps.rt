@@ -1,36 +1,17 @@
 //! The second pass over what threads have begun.
 ghost use Rattle.std.specs.Prelude.{◌≡◌, ℕ, ◌+◌, ◌*◌, ◌<◌, ◌≤◌, ◌^◌, ◌&&◌, not, [], IfSome, length, List, map};
 ghost use Rattle.std.specs.Prelude.{option_map};
-ghost use Rattle.std.specs.List.{AllByRecursion, list_any};
-ghost use Rattle.clr_types.specs.Ranges as ranges;
+ghost use Rattle.std.specs.List.{AllByRecursion};
 ghost use Rattle.clr_types.specs.Types.{form_at, size_of};
-ghost use Rattle.clr_types.specs.declared.item.Item.{Item as Found};
 ghost use Rattle.clr_format.specs.NameTests as tests;
 ghost use Rattle.clr_format.specs.NameTests.{first_failed, step_tests, test_from, tests_of, with_earlier};
-ghost use Rattle.clr_format.specs.declared.step.Step.{Step as Begun};
 ghost use Rattle.clr_load.specs.SeenItems.{IsSeen, items_seen};
 ghost use Rattle.clr_load.specs.StepTests.{fronts_among, IsKnownStep};
 
 use crate::seen::Seen;
 use clr_format::Step;
-use clr_types::{Item, TypeId, Types};
-
-// Whether a size fits in a range of so many bytes: it fills it, or leaves room for a free item.
-fn fits(size: u64, bytes: u64) -> bool
-    ensures { result ≡ ranges.fits size bytes }
-{
-    size == bytes || (bytes >= 24 && size <= bytes - 24)
-}
-
-// Whether slot `slot` of an object holds a reference.
-fn is_reference_slot(types: &Types, item: &Item, slot: u64) -> bool
-    requires known { item.now.type_id.0 ≤ length types.now }
-    requires small { size_of (form_at types.now item.now.type_id.0) item.now.len ≤ 1073741824 }
-    ensures { (o : Found) → item.now ≡ o → result ≡ tests.is_reference_slot types.now (Some o) slot }
-{
-    slot < types.slot_count(item.type_id, item.len)
-        && types.slot(item.type_id, item.len, slot).reference
-}
+use clr_sos::{have_front, is_front as has_room, is_reference_slot};
+use clr_types::TypeId;
 
 // How far the first word of a store that is begun which names what it may not stands from its front.
 fn bad_store(seen: &Seen<'_>, object: u64, slot: u64) -> Option<usize>
@@ -57,41 +38,10 @@ fn is_front(seen: &Seen<'_>, type_id: TypeId, len: u64, place: u64) -> bool
     ensures { result ≡ tests.is_front (items_seen seen.now) seen.now.heap.now
         (size_of (form_at seen.now.types.now type_id.0) len) place }
 {
-    if seen.heap.gen_of(place) != 0 {
-        return false;
-    }
     let Some(size) = seen.types.size_of(type_id, len) else {
         return false;
     };
-    let young = seen.heap.ephemeral();
-    match seen.heap.item_in(seen.types, young, place) {
-        Some(room) => room.type_id.0 == 0 && fits(size, room.size),
-        None => false,
-    }
-}
-
-// Whether one of these threads has this front.
-fn have_front(steps: &[Step], place: u64) -> bool
-    ensures { result ≡ list_any (λ (step : Begun). tests.is_among (tests.fronts_of step) place) steps.now }
-{
-    steps.iter().any(|step| has_front(step, place))
-}
-
-// The same, as a test of all fronts.
-fn is_taken(steps: &[Step], place: u64) -> bool
-    ensures { result ≡ tests.is_among (fronts_among steps.now) place }
-{
-    have_front(steps, place)
-}
-
-// Whether a thread has begun an object with this front.
-fn has_front(step: &Step, place: u64) -> bool
-    ensures { result ≡ tests.is_among (tests.fronts_of step.now) place }
-{
-    match step {
-        Step::Idle | Step::Store { .. } => false,
-        Step::Begun { front, .. } => *front == place,
-    }
+    has_room(seen.heap, seen.types, size, place)
 }
 
 // Whether an object of this type and length fits in room of generation 0 that begins at a place, which none of the
@@ -103,7 +53,7 @@ fn is_own_front(seen: &Seen<'_>, earlier: &[Step], type_id: TypeId, len: u64, pl
         (size_of (form_at seen.now.types.now type_id.0) len) place
         && not (tests.is_among (fronts_among earlier.now) place)) }
 {
-    is_front(seen, type_id, len, place) && !is_taken(earlier, place)
+    is_front(seen, type_id, len, place) && !have_front(earlier, place)
 }
 
 // How far the first word of what a thread has begun which names what it may not stands from its front. `earlier` is

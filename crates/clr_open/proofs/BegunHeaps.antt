@@ -15,11 +15,11 @@ use Rattle.clr_ctx.proofs.WholeItems.{whole-least}
 use Rattle.clr_generations.proofs.FoundItems.{in-at}
 use Rattle.clr_view.specs.View.{free_in, IsHeld, is_object, layout_in}
 use Rattle.clr_format.specs.NameTests.{with_earlier}
-use Rattle.clr_format.specs.declared.step.Step.{Step}
-use Rattle.clr_format.specs.declared.step.Step.TheVariants.{Begun, Idle, Store}
+use Rattle.clr_sos.specs.declared.step.Step.{Step}
+use Rattle.clr_sos.specs.declared.step.Step.TheVariants.{Begun, Idle, Store}
 use Rattle.clr_load.specs.Sound.{StepStands}
 use Rattle.clr_load.specs.StepTests.{fronts_among}
-use Rattle.clr_load.proofs.StepWords.{as_many, thread_at}
+use Rattle.clr_sos.proofs.EarlierSteps.{as_many, thread_at}
 use Rattle.clr_opened.specs.Opened.{opened_layout}
 use Rattle.clr_open.specs.Begun.{fronted, HasFront, IsFrontOf, layout_with}
 use Rattle.clr_open.proofs.FrontLayouts.{first-layout, front-item, fronted-is, has-front, IsFresh, last-layout}

@@ -3,8 +3,8 @@ use Rattle.std.proofs.Common.{◌≡◌, ℕ, suc, ◌+◌, ◌-◌, ◌<◌, �
 use Rattle.std.proofs.Common.{take, refl, ap, sym, ◌∙◌, arith, length-take-le, append-nil, Option}
 use Rattle.std.proofs.lemmas.List.{take_all, take_more}
 use Rattle.clr_types.specs.Types.{TypeRow}
-use Rattle.clr_format.specs.declared.step.Step.{Step}
-use Rattle.clr_format.specs.declared.step.Step.TheVariants.{Idle}
+use Rattle.clr_sos.specs.declared.step.Step.{Step}
+use Rattle.clr_sos.specs.declared.step.Step.TheVariants.{Idle}
 use Rattle.clr_safe.specs.Threads.{Threads}
 use Rattle.clr_safe.specs.declared.begun.Begun.{Begun}
 use Rattle.clr_safe.specs.declared.begun.Begun.TheVariants.{Nothing}

@@ -20,8 +20,8 @@ use Rattle.clr_model.proofs.ContextChange.{context-is}
 use Rattle.clr_sweep.proofs.Filters.{filter-all, filter-filter}
 use Rattle.clr_view.specs.View.{free_among, free_in, layout_in}
 use Rattle.clr_format.specs.NameTests.{fronts_of, is_among, is_front, rooms}
-use Rattle.clr_format.specs.declared.step.Step.{Step}
-use Rattle.clr_format.specs.declared.step.Step.TheVariants.{Begun, Idle, Store}
+use Rattle.clr_sos.specs.declared.step.Step.{Step}
+use Rattle.clr_sos.specs.declared.step.Step.TheVariants.{Begun, Idle, Store}
 use Rattle.clr_opened.specs.Opened.{front_rest, opened_layout}
 use Rattle.clr_open.specs.Begun.{fronted, IsFrontOf, layout_with}
 

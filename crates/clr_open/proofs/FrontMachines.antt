@@ -17,8 +17,8 @@ use Rattle.clr_model.specs.Updates.{with_step}
 use Rattle.clr_model.proofs.ItemContext.{fits-same, from_item-rest, from_item_lawful, item-size}
 use Rattle.clr_runtime.proofs.StepChanged.{with_step_lawful}
 use Rattle.clr_format.specs.NameTests.{fronts_of, is_among}
-use Rattle.clr_format.specs.declared.step.Step.{Step}
-use Rattle.clr_format.specs.declared.step.Step.TheVariants.{Begun, Idle, Store}
+use Rattle.clr_sos.specs.declared.step.Step.{Step}
+use Rattle.clr_sos.specs.declared.step.Step.TheVariants.{Begun, Idle, Store}
 use Rattle.clr_opened.specs.Opened.{thread_step}
 use Rattle.clr_open.specs.Begun.{fronted}
 use Rattle.clr_open.proofs.FrontLayouts.{at-middle, done-more, fronted-is, has-front, IsFresh, IsFrontItem, layout_of}

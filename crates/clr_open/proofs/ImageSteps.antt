@@ -4,7 +4,7 @@ use Rattle.std.specs.List.{AllByRecursion}
 use Rattle.clr_types.specs.Types.{TypeRow}
 use Rattle.clr_heap.specs.View.{HeapView, no_rests}
 use Rattle.clr_format.specs.Images.{Parts}
-use Rattle.clr_format.specs.declared.step.Step.{Step}
+use Rattle.clr_sos.specs.declared.step.Step.{Step}
 use Rattle.clr_load.specs.StepTests.{IsKnownStep}
 use Rattle.clr_load.specs.declared.image.Image.{Image}
 use Rattle.clr_load.proofs.ReadImages.{ArePartsFound, parts_found}

@@ -39,8 +39,8 @@ use Rattle.clr_generations.proofs.FoundItems.{in-at}
 use Rattle.clr_format.specs.Images.{Parts}
 use Rattle.clr_format.specs.NameTests.{fronts_of, with_earlier}
 use Rattle.clr_format.specs.TableFields.{is_new_length}
-use Rattle.clr_format.specs.declared.step.Step.{Step}
-use Rattle.clr_format.specs.declared.step.Step.TheVariants.{Begun, Idle, Store}
+use Rattle.clr_sos.specs.declared.step.Step.{Step}
+use Rattle.clr_sos.specs.declared.step.Step.TheVariants.{Begun, Idle, Store}
 use Rattle.clr_load.specs.Sound as sound
 use Rattle.clr_load.specs.Sound.{StepStands}
 use Rattle.clr_load.specs.StepTests.{IsNewStep}

@@ -1,5 +1,5 @@
 -- What a heap that was read names is there.
-use Rattle.std.proofs.Common.{◌≡◌, ◌⊎◌, inl, inr, ℕ, zero, suc, ◌+◌, Bool, true, false, List, [], ◌∷◌, map, refl, ap}
+use Rattle.std.proofs.Common.{◌≡◌, inl, inr, ℕ, zero, suc, ◌+◌, Bool, true, false, List, [], ◌∷◌, map, refl, ap}
 use Rattle.std.proofs.Common.{sym, ◌∙◌, subst, IsTrue, is_some, Option, None, Some}
 use Rattle.std.specs.Prelude.{slice_get}
 use Rattle.std.specs.List.{AllByRecursion}
@@ -22,7 +22,7 @@ use Rattle.clr_model.proofs.CollectedFree.{into_parts}
 use Rattle.clr_sos.specs.Faultless.{IsFaultless}
 use Rattle.clr_sos.specs.Faults.{item_addresses}
 use Rattle.clr_format.specs.NameTests.{is_reference_slot, is_true, object_at}
-use Rattle.clr_load.proofs.SeenObjects.{the_object}
+use Rattle.clr_sos.proofs.PlacedItems.{the_object}
 use Rattle.clr_open.proofs.ReadShapes.{kinds-are, object-of}
 
 -- a slot whose kind is a reference holds one
@@ -58,11 +58,6 @@ module _ (rows : List TypeRow) (h : HeapView) (heap : IsHeap h) (held : IsHeld r
   named-stands x stands =
       let at = stands-item rows h heap held x stands in
       subst (λ (o : Option Object). IsTrue (is_some o)) (sym at.named) refl
-
-  pub null-or-named : (x : ℕ) → IsNullOrStands rows h x
-      → (x ≡ 0) ⊎ IsTrue (is_some (object_named (objects_in rows h) x))
-  null-or-named x (inl null) = inl null
-  null-or-named x (inr stands) = inr (named-stands x stands)
 
   module _ (m : Machine) (objects : m.objects ≡ objects_in rows h) where
     pub is-present : (x : ℕ) → StandsAt rows h x → IsPresent m x
@@ -109,7 +104,7 @@ module _ (rows : List TypeRow) (h : HeapView) (heap : IsHeap h) (held : IsHeld r
         let kind : slice_get (slot_kinds form i.len) slot ≡ Some true =
         true-some (slice_get (slot_kinds form i.len) slot)
         (ap (λ (o : Option Item). is_reference_slot rows o slot)
-        (sym (the_object rows h heap held object i at)) ∙ on) in
+        (sym (the_object rows h heap held.walkable object i at)) ∙ on) in
         let value = reference-at (object_in rows (word_of h) i).slots slot
         (ap (λ (ks : List Bool). slice_get ks slot) (kinds-are form (word_of h) i.place i.len) ∙ kind) in (
           is-present object stands,

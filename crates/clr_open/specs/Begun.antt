@@ -5,8 +5,8 @@ use Rattle.clr_types.specs.Rising.{IsIn}
 use Rattle.clr_types.specs.Segments.{Layout, rest_of}
 use Rattle.clr_types.specs.Types.{has_finalizer, type_row, TypeRow}
 use Rattle.clr_ctx.specs.Contexts.{young_items}
-use Rattle.clr_format.specs.declared.step.Step.{Step}
-use Rattle.clr_format.specs.declared.step.Step.TheVariants.{Begun, Idle, Store}
+use Rattle.clr_sos.specs.declared.step.Step.{Step}
+use Rattle.clr_sos.specs.declared.step.Step.TheVariants.{Begun, Idle, Store}
 use Rattle.clr_safe.specs.declared.begun.Begun as safe
 use Rattle.clr_safe.specs.declared.begun.Begun.TheVariants as safe_step
 

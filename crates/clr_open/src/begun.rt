@@ -5,7 +5,7 @@ ghost use Rattle.clr_types.specs.Rising.{IsIn};
 ghost use Rattle.clr_heap.specs.View.{no_rests};
 ghost use Rattle.clr_ctx.specs.Contexts.{IsRelaid};
 ghost use Rattle.clr_format.specs.NameTests.{with_earlier};
-ghost use Rattle.clr_format.specs.declared.step.Step.{Step as Begins};
+ghost use Rattle.clr_sos.specs.declared.step.Step.{Step as Begins};
 ghost use Rattle.clr_load.specs.Sound.{StepStands};
 ghost use Rattle.clr_load.specs.StepTests.{IsKnownStep};
 ghost use Rattle.clr_open.specs.Begun as goes;

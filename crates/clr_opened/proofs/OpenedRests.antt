@@ -9,7 +9,7 @@ use Rattle.clr_types.specs.Segments.{flat_option, rest_of, rest_pieces}
 use Rattle.clr_model.specs.Lawful.{AllFrom, HasItsRoom}
 use Rattle.clr_model.specs.Machine.{begun_new, begun_store, Machine, no_step, ThreadStep}
 use Rattle.clr_format.specs.NameTests.{fronts_of}
-use Rattle.clr_format.specs.Saved.{front_or_zero}
+use Rattle.clr_sos.specs.Steps.{front_or_zero}
 use Rattle.clr_save.specs.Snapshots.{steps_of}
 use Rattle.clr_settled.specs.Settled.{kept_rests}
 use Rattle.clr_opened.specs.Opened.{front_rest}

@@ -4,7 +4,8 @@ use Rattle.std.specs.Prelude.{codes, slice_get}
 use Rattle.clr_types.specs.Ranges.{Piece}
 use Rattle.clr_types.specs.Segments.{flat_option}
 use Rattle.clr_model.specs.Machine.{begun_new, begun_store, Machine, no_step, ThreadStep}
-use Rattle.clr_format.specs.Saved.{bit, common_bytes, front_or_zero, image_bytes, steps_words, step_words, tables_bytes}
+use Rattle.clr_format.specs.Saved.{bit, common_bytes, image_bytes, steps_words, step_words, tables_bytes}
+use Rattle.clr_sos.specs.Steps.{front_or_zero}
 use Rattle.clr_format.specs.Saved.{handle_bytes, number_or_zero, queue_bytes, without_rests, word_bytes, words_bytes}
 use Rattle.std.specs.FinMap as finmap
 use Rattle.std.specs.List.{flat_map}

@@ -10,8 +10,8 @@ use Rattle.clr_view.specs.View.{free_in, objects_in}
 use Rattle.clr_model.specs.Machine.{begun_new, begun_store, Machine, no_step, Options, ThreadStep}
 use Rattle.clr_format.specs.Images.{Parts}
 use Rattle.clr_format.specs.NameTests.{fronts_of, is_among}
-use Rattle.clr_format.specs.declared.step.Step.{Step}
-use Rattle.clr_format.specs.declared.step.Step.TheVariants.{Idle, Store, Begun}
+use Rattle.clr_sos.specs.declared.step.Step.{Step}
+use Rattle.clr_sos.specs.declared.step.Step.TheVariants.{Idle, Store, Begun}
 use Rattle.clr_settled.specs.Settled.{no_sums}
 
 -- what an image doesn't say

@@ -1,24 +1,22 @@
 //! The command that makes an image: a script is run, and the last state is saved.
 ghost use Rattle.std.specs.Prelude.{◌≡◌, ◌≢◌, ◌⊎◌, Err, IfOk, None, true};
 ghost use Rattle.clr_model.specs.Lawful.{AreLawfulOptions, IsPlaceNamed};
-ghost use Rattle.clr_model.specs.Lookups as model;
-ghost use Rattle.clr_format.specs.Saved.{front_or_zero, image_bytes};
+ghost use Rattle.clr_format.specs.Saved.{image_bytes};
 ghost use Rattle.clr_model.specs.Machine.{Machine};
 ghost use Rattle.clr_runtime.specs.Options.{options_of};
 ghost use Rattle.clr_runtime.specs.RuntimeView.{StandsFor};
 ghost use Rattle.clr_save.specs.SavedImages.{IsImageOf};
 ghost use Rattle.clr_save.specs.Snapshots as snapshots;
-ghost use Rattle.clr_types.specs.Segments.{rest_of};
 ghost use Rattle.clr_streams.specs.Faults.{Rose};
 ghost use Rattle.clr_streams.specs.Reading.{ReadTooMuch};
 ghost use Rattle.clr_run.specs.Images.{MakesImage, RanWhole};
 
 use clr_image::{Snapshot, Step, save};
+use clr_lines::begun_steps;
 use clr_runtime::{NoMemory, Options, Runtime};
-use clr_safe::Begun;
 use clr_session::{SCRIPT_LIMIT, run_source};
 use clr_streams::{PlainSink, Sink, Source, Status, write_all};
-use std::alloc::{AllocError, Global};
+use std::alloc::Global;
 
 /// Runs the script that the source holds, with no replies, and writes the image of the last state. After `Done` the end
 /// state is the runtime that ran the lines, and else there is none.
@@ -94,7 +92,7 @@ fn image_of(alloc: Global, runtime: &Runtime) -> Result<Vec<u8>, NoMemory>
     ensures bytes { IfOk result (λ image. image.items ≡ image_bytes runtime.now.machine) }
     ensures lawful { IfOk result (λ image. IsImageOf runtime.now.machine image.items) }
 {
-    let steps = steps_of(alloc, runtime)?;
+    let steps = begun_steps(runtime);
     let snapshot = snapshot_of(runtime, &steps);
     Ok(save(alloc, &snapshot)?)
 }
@@ -116,52 +114,5 @@ fn snapshot_of<'a>(runtime: &'a Runtime, steps: &'a [Step]) -> Snapshot<'a>
         compact_large: runtime.compact_large(),
         holder: runtime.threads().holder(),
         steps,
-    }
-}
-
-// What each of 16 threads has begun, by thread.
-fn steps_of(alloc: Global, runtime: &Runtime) -> Result<Vec<Step>, AllocError>
-    ensures { IfOk result (λ steps.
-        snapshots.steps_of runtime.now.machine.layout 1 runtime.now.machine.steps ≡ steps.items) }
-{
-    // (what it shows is lawful, and so has 16 threads)
-    let _ = runtime.heap();
-    let mut steps = Vec::with_capacity(alloc, 16)?;
-    for k in 0..16u64 {
-        steps.push(step_of(runtime, k + 1))?;
-    }
-    Ok(steps)
-}
-
-// What a thread has begun, with the front of its context where that is an object.
-fn step_of(runtime: &Runtime, t: u64) -> Step
-    requires { model.is_thread t ≡ true }
-    ensures { result ≡ snapshots.step_of runtime.now.machine.layout t (model.step_of runtime.now.machine t) }
-{
-    match runtime.threads().begun(t) {
-        Begun::Nothing => Step::Idle,
-        Begun::Store { object, slot } => Step::Store { object, slot },
-        Begun::Birth {
-            type_id,
-            len,
-            local,
-            finalizer: _,
-        } => Step::Begun {
-            type_id,
-            len,
-            local,
-            front: front_of(runtime, t),
-        },
-    }
-}
-
-// Where what is left of a thread's context begins, and 0 where nothing is.
-fn front_of(runtime: &Runtime, t: u64) -> u64
-    requires { model.is_thread t ≡ true }
-    ensures { result ≡ front_or_zero (rest_of runtime.now.machine.layout t) }
-{
-    match runtime.heap().hole(t as usize) {
-        Some((low, _)) => low,
-        None => 0,
     }
 }

@@ -22,26 +22,10 @@ use Rattle.clr_heap.proofs.Holes.{hole_among}
 use Rattle.clr_model.specs.Listing as model
 use Rattle.clr_view.specs.View.{IsHeld}
 use Rattle.clr_view.proofs.Tails.{found-young, kind-young}
+use Rattle.clr_sos.proofs.BegunSteps.{rest-of}
 use Rattle.clr_save.proofs.SavedItems.{from-rise, from-shuffled, rests_from, rests_in, saved_from}
 
 -- ---- rests by thread
-
--- a thread's rest is one of all
-pub rest-in : (rs : List (Option Piece)) (i : ℕ) (r : Piece) → get_or rs i None ≡ Some r → IsIn r (rest_pieces rs)
-rest-in [] i r e = absurd cc
-rest-in (None ∷ rs) zero r e = absurd cc
-rest-in (None ∷ rs) (suc i) r e = rest-in rs i r e
-rest-in (Some q ∷ rs) zero r e = let same : r ≡ q = cc in subst (λ x. IsIn x (q ∷ rest_pieces rs)) (sym same) first
-rest-in (Some q ∷ rs) (suc i) r e = later (rest-in rs i r e)
-
--- and each of all is a thread's
-rest-of : (rs : List (Option Piece)) (r : Piece) → IsIn r (rest_pieces rs) → (i : ℕ) × (get_or rs i None ≡ Some r)
-rest-of [] r l = elim l [ ]
-rest-of (None ∷ rs) r l = let found = rest-of rs r l in (suc found.0, found.1)
-rest-of (Some q ∷ rs) r l = elim (in_cons l) [
-  | inl here ↦ (zero, ap (λ (x : Piece). Some x) (sym here))
-  | inr more ↦ let found = rest-of rs r more in (suc found.0, found.1)
-]
 
 -- rests of two threads stand apart
 rests-distinct : (rs : List (Option Piece))

@@ -1,16 +1,15 @@
 -- What threads have begun may be written, and names what is there.
 use Rattle.std.proofs.Common.{◌≡◌, ℕ, zero, suc, ◌+◌, ◌-◌, ◌^◌, ◌≤◌, ◌<◌, ◌&&◌, ◌||◌, ◌==◌, Bool, true, false}
 use Rattle.std.proofs.Common.{not, List, [], ◌∷◌, ◌++◌, get_or, length, Option, Some, None}
-use Rattle.std.proofs.Common.{is_some, IsTrue, append-nil, refl, ap, ap₂, sym, ◌∙◌, subst, arith, inl, inr, le-leb}
-use Rattle.std.proofs.Common.{lt-ltb}
+use Rattle.std.proofs.Common.{append-nil, refl, ap, ap₂, sym, ◌∙◌, subst, arith, inl, inr, le-leb}
 use Rattle.std.specs.List.{AllByRecursion}
 use Rattle.std.specs.Prelude.{slice_get}
-use Rattle.std.proofs.lemmas.Bool.{cases_Bool, eq-eqb, eqb-true, ne_eqb, true≢false}
+use Rattle.std.proofs.lemmas.Bool.{cases_Bool, eq-eqb, eqb-true, ne_eqb}
 use Rattle.clr_types.specs.Ranges.{fits, Piece, piece_end}
 use Rattle.clr_types.specs.Rising.{IsIn}
-use Rattle.clr_types.specs.Segments.{flat_option, generation, Layout, rest_of, rest_pieces}
+use Rattle.clr_types.specs.Segments.{generation, Layout, rest_of, rest_pieces}
 use Rattle.clr_types.specs.Types.{bytes_form, class_form, Form, references_form, structs_form}
-use Rattle.clr_types.specs.Types.{form_at, is_array, size_of, slot_kinds, type_row, TypeRow}
+use Rattle.clr_types.specs.Types.{form_at, size_of, slot_kinds, TypeRow}
 use Rattle.clr_types.specs.declared.item.Item.{Item}
 use Rattle.clr_types.proofs.ChangedLists.{append_left, into_filter, IsIn-map}
 use Rattle.clr_types.proofs.ListMembers.{any-from, any-in, append_right, in_append}
@@ -35,10 +34,10 @@ use Rattle.clr_view.proofs.ObjectItems.{stands-item}
 use Rattle.clr_view.proofs.Slots.{slot-count}
 use Rattle.clr_view.proofs.Tails.{found-young, kind-young}
 use Rattle.clr_sos.specs.Faults.{stands}
+use Rattle.clr_sos.proofs.BegunSteps.{known-type, new-length, rest-in, rest-there}
 use Rattle.clr_sos.proofs.QueuedObjects.{present-stands}
 use Rattle.clr_format.specs.NameTests as tests
-use Rattle.clr_format.specs.Saved.{front_or_zero}
-use Rattle.clr_format.specs.TableFields.{is_new_length}
+use Rattle.clr_sos.specs.Steps.{front_or_zero}
 use Rattle.clr_save.specs.declared.snapshot.Snapshot.{Snapshot}
 use Rattle.clr_save.specs.Snapshots.{steps_of}
 use Rattle.clr_save.specs.Writable.{IsWrittenStep}
@@ -46,39 +45,14 @@ use Rattle.clr_save.specs.WrittenImage.{Passes}
 use Rattle.clr_save.proofs.SavedItems.{from-shuffled, rests_from}
 use Rattle.clr_save.proofs.SavedNames.{image_items, named, object-found, place-fits}
 use Rattle.clr_save.proofs.SavedPlaces.{len-fits}
-use Rattle.clr_save.proofs.SavedRests.{left-is, rest-in}
+use Rattle.clr_save.proofs.SavedRests.{left-is}
 use Rattle.clr_save.proofs.ShownState.{saved_machine}
 
 -- ---- small facts
 
-pub rest-there : (rests : List (Option Piece)) (i : ℕ) (r : Piece) → flat_option (slice_get rests i) ≡ Some r
-    → get_or rests i None ≡ Some r
-rest-there [] i r e = absurd cc
-rest-there (None ∷ rests) zero r e = absurd cc
-rest-there (Some q ∷ rests) zero r e = e
-rest-there (o ∷ rests) (suc i) r e = rest-there rests i r e
-
 pub length-steps : (layout : Layout) (t : ℕ) (steps : List ThreadStep) → length (steps_of layout t steps) ≡ length steps
 length-steps layout t [] = refl
 length-steps layout t (s ∷ steps) = ap suc (length-steps layout (t + 1) steps)
-
-known-type : (rows : List TypeRow) (t : ℕ) → IsTrue (is_some (type_row rows t)) → (1 ≤ t) × (t ≤ length rows)
-known-type rows zero known = absurd (true≢false (sym known))
-known-type rows (suc t) known = (omega arith, let l = below rows t known in omega arith)
-  where
-    below : (rows : List TypeRow) (t : ℕ) → IsTrue (is_some (slice_get rows t)) → t + 1 ≤ length rows
-    below [] t known = absurd (true≢false (sym known))
-    below (row ∷ rows) zero known = omega arith
-    below (row ∷ rows) (suc t) known = let l = below rows t known in omega arith
-
-new-length : (rows : List TypeRow) (large t len : ℕ) → (is_array (form_at rows t) ≡ false → len ≡ 0)
-    → size_of (form_at rows t) len < large → is_new_length rows large t len ≡ true
-new-length rows large t len none small = elim (cases_Bool (is_array (form_at rows t))) [
-  | inl array ↦ let l = lt-ltb (size_of (form_at rows t) len) large small in rw (array, l) refl
-  | inr plain ↦
-      let l = lt-ltb (size_of (form_at rows t) len) large small in
-      let e = eq-eqb len 0 (none plain) in rw (plain, e, l) refl
-]
 
 -- an object's slots have no higher number than its bytes
 few-slots : (form : Form) (len : ℕ) → length (slot_kinds form len) ≤ size_of form len

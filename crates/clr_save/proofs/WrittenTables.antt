@@ -20,8 +20,8 @@ use Rattle.clr_save.specs.Writable.{AreWords, AreWrittenHandles, AreWrittenTable
 use Rattle.clr_save.specs.Writable.{IsWrittenStep}
 use Rattle.clr_save.specs.Written.{bytes_of_tables, step_bytes}
 use Rattle.clr_format.specs.declared.head.Head.{Head}
-use Rattle.clr_format.specs.declared.step.Step.{Step}
-use Rattle.clr_format.specs.declared.step.Step.TheVariants.{Idle, Store, Begun}
+use Rattle.clr_sos.specs.declared.step.Step.{Step}
+use Rattle.clr_sos.specs.declared.step.Step.TheVariants.{Idle, Store, Begun}
 use Rattle.clr_save.proofs.Written.{appended_all, gives_back, last_back, same_bytes, same_value, StepsBack}
 use Rattle.clr_save.proofs.Written.{then_back, times_back, word_back, word_then}
 

@@ -1,24 +1,11 @@
 -- The machine that a snapshot shows.
-use Rattle.std.specs.Prelude.{◌≡◌, ℕ, ◌+◌, List, [], ◌∷◌}
-use Rattle.clr_types.specs.Segments.{Layout, rest_of}
-use Rattle.clr_model.specs.Machine.{begun_new, begun_store, Machine, no_step, ThreadStep}
+use Rattle.std.specs.Prelude.{◌≡◌}
+use Rattle.clr_model.specs.Machine.{Machine}
 use Rattle.clr_view.specs.Clean.{AreClean}
 use Rattle.clr_view.specs.Marks.{IsUnmarked}
 use Rattle.clr_view.specs.View.{AreFreeHeads, IsHeld, layout_in, objects_in}
-use Rattle.clr_format.specs.Saved.{front_or_zero}
-use Rattle.clr_format.specs.declared.step.Step.{Step}
-use Rattle.clr_format.specs.declared.step.Step.TheVariants.{Idle, Store, Begun}
+pub use Rattle.clr_sos.specs.Steps.{step_of, steps_of}
 use Rattle.clr_save.specs.declared.snapshot.Snapshot.{Snapshot}
-
--- what thread t has begun; a begun object is to stand at the front of the thread's context
-abbrev pub step_of : Layout → ℕ → ThreadStep → Step
-step_of layout t no_step = Idle
-step_of layout t (begun_store object slot) = Store object slot
-step_of layout t (begun_new type len local) = Begun (record { 0 = type }) len local (front_or_zero (rest_of layout t))
-
-abbrev pub steps_of : Layout → ℕ → List ThreadStep → List Step
-steps_of layout t [] = []
-steps_of layout t (s ∷ ss) = step_of layout t s ∷ steps_of layout (t + 1) ss
 
 -- what a snapshot holds is this machine's, each object named by its place; the machine's sums, its other options and a
 -- marking that runs play no part in an image

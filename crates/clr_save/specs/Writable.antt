@@ -13,8 +13,8 @@ use Rattle.clr_format.specs.HeapFields.{is_base, is_boundary, is_end, is_reserve
 use Rattle.clr_format.specs.declared.head.Head.{Head}
 use Rattle.clr_heap.specs.declared.heap.draft.SegmentHead.{SegmentHead}
 use Rattle.clr_format.specs.TableFields.{is_new_length, is_second, Tables}
-use Rattle.clr_format.specs.declared.step.Step.{Step}
-use Rattle.clr_format.specs.declared.step.Step.TheVariants.{Idle, Store, Begun}
+use Rattle.clr_sos.specs.declared.step.Step.{Step}
+use Rattle.clr_sos.specs.declared.step.Step.TheVariants.{Idle, Store, Begun}
 
 -- a type's name is a name of a script
 abbrev pub HasName : TypeRow → Type 0

@@ -7,8 +7,8 @@ use Rattle.clr_heap.specs.declared.heap.draft.SegmentHead.{SegmentHead}
 use Rattle.clr_format.specs.Saved.{bit, handle_bytes, number_or_zero, queue_bytes, word_bytes, words_bytes}
 use Rattle.clr_types.specs.Types.{form_at, has_finalizer, name_of, type_row, TypeRow}
 use Rattle.clr_format.specs.TableFields.{Tables}
-use Rattle.clr_format.specs.declared.step.Step.{Step}
-use Rattle.clr_format.specs.declared.step.Step.TheVariants.{Idle, Store, Begun}
+use Rattle.clr_sos.specs.declared.step.Step.{Step}
+use Rattle.clr_sos.specs.declared.step.Step.TheVariants.{Idle, Store, Begun}
 
 -- the five words of what a thread has begun
 abbrev pub words_of_step : Step → List ℕ

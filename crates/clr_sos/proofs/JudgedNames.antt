@@ -139,7 +139,7 @@ module _ (rows : List TypeRow) (h : HeapView) (window : Window) (bits : List ℕ
       let at : window.start + 8 * ((x - window.start) / 8) ≡ x = omega arith in
       j.marked ((x - window.start) / 8) (omega arith) ∙ ap (stands items) at
 
-  marked_is : (x : ℕ) → in_window window x ≡ true → marked_at window bits x ≡ stands items x
+  pub marked_is : (x : ℕ) → in_window window x ≡ true → marked_at window bits x ≡ stands items x
   marked_is x judged = elim (cases_Bool (stands items x)) [
     | inl yes_ ↦
         let p = has_place x judged yes_ in

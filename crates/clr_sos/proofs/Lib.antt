@@ -51,3 +51,13 @@ pub mod BufferedTexts
 pub mod BufferedLines
 pub mod PlainListings
 pub mod FoundSegments
+pub mod PlacedItems
+pub mod FinalPlaces
+pub mod HandlePasses
+pub mod BothGood
+pub mod EarlierSteps
+pub mod ContextRooms
+pub mod JudgedViews
+pub mod StateVerdicts
+pub mod BegunSteps
+pub mod LawfulTables

@@ -1,5 +1,6 @@
 -- Tests of numbers over lists.
 use Rattle.std.proofs.Common.{◌≡◌, ℕ, Bool, true, false, List, [], ◌∷◌, filter, refl, sym, ◌∙◌, ap, inl, inr}
+use Rattle.std.proofs.Common.{◌&&◌, ap₂}
 use Rattle.std.specs.List.{list_all}
 use Rattle.std.proofs.lemmas.Bool.{and_parts, cases_Bool}
 use Rattle.clr_types.specs.Rising.{first, IsIn, later}
@@ -32,3 +33,8 @@ all_pass s [] e a m = elim m [ ]
 all_pass s (x ∷ xs) e a m =
     let parts = and_parts (s x) (list_all s xs) e in
     elim (in_cons m) [ inl here ↦ ap s here ∙ parts.0 | inr more ↦ all_pass s xs parts.1 a more ]
+
+-- tests that agree are passed by the same lists
+pub all_agree : (s t : ℕ → Bool) → ((a : ℕ) → s a ≡ t a) → (xs : List ℕ) → list_all s xs ≡ list_all t xs
+all_agree s t same [] = refl
+all_agree s t same (x ∷ xs) = ap₂ (λ (a b : Bool). a && b) (same x) (all_agree s t same xs)

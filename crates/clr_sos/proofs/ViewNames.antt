@@ -49,7 +49,7 @@ module _ (v : View) (m : Machine) (is : IsViewOf v m) (named : IsPlaceNamed m) w
   locals-stand x r = above-stands x r.not_null
       (names.locals x (subst (λ (ls : List ℕ). IsIn x ls) (sym is.locals) r.listed))
 
-  handles-stand : HandlesStand v.types.now v.heap.now v.handles.now
+  pub handles-stand : HandlesStand v.types.now v.heap.now v.handles.now
   handles-stand k row found =
       let used : finmap.get m.handles k ≡ Some row =
       subst (λ (hs : FinMap nat_cmp Handle). finmap.get hs k ≡ Some row) (sym is.handles) found in

@@ -8,9 +8,12 @@ use Rattle.clr_view.specs.Clean.{AreClean}
 use Rattle.clr_view.specs.Marks.{IsUnmarked}
 use Rattle.clr_view.specs.View.{AreFreeHeads, IsHeld}
 use Rattle.clr_view.specs.World.{HandlesStand}
+use Rattle.clr_sos.specs.declared.state.State.{State}
 use Rattle.clr_sos.specs.declared.view.View.{View}
 use Rattle.clr_sos.specs.Faultless.{IsFaultless}
 use Rattle.clr_sos.specs.Faults.{AreInside}
+use Rattle.clr_sos.specs.LawfulStates.{IsLawfulState}
+use Rattle.clr_sos.specs.Steps.{steps_of}
 use Rattle.clr_sos.specs.Views.{AllStand, IsShownView, IsViewOf}
 
 -- What is seen is a lawful machine, named by places. No object is marked, and headers and padding are clean.
@@ -23,11 +26,17 @@ pub record IsCleanState (v : View) (m : Machine) : Type 0 where
   pub sound : IsPlaceNamed m
   pub large : v.large ≡ m.options.large
 
--- what such a state shows meets the condition of `verifyheap`, and has no fault
+-- what threads have begun, and who holds them, is this machine's; a begun object is to stand at the front of the
+-- thread's context
+pub record HasSteps (s : State) (m : Machine) : Type 0 where
+  pub steps : steps_of m.layout 1 m.steps ≡ s.steps.now
+  pub holder : m.holder ≡ s.holder
+
+-- a clean state with the steps of its machine meets the condition of `verifyheap`, and has no fault
 abbrev pub CleanStateLaw : Type 0
 CleanStateLaw =
-    (v : View) (m : Machine) → IsHeap v.heap.now → IsCleanState v m
-    → AreInside v.heap.now × IsFaultless v.types.now v.large v.heap.now v.locals.now
+    (s : State) (m : Machine) → IsHeap s.view.heap.now → IsCleanState s.view m → HasSteps s m
+    → AreInside s.view.heap.now × IsLawfulState s
 
 -- no thread has a context
 abbrev pub HasNoContexts : HeapView → Type 0

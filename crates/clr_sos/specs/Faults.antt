@@ -1,8 +1,6 @@
--- What `verifyheap` answers: the first address of a heap that isn't lawful. Objects of `large` bytes and more are
--- large.
+-- The first address of a heap that isn't lawful, and of its locals. Objects of `large` bytes and more are large.
 use Rattle.std.specs.Prelude.{◌≡◌, ℕ, zero, suc, ◌+◌, ◌%◌, ◌<◌, ◌≤◌, Bool, false, not, ◌&&◌, ◌||◌, nat_le, min, ◌==◌}
-use Rattle.std.specs.Prelude.{if◌then◌else◌, List, [], ◌∷◌, length, map, filter, get_or, Option, Some, None, Result, Ok}
-use Rattle.std.specs.Prelude.{Err}
+use Rattle.std.specs.Prelude.{if◌then◌else◌, List, [], ◌∷◌, length, map, filter, get_or, Option, Some, None}
 use Rattle.std.specs.List.{flat_map, list_all, list_any}
 use Rattle.clr_types.specs.Types.{TypeRow, form_at}
 use Rattle.clr_types.specs.Descriptors.{reference_offsets}
@@ -107,10 +105,6 @@ abbrev pub first_fault : List TypeRow → ℕ → HeapView → List ℕ → Opti
 first_fault rows large h locals =
     or_else (segments_fault rows large h 0 (length h.segments))
     (or_else (references_fault rows h) (locals_fault rows h locals))
-
-abbrev pub verdict : Option ℕ → Result (Unit {0}) ℕ
-verdict None = Ok tt
-verdict (Some a) = Err a
 
 -- ---- conditions
 

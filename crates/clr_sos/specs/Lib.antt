@@ -17,3 +17,6 @@ pub mod Walks
 pub mod Wants
 pub mod RootTexts
 pub mod Buffered
+pub mod Steps
+pub mod LawfulStates
+pub mod JudgedTables

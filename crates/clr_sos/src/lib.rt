@@ -12,12 +12,14 @@ pub use crate::queues::finalizequeue;
 pub use crate::reach::{FoundObject, Origin, Reached, Tie, reach_all, ties_of};
 pub use crate::roots::{Trail, gcroot, put_origin, put_place_line, put_places, trail_to};
 pub use crate::segments::eeheap;
+pub use crate::state::State;
+pub use crate::step::Step;
 pub use crate::text::{
     put_address, put_number, put_place, put_word_address, put_word_number, put_words,
 };
 pub use crate::verify::{
-    clean_states_are_lawful, faultless_heaps_are_held, verifyheap, verifyheap_at_once,
-    verifyheap_with_room,
+    clean_states_are_lawful, faultless_heaps_are_held, have_front, is_front, is_reference_slot,
+    verifyheap, verifyheap_at_once, verifyheap_with_room,
 };
 pub use crate::view::View;
 pub use crate::whereabouts::gcwhere;
@@ -37,6 +39,8 @@ mod queues;
 mod reach;
 mod roots;
 mod segments;
+mod state;
+mod step;
 mod text;
 mod verify;
 mod view;

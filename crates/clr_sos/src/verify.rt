@@ -1,28 +1,36 @@
-// The command that verifies a heap.
-ghost use Rattle.std.specs.Prelude.{◌≡◌, ◌<◌, ◌↔◌, ◌^◌, length, IfOk};
+// The command that verifies a heap, and all that refers to its objects.
+ghost use Rattle.std.specs.Prelude.{◌≡◌, ◌<◌, ◌↔◌, ◌^◌, ◌&&◌, length, IfErr, IfOk, None, Ok};
 ghost use Rattle.clr_heap.specs.View.{AreWalkable, IsHeap};
 ghost use Rattle.clr_sos.specs.CheckedCells.{or_else};
-ghost use Rattle.clr_sos.specs.Faultless.{IsFaultless};
-ghost use Rattle.clr_sos.specs.Faults.{AreInside, first_fault, locals_fault, references_fault, verdict};
+ghost use Rattle.clr_sos.specs.Faults.{AreInside, first_fault, locals_fault, references_fault};
+ghost use Rattle.clr_sos.specs.JudgedTables.{AreJudged};
+ghost use Rattle.clr_sos.specs.LawfulStates.{AreLawfulTables, fault_or_zero, IsLawfulState};
 
 mod cells;
+mod fronts;
 mod laws;
+mod names;
+mod others;
 mod references;
 mod segments;
 mod starts;
+mod tables;
 mod windows;
 
+use crate::state::State;
+pub use crate::verify::fronts::{have_front, is_front};
 pub use crate::verify::laws::{clean_states_are_lawful, faultless_heaps_are_held};
-use crate::verify::references::names_fault;
+use crate::verify::names::{Names, judge_names};
+use crate::verify::others::are_lawful_others;
+pub use crate::verify::others::is_reference_slot;
 use crate::verify::segments::segments_fault;
-use crate::view::View;
 use clr_heap::Heap;
 use std::alloc::{AllocError, Global};
 
 /// How many words `verifyheap` has to work in: their bits tell of 16 MiB of a heap at once.
 const ROOM: usize = 32768;
 
-/// `verifyheap`: checks the heap and the locals of a view, and answers the address of the first fault.
+/// `verifyheap`: checks all of a state, and answers the address of the first fault.
 ///
 /// Ok, which the line shows as `clean`, is answered exactly where nothing is wrong. The faults come in this order:
 ///
@@ -33,37 +41,42 @@ const ROOM: usize = 32768;
 ///   bytes or more suits a large segment, and a smaller one a small or the ephemeral segment. A pinned segment holds
 ///   free items and arrays without references, of any size: the method table word of another type is wrong there.
 /// - the reference with the lowest address that is neither null nor the place of an object.
-/// - a local that is neither. Its fault is the address 0.
+/// - what refers to objects from outside of the heap. Its fault is the address 0: a local that is neither null nor the
+///   place of an object; a handle whose target or second is neither, or which has a second and isn't a dependent one
+///   whose target is an object; an entry of the finalization queue or an f-reachable place at which no object stands
+///   whose type has a finalizer; a store that a thread has begun, into what isn't a reference slot of an object; an
+///   object that a thread has begun, of an unknown type, with a length where its type has none, of `large` bytes or
+///   more, for a local above 63, at a front that an earlier thread has, or where in generation 0 no free item and no
+///   unused part of a context begins in which it fits; a holder that is none of the threads 1 to 16.
 ///
-/// The types, the limit, `large`, handles and queues aren't checked. The view may be any: its heap needn't spell items.
-/// It takes no memory. References are judged by a bit for each word of 16 MiB of places at a time, and the heap is
-/// walked once for each such range that has places: where a caller has more room, `verifyheap_with_room` is faster.
+/// The types, the limit and `large` aren't checked. The state may be any: its heap needn't spell items. It takes no
+/// memory. References, locals, handles and queues are judged by a bit for each word of 16 MiB of places at a time, and
+/// the heap is walked once for each such range that has places: where a caller has more room, `verifyheap_with_room` is
+/// faster. Each begun store takes one more walk, and each begun object one of the ephemeral segment.
 #[inline(never)]
-pub fn verifyheap(view: &View<'_>) -> Result<(), u64>
-    requires holes { AreInside view.now.heap.now }
-    ensures fault { result
-        ≡ verdict (first_fault view.now.types.now view.now.large view.now.heap.now view.now.locals.now) }
-    ensures lawful { (result ≡ Ok tt)
-        ↔ IsFaultless view.now.types.now view.now.large view.now.heap.now view.now.locals.now }
+pub fn verifyheap(state: &State<'_>) -> Result<(), u64>
+    requires holes { AreInside state.now.view.heap.now }
+    ensures fault { IfErr result (λ a. a ≡ fault_or_zero (first_fault state.now.view.types.now state.now.view.large
+        state.now.view.heap.now state.now.view.locals.now)) }
+    ensures lawful { (result ≡ Ok tt) ↔ IsLawfulState state.now }
 {
     let mut room = [0; ROOM];
-    verifyheap_with_room(view, &mut room)
+    verifyheap_with_room(state, &mut room)
 }
 
-/// `verifyheap` with room to work in, whose words may be any and are lost. The heap is walked once for each range of 512
-/// bytes a word of the room that has places: with a word for each 512 bytes of the reservations one walk is enough.
+/// `verifyheap` with room to work in, whose words may be any and are lost. The heap is walked once for each range of
+/// 512 bytes a word of the room that has places: with a word for each 512 bytes of the reservations one walk is enough.
 #[inline(always)]
-pub fn verifyheap_with_room(view: &View<'_>, room: &mut [u64]) -> Result<(), u64>
-    requires holes { AreInside view.now.heap.now }
+pub fn verifyheap_with_room(state: &State<'_>, room: &mut [u64]) -> Result<(), u64>
+    requires holes { AreInside state.now.view.heap.now }
     requires some { 0 < length room.old }
-    ensures fault { result
-        ≡ verdict (first_fault view.now.types.now view.now.large view.now.heap.now view.now.locals.now) }
-    ensures lawful { (result ≡ Ok tt)
-        ↔ IsFaultless view.now.types.now view.now.large view.now.heap.now view.now.locals.now }
+    ensures fault { IfErr result (λ a. a ≡ fault_or_zero (first_fault state.now.view.types.now state.now.view.large
+        state.now.view.heap.now state.now.view.locals.now)) }
+    ensures lawful { (result ≡ Ok tt) ↔ IsLawfulState state.now }
 {
-    match fault(view, room) {
+    match segments_fault(state.view.heap, state.view.types, state.view.large) {
         Some(address) => Err(address),
-        None => Ok(()),
+        None => named_verdict(state, room),
     }
 }
 
@@ -71,71 +84,29 @@ pub fn verifyheap_with_room(view: &View<'_>, room: &mut [u64]) -> Result<(), u64
 /// is a bit for each word between the heap's first place and its last, or as many words as the used ranges have bytes /
 /// 128 where these lie far apart. Where it is refused the room is that of `verifyheap`, so the answer doesn't depend on
 /// it.
-pub fn verifyheap_at_once(alloc: Global, view: &View<'_>) -> Result<(), u64>
-    requires holes { AreInside view.now.heap.now }
-    ensures fault { result
-        ≡ verdict (first_fault view.now.types.now view.now.large view.now.heap.now view.now.locals.now) }
-    ensures lawful { (result ≡ Ok tt)
-        ↔ IsFaultless view.now.types.now view.now.large view.now.heap.now view.now.locals.now }
+pub fn verifyheap_at_once(alloc: Global, state: &State<'_>) -> Result<(), u64>
+    requires holes { AreInside state.now.view.heap.now }
+    ensures fault { IfErr result (λ a. a ≡ fault_or_zero (first_fault state.now.view.types.now state.now.view.large
+        state.now.view.heap.now state.now.view.locals.now)) }
+    ensures lawful { (result ≡ Ok tt) ↔ IsLawfulState state.now }
 {
-    match fault_at_once(alloc, view) {
-        Some(address) => Err(address),
-        None => Ok(()),
+    match room_for(alloc, state.view.heap) {
+        Ok(room) => verifyheap_in(state, room),
+        Err(_) => verifyheap(state),
     }
 }
 
-// The address of the first fault of a view, for which room is taken. Segments are checked before that, by the one call
-// for whatever room there is, which the compiler puts in line.
+// Checks a state in room that was taken, and is given back.
 #[inline(always)]
-fn fault_at_once(alloc: Global, view: &View<'_>) -> Option<u64>
-    requires holes { AreInside view.now.heap.now }
-    ensures heap { IsHeap view.now.heap.now }
-    ensures fault { result ≡ first_fault view.now.types.now view.now.large view.now.heap.now view.now.locals.now }
-{
-    match segments_fault(view.heap, view.types, view.large) {
-        Some(address) => Some(address),
-        None => names_fault_at_once(alloc, view),
-    }
-}
-
-// The first fault of the references, and else that of the locals, by a window for which room is taken.
-#[inline(always)]
-fn names_fault_at_once(alloc: Global, view: &View<'_>) -> Option<u64>
-    requires heap { IsHeap view.now.heap.now }
-    requires walkable { AreWalkable view.now.types.now view.now.heap.now }
-    ensures { result ≡ or_else (references_fault view.now.types.now view.now.heap.now)
-        (locals_fault view.now.types.now view.now.heap.now view.now.locals.now) }
-{
-    match room_for(alloc, view.heap) {
-        Ok(room) => names_fault_in(view, room),
-        Err(_) => names_fault_by_windows(view),
-    }
-}
-
-// The first fault of the references, and else that of the locals, by a window in room that was taken, and is given back.
-#[inline(always)]
-fn names_fault_in(view: &View<'_>, room: Vec<u64>) -> Option<u64>
-    requires heap { IsHeap view.now.heap.now }
-    requires walkable { AreWalkable view.now.types.now view.now.heap.now }
+fn verifyheap_in(state: &State<'_>, room: Vec<u64>) -> Result<(), u64>
+    requires holes { AreInside state.now.view.heap.now }
     requires some { 0 < length room.items }
-    ensures { result ≡ or_else (references_fault view.now.types.now view.now.heap.now)
-        (locals_fault view.now.types.now view.now.heap.now view.now.locals.now) }
+    ensures fault { IfErr result (λ a. a ≡ fault_or_zero (first_fault state.now.view.types.now state.now.view.large
+        state.now.view.heap.now state.now.view.locals.now)) }
+    ensures lawful { (result ≡ Ok tt) ↔ IsLawfulState state.now }
 {
     let mut room = room;
-    names_fault(view.heap, view.types, view.locals, &mut room)
-}
-
-// The first fault of the references, and else that of the locals, by windows in the room of `verifyheap`.
-#[cold]
-#[inline(never)]
-fn names_fault_by_windows(view: &View<'_>) -> Option<u64>
-    requires heap { IsHeap view.now.heap.now }
-    requires walkable { AreWalkable view.now.types.now view.now.heap.now }
-    ensures { result ≡ or_else (references_fault view.now.types.now view.now.heap.now)
-        (locals_fault view.now.types.now view.now.heap.now view.now.locals.now) }
-{
-    let mut room = [0; ROOM];
-    names_fault(view.heap, view.types, view.locals, &mut room)
+    verifyheap_with_room(state, &mut room)
 }
 
 // Room for a window over all places, or over four times as many bytes as are used where places lie far apart.
@@ -164,16 +135,52 @@ fn window_words(heap: &Heap) -> usize
     (top.saturating_sub(start) / 512).min(used / 128) as usize
 }
 
-// The address of the first fault of a view.
-#[inline(always)]
-fn fault(view: &View<'_>, room: &mut [u64]) -> Option<u64>
-    requires holes { AreInside view.now.heap.now }
+// What is answered where the segments have no fault.
+fn named_verdict(state: &State<'_>, room: &mut [u64]) -> Result<(), u64>
+    requires heap { IsHeap state.now.view.heap.now }
+    requires walkable { AreWalkable state.now.view.types.now state.now.view.heap.now }
+    requires holes { AreInside state.now.view.heap.now }
     requires some { 0 < length room.old }
-    ensures heap { IsHeap view.now.heap.now }
-    ensures fault { result ≡ first_fault view.now.types.now view.now.large view.now.heap.now view.now.locals.now }
+    ensures fault { IfErr result (λ a. a ≡ fault_or_zero (or_else
+        (references_fault state.now.view.types.now state.now.view.heap.now)
+        (locals_fault state.now.view.types.now state.now.view.heap.now state.now.view.locals.now))) }
+    ensures lawful { (result ≡ Ok tt)
+        ↔ ((or_else (references_fault state.now.view.types.now state.now.view.heap.now)
+        (locals_fault state.now.view.types.now state.now.view.heap.now state.now.view.locals.now) ≡ None)
+        × AreLawfulTables state.now) }
 {
-    match segments_fault(view.heap, view.types, view.large) {
-        Some(address) => Some(address),
-        None => names_fault(view.heap, view.types, view.locals, room),
+    let names = judge_names(&state.view, room);
+    verdict(state, names)
+}
+
+// What is answered where names were judged so.
+fn verdict(state: &State<'_>, names: Names) -> Result<(), u64>
+    requires heap { IsHeap state.now.view.heap.now }
+    requires walkable { AreWalkable state.now.view.types.now state.now.view.heap.now }
+    requires holes { AreInside state.now.view.heap.now }
+    requires judged { AreJudged state.now.view names }
+    ensures fault { IfErr result (λ a. a ≡ fault_or_zero (or_else
+        (references_fault state.now.view.types.now state.now.view.heap.now)
+        (locals_fault state.now.view.types.now state.now.view.heap.now state.now.view.locals.now))) }
+    ensures lawful { (result ≡ Ok tt)
+        ↔ ((or_else (references_fault state.now.view.types.now state.now.view.heap.now)
+        (locals_fault state.now.view.types.now state.now.view.heap.now state.now.view.locals.now) ≡ None)
+        × AreLawfulTables state.now) }
+{
+    if let Some(address) = names.low {
+        return Err(address);
     }
+    let others = are_lawful_others(state);
+    if are_all_good(names, others) {
+        Ok(())
+    } else {
+        Err(0)
+    }
+}
+
+// Whether locals and tables were judged good, and all else is lawful.
+fn are_all_good(names: Names, others: bool) -> bool
+    ensures { result ≡ (names.locals && (names.handles && (names.finals && others))) }
+{
+    names.locals && names.handles && names.finals && others
 }

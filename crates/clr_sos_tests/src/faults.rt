@@ -6,7 +6,7 @@ use clr_bricks::Bricks;
 use clr_final::Finals;
 use clr_handles::Handles;
 use clr_heap::{Heap, SegKind};
-use clr_sos::{View, verifyheap, verifyheap_with_room};
+use clr_sos::{State, View, verifyheap, verifyheap_with_room};
 use clr_types::header::SUPPRESSED;
 use clr_types::{Shape, Types};
 use std::alloc::Global;
@@ -14,13 +14,13 @@ use std::process::Abort;
 use std::test::Fail;
 
 // The bytes that all segments may reserve together.
-const LIMIT: u64 = 1_048_576;
+pub const LIMIT: u64 = 1_048_576;
 
 // The method table word of free space. Those of the types follow, 64 apart.
 const FREE: u64 = 0x7ff0_0000_0000;
 
 // A class of a reference and a number, arrays of bytes, and a class without slots that has a finaliser.
-fn sample_types(alloc: Global) -> Result<Types, Fail> {
+pub fn sample_types(alloc: Global) -> Result<Types, Fail> {
     let mut types = Types::new(alloc)?;
     let _ = types.define(b"Pair", Shape::Class(b"rn"), false)?;
     let _ = types.define(b"Bytes", Shape::ByteArray, false)?;
@@ -85,7 +85,7 @@ fn put_pairs(rt: &impl Abort, heap: &mut Heap)
 }
 
 // A pair that names the bytes behind it, a free item, and an object without slots whose finaliser is suppressed.
-fn put_items(rt: &impl Abort, heap: &mut Heap)
+pub fn put_items(rt: &impl Abort, heap: &mut Heap)
     requires { heap.old.rests ≡ no_rests }
     ensures { heap.new.rests ≡ no_rests }
 {
@@ -126,9 +126,14 @@ fn verified(
         limit: LIMIT,
         large: 85_000,
     };
-    let answer = verifyheap(&view);
+    let state = State {
+        view,
+        steps: &[],
+        holder: None,
+    };
+    let answer = verifyheap(&state);
     let mut room = [7];
-    assert!(rt; verifyheap_with_room(&view, &mut room) == answer);
+    assert!(rt; verifyheap_with_room(&state, &mut room) == answer);
     Ok(answer)
 }
 

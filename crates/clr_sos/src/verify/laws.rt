@@ -4,7 +4,8 @@ ghost use Rattle.clr_types.specs.Types.{TypeRow};
 ghost use Rattle.clr_heap.specs.View.{HeapView};
 ghost use Rattle.clr_sos.specs.CleanStates.{CleanStateLaw, FaultlessLaw, ShownLaw};
 
-/// What a runtime shows between lines meets the condition of `verifyheap`, which answers Ok.
+/// What a runtime shows between lines, with what its threads have begun, meets the condition of `verifyheap`, which
+/// answers Ok.
 pub fn clean_states_are_lawful()
     ensures { CleanStateLaw }
 {}

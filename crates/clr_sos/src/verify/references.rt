@@ -1,17 +1,15 @@
-// The second pass: references and locals.
-ghost use Rattle.std.specs.Prelude.{◌≡◌, ℕ, ◌+◌, ◌*◌, ◌/◌, ◌%◌, ◌<◌, ◌≤◌, filter, length, not, if◌then◌else◌};
+// References and locals, judged in a window.
+ghost use Rattle.std.specs.Prelude.{◌≡◌, ◌<◌, length, not, if◌then◌else◌};
 ghost use Rattle.std.specs.List.{list_all};
 ghost use Rattle.clr_types.specs.ReferenceRuns.{SpellsReferences};
 ghost use Rattle.clr_types.specs.Rising.{IsIn};
 ghost use Rattle.clr_types.specs.Types.{form_at};
-ghost use Rattle.clr_heap.specs.Memories.{HasWord, memory_index};
-ghost use Rattle.clr_heap.specs.View.{AreWalkable, heap_items, IsHeap, listing, word_of};
-ghost use Rattle.clr_sos.specs.CheckedCells.{or_else};
-ghost use Rattle.clr_sos.specs.Faults.{addresses, item_addresses, locals_fault, lower, references_fault};
+ghost use Rattle.clr_heap.specs.View.{heap_items, listing};
+ghost use Rattle.clr_sos.specs.Faults.{addresses, item_addresses, lower};
 ghost use Rattle.clr_sos.specs.Windows.{CanJudge, is_bad_by, lowest_bad};
 
-use crate::verify::starts::{is_marked, mark_starts};
-use crate::verify::windows::{Window, is_judged, window_from};
+use crate::verify::starts::is_marked;
+use crate::verify::windows::{Window, is_judged};
 use clr_heap::{Heap, Item};
 use clr_types::{ReferenceRun, Types};
 
@@ -24,45 +22,9 @@ pub struct Judge<'a> {
     pub bits: &'a [u64],
 }
 
-// The first fault of the references, and else that of the locals. The bits are room to work in, one for each word of a
-// window.
-#[inline(always)]
-pub fn names_fault(heap: &Heap, types: &Types, locals: &[u64], bits: &mut [u64]) -> Option<u64>
-    requires heap { IsHeap heap.now }
-    requires walkable { AreWalkable types.now heap.now }
-    requires some { 0 < length bits.old }
-    ensures { result
-        ≡ or_else (references_fault types.now heap.now) (locals_fault types.now heap.now locals.now) }
-{
-    let mut low = None;
-    let mut good = true;
-    let mut from = 0;
-    let mut more = true;
-    while more {
-        let window = window_from(heap, from, bits.len());
-        mark_starts(heap, types, window, bits);
-        let judge = Judge {
-            heap,
-            types,
-            window,
-            bits,
-        };
-        low = judge_heap(&judge, low);
-        let fine = are_good(&judge, locals);
-        good = good && fine;
-        more = !window.last;
-        from = window.end;
-    }
-    match low {
-        Some(a) => Some(a),
-        None if good => None,
-        None => Some(0),
-    }
-}
-
 // The lowest of an address and of those of the bad references of the heap, in a window.
 #[inline(always)]
-fn judge_heap(judge: &Judge<'_>, low: Option<u64>) -> Option<u64>
+pub fn judge_heap(judge: &Judge<'_>, low: Option<u64>) -> Option<u64>
     requires { CanJudge judge.now }
     ensures { result ≡ lowest_bad judge.now low
         (addresses judge.now.types.now (heap_items judge.now.types.now judge.now.heap.now)) }
@@ -157,14 +119,14 @@ fn lower_if(counts: bool, low: Option<u64>, a: u64) -> Option<u64>
 
 // Whether a name is judged in a window, isn't null and has no bit.
 #[inline]
-fn is_bad(judge: &Judge<'_>, name: u64) -> bool
+pub fn is_bad(judge: &Judge<'_>, name: u64) -> bool
     ensures { result ≡ is_bad_by judge.now.window judge.now.bits.now name }
 {
     name != 0 && is_judged(judge.window, name) && !is_marked(judge.window, judge.bits, name)
 }
 
 // Whether no local is bad, of those that are judged in a window.
-fn are_good(judge: &Judge<'_>, locals: &[u64]) -> bool
+pub fn are_good(judge: &Judge<'_>, locals: &[u64]) -> bool
     ensures { result ≡ list_all (λ name. not (is_bad_by judge.now.window judge.now.bits.now name)) locals.now }
 {
     for name in locals {

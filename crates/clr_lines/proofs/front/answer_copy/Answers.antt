@@ -10,6 +10,6 @@ returns-clause-done c =
       instruction = copy_local c.args.t w.to w.from;
       front = w.ensures.line c.args.t c.ranges.t.fits;
       outcome = _;
-      follows = c.copy.ensures;
+      follows = c.copy.ensures.follows;
       told = c.tell_place-written.ensures.text;
     }

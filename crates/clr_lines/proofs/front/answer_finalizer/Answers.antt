@@ -10,6 +10,6 @@ returns-clause-done c =
       instruction = take_ready c.args.t w.to;
       front = w.ensures.line c.args.t c.ranges.t.fits;
       outcome = _;
-      follows = c.finalizer.ensures;
+      follows = c.finalizer.ensures.follows;
       told = c.tell_place-written.ensures.text;
     }

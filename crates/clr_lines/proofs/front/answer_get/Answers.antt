@@ -10,6 +10,6 @@ returns-clause-done c =
       instruction = get_slot c.args.t w.to w.from w.index;
       front = w.ensures.line c.args.t c.ranges.t.fits;
       outcome = _;
-      follows = c.get.ensures;
+      follows = c.get.ensures.follows;
       told = c.tell_place-written.ensures.text;
     }

@@ -10,6 +10,6 @@ returns-clause-done c =
       instruction = create_handle c.args.t w.kind w.local w.second;
       front = w.ensures.line c.args.t c.ranges.t.fits;
       outcome = _;
-      follows = c.handle.ensures;
+      follows = c.handle.ensures.follows;
       told = c.tell_handle-written.ensures.text;
     }

@@ -10,6 +10,6 @@ returns-clause-done c =
       instruction = clear_local c.args.t w.local;
       front = w.ensures.line c.args.t c.ranges.t.fits;
       outcome = _;
-      follows = c.clear.ensures;
+      follows = c.clear.ensures.follows;
       told = c.tell_done-written.ensures.text;
     }

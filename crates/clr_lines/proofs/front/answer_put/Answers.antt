@@ -10,6 +10,6 @@ returns-clause-done c =
       instruction = put_number c.args.t w.object w.index w.value;
       front = w.ensures.line c.args.t c.ranges.t.fits;
       outcome = _;
-      follows = c.put.ensures;
+      follows = c.put.ensures.follows;
       told = c.tell_done-written.ensures.text;
     }

@@ -10,6 +10,6 @@ returns-clause-done c =
       instruction = set_slot c.args.t w.object w.index w.from;
       front = w.ensures.line c.args.t c.ranges.t.fits;
       outcome = _;
-      follows = c.set.ensures;
+      follows = c.set.ensures.follows;
       told = c.tell_done-written.ensures.text;
     }

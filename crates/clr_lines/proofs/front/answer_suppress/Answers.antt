@@ -10,6 +10,6 @@ returns-clause-done c =
       instruction = suppress_object c.args.t w.local;
       front = w.ensures.line c.args.t c.ranges.t.fits;
       outcome = _;
-      follows = c.suppress.ensures;
+      follows = c.suppress.ensures.follows;
       told = c.tell_done-written.ensures.text;
     }

@@ -5,8 +5,8 @@ use Rattle.clr_lines.proofs.looks.verify.Goals as goal
 pub verifyheap_at_once-requires : goal.verifyheap_at_once-requires
 verifyheap_at_once-requires c = record {
   holes =
-      (c.clean_states_are_lawful.ensures c.view_of-view.result c.args.runtime.now.machine
-      c.view_of-view.ensures.lawful.heap c.view_of-view.ensures.clean).0;
+      (c.clean_states_are_lawful.ensures c.state_of-state.result c.args.runtime.now.machine
+      c.state_of-state.ensures.heap c.state_of-state.ensures.clean c.state_of-state.ensures.steps).0;
 }
 
 pub returns-clause-follows : goal.returns-clause-follows

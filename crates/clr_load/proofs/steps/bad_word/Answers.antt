@@ -1,7 +1,7 @@
 -- By what is begun.
 use Rattle.std.proofs.Common.{◌+◌, map, sym, ◌∙◌, ap}
 use Rattle.clr_format.specs.NameTests.{first_failed, step_tests, test_from}
-use Rattle.clr_format.specs.declared.step.Step.{Step}
+use Rattle.clr_sos.specs.declared.step.Step.{Step}
 use Rattle.clr_load.specs.SeenItems.{items_seen}
 use Rattle.clr_load.specs.StepTests.{fronts_among}
 use Rattle.clr_load.proofs.NameSteps.{failed_one, none_failed, passed_one}

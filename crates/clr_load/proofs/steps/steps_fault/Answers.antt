@@ -3,12 +3,12 @@ use Rattle.std.proofs.Common.{ℕ, ◌+◌, ◌*◌, ◌<◌, ◌≤◌, List, [
 use Rattle.std.proofs.Common.{sym, ◌∙◌, ap, arith}
 use Rattle.clr_heap.proofs.Framing.{all_at}
 use Rattle.clr_format.specs.NameTests.{first_failed, step_tests, test_from, with_earlier}
-use Rattle.clr_format.specs.declared.step.Step.{Step}
-use Rattle.clr_format.specs.declared.step.Step.TheVariants.{Idle}
+use Rattle.clr_sos.specs.declared.step.Step.{Step}
+use Rattle.clr_sos.specs.declared.step.Step.TheVariants.{Idle}
 use Rattle.clr_load.specs.SeenItems.{items_seen}
 use Rattle.clr_load.specs.StepTests.{IsKnownStep}
 use Rattle.clr_load.proofs.NameSteps.{all_pass, here_fails, here_passes, same_start}
-use Rattle.clr_load.proofs.StepWords.{as_many, thread_at}
+use Rattle.clr_sos.proofs.EarlierSteps.{as_many, thread_at}
 use Rattle.clr_load.proofs.steps.steps_fault.Goals as goal
 
 nobody : List ℕ × Step

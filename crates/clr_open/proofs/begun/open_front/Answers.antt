@@ -1,7 +1,7 @@
 -- One context is opened.
 use Rattle.std.proofs.Common.{subst, sym}
 use Rattle.clr_ctx.specs.Contexts.{IsRelaid}
-use Rattle.clr_format.specs.declared.step.Step.{Step}
+use Rattle.clr_sos.specs.declared.step.Step.{Step}
 use Rattle.clr_view.specs.View.{layout_in}
 use Rattle.clr_open.specs.Begun.{HasFront, layout_with}
 use Rattle.clr_open.proofs.BegunHeaps.{front-opened}

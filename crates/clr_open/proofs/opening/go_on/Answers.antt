@@ -14,6 +14,6 @@ over-requires c =
 pub returns-clause-opened : goal.returns-clause-opened
 returns-clause-opened c = λ bytes p read fit.
     let stands = c.in-Ok.ensures bytes p (budgets_of c.args.budgets) read fit c.requires.lawful in
-    c.in-Ok-over.ensures
+    c.in-Ok-over.ensures.opens
     ∙ ap (λ (o : Options). standing_machine c.in-Ok.standing o) (c.options_of-options.ensures p read.shows)
     ∙ stands.machine

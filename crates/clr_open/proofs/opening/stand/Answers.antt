@@ -2,7 +2,7 @@
 use Rattle.std.proofs.Common.{◌≤◌, ℕ, List, length, map, refl, ap, sym, ◌∙◌, subst}
 use Rattle.std.specs.List.{AllByRecursion}
 use Rattle.clr_ctx.specs.Contexts.{IsRelaid}
-use Rattle.clr_format.specs.declared.step.Step.{Step}
+use Rattle.clr_sos.specs.declared.step.Step.{Step}
 use Rattle.clr_load.specs.StepTests.{IsKnownStep}
 use Rattle.clr_opened.specs.Opened.{opened_layout}
 use Rattle.clr_safe.specs.Threads.{Threads}

@@ -41,7 +41,7 @@ use Rattle.clr_model.proofs.SeenStands.{sound_stands}
 use Rattle.clr_collect.specs.Collecting.{CountsSlides}
 use Rattle.clr_collect.proofs.CountedSlides.{counted_slides}
 use Rattle.clr_runtime.specs.RuntimeView.{ahead_after, collected_sums, IsShown}
-use Rattle.clr_runtime.specs.Slides.{CountsCollection}
+use Rattle.clr_runtime.specs.Slides.{CountsCollection, CountsMoves}
 use Rattle.clr_runtime.proofs.MarkingSeen.{collection_leaves, marking_seen}
 use Rattle.std.specs.Prelude.{slice_get}
 use Rattle.clr_types.specs.Rising.{IsIn, first, later}
@@ -217,15 +217,20 @@ abbrev pub Told : World → Sums → Options → Threads → Ahead → ℕ → H
 Told w sums options threads ahead g how new answer =
     (after : Machine) × Collects (shown w sums options threads ahead) g how answer after × IsWorldOf new (picture after)
 
+-- what a collection tells of all machines that have a world
+abbrev TellsAll : World → Options → Ahead → ℕ → How → World → Collected → ℕ → ℕ → Type 0
+TellsAll w options ahead g how new answer before after =
+    (m : Machine) → IsWorldOf w m → IsPlaceNamed m → lowest_in_step m ≡ None
+    → m.compacts_large ≡ ahead.compacts_large → m.options.compact ≡ options.compact → (left : Machine)
+    × (c : Collects m g how answer left) × IsWorldOf new (picture left)
+    × CountsSlides how (begun m).layout c.collects.survive c.collects.moves answer before after
+
 -- it is what a collection tells of all machines that have this world
 pub told_of : (w : World) (sums : Sums) (options : Options) (threads : Threads) (ahead : Ahead)
     → IsShown w sums options threads ahead
     → lowest_step_from 1 (steps_of threads) ≡ None → (g : ℕ) (how : How) (new : World) (answer : Collected)
     (before after : ℕ)
-    → ((m : Machine) → IsWorldOf w m → IsPlaceNamed m → lowest_in_step m ≡ None
-    → m.compacts_large ≡ ahead.compacts_large → m.options.compact ≡ options.compact → (left : Machine)
-    × (c : Collects m g how answer left)
-    × IsWorldOf new (picture left) × CountsSlides how (begun m).layout c.collects.survive c.collects.moves answer before after)
+    → TellsAll w options ahead g how new answer before after
     → Told w sums options threads ahead g how new answer
 told_of w sums options threads ahead is idle g how new answer before after collected =
     let (left, collects, world, counts) =
@@ -237,10 +242,7 @@ pub counts_of : (w : World) (sums : Sums) (options : Options) (threads : Threads
     → IsShown w sums options threads ahead
     → lowest_step_from 1 (steps_of threads) ≡ None → (g : ℕ) (how : How) (new : World) (answer : Collected)
     (before after : ℕ)
-    → ((m : Machine) → IsWorldOf w m → IsPlaceNamed m → lowest_in_step m ≡ None
-    → m.compacts_large ≡ ahead.compacts_large → m.options.compact ≡ options.compact → (left : Machine)
-    × (c : Collects m g how answer left)
-    × IsWorldOf new (picture left) × CountsSlides how (begun m).layout c.collects.survive c.collects.moves answer before after)
+    → TellsAll w options ahead g how new answer before after
     → CountsCollection answer.compacted before after
 counts_of w sums options threads ahead is idle g how new answer before after collected =
     let (left, collects, world, counts) =
@@ -261,6 +263,33 @@ marking_left v full = go full v.running
     go false true = refl
     go false false = refl
 
+-- what is seen after a collection of what is seen is the picture of what it leaves
+left_seen : {w : World} {sums : Sums} {options : Options} {threads : Threads} {ahead : Ahead}
+    → IsShown w sums options threads ahead → lowest_step_from 1 (steps_of threads) ≡ None → (g : ℕ) → g ≤ 2
+    → (how : How) → IsUsual g how → (new : World) (answer : Collected) (after : Machine)
+    → Collects (shown w sums options threads ahead) g how answer after → IsWorldOf new (picture after)
+    → shown new (collected_sums sums g answer.promoted1 answer.promoted2) options threads (ahead_after ahead g)
+    ≡ picture after
+left_seen {w} {sums} {options} {threads} {ahead} is idle g least how usual new answer after collects world =
+    (λ k. record (shown new (collected_sums sums g answer.promoted1 answer.promoted2) options threads
+    (ahead_after ahead g)) { background = marking_left ahead.background (g == 2) k })
+    ∙ sym (collected_picture (shown w sums options threads ahead) is.sound g least how usual answer after idle
+    collects new world)
+
+-- each byte that a compaction moved is counted
+pub moves_of : (w : World) (sums : Sums) (options : Options) (threads : Threads) (ahead : Ahead)
+    → IsShown w sums options threads ahead
+    → lowest_step_from 1 (steps_of threads) ≡ None → (g : ℕ) → g ≤ 2 → (how : How) → IsUsual g how → (new : World)
+    (answer : Collected) (before after : ℕ)
+    → TellsAll w options ahead g how new answer before after
+    → CountsMoves (shown w sums options threads ahead) g how answer
+    (shown new (collected_sums sums g answer.promoted1 answer.promoted2) options threads (ahead_after ahead g))
+    before after
+moves_of w sums options threads ahead is idle g least how usual new answer before after collected =
+    let (left, collects, world, counts) =
+    collected (shown w sums options threads ahead) (world-seen threads ahead) is.sound idle refl refl in
+    (left, collects, left_seen is idle g least how usual new answer left collects world, counts)
+
 module _ {w : World} {sums : Sums} {options : Options} {threads : Threads} {ahead : Ahead}
     (is : IsShown w sums options threads ahead)
     (idle : lowest_step_from 1 (steps_of threads) ≡ None) (g : ℕ) (least : g ≤ 2) (how : How)
@@ -278,13 +307,8 @@ module _ {w : World} {sums : Sums} {options : Options} {threads : Threads} {ahea
       × (shown new (collected_sums sums g answer.promoted1 answer.promoted2) options threads (ahead_after ahead g)
       ≡ picture after)
   has_collected =
-      let (after, collects, world) = told in (
-        after,
-        collects,
-        (λ k. record (shown new (collected_sums sums g answer.promoted1 answer.promoted2) options threads
-            (ahead_after ahead g)) { background = marking_left ahead.background (g == 2) k })
-            ∙ sym (collected_picture s is.sound g least how usual answer after idle collects new world),
-      )
+      let (after, collects, world) = told in
+      (after, collects, left_seen is idle g least how usual new answer after collects world)
 
   -- it is sound
   sound-after : IsPlaceNamed (shown new after_sums options threads (ahead_after ahead g))

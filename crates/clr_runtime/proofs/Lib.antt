@@ -56,3 +56,4 @@ pub mod FinishedBirths
 pub mod QuietThreads
 pub mod Counted
 pub mod SpareKept
+pub mod CountsKept

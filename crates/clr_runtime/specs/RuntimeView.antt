@@ -69,13 +69,15 @@ ahead_after ahead g = record {
 abbrev pub seen : Parts → Machine
 seen r = shown (world_of r) (sums_of r.sums) (options_of r.options) r.safe (ahead_of r)
 
--- a runtime: the machine that it shows, and how much its compactions have moved, counted with the compactions
+-- a runtime: the machine that it shows, how much its compactions have moved, counted with the compactions, and for how
+-- many objects its mark stack has room
 pub record RuntimeView : Type 0 where
   pub machine : Machine
   pub slides : ℕ
+  pub stack : ℕ
 
 abbrev pub viewed : Parts → RuntimeView
-viewed r = record { machine = seen r; slides = r.workshop.slides }
+viewed r = record { machine = seen r; slides = r.workshop.slides; stack = r.workshop.marker.capacity }
 
 -- its machine stands for another one
 abbrev pub StandsFor : RuntimeView → Machine → Type 0

@@ -28,7 +28,8 @@ impl Runtime {
     /// `Wait` for the lowest other thread in mid-step, and with `NoMemory` where there is no memory for its bits, in
     /// this order. No other line of a background collection takes memory.
     pub fn begin_background(&mut self, t: u64) -> Result<(), Refusal>
-        ensures { Follows self.old.machine (begin_background t) (done_outcome result) self.new.machine }
+        ensures follows { Follows self.old.machine (begin_background t) (done_outcome result) self.new.machine }
+        ensures others { self.new ≡ record self.old { machine = self.new.machine } }
     {
         if let Some(refusal) = self.refused_thread(t) {
             return Err(refusal);
@@ -45,13 +46,14 @@ impl Runtime {
         Ok(())
     }
 
-    /// Scans gray objects, `n` at most, one after another, and all of them unless so many were: each becomes black, and
-    /// each white object that its slots name becomes gray. Gives how many were scanned, and how many are gray then.
-    /// No thread is asked, and none waited for.
+    /// Scans gray objects, `n` at most, one after another, and all of them unless so many were: the one with the lowest
+    /// address then becomes black, and each white object that its slots name becomes gray. Gives how many were scanned,
+    /// and how many are gray then. No thread is asked, and none waited for.
     ///
     /// It is refused with `NoBackground` where no background collection runs.
     pub fn step_background(&mut self, n: u64) -> Result<Progress, Refusal>
-        ensures { Follows self.old.machine (step_background n) (scanned_outcome result) self.new.machine }
+        ensures follows { Follows self.old.machine (step_background n) (scanned_outcome result) self.new.machine }
+        ensures others { self.new ≡ record self.old { machine = self.new.machine } }
     {
         if !self.parts.background.running() {
             return Err(Refusal::NoBackground);
@@ -67,7 +69,8 @@ impl Runtime {
     /// `Wait` for the lowest other thread in mid-step, in this order. It takes no memory, and whether the next full
     /// collection slides the large heap stays as it is.
     pub fn end_background(&mut self, t: u64) -> Result<Collected, Refusal>
-        ensures { Follows self.old.machine (end_background t) (collected_outcome result) self.new.machine }
+        ensures follows { Follows self.old.machine (end_background t) (collected_outcome result) self.new.machine }
+        ensures others { self.new ≡ record self.old { machine = self.new.machine } }
     {
         if let Some(refusal) = self.refused_thread(t) {
             return Err(refusal);
@@ -91,6 +94,7 @@ fn begin_marking(parts: &mut Parts) -> Result<(), NoMemory>
         × (seen parts.new ≡ record (seen parts.old) { background = Some marking })) }
     ensures err { OnErr result (seen parts.new ≡ seen parts.old) }
     ensures runtime { IsRuntime parts.new }
+    ensures workshop { parts.new.workshop ≡ parts.old.workshop }
 {
     parts.background.begin(
         &parts.space.heap,
@@ -109,6 +113,7 @@ fn scan_gray(parts: &mut Parts, n: u64) -> Progress
         × ScansUpTo (seen parts.old) n old result.scanned new × (result.gray ≡ length new.gray)
         × (seen parts.new ≡ record (seen parts.old) { background = Some new }) }
     ensures runtime { IsRuntime parts.new }
+    ensures workshop { parts.new.workshop ≡ parts.old.workshop }
 {
     parts.background.step(&parts.space.heap, &parts.types, n)
 }
@@ -121,6 +126,8 @@ fn end_marking(parts: &mut Parts) -> Collected
     ensures ended { (marking : Marking) × ((seen parts.old).background ≡ Some marking)
         × (after : Machine) × EndsBackground (seen parts.old) marking result after × (seen parts.new ≡ picture after) }
     ensures runtime { IsRuntime parts.new }
+    ensures slides { parts.new.workshop.slides ≡ parts.old.workshop.slides }
+    ensures stack { parts.new.workshop.marker.capacity ≡ parts.old.workshop.marker.capacity }
 {
     let collected = end_background(
         &parts.types,

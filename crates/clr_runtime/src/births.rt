@@ -77,6 +77,7 @@ impl Runtime {
         ensures follows { Follows self.old.machine (new_object t local name.now len)
             (place_outcome result) self.new.machine }
         ensures grew { result ≡ Err Refusal.Oom → Grew self.old.slides self.new.slides }
+        ensures stack { self.new.stack ≡ self.old.stack }
     {
         self.new_known(t, local, name, None, len)
     }
@@ -95,6 +96,7 @@ impl Runtime {
         ensures follows { Follows self.old.machine (new_object t local name.now len)
             (place_outcome result) self.new.machine }
         ensures grew { result ≡ Err Refusal.Oom → Grew self.old.slides self.new.slides }
+        ensures stack { self.new.stack ≡ self.old.stack }
     {
         if let Some(refusal) = self.refused_thread(t) {
             return Err(refusal);
@@ -136,6 +138,7 @@ fn make_small(parts: &mut Parts, t: u64, local: u64, request: Request) -> Result
     requires small { request.size < parts.old.options.large }
     ensures made { FollowsAsked parts.old parts.new t local request result }
     ensures grew { result ≡ Err Refusal.Oom → Grew parts.old.workshop.slides parts.new.workshop.slides }
+    ensures stack { parts.new.workshop.marker.capacity ≡ parts.old.workshop.marker.capacity }
     ensures runtime { IsRuntime parts.new }
 {
     let thread = t as usize;
@@ -168,6 +171,7 @@ fn make_large(parts: &mut Parts, t: u64, local: u64, request: Request) -> Result
     requires large { parts.old.options.large ≤ request.size }
     ensures made { FollowsAsked parts.old parts.new t local request result }
     ensures grew { result ≡ Err Refusal.Oom → Grew parts.old.workshop.slides parts.new.workshop.slides }
+    ensures stack { parts.new.workshop.marker.capacity ≡ parts.old.workshop.marker.capacity }
     ensures runtime { IsRuntime parts.new }
 {
     if let Err(why) = make_large_room(parts, request.size) {

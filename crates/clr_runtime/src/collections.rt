@@ -1,5 +1,6 @@
 //! The line that collects, and the collections that it and allocations make.
-ghost use Rattle.std.specs.Prelude.{◌≡◌, ◌+◌, ◌≤◌, ◌==◌, IfOk, if◌then◌else◌, length, MatchBool, None, Some, [], false};
+ghost use Rattle.std.specs.Prelude.{◌≡◌, ◌+◌, ◌≤◌, ◌==◌, IfErr, IfOk, if◌then◌else◌, length, MatchBool};
+ghost use Rattle.std.specs.Prelude.{None, Some, [], false};
 ghost use Rattle.clr_heap.specs.View.{no_rests};
 ghost use Rattle.clr_model.specs.Collection.{Collects};
 ghost use Rattle.clr_model.specs.Laws.{IsUsual};
@@ -8,7 +9,7 @@ ghost use Rattle.clr_model.specs.Machine.{Machine};
 ghost use Rattle.clr_model.specs.Picture.{picture};
 ghost use Rattle.clr_runtime.specs.RuntimeView.{IsRuntime, seen};
 ghost use Rattle.clr_runtime.specs.Shown.{none_running};
-ghost use Rattle.clr_runtime.specs.Slides.{CountsCollection};
+ghost use Rattle.clr_runtime.specs.Slides.{CountsCollection, CountsMoves};
 
 use crate::parts::Parts;
 use crate::runtime::Runtime;
@@ -36,12 +37,17 @@ impl Runtime {
     ///
     /// It is refused for an unknown thread, with `Blocked` where another thread holds all others and this one isn't in
     /// mid-step, with `MidStep` where the thread is in mid-step itself, and with `Wait` for the lowest other thread in
-    /// mid-step, in this order. It takes no memory. `slides` counts a compaction, also that behind a fit, and no sweep.
+    /// mid-step, in this order; nothing has changed then. It takes no memory. `slides` counts a compaction, also that
+    /// behind a fit, and each byte that it moves, and no sweep.
     pub fn collect(&mut self, t: u64, g: u8, how: How) -> Result<Collected, Refusal>
         requires generation { g ≤ 2 }
         requires usual { IsUsual g how }
         ensures follows { Follows self.old.machine (collect_heap t g how) (collected_outcome result) self.new.machine }
         ensures counted { IfOk result (λ c. CountsCollection c.compacted self.old.slides self.new.slides) }
+        ensures moved { IfOk result (λ c. CountsMoves self.old.machine g how c self.new.machine
+            self.old.slides self.new.slides) }
+        ensures refused { IfErr result (λ _. self.new ≡ self.old) }
+        ensures stack { self.new.stack ≡ self.old.stack }
     {
         if let Some(refusal) = self.refused_thread(t) {
             return Err(refusal);
@@ -76,6 +82,8 @@ pub(crate) fn collect_parts(parts: &mut Parts, g: u8, how: How) -> Collected
     ensures no_contexts { parts.new.space.heap.rests ≡ no_rests }
     ensures runtime { IsRuntime parts.new }
     ensures slides { CountsCollection result.compacted parts.old.workshop.slides parts.new.workshop.slides }
+    ensures moved { CountsMoves (seen parts.old) g how result (seen parts.new) parts.old.workshop.slides
+        parts.new.workshop.slides }
     ensures spare { parts.old.roots.finals.spare ≤ parts.new.roots.finals.spare }
     ensures options { parts.new.options ≡ parts.old.options }
     ensures none_added { parts.new.roots.finals.spare + length parts.new.roots.finals.entries

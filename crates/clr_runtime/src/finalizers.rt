@@ -1,4 +1,6 @@
 //! The lines on finalisers: suppressed, asked for again, and waiting objects taken.
+ghost use Rattle.std.specs.Prelude.{◌≡◌};
+
 use crate::checks::index_of;
 use crate::runtime::Runtime;
 use clr_model::Refusal;
@@ -15,7 +17,8 @@ impl Runtime {
     ///
     /// It is refused for a thread that may not go on, a local from 64 on, and a null local, in this order.
     pub fn suppress(&mut self, t: u64, local: u64) -> Result<(), Refusal>
-        ensures { Follows self.old.machine (suppress_object t local) (done_outcome result) self.new.machine }
+        ensures follows { Follows self.old.machine (suppress_object t local) (done_outcome result) self.new.machine }
+        ensures others { self.new ≡ record self.old { machine = self.new.machine } }
     {
         if let Some(refusal) = self.refused_names(t, local, local) {
             return Err(refusal);
@@ -36,7 +39,8 @@ impl Runtime {
     ///
     /// It is refused as `suppress` is; then with `NoMemory` where it would get an entry, and there is no memory for it.
     pub fn reregister(&mut self, t: u64, local: u64) -> Result<(), Refusal>
-        ensures { Follows self.old.machine (reregister_object t local) (done_outcome result) self.new.machine }
+        ensures follows { Follows self.old.machine (reregister_object t local) (done_outcome result) self.new.machine }
+        ensures others { self.new ≡ record self.old { machine = self.new.machine } }
     {
         if let Some(refusal) = self.refused_names(t, local, local) {
             return Err(refusal);
@@ -65,7 +69,8 @@ impl Runtime {
     ///
     /// It is refused for a thread that may not go on, a local from 64 on, and an empty queue, in this order.
     pub fn finalizer(&mut self, t: u64, to: u64) -> Result<u64, Refusal>
-        ensures { Follows self.old.machine (take_ready t to) (place_outcome result) self.new.machine }
+        ensures follows { Follows self.old.machine (take_ready t to) (place_outcome result) self.new.machine }
+        ensures others { self.new ≡ record self.old { machine = self.new.machine } }
     {
         if let Some(refusal) = self.refused_names(t, to, to) {
             return Err(refusal);

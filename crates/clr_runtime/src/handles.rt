@@ -36,8 +36,9 @@ impl Runtime {
         second: Option<u64>,
     ) -> Result<u64, Refusal>
         requires form { IsHandleForm kind second }
-        ensures { Follows self.old.machine (create_handle t kind local second)
+        ensures follows { Follows self.old.machine (create_handle t kind local second)
             (handle_outcome result) self.new.machine }
+        ensures others { self.new ≡ record self.old { machine = self.new.machine } }
     {
         if let Some(refusal) = self.refused_names(t, local, second.unwrap_or(local)) {
             return Err(refusal);
@@ -65,7 +66,8 @@ impl Runtime {
     /// It is refused for a thread that may not go on, a local from 64 on, and a number that isn't in use, in this
     /// order.
     pub fn fetch(&mut self, t: u64, to: u64, h: u64) -> Result<u64, Refusal>
-        ensures { Follows self.old.machine (fetch_target t to h) (place_outcome result) self.new.machine }
+        ensures follows { Follows self.old.machine (fetch_target t to h) (place_outcome result) self.new.machine }
+        ensures others { self.new ≡ record self.old { machine = self.new.machine } }
     {
         if let Some(refusal) = self.refused_names(t, to, to) {
             return Err(refusal);
@@ -82,7 +84,8 @@ impl Runtime {
     ///
     /// It is refused as `fetch` is, and last for a handle of another kind.
     pub fn second(&mut self, t: u64, to: u64, h: u64) -> Result<u64, Refusal>
-        ensures { Follows self.old.machine (fetch_second t to h) (place_outcome result) self.new.machine }
+        ensures follows { Follows self.old.machine (fetch_second t to h) (place_outcome result) self.new.machine }
+        ensures others { self.new ≡ record self.old { machine = self.new.machine } }
     {
         if let Some(refusal) = self.refused_names(t, to, to) {
             return Err(refusal);
@@ -101,7 +104,8 @@ impl Runtime {
     ///
     /// It is refused for a thread that may not go on, and a number that isn't in use, in this order.
     pub fn free(&mut self, t: u64, h: u64) -> Result<(), Refusal>
-        ensures { Follows self.old.machine (free_handle t h) (done_outcome result) self.new.machine }
+        ensures follows { Follows self.old.machine (free_handle t h) (done_outcome result) self.new.machine }
+        ensures others { self.new ≡ record self.old { machine = self.new.machine } }
     {
         if let Some(refusal) = self.refused_thread(t) {
             return Err(refusal);

@@ -75,6 +75,7 @@ pub(crate) fn first_workshop(alloc: Global, capacity: usize) -> Result<Workshop,
     ensures saved { IfOk result (λ w. w.pins.entries ≡ []) }
     ensures spare { IfOk result (λ w. 4 ≤ w.pins.spare) }
     ensures slides { IfOk result (λ w. w.slides ≡ 0) }
+    ensures stack { IfOk result (λ w. w.marker.capacity ≡ capacity) }
     ensures compacts_large { IfOk result (λ w. w.compacts_large ≡ false) }
 {
     let marker = Marker::new(alloc, capacity)?;

@@ -30,6 +30,7 @@ pub(crate) fn make_pinned_room(parts: &mut Parts, size: u64) -> Result<(), NoRoo
     ensures err { OnErr result (FollowsPinnedFails (seen parts.old) size (attempt_of result) (seen parts.new)) }
     ensures grew { result ≡ Err (NoRoom.Acquire AcquireFault.OverLimit)
         → Grew parts.old.workshop.slides parts.new.workshop.slides }
+    ensures stack { parts.new.workshop.marker.capacity ≡ parts.old.workshop.marker.capacity }
     ensures runtime { IsRuntime parts.new }
     ensures types { parts.new.types ≡ parts.old.types }
     ensures safe { parts.new.safe ≡ parts.old.safe }
@@ -60,6 +61,7 @@ fn find_or_acquire(parts: &mut Parts, size: u64) -> Result<(), AcquireFault>
     ensures room { IsPinnedRoom (seen parts.old) (seen parts.new) size result }
     ensures runtime { IsRuntime parts.new }
     ensures slides { parts.new.workshop.slides ≡ parts.old.workshop.slides }
+    ensures stack { parts.new.workshop.marker.capacity ≡ parts.old.workshop.marker.capacity }
     ensures types { parts.new.types ≡ parts.old.types }
     ensures safe { parts.new.safe ≡ parts.old.safe }
 {
@@ -77,6 +79,7 @@ fn has_pinned_room(parts: &mut Parts, size: u64) -> bool
     ensures seen { seen parts.new ≡ seen parts.old }
     ensures runtime { IsRuntime parts.new }
     ensures slides { parts.new.workshop.slides ≡ parts.old.workshop.slides }
+    ensures stack { parts.new.workshop.marker.capacity ≡ parts.old.workshop.marker.capacity }
     ensures types { parts.new.types ≡ parts.old.types }
     ensures safe { parts.new.safe ≡ parts.old.safe }
 {

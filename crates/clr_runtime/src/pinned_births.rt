@@ -45,6 +45,7 @@ impl Runtime {
         ensures follows { Follows self.old.machine (new_pinned t local name.now len)
             (place_outcome result) self.new.machine }
         ensures grew { result ≡ Err Refusal.Oom → Grew self.old.slides self.new.slides }
+        ensures stack { self.new.stack ≡ self.old.stack }
     {
         if let Some(refusal) = self.refused_thread(t) {
             return Err(refusal);
@@ -93,6 +94,7 @@ fn make_pinned(parts: &mut Parts, t: u64, local: u64, request: Request) -> Resul
     requires asked { IsAskedPinned parts.old.types local request }
     ensures made { FollowsAskedPinned parts.old parts.new t local request result }
     ensures grew { result ≡ Err Refusal.Oom → Grew parts.old.workshop.slides parts.new.workshop.slides }
+    ensures stack { parts.new.workshop.marker.capacity ≡ parts.old.workshop.marker.capacity }
     ensures runtime { IsRuntime parts.new }
 {
     if let Err(why) = make_pinned_room(parts, request.size) {

@@ -47,6 +47,7 @@ pub(crate) fn make_room(parts: &mut Parts, thread: usize, size: u64) -> Result<(
     ensures fits { OnOk result (own_fits (seen parts.new).layout thread size ≡ true) }
     ensures grew { result ≡ Err (NoRoom.Acquire AcquireFault.OverLimit)
         → Grew parts.old.workshop.slides parts.new.workshop.slides }
+    ensures stack { parts.new.workshop.marker.capacity ≡ parts.old.workshop.marker.capacity }
     ensures runtime { IsRuntime parts.new }
     ensures spare { parts.old.roots.finals.spare ≤ parts.new.roots.finals.spare }
     ensures types { parts.new.types ≡ parts.old.types }
@@ -75,6 +76,7 @@ fn find_room(parts: &mut Parts, thread: usize, size: u64) -> Result<(), NoRoom>
     ensures fits { OnOk result (own_fits (seen parts.new).layout thread size ≡ true) }
     ensures grew { result ≡ Err (NoRoom.Acquire AcquireFault.OverLimit)
         → Grew parts.old.workshop.slides parts.new.workshop.slides }
+    ensures stack { parts.new.workshop.marker.capacity ≡ parts.old.workshop.marker.capacity }
     ensures runtime { IsRuntime parts.new }
     ensures spare { parts.old.roots.finals.spare ≤ parts.new.roots.finals.spare }
     ensures types { parts.new.types ≡ parts.old.types }
@@ -128,6 +130,7 @@ fn collect_for_room(parts: &mut Parts, g: u8, how: How) -> Collected
     ensures no_contexts { parts.new.space.heap.rests ≡ no_rests }
     ensures runtime { IsRuntime parts.new }
     ensures slides { CountsCollection result.compacted parts.old.workshop.slides parts.new.workshop.slides }
+    ensures stack { parts.new.workshop.marker.capacity ≡ parts.old.workshop.marker.capacity }
     ensures spare { parts.old.roots.finals.spare ≤ parts.new.roots.finals.spare }
     ensures options { parts.new.options ≡ parts.old.options }
     ensures types { parts.new.types ≡ parts.old.types }
@@ -177,6 +180,7 @@ fn refill_in_budget(parts: &mut Parts, thread: usize, size: u64) -> bool
     ensures refilled { IsRefillInBudget parts.old parts.new thread size result }
     ensures runtime { IsRuntime parts.new }
     ensures slides { parts.new.workshop.slides ≡ parts.old.workshop.slides }
+    ensures stack { parts.new.workshop.marker.capacity ≡ parts.old.workshop.marker.capacity }
     ensures finals { parts.new.roots.finals ≡ parts.old.roots.finals }
     ensures types { parts.new.types ≡ parts.old.types }
     ensures safe { parts.new.safe ≡ parts.old.safe }
@@ -200,6 +204,7 @@ fn refill(parts: &mut Parts, thread: usize, size: u64) -> bool
     ensures refilled { IsRefill parts.old parts.new thread size result }
     ensures runtime { IsRuntime parts.new }
     ensures slides { parts.new.workshop.slides ≡ parts.old.workshop.slides }
+    ensures stack { parts.new.workshop.marker.capacity ≡ parts.old.workshop.marker.capacity }
     ensures finals { parts.new.roots.finals ≡ parts.old.roots.finals }
     ensures types { parts.new.types ≡ parts.old.types }
     ensures safe { parts.new.safe ≡ parts.old.safe }
@@ -225,6 +230,7 @@ fn refill_by_sealing(parts: &mut Parts, thread: usize, size: u64) -> Result<(), 
     ensures refilled { IsSealedRefill (seen parts.old) (seen parts.new) thread size result }
     ensures runtime { IsRuntime parts.new }
     ensures slides { parts.new.workshop.slides ≡ parts.old.workshop.slides }
+    ensures stack { parts.new.workshop.marker.capacity ≡ parts.old.workshop.marker.capacity }
     ensures finals { parts.new.roots.finals ≡ parts.old.roots.finals }
     ensures types { parts.new.types ≡ parts.old.types }
     ensures safe { parts.new.safe ≡ parts.old.safe }

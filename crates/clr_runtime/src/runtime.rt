@@ -31,10 +31,11 @@ pub(crate) const LOCALS_OF_A_THREAD: u64 = 64;
 /// The types, the heap with its cards and bricks, the indexes of free items, the marker, the locals, the handles and
 /// the finalisation queue of a script that runs. Each call is one line.
 ///
-/// Contracts see the machine whose objects are named by their places, and the count of what compactions have moved.
-/// After each call the machine stands for the next state of each graph machine that it stood for before, and the answer
-/// is that step's reply. A refused call leaves the state as it was, but for one of `new_object`, `new_pinned` or
-/// `begin_new` that finds no room after it has collected.
+/// Contracts see the machine whose objects are named by their places, the count of what compactions have moved, and
+/// for how many objects the mark stack has room. After each call the machine stands for the next state of each graph
+/// machine that it stood for before, and the answer is that step's reply. A refused call leaves the state as it was,
+/// but for one of `new_object`, `new_pinned` or `begin_new` that finds no room after it has collected. Only such an
+/// allocation and `collect` change the count, and nothing changes the room of the mark stack.
 ///
 /// A thread may not go on where its number isn't one from 1 to 16, where another thread holds all others and it isn't
 /// in mid-step itself (`Blocked`), and where it is in mid-step itself (`MidStep`). Each line of a thread is refused for
@@ -89,7 +90,8 @@ impl Runtime {
     /// No types, no objects, no handles, and every local is null.
     pub fn new(alloc: Global, options: Options) -> Result<Runtime, NoMemory>
         requires { AreLawfulOptions (options_of options) }
-        ensures { IfOk result (λ runtime. StandsFor runtime (opening (options_of options))) }
+        ensures opens { IfOk result (λ runtime. StandsFor runtime (opening (options_of options))) }
+        ensures stack { IfOk result (λ runtime. runtime.stack ≡ 1024) }
     {
         Runtime::with_mark_stack(alloc, options, MARK_STACK)
     }
@@ -103,7 +105,8 @@ impl Runtime {
     ) -> Result<Runtime, NoMemory>
         requires lawful { AreLawfulOptions (options_of options) }
         requires some { 1 ≤ capacity }
-        ensures { IfOk result (λ runtime. StandsFor runtime (opening (options_of options))) }
+        ensures opens { IfOk result (λ runtime. StandsFor runtime (opening (options_of options))) }
+        ensures stack { IfOk result (λ runtime. runtime.stack ≡ capacity) }
     {
         let Ok(types) = Types::new(alloc) else {
             return Err(NoMemory);
@@ -148,8 +151,9 @@ impl Runtime {
     /// The refusals are those of `Types::define`, in their order.
     pub fn define(&mut self, name: &[u8], shape: Shape<'_>, finalizer: bool) -> Result<u64, Refusal>
         requires { is_name name.now ≡ true }
-        ensures { Follows self.old.machine (define_type name.now (form_of shape.entry) finalizer)
+        ensures follows { Follows self.old.machine (define_type name.now (form_of shape.entry) finalizer)
             (mt_outcome result) self.new.machine }
+        ensures others { self.new ≡ record self.old { machine = self.new.machine } }
     {
         match self.parts.types.define(name, shape, finalizer) {
             Ok(t) => Ok(self.parts.types.mt(t)),

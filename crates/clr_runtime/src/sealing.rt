@@ -21,6 +21,7 @@ pub(crate) fn seal_parts(parts: &mut Parts) -> Result<(), AcquireFault>
     ensures sealed { IsSealing (seen parts.old) (seen parts.new) result }
     ensures runtime { IsRuntime parts.new }
     ensures slides { parts.new.workshop.slides ≡ parts.old.workshop.slides }
+    ensures stack { parts.new.workshop.marker.capacity ≡ parts.old.workshop.marker.capacity }
     ensures finals { parts.new.roots.finals ≡ parts.old.roots.finals }
     ensures types { parts.new.types ≡ parts.old.types }
     ensures safe { parts.new.safe ≡ parts.old.safe }

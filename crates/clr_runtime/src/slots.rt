@@ -34,7 +34,8 @@ impl Runtime {
     /// object has, and a slot that holds a number, in this order.
     #[inline(always)]
     pub fn get(&mut self, t: u64, to: u64, from: u64, index: u64) -> Result<u64, Refusal>
-        ensures { Follows self.old.machine (get_slot t to from index) (place_outcome result) self.new.machine }
+        ensures follows { Follows self.old.machine (get_slot t to from index) (place_outcome result) self.new.machine }
+        ensures others { self.new ≡ record self.old { machine = self.new.machine } }
     {
         if let Some(refusal) = self.refused_names(t, to, from) {
             return Err(refusal);
@@ -65,7 +66,8 @@ impl Runtime {
     /// It is refused as `get` is.
     #[inline(always)]
     pub fn set(&mut self, t: u64, into: u64, index: u64, from: u64) -> Result<(), Refusal>
-        ensures { Follows self.old.machine (set_slot t into index from) (done_outcome result) self.new.machine }
+        ensures follows { Follows self.old.machine (set_slot t into index from) (done_outcome result) self.new.machine }
+        ensures others { self.new ≡ record self.old { machine = self.new.machine } }
     {
         if let Some(refusal) = self.refused_names(t, into, from) {
             return Err(refusal);
@@ -101,7 +103,9 @@ impl Runtime {
     /// It is refused as `get` is, but for a slot that holds a reference.
     #[inline(always)]
     pub fn put(&mut self, t: u64, into: u64, index: u64, value: u64) -> Result<(), Refusal>
-        ensures { Follows self.old.machine (put_number t into index value) (done_outcome result) self.new.machine }
+        ensures follows { Follows self.old.machine (put_number t into index value)
+            (done_outcome result) self.new.machine }
+        ensures others { self.new ≡ record self.old { machine = self.new.machine } }
     {
         if let Some(refusal) = self.refused_names(t, into, into) {
             return Err(refusal);
@@ -161,7 +165,8 @@ impl Runtime {
     /// It is refused for a thread that may not go on and a local from 64 on, in this order.
     #[inline(always)]
     pub fn copy(&mut self, t: u64, to: u64, from: u64) -> Result<u64, Refusal>
-        ensures { Follows self.old.machine (copy_local t to from) (place_outcome result) self.new.machine }
+        ensures follows { Follows self.old.machine (copy_local t to from) (place_outcome result) self.new.machine }
+        ensures others { self.new ≡ record self.old { machine = self.new.machine } }
     {
         if let Some(refusal) = self.refused_names(t, to, from) {
             return Err(refusal);
@@ -176,7 +181,8 @@ impl Runtime {
     /// It is refused as `copy` is.
     #[inline(always)]
     pub fn clear(&mut self, t: u64, local: u64) -> Result<(), Refusal>
-        ensures { Follows self.old.machine (clear_local t local) (done_outcome result) self.new.machine }
+        ensures follows { Follows self.old.machine (clear_local t local) (done_outcome result) self.new.machine }
+        ensures others { self.new ≡ record self.old { machine = self.new.machine } }
     {
         if let Some(refusal) = self.refused_names(t, local, local) {
             return Err(refusal);

@@ -46,7 +46,8 @@ impl Runtime {
     /// A runtime that goes on from what stands already. No sum counts anything, and no background collection runs.
     pub fn over(alloc: Global, standing: Standing, options: Options) -> Result<Runtime, NoMemory>
         requires { CanGoOn standing (options_of options) }
-        ensures { IfOk result (λ runtime. runtime.machine ≡ standing_machine standing (options_of options)) }
+        ensures opens { IfOk result (λ runtime. runtime.machine ≡ standing_machine standing (options_of options)) }
+        ensures stack { IfOk result (λ runtime. runtime.stack ≡ 1024) }
     {
         let Standing {
             types,
@@ -119,6 +120,7 @@ fn workshop_of(alloc: Global, handles: &Handles, compacts_large: bool) -> Result
     ensures saved { IfOk result (λ w. w.pins.entries ≡ []) }
     ensures spare { IfOk result (λ w. pinned_in handles.now + 4 ≤ w.pins.spare) }
     ensures slides { IfOk result (λ w. w.slides ≡ 0) }
+    ensures stack { IfOk result (λ w. w.marker.capacity ≡ 1024) }
     ensures compacts_large { IfOk result (λ w. w.compacts_large ≡ compacts_large) }
 {
     let mut workshop = first_workshop(alloc, MARK_STACK)?;

@@ -36,7 +36,9 @@ impl Runtime {
     ///
     /// It is refused as `set` is.
     pub fn begin_set(&mut self, t: u64, into: u64, index: u64, from: u64) -> Result<(), Refusal>
-        ensures { Follows self.old.machine (begin_set t into index from) (done_outcome result) self.new.machine }
+        ensures follows { Follows self.old.machine (begin_set t into index from)
+            (done_outcome result) self.new.machine }
+        ensures others { self.new ≡ record self.old { machine = self.new.machine } }
     {
         if let Some(refusal) = self.refused_names(t, into, from) {
             return Err(refusal);
@@ -86,6 +88,7 @@ impl Runtime {
         ensures follows { Follows self.old.machine (begin_new t local name.now len)
             (done_outcome result) self.new.machine }
         ensures grew { result ≡ Err Refusal.Oom → Grew self.old.slides self.new.slides }
+        ensures stack { self.new.stack ≡ self.old.stack }
     {
         if let Some(refusal) = self.refused_thread(t) {
             return Err(refusal);
@@ -112,7 +115,8 @@ impl Runtime {
     /// It is refused for an unknown thread, with `Blocked` where another thread holds all others and this one isn't in
     /// mid-step, and with `NotMidStep` where it isn't, in this order.
     pub fn step(&mut self, t: u64) -> Result<Option<u64>, Refusal>
-        ensures { Follows self.old.machine (finish_step t) (step_outcome result) self.new.machine }
+        ensures follows { Follows self.old.machine (finish_step t) (step_outcome result) self.new.machine }
+        ensures others { self.new ≡ record self.old { machine = self.new.machine } }
     {
         if !is_known(t) {
             return Err(Refusal::UnknownThread);
@@ -158,6 +162,7 @@ fn begin_small(parts: &mut Parts, t: u64, local: u64, request: Request) -> Resul
     requires small { request.size < parts.old.options.large }
     ensures begun { FollowsBegun parts.old parts.new t local request result }
     ensures grew { result ≡ Err Refusal.Oom → Grew parts.old.workshop.slides parts.new.workshop.slides }
+    ensures stack { parts.new.workshop.marker.capacity ≡ parts.old.workshop.marker.capacity }
     ensures runtime { IsRuntime parts.new }
 {
     if let Err(why) = make_room(parts, t as usize, request.size) {
@@ -183,6 +188,7 @@ fn finish_store(parts: &mut Parts, t: u64, object: u64, index: u64)
     requires begun { begun_by parts.old.safe t ≡ Store object index }
     ensures finished { Follows (seen parts.old) (finish_step t) (answered Done) (seen parts.new) }
     ensures runtime { IsRuntime parts.new }
+    ensures workshop { parts.new.workshop ≡ parts.old.workshop }
 {
     let item = object_item(&parts.space.heap, &parts.types, object);
     let slot = parts.types.slot(item.type_id, item.len, index);
@@ -206,6 +212,7 @@ fn finish_birth(
     requires begun { begun_by parts.old.safe t ≡ Birth type_id len local finalizer }
     ensures finished { Follows (seen parts.old) (finish_step t) (answered (Place result)) (seen parts.new) }
     ensures runtime { IsRuntime parts.new }
+    ensures workshop { parts.new.workshop ≡ parts.old.workshop }
 {
     let size = parts.types.item_size(type_id, len);
     let place = bear(

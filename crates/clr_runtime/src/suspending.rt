@@ -1,4 +1,6 @@
 //! The lines by which a thread holds all others, and lets them go.
+ghost use Rattle.std.specs.Prelude.{◌≡◌};
+
 use crate::runtime::Runtime;
 use clr_model::Refusal;
 
@@ -13,7 +15,8 @@ impl Runtime {
     /// It is refused for an unknown thread, with `Blocked` where another thread holds all others and this one isn't in
     /// mid-step, and with `MidStep` where the thread is in mid-step, in this order.
     pub fn suspend(&mut self, t: u64) -> Result<(), Refusal>
-        ensures { Follows self.old.machine (suspend_others t) (done_outcome result) self.new.machine }
+        ensures follows { Follows self.old.machine (suspend_others t) (done_outcome result) self.new.machine }
+        ensures others { self.new ≡ record self.old { machine = self.new.machine } }
     {
         if let Some(refusal) = self.refused_thread(t) {
             return Err(refusal);
@@ -26,7 +29,8 @@ impl Runtime {
     ///
     /// It is refused as `suspend` is.
     pub fn resume(&mut self, t: u64) -> Result<(), Refusal>
-        ensures { Follows self.old.machine (resume_others t) (done_outcome result) self.new.machine }
+        ensures follows { Follows self.old.machine (resume_others t) (done_outcome result) self.new.machine }
+        ensures others { self.new ≡ record self.old { machine = self.new.machine } }
     {
         if let Some(refusal) = self.refused_thread(t) {
             return Err(refusal);

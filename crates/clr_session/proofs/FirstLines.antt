@@ -170,13 +170,6 @@ goes_same one two new bytes before mid after r l p w goes first taken outcomes a
     let g = goes first taken outcomes (rw (r, l) at) in
     (g.0, g.1, rw (← w, ← p) g.2)
 
-pub stops_same : (one two : Session) (bytes : List ℕ) (before mid after : Option (List ℕ))
-    → two.runtime.machine ≡ one.runtime.machine
-    → two.line.items ≡ one.line.items → two.pending ≡ one.pending → mid ≡ before → Stops two bytes mid after
-    → Stops one bytes before after
-stops_same one two bytes before mid after r l p w stops first taken outcomes at =
-    rw (← w, ← p) (stops first taken outcomes (rw (r, l) at))
-
 goes_line_same : (one two new : Session) (text : List ℕ) (before mid after : Option (List ℕ))
     → two.runtime.machine ≡ one.runtime.machine → two.line.items ≡ one.line.items → two.pending ≡ one.pending
     → mid ≡ before

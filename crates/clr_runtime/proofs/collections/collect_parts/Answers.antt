@@ -5,7 +5,7 @@ use Rattle.clr_survivors.specs.Survivors as survivors
 use Rattle.clr_mark.specs.Waiting.{MarkerView}
 use Rattle.clr_runtime.specs.Options.{options_of}
 use Rattle.clr_runtime.specs.RuntimeView.{ahead_of, sums_of, world_of}
-use Rattle.clr_runtime.proofs.CollectLines.{collect_kept, counts_of, first_fits, has_collected}
+use Rattle.clr_runtime.proofs.CollectLines.{collect_kept, counts_of, first_fits, has_collected, moves_of}
 use Rattle.clr_runtime.proofs.CollectLines.{no_contexts-after}
 use Rattle.clr_runtime.proofs.StepsKept.{tables-carded}
 use Rattle.clr_runtime.proofs.CollectLines.{second_fits, Told, told_of, whole_world}
@@ -106,6 +106,18 @@ returns-clause-slides c =
     counts_of (world_of p) (sums_of p.sums) (options_of p.options) p.safe (ahead_of p) c.requires.runtime.shown
     c.requires.idle c.args.g c.args.how (left_world before) done.result p.workshop.slides done.new.workshop.slides
     done.ensures.collected
+
+pub returns-clause-moved : goal.returns-clause-moved
+returns-clause-moved c =
+    let before = (goal.at.returns-clause-moved c).After-collect-collected in
+    let p = c.args.parts.now in
+    let done = c.collect-collected in
+    rw c.collected-parts.ensures
+    (rw c.stop_after.ensures
+    (rw done.ensures.flag
+    (moves_of (world_of p) (sums_of p.sums) (options_of p.options) p.safe (ahead_of p) c.requires.runtime.shown
+    c.requires.idle c.args.g c.requires.generation c.args.how c.requires.usual (left_world before) done.result
+    p.workshop.slides done.new.workshop.slides done.ensures.collected)))
 
 pub returns-clause-stack : goal.returns-clause-stack
 returns-clause-stack c = ap (λ (m : MarkerView). m.capacity) c.collect-collected.ensures.marker

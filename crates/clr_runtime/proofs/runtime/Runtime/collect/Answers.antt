@@ -27,5 +27,8 @@ returns-clause-follows c =
     (collect_done s c.args.t c.args.g c.args.how (may_run s c.args.t passed) c.in_default-all_safe.ensures.safe
     c.requires.usual c.collect_parts.result (seen c.collect_parts.new.parts) c.collect_parts.ensures.collected)
 
+pub returns-clause-moved : goal.returns-clause-moved
+returns-clause-moved c = rw (← c.self.view_is) c.collect_parts.ensures.moved
+
 pub returns-clause-counted : goal.returns-clause-counted
 returns-clause-counted c = rw (← c.self.view_is) c.collect_parts.ensures.slides

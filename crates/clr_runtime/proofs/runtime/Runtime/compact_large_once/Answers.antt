@@ -6,8 +6,8 @@ use Rattle.clr_runtime.proofs.NamesChecked.{may_run, thread_refused}
 use Rattle.clr_runtime.proofs.SlideLines.{slide_asked, slide_kept}
 use Rattle.clr_runtime.proofs.runtime.Runtime.compact_large_once.Goals as goal
 
-pub returns-in-Some : goal.returns-in-Some
-returns-in-Some c =
+pub returns-in-Some-clause-follows : goal.returns-in-Some-clause-follows
+returns-in-Some-clause-follows c =
     thread_refused (compact_large_once c.args.t) c.args.t refl refl c.args.self.now.machine c.in-Some.refusal
     (sym c.refused_thread.ensures.value ∙ c.in-Some.is)
 
@@ -17,8 +17,8 @@ invariant_of-self c =
     let passed = rw (← c.self.view_is) at (sym c.refused_thread.ensures.value ∙ c.in_default.is) in
     slide_kept p c.args.t (may_run (seen p) c.args.t passed) c.self.invariant
 
-pub returns : goal.returns
-returns c =
+pub returns-clause-follows : goal.returns-clause-follows
+returns-clause-follows c =
     let p = c.self.inside.parts in
     let passed = rw (← c.self.view_is) at (sym c.refused_thread.ensures.value ∙ c.in_default.is) in
     rw (← c.self.view_is) (slide_asked (seen p) c.args.t (may_run (seen p) c.args.t passed))

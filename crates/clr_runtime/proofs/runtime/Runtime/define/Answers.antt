@@ -12,8 +12,8 @@ use Rattle.clr_runtime.proofs.TypeLines.{defined_kept, IsTold, told-err, told-ok
 use Rattle.clr_runtime.proofs.runtime.Runtime.define.Goals as goal
 use Rattle.clr_runtime.proofs.runtime.Runtime.define.Goals.{in-Ok, in-Err}
 
-pub returns : goal.returns
-returns c =
+pub returns-clause-follows : goal.returns-clause-follows
+returns-clause-follows c =
     let r = c.self.inside.parts in
     let form = form_of c.args.shape in
     let told : IsTold r.types c.args.name.now form c.args.finalizer c.define.result = record {

@@ -9,14 +9,14 @@ use Rattle.clr_runtime.proofs.NamesChecked.{names_refused, once}
 use Rattle.clr_runtime.proofs.RuntimeKept.{local_kept}
 use Rattle.clr_runtime.proofs.runtime.Runtime.fetch.Goals as goal
 
-pub returns-in-Some : goal.returns-in-Some
-returns-in-Some c =
+pub returns-in-Some-clause-follows : goal.returns-in-Some-clause-follows
+returns-in-Some-clause-follows c =
     let l = fetch_of c.args.t c.args.to c.args.h in
     names_refused l.instruction l.thread l.locals l.more l.line l.alike c.args.self.now.machine c.in-Some.refusal
     (once c.args.self.now.machine c.args.t c.args.to _ (sym c.refused_names.ensures.value ∙ c.in-Some.is))
 
-pub returns-in_default-get : goal.returns-in_default-get
-returns-in_default-get c =
+pub returns-in_default-get-clause-follows : goal.returns-in_default-get-clause-follows
+returns-in_default-get-clause-follows c =
     let passed = rw (← c.self.view_is) at (sym c.refused_names.ensures.value ∙ c.in_default.is) in
     rw (← c.self.view_is)
     (fetch_missing (world_of c.self.inside.parts) _ _ _
@@ -43,8 +43,8 @@ invariant_of-self c =
       ready = c.self.invariant.ready;
     }
 
-pub returns : goal.returns
-returns c =
+pub returns-clause-follows : goal.returns-clause-follows
+returns-clause-follows c =
     let passed = rw (← c.self.view_is) at (sym c.refused_names.ensures.value ∙ c.in_default.is) in
     rw (← c.self.view_is)
     (fetched (world_of c.self.inside.parts) _ _ _

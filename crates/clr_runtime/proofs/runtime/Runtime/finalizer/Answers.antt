@@ -15,15 +15,15 @@ use Rattle.clr_runtime.proofs.RuntimeKept.{names_kept, room_follows}
 use Rattle.clr_runtime.proofs.runtime.Runtime.finalizer.Goals as goal
 use Rattle.clr_runtime.proofs.runtime.Runtime.finalizer.Goals.{After-index_of}
 
-pub returns-in-Some : goal.returns-in-Some
-returns-in-Some c =
+pub returns-in-Some-clause-follows : goal.returns-in-Some-clause-follows
+returns-in-Some-clause-follows c =
     let l = take_of c.args.t c.args.to in
     names_refused l.instruction l.thread l.locals l.more l.line l.alike c.args.self.now.machine c.in-Some.refusal
     (once c.args.self.now.machine c.args.t c.args.to _ (sym c.refused_names.ensures.value ∙ c.in-Some.is))
 
 -- nothing waits
-pub returns-in_default-next : goal.returns-in_default-next
-returns-in_default-next c =
+pub returns-in_default-next-clause-follows : goal.returns-in_default-next-clause-follows
+returns-in_default-next-clause-follows c =
     let passed = rw (← c.self.view_is) at (sym c.refused_names.ensures.value ∙ c.in_default.is) in
     let finals = c.next.new.self in
     rw (← c.self.view_is)
@@ -73,5 +73,5 @@ invariant_of-self-2 c =
       ready = c.self.invariant.ready;
     }
 
-pub returns : goal.returns
-returns c = rw (← c.self.view_is) (done (goal.at.returns c).After-index_of)
+pub returns-clause-follows : goal.returns-clause-follows
+returns-clause-follows c = rw (← c.self.view_is) (done (goal.at.returns-clause-follows c).After-index_of)

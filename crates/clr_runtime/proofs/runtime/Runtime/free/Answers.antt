@@ -15,8 +15,8 @@ use Rattle.clr_runtime.proofs.RuntimeKept.{names_kept}
 use Rattle.clr_runtime.proofs.runtime.Runtime.free.Goals as goal
 use Rattle.clr_runtime.proofs.runtime.Runtime.free.Goals.{In_default-free, In-Ok}
 
-pub returns-in-Some : goal.returns-in-Some
-returns-in-Some c =
+pub returns-in-Some-clause-follows : goal.returns-in-Some-clause-follows
+returns-in-Some-clause-follows c =
     thread_refused (free_handle c.args.t c.args.h) c.args.t refl refl c.args.self.now.machine c.in-Some.refusal
     (sym c.refused_thread.ensures.value ∙ c.in-Some.is)
 
@@ -49,8 +49,8 @@ invariant_of-self c =
           c.self.invariant.ready;
     }
 
-pub returns-in_default-free : goal.returns-in_default-free
-returns-in_default-free c = rw (← c.self.view_is) (missing c)
+pub returns-in_default-free-clause-follows : goal.returns-in_default-free-clause-follows
+returns-in_default-free-clause-follows c = rw (← c.self.view_is) (missing c)
 
 -- the handle is freed
 done : (c : In-Ok) → Follows (seen c.self.inside.parts) (free_handle c.args.t c.args.h) (answered Done)
@@ -82,5 +82,5 @@ invariant_of-self-2 c =
           c.self.invariant.ready;
     }
 
-pub returns : goal.returns
-returns c = rw (← c.self.view_is) (done c)
+pub returns-clause-follows : goal.returns-clause-follows
+returns-clause-follows c = rw (← c.self.view_is) (done c)

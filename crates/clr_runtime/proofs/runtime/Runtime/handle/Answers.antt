@@ -19,8 +19,8 @@ use Rattle.clr_runtime.proofs.runtime.Runtime.handle.Goals as goal
 use Rattle.clr_runtime.proofs.runtime.Runtime.handle.Goals.{After-is_dependent, In_default, in-Err, in-Ok}
 use Rattle.clr_runtime.proofs.runtime.Runtime.handle.Goals.{Joined-create_with_room}
 
-pub returns-in-Some : goal.returns-in-Some
-returns-in-Some c =
+pub returns-in-Some-clause-follows : goal.returns-in-Some-clause-follows
+returns-in-Some-clause-follows c =
     let l = create_of c.args.t c.args.kind c.args.local c.args.second c.requires.form in
     let twice = ap (λ n. names_refusal c.args.self.now.machine c.args.t (c.args.local ∷ n ∷ [])) c.unwrap_or.ensures in
     names_refused l.instruction l.thread l.locals l.more l.line l.alike c.args.self.now.machine c.in-Some.refusal
@@ -41,9 +41,9 @@ target-is c =
     local-read c.self.invariant.shown c.args.t c.args.local c.index_of.result c.index-target.result.now
     c.index_of.ensures.within c.index_of.ensures.index c.index-target.ensures
 
-pub returns-then-target-eq0 : goal.returns-then-target-eq0
-returns-then-target-eq0 c =
-    let at = goal.at.returns-then-target-eq0 c in
+pub returns-then-target-eq0-clause-follows : goal.returns-then-target-eq0-clause-follows
+returns-then-target-eq0-clause-follows c =
+    let at = goal.at.returns-then-target-eq0-clause-follows c in
     rw (← c.self.view_is)
     (create_null (world_of c.self.inside.parts) _ _ _
     (ahead_of c.self.inside.parts) c.args.t c.args.kind c.args.local c.args.second c.requires.form
@@ -58,7 +58,7 @@ followed : (c : Joined-create_with_room) → Follows (seen c.self.inside.parts)
     (options_of c.self.inside.parts.options) c.self.inside.parts.safe (ahead_of c.self.inside.parts))
 followed c =
     let r = c.self.inside.parts in
-    let at = goal.at.returns c in
+    let at = goal.at.returns-clause-follows c in
     let some : is_dependent c.args.kind ≡ true → c.index-target.result.now ≢ 0 = λ dependent.
     elim c.else-is_dependent.either [
       | inl primary ↦ primary.1
@@ -113,5 +113,5 @@ invariant_of-self c =
       };
     }
 
-pub returns : goal.returns
-returns c = rw (← c.self.view_is) (followed c)
+pub returns-clause-follows : goal.returns-clause-follows
+returns-clause-follows c = rw (← c.self.view_is) (followed c)

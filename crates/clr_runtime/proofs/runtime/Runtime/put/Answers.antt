@@ -17,8 +17,8 @@ use Rattle.clr_runtime.proofs.StepsKept.{numbered_tables}
 use Rattle.clr_runtime.proofs.SlotLines.{refused_slot, was_put}
 use Rattle.clr_runtime.proofs.runtime.Runtime.put.Goals as goal
 
-pub returns-in-Some : goal.returns-in-Some
-returns-in-Some c =
+pub returns-in-Some-clause-follows : goal.returns-in-Some-clause-follows
+returns-in-Some-clause-follows c =
     let l = put_of c.args.t c.args.into c.args.index c.args.value c.ranges.value.fits in
     names_refused l.instruction l.thread l.locals _ l.line l.alike c.args.self.now.machine c.in-Some.refusal
     (once c.args.self.now.machine c.args.t c.args.into _ (sym c.refused_names.ensures.value ∙ c.in-Some.is))
@@ -29,8 +29,8 @@ find_slot-requires-clause-object c =
     (local-read c.self.invariant.shown c.args.t c.args.into c.index_of.result c.index-place.result.now
     c.index_of.ensures.within c.index_of.ensures.index c.index-place.ensures)
 
-pub returns-in-Err : goal.returns-in-Err
-returns-in-Err c =
+pub returns-in-Err-clause-follows : goal.returns-in-Err-clause-follows
+returns-in-Err-clause-follows c =
     let r = c.self.inside.parts in
     let passed = rw (← c.self.view_is) at (sym c.refused_names.ensures.value ∙ c.in_default.is) in
     rw (← c.self.view_is)
@@ -76,8 +76,8 @@ invariant_of-self c =
       ready = c.self.invariant.ready;
     }
 
-pub returns : goal.returns
-returns c =
+pub returns-clause-follows : goal.returns-clause-follows
+returns-clause-follows c =
     let r = c.self.inside.parts in
     let passed = rw (← c.self.view_is) at (sym c.refused_names.ensures.value ∙ c.in_default.is) in
     let (has, kind) = c.in-Ok.ensures in

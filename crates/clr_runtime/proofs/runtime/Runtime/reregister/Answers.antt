@@ -25,8 +25,8 @@ use Rattle.clr_runtime.proofs.StepsKept.{flagged_tables}
 use Rattle.clr_runtime.proofs.runtime.Runtime.reregister.Goals as goal
 use Rattle.clr_runtime.proofs.runtime.Runtime.reregister.Goals.{After-index-place, After-register, After-set_suppressed}
 
-pub returns-in-Some : goal.returns-in-Some
-returns-in-Some c =
+pub returns-in-Some-clause-follows : goal.returns-in-Some-clause-follows
+returns-in-Some-clause-follows c =
     let l = reregister_of c.args.t c.args.local in
     names_refused l.instruction l.thread l.locals l.more l.line l.alike c.args.self.now.machine c.in-Some.refusal
     (once c.args.self.now.machine c.args.t c.args.local _ (sym c.refused_names.ensures.value ∙ c.in-Some.is))
@@ -42,9 +42,9 @@ place-is c =
     local-read c.self.invariant.shown c.args.t c.args.local c.index_of.result c.index-place.result.now
     c.index_of.ensures.within c.index_of.ensures.index c.index-place.ensures
 
-pub returns-then-place-eq0 : goal.returns-then-place-eq0
-returns-then-place-eq0 c =
-    let at = (goal.at.returns-then-place-eq0 c).After-index-place in
+pub returns-then-place-eq0-clause-follows : goal.returns-then-place-eq0-clause-follows
+returns-then-place-eq0-clause-follows c =
+    let at = (goal.at.returns-then-place-eq0-clause-follows c).After-index-place in
     rw (← c.self.view_is)
     (reregister_null (world_of c.self.inside.parts) _ _ _ (ahead_of c.self.inside.parts) c.args.t c.args.local
     (passed at) c.index-place.result.now
@@ -57,9 +57,9 @@ is_final-requires-clause-stands c =
     c.if-place-eq0.false
 
 -- no finaliser
-pub returns-then-not-is_final : goal.returns-then-not-is_final
-returns-then-not-is_final c =
-    let at = (goal.at.returns-then-not-is_final c).After-index-place in
+pub returns-then-not-is_final-clause-follows : goal.returns-then-not-is_final-clause-follows
+returns-then-not-is_final-clause-follows c =
+    let at = (goal.at.returns-then-not-is_final-clause-follows c).After-index-place in
     rw (← c.self.view_is)
     (reregister_plain (world_of c.self.inside.parts) _ _ _ (ahead_of c.self.inside.parts) c.args.t c.args.local
     (passed at) c.index-place.result.now
@@ -83,7 +83,7 @@ freed : (c : After-set_suppressed) → Follows (seen c.self.inside.parts) (rereg
     (sums_of c.self.inside.parts.sums) (options_of c.self.inside.parts.options) c.self.inside.parts.safe
     (ahead_of c.self.inside.parts))
 freed c =
-    let at = (goal.at.returns-then-is_suppressed c).After-index-place in
+    let at = (goal.at.returns-then-is_suppressed-clause-follows c).After-index-place in
     allowed (world_of c.self.inside.parts) _ _ _ (ahead_of c.self.inside.parts) c.args.t c.args.local
     (passed at) c.index-place.result.now
     (place-is at) c.if-place-eq0.false (sym c.is_final.ensures ∙ c.if-not-is_final.false)
@@ -112,13 +112,13 @@ invariant_of-self c =
       ready = c.self.invariant.ready;
     }
 
-pub returns-then-is_suppressed : goal.returns-then-is_suppressed
-returns-then-is_suppressed c = rw (← c.self.view_is) (freed c)
+pub returns-then-is_suppressed-clause-follows : goal.returns-then-is_suppressed-clause-follows
+returns-then-is_suppressed-clause-follows c = rw (← c.self.view_is) (freed c)
 
 -- no memory for an entry
-pub returns-in_default-reserve : goal.returns-in_default-reserve
-returns-in_default-reserve c =
-    let at = (goal.at.returns-in_default-reserve c).After-index-place in
+pub returns-in_default-reserve-clause-follows : goal.returns-in_default-reserve-clause-follows
+returns-in_default-reserve-clause-follows c =
+    let at = (goal.at.returns-in_default-reserve-clause-follows c).After-index-place in
     let finals = c.reserve.new.self in
     rw (← c.self.view_is)
     (room_follows c.self.invariant.shown finals.entries finals.ready c.reserve.ensures.entries c.reserve.ensures.ready
@@ -137,7 +137,7 @@ entered : (c : After-register) → Follows (seen c.self.inside.parts) (reregiste
     }) (sums_of c.self.inside.parts.sums) (options_of c.self.inside.parts.options) c.self.inside.parts.safe
     (ahead_of c.self.inside.parts))
 entered c =
-    let at = (goal.at.returns c).After-index-place in
+    let at = (goal.at.returns-clause-follows c).After-index-place in
     reregistered (world_of c.self.inside.parts) _ _ _ (ahead_of c.self.inside.parts) c.args.t c.args.local
     (passed at) c.index-place.result.now
     (place-is at)
@@ -168,5 +168,5 @@ invariant_of-self-2 c =
       ready = c.self.invariant.ready;
     }
 
-pub returns : goal.returns
-returns c = rw (← c.self.view_is) (entered c)
+pub returns-clause-follows : goal.returns-clause-follows
+returns-clause-follows c = rw (← c.self.view_is) (entered c)

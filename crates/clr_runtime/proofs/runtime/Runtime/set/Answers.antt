@@ -25,8 +25,8 @@ use Rattle.clr_runtime.specs.Shown.{shown}
 use Rattle.clr_runtime.proofs.MarkedStores.{card_logged, IsCardLogged, IsStoredAt, logged-shown, stored_address}
 use Rattle.clr_runtime.proofs.runtime.Runtime.set.Goals.{After-set_reference, After-wrote}
 
-pub returns-in-Some : goal.returns-in-Some
-returns-in-Some c =
+pub returns-in-Some-clause-follows : goal.returns-in-Some-clause-follows
+returns-in-Some-clause-follows c =
     let l = set_of c.args.t c.args.into c.args.index c.args.from in
     names_refused l.instruction l.thread l.locals _ l.line l.alike c.args.self.now.machine c.in-Some.refusal
     (sym c.refused_names.ensures.value ∙ c.in-Some.is)
@@ -37,8 +37,8 @@ find_slot-requires-clause-object c =
     (local-read c.self.invariant.shown c.args.t c.args.into c.index_of.result c.index-place.result.now
     c.index_of.ensures.within c.index_of.ensures.index c.index-place.ensures)
 
-pub returns-in-Err : goal.returns-in-Err
-returns-in-Err c =
+pub returns-in-Err-clause-follows : goal.returns-in-Err-clause-follows
+returns-in-Err-clause-follows c =
     let r = c.self.inside.parts in
     let passed = rw (← c.self.view_is) at (sym c.refused_names.ensures.value ∙ c.in_default.is) in
     rw (← c.self.view_is)
@@ -137,9 +137,9 @@ invariant_of-self c =
       ready = c.self.invariant.ready;
     })
 
-pub returns : goal.returns
-returns c =
-    let at = goal.at.returns c in
+pub returns-clause-follows : goal.returns-clause-follows
+returns-clause-follows c =
+    let at = goal.at.returns-clause-follows c in
     let r = c.self.inside.parts in
     let follows = Follows (seen r) (set_slot c.args.t c.args.into c.args.index c.args.from) (answered Done) in
     let heap = c.set_reference.new.heap in

@@ -7,10 +7,11 @@ use Rattle.clr_runtime.specs.Options.{options_of}
 use Rattle.clr_runtime.specs.RuntimeView.{ahead_of, sums_of, world_of}
 use Rattle.clr_runtime.proofs.FinishLines.{finish_refused, finish_unknown}
 use Rattle.clr_runtime.proofs.StepsSeen.{step-seen}
+use Rattle.clr_runtime.proofs.CountsKept.{workshop_kept}
 use Rattle.clr_runtime.proofs.runtime.Runtime.step.Goals as goal
 
-pub returns-then-not-is_known : goal.returns-then-not-is_known
-returns-then-not-is_known c =
+pub returns-then-not-is_known-clause-follows : goal.returns-then-not-is_known-clause-follows
+returns-then-not-is_known-clause-follows c =
     let none : is_thread c.args.t ≡ false = sym c.is_known.ensures ∙ c.if-not-is_known.true in
     finish_refused c.args.self.now.machine c.args.t UnknownThread (finish_unknown c.args.self.now.machine c.args.t none)
 
@@ -21,6 +22,15 @@ refused_idle-requires-clause-idle c =
     (ap is_step (step-seen (world_of r) (sums_of r.sums) (options_of r.options) r.safe (ahead_of r) c.args.t
     ∙ ap step_by (sym c.in-Nothing.ensures)))
 
-pub returns-in-Nothing : goal.returns-in-Nothing
-returns-in-Nothing c =
+pub returns-in-Nothing-clause-follows : goal.returns-in-Nothing-clause-follows
+returns-in-Nothing-clause-follows c =
     finish_refused c.args.self.now.machine c.args.t c.refused_idle.result c.refused_idle.ensures
+
+pub returns-in-Store-clause-others : goal.returns-in-Store-clause-others
+returns-in-Store-clause-others c =
+    rw (← c.self.view_is) (workshop_kept c.self.inside.parts c.finish_store.new.parts c.finish_store.ensures.workshop)
+
+pub returns-in-Birth-clause-others : goal.returns-in-Birth-clause-others
+returns-in-Birth-clause-others c =
+    rw (← c.self.view_is)
+    (workshop_kept c.self.inside.parts c.finish_birth-place.new.parts c.finish_birth-place.ensures.workshop)

@@ -24,8 +24,8 @@ use Rattle.clr_runtime.proofs.StepsKept.{flagged_tables}
 use Rattle.clr_runtime.proofs.runtime.Runtime.suppress.Goals as goal
 use Rattle.clr_runtime.proofs.runtime.Runtime.suppress.Goals.{After-index-place, After-set_suppressed}
 
-pub returns-in-Some : goal.returns-in-Some
-returns-in-Some c =
+pub returns-in-Some-clause-follows : goal.returns-in-Some-clause-follows
+returns-in-Some-clause-follows c =
     let l = suppress_of c.args.t c.args.local in
     names_refused l.instruction l.thread l.locals l.more l.line l.alike c.args.self.now.machine c.in-Some.refusal
     (once c.args.self.now.machine c.args.t c.args.local _ (sym c.refused_names.ensures.value ∙ c.in-Some.is))
@@ -41,9 +41,9 @@ place-is c =
     local-read c.self.invariant.shown c.args.t c.args.local c.index_of.result c.index-place.result.now
     c.index_of.ensures.within c.index_of.ensures.index c.index-place.ensures
 
-pub returns-then-place-eq0 : goal.returns-then-place-eq0
-returns-then-place-eq0 c =
-    let at = (goal.at.returns-then-place-eq0 c).After-index-place in
+pub returns-then-place-eq0-clause-follows : goal.returns-then-place-eq0-clause-follows
+returns-then-place-eq0-clause-follows c =
+    let at = (goal.at.returns-then-place-eq0-clause-follows c).After-index-place in
     rw (← c.self.view_is)
     (suppress_null (world_of c.self.inside.parts) _ _ _ (ahead_of c.self.inside.parts) c.args.t c.args.local
     (passed at) c.index-place.result.now
@@ -57,9 +57,9 @@ is_final-requires-clause-stands c =
     c.if-place-eq0.false
 
 -- no finaliser
-pub returns-then-not-is_final : goal.returns-then-not-is_final
-returns-then-not-is_final c =
-    let at = (goal.at.returns-then-not-is_final c).After-index-place in
+pub returns-then-not-is_final-clause-follows : goal.returns-then-not-is_final-clause-follows
+returns-then-not-is_final-clause-follows c =
+    let at = (goal.at.returns-then-not-is_final-clause-follows c).After-index-place in
     rw (← c.self.view_is)
     (suppress_plain (world_of c.self.inside.parts) _ _ _ (ahead_of c.self.inside.parts) c.args.t c.args.local
     (passed at) c.index-place.result.now
@@ -78,7 +78,7 @@ done : (c : After-set_suppressed) → Follows (seen c.self.inside.parts) (suppre
     (sums_of c.self.inside.parts.sums)
     (options_of c.self.inside.parts.options) c.self.inside.parts.safe (ahead_of c.self.inside.parts))
 done c =
-    let at = (goal.at.returns c).After-index-place in
+    let at = (goal.at.returns-clause-follows c).After-index-place in
     suppressed (world_of c.self.inside.parts) _ _ _ (ahead_of c.self.inside.parts) c.args.t c.args.local
     (passed at) c.index-place.result.now
     (place-is at)
@@ -108,5 +108,5 @@ invariant_of-self c =
       ready = c.self.invariant.ready;
     }
 
-pub returns : goal.returns
-returns c = rw (← c.self.view_is) (done c)
+pub returns-clause-follows : goal.returns-clause-follows
+returns-clause-follows c = rw (← c.self.view_is) (done c)

@@ -55,8 +55,8 @@ first c =
       ready = ap (λ (q : Queues). q.ready) roots.finals;
     }
 
-pub returns : goal.returns
-returns c = new_stands (made_world c) c.new-4.result c.new-4.ensures (made_ahead c) (made_nothing c)
+pub returns-clause-opens : goal.returns-clause-opens
+returns-clause-opens c = new_stands (made_world c) c.new-4.result c.new-4.ensures (made_ahead c) (made_nothing c)
     (options_of c.args.options) _ c.requires.lawful (first c)
 
 pub invariant_of-result : goal.invariant_of-result

@@ -1,5 +1,5 @@
 // What leads to each object.
-ghost use Rattle.std.specs.Prelude.{◌≡◌, ◌≢◌, ◌<◌, length, get_or, IfOk, OnOk};
+ghost use Rattle.std.specs.Prelude.{◌≡◌, ◌≢◌, ◌<◌, length, get_or, IfOk, OnErr, OnOk};
 ghost use Rattle.clr_types.specs.Descriptors.{offsets_from};
 ghost use Rattle.clr_heap.specs.Memories.{memory_index};
 ghost use Rattle.clr_mark.specs.Markings.{item_references};
@@ -33,7 +33,8 @@ pub(crate) struct Incoming {
 /// has 2^32.
 #[inline(always)]
 pub(crate) fn in_four_bytes(n: usize) -> Result<u32, AllocError>
-    ensures { IfOk result (λ number. number ≡ n) }
+    ensures number { IfOk result (λ number. number ≡ n) }
+    ensures more { OnErr result (0xFFFFFFFF < n) }
 {
     if n > 0xFFFF_FFFF {
         return Err(AllocError);

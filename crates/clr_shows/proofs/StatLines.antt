@@ -1,14 +1,13 @@
 -- Which line counts an item, and the lines of the machine that a view shows.
 use Rattle.std.proofs.Common.{◌≡◌, ◌∙◌, ℕ, zero, suc, ◌+◌, ◌-◌, ◌<◌, Bool, true, false, List, [], ◌∷◌, ◌++◌, arith}
 use Rattle.std.proofs.Common.{cond, filter}
-use Rattle.std.proofs.Common.{get_or, if◌then◌else◌, length, nat_lt, refl, sym, ap, subst, ◌==◌, append_assoc, codes}
+use Rattle.std.proofs.Common.{get_or, if◌then◌else◌, length, refl, sym, ap, subst, ◌==◌, append_assoc, codes}
 use Rattle.clr_types.specs.Rising.{IsIn}
-use Rattle.clr_types.specs.Segments.{empty_segment, ephemeral, generation, Layout, stands_in}
+use Rattle.clr_types.specs.Segments.{empty_segment, generation, Layout, stands_in}
 use Rattle.clr_types.specs.Types.{TypeRow}
 use Rattle.clr_types.specs.declared.item.Item.{Item}
 use Rattle.clr_types.specs.declared.segment.SegInfo.{SegInfo}
 use Rattle.clr_types.specs.declared.segment.SegKind.{SegKind}
-use Rattle.clr_types.specs.declared.segment.SegKind.TheVariants.{Small, Ephemeral, Large, Pinned}
 use Rattle.clr_types.proofs.ChangedLists.{append_left}
 use Rattle.clr_types.proofs.ListMembers.{append_right}
 use Rattle.clr_types.proofs.RisingLists.{all_at}
@@ -35,24 +34,6 @@ use Rattle.clr_shows.proofs.SegmentItems.{item-elsewhere, item-there, listing-to
 use Rattle.clr_shows.proofs.StatCounts.{room-left}
 
 -- ---- the line of one item
-
--- an address has one of three generations
-generation-low : (layout : Layout) (place : ℕ) → generation layout place < 3
-generation-low layout place =
-    go (stands_in (ephemeral layout) place) (nat_lt place layout.start1) (nat_lt place layout.start0)
-  where
-    go : (a b c : Bool) → (if a then (if b then 2 else (if c then 1 else 0)) else 2) < 3
-    go true true c = omega arith
-    go true false true = omega arith
-    go true false false = omega arith
-    go false b c = omega arith
-
--- the number of the line for an address is below that of the last line
-pub row-low : (kind : SegKind) (layout : Layout) (place : ℕ) → stat_row kind (generation layout place) < 5
-row-low Small layout place = let low = generation-low layout place in omega arith
-row-low Ephemeral layout place = let low = generation-low layout place in omega arith
-row-low Large layout place = omega arith
-row-low Pinned layout place = omega arith
 
 -- the first segment of a list that has an address tells which line counts it
 row-first : (layout : Layout) (ss : List SegInfo) (k place : ℕ) → k < length ss

@@ -42,7 +42,7 @@ returns c =
     let to = c.number-to.result in
     let below = c.number-to.ensures.below in
     let count = c.requires.edges.linked.count in
-    let own : c.in_ok-from.from ≡ c.args.from = c.in_ok-from.ensures in
+    let own : c.in_ok-from.from ≡ c.args.from = c.in_ok-from.ensures.number in
     let inside = c.requires.from in
     let led : Leads v (place_of places c.in_ok-from.from) (place_of places to) =
     subst (λ (n : ℕ). Leads v (place_of places n) (place_of places to)) (sym own)
@@ -52,7 +52,7 @@ returns c =
     c.index-before.ensures 0 in
     let length = c.len.ensures in
     let whole = c.push.new.self.ok.0 in
-    let number = c.in_ok-self.ensures in
+    let number = c.in_ok-self.ensures.number in
     listed-on v places old _ (λ f t. (f ≡ c.in_ok-from.from) × (t ≡ to)) _
     (edge-added v places old _ c.requires.edges c.in_ok-from.from to c.index-before.result.now c.in_ok-self.field-0
     (omega (arith, own, inside)) below led begun c.in_ok-push.ensures.items (omega (arith, length, whole, number))

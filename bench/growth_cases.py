@@ -323,7 +323,7 @@ def pinned_allocations_that_fit_nowhere(n):
     yield from ["t1 new-pinned l1 Bytes 40"] * (n // 4)
 
 
-@case(12_500, 2.0)
+@case(12_500, 1.2)
 def pinned_allocations_behind_small_items(n):
     yield from pinned_items(n, lambda i: 8 if i < n // 2 else 40)
     yield MEASURED

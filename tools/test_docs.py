@@ -146,6 +146,19 @@ class Names(unittest.TestCase):
                 words = set() if "no other crate of ours" in told.group(1) else set(re.findall(r"\w+", told.group(1)))
                 self.assertEqual(words, set(uses()[name]))
 
+    def test_each_crate_says_where_its_tests_are(self):
+        tests = {name for name in uses() if name.endswith("_tests")}
+        for name, page in crate_pages().items():
+            told = re.search(r"^Its tests: (.*?)\n\n", page, re.MULTILINE | re.DOTALL)
+            with self.subTest(crate=name):
+                self.assertEqual(told is None, name in tests)
+                words = re.sub(r"\s+", " ", told[1]) if told else ""
+                self.assertEqual("`must-fail/`" in words, (CRATES / name / "must-fail").is_dir())
+                for names, crate in re.findall(r"((?:`\w+\.rt`(?:, )?)+) of (\w+)", words):
+                    for file in re.findall(r"`(\w+\.rt)`", names):
+                        within = [path for path in files(crate, "src") if path.name == file]
+                        self.assertTrue(any(f"{name}::" in path.read_text(encoding="utf-8") for path in within), file)
+
     def check_definitions(self, where, defined):
         """Each file that is linked in the words has the definitions that stand behind it."""
         for label, names in re.findall(r"\[((?:\w+/)?\w+\.antt)\]((?: `\w+`,?)*)", defined):

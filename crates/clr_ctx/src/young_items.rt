@@ -80,7 +80,7 @@ impl YoungItems {
         self.renew_in(heap, types, k);
     }
 
-    // The same, where the ephemeral segment is number `k`.
+    // Makes it the index of the free items of generation 0, where the ephemeral segment is number `k`.
     fn renew_in(&mut self, heap: &Heap, types: &Types, k: usize)
         requires heap { IsHeap heap.now }
         requires held { IsHeld types.now heap.now }

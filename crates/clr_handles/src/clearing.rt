@@ -19,7 +19,8 @@ impl Handles {
         self.clear(Kind::Weak, 0, &kept);
     }
 
-    /// The same where all places below `low` are known to be kept, and aren't asked of.
+    /// Clears short weak handles, as `clear_short` does, where all places below `low` are known to be kept, and aren't
+    /// asked of.
     pub fn clear_short_from<F: Fn(u64) -> bool>(&mut self, low: u64, kept: F)
         requires { MayAsk Kind.Weak low self.old (λ place. F.pre kept place) }
         ensures { EachBecomes (IsCleared Kind.Weak (λ place answer. F.post kept place answer) low) self.old self.new }
@@ -36,7 +37,8 @@ impl Handles {
         self.clear(Kind::WeakLong, 0, &kept);
     }
 
-    /// The same where all places below `low` are known to be kept, and aren't asked of.
+    /// Clears long weak handles, as `clear_long` does, where all places below `low` are known to be kept, and aren't
+    /// asked of.
     pub fn clear_long_from<F: Fn(u64) -> bool>(&mut self, low: u64, kept: F)
         requires { MayAsk Kind.WeakLong low self.old (λ place. F.pre kept place) }
         ensures { EachBecomes (IsCleared Kind.WeakLong (λ place answer. F.post kept place answer) low)
@@ -55,7 +57,8 @@ impl Handles {
         self.clear(Kind::Dependent, 0, &kept);
     }
 
-    /// The same where all places below `low` are known to be kept, and aren't asked of.
+    /// Clears dependent handles, as `clear_dependent` does, where all places below `low` are known to be kept, and
+    /// aren't asked of.
     pub fn clear_dependent_from<F: Fn(u64) -> bool>(&mut self, low: u64, kept: F)
         requires { MayAsk Kind.Dependent low self.old (λ place. F.pre kept place) }
         ensures { EachBecomes (IsCleared Kind.Dependent (λ place answer. F.post kept place answer) low)

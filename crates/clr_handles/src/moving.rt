@@ -20,7 +20,8 @@ impl Handles {
         self.follow(false, 0, &to);
     }
 
-    /// The same where all places below `low` are known to stay, and aren't asked of.
+    /// Gives each handle the new places of what it names, where all places below `low` are known to stay, and aren't
+    /// asked of.
     pub fn relocate_from<F: Fn(u64) -> u64>(&mut self, low: u64, to: F)
         requires { MayFollowAll low self.old (λ place. F.pre to place) }
         ensures { EachBecomes (IsRelocated (λ place moved. F.post to place moved) low) self.old self.new }
@@ -28,7 +29,8 @@ impl Handles {
         self.follow(false, low, &to);
     }
 
-    /// The same where what pinned handles pin is known to stay, too, and isn't asked of.
+    /// Gives each handle the new places of what it names, where all places below `low` and what pinned handles pin are
+    /// known to stay, and aren't asked of.
     pub fn relocate_unpinned_from<F: Fn(u64) -> u64>(&mut self, low: u64, to: F)
         requires { MayFollowAll low self.old (λ place. F.pre to place) }
         ensures { EachBecomes (IsFollowed true (λ place moved. F.post to place moved) low) self.old self.new }

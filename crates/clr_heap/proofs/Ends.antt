@@ -14,7 +14,7 @@ use Rattle.clr_heap.specs.View.{segment_at, sight, word_of}
 use Rattle.clr_heap.proofs.Framing.{held_in, lawful_at}
 use Rattle.clr_heap.proofs.Storing.{length-shapes, memory_index-shapes}
 use Rattle.clr_heap.proofs.Spelling.{item_size, Spells-append, Spells-made, Spells-same}
-use Rattle.clr_heap.proofs.Placing.{boundary-aligned, boundary-le, Placed}
+use Rattle.clr_heap.proofs.Placing.{boundary-le, Placed}
 use Rattle.clr_heap.proofs.Staying.{parts_from}
 
 -- the parts below a boundary
@@ -47,21 +47,6 @@ until_boundary s (rest_part low high ∷ ps) p e c h b = elim b [
 pub ended_here : (h : HeapView) (k c : ℕ) → k < length h.segments
     → get_or (set h.segments k (ended_at c (segment_at h k))) k empty_segment ≡ ended_at c (segment_at h k)
 ended_here h k c l = get_or-set_same h.segments k (ended_at c (segment_at h k)) empty_segment l
-
--- THE RULE OF LOWER ENDS: the parts below the new end are left
-pub ended_lower : (rows : List TypeRow) (h : HeapView) (k c : ℕ) → k < length h.segments → IsWalkable rows h k
-    → IsBoundary (parts_of rows h k) (first_of h k) c
-    → PartsAre rows (record h { segments = set h.segments k (ended_at c (segment_at h k)) }) k
-    (until_place (parts_of rows h k) c)
-ended_lower rows h k c l w b =
-    let here = ended_here h k c l in
-    let z = boundary-aligned (sight rows h k) (parts_of rows h k) (first_of h k) (last_of h k) c w.start w.spelled b in
-    parts_from rows (record h { segments = set h.segments k (ended_at c (segment_at h k)) }) k
-    (until_place (parts_of rows h k) c) (holes_of h k) (first_of h k) c
-    (ap first_place here) (ap (λ (s : SegInfo). s.end) here)
-    (ap (λ (s : SegInfo). cond (same_kind s.kind Ephemeral) h.rests []) here) w.start
-    (until_boundary (sight rows h k) (parts_of rows h k) (first_of h k) (last_of h k) c w.spelled b)
-    (λ a za low high. w.held a za low (omega arith))
 
 -- the head of an item of a size that fits above the end can be written
 pub head_at_end : (h : HeapView) (k : ℕ) → IsHeap h → k < length h.segments

@@ -56,11 +56,6 @@ found_holds ms i a m w e r z d =
     let Q : Memory → Type 0 = λ n. Holds n a 8 in
     subst Q read (record { above = b.0; below = omega arith; start = start; whole = refl })
 
-pub found_aligned : (ms : List Memory) (i : ℕ) (m : Memory) → i < length ms → m ≡ get_or ms i m → m.base % 8 ≡ 0
-    → (d : Memory) → (get_or ms i d).base % 8 ≡ 0
-found_aligned ms i m l r z d =
-    let P : Memory → Type 0 = λ n. n.base % 8 ≡ 0 in subst P (r ∙ get_or_default ms i m d l) z
-
 -- the word that a byte belongs to
 pub word_of_byte : (ms : List Memory) (i a : ℕ) (m : Memory) → memory_index ms (word_address a) < length ms
     → i ≡ memory_index ms (word_address a) → m ≡ get_or ms i m → m.base % 8 ≡ 0 → m.base ≤ word_address a

@@ -181,28 +181,6 @@ module _ (rows : List TypeRow) (h : HeapView) (k i : ℕ) (walk : IsWalkable row
       ap (λ (hs : List (Option Piece)). hole_from hs q) (seen ms o) ∙ hole_from-set_other h.rests i o q old new
       ∙ ap (λ (hs : List (Option Piece)). hole_from hs q) (sym (holes_young h k young))
 
-  -- THE RULE OF REFILLS: a hole takes the place of the parts from low to high
-  pub refilled_run : (low high : ℕ) → get_or h.rests i None ≡ None → IsBoundary (parts_of rows h k) (first_of h k) low
-      → IsBoundary (parts_of rows h k) (first_of h k) high → low + 24 ≤ high → hole_from (set h.rests i None) low ≡ None
-      → PartsAre rows (record h { rests = set h.rests i (rest_between low high) }) k
-      (replace_run (parts_of rows h k) low high (rest_part low high ∷ []))
-  refilled_run low high had ba bc least none =
-      let new = with_rest h.memories (rest_between low high) in
-      let none_old : (q : ℕ) → StartsAt (get_or h.rests i None) q → ⊥ =
-      λ q s. let P : Option Piece → Type 0 = λ o. StartsAt o q in subst P had s in
-      let zc = boundary-aligned (sight rows h k) (parts_of rows h k) (first_of h k)
-      (last_of h k) high walk.start walk.spelled bc in
-      run_changed rows h new k low high (rest_part low high ∷ []) walk ba bc (omega arith)
-      (record {
-        shapes = refl;
-        segments = refl;
-        words = λ b z out. refl;
-        holes =
-            λ q out. hole_apart h.memories (rest_between low high) q (none_old q)
-            (λ s. let f = between_starts low high q s in elim out [ inl l ↦ omega arith | inr l ↦ omega arith ]);
-      })
-      (refl, hole_here h.memories low high (omega arith) none, least, zc.0, refl)
-
   -- what a head at the front of the rest and a shorter rest leave
   module _ (p : HeapView) (low high t n : ℕ) (made : Placed rows h p low t n)
       (had : get_or h.rests i None ≡ Some (record { place = low; size = high - low }))

@@ -17,7 +17,6 @@ pub mod Listing
 pub mod Sealing
 pub mod Runs
 pub mod Holes
-pub mod Carrying
 pub mod Staying
 pub mod Ends
 pub mod Acquiring

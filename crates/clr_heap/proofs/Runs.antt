@@ -8,7 +8,7 @@ use Rattle.clr_types.specs.declared.segment.SegInfo.{SegInfo}
 use Rattle.clr_heap.specs.Memories.{memory_index, shapes}
 use Rattle.clr_heap.specs.Parts.{from_place, hole_from, IsBoundary, item_part, Part, replace_run, rest_part, Sight}
 use Rattle.clr_heap.specs.Parts.{Spells}
-use Rattle.clr_heap.specs.View.{first_of, HasParts, HeapView, holes_of, IsWalkable, last_of, parts_of, PartsAre, sight}
+use Rattle.clr_heap.specs.View.{first_of, HeapView, holes_of, IsWalkable, last_of, parts_of, PartsAre, sight}
 use Rattle.clr_heap.specs.View.{word_of}
 use Rattle.clr_heap.proofs.Storing.{length-shapes, memory_index-shapes}
 use Rattle.clr_heap.proofs.Spelling.{agree_from_same, item_at-agrees, item_size, NamesItem-agrees, SameBetween}
@@ -176,8 +176,3 @@ run_changed rows old new k a c ns w ba bc l change spelled =
       words = λ b z low high. change.words b z (inr (omega arith));
       holes = λ q low high. change.holes q (inr low);
     }))
-
--- what is told by `HasParts` is told by `PartsAre`
-pub parts_are_had : (rows : List TypeRow) (old new : HeapView) (k : ℕ) (ps : List Part) → HasParts rows old new k ps
-    → PartsAre rows new k ps
-parts_are_had rows old new k ps h = record { walkable = h.walkable; parts = h.parts }

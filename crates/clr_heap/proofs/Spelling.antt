@@ -25,14 +25,6 @@ Spells-append s [] ys p q e h k = let P : ℕ → Type 0 = λ n. Spells s n ys e
 Spells-append s (item_part i ∷ xs) ys p q e h k = (h.0, h.1, h.2, Spells-append s xs ys (p + i.size) q e h.3 k)
 Spells-append s (rest_part lo hi ∷ xs) ys p q e h k = (h.0, h.1, h.2, h.3, Spells-append s xs ys hi q e h.4 k)
 
-pub Spells-split : (s : Sight) (xs ys : List Part) (p e : ℕ) → Spells s p (xs ++ ys) e
-    → (q : ℕ) × Spells s p xs q × Spells s q ys e
-Spells-split s [] ys p e h = (p, refl, h)
-Spells-split s (item_part i ∷ xs) ys p e h =
-    let r = Spells-split s xs ys (p + i.size) e h.3 in (r.0, (h.0, h.1, h.2, r.1), r.2)
-Spells-split s (rest_part lo hi ∷ xs) ys p e h =
-    let r = Spells-split s xs ys hi e h.4 in (r.0, (h.0, h.1, h.2, h.3, r.1), r.2)
-
 -- the parts that are spelled are the ones that a walk finds
 pub parts-Spells : (s : Sight) (fuel : ℕ) (ps : List Part) (p e : ℕ) → Spells s p ps e → e ≤ p + fuel
     → parts fuel s p e ≡ ps
@@ -236,17 +228,6 @@ pub Spells-write : (s : Sight) (w : ℕ → ℕ) (a : ℕ) (m : Part) (ps : List
     → Among ps m → start_of m ≤ a + 8 → a + 8 < part_end m → Keeps s w m → Spells (with_words s w) p ps e
 Spells-write s w a m ps p e z o h k lo hi keeps =
     Spells-agrees s w ps p e (AgreesOn-write s w a m ps p e z o h k lo hi keeps) h
-
--- THE REPLACEMENT RULE: other parts in the place of some
-pub Spells-replace : (s : Sight) (w : ℕ → ℕ) (xs ns ys : List Part) (p q r e : ℕ) → p % 8 ≡ 0 → r % 8 ≡ 0
-    → Spells s p xs q → Spells s r ys e → Spells (with_words s w) q ns r
-    → SameBetween s.word w p q → SameBetween s.word w r e
-    → Spells (with_words s w) p (xs ++ (ns ++ ys)) e
-Spells-replace s w xs ns ys p q r e z z' before after new a b =
-    Spells-append (with_words s w) xs (ns ++ ys) p q e (Spells-same s w xs p q z a before)
-    (Spells-append (with_words s w) ns ys q r e new (Spells-same s w ys r e z' b after))
-
--- ---- heads that are written
 
 -- the words of an item's head
 pub record WritesHead (rows : List TypeRow) (w : ℕ → ℕ) (a t n : ℕ) : Type 0 where

@@ -122,16 +122,6 @@ stays_rested h j rests other = record {
   held = λ b low up inside. inside;
 }
 
--- the boundaries of the generations move
-pub stays_bounded : (h : HeapView) (j start1 start0 : ℕ) → StaysAs h j (record h { start1 = start1; start0 = start0 }) j
-stays_bounded h j start1 start0 = record {
-  first = refl;
-  last = refl;
-  words = λ b z low up. refl;
-  holes = λ q low up. refl;
-  held = λ b low up inside. inside;
-}
-
 -- the head of an item is written in another segment
 pub stays_placed : (rows : List TypeRow) (h p : HeapView) (j k a t n : ℕ) → IsHeap h → j < length h.segments
     → k < length h.segments → j ≢ k → first_of h k ≤ a → a + 8 < reserved_end (segment_at h k) → Placed rows h p a t n

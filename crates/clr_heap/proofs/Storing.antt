@@ -1,10 +1,9 @@
 -- Words that are written and read, by address.
-use Rattle.std.proofs.Common.{◌≡◌, ◌≢◌, inl, inr, ℕ, zero, suc, ◌+◌, ◌*◌, ◌%◌, ◌<◌, ◌≤◌, true, false, cond, ◌&&◌, List}
+use Rattle.std.proofs.Common.{◌≡◌, ◌≢◌, inl, inr, ℕ, zero, suc, ◌+◌, ◌*◌, ◌%◌, ◌<◌, ◌≤◌, true, cond, ◌&&◌, List}
 use Rattle.std.proofs.Common.{[], ◌∷◌, length, get_or, set, refl, ap, sym, ◌∙◌, arith, length-set, get_or-set_same}
 use Rattle.std.proofs.Common.{get_or-set_other, ltb, leb}
 use Rattle.std.proofs.lemmas.Bool.{leb-true, ltb-true, and_parts, and_from, le-leb, lt-ltb, cases_Bool}
-use Rattle.std.proofs.Common.{drop}
-use Rattle.std.proofs.lemmas.List.{drop_more, length-map, set-get_or}
+use Rattle.std.proofs.lemmas.List.{length-map, set-get_or}
 use Rattle.clr_mem.specs.Words.{Memory, place_of, word_at, end_of}
 use Rattle.clr_heap.specs.Memories.{contains, with_word, memory_index, word_in, store_in, HasWord, shape_of, shapes}
 
@@ -104,26 +103,6 @@ get_memory (m ∷ ms) a d h = elim (cases_Bool (contains m a)) [
 ]
 
 -- ---- the search for a memory
-
--- memory i holds the address, and none before it
-pub index_found : (ms : List Memory) (i a : ℕ) (d : Memory) → i < length ms → contains (get_or ms i d) a ≡ true
-    → i + memory_index (drop i ms) a ≡ memory_index ms a → i ≡ memory_index ms a
-index_found ms i a d h t e =
-    let cut = drop_more ms i d h in
-    let here : memory_index (drop i ms) a ≡ 0 = ap (λ (ns : List Memory). memory_index ns a) cut ∙ rw t refl in
-    omega arith
-
-pub index_more : (ms : List Memory) (i a : ℕ) (d : Memory) → i < length ms → contains (get_or ms i d) a ≡ false
-    → i + memory_index (drop i ms) a ≡ memory_index ms a → i + 1 + memory_index (drop (i + 1) ms) a ≡ memory_index ms a
-index_more ms i a d h t e =
-    let cut = drop_more ms i d h in
-    let here : memory_index (drop i ms) a ≡ suc (memory_index (drop (i + 1) ms) a) =
-    ap (λ (ns : List Memory). memory_index ns a) cut ∙ rw t refl in
-    omega arith
-
-pub index_ends : (ms : List Memory) (i a : ℕ) → length ms ≤ i → i + memory_index (drop i ms) a ≡ memory_index ms a
-    → length ms ≤ memory_index ms a
-index_ends ms i a h e = omega arith
 
 -- the memory at an address's number holds it
 pub contains_at_index : (ms : List Memory) (a : ℕ) (d : Memory) → memory_index ms a < length ms

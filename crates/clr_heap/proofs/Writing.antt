@@ -1,25 +1,16 @@
 -- Single words written into a segment: what `set_word` leaves of the parts.
-use Rattle.std.proofs.Common.{◌≡◌, ◌≢◌, ◌⊎◌, inl, inr, ℕ, ◌+◌, ◌%◌, ◌<◌, ◌≤◌, true, List, ap, sym, ◌∙◌, arith}
+use Rattle.std.proofs.Common.{◌≡◌, ◌≢◌, ◌⊎◌, inl, inr, ℕ, ◌+◌, ◌%◌, ◌<◌, ◌≤◌, true, List, ap, sym, arith}
 use Rattle.clr_types.specs.Types.{TypeRow, is_array, form_at}
 use Rattle.clr_types.specs.declared.item.Item.{Item}
 use Rattle.clr_heap.specs.Memories.{HasWord}
-use Rattle.clr_heap.specs.Parts.{Among, item_part, rest_part, type_number, unmarked}
+use Rattle.clr_heap.specs.Parts.{Among, item_part, type_number, unmarked}
 use Rattle.clr_heap.specs.View.{first_of, HasParts, HeapView, IsWalkable, last_of, parts_of, sight, stored, word_of}
-use Rattle.clr_heap.proofs.Storing.{word_in-store_in_other, word_in-store_in_same}
+use Rattle.clr_heap.proofs.Storing.{word_in-store_in_other}
 use Rattle.clr_heap.proofs.Spelling.{AgreesAt, Among-bounds, OnlyAt, Spells-same, Spells-write}
 use Rattle.clr_heap.proofs.Rewrite.{aligned_among, has_parts, SameShape-refl, SameShape-stored}
 
 only_there : (h : HeapView) (a v : ℕ) → a % 8 ≡ 0 → OnlyAt (word_of h) (word_of (stored h a v)) a
 only_there h a v z b zb ne = word_in-store_in_other h.memories a v b z zb ne
-
--- a word of a hole
-pub stored_in_hole : (rows : List TypeRow) (h : HeapView) (k lo hi a v : ℕ) → IsWalkable rows h k
-    → Among (parts_of rows h k) (rest_part lo hi) → a % 8 ≡ 0 → lo ≤ a + 8 → a + 8 < hi
-    → HasParts rows h (stored h a v) k (parts_of rows h k)
-stored_in_hole rows h k lo hi a v w m z low high =
-    has_parts rows h (stored h a v) k (parts_of rows h k) w (SameShape-stored h h a v (SameShape-refl h))
-    (Spells-write (sight rows h k) (word_of (stored h a v)) a (rest_part lo hi) (parts_of rows h k) (first_of h k)
-    (last_of h k) w.start (only_there h a v z) w.spelled m low high tt)
 
 -- a word of an item that isn't in its head: its header, a slot, or what a free item holds
 pub stored_in_item : (rows : List TypeRow) (h : HeapView) (k : ℕ) (i : Item) (a v : ℕ) → IsWalkable rows h k
@@ -36,21 +27,6 @@ stored_in_item rows h k i a v w m z low high ne len =
     has_parts rows h (stored h a v) k (parts_of rows h k) w (SameShape-stored h h a v (SameShape-refl h))
     (Spells-write (sight rows h k) (word_of (stored h a v)) a (item_part i) (parts_of rows h k) (first_of h k)
     (last_of h k) w.start there w.spelled m low high head)
-
--- the method table word of an item, of which only the mark changes
-pub stored_mark : (rows : List TypeRow) (h : HeapView) (k : ℕ) (i : Item) (v : ℕ) → IsWalkable rows h k
-    → Among (parts_of rows h k) (item_part i) → HasWord h.memories i.place → unmarked v ≡ unmarked (word_of h i.place)
-    → HasParts rows h (stored h i.place v) k (parts_of rows h k)
-stored_mark rows h k i v w m has same_mt =
-    let al = aligned_among (sight rows h k) (parts_of rows h k) i (first_of h k) (last_of h k) w.start w.spelled m in
-    let there = only_there h i.place v al.0 in
-    let head : AgreesAt rows (word_of h) (word_of (stored h i.place v)) i.place = record {
-      mt = ap unmarked (word_in-store_in_same h.memories i.place v has.inside) ∙ same_mt;
-      len = λ _. there (i.place + 8) (omega arith) (λ same. omega arith);
-    } in
-    has_parts rows h (stored h i.place v) k (parts_of rows h k) w (SameShape-stored h h i.place v (SameShape-refl h))
-    (Spells-write (sight rows h k) (word_of (stored h i.place v)) i.place (item_part i) (parts_of rows h k)
-    (first_of h k) (last_of h k) w.start there w.spelled m (omega arith) (omega arith) head)
 
 -- a word outside the segment's cells
 pub stored_elsewhere : (rows : List TypeRow) (h : HeapView) (k a v : ℕ) → IsWalkable rows h k → a % 8 ≡ 0

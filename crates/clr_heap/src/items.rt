@@ -98,7 +98,7 @@ fn length_of(heap: &Heap, types: &Types, a: u64, type_id: TypeId) -> u64
     }
 }
 
-// The same, where the item stands in segment `k`.
+// The length of the item at `a` in segment `k`, 0 where its type has none.
 #[inline]
 #[tactic(auto, unfolding(crate::specs::Parts::length_at))]
 fn length_in_segment(heap: &Heap, types: &Types, k: usize, a: u64, type_id: TypeId) -> u64

@@ -94,7 +94,8 @@ impl Heap {
         found
     }
 
-    /// The same, where its method table word isn't read yet.
+    /// The item that starts at `a` in segment `k`, as `item_like_word` tells it, where its method table word isn't read
+    /// yet.
     #[inline(always)]
     pub fn item_like_in(&self, types: &Types, k: usize, a: u64, known: &mut ObjectKind) -> Item
         requires item { HasItem types.now self.now a }

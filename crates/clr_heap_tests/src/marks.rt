@@ -52,7 +52,12 @@ fn birth(rt: &impl Abort, heap: &mut Heap, types: &Types, t: TypeId, len: u64) -
 }
 
 // Makes an object of each of these types and lengths, at most five, and answers their places.
-fn bear_each(rt: &impl Abort, heap: &mut Heap, types: &Types, objects: &[(TypeId, u64)]) -> [u64; 5]
+fn allocate_each(
+    rt: &impl Abort,
+    heap: &mut Heap,
+    types: &Types,
+    objects: &[(TypeId, u64)],
+) -> [u64; 5]
     requires { IsHeld types.now heap.old }
     ensures { IsHeld types.now heap.new }
 {
@@ -218,7 +223,7 @@ fn mark_with(
     Ok(marker)
 }
 
-// The same without handles.
+// Marks from roots, with room for so many objects on the stack, after all marks are cleared.
 fn mark(
     rt: &impl Abort,
     alloc: Global,
@@ -275,7 +280,7 @@ fn mark_these(
     requires { 1 ≤ capacity }
 {
     let (types, mut heap) = started(rt, alloc)?;
-    let places = bear_each(rt, &mut heap, &types, objects);
+    let places = allocate_each(rt, &mut heap, &types, objects);
     refer_each(rt, &mut heap, &types, places, slots);
     let marker = mark(rt, alloc, &mut heap, &types, capacity, &[0, places[0]])?;
     expect_marked(rt, &marker, &heap, &types, places, wants);
@@ -338,7 +343,7 @@ fn mark_chain(rt: &impl Abort, alloc: Global, heap: &mut Heap, types: &Types) ->
     requires { IsHeld types.now heap.old }
 {
     let objects = [(PAIR, 0), (PAIR, 0), (PAIR, 0), (PAIR, 0), (PAIR, 0)];
-    let places = bear_each(rt, heap, types, &objects);
+    let places = allocate_each(rt, heap, types, &objects);
     let [first, second, third, last, other] = places;
     let pairs = [
         (third, last),

@@ -10,7 +10,7 @@ use crate::heaps::{define, expect_items, size_to_make};
 use clr_heap::Heap;
 use clr_types::{Shape, TypeId, Types};
 use clr_view::{
-    bear, is_final, is_suppressed, object_item, set_slot_value, set_suppressed, slot_value,
+    allocate, is_final, is_suppressed, object_item, set_slot_value, set_suppressed, slot_value,
 };
 use std::alloc::Global;
 use std::process::Abort;
@@ -81,7 +81,7 @@ pub fn birth(
 {
     let size = types.item_size(t, len);
     assert!(rt; fits_front(heap, thread, size));
-    bear(heap, types, thread, t, len, size)
+    allocate(heap, types, thread, t, len, size)
 }
 
 // Makes an object of a type and length of which one can be made.
@@ -134,7 +134,7 @@ fn suppress(heap: &mut Heap, types: &Types, place: u64, flag: bool) -> (bool, bo
 
 // Makes an object in the context of thread 3 and writes a slot of it, and answers its place, what stood in the slot and
 // what stands there.
-fn bear_and_store(
+fn allocate_and_store(
     rt: &impl Abort,
     heap: &mut Heap,
     types: &Types,
@@ -165,13 +165,13 @@ fn objects_are_born_in_a_context(rt: HostRuntime) -> Result<(), Fail> {
     let types = sample_types(&rt, rt.alloc())?;
     let mut heap = Heap::new(rt.alloc(), 262_144, 1_048_576)?;
     open_context(&rt, &mut heap, &types, 3, 96);
-    let pair = bear_and_store(&rt, &mut heap, &types, TypeId(1), 0, 1, 77);
+    let pair = allocate_and_store(&rt, &mut heap, &types, TypeId(1), 0, 1, 77);
     assert_eq!(rt; pair, (0x1000_1000, 0, 77));
     assert_eq!(rt; heap.hole(3), Some((0x1000_1020, 0x1000_1060)));
-    let bytes = bear_and_store(&rt, &mut heap, &types, TypeId(3), 5, 4, 200);
+    let bytes = allocate_and_store(&rt, &mut heap, &types, TypeId(3), 5, 4, 200);
     assert_eq!(rt; bytes, (0x1000_1020, 0, 200));
     assert!(rt; !fits_front(&heap, 3, 24));
-    let references = bear_and_store(&rt, &mut heap, &types, TypeId(2), 1, 0, 0);
+    let references = allocate_and_store(&rt, &mut heap, &types, TypeId(2), 1, 0, 0);
     assert_eq!(rt; references, (0x1000_1040, 0, 0));
     assert_eq!(rt; heap.hole(3), None);
     let want = [

@@ -388,7 +388,7 @@ fn answer_handle(
     Some((written, end))
 }
 
-// The same of a verb that is rarer.
+// Answers a line of a thread by a verb that is rarer than those tried in line.
 #[cold]
 #[inline(never)]
 fn answer_seldom(

@@ -323,7 +323,8 @@ pub fn present(scan: &Scan<'_>, a: u64) -> u64
     }
 }
 
-// The same as `first_byte`, faster where the word is zero.
+// The address of the lowest byte of a word that isn't zero and stands at `from` or above, as `first_byte` finds it, at
+// once where the word is zero.
 #[inline]
 #[tactic(auto, using(crate::proofs::MemoryWords::zero_word))]
 fn dirty_in(from: u64, a: u64, word: u64) -> Option<u64>

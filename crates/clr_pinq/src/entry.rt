@@ -48,7 +48,7 @@ impl Saved {
         }
     }
 
-    // The same with the word for `a`, where one is saved, replaced.
+    // This one, with the word for `a` replaced where one is saved.
     pub(crate) fn with(self, a: u64, v: u64) -> Saved
         ensures { result ≡ saved_with self a v }
     {
@@ -81,7 +81,7 @@ impl PinEntry {
         }
     }
 
-    // The same with the word for `a`, where one is saved, replaced.
+    // This one, with the word for `a` replaced where one is saved.
     pub(crate) fn with(self, a: u64, v: u64) -> PinEntry
         ensures { result ≡ entry_with self a v }
     {

@@ -375,7 +375,7 @@ fn is_place(entries: &Vec<PinEntry>, i: usize, a: u64) -> bool
     are_above(entries, i, a)
 }
 
-// The same by a search.
+// The word that is saved for `a`, by a search.
 #[inline(never)]
 fn searched_in(entries: &Vec<PinEntry>, near: usize, a: u64) -> Option<u64>
     requires { AreRising 0 entries.now.items }

@@ -3,14 +3,13 @@ use Rattle.std.proofs.Common.{◌≡◌, ◌≢◌, ℕ, zero, suc, ◌+◌, ◌
 use Rattle.std.proofs.Common.{slice_set, Bool, true, false, if◌then◌else◌, nat_le, refl, sym, ap, ◌∙◌, arith, Some}
 use Rattle.std.proofs.Common.{None}
 use Rattle.std.specs.Prelude.{slice_get}
-use Rattle.std.specs.List.{AllByRecursion}
 use Rattle.std.proofs.lemmas.Bool.{and_parts, leb-true}
-use Rattle.std.proofs.lemmas.List.{drop_more, drop_all, drop-map, map-set, get_or-set_other, get_or-set_same}
+use Rattle.std.proofs.lemmas.List.{drop_more, drop_all, drop-map, map-set}
 use Rattle.clr_types.specs.Rising.{IsIn, first, later}
 use Rattle.clr_model.specs.Machine.{ThreadStep}
 use Rattle.clr_model.specs.Lookups.{is_step, is_thread, lowest_step_from, step_or_none}
 use Rattle.clr_safe.specs.declared.begun.Begun.{Begun}
-use Rattle.clr_safe.specs.declared.begun.Begun.TheVariants.{Birth, Nothing, Store}
+use Rattle.clr_safe.specs.declared.begun.Begun.TheVariants.{Nothing}
 use Rattle.clr_safe.specs.Threads.{begun_by, owed_by, owed_in, owes_entry, step_by, steps_of, Threads}
 
 -- ---- walks over all threads
@@ -100,33 +99,6 @@ owed-paid xs i what within owes none =
     let free : owed_by what ≡ 0 = ap (λ b. if b then 1 else 0) none in
     let one : owed_by (get_or xs i Nothing) ≡ 1 = ap (λ b. if b then 1 else 0) owes in
     omega (arith, all, free, one)
-
--- the thread has begun this, and the others what they had
-pub begun_by-same : (threads : Threads) (t : ℕ) (what : Begun) → t - 1 < length threads.begun
-    → get_or (set threads.begun (t - 1) what) (t - 1) Nothing ≡ what
-begun_by-same threads t what within = get_or-set_same threads.begun (t - 1) what Nothing within
-
-pub begun_by-other : (threads : Threads) (t u : ℕ) (what : Begun) → 1 ≤ t → 1 ≤ u → u ≢ t
-    → get_or (set threads.begun (t - 1) what) (u - 1) Nothing ≡ begun_by threads u
-begun_by-other threads t u what some there apart =
-    get_or-set_other threads.begun (t - 1) (u - 1) what Nothing (λ e. apart (omega arith))
-
--- ---- all at safe points
-
--- where no thread has a step, this one has begun nothing
-pub idle-at : (t i : ℕ) (xs : List Begun) → lowest_step_from t (map step_by xs) ≡ None → get_or xs i Nothing ≡ Nothing
-idle-at t i [] none = refl
-idle-at t zero (Nothing ∷ xs) none = refl
-idle-at t (suc i) (Nothing ∷ xs) none = idle-at (t + 1) i xs none
-idle-at t i (Store object slot ∷ xs) none = absurd cc
-idle-at t i (Birth type len local finalizer ∷ xs) none = absurd cc
-
--- and nothing is owed
-pub owed-idle : (t : ℕ) (xs : List Begun) → lowest_step_from t (map step_by xs) ≡ None → owed_in xs ≡ 0
-owed-idle t [] none = refl
-owed-idle t (Nothing ∷ xs) none = let rest = owed-idle (t + 1) xs none in omega (arith, rest)
-owed-idle t (Store object slot ∷ xs) none = absurd cc
-owed-idle t (Birth type len local finalizer ∷ xs) none = absurd cc
 
 -- what is begun stands in the list of steps
 pub begun-among : (xs : List Begun) (i : ℕ) (what : Begun) → i < length xs

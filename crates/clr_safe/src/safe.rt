@@ -132,7 +132,7 @@ impl Safe {
         self.count_owed()
     }
 
-    // The same, by a look at each thread.
+    // How many of the objects that threads have begun are to have a finalisation entry, by a look at each thread.
     #[inline(never)]
     fn count_owed(&self) -> usize
         ensures count { result ≡ births_owed self.now }

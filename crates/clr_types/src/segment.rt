@@ -52,7 +52,7 @@ impl SegInfo {
         self.base + FIRST_OFFSET
     }
 
-    /// The same segment, which is a small one now where it was ephemeral.
+    /// This segment as a small one, where it was ephemeral.
     pub fn sealed(self) -> SegInfo
         ensures { result ≡ segments.sealed_segment self }
     {

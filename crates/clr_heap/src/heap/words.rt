@@ -167,7 +167,7 @@ fn find(memories: &Vec<Mem>, near: usize, a: u64) -> usize
     near
 }
 
-// The same with no guess.
+// The number of the memory that an address lies in, by a search.
 #[inline(never)]
 fn search(memories: &Vec<Mem>, a: u64) -> usize
     requires word { HasWord memories.now.items a }

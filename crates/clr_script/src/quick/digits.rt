@@ -22,7 +22,7 @@ fn number_from(first: u8, text: &[u8]) -> Option<(u64, &[u8])>
     }
 }
 
-// The same number, where more digits stand behind its first one. Nothing goes on behind a digit 0.
+// The number that `front` begins and more digits go on, and what is behind them. Nothing goes on behind a digit 0.
 #[inline(always)]
 fn long_number(front: u64, text: &[u8]) -> (u64, &[u8])
     requires { front < 10 }

@@ -1,9 +1,9 @@
 -- Words that are looked through for one of a range of numbers.
 use Rattle.std.proofs.Common.{◌≡◌, ℕ, ◌+◌, ◌-◌, ◌*◌, ◌%◌, ◌<◌, ◌≤◌, ◌^◌, inl, inr, true, false, List, length}
-use Rattle.std.proofs.Common.{get_or, take, drop, ap, ◌∙◌, sym, subst, arith, ltb, leb}
+use Rattle.std.proofs.Common.{get_or, take, drop, ap, ◌∙◌, sym, subst, arith, ltb, leb, mul-suc, length-drop}
 use Rattle.std.proofs.lemmas.Bool.{leb-true, ltb-true, and_parts, and_from, le-leb, le-ltb, lt-ltb, cases_Bool}
 use Rattle.std.proofs.lemmas.Bool.{cases_lt}
-use Rattle.std.proofs.lemmas.List.{drop-drop, drop-take, drop_all}
+use Rattle.std.proofs.lemmas.List.{drop-drop, drop-take, drop_all, take_all, get_or-drop, get_or-take}
 use Rattle.clr_mem.specs.Stored.{with_zeros}
 use Rattle.clr_mem.specs.Words.{is_between, spelled}
 use Rattle.clr_mem.proofs.Padding.{seen-word}
@@ -47,24 +47,90 @@ between-zero low high word above is =
       | inr out ↦ out
     ]
 
--- what holds of the first words and of the next one holds of one more
-pub before-more : (low high : ℕ) (bytes : List ℕ) (n : ℕ)
-    → ((j : ℕ) → j < n → is_between low high (spelled (drop (8 * j) bytes)) ≡ false)
-    → is_between low high (spelled (drop (8 * n) bytes)) ≡ false
-    → (j : ℕ) → j < n + 1 → is_between low high (spelled (drop (8 * j) bytes)) ≡ false
-before-more low high bytes n before next j l =
+-- what holds of the first n words and of the next one holds of one more
+pub before-more : (low high : ℕ) (word : ℕ → ℕ) (n : ℕ)
+    → ((j : ℕ) → j < n → is_between low high (word j) ≡ false)
+    → is_between low high (word n) ≡ false
+    → (j : ℕ) → j < n + 1 → is_between low high (word j) ≡ false
+before-more low high word n before next j l =
     elim (cases_lt j n) [
       | inl earlier ↦ before j earlier
       | inr here ↦
           let is : n ≡ j = omega (arith, l, here) in
-          subst (λ k. is_between low high (spelled (drop (8 * k) bytes)) ≡ false) is next
+          subst (λ k. is_between low high (word k) ≡ false) is next
     ]
 
--- the bytes behind the next word
-pub rest-next : (bytes rest more : List ℕ) (n : ℕ) → rest ≡ drop (8 * n) bytes → more ≡ drop 8 rest
-    → more ≡ drop (8 * (n + 1)) bytes
-rest-next bytes rest more n is next =
-    next ∙ ap (drop 8) is ∙ drop-drop 8 (8 * n) bytes ∙ ap (λ k. drop k bytes) (omega arith)
+-- what holds of the first k words and of the n words behind them holds of all these
+pub before-both : (low high : ℕ) (word behind : ℕ → ℕ) (k n : ℕ)
+    → ((j : ℕ) → j < n → behind j ≡ word (k + j))
+    → ((j : ℕ) → j < k → is_between low high (word j) ≡ false)
+    → ((j : ℕ) → j < n → is_between low high (behind j) ≡ false)
+    → (j : ℕ) → j < k + n → is_between low high (word j) ≡ false
+before-both low high word behind k n same first second j l =
+    elim (cases_lt j k) [
+      | inl earlier ↦ first j earlier
+      | inr later ↦
+          let i = j - k in
+          let within : i < n = omega (arith, l, later) in
+          let place : k + i ≡ j = omega (arith, later) in
+          ap (is_between low high) (sym (same i within ∙ ap word place)) ∙ second i within
+    ]
+
+grow : (step n : ℕ) → step * n + step ≡ step * (n + 1)
+grow step n = sym (mul-suc step n) ∙ ap (λ k. step * k) (omega arith)
+
+-- the bytes behind the next `step` ones
+pub rest-next : (step : ℕ) (bytes rest more : List ℕ) (n : ℕ) → rest ≡ drop (step * n) bytes → more ≡ drop step rest
+    → more ≡ drop (step * (n + 1)) bytes
+rest-next step bytes rest more n is next =
+    next ∙ ap (drop step) is ∙ drop-drop step (step * n) bytes
+    ∙ ap (λ (k : ℕ). drop k bytes) (grow step n)
+
+-- a word of n bytes from `at` on
+pub word-inside : (bytes : List ℕ) (at n j : ℕ) → 8 * j + 8 ≤ n
+    → spelled (drop (8 * j) (take n (drop at bytes))) ≡ spelled (drop (at + 8 * j) bytes)
+word-inside bytes at n j within =
+    let left = n - 8 * j in
+    let sum : n ≡ 8 * j + left = omega (arith, within) in
+    ap (λ (k : ℕ). spelled (drop (8 * j) (take k (drop at bytes)))) sum
+    ∙ ap spelled (drop-take (8 * j) left (drop at bytes))
+    ∙ spelled-take left (drop (8 * j) (drop at bytes)) (omega (arith, within))
+    ∙ ap spelled (drop-drop (8 * j) at bytes)
+
+-- a word of the eight behind n eights
+pub word-of_eight : (bytes eight : List ℕ) (n j : ℕ) → eight ≡ take 64 (drop (64 * n) bytes) → j < 8
+    → spelled (drop (8 * j) eight) ≡ spelled (drop (8 * (8 * n + j)) bytes)
+word-of_eight bytes eight n j is l =
+    ap (λ (ys : List ℕ). spelled (drop (8 * j) ys)) is
+    ∙ word-inside bytes (64 * n) 64 j (omega (arith, l))
+    ∙ ap (λ (i : ℕ). spelled (drop i bytes)) (omega arith)
+
+-- a word of the first eight
+pub word-front : (bytes eight : List ℕ) (j : ℕ) → eight ≡ take 64 bytes → j < 8
+    → spelled (drop (8 * j) eight) ≡ spelled (drop (8 * j) bytes)
+word-front bytes eight j is l =
+    word-of_eight bytes eight 0 j is l ∙ ap (λ (i : ℕ). spelled (drop i bytes)) (omega arith)
+
+-- word j behind the first k words
+pub word-behind : (bytes rest : List ℕ) (k j : ℕ) → rest ≡ drop (8 * k) bytes
+    → spelled (drop (8 * j) rest) ≡ spelled (drop (8 * (k + j)) bytes)
+word-behind bytes rest k j is =
+    ap (λ (ys : List ℕ). spelled (drop (8 * j) ys)) is
+    ∙ ap spelled (drop-drop (8 * j) (8 * k) bytes ∙ ap (λ (i : ℕ). drop i bytes) (omega arith))
+
+-- all that stands from i on
+pub rest-whole : (xs : List ℕ) (i : ℕ) → take (length xs - i) (drop i xs) ≡ drop i xs
+rest-whole xs i = take_all (length xs - i) (drop i xs) (omega (arith, length-drop i xs))
+
+-- a number of the first eight
+pub number-front : (numbers eight : List ℕ) (j : ℕ) → eight ≡ take 8 numbers → j < 8
+    → get_or eight j 0 ≡ get_or numbers j 0
+number-front numbers eight j is l = ap (λ (ys : List ℕ). get_or ys j 0) is ∙ get_or-take 8 numbers j 0 l
+
+-- number j behind the first k numbers
+pub number-behind : (numbers rest : List ℕ) (k j : ℕ) → rest ≡ drop k numbers
+    → get_or rest j 0 ≡ get_or numbers (k + j) 0
+number-behind numbers rest k j is = ap (λ (ys : List ℕ). get_or ys j 0) is ∙ get_or-drop k numbers j 0
 
 -- whole words are stored, of which `count` bytes are among the n words from `at` on
 pub whole-count : (n at len count : ℕ) → at % 8 ≡ 0 → len % 8 ≡ 0 → count ≤ 8 * n → (0 < count → at + count ≤ len)
@@ -89,13 +155,8 @@ module _ (size : ℕ) (xs v : List ℕ) (view : with_zeros size xs ≡ v) (insid
   pub seen-part : (bytes : List ℕ) → bytes ≡ xs → (at n j : ℕ) → 8 * j + 8 ≤ n
       → spelled (drop (8 * j) (take n (drop at bytes))) ≡ spelled (drop (at + 8 * j) v)
   seen-part bytes is at n j within =
-      let left = n - 8 * j in
-      let sum : n ≡ 8 * j + left = omega (arith, within) in
       ap (λ (ys : List ℕ). spelled (drop (8 * j) (take n (drop at ys)))) is
-      ∙ ap (λ (k : ℕ). spelled (drop (8 * j) (take k (drop at xs)))) sum
-      ∙ ap spelled (drop-take (8 * j) left (drop at xs))
-      ∙ spelled-take left (drop (8 * j) (drop at xs)) (omega (arith, within))
-      ∙ ap spelled (drop-drop (8 * j) at xs)
+      ∙ word-inside xs at n j within
       ∙ seen-word size xs v view inside (at + 8 * j)
 
   -- a word behind the stored bytes

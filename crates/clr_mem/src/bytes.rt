@@ -17,6 +17,9 @@ const STEP: usize = 1 << 16;
 // The first of them up to a multiple of this, so that small stretches take little.
 const FIRST_STEP: usize = 1 << 12;
 
+// How many bytes eight words have.
+const EIGHT: usize = 64;
+
 // Sees to it that the byte at `at` is stored. The room of all `size` bytes is reserved.
 #[inline(always)]
 pub fn reach(bytes: &mut Vec<u8>, size: usize, at: usize)
@@ -65,7 +68,8 @@ pub fn load_word(bytes: &Vec<u8>, at: usize) -> u64
 }
 
 // Of the words that the bytes spell, the number of the first one that is one of the numbers from `low` to below `high`,
-// and how many words there are where none is. A word below `low` wraps to a number that is no less than `size`.
+// and how many words there are where none is. The first eight words are looked at singly, as mostly one of them is in
+// the range or there are no more. Then it goes by eights.
 #[inline(always)]
 pub fn first_word_between(bytes: &[u8], low: u64, high: u64) -> usize
     requires whole { length bytes.now % 8 ≡ 0 }
@@ -74,11 +78,94 @@ pub fn first_word_between(bytes: &[u8], low: u64, high: u64) -> usize
     ensures found { 8 * result < length bytes.now
         → is_between low high (spelled (drop (8 * result) bytes.now)) ≡ true }
 {
-    let size = high.saturating_sub(low);
+    let Some((eight, rest)) = bytes.split_first_chunk::<EIGHT>() else {
+        return next_between(bytes, low, high);
+    };
+    let met = next_between(eight, low, high);
+    if met < 8 {
+        return met;
+    }
+    8 + first_by_eights(rest, low, high)
+}
+
+// The number of the first word from `low` to below `high`, as `first_word_between` finds it, by eights of words, up to
+// the first eight that has one. It stands apart, so that the search of a few words stays small where it is inlined.
+#[inline(never)]
+fn first_by_eights(bytes: &[u8], low: u64, high: u64) -> usize
+    requires whole { length bytes.now % 8 ≡ 0 }
+    ensures most { 8 * result ≤ length bytes.now }
+    ensures before { (j : ℕ) → j < result → is_between low high (spelled (drop (8 * j) bytes.now)) ≡ false }
+    ensures found { 8 * result < length bytes.now
+        → is_between low high (spelled (drop (8 * result) bytes.now)) ≡ true }
+{
+    let passed = passed_eights(bytes, low, high);
+    8 * passed + next_between(&bytes[EIGHT * passed..], low, high)
+}
+
+// How many eights of words come before the first eight that has one of the numbers from `low` to below `high`, or
+// before the last words, where these are less than eight.
+#[inline(always)]
+fn passed_eights(bytes: &[u8], low: u64, high: u64) -> usize
+    ensures most { 64 * result ≤ length bytes.now }
+    ensures before { (j : ℕ) → j < 8 * result → is_between low high (spelled (drop (8 * j) bytes.now)) ≡ false }
+{
+    let mut rest = bytes;
+    let mut passed = 0;
+    while let Some((eight, more)) = rest.split_first_chunk::<EIGHT>() {
+        if is_any_between(eight, low, high) {
+            return passed;
+        }
+        rest = more;
+        passed += 1;
+    }
+    passed
+}
+
+// Whether one of eight words is one of the numbers from `low` to below `high`. Each is looked at, whatever the others
+// are, so that all are tested without a jump.
+#[inline(always)]
+fn is_any_between(eight: &[u8; 64], low: u64, high: u64) -> bool
+    ensures { result ≡ false
+        → (j : ℕ) → j < 8 → is_between low high (spelled (drop (8 * j) eight.now)) ≡ false }
+{
+    let mut any = false;
+    for i in 0..8 {
+        any |= is_number_between(number_at(eight, i), low, high);
+    }
+    any
+}
+
+// The number that word `i` of eight spells.
+#[inline(always)]
+fn number_at(eight: &[u8; 64], i: usize) -> u64
+    requires { i < 8 }
+    ensures { result ≡ spelled (drop (8 * i) eight.now) }
+{
+    LittleEndian::read_u64(&eight[8 * i..8 * i + 8])
+}
+
+// Whether a number is one of those from `low` to below `high`. One below `low` wraps to no less than their count.
+#[inline(always)]
+pub fn is_number_between(number: u64, low: u64, high: u64) -> bool
+    ensures { result ≡ is_between low high number }
+{
+    number.wrapping_sub(low) < high.saturating_sub(low)
+}
+
+// Of the words that the bytes spell, the number of the first one that is one of the numbers from `low` to below `high`,
+// and how many words there are where none is, by looking at one after another.
+#[inline(always)]
+fn next_between(bytes: &[u8], low: u64, high: u64) -> usize
+    requires whole { length bytes.now % 8 ≡ 0 }
+    ensures most { 8 * result ≤ length bytes.now }
+    ensures before { (j : ℕ) → j < result → is_between low high (spelled (drop (8 * j) bytes.now)) ≡ false }
+    ensures found { 8 * result < length bytes.now
+        → is_between low high (spelled (drop (8 * result) bytes.now)) ≡ true }
+{
     let mut rest = bytes;
     let mut passed = 0;
     while let Some((word, more)) = rest.split_first_chunk::<8>() {
-        if LittleEndian::read_u64(word).wrapping_sub(low) < size {
+        if is_number_between(LittleEndian::read_u64(word), low, high) {
             return passed;
         }
         rest = more;

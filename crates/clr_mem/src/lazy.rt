@@ -112,8 +112,8 @@ impl LazyBytes {
         }
     }
 
-    // The same where the word isn't stored yet. It stands apart, and is the last that a write does, so that what writes
-    // inline needs no frame for it.
+    // Writes a number over the eight bytes from `at` on, which aren't stored yet. It stands apart, and is the last that
+    // a write does, so that what writes inline needs no frame for it.
     #[cold]
     #[inline(never)]
     fn set_word_beyond(&mut self, at: usize, v: u64)
@@ -149,7 +149,7 @@ impl LazyBytes {
         }
     }
 
-    // The same where the byte isn't stored yet.
+    // Writes the byte at `at`, which isn't stored yet.
     #[cold]
     #[inline(never)]
     fn set_byte_beyond(&mut self, at: usize, v: u8)

@@ -77,8 +77,9 @@ impl Mem {
         })
     }
 
-    /// The same, in pages of 4 KiB: those take memory that words were written to, and no others. A read or write costs
-    /// more than one of a memory that isn't sparse, so it is for memory of which little is written.
+    /// `len` zero bytes from the address `base` on, in pages of 4 KiB: those take memory that words were written to,
+    /// and no others. `NoMemory` comes only where the allocator has no room for them. A read or write costs more than
+    /// one of a memory that isn't sparse, so it is for memory of which little is written.
     pub fn sparse(alloc: Global, base: u64, len: u64) -> Result<Mem, NoMemory>
         requires base_aligned { base % 8 ≡ 0 }
         requires len_aligned { len % 4096 ≡ 0 }
@@ -296,7 +297,7 @@ impl Mem {
         self.bytes.carry(at, &other.bytes, start, len as usize);
     }
 
-    // The same word by word.
+    // Copies the `len` bytes from `from` on of another memory to `to`, word by word.
     #[cold]
     fn carry_words(&mut self, to: u64, other: &Mem, from: u64, len: u64)
         requires to_in { Holds self.old to len }

@@ -6,6 +6,7 @@ ghost use Rattle.clr_mem.specs.Paged as paged;
 ghost use Rattle.clr_mem.specs.Paged.{IsPaged, paged_words};
 ghost use Rattle.clr_mem.specs.Words.{is_between, overwrite, part, zeros};
 
+use crate::bytes::is_number_between;
 use std::alloc::{AllocError, Global};
 use std::marker::Model;
 
@@ -115,7 +116,8 @@ impl PagedWords {
         n
     }
 
-    // The same where the words lie in one page.
+    // The number of the first word from `low` to below `high`, as `first_between` finds it, where the words lie in one
+    // page.
     fn first_in_page(&self, i: usize, n: usize, low: u64, high: u64) -> usize
         requires inside { i + n ≤ length self.now }
         requires page { i % 512 + n ≤ 512 }
@@ -185,7 +187,7 @@ impl PagedWords {
         }
     }
 
-    // The same where the words lie in one page.
+    // Writes zeros over `n` words from `at` on, which lie in one page.
     fn clear_in_page(&mut self, at: usize, n: usize)
         requires inside { at + n ≤ length self.old }
         requires page { at % 512 + n ≤ 512 }
@@ -280,15 +282,78 @@ fn reach_number(numbers: &mut Vec<usize>, page: usize)
 }
 
 // Of these words, the number of the first one that is one of the numbers from `low` to below `high`, and how many words
-// there are where none is. A word below `low` wraps to a number that is no less than `size`.
+// there are where none is. The first eight are looked at singly, as mostly one of them is in the range or there are no
+// more. Then it goes by eights.
+#[inline]
 fn first_number_between(words: &[u64], low: u64, high: u64) -> usize
     ensures most { result ≤ length words.now }
     ensures before { (j : ℕ) → j < result → is_between low high (get_or words.now j 0) ≡ false }
     ensures found { result < length words.now → is_between low high (get_or words.now result 0) ≡ true }
 {
-    let size = high.saturating_sub(low);
+    let Some((eight, rest)) = words.split_first_chunk::<8>() else {
+        return next_number_between(words, low, high);
+    };
+    let met = next_number_between(eight, low, high);
+    if met < 8 {
+        return met;
+    }
+    8 + first_number_by_eights(rest, low, high)
+}
+
+// The number of the first word from `low` to below `high`, as `first_number_between` finds it, by eights of words, up
+// to the first eight that has one. It stands apart, so that the search of a few words stays small where it is inlined.
+#[inline(never)]
+fn first_number_by_eights(words: &[u64], low: u64, high: u64) -> usize
+    ensures most { result ≤ length words.now }
+    ensures before { (j : ℕ) → j < result → is_between low high (get_or words.now j 0) ≡ false }
+    ensures found { result < length words.now → is_between low high (get_or words.now result 0) ≡ true }
+{
+    let passed = passed_eights(words, low, high);
+    8 * passed + next_number_between(&words[8 * passed..], low, high)
+}
+
+// How many eights of words come before the first eight that has one of the numbers from `low` to below `high`, or
+// before the last words, where these are less than eight.
+#[inline(always)]
+fn passed_eights(words: &[u64], low: u64, high: u64) -> usize
+    ensures most { 8 * result ≤ length words.now }
+    ensures before { (j : ℕ) → j < 8 * result → is_between low high (get_or words.now j 0) ≡ false }
+{
+    let mut rest = words;
+    let mut passed = 0;
+    while let Some((eight, more)) = rest.split_first_chunk::<8>() {
+        if is_any_between(eight, low, high) {
+            return passed;
+        }
+        rest = more;
+        passed += 1;
+    }
+    passed
+}
+
+// Whether one of eight words is one of the numbers from `low` to below `high`. Each is looked at, whatever the others
+// are, so that all are tested without a jump.
+#[inline(always)]
+fn is_any_between(eight: &[u64; 8], low: u64, high: u64) -> bool
+    ensures { result ≡ false → (j : ℕ) → j < 8 → is_between low high (get_or eight.now j 0) ≡ false }
+{
+    let mut any = false;
+    for i in 0..8 {
+        any |= is_number_between(eight[i], low, high);
+    }
+    any
+}
+
+// Of these words, the number of the first one that is one of the numbers from `low` to below `high`, and how many words
+// there are where none is, by looking at one after another.
+#[inline(always)]
+fn next_number_between(words: &[u64], low: u64, high: u64) -> usize
+    ensures most { result ≤ length words.now }
+    ensures before { (j : ℕ) → j < result → is_between low high (get_or words.now j 0) ≡ false }
+    ensures found { result < length words.now → is_between low high (get_or words.now result 0) ≡ true }
+{
     for i in 0..words.len() {
-        if words[i].wrapping_sub(low) < size {
+        if is_number_between(words[i], low, high) {
             return i;
         }
     }

@@ -1,37 +1,37 @@
-use Rattle.std.proofs.Common.{◌≡◌, ◌*◌, drop, ap, sym, ◌∙◌, arith}
+use Rattle.std.proofs.Common.{◌*◌, drop, ap, sym, ◌∙◌, arith}
 use Rattle.clr_mem.specs.Words.{is_between, spelled}
-use Rattle.clr_mem.proofs.Between.{before-more, between-far, between-near, rest-next}
-use Rattle.clr_mem.proofs.Spelling.{spelled-take}
+use Rattle.clr_mem.proofs.Between.{before-both, word-behind, word-front}
 use Rattle.clr_mem.proofs.bytes.first_word_between.Goals as goal
 
-pub returns-then-read_u64-low-clause-found : goal.returns-then-read_u64-low-clause-found
-unfolding spelled
-returns-then-read_u64-low-clause-found c = λ _.
-    let xs = c.args.bytes.now in
-    let n = c.loop-word.passed in
-    let word : c.read_u64.result ≡ spelled (drop (8 * n) xs) =
-    c.read_u64.ensures ∙ ap spelled c.in-Some.ensures.cases.0 ∙ spelled-take 8 c.loop-word.rest.now (omega arith)
-    ∙ ap spelled c.loop-word.invariant.rest in
-    ap (is_between c.args.low c.args.high) (sym word)
-    ∙ between-near c.args.low c.args.high c.read_u64.result c.saturating_sub-size.result c.ranges.low.fits
-    c.ranges.high.fits c.read_u64.type_inv c.saturating_sub-size.ensures c.if-read_u64-low.true
+pub returns-then-met-lt8-clause-before : goal.returns-then-met-lt8-clause-before
+returns-then-met-lt8-clause-before c = λ j l.
+    let few = c.if-met-lt8.true in
+    ap (is_between c.args.low c.args.high)
+    (sym (word-front c.args.bytes.now c.in-Some.eight.now j c.in-Some.ensures.cases.0 (omega (arith, l, few))))
+    ∙ c.next_between-met.ensures.before j l
 
-pub loop-word-preserved : goal.loop-word-preserved
-unfolding spelled
-loop-word-preserved c =
-    let xs = c.args.bytes.now in
-    let n = c.loop-word.passed in
-    let cut = c.in-Some.ensures.cases in
-    let word : c.read_u64.result ≡ spelled (drop (8 * n) xs) =
-    c.read_u64.ensures ∙ ap spelled cut.0 ∙ spelled-take 8 c.loop-word.rest.now (omega arith)
-    ∙ ap spelled c.loop-word.invariant.rest in
-    let far = between-far c.args.low c.args.high c.read_u64.result c.saturating_sub-size.result c.ranges.low.fits
-    c.ranges.high.fits c.read_u64.type_inv c.saturating_sub-size.ensures c.if-read_u64-low.false in
-    let left = cut.2 in
-    record {
-      rest = rest-next xs c.loop-word.rest.now c.in-Some.more.now n c.loop-word.invariant.rest cut.1;
-      sum = let sum = c.loop-word.invariant.sum in omega (arith, left, sum);
-      before =
-          before-more c.args.low c.args.high xs n c.loop-word.invariant.before
-          (ap (is_between c.args.low c.args.high) (sym word) ∙ far);
-    }
+pub returns-then-met-lt8-clause-found : goal.returns-then-met-lt8-clause-found
+returns-then-met-lt8-clause-found c = λ _.
+    let few = c.if-met-lt8.true in
+    ap (is_between c.args.low c.args.high)
+    (sym (word-front c.args.bytes.now c.in-Some.eight.now c.next_between-met.result c.in-Some.ensures.cases.0 few))
+    ∙ c.next_between-met.ensures.found (omega arith)
+
+pub returns-clause-before : goal.returns-clause-before
+returns-clause-before c =
+    let met = c.if-met-lt8.false in
+    before-both c.args.low c.args.high (λ j. spelled (drop (8 * j) c.args.bytes.now))
+    (λ j. spelled (drop (8 * j) c.in-Some.rest.now)) 8 c.first_by_eights.result
+    (λ j _. word-behind c.args.bytes.now c.in-Some.rest.now 8 j c.in-Some.ensures.cases.1)
+    (λ j l.
+    ap (is_between c.args.low c.args.high)
+    (sym (word-front c.args.bytes.now c.in-Some.eight.now j c.in-Some.ensures.cases.0 l))
+    ∙ c.next_between-met.ensures.before j (omega (arith, l, met)))
+    c.first_by_eights.ensures.before
+
+pub returns-clause-found : goal.returns-clause-found
+returns-clause-found c = λ l.
+    let left = c.in-Some.ensures.cases.2 in
+    ap (is_between c.args.low c.args.high)
+    (sym (word-behind c.args.bytes.now c.in-Some.rest.now 8 c.first_by_eights.result c.in-Some.ensures.cases.1))
+    ∙ c.first_by_eights.ensures.found (omega (arith, l, left))

@@ -1,6 +1,6 @@
 use Rattle.std.proofs.Common.{◌≡◌, ℕ, ◌+◌, ◌*◌, ◌<◌, length, drop, false}
 use Rattle.clr_mem.specs.Words.{is_between, spelled}
-use Rattle.clr_mem.proofs.bytes.first_word_between.Given as goal
+use Rattle.clr_mem.proofs.bytes.next_between.Given as goal
 
 abbrev pub invariant-loop-word : goal.invariant-loop-word
 invariant-loop-word l =

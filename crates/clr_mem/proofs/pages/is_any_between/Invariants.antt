@@ -1,0 +1,6 @@
+use Rattle.std.proofs.Common.{◌≡◌, ℕ, ◌<◌, get_or, false}
+use Rattle.clr_mem.specs.Words.{is_between}
+use Rattle.clr_mem.proofs.pages.is_any_between.Given as goal
+
+abbrev pub invariant-loop-i : goal.invariant-loop-i
+invariant-loop-i l = l.any ≡ false → (j : ℕ) → j < l.i → is_between l.low l.high (get_or l.eight j 0) ≡ false

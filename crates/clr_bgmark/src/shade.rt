@@ -12,11 +12,12 @@ ghost use Rattle.clr_bgmark.specs.Shades.{with_scanned, with_set};
 use crate::background::Colour;
 use crate::bits::Bits;
 use crate::pending::Pending;
+use clr_cards::CARD;
 use std::alloc::{AllocError, Global};
 use std::marker::Model;
 
 // How many places of eight bytes a card has.
-const CARD_CELLS: u64 = 2048 / 8;
+const CARD_CELLS: u64 = CARD / 8;
 
 /// What a bit says: of a place that its object was taken, is marked or was scanned, or of a card that it is logged.
 #[derive(Clone, Copy, Debug, PartialEq, Eq)]
@@ -95,7 +96,7 @@ impl Shade {
         let taken = Bits::new(alloc, size / 8)?;
         let marked = Bits::new(alloc, size / 8)?;
         let scanned = Bits::new(alloc, size / 8)?;
-        let logged = Bits::new(alloc, size / 2048)?;
+        let logged = Bits::new(alloc, size / CARD)?;
         let pending = Pending::new(alloc, size / 512)?;
         Ok(Shade {
             base,
@@ -212,7 +213,7 @@ impl Shade {
         requires { covers self.now a ≡ true }
         ensures { result ≡ has_bit self.now.logged (card_of self.now a) }
     {
-        self.logged.has((a - self.base) / 2048)
+        self.logged.has((a - self.base) / CARD)
     }
 
     /// The first gray place, one that is marked and wasn't scanned: it is scanned then.
@@ -311,9 +312,9 @@ impl Shade {
         ensures few { result < 2 ^ 52 }
         ensures clear { (k : ℕ) → card ≤ k → k < result → has_bit self.now.logged k ≡ false }
     {
-        match self.logged.first(card, self.size / 2048) {
+        match self.logged.first(card, self.size / CARD) {
             Some(next) => next,
-            None => self.size / 2048,
+            None => self.size / CARD,
         }
     }
 
@@ -329,7 +330,7 @@ impl Shade {
                 self.pending.add((a - self.base) / 512);
             }
             Bit::Scanned => self.scanned.add((a - self.base) / 8),
-            Bit::Logged => self.logged.add((a - self.base) / 2048),
+            Bit::Logged => self.logged.add((a - self.base) / CARD),
         }
     }
 

@@ -1,6 +1,6 @@
 -- Bricks: their entries, and where following back entries leads.
 use Rattle.std.specs.Prelude.{◌≡◌, ℕ, suc, ◌+◌, ◌-◌, ◌/◌, ◌<◌, ◌≤◌, ◌⊎◌, ℤ, pos, negsuc, if◌then◌else◌, List, [], ◌∷◌}
-use Rattle.std.specs.Prelude.{Option, MatchOption}
+use Rattle.std.specs.Prelude.{Option, MatchOption, ◌&&◌, nat_le, nat_lt}
 use Rattle.clr_covers.specs.Covers.{cover_of, CoverView, has_unit, same_values, value_at}
 
 -- the entry of a brick: 0 for none, one more than an offset, or less than 0 by how many bricks to go back
@@ -14,6 +14,15 @@ root_entry offset = pos (offset + 1)
 -- the entry that leads this many bricks back
 abbrev pub back_entry : ℕ → ℤ
 back_entry back = negsuc (back - 1)
+
+-- how many bricks one back entry goes back of so many
+abbrev pub hop : ℕ → ℕ
+hop far = if nat_lt far 32767 then far else 32767
+
+-- the entries when those of the bricks of [next, to) lead back to the brick below `next`
+abbrev pub led_back : (ℕ → ℤ) → ℕ → ℕ → ℕ → ℤ
+led_back entry next to brick =
+    if nat_le next brick && nat_lt brick to then back_entry (hop (brick + 1 - next)) else entry brick
 
 -- the bricks of [base, base + len), without entries
 abbrev pub new_bricks : ℕ → ℕ → CoverView ℤ

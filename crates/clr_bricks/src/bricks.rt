@@ -5,11 +5,13 @@ ghost use Rattle.std.specs.Prelude.{OnErr, OnOk};
 ghost use Rattle.std.specs.List.{remove};
 ghost use Rattle.clr_covers.specs.Covers.{AreApart, begins, has_unit, is_covered, IsFree, share_cover, spans};
 ghost use Rattle.clr_covers.specs.Covers.{with_cover, with_value, without_cover};
-ghost use Rattle.clr_bricks.specs.Bricks.{back_entry, entry_at, LeadsNowhere, LeadsToRoot, new_bricks, root_entry};
-ghost use Rattle.clr_bricks.specs.Bricks.{StopsAt};
+ghost use Rattle.clr_bricks.specs.Bricks as specs;
+ghost use Rattle.clr_bricks.specs.Bricks.{back_entry, entry_at, IsRoot, LeadsNowhere, LeadsToRoot, led_back};
+ghost use Rattle.clr_bricks.specs.Bricks.{new_bricks, root_entry, StopsAt};
 
 use crate::NoMemory;
-use crate::search::search;
+use crate::leading::{count_led, hop};
+use crate::search::{first_root, search};
 use clr_covers::Covers;
 use clr_nums::{Grid, Steps};
 use std::alloc::Global;
@@ -112,6 +114,19 @@ impl Bricks {
         self.put(brick, -(back as i16));
     }
 
+    /// Lets the bricks from `from` to below `past`, if there are any, lead back to the one below `from`. One cover has
+    /// them all. Those before the first one that doesn't lead there yet cost a compare each. All other entries stay.
+    pub fn lead_back(&mut self, from: u64, past: u64)
+        requires order { from ≤ past }
+        requires shared { from < past → share_cover self.old from (past - 1) ≡ true }
+        ensures entries { (i : ℕ) → entry_at self.new i ≡ led_back (entry_at self.old) from past i }
+        ensures spans { spans self.new ≡ spans self.old }
+    {
+        for brick in self.led_up_to(from, past)..past {
+            self.set_back(brick, hop(brick - from + 1));
+        }
+    }
+
     /// Takes a brick's entry away. All other entries stay.
     #[inline]
     pub fn set_none(&mut self, brick: u64)
@@ -144,13 +159,29 @@ impl Bricks {
         self.entry_near(self.covers.recent(), brick)
     }
 
-    /// The same with a guess.
+    /// The entry of a brick; `near` is a guess of the number of its cover.
     #[inline(always)]
     pub fn entry_near(&self, near: usize, brick: u64) -> i16
         requires { is_covered self.now brick ≡ true }
         ensures { result ≡ entry_at self.now brick }
     {
         self.covers.get(near, brick)
+    }
+
+    /// The first brick from `from` on and below `past` whose entry names an offset, and `past` where none does. One
+    /// cover has them all. It costs a compare for each brick that it passes.
+    pub fn next_root(&self, from: u64, past: u64) -> u64
+        requires { from < past → share_cover self.now from (past - 1) ≡ true }
+        ensures low { from ≤ past → from ≤ result }
+        ensures high { result ≤ past }
+        ensures none { (i : ℕ) → from ≤ i → i < result → IsRoot (entry_at self.now i) → ⊥ }
+        ensures found { result < past → IsRoot (entry_at self.now result) }
+    {
+        if from >= past {
+            return past;
+        }
+        let entries = self.covers.values(self.covers.recent(), from, past);
+        from + first_root(entries) as u64
     }
 
     /// The brick that names an offset, found from the brick of the address `a` on by following back entries. `None`
@@ -167,7 +198,7 @@ impl Bricks {
         self.find_brick_near(self.covers.recent(), a, steps)
     }
 
-    /// The same with a guess.
+    /// The brick that names an offset, as `find_brick` finds it; `near` is a guess of the number of the cover.
     pub fn find_brick_near<L: Ledger>(
         &self,
         near: usize,
@@ -184,6 +215,22 @@ impl Bricks {
         let from = Grid::<4096>::index(a);
         let k = self.covers.locate(near, from);
         search(&self.covers, k, from, steps)
+    }
+
+    // The first brick from `from` on and below `past` that doesn't lead back to the one below `from`, and `past` where
+    // each does.
+    fn led_up_to(&self, from: u64, past: u64) -> u64
+        requires order { from ≤ past }
+        requires shared { from < past → share_cover self.now from (past - 1) ≡ true }
+        ensures low { from ≤ result }
+        ensures high { result ≤ past }
+        ensures led { (i : ℕ) → from ≤ i → i < result → entry_at self.now i ≡ back_entry (specs.hop (i + 1 - from)) }
+    {
+        if from == past {
+            return past;
+        }
+        let entries = self.covers.values(self.covers.recent(), from, past);
+        from + count_led(entries) as u64
     }
 
     // Gives a brick an entry.

@@ -5,7 +5,9 @@
 #![tactic(auto)]
 
 mod bricks;
+mod leading;
 mod search;
 
 pub use crate::bricks::Bricks;
+pub use crate::leading::hop;
 pub use clr_mem::NoMemory;

@@ -1,7 +1,7 @@
-// The search for the brick that names an offset.
-ghost use Rattle.std.specs.Prelude.{◌-◌, ◌≤◌, IfSome};
+// The search for the brick that names an offset, below a brick and above it.
+ghost use Rattle.std.specs.Prelude.{ℕ, ◌-◌, ◌<◌, ◌≤◌, ◌↔◌, IfSome, IsTrue, get_or, length, pos};
 ghost use Rattle.clr_covers.specs.Covers.{IsAt};
-ghost use Rattle.clr_bricks.specs.Bricks.{IsSearched};
+ghost use Rattle.clr_bricks.specs.Bricks.{IsRoot, IsSearched};
 
 use clr_covers::Covers;
 use clr_nums::Steps;
@@ -36,4 +36,25 @@ pub(crate) fn search<L: Ledger>(
         }
         at -= back;
     }
+}
+
+// The place of the first of these entries that names an offset, and how many there are where none does.
+pub(crate) fn first_root(entries: &[i16]) -> usize
+    ensures within { result ≤ length entries.now }
+    ensures none { (i : ℕ) → i < result → IsRoot (get_or entries.now i (pos 0)) → ⊥ }
+    ensures found { result < length entries.now → IsRoot (get_or entries.now result (pos 0)) }
+{
+    let mut at = 0;
+    while at < entries.len() && !is_root(entries[at]) {
+        at += 1;
+    }
+    at
+}
+
+// Whether an entry names an offset.
+#[inline(always)]
+fn is_root(entry: i16) -> bool
+    ensures { IsTrue result ↔ IsRoot entry }
+{
+    entry > 0
 }

@@ -13,6 +13,9 @@ use clr_nums::Grid;
 use std::alloc::Global;
 use std::marker::Model;
 
+/// How many bytes a card covers.
+pub const CARD: u64 = 2048;
+
 /// A card for each 2,048 bytes of what is covered, set or clear. Clauses see the covers, by rising address, and the
 /// card of an address by its number, that of the 2,048 bytes in which the address lies.
 ///
@@ -57,95 +60,96 @@ impl Cards {
         requires len_aligned { len % 4096 ≡ 0 }
         requires some { 0 < len }
         requires fits { base + len < 2 ^ 64 }
-        requires free { IsFree self.old (base / 2048) ((base + len) / 2048) }
+        requires free { IsFree self.old (base / CARD) ((base + len) / CARD) }
         ensures ok { OnOk result (self.new ≡ with_cover (clear_cards base len) self.old) }
         ensures covered { OnOk result ((i : ℕ) → is_covered self.new i
             ≡ (has_unit (clear_cards base len) i || is_covered self.old i)) }
         ensures cards { (i : ℕ) → is_card_set self.new i ≡ is_card_set self.old i }
         ensures err { OnErr result (self.new ≡ self.old) }
     {
-        let count = len / 2048;
+        let count = len / CARD;
         self.covers
-            .add(Grid::<2048>::index(base), count as usize, 0)
+            .add(Grid::<CARD>::index(base), count as usize, 0)
     }
 
     /// Ends the cover that begins at the address `base`. All other cards stay.
     pub fn remove(&mut self, base: u64)
         requires aligned { base % 4096 ≡ 0 }
-        requires begins { begins self.old (base / 2048) ≡ true }
-        ensures value { self.new ≡ without_cover (base / 2048) self.old }
+        requires begins { begins self.old (base / CARD) ≡ true }
+        ensures value { self.new ≡ without_cover (base / CARD) self.old }
         ensures cards { (i : ℕ) → is_covered self.new i ≡ true → is_card_set self.new i ≡ is_card_set self.old i }
-        ensures spans { (k : ℕ) → k < length self.old → (get_or (spans self.old) k (0, 0)).0 ≡ base / 2048
+        ensures spans { (k : ℕ) → k < length self.old → (get_or (spans self.old) k (0, 0)).0 ≡ base / CARD
             → spans self.new ≡ remove (spans self.old) k }
     {
-        self.covers.remove(Grid::<2048>::index(base));
+        self.covers.remove(Grid::<CARD>::index(base));
     }
 
     /// Sets the card of the address `a`. All other cards stay.
     #[inline(always)]
     pub fn set(&mut self, a: u64)
-        requires { is_covered self.old (a / 2048) ≡ true }
-        ensures value { self.new ≡ with_value self.old (a / 2048) 1 }
-        ensures cards { (i : ℕ) → is_card_set self.new i ≡ ((i == a / 2048) || is_card_set self.old i) }
+        requires { is_covered self.old (a / CARD) ≡ true }
+        ensures value { self.new ≡ with_value self.old (a / CARD) 1 }
+        ensures cards { (i : ℕ) → is_card_set self.new i ≡ ((i == a / CARD) || is_card_set self.old i) }
         ensures spans { spans self.new ≡ spans self.old }
     {
         let near = self.covers.recent();
         self.set_near(near, a);
     }
 
-    /// The same with a guess, as the barrier has one from the slot's segment.
+    /// Sets the card of the address `a`; `near` is a guess of the number of its cover, as the write barrier has one
+    /// from the slot's segment. All other cards stay.
     #[inline]
     #[tactic(auto, using(crate::proofs::Setting::set_card))]
     pub fn set_near(&mut self, near: usize, a: u64)
-        requires { is_covered self.old (a / 2048) ≡ true }
-        ensures value { self.new ≡ with_value self.old (a / 2048) 1 }
-        ensures cards { (i : ℕ) → is_card_set self.new i ≡ ((i == a / 2048) || is_card_set self.old i) }
+        requires { is_covered self.old (a / CARD) ≡ true }
+        ensures value { self.new ≡ with_value self.old (a / CARD) 1 }
+        ensures cards { (i : ℕ) → is_card_set self.new i ≡ ((i == a / CARD) || is_card_set self.old i) }
         ensures spans { spans self.new ≡ spans self.old }
     {
-        self.covers.set(near, Grid::<2048>::index(a), 1);
+        self.covers.set(near, Grid::<CARD>::index(a), 1);
     }
 
     /// Clears the card of the address `a`. All other cards stay.
     #[inline]
     #[tactic(auto, using(crate::proofs::Setting::cleared_card))]
     pub fn clear(&mut self, a: u64)
-        requires { is_covered self.old (a / 2048) ≡ true }
-        ensures value { self.new ≡ with_value self.old (a / 2048) 0 }
-        ensures cards { (i : ℕ) → is_card_set self.new i ≡ (not (i == a / 2048) && is_card_set self.old i) }
+        requires { is_covered self.old (a / CARD) ≡ true }
+        ensures value { self.new ≡ with_value self.old (a / CARD) 0 }
+        ensures cards { (i : ℕ) → is_card_set self.new i ≡ (not (i == a / CARD) && is_card_set self.old i) }
         ensures spans { spans self.new ≡ spans self.old }
     {
         let near = self.covers.recent();
-        self.covers.set(near, Grid::<2048>::index(a), 0);
+        self.covers.set(near, Grid::<CARD>::index(a), 0);
     }
 
     /// Whether the card of the address `a` is set.
     #[inline]
     pub fn is_set(&self, a: u64) -> bool
-        requires { is_covered self.now (a / 2048) ≡ true }
-        ensures { result ≡ is_card_set self.now (a / 2048) }
+        requires { is_covered self.now (a / CARD) ≡ true }
+        ensures { result ≡ is_card_set self.now (a / CARD) }
     {
         self.is_set_near(self.covers.recent(), a)
     }
 
-    /// The same with a guess.
+    /// Whether the card of the address `a` is set; `near` is a guess of the number of its cover.
     #[inline]
     pub fn is_set_near(&self, near: usize, a: u64) -> bool
-        requires { is_covered self.now (a / 2048) ≡ true }
-        ensures { result ≡ is_card_set self.now (a / 2048) }
+        requires { is_covered self.now (a / CARD) ≡ true }
+        ensures { result ≡ is_card_set self.now (a / CARD) }
     {
-        self.covers.get(near, Grid::<2048>::index(a)) > 0
+        self.covers.get(near, Grid::<CARD>::index(a)) > 0
     }
 
     /// The maximal stretches of addresses inside `[lo, hi)` whose cards are set, each as its first address and one past
     /// its last, by rising address. The range lies in one cover.
     pub fn runs(&self, lo: u64, hi: u64) -> Runs<'_>
-        requires { lo < hi → share_cover self.now (lo / 2048) ((hi - 1) / 2048) ≡ true }
+        requires { lo < hi → share_cover self.now (lo / CARD) ((hi - 1) / CARD) ≡ true }
         ensures { AreRuns (is_card_set self.now) lo hi result }
     {
         if lo >= hi {
             return Runs::new(&[], 0, lo, hi);
         }
-        let (from, past) = Grid::<2048>::cover(lo, hi);
+        let (from, past) = Grid::<CARD>::cover(lo, hi);
         let near = self.covers.recent();
         let cards = self.covers.values(near, from, past);
         Runs::new(cards, from, lo, hi)

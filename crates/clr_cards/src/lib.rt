@@ -8,6 +8,6 @@
 mod cards;
 mod runs;
 
-pub use crate::cards::Cards;
+pub use crate::cards::{CARD, Cards};
 pub use crate::runs::Runs;
 pub use clr_mem::NoMemory;

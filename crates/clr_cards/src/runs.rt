@@ -2,6 +2,7 @@
 ghost use Rattle.std.specs.Prelude.{◌≡◌, ◌+◌, ◌<◌, ◌≤◌, ◌^◌, true, length, slice_index, None};
 ghost use Rattle.clr_cards.specs.Runs.{AreClear, AreSet, end_at, runs_in};
 
+use crate::cards::CARD;
 use clr_nums::Grid;
 use std::marker::Model;
 
@@ -60,7 +61,7 @@ impl<'a> Iterator for Runs<'a> {
         }
         let to = first_clear(self.cards, from + 1);
         self.at = to;
-        let start = self.lo.max(Grid::<2048>::first(self.first + from as u64));
+        let start = self.lo.max(Grid::<CARD>::first(self.first + from as u64));
         let end = end_of(self.cards, self.first, to, self.hi);
         Some((start, end))
     }
@@ -75,7 +76,7 @@ fn end_of(cards: &[u8], first: u64, to: usize, hi: u64) -> u64
     if to == cards.len() {
         hi
     } else {
-        Grid::<2048>::first(first + to as u64)
+        Grid::<CARD>::first(first + to as u64)
     }
 }
 

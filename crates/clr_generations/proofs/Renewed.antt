@@ -1,5 +1,5 @@
 -- The bricks of a segment, renewed one after the other.
-use Rattle.std.proofs.Common.{◌≡◌, ◌≢◌, ◌⊎◌, inl, inr, ℕ, ◌+◌, ◌*◌, ◌/◌, ◌<◌, ◌≤◌, Bool, true, List, length}
+use Rattle.std.proofs.Common.{◌≡◌, ◌≢◌, ◌⊎◌, inl, inr, ℕ, zero, suc, ◌+◌, ◌*◌, ◌/◌, ◌<◌, ◌≤◌, Bool, true, List, length}
 use Rattle.std.proofs.Common.{refl, ap, sym, ◌∙◌, subst, arith, ℤ, Option, Some, None, MatchOption}
 use Rattle.std.proofs.lemmas.Bool.{cases_eq, cases_lt, eq-eqb, ne_eqb}
 use Rattle.clr_types.specs.Rising.{IsIn}
@@ -8,21 +8,23 @@ use Rattle.clr_types.specs.Types.{TypeRow}
 use Rattle.clr_types.specs.declared.segment.SegInfo.{SegInfo}
 use Rattle.clr_types.proofs.ChangedLists.{into_filter, out_of_filter}
 use Rattle.clr_bricks.specs.Bricks.{entry_at, root_entry}
-use Rattle.clr_covers.specs.Covers.{CoverView, is_covered, spans}
-use Rattle.clr_heap.specs.View.{first_of, frame, HeapView, IsHeap, last_of, segment_at, word_of}
+use Rattle.clr_covers.specs.Covers.{CoverView, is_covered, share_cover, spans}
+use Rattle.clr_heap.specs.View.{first_of, frame, HeapView, IsHeap, last_of, no_rests, segment_at, word_of}
 use Rattle.clr_heap.proofs.Framing.{lawful_at}
 use Rattle.clr_model.specs.Machine.{Object}
 use Rattle.clr_view.specs.View.{IsHeld, objects_in}
 use Rattle.clr_generations.proofs.Entered.{AreEnteredBelow, forgotten}
 use Rattle.clr_generations.specs.Laws.{AreEntered, IsBrickOf, may_lead, Stands}
-use Rattle.clr_generations.specs.Renewing.{AreKept, HasTold, HaveTold, IsCounted, IsFirstIn, led_back, left_in}
+use Rattle.clr_generations.specs.Renewing.{AreKept, HasNoStart, HasTold, HaveTold, IsCounted, IsFirstIn, led_back}
+use Rattle.clr_generations.specs.Renewing.{left_in}
 use Rattle.clr_generations.specs.Renewing.{named_after, NamesBelow, next_after, NoneCountedIn}
 use Rattle.clr_generations.specs.Tables.{AreBricksOf}
 use Rattle.clr_generations.proofs.Alike.{AreAlike, entered_below, forgotten-low, forgotten-root, root-forgotten}
 use Rattle.clr_generations.proofs.BrickSteps.{all_entered, IsEntering, IsFirstOf, led, led-above, led-alike, led-below}
 use Rattle.clr_generations.proofs.BrickSteps.{passed, starts_open, starts_settled, stepped}
 use Rattle.clr_generations.proofs.Collected.{alike-left}
-use Rattle.clr_generations.proofs.HeapHomes.{brick-covered, brick-in, heap_homes}
+use Rattle.clr_generations.proofs.FirstCounted.{found_none}
+use Rattle.clr_generations.proofs.HeapHomes.{brick-covered, brick-in, bricks-shared, heap_homes}
 use Rattle.clr_generations.proofs.Homes.{brick-of, HaveHomes, homes-left, old-may_lead, stands-home}
 
 -- Entries that tell the objects of the segment that are left, as far as bricks below `brick` go. Those that stand are
@@ -265,9 +267,6 @@ module _ (rows : List TypeRow) (h : HeapView) (heap : IsHeap h) (held : IsHeld r
         → is_covered now i ≡ true
     covered_here has i up under = brick-covered h bricks now k i heap inside has w.spans (brick-here i up under)
 
-    pub covered_between : AreBricksOf (frame h) bricks → (i : ℕ) → next ≤ i → i < brick → is_covered now i ≡ true
-    covered_between has i up down = covered_here has i up (w.inside i up down)
-
     module _ (below : 4096 * brick < last_of h k) where
       of : IsBrickOf (segment_at h k) brick
       of = brick-here brick w.order below
@@ -350,6 +349,13 @@ module _ (rows : List TypeRow) (h : HeapView) (heap : IsHeap h) (held : IsHeld r
                 });
           }
 
+    -- the bricks of the segment from one of its on share a cover
+    pub shared_here : AreBricksOf (frame h) bricks → (from' : ℕ) → next ≤ from' → (i : ℕ) → from' ≤ i
+        → 4096 * i < last_of h k → share_cover now from' i ≡ true
+    shared_here has from' up i above under =
+        bricks-shared h bricks now k from' i heap inside has w.spans (brick-here from' up (omega arith))
+        (brick-here i (omega arith) under)
+
     -- ---- the end
     module _ (past : last_of h k ≤ 4096 * brick) (new : List (CoverView ℤ))
         (same : (i : ℕ) → entry_at new i ≡ led_back (entry_at now) next brick i) where
@@ -388,3 +394,23 @@ module _ (rows : List TypeRow) (h : HeapView) (heap : IsHeap h) (held : IsHeld r
           | inr over ↦ led-above (entry_at now) next brick b over
         ]
       ] ∙ w.others b out
+
+  -- WHERE NO SEARCH BEGINS nothing changes: bricks in which no object starts are passed
+  pub renewing_over : h.rests ≡ no_rests → (now : List (CoverView ℤ)) (next count brick : ℕ)
+      → IsRenewing rows h counts k from bricks now brick next → 4096 * (brick + count) < last_of h k + 4096
+      → ((i : ℕ) → brick ≤ i → i < brick + count → HasNoStart (entry_at now i) i young)
+      → IsRenewing rows h counts k from bricks now (brick + count) next
+  renewing_over contexts now next zero brick w near none =
+      let P : ℕ → Type 0 = λ b. IsRenewing rows h counts k from bricks now b next in
+      let at : brick ≡ brick + 0 = omega arith in
+      subst P at w
+  renewing_over contexts now next (suc count) brick w near none =
+      let P : ℕ → Type 0 = λ b. IsRenewing rows h counts k from bricks now b next in
+      let at : brick + 1 + count ≡ brick + suc count = omega arith in
+      let below : 4096 * brick < last_of h k = omega arith in
+      let told = told_here now brick next w below in
+      let empty = found_none rows h heap held contexts k inside brick (low_here now brick next w below) below young
+      (entry_at now brick) told counts (none brick (omega arith) (omega arith)) in
+      subst P at (renewing_over contexts now next count (brick + 1)
+      (renewing_more now brick next w below now None empty (λ i. refl) refl) (omega arith)
+      (λ i up under. none i (omega arith) (omega arith)))

@@ -1,11 +1,12 @@
 -- Bricks that are renewed: before a sweep, what the sweep leaves; which objects count, and the first of a brick.
-use Rattle.std.specs.Prelude.{◌≡◌, ◌≢◌, ℕ, ◌+◌, ◌-◌, ◌*◌, ◌/◌, ◌%◌, ◌<◌, ◌≤◌, ◌⊎◌, Bool, true, ◌&&◌, ◌==◌, nat_le}
-use Rattle.std.specs.Prelude.{nat_lt, if◌then◌else◌, ℤ, List, filter, Option, Some, None}
+use Rattle.std.specs.Prelude.{◌≡◌, ◌≢◌, ℕ, ◌+◌, ◌*◌, ◌/◌, ◌%◌, ◌<◌, ◌≤◌, ◌⊎◌, Bool, true, ◌==◌}
+use Rattle.std.specs.Prelude.{if◌then◌else◌, ℤ, List, filter, Option, Some, None}
 use Rattle.clr_types.specs.Rising.{IsIn}
 use Rattle.clr_types.specs.Segments.{generation, Layout, stands_in}
 use Rattle.clr_types.specs.Types.{TypeRow}
 use Rattle.clr_types.specs.declared.item.Item.{Item}
-use Rattle.clr_bricks.specs.Bricks.{back_entry, IsRoot, root_entry}
+use Rattle.clr_bricks.specs.Bricks.{IsRoot, root_entry}
+pub use Rattle.clr_bricks.specs.Bricks.{hop, led_back}
 use Rattle.clr_heap.specs.View.{CanWalk, first_of, HeapView, items_between, last_of, listing, segment_at, sight}
 use Rattle.clr_heap.specs.View.{word_of}
 use Rattle.clr_model.specs.Machine.{Object}
@@ -126,15 +127,6 @@ pub record IsFirstIn (rows : List TypeRow) (h : HeapView) (counts : ℕ → Bool
   pub first : (x : ℕ) → IsCounted rows h counts x → x / 4096 ≡ brick → place ≤ x
 
 -- ---- entries that are written
-
--- how many bricks one back entry goes back of so many
-abbrev pub hop : ℕ → ℕ
-hop far = if nat_lt far 32767 then far else 32767
-
--- the entries when those of the bricks of [next, to) lead back to the brick below `next`
-abbrev pub led_back : (ℕ → ℤ) → ℕ → ℕ → ℕ → ℤ
-led_back entry next to brick =
-    if nat_le next brick && nat_lt brick to then back_entry (hop (brick + 1 - next)) else entry brick
 
 -- the first brick that isn't settled, after a brick whose first object that counts this is
 abbrev pub next_after : Option ℕ → ℕ → ℕ → ℕ

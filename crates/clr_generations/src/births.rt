@@ -27,7 +27,7 @@ use clr_types::{TypeId, Types};
 /// the free items and the rest of the layout stay. It marks nothing, changes no head of a free item, and leaves headers
 /// and padding clean. Cards need no change: where all that is named is an object, none names the new one.
 #[inline(always)]
-pub fn bear(
+pub fn allocate(
     heap: &mut Heap,
     types: &Types,
     bricks: &mut Bricks,
@@ -60,7 +60,7 @@ pub fn bear(
         → NamesNoMore types.now (frame heap.old) (objects_in types.now heap.old) (frame heap.new)
         (objects_in types.now heap.new) }
 {
-    let place = clr_view::bear(heap, types, thread, t, len, size);
+    let place = clr_view::allocate(heap, types, thread, t, len, size);
     enter_newborn(heap, bricks, place);
     place
 }

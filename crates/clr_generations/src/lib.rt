@@ -18,7 +18,7 @@ mod standing;
 pub use crate::acquiring::acquire;
 pub use crate::all_bricks::renew_all_bricks;
 pub use crate::barrier::set_reference;
-pub use crate::births::bear;
+pub use crate::births::allocate;
 pub use crate::covering::cover_segments;
 pub use crate::finding::{object_at, segment_with, walk_start};
 pub use crate::old_births::enter_old_newborn;

@@ -2,7 +2,7 @@
 ghost use Rattle.std.specs.Prelude.{◌≡◌, ℕ, ◌+◌, ◌*◌, ◌/◌, ◌<◌, ◌≤◌, ◌^◌, ◌⊎◌, List, true};
 ghost use Rattle.clr_types.specs.Segments.{Layout};
 ghost use Rattle.clr_types.specs.Types.{TypeRow};
-ghost use Rattle.clr_bricks.specs.Bricks.{entry_at};
+ghost use Rattle.clr_bricks.specs.Bricks.{entry_at, led_back};
 ghost use Rattle.clr_covers.specs.Covers.{is_covered, spans};
 ghost use Rattle.clr_model.specs.Lookups.{object_size};
 ghost use Rattle.clr_model.specs.Machine.{Object};
@@ -10,8 +10,7 @@ ghost use Rattle.clr_generations.specs.Laws.{BrickLaw};
 ghost use Rattle.clr_generations.specs.OldBirths.{HasOldNewborn, LeadUpTo};
 
 use crate::births::name_newborn;
-use crate::renewing::lead_back;
-use clr_bricks::Bricks;
+use clr_bricks::{Bricks, hop};
 
 /// Lets the bricks tell of a new object of generation 2, of `size` bytes, at a place: its brick names it, where it
 /// names none up to it, and each brick above that it reaches into leads back to its own, where no object starts in it.
@@ -46,5 +45,17 @@ fn led_end(bricks: &Bricks, place: u64, size: u64) -> u64
         last
     } else {
         last + 1
+    }
+}
+
+// Lets the bricks of [next, to) lead back to the one below `next`.
+fn lead_back(bricks: &mut Bricks, next: u64, to: u64)
+    requires order { next ≤ to }
+    requires covered { (i : ℕ) → next ≤ i → i < to → is_covered bricks.old i ≡ true }
+    ensures entries { (i : ℕ) → entry_at bricks.new i ≡ led_back (entry_at bricks.old) next to i }
+    ensures spans { spans bricks.new ≡ spans bricks.old }
+{
+    for brick in next..to {
+        bricks.set_back(brick, hop(brick - next + 1));
     }
 }

@@ -2,14 +2,14 @@
 ghost use Rattle.std.specs.Prelude.{◌≡◌, ℕ, ◌+◌, ◌*◌, ◌/◌, ◌-◌, ◌<◌, ◌≤◌, ◌^◌, ◌==◌, ◌⊎◌, if◌then◌else◌, length};
 ghost use Rattle.std.specs.Prelude.{Bool, ◌&&◌, MatchOption, true};
 ghost use Rattle.clr_bricks.specs.Bricks.{entry_at};
-ghost use Rattle.clr_covers.specs.Covers.{is_covered, spans};
+ghost use Rattle.clr_covers.specs.Covers.{is_covered, share_cover, spans};
 ghost use Rattle.clr_heap.specs.View.{first_of, frame, IsHeap, last_of, no_rests, segment_at};
 ghost use Rattle.clr_model.specs.Machine.{Object};
 ghost use Rattle.clr_types.specs.Segments.{generation, Layout, stands_in};
 ghost use Rattle.clr_view.specs.View.{IsHeld, is_object, objects_in};
 ghost use Rattle.clr_generations.specs.Laws.{AreEntered, IsBrickOf};
 ghost use Rattle.clr_generations.specs.Renewing.{AreKept, AreLeft, CanBegin, HasBorder, HasNoStart, HasTold, HaveTold};
-ghost use Rattle.clr_generations.specs.Renewing.{HasYoungBorder, IsFirstFrom, IsFirstIn, IsSearchStart, led_back};
+ghost use Rattle.clr_generations.specs.Renewing.{HasYoungBorder, IsFirstFrom, IsFirstIn, IsSearchStart};
 ghost use Rattle.clr_generations.specs.Renewing.{left_in, named_after, NamesBelow, next_after, NoneCounted};
 ghost use Rattle.clr_generations.specs.Renewing.{NoneCountedIn};
 ghost use Rattle.clr_generations.specs.Renewing as renewing;
@@ -123,9 +123,30 @@ fn renew_part(
     while 4096 * brick < end {
         let first = first_in(heap, types, bricks, k, brick, young, counted);
         next = name_first(bricks, first, brick, next);
-        brick += 1;
+        brick = next_start(bricks, brick + 1, end, young);
     }
-    lead_back(bricks, next, brick);
+    bricks.lead_back(next, brick);
+}
+
+// The first brick from `from` on in which a search may begin: its entry names an offset, or generation 0 begins in it
+// at `young`. The brick behind the end of the segment, `end`, where there is none. The bricks of large objects are
+// passed so, in which no object starts.
+fn next_start(bricks: &Bricks, from: u64, end: u64, young: u64) -> u64
+    requires fits { end < 2 ^ 62 }
+    requires near { 4096 * from < end + 4096 }
+    requires shared { (i : ℕ) → from ≤ i → 4096 * i < end → share_cover bricks.now from i ≡ true }
+    ensures low { from ≤ result }
+    ensures near { 4096 * result < end + 4096 }
+    ensures none { (i : ℕ) → from ≤ i → i < result → HasNoStart (entry_at bricks.now i) i young }
+{
+    let past = (end + 4095) / 4096;
+    let border = young / 4096;
+    let stop = if from <= border && border < past {
+        border
+    } else {
+        past
+    };
+    bricks.next_root(from, stop)
 }
 
 // The first brick from that of the place `from` on that names no place below it, where the segment ends at `end`.
@@ -242,36 +263,17 @@ fn is_counted(found: Item, mt: u64, counted: Counted) -> bool
 fn name_first(bricks: &mut Bricks, first: Option<u64>, brick: u64, next: u64) -> u64
     requires fits { brick < 2 ^ 50 }
     requires order { next ≤ brick }
-    requires covered { (i : ℕ) → next ≤ i → i ≤ brick → is_covered bricks.old i ≡ true }
+    requires shared { (i : ℕ) → next ≤ i → i ≤ brick → share_cover bricks.old next i ≡ true }
     ensures next { result ≡ next_after first brick next }
     ensures entries { (i : ℕ) → entry_at bricks.new i ≡ named_after first (entry_at bricks.old) brick next i }
     ensures spans { spans bricks.new ≡ spans bricks.old }
 {
     match first {
         Some(place) => {
-            lead_back(bricks, next, brick);
+            bricks.lead_back(next, brick);
             bricks.set_root(brick, (place % 4096) as u16);
             brick + 1
         }
         None => next,
     }
-}
-
-// Lets the bricks of [next, to) lead back to the one below `next`.
-pub(crate) fn lead_back(bricks: &mut Bricks, next: u64, to: u64)
-    requires order { next ≤ to }
-    requires covered { (i : ℕ) → next ≤ i → i < to → is_covered bricks.old i ≡ true }
-    ensures entries { (i : ℕ) → entry_at bricks.new i ≡ led_back (entry_at bricks.old) next to i }
-    ensures spans { spans bricks.new ≡ spans bricks.old }
-{
-    for brick in next..to {
-        bricks.set_back(brick, hop(brick - next + 1));
-    }
-}
-
-// How many bricks one back entry goes back of so many.
-fn hop(far: u64) -> u16
-    ensures { result ≡ renewing.hop far }
-{
-    if far < 32_767 { far as u16 } else { 32_767 }
 }

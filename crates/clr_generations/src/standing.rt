@@ -15,12 +15,9 @@ use crate::births::enter_newborn;
 use crate::covering::cover_segments;
 use crate::old_births::enter_old_newborn;
 use clr_bricks::{Bricks, NoMemory};
-use clr_cards::Cards;
+use clr_cards::{CARD, Cards};
 use clr_heap::{Heap, Item};
 use clr_types::Types;
-
-/// So many bytes has a card.
-const CARD: u64 = 2048;
 
 /// Gives each segment of a heap in which objects stand its cards and its bricks, of which there are none before. Each
 /// card is set up to the end of its segment, and bricks tell of the objects. `NoMemory` comes where there was no memory

@@ -2,7 +2,7 @@ use Rattle.std.proofs.Common.{◌≡◌, ℕ}
 use Rattle.clr_bricks.specs.Bricks.{entry_at}
 use Rattle.clr_covers.specs.Covers.{spans}
 use Rattle.clr_generations.specs.Renewing.{led_back}
-use Rattle.clr_generations.proofs.renewing.lead_back.Given as goal
+use Rattle.clr_generations.proofs.old_births.lead_back.Given as goal
 
 abbrev pub invariant-loop-brick : goal.invariant-loop-brick
 invariant-loop-brick l = record {

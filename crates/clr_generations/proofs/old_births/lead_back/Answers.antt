@@ -1,6 +1,6 @@
 use Rattle.std.proofs.Common.{◌∙◌, arith}
 use Rattle.clr_covers.proofs.Spans.{is_covered-spans}
-use Rattle.clr_generations.proofs.renewing.lead_back.Goals as goal
+use Rattle.clr_generations.proofs.old_births.lead_back.Goals as goal
 
 pub set_back-requires-clause-covered : goal.set_back-requires-clause-covered
 set_back-requires-clause-covered c =

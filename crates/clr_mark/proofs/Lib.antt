@@ -17,6 +17,7 @@ pub mod RootsFollowed
 pub mod Meeting
 pub mod RunMeetings
 pub mod Gathering
+pub mod BatchRoots
 pub mod Chains
 pub mod Visiting
 pub mod Rescanning

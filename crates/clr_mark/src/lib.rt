@@ -2,7 +2,7 @@
 #![tactic(auto)]
 
 pub use crate::large::mark_large;
-pub use crate::marker::{Marker, RunKind};
+pub use crate::marker::{Marker, RunKind, Targets, are_marked};
 pub use clr_mem::NoMemory;
 
 mod large;

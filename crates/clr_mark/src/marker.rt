@@ -37,9 +37,11 @@ mod unmark;
 mod wide;
 
 pub(crate) use ahead::Ahead;
+pub use batch::are_marked;
 pub use kind::RunKind;
 use listed::Tie;
 use overflow::OverflowRanges;
+pub use targets::Targets;
 
 /// What marking needs: the objects whose slots are still to be followed, on a stack, and the lowest and the highest
 /// address of those that had no room on it, for each window of addresses.
@@ -230,7 +232,7 @@ impl Marker {
         }
     }
 
-    // The same for a condemned object.
+    // Marks the condemned object at `obj`, in segment `k`, and lets it wait where it wasn't marked.
     #[inline(always)]
     fn mark_chosen(&mut self, heap: &mut Heap, k: usize, obj: u64)
         requires word { HasWord heap.old.memories obj }
@@ -246,8 +248,8 @@ impl Marker {
         }
     }
 
-    // The same for a condemned object, where the stack has room. It decides nothing: often whether an object is marked
-    // already can't be foreseen.
+    // Marks a condemned object, and lets it wait on the stack, which has room, where it wasn't marked. It decides
+    // nothing: often whether an object is marked already can't be foreseen.
     #[inline(always)]
     fn mark_with_room(&mut self, heap: &mut Heap, k: usize, obj: u64)
         requires word { HasWord heap.old.memories obj }
@@ -265,7 +267,7 @@ impl Marker {
         self.stack.truncate(height);
     }
 
-    // The same, where it has none.
+    // Marks a condemned object, and lets it wait in a range where it wasn't marked, since the stack is full.
     #[inline(never)]
     fn mark_without_room(&mut self, heap: &mut Heap, k: usize, obj: u64)
         requires word { HasWord heap.old.memories obj }

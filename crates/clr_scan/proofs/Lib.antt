@@ -2,6 +2,7 @@ pub mod Bounds
 pub mod CardScans
 pub mod SlotScans
 pub mod WordScans
+pub mod GatheredWords
 pub mod Cursors
 pub mod StretchScans
 pub mod CardRuns

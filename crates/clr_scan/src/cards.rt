@@ -18,7 +18,7 @@ ghost use Rattle.clr_scan.specs.SetCards.{AreClear, AreCleared, AreSettled, Card
 use crate::entries::nearest;
 use crate::stretches::scan_stretch;
 use clr_bricks::Bricks;
-use clr_cards::Cards;
+use clr_cards::{CARD, Cards};
 use clr_heap::Heap;
 use clr_mark::Marker;
 use clr_nums::Grid;
@@ -61,7 +61,7 @@ pub fn scan_cards(
     marker.drain_slots(heap, types);
 }
 
-// The same for the references of segment `k`, without what is reached from there.
+// Marks what slots of the older objects of segment `k` name, without what is reached from there.
 fn scan_segment(
     marker: &mut Marker,
     heap: &mut Heap,
@@ -97,7 +97,7 @@ fn scan_segment(
     }
 }
 
-// The same for the references on a run of set cards. It walks from the cursor and answers the next one.
+// Marks what the references on a run of set cards name. It walks from the cursor and answers the next one.
 fn scan_card_run(
     marker: &mut Marker,
     heap: &mut Heap,
@@ -129,7 +129,7 @@ fn scan_card_run(
     let mut place = cursor;
     let mut at = lo;
     while at < hi {
-        let next = hi.min(Grid::<2048>::first(Grid::<2048>::index(at) + 1));
+        let next = hi.min(Grid::<CARD>::first(Grid::<CARD>::index(at) + 1));
         let (met, younger) = scan_stretch(marker, heap, types, k, place, at, next);
         settle(cards, at, next, end, younger);
         place = met;
@@ -170,7 +170,7 @@ fn settle(cards: &mut Cards, at: u64, next: u64, end: u64, younger: bool)
     ensures cards { IsCardSettled (is_card_set cards.old) (is_card_set cards.new) at next end younger }
     ensures spans { spans cards.new ≡ spans cards.old }
 {
-    if !younger && at % 2048 == 0 && (next % 2048 == 0 || next == end) {
+    if !younger && at % CARD == 0 && (next % CARD == 0 || next == end) {
         cards.clear(at);
     }
 }

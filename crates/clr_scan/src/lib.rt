@@ -10,3 +10,4 @@ mod entries;
 mod marking;
 mod slots;
 mod stretches;
+mod together;

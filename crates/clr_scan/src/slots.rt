@@ -16,6 +16,7 @@ ghost use Rattle.clr_mark.specs.Waiting.{IsGray};
 ghost use Rattle.clr_scan.specs.References.{IsNamedByOlder, IsQuiet, IsReferenceOf};
 ghost use Rattle.clr_scan.specs.Scans.{HasScanned, IsTraced};
 
+use crate::together::{MANY, scan_together};
 use clr_heap::{Heap, Item};
 use clr_mark::Marker;
 use clr_types::{ReferenceRun, Types};
@@ -74,8 +75,8 @@ pub(crate) fn scan_slots(
     younger
 }
 
-// The same where the references are one run of words. It stands apart, so that its loops have the registers to
-// themselves.
+// Marks what the slots of an older object name, as `scan_slots` does, where they are one run of words. It stands apart,
+// so that its loops have the registers to themselves.
 #[inline(never)]
 fn scan_words(
     marker: &mut Marker,
@@ -110,6 +111,9 @@ fn scan_words(
     let first = older.item.place + run.offset;
     let to = words_to(first, hi).min(run.count);
     let from = words_to(first, lo).min(to);
+    if to - from >= MANY {
+        return scan_together(marker, heap, types, older, first, from, to);
+    }
     let mut younger = false;
     let mut at = from;
     while at < to {
@@ -127,8 +131,8 @@ fn scan_words(
 
 // Below which generation a target must be that the scan still looks for: below that of the object, until one is found,
 // and then condemned.
-#[inline]
-fn looked_for(younger: bool, age: u8, oldest: u8) -> u8
+#[inline(always)]
+pub(crate) fn looked_for(younger: bool, age: u8, oldest: u8) -> u8
     requires { oldest < age }
     ensures bound { result ≡ (if younger then oldest + 1 else age) }
     ensures above { oldest < result }
@@ -139,8 +143,8 @@ fn looked_for(younger: bool, age: u8, oldest: u8) -> u8
 
 // Passes over words that name no object of a generation below `age`, from number `from` on, of the words up to `to` of
 // which the first stands at `first`. It answers the number of the next word.
-#[inline]
-fn pass_words(heap: &Heap, k: usize, first: u64, from: u64, to: u64, age: u8) -> u64
+#[inline(always)]
+pub(crate) fn pass_words(heap: &Heap, k: usize, first: u64, from: u64, to: u64, age: u8) -> u64
     requires order { from ≤ to }
     requires some { 1 ≤ age }
     requires most { age ≤ 2 }

@@ -53,8 +53,8 @@ pub(crate) fn scan_stretch(
     (place, younger)
 }
 
-// The same for the references of the item at `place`. It answers the item's size, and whether one names an object of a
-// lower generation.
+// Marks what the references of the item at `place` name that stand on `[lo, hi)`. It answers the item's size, and
+// whether one names an object of a lower generation.
 fn scan_item(
     marker: &mut Marker,
     heap: &mut Heap,

@@ -60,7 +60,8 @@ fn kept_bytes(heap: &Heap, types: &Types, g: u8, all: u64, need: u64) -> u64
     part_bytes(heap, types, k, from, 0, need, 0)
 }
 
-// The same for all generations: the bytes of the marked objects of the small heap.
+// The bytes of the marked objects of the small heap, of all generations, or others that are below `need` just where
+// these are.
 fn small_bytes(heap: &Heap, types: &Types, all: u64, need: u64) -> u64
     requires held { IsHeld types.now heap.now }
     requires no_contexts { heap.now.rests ≡ no_rests }

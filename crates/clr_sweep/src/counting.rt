@@ -38,7 +38,7 @@ pub fn count(heap: &Heap, types: &Types, g: u8) -> Tally
     count_part(heap, types, k, from, Tally::NONE)
 }
 
-// The same for all generations.
+// Counts what a sweep of all generations would count now.
 fn count_whole(heap: &Heap, types: &Types) -> Tally
     requires held { IsHeld types.now heap.now }
     requires no_contexts { heap.now.rests ≡ no_rests }

@@ -49,7 +49,7 @@ pub fn sweep(heap: &mut Heap, types: &Types, bricks: &mut Bricks, g: u8) -> Tall
     }
 }
 
-// The same for all generations.
+// Sweeps the objects of all generations, and counts them.
 fn sweep_whole(heap: &mut Heap, types: &Types, bricks: &mut Bricks) -> Tally
     requires held { IsHeld types.now heap.old }
     requires no_contexts { heap.old.rests ≡ no_rests }
@@ -66,7 +66,7 @@ fn sweep_whole(heap: &mut Heap, types: &Types, bricks: &mut Bricks) -> Tally
     sweep_segments(heap, types, count)
 }
 
-// The same for generation 0 or for the generations 0 and 1.
+// Sweeps the objects of generation 0 or of the generations 0 and 1, and counts them.
 fn sweep_part(heap: &mut Heap, types: &Types, bricks: &mut Bricks, g: u8) -> Tally
     requires held { IsHeld types.now heap.old }
     requires no_contexts { heap.old.rests ≡ no_rests }

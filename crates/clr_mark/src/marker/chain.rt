@@ -52,7 +52,8 @@ impl Marker {
         known
     }
 
-    // The same for an object of the kind that is `known`, with one reference, in segment `k`.
+    // Marks what the one slot of the object at `obj` in segment `k`, which is of the kind that is `known`, names, and
+    // what objects of this kind name in a chain behind it.
     #[inline(always)]
     fn follow_chain(&mut self, heap: &mut Heap, types: &Types, k: usize, obj: u64, known: RunKind)
         requires closed { IsClosed types.now heap.old }

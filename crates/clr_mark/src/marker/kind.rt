@@ -11,7 +11,7 @@ ghost use Rattle.clr_mark.specs.Marks.{IsClosed, LeadsTo};
 ghost use Rattle.clr_mark.specs.Markings.{HasGrayed};
 
 use super::Marker;
-use super::scan::head_at;
+use super::scan::{head_at, is_leaf};
 use super::wide::FEW_SLOTS;
 use clr_heap::Heap;
 use clr_types::{ReferenceRun, Types, mark};
@@ -51,7 +51,8 @@ impl RunKind {
 
 impl Marker {
     // Marks what the slots of the object at `obj`, in segment `k`, name. `mt` is its method table word without a mark,
-    // and `known` is what is known of objects before it. It answers what is known then.
+    // and `known` is what is known of objects before it. It answers what is known then. Many objects are of a type
+    // without references, as strings are: of these it reads that word alone.
     #[inline(always)]
     pub(super) fn follow(
         &mut self,
@@ -76,8 +77,11 @@ impl Marker {
             self.scan_run(heap, types, k, obj, known.run);
             return known;
         }
+        if is_leaf(heap, types, k, obj) {
+            return known;
+        }
         let found = kind_behind(heap, types, k, obj, mt, known);
-        self.scan_object(heap, types, obj);
+        self.scan_object_in(heap, types, k, obj);
         found
     }
 }

@@ -10,6 +10,7 @@ use Rattle.clr_scan.proofs.SlotScans.{slot_clear, slot_silent, younger_joined, y
 use Rattle.clr_scan.proofs.WordScans.{IsWordScan, no_words, word_followed, word_reference, word_scan_starts}
 use Rattle.clr_scan.proofs.WordScans.{words_clear}
 use Rattle.clr_scan.proofs.WordScans.{word_has, word_index, word_low, words_passed, words_traced}
+use Rattle.clr_scan.proofs.slots.scan_words.Goals.{After-scan_together}
 use Rattle.clr_scan.proofs.slots.scan_words.Goals as goal
 
 pub returns-then-run-eq0-clause-scanned : goal.returns-then-run-eq0-clause-scanned
@@ -32,6 +33,56 @@ overflow_add-first c =
     let low = ref_low c.args.types.now c.args.heap.now c.requires.gray.closed c.args.older.item c.requires.listed
     (c.args.older.item.place + c.args.run.offset + 8 * 0) r in
     omega (arith, low)
+
+pub scan_together-requires-clause-references : goal.scan_together-requires-clause-references
+scan_together-requires-clause-references c j l =
+    let top = c.min-to.ensures in
+    word_reference c.args.types.now c.args.older.item c.args.run.offset c.args.run.count j c.requires.object
+    c.requires.run (omega (arith, top, l))
+
+-- all words are looked at together
+together_scan : (c : After-scan_together)
+    → IsWordScan c.args.types.now c.args.heap.now c.scan_together.new.heap c.args.marker.now
+    c.scan_together.new.marker (c.args.older.item.place + c.args.run.offset) c.args.older.age c.min-from.result
+    c.min-to.result c.scan_together.result
+together_scan c = record {
+  gray = c.scan_together.ensures.gray;
+  scanned = c.scan_together.ensures.scanned;
+  traced = λ s l b. c.scan_together.ensures.traced s l (omega (arith, b));
+  clear = λ none s l b. c.scan_together.ensures.clear none s l (omega (arith, b));
+  silent = λ all. c.scan_together.ensures.silent (λ s l b. all s l (omega (arith, b)));
+}
+
+pub returns-then-to-from-ge-MANY-clause-traced : goal.returns-then-to-from-ge-MANY-clause-traced
+returns-then-to-from-ge-MANY-clause-traced c =
+    words_traced c.args.types.now c.args.heap.now c.scan_together.new.heap c.args.marker.now
+    c.scan_together.new.marker c.args.older.item
+    (c.args.older.item.place + c.args.run.offset) c.args.older.age c.min-from.result c.min-to.result
+    c.scan_together.result c.requires.gray.closed c.requires.listed (together_scan c)
+    c.args.run.offset c.args.run.count c.min-to.result c.args.lo c.args.hi c.requires.run refl (omega arith)
+    (λ t l. c.words_to-2.ensures.below t (let from = c.min-from.ensures in omega (arith, from, l)))
+    (λ t l below. c.words_to.ensures.above t (let to = c.min-to.ensures in omega (arith, to, l, below)))
+
+pub returns-then-to-from-ge-MANY-clause-silent : goal.returns-then-to-from-ge-MANY-clause-silent
+returns-then-to-from-ge-MANY-clause-silent c all =
+    let to = c.min-to.ensures in
+    let from = c.min-from.ensures in
+    c.scan_together.ensures.silent (λ s low high.
+    all (c.args.older.item.place + c.args.run.offset + 8 * s)
+    (word_reference c.args.types.now c.args.older.item c.args.run.offset c.args.run.count s c.requires.object
+    c.requires.run (omega (arith, to, high)))
+    (c.words_to-2.ensures.above s (omega (arith, from, to, low, high)))
+    (c.words_to.ensures.below s (omega (arith, to, high))))
+
+pub returns-then-to-from-ge-MANY-clause-clear : goal.returns-then-to-from-ge-MANY-clause-clear
+returns-then-to-from-ge-MANY-clause-clear c =
+    words_clear c.args.types.now c.args.heap.now c.scan_together.new.heap c.args.marker.now
+    c.scan_together.new.marker c.args.older.item
+    (c.args.older.item.place + c.args.run.offset) c.args.older.age c.min-from.result c.min-to.result
+    c.scan_together.result c.requires.gray.closed c.requires.listed (together_scan c)
+    c.args.run.offset c.args.run.count c.min-to.result c.args.lo c.args.hi c.requires.run refl (omega arith)
+    (λ t l. c.words_to-2.ensures.below t (let from = c.min-from.ensures in omega (arith, from, l)))
+    (λ t l below. c.words_to.ensures.above t (let to = c.min-to.ensures in omega (arith, to, l, below)))
 
 pub loop-at-init : goal.loop-at-init
 loop-at-init c = (

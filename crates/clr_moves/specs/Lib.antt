@@ -5,3 +5,4 @@ pub mod PlugMoves
 pub mod Going
 pub mod Objects
 pub mod Promoted
+pub mod Together

@@ -82,7 +82,7 @@ fn is_in_large(heap: &Heap, place: u64) -> bool
 }
 
 // The number of the last segment that begins at a place or below it, and 0 where none does.
-fn segment_below(heap: &Heap, place: u64) -> usize
+pub(crate) fn segment_below(heap: &Heap, place: u64) -> usize
     requires { IsHeap heap.now }
     ensures in_range { result < length heap.now.segments }
     ensures below { (result ≡ 0) ⊎ ((segment_at heap.now result).base ≤ place) }

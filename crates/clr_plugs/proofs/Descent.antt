@@ -13,6 +13,7 @@ use Rattle.clr_heap.specs.View.{HeapView, word_of}
 use Rattle.clr_plugs.specs.Info.{left_of, right_of}
 use Rattle.clr_plugs.specs.Trees.{in_order, IsBrickTree, IsWithinDigits, leaf, levels, node, root_of, Stands, Tree}
 use Rattle.clr_plugs.specs.Searches.{CanFindIn, HasPlugWords, nearest, NoneBetween}
+use Rattle.clr_plugs.specs.SideBySide.{IsDescent}
 
 -- the words tell one tree from a root
 pub one_tree : (word : ℕ → ℕ) (base : ℕ) (t u : Tree) → Stands word base t → Stands word base u
@@ -76,24 +77,6 @@ nearest-left (x ∷ xs) p ys a other high = elim (cases_Bool (leb x a)) [
 ]
 
 -- ---- the loop
-
--- From the root the search has come to `at`: what is left to look at is a tree between the best place so far and
--- `above`. All other places of the whole tree stand at a or below it, or at `above` or over it.
-pub record IsDescent (h : HeapView) (k brick from a end found above at before now : ℕ) : Type 0 where
-  pub tree : Tree
-  pub root : at ≡ root_of (brick * 4096) tree
-  pub stands : Stands (word_of h) (brick * 4096) tree
-  pub rising : IsRisingBy (λ x. x) (in_order tree)
-  pub words : (x : ℕ) → IsIn x (in_order tree) → HasPlugWords h k x
-  pub inside : (x : ℕ) → IsIn x (in_order tree) → (found < x) × (x < above)
-  pub limit : above ≤ end
-  pub past : a < end → a < above
-  pub passed : (t : Tree) → Stands (word_of h) (brick * 4096) t → from ≡ root_of (brick * 4096) t
-      → (x : ℕ) → IsIn x (in_order t) → IsIn x (in_order tree) ⊎ ((x ≤ a) ⊎ (above ≤ x))
-  pub answer : (t : Tree) → Stands (word_of h) (brick * 4096) t → from ≡ root_of (brick * 4096) t
-      → nearest (in_order tree) a found ≡ nearest (in_order t) a 0
-  pub steps : (t : Tree) → Stands (word_of h) (brick * 4096) t → from ≡ root_of (brick * 4096) t
-      → now + levels tree ≤ before + levels t
 
 -- the search stands at a plug, and can go on to either side
 pub record IsAtPlug (h : HeapView) (k brick from a end found above at before now : ℕ) : Type 0 where

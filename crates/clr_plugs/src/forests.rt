@@ -103,7 +103,7 @@ fn gather(heap: &Heap, near: usize, base: u64, roots: usize, into: &mut [u16], w
     gather_in(heap, k, base, roots, into, words);
 }
 
-// The same for plugs whose words lie in segment `k`.
+// Puts the offsets of all plugs of these trees into the words, where the plugs' own words lie in segment `k`.
 fn gather_in(heap: &Heap, k: usize, base: u64, roots: usize, into: &mut [u16], words: &mut [u64])
     requires can { (starts : List ℕ) × CanReadAll heap.now base k starts
         × AreWaiting (word_of heap.now) starts base 0 (take roots into.old) words.old }

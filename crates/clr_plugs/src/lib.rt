@@ -8,6 +8,7 @@
 
 pub use crate::builder::TreeBuilder;
 pub use crate::cursor::PlugCursor;
+pub use crate::plug_search::PlugSearch;
 pub use crate::search::{NearestPlug, find_plug};
 pub use crate::words::{PlugInfo, info, put_info};
 pub use crate::writer::PlanWriter;
@@ -16,6 +17,7 @@ mod builder;
 mod cursor;
 mod forests;
 mod offsets;
+mod plug_search;
 mod search;
 mod words;
 mod writer;

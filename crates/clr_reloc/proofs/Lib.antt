@@ -9,6 +9,7 @@ pub mod Telling
 pub mod OneSegment
 pub mod OneObject
 pub mod ObjectLoops
+pub mod LookingAhead
 pub mod RestingWords
 pub mod CardedSlots
 pub mod EmptyWords
@@ -26,3 +27,4 @@ pub mod SavedTriples
 pub mod ClearCards
 pub mod Boundaries
 pub mod OldCards
+pub mod ClearedCards

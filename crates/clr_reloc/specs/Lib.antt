@@ -7,3 +7,4 @@ pub mod Relocations
 pub mod Outside
 pub mod Scanning
 pub mod Resting
+pub mod Clearing

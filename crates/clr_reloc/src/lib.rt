@@ -5,7 +5,9 @@
 pub use crate::relocating::relocate;
 
 mod ages;
+mod ahead;
 mod cards;
+mod clearing;
 mod entries;
 mod items;
 mod kinds;

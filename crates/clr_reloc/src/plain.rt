@@ -14,17 +14,19 @@ ghost use Rattle.clr_reloc.specs.Relocations.{AreRelocated, IsObjectAhead, IsPla
 ghost use Rattle.clr_reloc.specs.Relocations.{KeepsBeside};
 ghost use Rattle.clr_reloc.specs.Relocating.{IsSlotAhead, KeepsTelling};
 
+use crate::ahead::come_near;
 use crate::relocation::{LeftObject, Relocation};
 use crate::resting::lowest_young;
 use clr_cards::Cards;
 use clr_heap::Heap;
-use clr_moves::{Stretch, destination_near};
+use clr_moves::{Stretch, TOGETHER, destination_near};
 use clr_pinq::PinQueue;
 use clr_types::ReferenceRun;
 
 // Relocates the references of an object that is left, where they are one run and none of its words is saved: they are
 // read and written as they stand in the heap, and where younger targets begin is looked up once. `last` is the stretch
-// that was met last. It stands apart, since most objects have few references.
+// that was met last; where a target isn't in it, the stretches of several targets are searched for side by side. It
+// stands apart, since most objects have few references.
 #[inline(never)]
 pub(crate) fn relocate_plain(
     heap: &mut Heap,
@@ -50,7 +52,10 @@ pub(crate) fn relocate_plain(
     ensures beside { KeepsBeside cards.old cards.new pins.now pins.now }
 {
     let young = lowest_young(&work.planned, object.age);
+    let mut ahead = [Stretch::NONE; TOGETHER];
+    let mut until = 0;
     for i in 0..run.count {
+        until = come_near(heap, work, object, run, i, until, &mut ahead, last);
         relocate_plain_slot(
             heap,
             work,

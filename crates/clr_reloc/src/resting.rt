@@ -14,7 +14,7 @@ ghost use Rattle.clr_reloc.specs.Scanning.{AreInRow};
 
 use crate::cards::next_run;
 use crate::relocation::{LeftObject, Relocation};
-use clr_cards::Cards;
+use clr_cards::{CARD, Cards};
 use clr_heap::Heap;
 use clr_moves::{Condemned, Planned};
 use clr_pinq::PinQueue;
@@ -163,7 +163,7 @@ fn young_part(heap: &Heap, g: Condemned) -> u64
     }
 }
 
-// The same in a compaction of the generations up to `g`, which is 0 or 1.
+// Where the part of the ephemeral segment begins in a compaction of the generations up to `g`, which is 0 or 1.
 #[inline]
 fn young_generations(heap: &Heap, g: u8) -> u64
     requires { g < 2 }
@@ -185,6 +185,3 @@ pub(crate) fn lowest_young(planned: &Planned, age: u8) -> u64
         _ => planned.start1,
     }
 }
-
-// How many bytes a card has.
-const CARD: u64 = 2048;

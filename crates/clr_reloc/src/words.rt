@@ -67,7 +67,8 @@ pub(crate) fn relocate_words(
     }
 }
 
-// The same in a compaction of any parts, where many of the references are null: the loop passes over nulls in a row.
+// Relocates the references of an object that is left, where they are one run, in a compaction of any parts, where many
+// of them are null: the loop passes over nulls in a row.
 #[inline(never)]
 pub(crate) fn relocate_sparse(
     heap: &mut Heap,

@@ -1,5 +1,6 @@
 use Rattle.std.proofs.Common.{ℕ, subst, arith}
-use Rattle.clr_plugs.proofs.Descent.{at_plug, begin_descent, found_in_tree, go_left, go_right, IsDescent}
+use Rattle.clr_plugs.proofs.Descent.{at_plug, begin_descent, found_in_tree, go_left, go_right}
+use Rattle.clr_plugs.specs.SideBySide.{IsDescent}
 use Rattle.clr_plugs.proofs.search.find_in_tree.Goals as goal
 
 pub loop-node-init : goal.loop-node-init

@@ -1,0 +1,10 @@
+use Rattle.std.specs.List.{All}
+use Rattle.clr_plugs.specs.BrickEntries.{BricksView}
+use Rattle.clr_moves.specs.Together.{IsSearchIn}
+use Rattle.clr_moves.specs.declared.condemned.Condemned.{Condemned}
+use Rattle.clr_moves.proofs.together.advance_all.Given as goal
+
+abbrev pub invariant-loop : goal.invariant-loop
+invariant-loop l =
+    (bricks : BricksView) (g : Condemned) → All (IsSearchIn l.heap bricks g) l.initial.searches
+    → All (IsSearchIn l.heap bricks g) l.searches
